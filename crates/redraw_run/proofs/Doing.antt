@@ -1,6 +1,6 @@
 -- Things that are done one after the other are done together.
 use Rattle.std.proofs.Common.{◌≡◌, ◌⊎◌, ℕ, Bool, true, false, List, [], ◌∷◌, ◌++◌, Option, refl, ap, sym, ◌∙◌, subst, inl, inr, append_assoc, append-nil}
-use Rattle.std.specs.Prelude.{Result, Ok, Err}
+use Rattle.std.specs.Prelude.{Result, Ok, Err, IsErrAnd}
 use Rattle.std.specs.Io.KnownBytes.{Appends}
 use Rattle.std.specs.List.{flat_map}
 use Rattle.std.proofs.KnownBytes.{Appends-nil, Appends-trans}
@@ -14,24 +14,9 @@ use Rattle.redraw_command.specs.declared.stop.Stop.TheVariants.{Memory, Unwritab
 use Rattle.redraw_command.specs.declared.tally.Tally.{Tally}
 use Rattle.redraw_report.specs.declared.diagnostic.Severity.{Severity}
 use Rattle.redraw_report.specs.declared.diagnostic.Severity.TheVariants.{Error, Warning, Info, Note, Help, Plain}
-use Rattle.redraw_run.specs.Deeds.{State, Deed, Drawn, Commanded, HandedOn, Told, LeftOut, Repeated, BuildFailed, IsDeed, AreDeeds, printed, told, handed}
-use Rattle.redraw_run.specs.Deeds.{tally_after, tally_by, with_files, AreAmong, Does, AppendsFirst, IsCutShort, Stops, Goes}
-
-among_later : (line : List ℕ) (xs lines : List (List ℕ)) → AreAmong xs lines → AreAmong xs (line ∷ lines)
-among_later line [] lines h = tt
-among_later line (x ∷ xs) lines h = inr h
-
-among_after : (more xs lines : List (List ℕ)) → AreAmong xs lines → AreAmong xs (more ++ lines)
-among_after [] xs lines h = h
-among_after (line ∷ more) xs lines h = among_later line xs (more ++ lines) (among_after more xs lines h)
-
--- lines that are among some, and lines that are among others
-among_both : (lines xs more ys : List (List ℕ)) → AreAmong xs lines → AreAmong ys more → AreAmong (xs ++ ys) (lines ++ more)
-among_both [] [] more ys p q = q
-among_both [] (x ∷ xs) more ys p q = absurd p
-among_both (line ∷ lines) [] more ys p q = among_after (line ∷ lines) ys more q
-among_both (line ∷ lines) (x ∷ xs) more ys (inl p) q = inl (p.0, among_both lines xs more ys p.1 q)
-among_both (line ∷ lines) (x ∷ xs) more ys (inr p) q = inr (among_both lines (x ∷ xs) more ys p q)
+use Rattle.redraw_run.specs.Deeds.{State, Deed, Drawn, Commanded, HandedOn, Told, LeftOut, Repeated, BuildFailed, AreDeeds, printed, told}
+use Rattle.redraw_run.specs.Deeds.{tally_after, tally_by, with_files, Does, AppendsFirst, IsCutShort, IsPart, Stops, Goes}
+use Rattle.redraw_run.specs.Fates.{AreNone, Then}
 
 deeds_both : (r : Renderer) (c : Choice) (ds es : List Deed) → AreDeeds r c ds → AreDeeds r c es → AreDeeds r c (ds ++ es)
 deeds_both r c [] es p q = q
@@ -72,12 +57,12 @@ tally_then a b c ds es p q =
     ∙ ap (λ t. with_files t c.files) (sym (tally_twice a ds es))
 
 -- nothing is done
-pub does_nothing : (s : State) → Does [] s s
+pub does_nothing : (s : State) → Does AreNone s s
 does_nothing s =
     record {
       deeds = [];
       are = tt;
-      handed_on = tt;
+      fit = refl;
       out = Appends-nil s.out;
       err = Appends-nil s.err;
       tally = refl;
@@ -85,34 +70,43 @@ does_nothing s =
       choice = refl;
     }
 
-are_then : (lines more : List (List ℕ)) (a b c : State) (p : Does lines a b) (es : List Deed) → AreDeeds b.renderer b.choice es
+are_then : {P : Choice → List Deed → Type 0} (a b c : State) (p : Does P a b) (es : List Deed) → AreDeeds b.renderer b.choice es
     → AreDeeds a.renderer a.choice (p.deeds ++ es)
-are_then lines more a b c p es are =
+are_then a b c p es are =
     deeds_both a.renderer a.choice p.deeds es p.are
     (subst (λ r. AreDeeds r a.choice es) p.renderer (subst (λ ch. AreDeeds b.renderer ch es) p.choice are))
-
-handed_then : (lines more : List (List ℕ)) (ds es : List Deed) → AreAmong (flat_map handed ds) lines → AreAmong (flat_map handed es) more
-    → AreAmong (flat_map handed (ds ++ es)) (lines ++ more)
-handed_then lines more ds es p q =
-    subst (λ l. AreAmong l (lines ++ more)) (sym (flat_map-append handed ds es)) (among_both lines (flat_map handed ds) more (flat_map handed es) p q)
 
 added_then : (f : Deed → List ℕ) (a b c : Option (List ℕ)) (ds es : List Deed) → Appends a b (flat_map f ds) → Appends b c (flat_map f es)
     → Appends a c (flat_map f (ds ++ es))
 added_then f a b c ds es p q = subst (Appends a c) (sym (flat_map-append f ds es)) (Appends-trans a b c (flat_map f ds) (flat_map f es) p q)
 
 -- what is done, and then what is done after it
-pub does_then : {lines more : List (List ℕ)} {a b c : State} → Does lines a b → Does more b c → Does (lines ++ more) a c
-does_then {lines} {more} {a} {b} {c} p q =
+pub does_then : {P Q : Choice → List Deed → Type 0} {a b c : State} → Does P a b → Does Q b c → Does (Then P Q) a c
+does_then {P} {Q} {a} {b} {c} p q =
     record {
       deeds = p.deeds ++ q.deeds;
-      are = are_then lines more a b c p q.deeds q.are;
-      handed_on = handed_then lines more p.deeds q.deeds p.handed_on q.handed_on;
+      are = are_then {P = P} a b c p q.deeds q.are;
+      fit = record { before = p.deeds; after = q.deeds; split = refl; first = p.fit; next = subst (λ ch. Q ch q.deeds) p.choice q.fit };
       out = added_then (printed a.renderer) a.out b.out c.out p.deeds q.deeds p.out
           (subst (λ r. Appends b.out c.out (flat_map (printed r) q.deeds)) p.renderer q.out);
       err = added_then told a.err b.err c.err p.deeds q.deeds p.err q.err;
       tally = tally_then a.tally b.tally c.tally p.deeds q.deeds p.tally q.tally;
       renderer = q.renderer ∙ p.renderer;
       choice = q.choice ∙ p.choice;
+    }
+
+-- what is done is of a wider kind too
+pub does_as : {P Q : Choice → List Deed → Type 0} {a b : State} → ((ds : List Deed) → P a.choice ds → Q a.choice ds) → Does P a b → Does Q a b
+does_as {P} {Q} {a} {b} f p =
+    record {
+      deeds = p.deeds;
+      are = p.are;
+      fit = f p.deeds p.fit;
+      out = p.out;
+      err = p.err;
+      tally = p.tally;
+      renderer = p.renderer;
+      choice = p.choice;
     }
 
 -- all of some bytes is a first part of them
@@ -143,22 +137,54 @@ first_more a b bs cs p =
       added = p.added;
     }
 
-pub cut_all : {lines : List (List ℕ)} {a b : State} → Does lines a b → IsCutShort lines a b
-cut_all {lines} {a} {b} p =
+part_either : (P Q : Choice → List Deed → Type 0) (c : Choice) (ds : List Deed) → ((ds : List Deed) → P c ds → Q c ds)
+    → (ds ≡ []) ⊎ ((rest : List Deed) × P c (ds ++ rest)) → (ds ≡ []) ⊎ ((rest : List Deed) × Q c (ds ++ rest))
+part_either P Q c ds f (inl none) = inl none
+part_either P Q c ds f (inr (rest, p)) = inr (rest, f (ds ++ rest) p)
+
+-- a part of some things is one of those of a wider kind
+pub part_as : {P Q : Choice → List Deed → Type 0} (c : Choice) (ds : List Deed) → ((ds : List Deed) → P c ds → Q c ds) → IsPart P c ds → IsPart Q c ds
+part_as {P} {Q} c ds f h = record { is = part_either P Q c ds f h.is }
+
+-- all of some things is a part of them
+pub part_all : {P : Choice → List Deed → Type 0} (c : Choice) (ds : List Deed) → P c ds → IsPart P c ds
+part_all {P} c ds p = record { is = inr ([], subst (P c) (sym (append-nil ds)) p) }
+
+-- these are the first of some things
+parted : {P : Choice → List Deed → Type 0} {c : Choice} {ds : List Deed} → (rest : List Deed) × P c (ds ++ rest) → IsPart P c ds
+parted h = record { is = inr h }
+
+part_next : {P Q : Choice → List Deed → Type 0} (c : Choice) (ds : List Deed) → ((es : List Deed) × Q c es) → (bs es : List Deed) → ds ≡ bs ++ es
+    → P c bs → (es ≡ []) ⊎ ((rest : List Deed) × Q c (es ++ rest)) → IsPart (Then P Q) c ds
+part_next {P} {Q} c ds q bs es split p (inl none) =
+    parted (q.0, record { before = bs; after = q.0; split = ap (λ l. l ++ q.0) (split ∙ ap (λ l. bs ++ l) none ∙ append-nil bs); first = p; next = q.1 })
+part_next {P} {Q} c ds q bs es split p (inr (rest, h)) =
+    parted (rest, record { before = bs; after = es ++ rest; split = ap (λ l. l ++ rest) split ∙ append_assoc bs es rest; first = p; next = h })
+
+-- things are done, and a part of others, of which there are some
+pub part_then : {P Q : Choice → List Deed → Type 0} (c : Choice) (ds : List Deed) → ((es : List Deed) × Q c es) → Then P (IsPart Q) c ds
+    → IsPart (Then P Q) c ds
+part_then {P} {Q} c ds q h = part_next {P = P} {Q = Q} c ds q h.before h.after h.split h.first h.next.is
+
+pub cut_all : {P : Choice → List Deed → Type 0} {a b : State} → Does P a b → IsCutShort P a b
+cut_all {P} {a} {b} p =
     record {
       deeds = p.deeds;
       are = p.are;
-      handed_on = p.handed_on;
+      fit = p.fit;
       out = first_all a.out b.out (flat_map (printed a.renderer) p.deeds) p.out;
       err = p.err;
     }
 
-pub cut_then : {lines more : List (List ℕ)} {a b c : State} → Does lines a b → IsCutShort more b c → IsCutShort (lines ++ more) a c
-cut_then {lines} {more} {a} {b} {c} p q =
+pub cut_as : {P Q : Choice → List Deed → Type 0} {a b : State} → ((ds : List Deed) → P a.choice ds → Q a.choice ds) → IsCutShort P a b → IsCutShort Q a b
+cut_as {P} {Q} {a} {b} f p = record { deeds = p.deeds; are = p.are; fit = f p.deeds p.fit; out = p.out; err = p.err }
+
+pub cut_then : {P Q : Choice → List Deed → Type 0} {a b c : State} → Does P a b → IsCutShort Q b c → IsCutShort (Then P Q) a c
+cut_then {P} {Q} {a} {b} {c} p q =
     record {
       deeds = p.deeds ++ q.deeds;
-      are = are_then lines more a b c p q.deeds q.are;
-      handed_on = handed_then lines more p.deeds q.deeds p.handed_on q.handed_on;
+      are = are_then {P = P} a b c p q.deeds q.are;
+      fit = record { before = p.deeds; after = q.deeds; split = refl; first = p.fit; next = subst (λ ch. Q ch q.deeds) p.choice q.fit };
       out = subst (AppendsFirst a.out c.out) (sym (flat_map-append (printed a.renderer) p.deeds q.deeds))
           (first_then a.out b.out c.out (flat_map (printed a.renderer) p.deeds) (flat_map (printed a.renderer) q.deeds) p.out
           (subst (λ r. AppendsFirst b.out c.out (flat_map (printed r) q.deeds)) p.renderer q.out));
@@ -166,26 +192,64 @@ cut_then {lines} {more} {a} {b} {c} p q =
     }
 
 -- what is done may be all that is done before it stops
-pub stops_any : {lines : List (List ℕ)} {a b : State} (s : Stop) → Does lines a b → Stops s lines a b
+pub stops_any : {P : Choice → List Deed → Type 0} {a b : State} (s : Stop) → Does P a b → Stops s P a b
 stops_any Memory p = p
 stops_any (Unwritable error) p = cut_all p
 stops_any (Unreadable error) p = p
 stops_any Utf16 p = p
 
+-- the same by a wider kind
+pub stops_as : (P Q : Choice → List Deed → Type 0) (a b : State) (s : Stop) → ((ds : List Deed) → P a.choice ds → Q a.choice ds) → Stops s P a b
+    → Stops s Q a b
+stops_as P Q a b Memory f p = does_as f p
+stops_as P Q a b (Unwritable error) f p = cut_as f p
+stops_as P Q a b (Unreadable error) f p = does_as f p
+stops_as P Q a b Utf16 f p = does_as f p
+
 -- what is done, and then what is done up to where it stops
-pub stops_then : {lines : List (List ℕ)} {a b : State} (more : List (List ℕ)) (c : State) (s : Stop) → Does lines a b → Stops s more b c
-    → Stops s (lines ++ more) a c
-stops_then more c Memory p q = does_then p q
-stops_then more c (Unwritable error) p q = cut_then p q
-stops_then more c (Unreadable error) p q = does_then p q
-stops_then more c Utf16 p q = does_then p q
+pub stops_then : (P Q : Choice → List Deed → Type 0) (a b c : State) (s : Stop) → Does P a b → Stops s Q b c → Stops s (Then P Q) a c
+stops_then P Q a b c Memory p q = does_then p q
+stops_then P Q a b c (Unwritable error) p q = cut_then p q
+stops_then P Q a b c (Unreadable error) p q = does_then p q
+stops_then P Q a b c Utf16 p q = does_then p q
 
 -- the same, be it to the end or up to where it stops
-pub goes_any : {T : Type 0} {lines : List (List ℕ)} {a b : State} (r : Result T Stop) → Does lines a b → Goes r lines a b
-goes_any (Ok x) p = p
-goes_any (Err s) p = stops_any s p
+pub goes_as : {T : Type 0} (P Q : Choice → List Deed → Type 0) (a b : State) (r : Result T Stop) → ((ds : List Deed) → P a.choice ds → Q a.choice ds)
+    → Goes r P a b → Goes r Q a b
+goes_as P Q a b (Ok x) f p = does_as f p
+goes_as P Q a b (Err s) f p = stops_as (IsPart P) (IsPart Q) a b s (λ ds h. part_as a.choice ds f h) p
 
-pub goes_then : {T : Type 0} {lines : List (List ℕ)} {a b : State} (more : List (List ℕ)) (c : State) (r : Result T Stop) → Does lines a b
-    → Goes r more b c → Goes r (lines ++ more) a c
-goes_then more c (Ok x) p q = does_then p q
-goes_then more c (Err s) p q = stops_then more c s p q
+pub goes_then : {T : Type 0} (P Q : Choice → List Deed → Type 0) (a b c : State) (r : Result T Stop) → ((ch : Choice) → (es : List Deed) × Q ch es)
+    → Does P a b → Goes r Q b c → Goes r (Then P Q) a c
+goes_then P Q a b c (Ok x) q p g = does_then p g
+goes_then P Q a b c (Err s) q p g =
+    stops_as (Then P (IsPart Q)) (IsPart (Then P Q)) a c s (λ ds h. part_then a.choice ds (q a.choice) h) (stops_then P (IsPart Q) a b c s p g)
+
+-- nothing is done before it stops
+pub stops_none : (P : Choice → List Deed → Type 0) {a b : State} (s : Stop) → Does AreNone a b → Stops s (IsPart P) a b
+stops_none P s p = stops_any s (does_as (λ ds none. record { is = inl none }) p)
+
+-- all of some things are done before it stops
+pub stops_all : {P : Choice → List Deed → Type 0} {a b : State} (s : Stop) → Does P a b → Stops s (IsPart P) a b
+stops_all {P} {a} {b} s p = stops_any s (does_as (part_all a.choice) p)
+
+-- what is an error goes as it stops
+pub goes_err : {T : Type 0} {Q : Stop → Type 0} (P : Choice → List Deed → Type 0) (a b : State) (r : Result T Stop) → IsErrAnd r Q
+    → ((s : Stop) → Q s → Stops s (IsPart P) a b) → Goes r P a b
+goes_err P a b (Ok x) is f = absurd is
+goes_err P a b (Err s) is f = f s is
+
+-- what stops for a reason goes so
+pub goes_on : {T : Type 0} (P : Choice → List Deed → Type 0) (a b : State) (x : Stop) (r : Result T Stop) → IsErrAnd r (λ s. s ≡ x)
+    → Stops x (IsPart P) a b → Goes r P a b
+goes_on P a b x (Ok done) is h = absurd is
+goes_on P a b x (Err s) is h = subst (λ (t : Stop). Stops t (IsPart P) a b) (sym is) h
+
+none_then : {P : Choice → List Deed → Type 0} (c : Choice) (ds : List Deed) → Then AreNone P c ds → P c ds
+none_then {P} c ds h = subst (P c) (sym (h.split ∙ ap (λ l. l ++ h.after) h.first)) h.next
+
+-- what goes after nothing was done
+pub goes_after : {T : Type 0} (P : Choice → List Deed → Type 0) (a b c : State) (r : Result T Stop) → Does AreNone a b → Goes r P b c → Goes r P a c
+goes_after P a b c (Ok x) p g = does_as (none_then {P = P} a.choice) (does_then {P = AreNone} {Q = P} p g)
+goes_after P a b c (Err s) p g =
+    stops_as (Then AreNone (IsPart P)) (IsPart P) a c s (none_then {P = IsPart P} a.choice) (stops_then AreNone (IsPart P) a b c s p g)

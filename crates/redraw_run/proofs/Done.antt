@@ -1,15 +1,14 @@
 -- One thing that is done.
-use Rattle.std.proofs.Common.{◌≡◌, ◌⊎◌, ◌||◌, ℕ, Bool, true, false, List, [], ◌∷◌, ◌++◌, Option, Some, refl, ap, sym, ◌∙◌, subst, inl, inr, append_assoc}
-use Rattle.std.proofs.Common.{append-nil, drop, take, take-append-drop, if◌then◌else◌}
+use Rattle.std.proofs.Common.{◌≡◌, ◌||◌, ℕ, Bool, true, false, List, [], ◌∷◌, ◌++◌, Option, Some, refl, ap, sym, ◌∙◌, subst, inl, inr, append_assoc}
+use Rattle.std.proofs.Common.{ap₂, append-nil, drop, take, take-append-drop}
 use Rattle.std.specs.Prelude.{Result, Ok, Err, IfOk, OnOk}
 use Rattle.std.specs.Io.KnownBytes.{Appends, Keeps}
 use Rattle.std.specs.List.{concat, flat_map}
 use Rattle.std.proofs.KnownBytes.{Appends-kept, Appends-nil, Appends-trans}
 use Rattle.annotate_snippets.specs.declared.renderer.Renderer.{Renderer}
 use Rattle.program.specs.Stream.{AppendsPart}
-use Rattle.redraw_command.specs.Choice.{is_sum}
-use Rattle.redraw_command.specs.Tally.{is_empty, one_more, tallied}
-use Rattle.redraw_command.specs.Told.{IsTold, Tells}
+use Rattle.redraw_command.specs.Tally.{is_empty, one_more}
+use Rattle.redraw_command.specs.Told.{Tells}
 use Rattle.redraw_command.specs.Workflow.{command}
 use Rattle.redraw_command.specs.declared.choice.Choice.{Choice}
 use Rattle.redraw_command.specs.declared.choice.Form.TheVariants.{Report, Workflow}
@@ -18,12 +17,14 @@ use Rattle.redraw_command.specs.declared.stop.Stop.TheVariants.{Memory, Unwritab
 use Rattle.redraw_command.specs.declared.tally.Tally.{Tally}
 use Rattle.redraw_read.specs.declared.sources.File.{File}
 use Rattle.redraw_report.specs.declared.diagnostic.Diagnostic.{Diagnostic}
-use Rattle.redraw_run.specs.Deeds.{State, Deed, Drawn, Commanded, Told, LeftOut, Repeated, BuildFailed, IsDeed, AreDeeds, AreTold, TellsAll, printed, told}
-use Rattle.redraw_run.specs.Deeds.{handed, tally_after, tally_by, with_files, repeated, AreAmong, Does, AppendsFirst, IsCutShort, IsUnwritable, Writes, Stops}
+use Rattle.redraw_run.specs.Deeds.{State, Deed, Drawn, Commanded, HandedOn, Told, LeftOut, Repeated, BuildFailed, AreDeeds, AreTold, TellsAll, printed}
+use Rattle.redraw_run.specs.Deeds.{told}
+use Rattle.redraw_run.specs.Deeds.{tally_by, with_files, repeated, Does, AppendsFirst, IsCutShort, IsUnwritable, Writes, Stops}
 use Rattle.redraw_run.specs.Deeds.{Goes}
 use Rattle.redraw_run.specs.DrawnFinding.{IsCounted, ShowsFinding, ending_after}
 use Rattle.redraw_run.specs.ReadLines.{SumsUp, TellsUnless}
-use Rattle.redraw_run.proofs.Doing.{first_all, first_more, first_then}
+use Rattle.redraw_run.specs.Fates.{AreMessages, AreNone, IsFailed, IsHandedOn, LeavesOut, IsRepeated, IsShown, IsTelling, IsWritten, IsWrong, Then}
+use Rattle.redraw_run.proofs.Doing.{does_as, does_then, first_more, first_then}
 
 -- a tally is another, but for its files
 tally_is : (t u : Tally) → t ≡ u → t ≡ with_files u t.files
@@ -33,12 +34,12 @@ same_appends : (a b : Option (List ℕ)) → b ≡ a → Appends a b []
 same_appends a b is = subst (λ x. Appends a x []) (sym is) (Appends-nil a)
 
 -- nothing is done, where what is known stays
-pub does_same : {a b : State} → b.out ≡ a.out → b.err ≡ a.err → b.tally ≡ a.tally → b.renderer ≡ a.renderer → b.choice ≡ a.choice → Does [] a b
+pub does_same : {a b : State} → b.out ≡ a.out → b.err ≡ a.err → b.tally ≡ a.tally → b.renderer ≡ a.renderer → b.choice ≡ a.choice → Does AreNone a b
 does_same {a} {b} out err tally renderer choice =
     record {
       deeds = [];
       are = tt;
-      handed_on = tt;
+      fit = refl;
       out = same_appends a.out b.out out;
       err = same_appends a.err b.err err;
       tally = tally_is b.tally a.tally tally;
@@ -50,12 +51,12 @@ one_told : (a b : Option (List ℕ)) (part : List ℕ) → Appends a b part → 
 one_told a b part h = subst (Appends a b) (sym (append-nil part)) h
 
 -- something is told
-pub does_told : {a b : State} → Tells a.err b.err → b.out ≡ a.out → b.tally ≡ a.tally → b.renderer ≡ a.renderer → b.choice ≡ a.choice → Does [] a b
+pub does_told : {a b : State} → Tells a.err b.err → b.out ≡ a.out → b.tally ≡ a.tally → b.renderer ≡ a.renderer → b.choice ≡ a.choice → Does IsTelling a b
 does_told {a} {b} t out tally renderer choice =
     record {
       deeds = Told t.part ∷ [];
       are = (t.told, tt);
-      handed_on = tt;
+      fit = (t.part, refl);
       out = same_appends a.out b.out out;
       err = one_told a.err b.err t.part t.added;
       tally = tally_is b.tally a.tally tally;
@@ -83,10 +84,10 @@ unfolding tellings
 tellings_printed r [] = refl
 tellings_printed r (part ∷ parts) = tellings_printed r parts
 
-tellings_handed : (parts : List (List ℕ)) → AreAmong (flat_map handed (tellings parts)) []
+tellings_fit : (c : Choice) (parts : List (List ℕ)) → AreMessages c (tellings parts)
 unfolding tellings
-tellings_handed [] = tt
-tellings_handed (part ∷ parts) = tellings_handed parts
+tellings_fit c [] = tt
+tellings_fit c (part ∷ parts) = tellings_fit c parts
 
 tellings_tally : (t : Tally) (parts : List (List ℕ)) → t ≡ tally_by t (tellings parts)
 unfolding tellings
@@ -94,12 +95,12 @@ tellings_tally t [] = refl
 tellings_tally t (part ∷ parts) = tellings_tally t parts
 
 pub does_tell_all : {a b : State} → TellsAll a.err b.err → b.out ≡ a.out → b.tally ≡ a.tally → b.renderer ≡ a.renderer → b.choice ≡ a.choice
-    → Does [] a b
+    → Does AreMessages a b
 does_tell_all {a} {b} t out tally renderer choice =
     record {
       deeds = tellings t.parts;
       are = tellings_are a.renderer a.choice t.parts t.told;
-      handed_on = tellings_handed t.parts;
+      fit = tellings_fit a.choice t.parts;
       out = subst (Appends a.out b.out) (tellings_printed a.renderer t.parts) (same_appends a.out b.out out);
       err = subst (Appends a.err b.err) (tellings_told t.parts) t.added;
       tally = tally_is b.tally (tally_by a.tally (tellings t.parts)) (tally ∙ tellings_tally a.tally t.parts);
@@ -131,12 +132,12 @@ tells_then {a} {b} {c} p q =
 
 -- a part of the input is left out
 pub does_left_out : {a b : State} → b.out ≡ a.out → b.err ≡ a.err → b.tally ≡ record a.tally { wrong = one_more a.tally.wrong }
-    → b.renderer ≡ a.renderer → b.choice ≡ a.choice → Does [] a b
+    → b.renderer ≡ a.renderer → b.choice ≡ a.choice → Does LeavesOut a b
 does_left_out {a} {b} out err tally renderer choice =
     record {
       deeds = LeftOut ∷ [];
       are = (tt, tt);
-      handed_on = tt;
+      fit = refl;
       out = same_appends a.out b.out out;
       err = same_appends a.err b.err err;
       tally = tally_is b.tally (record a.tally { wrong = one_more a.tally.wrong }) tally;
@@ -145,28 +146,20 @@ does_left_out {a} {b} out err tally renderer choice =
     }
 
 -- a part of the input is left out, and that is told
-pub does_wrong : {a b : State} → Tells a.err b.err → b.out ≡ a.out → b.tally ≡ record a.tally { wrong = one_more a.tally.wrong }
-    → b.renderer ≡ a.renderer → b.choice ≡ a.choice → Does [] a b
-does_wrong {a} {b} t out tally renderer choice =
-    record {
-      deeds = LeftOut ∷ Told t.part ∷ [];
-      are = (tt, (t.told, tt));
-      handed_on = tt;
-      out = same_appends a.out b.out out;
-      err = one_told a.err b.err t.part t.added;
-      tally = tally_is b.tally (record a.tally { wrong = one_more a.tally.wrong }) tally;
-      renderer = renderer;
-      choice = choice;
-    }
+wrong_is : (c : Choice) (ds : List Deed) → Then LeavesOut IsTelling c ds → IsWrong c ds
+wrong_is c ds h = (h.next.0, h.split ∙ ap₂ (λ (x y : List Deed). x ++ y) h.first h.next.1)
+
+pub does_wrong : {a b c : State} → Does LeavesOut a b → Does IsTelling b c → Does IsWrong a c
+does_wrong {a} {b} {c} p q = does_as (wrong_is a.choice) (does_then p q)
 
 -- cargo says that the build failed
 pub does_failed : {a b : State} → b.out ≡ a.out → b.err ≡ a.err → b.tally ≡ record a.tally { has_failed = true } → b.renderer ≡ a.renderer
-    → b.choice ≡ a.choice → Does [] a b
+    → b.choice ≡ a.choice → Does IsFailed a b
 does_failed {a} {b} out err tally renderer choice =
     record {
       deeds = BuildFailed ∷ [];
       are = (tt, tt);
-      handed_on = tt;
+      fit = refl;
       out = same_appends a.out b.out out;
       err = same_appends a.err b.err err;
       tally = tally_is b.tally (record a.tally { has_failed = true }) tally;
@@ -174,15 +167,14 @@ does_failed {a} {b} out err tally renderer choice =
       choice = choice;
     }
 
--- a diagnostic is looked for among those that were drawn
-pub does_look : {a b : State} (is : Bool) → b.out ≡ a.out → b.err ≡ a.err → b.tally ≡ (if is then repeated a.tally else a.tally)
-    → b.renderer ≡ a.renderer → b.choice ≡ a.choice → Does [] a b
-does_look false out err tally renderer choice = does_same out err tally renderer choice
-does_look {a} {b} true out err tally renderer choice =
+-- a finding was drawn before, and isn't again
+pub does_repeated : {a b : State} → a.choice.has_duplicates ≡ false → b.out ≡ a.out → b.err ≡ a.err → b.tally ≡ repeated a.tally
+    → b.renderer ≡ a.renderer → b.choice ≡ a.choice → Does IsRepeated a b
+does_repeated {a} {b} once out err tally renderer choice =
     record {
       deeds = Repeated ∷ [];
       are = (tt, tt);
-      handed_on = tt;
+      fit = (once, refl);
       out = same_appends a.out b.out out;
       err = same_appends a.err b.err err;
       tally = tally_is b.tally (repeated a.tally) tally;
@@ -190,7 +182,7 @@ does_look {a} {b} true out err tally renderer choice =
       choice = choice;
     }
 
-stops_cut : {lines : List (List ℕ)} {a b : State} (s : Stop) → IsUnwritable s → IsCutShort lines a b → Stops s lines a b
+stops_cut : {P : Choice → List Deed → Type 0} {a b : State} (s : Stop) → IsUnwritable s → IsCutShort P a b → Stops s P a b
 stops_cut Memory is h = absurd is
 stops_cut (Unwritable error) is h = h
 stops_cut (Unreadable error) is h = absurd is
@@ -202,12 +194,12 @@ all_printed r deed text is = is ∙ sym (append-nil (printed r deed))
 -- a finding is drawn, and what it gives is written
 pub goes_drawn : {T : Type 0} (a b : State) (r : Result T Stop) (d : Diagnostic) (text bytes : List ℕ) (files : List File) → a.choice.form ≡ Report
     → ShowsFinding a.renderer files d text → IsCounted d a.tally b.tally → b.renderer ≡ a.renderer → b.choice ≡ a.choice → b.err ≡ a.err
-    → bytes ≡ text ++ (ending_after a.renderer.short_message d.severity ++ 10 ∷ []) → Writes r a.out b.out bytes → Goes r [] a b
+    → bytes ≡ text ++ (ending_after a.renderer.short_message d.severity ++ 10 ∷ []) → Writes r a.out b.out bytes → Goes r (IsShown d) a b
 goes_drawn a b (Ok x) d text bytes files form shows counted renderer choice err is writes =
     record {
       deeds = Drawn d text ∷ [];
       are = ((form, files, shows), tt);
-      handed_on = tt;
+      fit = (refl, refl);
       out = subst (Appends a.out b.out) (all_printed a.renderer (Drawn d text) bytes is) writes;
       err = same_appends a.err b.err err;
       tally = counted;
@@ -219,7 +211,7 @@ goes_drawn a b (Err s) d text bytes files form shows counted renderer choice err
     record {
       deeds = Drawn d text ∷ [];
       are = ((form, files, shows), tt);
-      handed_on = tt;
+      fit = record { is = inr ([], (refl, refl)) };
       out = subst (AppendsFirst a.out b.out) (all_printed a.renderer (Drawn d text) bytes is) writes.1;
       err = same_appends a.err b.err err;
     }
@@ -227,12 +219,12 @@ goes_drawn a b (Err s) d text bytes files form shows counted renderer choice err
 -- a finding is written as a command
 pub goes_commanded : {T : Type 0} (a b : State) (r : Result T Stop) (d : Diagnostic) (line bytes : List ℕ) → a.choice.form ≡ Workflow
     → command d ≡ Some line → IsCounted d a.tally b.tally → b.renderer ≡ a.renderer → b.choice ≡ a.choice → b.err ≡ a.err → bytes ≡ line ++ 10 ∷ []
-    → Writes r a.out b.out bytes → Goes r [] a b
+    → Writes r a.out b.out bytes → Goes r (IsWritten d) a b
 goes_commanded a b (Ok x) d line bytes form made counted renderer choice err is writes =
     record {
       deeds = Commanded d line ∷ [];
       are = ((form, made), tt);
-      handed_on = tt;
+      fit = inl (line, refl);
       out = subst (Appends a.out b.out) (all_printed a.renderer (Commanded d line) bytes is) writes;
       err = same_appends a.err b.err err;
       tally = counted;
@@ -244,8 +236,32 @@ goes_commanded a b (Err s) d line bytes form made counted renderer choice err is
     record {
       deeds = Commanded d line ∷ [];
       are = ((form, made), tt);
-      handed_on = tt;
+      fit = record { is = inr ([], inl (line, refl)) };
       out = subst (AppendsFirst a.out b.out) (all_printed a.renderer (Commanded d line) bytes is) writes.1;
+      err = same_appends a.err b.err err;
+    }
+
+-- a line is handed on
+pub goes_handed : {T : Type 0} (a b : State) (r : Result T Stop) (line : List ℕ) → b.tally ≡ a.tally → b.renderer ≡ a.renderer
+    → b.choice ≡ a.choice → b.err ≡ a.err → Writes r a.out b.out line → Goes r (IsHandedOn line) a b
+goes_handed a b (Ok x) line tally renderer choice err writes =
+    record {
+      deeds = HandedOn line ∷ [];
+      are = (tt, tt);
+      fit = refl;
+      out = subst (Appends a.out b.out) (all_printed a.renderer (HandedOn line) line refl) writes;
+      err = same_appends a.err b.err err;
+      tally = tally_is b.tally a.tally tally;
+      renderer = renderer;
+      choice = choice;
+    }
+goes_handed a b (Err s) line tally renderer choice err writes =
+    stops_cut s writes.0
+    record {
+      deeds = HandedOn line ∷ [];
+      are = (tt, tt);
+      fit = record { is = inr ([], refl) };
+      out = subst (AppendsFirst a.out b.out) (all_printed a.renderer (HandedOn line) line refl) writes.1;
       err = same_appends a.err b.err err;
     }
 

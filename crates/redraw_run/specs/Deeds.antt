@@ -8,7 +8,6 @@ use Rattle.redraw_command.specs.Tally.{one_more, tallied}
 use Rattle.redraw_command.specs.Told.{IsFirstPart, IsTold}
 use Rattle.redraw_command.specs.Workflow.{command}
 use Rattle.redraw_command.specs.declared.choice.Choice.{Choice}
-use Rattle.redraw_command.specs.declared.choice.Form.{Form}
 use Rattle.redraw_command.specs.declared.choice.Form.TheVariants.{Report, Workflow}
 use Rattle.redraw_command.specs.declared.stop.Stop.{Stop}
 use Rattle.redraw_command.specs.declared.stop.Stop.TheVariants.{Memory, Unwritable, Unreadable, Utf16}
@@ -76,16 +75,6 @@ told LeftOut = []
 told Repeated = []
 told BuildFailed = []
 
--- the lines that are handed on by it
-abbrev pub handed : Deed → List (List ℕ)
-handed (Drawn d text) = []
-handed (Commanded d line) = []
-handed (HandedOn line) = line ∷ []
-handed (Told part) = []
-handed LeftOut = []
-handed Repeated = []
-handed BuildFailed = []
-
 -- the tally with one more that was drawn before
 abbrev pub repeated : Tally → Tally
 repeated t = record t { duplicates = one_more t.duplicates }
@@ -109,18 +98,12 @@ tally_by t (deed ∷ deeds) = tally_by (tally_after t deed) deeds
 abbrev pub with_files : Tally → ℕ → Tally
 with_files t files = record t { files = files }
 
--- some lines are among others, in their order, each at most once
-abbrev pub AreAmong : List (List ℕ) → List (List ℕ) → Type 0
-AreAmong [] lines = Unit {0}
-AreAmong (x ∷ xs) [] = ⊥
-AreAmong (x ∷ xs) (line ∷ lines) = ((x ≡ line) × AreAmong xs lines) ⊎ AreAmong (x ∷ xs) lines
-
--- from one time to another some things are done, in order, about these lines of the input: both streams are given what these give, and
--- nothing else; what is handed on are lines of these; and the tally is the one after them
-pub record Does (lines : List (List ℕ)) (a b : State) : Type 0 where
+-- from one time to another some things are done, in order, of this kind (Are) by what is asked for: both streams are given what these give, and
+-- nothing else; and the tally is the one after them
+pub record Does (Are : Choice → List Deed → Type 0) (a b : State) : Type 0 where
   pub deeds : List Deed
   pub are : AreDeeds a.renderer a.choice deeds
-  pub handed_on : AreAmong (flat_map handed deeds) lines
+  pub fit : Are a.choice deeds
   pub out : Appends a.out b.out (flat_map (printed a.renderer) deeds)
   pub err : Appends a.err b.err (flat_map told deeds)
   pub tally : b.tally ≡ with_files (tally_by a.tally deeds) b.tally.files
@@ -163,22 +146,26 @@ abbrev pub Writes : {T : Type 0} → Result T Stop → Option (List ℕ) → Opt
 Writes (Ok done) old new bytes = Appends old new bytes
 Writes (Err stop) old new bytes = IsUnwritable stop × AppendsFirst old new bytes
 
--- the same up to where output couldn't be written: standard output is given a first part of what these things give
-pub record IsCutShort (lines : List (List ℕ)) (a b : State) : Type 0 where
+-- a part of some things of a kind is done: nothing of them, or the first of them, which may be all
+pub record IsPart (Are : Choice → List Deed → Type 0) (c : Choice) (deeds : List Deed) : Type 0 where
+  pub is : (deeds ≡ []) ⊎ ((rest : List Deed) × Are c (deeds ++ rest))
+
+-- things of a kind are done up to where output couldn't be written: standard output is given a first part of what they give
+pub record IsCutShort (Are : Choice → List Deed → Type 0) (a b : State) : Type 0 where
   pub deeds : List Deed
   pub are : AreDeeds a.renderer a.choice deeds
-  pub handed_on : AreAmong (flat_map handed deeds) lines
+  pub fit : Are a.choice deeds
   pub out : AppendsFirst a.out b.out (flat_map (printed a.renderer) deeds)
   pub err : Appends a.err b.err (flat_map told deeds)
 
--- what is done where it stops for this reason
-abbrev pub Stops : Stop → List (List ℕ) → State → State → Type 0
-Stops Memory lines a b = Does lines a b
-Stops (Unwritable error) lines a b = IsCutShort lines a b
-Stops (Unreadable error) lines a b = Does lines a b
-Stops Utf16 lines a b = Does lines a b
+-- things of a kind are done up to where it stops for this reason
+abbrev pub Stops : Stop → (Choice → List Deed → Type 0) → State → State → Type 0
+Stops Memory Are a b = Does Are a b
+Stops (Unwritable error) Are a b = IsCutShort Are a b
+Stops (Unreadable error) Are a b = Does Are a b
+Stops Utf16 Are a b = Does Are a b
 
--- what is done, be it to the end or up to where it stops
-abbrev pub Goes : {T : Type 0} → Result T Stop → List (List ℕ) → State → State → Type 0
-Goes (Ok done) lines a b = Does lines a b
-Goes (Err stop) lines a b = Stops stop lines a b
+-- things of a kind are done, be it to the end or up to where it stops
+abbrev pub Goes : {T : Type 0} → Result T Stop → (Choice → List Deed → Type 0) → State → State → Type 0
+Goes (Ok done) Are a b = Does Are a b
+Goes (Err stop) Are a b = Stops stop (IsPart Are) a b

@@ -1,4 +1,6 @@
 pub mod Deeds
 pub mod DrawnFinding
+pub mod Fates
 pub mod ReadLines
 pub mod ReportLook
+pub mod Run

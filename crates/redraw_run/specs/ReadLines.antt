@@ -1,5 +1,5 @@
 -- Lines that are read, the last line that is told, and a text that is printed.
-use Rattle.std.specs.Prelude.{◌≡◌, ℕ, ◌<◌, ◌⊎◌, ◌||◌, Bool, true, false, List, Option, Some, IfSome, length}
+use Rattle.std.specs.Prelude.{◌≡◌, ℕ, ◌<◌, ◌≤◌, ◌-◌, ◌^◌, ◌⊎◌, ◌||◌, Bool, true, false, List, [], ◌∷◌, Option, Some, IfSome, length}
 use Rattle.std.specs.Io.BufRead.{drop_through, take_through}
 use Rattle.std.specs.Io.KnownBytes.{Appends, IsAtEnd}
 use Rattle.redraw_command.specs.Tally.{is_empty}
@@ -11,6 +11,27 @@ use Rattle.redraw_run.specs.Deeds.{AppendsFirst}
 pub record TakesLine (old new : Option (List ℕ)) (line : List ℕ) : Type 0 where
   pub some : 0 < length line
   pub is : IfSome old (λ bytes. (line ≡ take_through 10 bytes) × (new ≡ Some (drop_through 10 bytes)))
+
+-- these lines were read of some bytes, in order, and these bytes are left: each line is up to a line feed and with it, or all that there is
+abbrev pub AreTaken : List ℕ → List (List ℕ) → List ℕ → Type 0
+AreTaken bytes [] rest = rest ≡ bytes
+AreTaken bytes (line ∷ lines) rest = (0 < length line) × (line ≡ take_through 10 bytes) × AreTaken (drop_through 10 bytes) lines rest
+
+-- what a reader holds, where that is known, are these lines
+abbrev pub AreLinesOf : Option (List ℕ) → List (List ℕ) → Type 0
+AreLinesOf held lines = IfSome held (λ bytes. AreTaken bytes lines [])
+
+-- these are the first lines of what a reader holds, where that is known, and it still holds this
+abbrev pub AreReadOf : Option (List ℕ) → List (List ℕ) → Option (List ℕ) → Type 0
+AreReadOf held lines left = IfSome held (λ bytes. (rest : List ℕ) × (left ≡ Some rest) × AreTaken bytes lines rest)
+
+-- these are the first lines of it
+abbrev pub AreFirstOf : Option (List ℕ) → List (List ℕ) → Type 0
+AreFirstOf held lines = IfSome held (λ bytes. (rest : List ℕ) × AreTaken bytes lines rest)
+
+-- they are all the lines that it holds, or as many as are counted
+abbrev pub AreAllOf : Option (List ℕ) → List (List ℕ) → Type 0
+AreAllOf held lines = AreLinesOf held lines ⊎ (AreFirstOf held lines × (2 ^ 64 - 2 ≤ length lines))
 
 -- whether there is one more
 abbrev pub TakesNext : Bool → Option (List ℕ) → Option (List ℕ) → List ℕ → Type 0

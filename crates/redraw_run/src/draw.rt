@@ -1,10 +1,13 @@
 //! Findings, drawn one after another as they are read.
-ghost use Rattle.std.specs.Prelude.{◌≡◌, ℕ, List, Option, ◌++◌, [], ◌∷◌, if◌then◌else◌, OnErr, OnOk, IfOk, IfErr};
+ghost use Rattle.std.specs.Prelude.{◌≡◌, ℕ, List, Option, ◌++◌, [], ◌∷◌, if◌then◌else◌, false, true};
+ghost use Rattle.std.specs.Prelude.{OnErr, OnOk, IfOk, IfErr};
 ghost use Rattle.std.specs.Prelude.{string_bytes};
 ghost use Rattle.std.specs.Io.KnownBytes.{Appends};
 ghost use Rattle.redraw_command.specs.Tally.{one_more};
 ghost use Rattle.redraw_command.specs.Told.{Tells};
 ghost use Rattle.redraw_run.specs.Deeds.{Does, Goes, TellsAll, repeated, standing};
+ghost use Rattle.redraw_run.specs.Fates.{AreMessages, IsChosen, IsDrawing, IsTaking, LeavesOut, IsReported, IsShown};
+ghost use Rattle.redraw_run.specs.Fates.{IsWritten, IsWrong};
 ghost use Rattle.redraw_run.specs.DrawnFinding.{Draws, IsCounted, IsLeftOut, ShowsFinding, ending_after};
 ghost use Rattle.redraw_read.specs.declared.sources.File.{File};
 ghost use Rattle.redraw_command.specs.declared.choice.Form.TheVariants.{Report, Workflow};
@@ -58,7 +61,10 @@ impl<S: SourceFiles + Drop> Drawing<'_, S> {
         message: Option<&Value>,
         out: &mut W,
         err: &mut V,
-    ) -> Result<(), Stop> {
+    ) -> Result<(), Stop>
+        ensures does { Goes result IsReported (standing self.old (W.contents out.old) (V.contents err.old))
+            (standing self.new (W.contents out.new) (V.contents err.new)) }
+    {
         match read {
             Ok(diagnostic) => self.take(diagnostic, message, out, err),
             Err(Fault::Memory) => Err(Stop::Memory),
@@ -73,7 +79,7 @@ impl<S: SourceFiles + Drop> Drawing<'_, S> {
     pub fn wrong<D: fmt::Display + Drop, V: Write>(&mut self, what: D, err: &mut V)
         ensures counted { self.new
             ≡ record self.old { tally = record self.old.tally { wrong = one_more self.old.tally.wrong } } }
-        ensures does { (out : Option (List ℕ)) → Does [] (standing self.old out (V.contents err.old))
+        ensures does { (out : Option (List ℕ)) → Does IsWrong (standing self.old out (V.contents err.old))
             (standing self.new out (V.contents err.new)) }
     {
         self.leave_out();
@@ -84,7 +90,8 @@ impl<S: SourceFiles + Drop> Drawing<'_, S> {
     pub fn leave_out(&mut self)
         ensures counted { self.new
             ≡ record self.old { tally = record self.old.tally { wrong = one_more self.old.tally.wrong } } }
-        ensures does { (out err : Option (List ℕ)) → Does [] (standing self.old out err) (standing self.new out err) }
+        ensures does { (out err : Option (List ℕ)) → Does LeavesOut (standing self.old out err)
+            (standing self.new out err) }
     {
         self.tally.wrong = self.tally.wrong.saturating_add(1);
     }
@@ -105,7 +112,7 @@ impl<S: SourceFiles + Drop> Drawing<'_, S> {
     pub fn not_json<V: Write>(&mut self, begins: u64, error: &serde_json::Error, err: &mut V)
         ensures counted { self.new
             ≡ record self.old { tally = record self.old.tally { wrong = one_more self.old.tally.wrong } } }
-        ensures does { (out : Option (List ℕ)) → Does [] (standing self.old out (V.contents err.old))
+        ensures does { (out : Option (List ℕ)) → Does IsWrong (standing self.old out (V.contents err.old))
             (standing self.new out (V.contents err.new)) }
     {
         self.leave_out();
@@ -128,17 +135,52 @@ impl<S: SourceFiles + Drop> Drawing<'_, S> {
         message: Option<&Value>,
         out: &mut W,
         err: &mut V,
-    ) -> Result<(), Stop> {
+    ) -> Result<(), Stop>
+        ensures does { Goes result IsReported (standing self.old (W.contents out.old) (V.contents err.old))
+            (standing self.new (W.contents out.new) (V.contents err.new)) }
+    {
         if let Some(folder) = &self.folder {
             make_relative(self.alloc, &mut diagnostic, folder.as_str())?;
         }
-        if !self.choice.takes(&diagnostic) {
+        self.draw_chosen(&diagnostic, message, out, err)
+    }
+
+    /// Draws a finding, if it is one of those that are asked for.
+    fn draw_chosen<W: Write, V: Write>(
+        &mut self,
+        diagnostic: &Diagnostic,
+        message: Option<&Value>,
+        out: &mut W,
+        err: &mut V,
+    ) -> Result<(), Stop>
+        ensures does { Goes result (IsTaking diagnostic.now)
+            (standing self.old (W.contents out.old) (V.contents err.old))
+            (standing self.new (W.contents out.new) (V.contents err.new)) }
+    {
+        if self.choice.takes(diagnostic) {
+            self.draw_once(diagnostic, message, out, err)
+        } else {
+            Ok(())
+        }
+    }
+
+    /// Draws a finding that is asked for, if cargo hasn't reported it before.
+    fn draw_once<W: Write, V: Write>(
+        &mut self,
+        diagnostic: &Diagnostic,
+        message: Option<&Value>,
+        out: &mut W,
+        err: &mut V,
+    ) -> Result<(), Stop>
+        ensures does { Goes result (IsChosen diagnostic.now)
+            (standing self.old (W.contents out.old) (V.contents err.old))
+            (standing self.new (W.contents out.new) (V.contents err.new)) }
+    {
+        let is_seen = self.is_duplicate(message)?;
+        if is_seen {
             return Ok(());
         }
-        if self.is_duplicate(message)? {
-            return Ok(());
-        }
-        self.draw(&diagnostic, out, err)
+        self.draw(diagnostic, out, err)
     }
 
     /// Whether this is a message of cargo that was drawn before and isn't to be drawn again; such a one is counted.
@@ -147,6 +189,7 @@ impl<S: SourceFiles + Drop> Drawing<'_, S> {
             self.new.tally ≡ (if is then repeated self.old.tally else self.old.tally)) }
         ensures uncounted { OnErr result (self.new.tally ≡ self.old.tally) }
         ensures kept { (self.new.renderer ≡ self.old.renderer) × (self.new.choice ≡ self.old.choice) }
+        ensures once { IfOk result (λ is. is ≡ true → self.old.choice.has_duplicates ≡ false) }
     {
         match message {
             Some(message) if !self.choice.has_duplicates => {
@@ -171,7 +214,8 @@ impl<S: SourceFiles + Drop> Drawing<'_, S> {
             diagnostic.now (W.contents out.old) (W.contents out.new) (out.new ≡ out.old)
             self.old.tally self.new.tally) }
         ensures kept { (self.new.renderer ≡ self.old.renderer) × (self.new.choice ≡ self.old.choice) }
-        ensures does { Goes result [] (standing self.old (W.contents out.old) (V.contents err.old))
+        ensures does { Goes result (IsDrawing diagnostic.now)
+            (standing self.old (W.contents out.old) (V.contents err.old))
             (standing self.new (W.contents out.new) (V.contents err.new)) }
     {
         match self.choice.form {
@@ -191,7 +235,7 @@ impl<S: SourceFiles + Drop> Drawing<'_, S> {
             (W.contents out.old) (W.contents out.new) (out.new ≡ out.old) self.old.tally self.new.tally) }
         ensures kept { (self.new.renderer ≡ self.old.renderer) × (self.new.choice ≡ self.old.choice) }
         ensures does { self.old.choice.form ≡ Report
-            → Goes result [] (standing self.old (W.contents out.old) (V.contents err.old))
+            → Goes result (IsShown diagnostic.now) (standing self.old (W.contents out.old) (V.contents err.old))
             (standing self.new (W.contents out.new) (V.contents err.new)) }
     {
         load_files(&mut self.sources, diagnostic)?;
@@ -207,7 +251,8 @@ impl<S: SourceFiles + Drop> Drawing<'_, S> {
             (W.contents out.old) (W.contents out.new) (out.new ≡ out.old) self.old.tally self.new.tally) }
         ensures kept { (self.new.renderer ≡ self.old.renderer) × (self.new.choice ≡ self.old.choice) }
         ensures does { self.old.choice.form ≡ Workflow → (err : Option (List ℕ))
-            → Goes result [] (standing self.old (W.contents out.old) err) (standing self.new (W.contents out.new) err) }
+            → Goes result (IsWritten diagnostic.now) (standing self.old (W.contents out.old) err)
+            (standing self.new (W.contents out.new) err) }
     {
         match command_of(self.alloc, diagnostic)? {
             Some(line) => {
@@ -223,7 +268,7 @@ impl<S: SourceFiles + Drop> Drawing<'_, S> {
         ensures kept { (self.new.renderer ≡ self.old.renderer) × (self.new.choice ≡ self.old.choice)
             × (self.new.tally ≡ self.old.tally) }
         ensures files { self.new.sources.files ≡ self.old.sources.files }
-        ensures does { (out : Option (List ℕ)) → Does [] (standing self.old out (V.contents err.old))
+        ensures does { (out : Option (List ℕ)) → Does AreMessages (standing self.old out (V.contents err.old))
             (standing self.new out (V.contents err.new)) }
     {
         for name in self.sources.take_unread() {
@@ -234,7 +279,7 @@ impl<S: SourceFiles + Drop> Drawing<'_, S> {
 
     /// Tells how many places aren't in their source, and how many edits aren't drawn.
     fn tell_inexact<V: Write>(&self, clamped: u64, undrawn: u64, err: &mut V)
-        ensures does { (out : Option (List ℕ)) → Does [] (standing self.now out (V.contents err.old))
+        ensures does { (out : Option (List ℕ)) → Does AreMessages (standing self.now out (V.contents err.old))
             (standing self.now out (V.contents err.new)) }
         ensures exact { clamped ≡ 0 → undrawn ≡ 0 → err.new ≡ err.old }
     {
@@ -272,7 +317,7 @@ impl<S: SourceFiles + Drop> Drawing<'_, S> {
         ensures does { self.old.choice.form ≡ Report
             → (files : List File)
             → IfOk text (λ t. ShowsFinding self.old.renderer files diagnostic.now (string_bytes t))
-            → Goes result [] (standing self.old (W.contents out.old) (V.contents err.old))
+            → Goes result (IsShown diagnostic.now) (standing self.old (W.contents out.old) (V.contents err.old))
             (standing self.new (W.contents out.new) (V.contents err.new)) }
         ensures files { self.new.sources.files ≡ self.old.sources.files }
     {

@@ -1,18 +1,23 @@
 //! An input, read line by line. Nothing of a line is kept when the next is read, save of a log that is one document.
-ghost use Rattle.std.specs.Prelude.{ℕ, List, [], Option, IfErr, IfOk};
-ghost use Rattle.redraw_run.specs.Deeds.{Does, Goes, IsUnreadable, standing};
-ghost use Rattle.redraw_run.specs.ReadLines.{TakesNext};
+ghost use Rattle.std.specs.Prelude.{◌≡◌, ◌++◌, ℕ, List, Option, None, Some, true, false, ◌↔◌};
+ghost use Rattle.std.specs.Prelude.{IfErr, IfOk, OnOk, IsTrue, codes, option_map};
+ghost use Rattle.json_node.specs.Field.{flag_at};
+ghost use Rattle.serde_json.specs.View.{view};
+ghost use Rattle.redraw_command.specs.Line.{begins_object};
+ghost use Rattle.redraw_run.specs.Deeds.{Does, Goes, IsUnreadable, Stops, standing};
+ghost use Rattle.redraw_run.specs.Fates.{Advances, IsCargoKind, IsDocumentLine, IsHalted, IsInput, IsKnown};
+ghost use Rattle.redraw_run.specs.Fates.{IsLast, IsOfKind, IsSoFar, IsTextOf, IsUnknown, IsValue, IsWhole};
+ghost use Rattle.redraw_run.specs.Fates.{LeavesOpen, Reads, document_of};
+ghost use Rattle.redraw_run.specs.ReadLines.{AreAllOf, AreFirstOf, TakesNext};
 
 use crate::draw::Drawing;
-use crate::sarif::draw_runs;
+use crate::json::json_of;
+use crate::report::{cargo_message, sarif_log};
 use crate::write::pass;
-use json_node::expectation::Expectation;
 use json_node::node::Node;
 use json_node::place::Place;
 use redraw_command::line::{Line, is_utf16, line_of};
 use redraw_command::stop::Stop;
-use redraw_read::cargo::packaged_diagnostic_of;
-use redraw_read::json::listed;
 use redraw_read::rustc::diagnostic_of;
 use redraw_read::sources::SourceFiles;
 use serde_json::Value;
@@ -54,7 +59,9 @@ enum Kind {
 }
 
 /// What this value is; `None` where it is none of them.
-fn kind_of(value: &Value) -> Option<Kind> {
+fn kind_of(value: &Value) -> Option<Kind>
+    ensures kind { IsOfKind (view value.now) result }
+{
     if value.get("runs").is_some() {
         return Some(Kind::Sarif);
     }
@@ -72,7 +79,9 @@ fn kind_of(value: &Value) -> Option<Kind> {
 }
 
 /// What a message of cargo is, by its reason.
-fn cargo_kind(reason: &str, value: &Value) -> Kind {
+fn cargo_kind(reason: &str, value: &Value) -> Kind
+    ensures kind { IsCargoKind reason.now (view value.now) result }
+{
     if reason == "compiler-message" {
         Kind::Cargo
     } else if reason == "build-finished" && is_failed(value) {
@@ -83,13 +92,17 @@ fn cargo_kind(reason: &str, value: &Value) -> Kind {
 }
 
 /// Whether cargo's last message says that the build failed.
-fn is_failed(value: &Value) -> bool {
+fn is_failed(value: &Value) -> bool
+    ensures failed { IsTrue result ↔ (flag_at (codes "success") (view value.now) ≡ Some false) }
+{
     value.get("success").and_then(Value::as_bool) == Some(false)
 }
 
 impl Reading {
     /// Nothing has been read.
-    pub fn new(alloc: Global) -> Reading {
+    pub fn new(alloc: Global) -> Reading
+        ensures empty { result.document ≡ None }
+    {
         Reading {
             alloc,
             is_known: false,
@@ -108,15 +121,39 @@ impl Reading {
         drawing: &mut Drawing<'_, S>,
         out: &mut W,
         err: &mut V,
-    ) -> Result<(), Stop> {
+    ) -> Result<(), Stop>
+        ensures advances { Advances result bytes.now
+            (document_of self.old.document) (document_of self.new.document)
+            (standing drawing.old (W.contents out.old) (V.contents err.old))
+            (standing drawing.new (W.contents out.new) (V.contents err.new)) }
+    {
         let is_first = !self.has_begun;
         self.has_begun = true;
-        if is_first && is_utf16(bytes) {
+        let is_refused = is_first && is_utf16(bytes);
+        if is_refused {
             return Err(Stop::Utf16);
         }
         if self.document.is_some() {
-            return self.document_line(bytes, drawing, err);
+            self.document_line(bytes, drawing, err)
+        } else {
+            self.alone(bytes, is_first, drawing, out, err)
         }
+    }
+
+    /// Takes a line that is in no document.
+    fn alone<S: SourceFiles + Drop, W: Write, V: Write>(
+        &mut self,
+        bytes: &[u8],
+        is_first: bool,
+        drawing: &mut Drawing<'_, S>,
+        out: &mut W,
+        err: &mut V,
+    ) -> Result<(), Stop>
+        ensures advances { self.old.document ≡ None → Advances result bytes.now
+            (document_of self.old.document) (document_of self.new.document)
+            (standing drawing.old (W.contents out.old) (V.contents err.old))
+            (standing drawing.new (W.contents out.new) (V.contents err.new)) }
+    {
         match line_of(bytes, is_first) {
             Line::Object(line) => self.object(line, bytes, drawing, out, err),
             Line::Undecoded => {
@@ -140,20 +177,46 @@ impl Reading {
         drawing: &mut Drawing<'_, S>,
         out: &mut W,
         err: &mut V,
-    ) -> Result<(), Stop> {
-        match Value::from_str(self.alloc, without_end(line)) {
+    ) -> Result<(), Stop>
+        ensures advances { IsTextOf bytes.now line.now → begins_object line.now ≡ true → self.old.document ≡ None
+            → Advances result bytes.now
+            (document_of self.old.document) (document_of self.new.document)
+            (standing drawing.old (W.contents out.old) (V.contents err.old))
+            (standing drawing.new (W.contents out.new) (V.contents err.new)) }
+    {
+        let read = json_of(self.alloc, line)?;
+        match read {
             Ok(value) => self.value(&value, Some(bytes), drawing, out, err),
-            Err(error) if error.is_memory() => Err(Stop::Memory),
-            Err(_) if !line.starts_with('{') => {
-                self.has_others = true;
-                pass(bytes, out)
-            }
-            Err(error) => self.no_value(line, &error, drawing, err),
+            Err(error) => self.not_json(line, bytes, &error, drawing, out, err),
         }
     }
 
-    /// Takes a line that begins as an object does and isn't JSON: the first such may begin a document, and another one
-    /// is told and left out.
+    /// Takes a line that begins as an object does and isn't JSON: one that begins with blanks is handed on.
+    fn not_json<S: SourceFiles + Drop, W: Write, V: Write>(
+        &mut self,
+        line: &str,
+        bytes: &[u8],
+        error: &serde_json::Error,
+        drawing: &mut Drawing<'_, S>,
+        out: &mut W,
+        err: &mut V,
+    ) -> Result<(), Stop>
+        ensures advances { IsTextOf bytes.now line.now → begins_object line.now ≡ true → Reads line.now None
+            → self.old.document ≡ None → Advances result bytes.now
+            (document_of self.old.document) (document_of self.new.document)
+            (standing drawing.old (W.contents out.old) (V.contents err.old))
+            (standing drawing.new (W.contents out.new) (V.contents err.new)) }
+    {
+        if line.starts_with('{') {
+            self.no_value(line, error, drawing, err)
+        } else {
+            self.has_others = true;
+            pass(bytes, out)
+        }
+    }
+
+    /// Takes a line that begins with a brace and isn't JSON: the first such may begin a document, and another one is
+    /// told and left out.
     fn no_value<S: SourceFiles + Drop, V: Write>(
         &mut self,
         line: &str,
@@ -161,8 +224,9 @@ impl Reading {
         drawing: &mut Drawing<'_, S>,
         err: &mut V,
     ) -> Result<(), Stop>
-        ensures does { (out : Option (List ℕ)) → Goes result [] (standing drawing.old out (V.contents err.old))
-            (standing drawing.new out (V.contents err.new)) }
+        ensures leaves { (out : Option (List ℕ)) → LeavesOpen result line.now
+            (document_of self.old.document) (document_of self.new.document)
+            (standing drawing.old out (V.contents err.old)) (standing drawing.new out (V.contents err.new)) }
     {
         let at = drawing.line;
         if self.has_objects {
@@ -182,8 +246,10 @@ impl Reading {
         drawing: &mut Drawing<'_, S>,
         err: &mut V,
     ) -> Result<(), Stop>
-        ensures does { (out : Option (List ℕ)) → Goes result [] (standing drawing.old out (V.contents err.old))
-            (standing drawing.new out (V.contents err.new)) }
+        ensures does { (out : Option (List ℕ)) → Does (IsDocumentLine bytes.now)
+            (standing drawing.old out (V.contents err.old)) (standing drawing.new out (V.contents err.new)) }
+        ensures grows { (document : List ℕ) → document_of self.old.document ≡ Some document
+            → OnOk result (document_of self.new.document ≡ Some (document ++ bytes.now)) }
     {
         check_text(bytes, drawing, err);
         if let Some(document) = &mut self.document {
@@ -199,17 +265,32 @@ impl Reading {
         drawing: &mut Drawing<'_, S>,
         out: &mut W,
         err: &mut V,
-    ) -> Result<(), Stop> {
-        if let Some(document) = self.document.take() {
-            return self.document(&document, drawing, out, err);
+    ) -> Result<(), Stop>
+        ensures does { Goes result (IsLast (document_of self.old.document))
+            (standing drawing.old (W.contents out.old) (V.contents err.old))
+            (standing drawing.new (W.contents out.new) (V.contents err.new)) }
+    {
+        match self.document.take() {
+            Some(document) => self.document(&document, drawing, out, err),
+            None => {
+                self.end_lines(drawing, err);
+                Ok(())
+            }
         }
-        if self.has_others && !self.has_objects {
+    }
+
+    /// Tells of lines none of which begins as an object does, if one of them isn't blank.
+    fn end_lines<S: SourceFiles + Drop, V: Write>(&self, drawing: &mut Drawing<'_, S>, err: &mut V)
+        ensures does { (out : Option (List ℕ)) → Does (IsLast None)
+            (standing drawing.old out (V.contents err.old)) (standing drawing.new out (V.contents err.new)) }
+    {
+        let is_unknown = self.has_others && !self.has_objects;
+        if is_unknown {
             drawing.tell(
                 "nothing in it is a message of rustc or cargo or a SARIF log",
                 err,
             );
         }
-        Ok(())
     }
 
     /// Takes a document, if all of it is UTF-8.
@@ -219,13 +300,32 @@ impl Reading {
         drawing: &mut Drawing<'_, S>,
         out: &mut W,
         err: &mut V,
-    ) -> Result<(), Stop> {
-        let Ok(text) = str::from_utf8(document) else {
-            return Ok(());
-        };
-        match Value::from_str(self.alloc, without_end(text)) {
+    ) -> Result<(), Stop>
+        ensures does { Goes result (IsWhole document.now)
+            (standing drawing.old (W.contents out.old) (V.contents err.old))
+            (standing drawing.new (W.contents out.new) (V.contents err.new)) }
+    {
+        match str::from_utf8(document) {
+            Ok(text) => self.whole(text, drawing, out, err),
+            Err(_) => Ok(()),
+        }
+    }
+
+    /// Takes the text of a document.
+    fn whole<S: SourceFiles + Drop, W: Write, V: Write>(
+        &mut self,
+        text: &str,
+        drawing: &mut Drawing<'_, S>,
+        out: &mut W,
+        err: &mut V,
+    ) -> Result<(), Stop>
+        ensures does { Goes result (IsWhole text.now)
+            (standing drawing.old (W.contents out.old) (V.contents err.old))
+            (standing drawing.new (W.contents out.new) (V.contents err.new)) }
+    {
+        let read = json_of(self.alloc, text)?;
+        match read {
             Ok(value) => self.value(&value, None, drawing, out, err),
-            Err(error) if error.is_memory() => Err(Stop::Memory),
             Err(error) => {
                 drawing.not_json(self.begins, &error, err);
                 Ok(())
@@ -233,8 +333,7 @@ impl Reading {
         }
     }
 
-    /// Takes a value of JSON, which is this line where it isn't a document. A line of no known form after one that is
-    /// of one is handed on: what else writes there may write JSON too.
+    /// Takes a value of JSON, which is this line where it isn't a document.
     fn value<S: SourceFiles + Drop, W: Write, V: Write>(
         &mut self,
         value: &Value,
@@ -242,15 +341,38 @@ impl Reading {
         drawing: &mut Drawing<'_, S>,
         out: &mut W,
         err: &mut V,
-    ) -> Result<(), Stop> {
+    ) -> Result<(), Stop>
+        ensures same { self.new.document ≡ self.old.document }
+        ensures does { Goes result (IsValue (option_map (λ bytes. bytes.now) line.entry) (view value.now))
+            (standing drawing.old (W.contents out.old) (V.contents err.old))
+            (standing drawing.new (W.contents out.new) (V.contents err.new)) }
+    {
         self.has_objects = true;
-        match (kind_of(value), line) {
-            (Some(kind), _) => {
+        match kind_of(value) {
+            Some(kind) => {
                 self.is_known = true;
                 self.known(kind, value, drawing, out, err)
             }
-            (None, Some(line)) if self.is_known => pass(line, out),
-            (None, _) => {
+            None => self.unknown(line, drawing, out, err),
+        }
+    }
+
+    /// Takes a value of JSON of no known form. Such a line after one that is of one is handed on: what else writes
+    /// there may write JSON too.
+    fn unknown<S: SourceFiles + Drop, W: Write, V: Write>(
+        &self,
+        line: Option<&[u8]>,
+        drawing: &mut Drawing<'_, S>,
+        out: &mut W,
+        err: &mut V,
+    ) -> Result<(), Stop>
+        ensures does { Goes result (IsUnknown (option_map (λ bytes. bytes.now) line.entry))
+            (standing drawing.old (W.contents out.old) (V.contents err.old))
+            (standing drawing.new (W.contents out.new) (V.contents err.new)) }
+    {
+        match line {
+            Some(line) if self.is_known => pass(line, out),
+            _ => {
                 drawing.wrong("neither a message of rustc or cargo nor a SARIF log", err);
                 Ok(())
             }
@@ -265,7 +387,11 @@ impl Reading {
         drawing: &mut Drawing<'_, S>,
         out: &mut W,
         err: &mut V,
-    ) -> Result<(), Stop> {
+    ) -> Result<(), Stop>
+        ensures same { self.new.document ≡ self.old.document }
+        ensures does { Goes result (IsKnown kind) (standing drawing.old (W.contents out.old) (V.contents err.old))
+            (standing drawing.new (W.contents out.new) (V.contents err.new)) }
+    {
         let node = Node {
             alloc: self.alloc,
             value,
@@ -290,43 +416,12 @@ fn check_text<S: SourceFiles + Drop, V: Write>(
     drawing: &mut Drawing<'_, S>,
     err: &mut V,
 )
-    ensures does { (out : Option (List ℕ)) → Does [] (standing drawing.old out (V.contents err.old))
-        (standing drawing.new out (V.contents err.new)) }
+    ensures does { (out : Option (List ℕ)) → Does (IsDocumentLine bytes.now)
+        (standing drawing.old out (V.contents err.old)) (standing drawing.new out (V.contents err.new)) }
 {
-    if str::from_utf8(bytes).is_err() {
-        drawing.wrong("not valid UTF-8", err);
-    }
-}
-
-/// A line, or the lines of a document, without the last line's end.
-fn without_end(text: &str) -> &str {
-    let text = text.strip_suffix('\n').unwrap_or(text);
-    text.strip_suffix('\r').unwrap_or(text)
-}
-
-/// Takes cargo's message, which has a diagnostic of rustc in it.
-fn cargo_message<S: SourceFiles + Drop, W: Write, V: Write>(
-    node: &Node<'_, '_>,
-    drawing: &mut Drawing<'_, S>,
-    out: &mut W,
-    err: &mut V,
-) -> Result<(), Stop> {
-    match node.needed("message", Expectation::Object) {
-        Ok(message) => drawing.finding(packaged_diagnostic_of(node), Some(message.value), out, err),
-        Err(fault) => drawing.finding(Err(fault), None, out, err),
-    }
-}
-
-/// Takes a SARIF log. One whose runs are no list is told and left out.
-fn sarif_log<S: SourceFiles + Drop, W: Write, V: Write>(
-    node: &Node<'_, '_>,
-    drawing: &mut Drawing<'_, S>,
-    out: &mut W,
-    err: &mut V,
-) -> Result<(), Stop> {
-    match listed(node, "runs") {
-        Ok(runs) => draw_runs(runs, drawing, out, err),
-        Err(fault) => drawing.finding(Err(fault), None, out, err),
+    match str::from_utf8(bytes) {
+        Ok(_) => {}
+        Err(_) => drawing.wrong("not valid UTF-8", err),
     }
 }
 
@@ -337,7 +432,14 @@ pub fn draw_input<B: BufRead + Drop, S: SourceFiles + Drop, W: Write, V: Write>(
     drawing: &mut Drawing<'_, S>,
     out: &mut W,
     err: &mut V,
-) -> Result<bool, Stop> {
+) -> Result<bool, Stop>
+    ensures reads { OnOk result ((lines : List (List ℕ)) × AreAllOf (B.remaining input) lines × Does (IsInput lines)
+        (standing drawing.old (W.contents out.old) (V.contents err.old))
+        (standing drawing.new (W.contents out.new) (V.contents err.new))) }
+    ensures halts { IfErr result (λ stop. (lines : List (List ℕ)) × AreFirstOf (B.remaining input) lines
+        × Stops stop (IsHalted lines) (standing drawing.old (W.contents out.old) (V.contents err.old))
+        (standing drawing.new (W.contents out.new) (V.contents err.new))) }
+{
     let mut reading = Reading::new(drawing.alloc);
     draw_lines(input, &mut reading, drawing, out, err)?;
     drawing.line = 0;
@@ -352,14 +454,26 @@ fn draw_lines<B: BufRead + Drop, S: SourceFiles + Drop, W: Write, V: Write>(
     drawing: &mut Drawing<'_, S>,
     out: &mut W,
     err: &mut V,
-) -> Result<(), Stop> {
+) -> Result<(), Stop>
+    ensures reads { reading.old.document ≡ None → OnOk result ((lines : List (List ℕ))
+        × AreAllOf (B.remaining input) lines
+        × Does (IsSoFar lines (document_of reading.new.document))
+        (standing drawing.old (W.contents out.old) (V.contents err.old))
+        (standing drawing.new (W.contents out.new) (V.contents err.new))) }
+    ensures halts { reading.old.document ≡ None → IfErr result (λ stop. (lines : List (List ℕ))
+        × AreFirstOf (B.remaining input) lines
+        × Stops stop (IsHalted lines) (standing drawing.old (W.contents out.old) (V.contents err.old))
+        (standing drawing.new (W.contents out.new) (V.contents err.new))) }
+{
     let mut line = Vec::new(drawing.alloc);
     for number in 1..u64::MAX {
-        if !next_line(&mut input, &mut line)? {
-            break;
+        let is_more = next_line(&mut input, &mut line)?;
+        if is_more {
+            drawing.line = number;
+            reading.line(&line, drawing, out, err)?;
+        } else {
+            return Ok(());
         }
-        drawing.line = number;
-        reading.line(&line, drawing, out, err)?;
     }
     Ok(())
 }

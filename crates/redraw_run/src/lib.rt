@@ -4,7 +4,9 @@
 pub mod draw;
 pub mod files;
 pub mod input;
+pub mod json;
 pub mod look;
+pub mod report;
 pub mod run;
 pub mod sarif;
 pub mod text;

@@ -1,12 +1,15 @@
 //! A run of the program.
-ghost use Rattle.std.specs.Prelude.{◌≡◌, ◌≢◌, ◌⊎◌, ◌≤◌, ◌||◌, true, false};
+ghost use Rattle.std.specs.Prelude.{◌≡◌, ◌≢◌, ◌⊎◌, ◌≤◌, ◌||◌, ◌&&◌, ℕ, List, [], true, false, map, IfErr, IfOk};
 ghost use Rattle.clap.specs.Values.{kind_of};
 ghost use Rattle.clap.specs.declared.error.kind.ErrorKind.TheVariants as kind;
 ghost use Rattle.std.specs.IoError.{error_kind};
 ghost use Rattle.std.specs.declared.io.ErrorKind.TheVariants.{BrokenPipe};
 ghost use Rattle.redraw_command.specs.Tally.{is_empty, status_of};
 ghost use Rattle.redraw_command.specs.Told.{Tells, TellsOfWords};
+ghost use Rattle.redraw_run.specs.Deeds.{Does, standing};
 ghost use Rattle.redraw_run.specs.ReadLines.{IsPrinted, SumsUp};
+ghost use Rattle.redraw_run.specs.Run.{Answers, AnswersWords, AreCut, AreDrawn, Draws, EndsInput, IsCutOf};
+ghost use Rattle.redraw_run.specs.Run.{IsDrawnOf, asked_names, given_names, standard};
 
 use crate::draw::Drawing;
 use crate::files::FilesUnder;
@@ -35,6 +38,8 @@ pub fn run<'w, R: Files + Input + AllocGlobal, W: Write, V: Write>(
     err: &mut V,
 ) -> u8
     ensures status { result ≤ 2 }
+    ensures answers { Answers around.entry (W.contents out.old) (V.contents err.old) (W.contents out.new)
+        (V.contents err.new) result }
 {
     match matches_of(rt.alloc(), words) {
         Ok(matches) => draw_all(rt, request_of(&matches), around, out, err),
@@ -54,6 +59,8 @@ fn answer_error<W: Write, V: Write>(
     ensures told { kind_of error.now ≢ kind.DisplayHelp → kind_of error.now ≢ kind.DisplayVersion
         → TellsOfWords (V.contents err.old) (V.contents err.new) }
     ensures status { result ≤ 2 }
+    ensures answers { AnswersWords (W.contents out.old) (V.contents err.old) (W.contents out.new) (V.contents err.new)
+        result }
     ensures asked { (kind_of error.now ≡ kind.DisplayHelp) ⊎ (kind_of error.now ≡ kind.DisplayVersion) → err.new
         ≡ err.old }
     ensures printed { (kind_of error.now ≡ kind.DisplayHelp) ⊎ (kind_of error.now ≡ kind.DisplayVersion)
@@ -97,6 +104,8 @@ fn draw_all<'w, R: Files + Input + AllocGlobal, W: Write, V: Write>(
     err: &mut V,
 ) -> u8
     ensures status { result ≤ 2 }
+    ensures draws { Draws request.entry around.entry (W.contents out.old) (V.contents err.old) (W.contents out.new)
+        (V.contents err.new) result }
 {
     let alloc = rt.alloc();
     let Ok(folder) = folder_of(alloc, request.root, around) else {
@@ -108,13 +117,15 @@ fn draw_all<'w, R: Files + Input + AllocGlobal, W: Write, V: Write>(
         root: request.root,
         is_confined: request.is_confined,
     };
+    let renderer = renderer_for(&request.look, around);
+    let tally = Tally::new();
     let mut drawing = Drawing {
         alloc,
-        renderer: renderer_for(&request.look, around),
+        renderer,
         choice: request.choice,
         sources: Sources::new(alloc, source_files),
         folder,
-        tally: Tally::default(),
+        tally,
         seen: Seen::new(alloc),
         files: Names::new(alloc),
         input: INPUT,
@@ -143,30 +154,70 @@ fn draw_inputs<'r, R: Files + Input + AllocGlobal, S: SourceFiles + Drop, W: Wri
     drawing: &mut Drawing<'r, S>,
     out: &mut W,
     err: &mut V,
-) -> io::Result<bool> {
+) -> io::Result<bool>
+    ensures drawn { IfOk result (λ is_whole. AreDrawn (asked_names names.entry) is_whole
+        (standing drawing.old (W.contents out.old) (V.contents err.old))
+        (standing drawing.new (W.contents out.new) (V.contents err.new))) }
+    ensures cut { IfErr result (λ error. AreCut (asked_names names.entry)
+        (standing drawing.old (W.contents out.old) (V.contents err.old))
+        (standing drawing.new (W.contents out.new) (V.contents err.new))) }
+{
     match names {
-        Some([first, rest @ ..]) => {
-            let is_whole = draw_named(rt, *first, drawing, out, err)?;
-            draw_rest(rt, rest, is_whole, drawing, out, err)
-        }
-        _ => draw_standard(rt, drawing, out, err),
+        Some(names) => draw_given(rt, names, drawing, out, err),
+        None => draw_standard(rt, drawing, out, err),
     }
 }
 
-/// The same of further inputs, after others of which all could be read or not.
-fn draw_rest<'r, R: Files + Input + AllocGlobal, S: SourceFiles + Drop, W: Write, V: Write>(
+/// The same of inputs that are named, or of standard input where none is.
+fn draw_given<'r, R: Files + Input + AllocGlobal, S: SourceFiles + Drop, W: Write, V: Write>(
     rt: &R,
     names: &[&'r str],
-    is_whole: bool,
     drawing: &mut Drawing<'r, S>,
     out: &mut W,
     err: &mut V,
-) -> io::Result<bool> {
-    let mut is_whole = is_whole;
+) -> io::Result<bool>
+    ensures drawn { IfOk result (λ is_whole. AreDrawn (given_names names.now) is_whole
+        (standing drawing.old (W.contents out.old) (V.contents err.old))
+        (standing drawing.new (W.contents out.new) (V.contents err.new))) }
+    ensures cut { IfErr result (λ error. AreCut (given_names names.now)
+        (standing drawing.old (W.contents out.old) (V.contents err.old))
+        (standing drawing.new (W.contents out.new) (V.contents err.new))) }
+{
+    if names.is_empty() {
+        draw_standard(rt, drawing, out, err)
+    } else {
+        draw_each(rt, names, drawing, out, err)
+    }
+}
+
+/// The same of the inputs of these names.
+fn draw_each<'r, R: Files + Input + AllocGlobal, S: SourceFiles + Drop, W: Write, V: Write>(
+    rt: &R,
+    names: &[&'r str],
+    drawing: &mut Drawing<'r, S>,
+    out: &mut W,
+    err: &mut V,
+) -> io::Result<bool>
+    ensures drawn { IfOk result (λ is_whole. AreDrawn (map (λ name. name.now) names.now) is_whole
+        (standing drawing.old (W.contents out.old) (V.contents err.old))
+        (standing drawing.new (W.contents out.new) (V.contents err.new))) }
+    ensures cut { IfErr result (λ error. AreCut (map (λ name. name.now) names.now)
+        (standing drawing.old (W.contents out.old) (V.contents err.old))
+        (standing drawing.new (W.contents out.new) (V.contents err.new))) }
+{
+    let mut is_whole = true;
     for name in names {
-        is_whole = draw_named(rt, *name, drawing, out, err)? && is_whole;
+        let is_known = draw_named(rt, *name, drawing, out, err)?;
+        is_whole = both(is_known, is_whole);
     }
     Ok(is_whole)
+}
+
+/// Whether both hold.
+fn both(one: bool, other: bool) -> bool
+    ensures value { result ≡ one && other }
+{
+    one && other
 }
 
 /// The same of one input, by its name.
@@ -176,7 +227,14 @@ fn draw_named<'r, R: Files + Input + AllocGlobal, S: SourceFiles + Drop, W: Writ
     drawing: &mut Drawing<'r, S>,
     out: &mut W,
     err: &mut V,
-) -> io::Result<bool> {
+) -> io::Result<bool>
+    ensures drawn { IfOk result (λ is_whole. IsDrawnOf name.now is_whole
+        (standing drawing.old (W.contents out.old) (V.contents err.old))
+        (standing drawing.new (W.contents out.new) (V.contents err.new))) }
+    ensures cut { IfErr result (λ error. IsCutOf
+        (standing drawing.old (W.contents out.old) (V.contents err.old))
+        (standing drawing.new (W.contents out.new) (V.contents err.new))) }
+{
     if name == "-" {
         draw_standard(rt, drawing, out, err)
     } else {
@@ -191,7 +249,14 @@ fn draw_standard<R: Files + Input + AllocGlobal, S: SourceFiles + Drop, W: Write
     drawing: &mut Drawing<'_, S>,
     out: &mut W,
     err: &mut V,
-) -> io::Result<bool> {
+) -> io::Result<bool>
+    ensures drawn { IfOk result (λ is_whole. IsDrawnOf standard is_whole
+        (standing drawing.old (W.contents out.old) (V.contents err.old))
+        (standing drawing.new (W.contents out.new) (V.contents err.new))) }
+    ensures cut { IfErr result (λ error. IsCutOf
+        (standing drawing.old (W.contents out.old) (V.contents err.old))
+        (standing drawing.new (W.contents out.new) (V.contents err.new))) }
+{
     drawing.input = INPUT;
     let input = BufReader::new(rt.alloc(), rt.reader());
     draw_opened(input, drawing, out, err)
@@ -204,7 +269,14 @@ fn draw_file<R: Files + AllocGlobal, S: SourceFiles + Drop, W: Write, V: Write>(
     drawing: &mut Drawing<'_, S>,
     out: &mut W,
     err: &mut V,
-) -> io::Result<bool> {
+) -> io::Result<bool>
+    ensures drawn { IfOk result (λ is_whole. IsDrawnOf name.now is_whole
+        (standing drawing.old (W.contents out.old) (V.contents err.old))
+        (standing drawing.new (W.contents out.new) (V.contents err.new))) }
+    ensures cut { IfErr result (λ error. IsCutOf
+        (standing drawing.old (W.contents out.old) (V.contents err.old))
+        (standing drawing.new (W.contents out.new) (V.contents err.new))) }
+{
     let input = match fs::File::open(rt, name) {
         Ok(file) => BufReader::new(rt.alloc(), file),
         Err(error) => Err(error),
@@ -218,12 +290,30 @@ pub fn draw_opened<B: BufRead + Drop, S: SourceFiles + Drop, W: Write, V: Write>
     drawing: &mut Drawing<'_, S>,
     out: &mut W,
     err: &mut V,
-) -> io::Result<bool> {
+) -> io::Result<bool>
+    ensures drawn { (name : List ℕ) → IfOk result (λ is_whole. IsDrawnOf name is_whole
+        (standing drawing.old (W.contents out.old) (V.contents err.old))
+        (standing drawing.new (W.contents out.new) (V.contents err.new))) }
+    ensures cut { IfErr result (λ error. IsCutOf
+        (standing drawing.old (W.contents out.old) (V.contents err.old))
+        (standing drawing.new (W.contents out.new) (V.contents err.new))) }
+{
     drawing.line = 0;
-    let drawn = match input {
-        Ok(input) => draw_input(input, drawing, out, err),
-        Err(error) => Err(Stop::Unreadable(error)),
-    };
+    match input {
+        Ok(input) => end_input(draw_input(input, drawing, out, err), drawing, err),
+        Err(error) => end_input(Err(Stop::Unreadable(error)), drawing, err),
+    }
+}
+
+/// Answers whether all of an input could be read and is of a form that is known, and tells why it couldn't be. What
+/// couldn't be written isn't told.
+fn end_input<S: SourceFiles + Drop, V: Write>(
+    drawn: Result<bool, Stop>,
+    drawing: &Drawing<'_, S>,
+    err: &mut V,
+) -> io::Result<bool>
+    ensures ends { EndsInput drawn result (V.contents err.old) (V.contents err.new) }
+{
     match drawn {
         Ok(is_known) => Ok(is_known),
         Err(Stop::Unwritable(error)) => Err(error),

@@ -1,5 +1,6 @@
 //! A SARIF log, whose results are drawn one after another.
-ghost use Rattle.redraw_run.specs.Deeds.{TellsAll};
+ghost use Rattle.redraw_run.specs.Deeds.{Goes, TellsAll, standing};
+ghost use Rattle.redraw_run.specs.Fates.{AreRuns, IsResult, IsRun};
 
 use crate::draw::Drawing;
 use json_node::lenient::{List, Node, Problems};
@@ -16,7 +17,10 @@ pub fn draw_runs<S: SourceFiles + Drop, W: Write, V: Write>(
     drawing: &mut Drawing<'_, S>,
     out: &mut W,
     err: &mut V,
-) -> Result<(), Stop> {
+) -> Result<(), Stop>
+    ensures does { Goes result AreRuns (standing drawing.old (W.contents out.old) (V.contents err.old))
+        (standing drawing.new (W.contents out.new) (V.contents err.new)) }
+{
     let document = Place::Document;
     let runs = List {
         items: runs,
@@ -34,7 +38,10 @@ fn draw_run<S: SourceFiles + Drop, W: Write, V: Write>(
     drawing: &mut Drawing<'_, S>,
     out: &mut W,
     err: &mut V,
-) -> Result<(), Stop> {
+) -> Result<(), Stop>
+    ensures does { Goes result IsRun (standing drawing.old (W.contents out.old) (V.contents err.old))
+        (standing drawing.new (W.contents out.new) (V.contents err.new)) }
+{
     let mut problems = Problems::new(drawing.alloc);
     let run = Run::new(node, &mut problems);
     let results = run.results(&mut problems);
@@ -52,7 +59,10 @@ fn draw_result<'v, S: SourceFiles + Drop, W: Write, V: Write>(
     drawing: &mut Drawing<'_, S>,
     out: &mut W,
     err: &mut V,
-) -> Result<(), Stop> {
+) -> Result<(), Stop>
+    ensures does { Goes result IsResult (standing drawing.old (W.contents out.old) (V.contents err.old))
+        (standing drawing.new (W.contents out.new) (V.contents err.new)) }
+{
     let mut problems = Problems::new(drawing.alloc);
     let found = run.finding(drawing.alloc, reported, &mut problems)?;
     tell_all(&problems, drawing, err)?;

@@ -2,7 +2,8 @@ use Rattle.std.proofs.Common.{◌≡◌, [], ◌∷◌, ◌++◌, ◌∙◌, Lis
 use Rattle.std.specs.Io.KnownBytes.{Appends}
 use Rattle.std.specs.Option.{option_map}
 use Rattle.redraw_command.specs.Workflow.{command}
-use Rattle.redraw_run.proofs.Doing.{goes_any}
+use Rattle.redraw_run.specs.Fates.{IsWritten}
+use Rattle.redraw_run.proofs.Doing.{does_as, goes_err, stops_none}
 use Rattle.redraw_run.proofs.Done.{does_same, goes_commanded, on_ok}
 use Rattle.redraw_run.proofs.draw.Drawing.draw_command.Goals as goal
 
@@ -34,4 +35,10 @@ returns-in-None-clause-draws g c =
 pub returns-in_err-count-in-Some-clause-does : goal.returns-in_err-count-in-Some-clause-does
 returns-in_err-count-in-Some-clause-does g c = λ form err.
     let kept = c.in_err-count-in-Some.ensures.kept in
-    goes_any _ (does_same refl refl c.in_err-count-in-Some.ensures.uncounted kept.0 kept.1)
+    goes_err (IsWritten c.args.diagnostic.now) _ _ c.from_residual-in_err-count-in-Some.result c.from_residual-in_err-count-in-Some.ensures.1
+    (λ s q. stops_none (IsWritten c.args.diagnostic.now) s (does_same refl refl c.in_err-count-in-Some.ensures.uncounted kept.0 kept.1))
+
+pub returns-in-None-clause-does : goal.returns-in-None-clause-does
+returns-in-None-clause-does g c = λ form err.
+    let none = sym c.in_ok-line.ensures.value ∙ ap (option_map string_bytes) c.in-None.is in
+    does_as (λ ds h. inr (none, h)) (does_same refl refl refl refl refl)

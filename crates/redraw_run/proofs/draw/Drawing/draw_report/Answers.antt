@@ -1,16 +1,26 @@
-use Rattle.std.proofs.Common.{[], ap, refl, ◌∙◌}
+use Rattle.std.proofs.Common.{ap, refl, ◌∙◌}
 use Rattle.redraw_command.specs.declared.choice.Choice.{Choice}
-use Rattle.redraw_run.proofs.Doing.{does_then, goes_any, goes_then}
+use Rattle.redraw_run.specs.Fates.{AreMessages, IsShown, Then}
+use Rattle.redraw_run.proofs.Doing.{does_as, does_then, goes_as, goes_err, goes_then, stops_any, stops_none}
 use Rattle.redraw_run.proofs.Done.{does_same}
+use Rattle.redraw_run.proofs.Fated.{messages_then, shown_part, shown_some, shown_then}
 use Rattle.redraw_run.proofs.draw.Drawing.draw_report.Goals as goal
 
 pub returns-in_err-load_files-clause-does : goal.returns-in_err-load_files-clause-does
-returns-in_err-load_files-clause-does g c = λ form. goes_any _ (does_same refl refl refl refl refl)
+returns-in_err-load_files-clause-does g c = λ form.
+    goes_err (IsShown c.args.diagnostic.now) _ _ c.from_residual.result c.from_residual.ensures.1
+    (λ s q. stops_none (IsShown c.args.diagnostic.now) s (does_same refl refl refl refl refl))
 
 pub returns-in_err-drawn-clause-does : goal.returns-in_err-drawn-clause-does
-returns-in_err-drawn-clause-does g c = λ form. goes_any _ (c.tell_unread.ensures.does (g.W.Write.contents c.args.out.now))
+returns-in_err-drawn-clause-does g c = λ form.
+    goes_err (IsShown c.args.diagnostic.now) _ _ c.from_residual-in_err-drawn.result c.from_residual-in_err-drawn.ensures.1
+    (λ s q. stops_any s
+    (does_as (shown_part c.args.diagnostic.now c.args.self.now.choice) (c.tell_unread.ensures.does (g.W.Write.contents c.args.out.now))))
 
 pub returns-clause-does : goal.returns-clause-does
 returns-clause-does g c = λ form.
-    goes_then [] _ c.print_drawn.result (does_then (c.tell_unread.ensures.does (g.W.Write.contents c.args.out.now)) (c.tell_inexact.ensures.does _))
-    (c.print_drawn.ensures.does (ap (λ (x : Choice). x.form) c.tell_unread.ensures.kept.1 ∙ form) _ c.in_ok-drawn.ensures.shows)
+    let d = c.args.diagnostic.now in
+    goes_as (Then AreMessages (IsShown d)) (IsShown d) _ _ c.print_drawn.result (shown_then d _)
+    (goes_then AreMessages (IsShown d) _ _ _ c.print_drawn.result (shown_some d)
+    (does_as (messages_then _) (does_then (c.tell_unread.ensures.does (g.W.Write.contents c.args.out.now)) (c.tell_inexact.ensures.does _)))
+    (c.print_drawn.ensures.does (ap (λ (x : Choice). x.form) c.tell_unread.ensures.kept.1 ∙ form) _ c.in_ok-drawn.ensures.shows))

@@ -1,14 +1,17 @@
 use Rattle.std.proofs.Common.{ap, refl, string_bytes, ◌∙◌}
 use Rattle.annotate_snippets.specs.declared.renderer.Renderer.{Renderer}
 use Rattle.redraw_run.specs.DrawnFinding.{ShowsFinding, ending_after}
-use Rattle.redraw_run.proofs.Doing.{goes_any}
+use Rattle.redraw_run.specs.Fates.{IsShown}
+use Rattle.redraw_run.proofs.Doing.{does_as, goes_err, stops_none}
 use Rattle.redraw_run.proofs.Done.{at_ok, does_same, ended, goes_drawn}
+use Rattle.redraw_run.proofs.Fated.{shown_wrong}
 use Rattle.redraw_run.proofs.draw.Drawing.print_drawn.Goals as goal
 
 pub returns-in_err-count-in-Ok-clause-does : goal.returns-in_err-count-in-Ok-clause-does
 returns-in_err-count-in-Ok-clause-does g c = λ form files shows.
     let kept = c.in_err-count-in-Ok.ensures.kept in
-    goes_any _ (does_same refl refl c.in_err-count-in-Ok.ensures.uncounted kept.0 kept.1)
+    goes_err (IsShown c.args.diagnostic.now) _ _ c.from_residual.result c.from_residual.ensures.1
+    (λ s q. stops_none (IsShown c.args.diagnostic.now) s (does_same refl refl c.in_err-count-in-Ok.ensures.uncounted kept.0 kept.1))
 
 pub returns-in_ok-count-in-Ok-clause-does : goal.returns-in_ok-count-in-Ok-clause-does
 returns-in_ok-count-in-Ok-clause-does g c = λ form files shows.
@@ -19,3 +22,6 @@ returns-in_ok-count-in-Ok-clause-does g c = λ form files shows.
     (at_ok c.args.text c.in-Ok.text (λ t. ShowsFinding r files d (string_bytes t)) c.in-Ok.is shows) c.in_ok-count-in-Ok.ensures.counted kept.0 kept.1 refl
     (ended _ _ _ _ c.as_str.ensures.value (c.ending_of.ensures.value ∙ ap (λ (x : Renderer). ending_after x.short_message d.severity) kept.0))
     c.print.ensures.writes
+
+pub returns-in-Err-clause-does : goal.returns-in-Err-clause-does
+returns-in-Err-clause-does g c = λ form files shows. does_as (shown_wrong c.args.diagnostic.now c.args.self.now.choice) (c.wrong.ensures.does _)

@@ -1,7 +1,6 @@
 use Rattle.std.proofs.Common.{refl}
-use Rattle.redraw_run.proofs.Done.{does_told}
-use Rattle.redraw_run.proofs.Doing.{does_then}
+use Rattle.redraw_run.proofs.Done.{does_told, does_wrong}
 use Rattle.redraw_run.proofs.draw.Drawing.wrong.Goals as goal
 
 pub returns-clause-does : goal.returns-clause-does
-returns-clause-does g c = λ out. does_then (c.leave_out.ensures.does out _) (does_told c.tell.ensures.told refl refl refl refl)
+returns-clause-does g c = λ out. does_wrong (c.leave_out.ensures.does out _) (does_told c.tell.ensures.told refl refl refl refl)

@@ -1,0 +1,177 @@
+-- What becomes of parts becomes of the whole.
+use Rattle.std.proofs.Common.{◌≡◌, ◌++◌, ◌∙◌, ℕ, List, [], ◌∷◌, Option, None, Some, ap, append_assoc, append-nil, false, inl, inr, refl, subst, sym, true}
+use Rattle.serde_json.specs.Data.{Data, null}
+use Rattle.redraw_command.specs.Choice.{IsTaken}
+use Rattle.redraw_command.specs.declared.choice.Choice.{Choice}
+use Rattle.redraw_command.specs.declared.choice.Form.TheVariants.{Report, Workflow}
+use Rattle.redraw_report.specs.declared.diagnostic.Diagnostic.{Diagnostic}
+use Rattle.redraw_run.specs.Deeds.{Deed, Drawn, Commanded, HandedOn, Told, LeftOut, Repeated, BuildFailed, IsPart}
+use Rattle.redraw_run.specs.Fates.{AreMessages, AreNone, AreResults, AreRuns, Each, IsChosen, IsDrawing, IsFound, IsHandedOn, IsKnown, IsRepeated, IsReported}
+use Rattle.redraw_run.specs.Fates.{IsResult, IsRun, IsShown}
+use Rattle.redraw_run.specs.Fates.{IsUnknown, IsWritten, IsWrong, Then}
+use Rattle.redraw_run.specs.declared.input.Kind.{Kind}
+use Rattle.redraw_run.proofs.Doing.{part_as, part_then}
+
+-- one after the other, of three
+pub then_assoc : {P Q R : Choice → List Deed → Type 0} (c : Choice) (ds : List Deed) → Then (Then P Q) R c ds → Then P (Then Q R) c ds
+then_assoc {P} {Q} {R} c ds h =
+    record {
+      before = h.first.before;
+      after = h.first.after ++ h.after;
+      split = h.split ∙ ap (λ l. l ++ h.after) h.first.split ∙ append_assoc h.first.before h.first.after h.after;
+      first = h.first.first;
+      next = record { before = h.first.after; after = h.after; split = refl; first = h.first.next; next = h.next };
+    }
+
+-- the same by wider kinds
+pub then_as : {P Q R S : Choice → List Deed → Type 0} (c : Choice) (ds : List Deed) → ((ds : List Deed) → P c ds → R c ds)
+    → ((ds : List Deed) → Q c ds → S c ds) → Then P Q c ds → Then R S c ds
+then_as c ds f g h = record { before = h.before; after = h.after; split = h.split; first = f h.before h.first; next = g h.after h.next }
+
+-- nothing, and then something
+pub then_none : {P : Choice → List Deed → Type 0} (c : Choice) (ds : List Deed) → P c ds → Then AreNone P c ds
+then_none c ds p = record { before = []; after = ds; split = refl; first = refl; next = p }
+
+-- something, and then nothing
+pub then_end : {P : Choice → List Deed → Type 0} (c : Choice) (ds : List Deed) → P c ds → Then P AreNone c ds
+then_end c ds p = record { before = ds; after = []; split = sym (append-nil ds); first = p; next = refl }
+
+-- what is done about some things, and then about one more
+pub each_more : {X : Type 0} (Are : X → Choice → List Deed → Type 0) (x : X) (c : Choice) (xs : List X) (ds : List Deed) → Then (Each Are xs) (Are x) c ds
+    → Each Are (xs ++ x ∷ []) c ds
+each_more Are x c [] ds h =
+    then_end {P = Are x} c ds (subst (Are x c) (sym (h.split ∙ ap (λ l. l ++ h.after) h.first)) h.next)
+each_more Are x c (y ∷ ys) ds h =
+    record {
+      before = h.first.before;
+      after = h.first.after ++ h.after;
+      split = h.split ∙ ap (λ l. l ++ h.after) h.first.split ∙ append_assoc h.first.before h.first.after h.after;
+      first = h.first.first;
+      next = each_more Are x c ys (h.first.after ++ h.after)
+          record { before = h.first.after; after = h.after; split = refl; first = h.first.next; next = h.next };
+    }
+
+-- a finding is shown after messages
+shown_after : (d : Diagnostic) (c : Choice) (ds es : List Deed) → AreMessages c ds → IsShown d c es → IsShown d c (ds ++ es)
+shown_after d c [] es m h = h
+shown_after d c (Told part ∷ ds) es m h = shown_after d c ds es m h
+shown_after d c (Drawn f t ∷ ds) es m h = absurd m
+shown_after d c (Commanded f l ∷ ds) es m h = absurd m
+shown_after d c (HandedOn l ∷ ds) es m h = absurd m
+shown_after d c (LeftOut ∷ ds) es m h = absurd m
+shown_after d c (Repeated ∷ ds) es m h = absurd m
+shown_after d c (BuildFailed ∷ ds) es m h = absurd m
+
+pub shown_then : (d : Diagnostic) (c : Choice) (ds : List Deed) → Then AreMessages (IsShown d) c ds → IsShown d c ds
+shown_then d c ds h = subst (IsShown d c) (sym h.split) (shown_after d c h.before h.after h.first h.next)
+
+-- one that is left out as wrong is shown so
+pub shown_wrong : (d : Diagnostic) (c : Choice) (ds : List Deed) → IsWrong c ds → IsShown d c ds
+shown_wrong d c ds h = subst (IsShown d c) (sym h.1) (h.0, refl)
+
+pub shown_some : (d : Diagnostic) (c : Choice) → (es : List Deed) × IsShown d c es
+shown_some d c = (LeftOut ∷ Told [] ∷ [], ([], refl))
+
+-- messages before a finding is shown are a part of that
+pub shown_part : (d : Diagnostic) (c : Choice) (ds : List Deed) → AreMessages c ds → IsPart (IsShown d) c ds
+shown_part d c ds h = record { is = inr ((shown_some d c).0, shown_after d c ds (shown_some d c).0 h (shown_some d c).1) }
+
+-- messages, and then messages
+messages_after : (c : Choice) (ds es : List Deed) → AreMessages c ds → AreMessages c es → AreMessages c (ds ++ es)
+messages_after c [] es m h = h
+messages_after c (Told part ∷ ds) es m h = messages_after c ds es m h
+messages_after c (Drawn f t ∷ ds) es m h = absurd m
+messages_after c (Commanded f l ∷ ds) es m h = absurd m
+messages_after c (HandedOn l ∷ ds) es m h = absurd m
+messages_after c (LeftOut ∷ ds) es m h = absurd m
+messages_after c (Repeated ∷ ds) es m h = absurd m
+messages_after c (BuildFailed ∷ ds) es m h = absurd m
+
+pub messages_then : (c : Choice) (ds : List Deed) → Then AreMessages AreMessages c ds → AreMessages c ds
+messages_then c ds h = subst (AreMessages c) (sym h.split) (messages_after c h.before h.after h.first h.next)
+
+-- ---- findings
+
+pub drawing_shown : (d : Diagnostic) (c : Choice) → c.form ≡ Report → (ds : List Deed) → IsShown d c ds → IsDrawing d c ds
+drawing_shown d c form ds h = inl (form, h)
+
+pub drawing_written : (d : Diagnostic) (c : Choice) → c.form ≡ Workflow → (ds : List Deed) → IsWritten d c ds → IsDrawing d c ds
+drawing_written d c form ds h = inr (form, h)
+
+-- what becomes of a finding that is asked for, or isn't, is what becomes of what reports it
+pub reported_chosen : (d : Diagnostic) (c : Choice) → IsTaken c d → (ds : List Deed) → IsChosen d c ds → IsReported c ds
+reported_chosen d c taken ds h = inr (d, inr (taken, h))
+
+pub chosen_drawn : (d : Diagnostic) (c : Choice) (ds : List Deed) → IsDrawing d c ds → IsChosen d c ds
+chosen_drawn d c ds h = inr h
+
+pub chosen_again : (d : Diagnostic) (c : Choice) (ds : List Deed) → IsRepeated c ds → IsChosen d c ds
+chosen_again d c ds h = inl h
+
+pub reported_passed : (d : Diagnostic) (c : Choice) → (IsTaken c d → ⊥) → (ds : List Deed) → AreNone c ds → IsReported c ds
+reported_passed d c other ds h = inr (d, inl (other, h))
+
+pub reported_wrong : (c : Choice) (ds : List Deed) → IsWrong c ds → IsReported c ds
+reported_wrong c ds h = inl h
+
+-- ---- logs
+
+pub found_some : (c : Choice) → (es : List Deed) × IsFound c es
+found_some c = (LeftOut ∷ [], inl refl)
+
+pub result_some : (c : Choice) → (es : List Deed) × IsResult c es
+result_some c = (LeftOut ∷ [], record { before = []; after = LeftOut ∷ []; split = refl; first = tt; next = inl refl })
+
+-- messages are a part of what becomes of a result, and of a run
+pub result_part : (c : Choice) (ds : List Deed) → AreMessages c ds → IsPart IsResult c ds
+result_part c ds h = record { is = inr (LeftOut ∷ [], record { before = ds; after = LeftOut ∷ []; split = refl; first = h; next = inl refl }) }
+
+pub run_begins : (c : Choice) (ds : List Deed) → AreMessages c ds → IsRun c ds
+run_begins c ds h = record { before = ds; after = []; split = sym (append-nil ds); first = h; next = ([], refl) }
+
+pub results_more : (c : Choice) (ds : List Deed) → Then AreResults IsResult c ds → AreResults c ds
+results_more c ds h = (
+  h.first.0 ++ null ∷ [],
+  each_more (λ (d : Data). IsResult) null c h.first.0 ds
+      record { before = h.before; after = h.after; split = h.split; first = h.first.1; next = h.next },
+)
+
+-- the results of a run so far, and one more
+pub run_more : (c : Choice) (ds : List Deed) → Then IsRun IsResult c ds → IsRun c ds
+run_more c ds h = then_as {P = AreMessages} c ds (λ es m. m) (results_more c) (then_assoc {P = AreMessages} {Q = AreResults} c ds h)
+
+pub run_part : (c : Choice) (ds : List Deed) → Then IsRun (IsPart IsResult) c ds → IsPart IsRun c ds
+run_part c ds h = part_as {P = Then IsRun IsResult} c ds (run_more c) (part_then {P = IsRun} {Q = IsResult} c ds (result_some c) h)
+
+pub run_some : (c : Choice) → (es : List Deed) × IsRun c es
+run_some c = ([], record { before = []; after = []; split = refl; first = tt; next = ([], refl) })
+
+pub no_runs : (c : Choice) (ds : List Deed) → AreNone c ds → AreRuns c ds
+no_runs c ds h = ([], h)
+
+pub runs_more : (c : Choice) (ds : List Deed) → Then AreRuns IsRun c ds → AreRuns c ds
+runs_more c ds h = (
+  h.first.0 ++ null ∷ [],
+  each_more (λ (d : Data). IsRun) null c h.first.0 ds
+      record { before = h.before; after = h.after; split = h.split; first = h.first.1; next = h.next },
+)
+
+pub runs_part : (c : Choice) (ds : List Deed) → Then AreRuns (IsPart IsRun) c ds → IsPart AreRuns c ds
+runs_part c ds h = part_as {P = Then AreRuns IsRun} c ds (runs_more c) (part_then {P = AreRuns} {Q = IsRun} c ds (run_some c) h)
+
+-- ---- values
+
+pub unknown_wrong : (line : Option (List ℕ)) (c : Choice) (ds : List Deed) → IsWrong c ds → IsUnknown line c ds
+unknown_wrong None c ds h = h
+unknown_wrong (Some line) c ds h = inl h
+
+pub unknown_handed : (o : Option (List ℕ)) (line : List ℕ) (c : Choice) (ds : List Deed) → o ≡ Some line → IsHandedOn line c ds → IsUnknown o c ds
+unknown_handed o line c ds is h = subst (λ (x : Option (List ℕ)). IsUnknown x c ds) (sym is) (inr h)
+
+-- what becomes of a value of this kind
+pub as_known : (k j : Kind) → k ≡ j → (c : Choice) (ds : List Deed) → IsKnown j c ds → IsKnown k c ds
+as_known k j is c ds h = subst (λ (x : Kind). IsKnown x c ds) (sym is) h
+
+-- a test that fails doesn't hold
+pub never_true : false ≡ true → ⊥
+never_true h = cc h

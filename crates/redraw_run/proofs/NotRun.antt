@@ -1,0 +1,159 @@
+-- What no run does: what wrong bodies do about small inputs contradicts what becomes of lines and of runs.
+use Rattle.std.proofs.Common.{◌≡◌, ◌++◌, ◌∙◌, ◌||◌, ℕ, Bool, List, [], ◌∷◌, Option, None, Some, ap, false, if◌then◌else◌, inl, inr, refl, subst, sym, true}
+use Rattle.serde_json.specs.Data.{Data}
+use Rattle.redraw_command.specs.Choice.{is_sum}
+use Rattle.redraw_command.specs.Line.{begins_object}
+use Rattle.redraw_command.specs.Tally.{no_tally, status_of, tallied}
+use Rattle.redraw_command.specs.declared.choice.Choice.{Choice}
+use Rattle.redraw_command.specs.declared.tally.Tally.{Tally}
+use Rattle.redraw_report.specs.declared.diagnostic.Diagnostic.{Diagnostic}
+use Rattle.redraw_report.specs.declared.diagnostic.Severity.{Severity}
+use Rattle.redraw_report.specs.declared.diagnostic.Severity.TheVariants.{Error}
+use Rattle.annotate_snippets.specs.declared.renderer.Renderer.{Renderer}
+use Rattle.redraw_run.specs.declared.input.Kind.{Kind}
+use Rattle.redraw_run.specs.declared.input.Kind.TheVariants as kind
+use Rattle.redraw_run.specs.Deeds.{Deed, Drawn, Commanded, HandedOn, Told, LeftOut, Repeated, BuildFailed, tally_by, with_files}
+use Rattle.redraw_run.specs.Fates.{AreMessages, Each, IsFound, IsKnown, IsLine, IsLog, IsReported, IsResult, IsRun, IsShown, IsTaking}
+use Rattle.redraw_run.specs.Run.{Finishes, begun}
+
+-- no line is handed on
+Unhanded : List Deed → Type 0
+Unhanded [] = Unit {0}
+Unhanded (Drawn d t ∷ ds) = Unhanded ds
+Unhanded (Commanded d l ∷ ds) = Unhanded ds
+Unhanded (HandedOn l ∷ ds) = ⊥
+Unhanded (Told p ∷ ds) = Unhanded ds
+Unhanded (LeftOut ∷ ds) = Unhanded ds
+Unhanded (Repeated ∷ ds) = Unhanded ds
+Unhanded (BuildFailed ∷ ds) = Unhanded ds
+
+unhanded_both : (ds es : List Deed) → Unhanded ds → Unhanded es → Unhanded (ds ++ es)
+unfolding Unhanded
+unhanded_both [] es p q = q
+unhanded_both (Drawn d t ∷ ds) es p q = unhanded_both ds es p q
+unhanded_both (Commanded d l ∷ ds) es p q = unhanded_both ds es p q
+unhanded_both (HandedOn l ∷ ds) es p q = absurd p
+unhanded_both (Told t ∷ ds) es p q = unhanded_both ds es p q
+unhanded_both (LeftOut ∷ ds) es p q = unhanded_both ds es p q
+unhanded_both (Repeated ∷ ds) es p q = unhanded_both ds es p q
+unhanded_both (BuildFailed ∷ ds) es p q = unhanded_both ds es p q
+
+messages_unhanded : (c : Choice) (ds : List Deed) → AreMessages c ds → Unhanded ds
+unfolding Unhanded
+messages_unhanded c [] h = tt
+messages_unhanded c (Told part ∷ ds) h = messages_unhanded c ds h
+messages_unhanded c (Drawn d t ∷ ds) h = absurd h
+messages_unhanded c (Commanded d l ∷ ds) h = absurd h
+messages_unhanded c (HandedOn l ∷ ds) h = absurd h
+messages_unhanded c (LeftOut ∷ ds) h = absurd h
+messages_unhanded c (Repeated ∷ ds) h = absurd h
+messages_unhanded c (BuildFailed ∷ ds) h = absurd h
+
+shown_unhanded : (d : Diagnostic) (c : Choice) (ds : List Deed) → IsShown d c ds → Unhanded ds
+unfolding Unhanded
+shown_unhanded d c [] h = absurd h
+shown_unhanded d c (Told part ∷ ds) h = shown_unhanded d c ds h
+shown_unhanded d c (Drawn f t ∷ ds) h = subst Unhanded (sym h.1) tt
+shown_unhanded d c (LeftOut ∷ ds) h = subst Unhanded (sym h.1) tt
+shown_unhanded d c (Commanded f l ∷ ds) h = absurd h
+shown_unhanded d c (HandedOn l ∷ ds) h = absurd h
+shown_unhanded d c (Repeated ∷ ds) h = absurd h
+shown_unhanded d c (BuildFailed ∷ ds) h = absurd h
+
+taken_unhanded : (d : Diagnostic) (c : Choice) (ds : List Deed) → IsTaking d c ds → Unhanded ds
+unfolding Unhanded
+taken_unhanded d c ds (inl h) = subst Unhanded (sym h.1) tt
+taken_unhanded d c ds (inr (taken, inl h)) = subst Unhanded (sym h.1) tt
+taken_unhanded d c ds (inr (taken, inr (inl h))) = shown_unhanded d c ds h.1
+taken_unhanded d c ds (inr (taken, inr (inr (form, inl h)))) = subst Unhanded (sym h.1) tt
+taken_unhanded d c ds (inr (taken, inr (inr (form, inr h)))) = subst Unhanded (sym h.1) tt
+
+reported_unhanded : (c : Choice) (ds : List Deed) → IsReported c ds → Unhanded ds
+unfolding Unhanded
+reported_unhanded c ds (inl h) = subst Unhanded (sym h.1) tt
+reported_unhanded c ds (inr h) = taken_unhanded h.0 c ds h.1
+
+found_unhanded : (c : Choice) (ds : List Deed) → IsFound c ds → Unhanded ds
+unfolding Unhanded
+found_unhanded c ds (inl h) = subst Unhanded (sym h) tt
+found_unhanded c ds (inr h) = reported_unhanded c ds h
+
+result_unhanded : (c : Choice) (ds : List Deed) → IsResult c ds → Unhanded ds
+result_unhanded c ds h =
+    subst Unhanded (sym h.split) (unhanded_both h.before h.after (messages_unhanded c h.before h.first) (found_unhanded c h.after h.next))
+
+each_unhanded : {X : Type 0} (Are : X → Choice → List Deed → Type 0) (c : Choice) → ((x : X) (ds : List Deed) → Are x c ds → Unhanded ds)
+    → (xs : List X) (ds : List Deed) → Each Are xs c ds → Unhanded ds
+unfolding Unhanded
+each_unhanded Are c f [] ds h = subst Unhanded (sym h) tt
+each_unhanded Are c f (x ∷ xs) ds h =
+    subst Unhanded (sym h.split) (unhanded_both h.before h.after (f x h.before h.first) (each_unhanded Are c f xs h.after h.next))
+
+run_unhanded : (c : Choice) (ds : List Deed) → IsRun c ds → Unhanded ds
+run_unhanded c ds h =
+    subst Unhanded (sym h.split)
+    (unhanded_both h.before h.after (messages_unhanded c h.before h.first)
+    (each_unhanded (λ (d : Data). IsResult) c (λ x es m. result_unhanded c es m) h.next.0 h.after h.next.1))
+
+log_unhanded : (c : Choice) (ds : List Deed) → IsLog c ds → Unhanded ds
+log_unhanded c ds (inl h) = reported_unhanded c ds h
+log_unhanded c ds (inr h) = each_unhanded (λ (d : Data). IsRun) c (λ x es m. run_unhanded c es m) h.0 ds h.1
+
+known_unhanded : (k : Kind) (c : Choice) (ds : List Deed) → IsKnown k c ds → Unhanded ds
+unfolding Unhanded
+known_unhanded kind.Rustc c ds h = reported_unhanded c ds h
+known_unhanded kind.Cargo c ds h = reported_unhanded c ds h
+known_unhanded kind.Failed c ds h = subst Unhanded (sym h) tt
+known_unhanded kind.Other c ds h = subst Unhanded (sym h) tt
+known_unhanded kind.Sarif c ds h = log_unhanded c ds h
+
+both_handed : (k : Kind) (c : Choice) (d : Diagnostic) (text line : List ℕ) → IsKnown k c (Drawn d text ∷ HandedOn line ∷ []) → ⊥
+unfolding Unhanded
+both_handed k c d text line h = known_unhanded k c (Drawn d text ∷ HandedOn line ∷ []) h
+
+-- a finding is drawn, and the line that reports it is handed on too
+pub drawn_and_handed_on : (line : List ℕ) (c : Choice) (d : Diagnostic) (text : List ℕ) → IsLine line c (Drawn d text ∷ HandedOn line ∷ []) → ⊥
+drawn_and_handed_on line c d text (t, is, inl h) = cc h.1
+drawn_and_handed_on line c d text (t, is, inr (begins, inl (none, inl h))) = cc h.1
+drawn_and_handed_on line c d text (t, is, inr (begins, inl (none, inr h))) = cc h
+drawn_and_handed_on line c d text (t, is, inr (begins, inr (v, reads, (Some k, of, h)))) = both_handed k c d text line h
+drawn_and_handed_on line c d text (t, is, inr (begins, inr (v, reads, (None, of, inl h)))) = cc h.1
+drawn_and_handed_on line c d text (t, is, inr (begins, inr (v, reads, (None, of, inr h)))) = cc h
+
+-- a diagnostic of rustc is drawn twice
+pub drawn_twice : (c : Choice) (d : Diagnostic) (text : List ℕ) → IsKnown kind.Rustc c (Drawn d text ∷ Drawn d text ∷ []) → ⊥
+drawn_twice c d text (inl h) = cc h.1
+drawn_twice c d text (inr (f, inl h)) = cc h.1
+drawn_twice c d text (inr (f, inr (taken, inl h))) = cc h.1
+drawn_twice c d text (inr (f, inr (taken, inr (inl h)))) = cc h.1.1
+drawn_twice c d text (inr (f, inr (taken, inr (inr (form, inl h))))) = cc h.1
+drawn_twice c d text (inr (f, inr (taken, inr (inr (form, inr h))))) = cc h.1
+
+-- what another tool writes, here `a`, is handed on and told too
+pub noise_told : (c : Choice) (part : List ℕ) → IsLine (97 ∷ 10 ∷ []) c (HandedOn (97 ∷ 10 ∷ []) ∷ Told part ∷ []) → ⊥
+noise_told c part (text, inl is, inl h) = cc h.1
+noise_told c part (text, inl is, inr h) = cc (ap begins_object is, h.0)
+noise_told c part (text, inr is, h) = cc is
+
+no_clean : (t : Tally) (whole : Bool) → t.has_error ≡ true → 0 ≡ status_of t whole → ⊥
+no_clean t true error none =
+    let one : ◌≡◌ {A = ℕ} 0 1 = none ∙ ap (λ (e : Bool). if e || t.has_failed then 1 else 0) error in
+    cc one
+no_clean t false error none = cc none
+
+or_true : (b : Bool) → b || true ≡ true
+or_true true = refl
+or_true false = refl
+
+has_one : (t : Tally) (sum : Bool) → (tallied t Error sum).has_error ≡ true
+has_one t true = or_true t.has_error
+has_one t false = or_true t.has_error
+
+-- status 0 after an error was drawn
+pub clean_after_an_error : (names : List (List ℕ)) (r : Renderer) (c : Choice) (old_out old_err out err : Option (List ℕ)) (d : Diagnostic) (text : List ℕ)
+    → d.severity ≡ Error → (run : Finishes names (begun r c old_out old_err) out err 0) → run.drawn.does.deeds ≡ Drawn d text ∷ [] → ⊥
+clean_after_an_error names r c old_out old_err out err d text error run is =
+    let counted : run.end.tally ≡ with_files (tally_by no_tally (Drawn d text ∷ [])) run.end.tally.files
+    = run.drawn.does.tally ∙ ap (λ ds. with_files (tally_by no_tally ds) run.end.tally.files) is in
+    no_clean run.end.tally run.is_whole
+    (ap (λ (t : Tally). t.has_error) counted ∙ ap (λ (s : Severity). (tallied no_tally s (is_sum d)).has_error) error ∙ has_one no_tally (is_sum d)) run.ends

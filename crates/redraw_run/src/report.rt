@@ -1,0 +1,45 @@
+//! Values that hold what they report: a message of cargo, and a SARIF log.
+ghost use Rattle.redraw_run.specs.Deeds.{Goes, standing};
+ghost use Rattle.redraw_run.specs.Fates.{IsLog, IsReported};
+
+use crate::draw::Drawing;
+use crate::sarif::draw_runs;
+use json_node::expectation::Expectation;
+use json_node::node::Node;
+use redraw_command::stop::Stop;
+use redraw_read::cargo::packaged_diagnostic_of;
+use redraw_read::json::listed;
+use redraw_read::sources::SourceFiles;
+use std::io::Write;
+
+/// Takes cargo's message, which has a diagnostic of rustc in it.
+pub fn cargo_message<S: SourceFiles + Drop, W: Write, V: Write>(
+    node: &Node<'_, '_>,
+    drawing: &mut Drawing<'_, S>,
+    out: &mut W,
+    err: &mut V,
+) -> Result<(), Stop>
+    ensures does { Goes result IsReported (standing drawing.old (W.contents out.old) (V.contents err.old))
+        (standing drawing.new (W.contents out.new) (V.contents err.new)) }
+{
+    match node.needed("message", Expectation::Object) {
+        Ok(message) => drawing.finding(packaged_diagnostic_of(node), Some(message.value), out, err),
+        Err(fault) => drawing.finding(Err(fault), None, out, err),
+    }
+}
+
+/// Takes a SARIF log. One whose runs are no list is told and left out.
+pub fn sarif_log<S: SourceFiles + Drop, W: Write, V: Write>(
+    node: &Node<'_, '_>,
+    drawing: &mut Drawing<'_, S>,
+    out: &mut W,
+    err: &mut V,
+) -> Result<(), Stop>
+    ensures does { Goes result IsLog (standing drawing.old (W.contents out.old) (V.contents err.old))
+        (standing drawing.new (W.contents out.new) (V.contents err.new)) }
+{
+    match listed(node, "runs") {
+        Ok(runs) => draw_runs(runs, drawing, out, err),
+        Err(fault) => drawing.finding(Err(fault), None, out, err),
+    }
+}
