@@ -1,5 +1,6 @@
 pub mod AscendLemmas
 pub mod BareLemmas
+pub mod BodyLaws
 pub mod CellExamples
 pub mod ComposeLemmas
 pub mod DrawnLemmas
@@ -22,10 +23,12 @@ pub mod OtherRows
 pub mod PaintLemmas
 pub mod PreparedLemmas
 pub mod PutLemmas
+pub mod PutRows
 pub mod ReachLemmas
 pub mod RemovedRows
 pub mod RepaintLemmas
 pub mod RisingLemmas
+pub mod RowLaws
 pub mod RowLemmas
 pub mod RowsDrawn
 pub mod ShownLemmas

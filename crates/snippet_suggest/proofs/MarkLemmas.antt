@@ -17,7 +17,7 @@ use Rattle.snippet_suggest.specs.SuggestionRows.{AddsRow, IsBareRow, IsMarkOrSpa
 use Rattle.snippet_suggest.proofs.RowLemmas.{free_written}
 
 -- no mark is listed
-mark_unlisted : (decor : DecorStyle) (ch : ℕ) → IsMarkOrSpace decor ch → is_listed ch ≡ false
+pub mark_unlisted : (decor : DecorStyle) (ch : ℕ) → IsMarkOrSpace decor ch → is_listed ch ≡ false
 mark_unlisted decor ch is =
     elim is [
       | inl space ↦ ap is_listed space

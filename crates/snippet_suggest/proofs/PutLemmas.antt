@@ -112,7 +112,7 @@ glyph_some Unicode sign.Alone = λ none. cc
 glyph_some Unicode sign.Changed = λ none. cc
 glyph_some Unicode sign.Added = λ none. cc
 
-placeholder_some : (decor : DecorStyle) → placeholder_of decor ≢ []
+pub placeholder_some : (decor : DecorStyle) → placeholder_of decor ≢ []
 placeholder_some Ascii = λ none. cc
 placeholder_some Unicode = λ none. cc
 

@@ -76,7 +76,7 @@ same_stroke decor gutter left now last same is =
       left_is = λ c inside. same_char (λ ch. ch ≡ get_or left c 32) now last c same (is.left_is c inside);
     }
 
-same_removed : (numbers : LineNumbers) (decor : DecorStyle) (gutter : ℕ) (number text : List ℕ) (now last : List Cell) → AreSame now last
+pub same_removed : (numbers : LineNumbers) (decor : DecorStyle) (gutter : ℕ) (number text : List ℕ) (now last : List Cell) → AreSame now last
     → IsRemovedRow numbers decor gutter number text last → IsRemovedRow numbers decor gutter number text now
 same_removed numbers decor gutter number text now last same is =
     let n : ℕ = length text in
@@ -91,7 +91,7 @@ same_removed numbers decor gutter number text now last same is =
       free = same_free now last same is.free;
     }
 
-same_line : (decor : DecorStyle) (gutter : ℕ) (number text : List ℕ) (now last : List Cell) → AreSame now last → IsLineRow decor gutter number text last
+pub same_line : (decor : DecorStyle) (gutter : ℕ) (number text : List ℕ) (now last : List Cell) → AreSame now last → IsLineRow decor gutter number text last
     → IsLineRow decor gutter number text now
 same_line decor gutter number text now last same is =
     record {
@@ -103,7 +103,7 @@ same_line decor gutter number text now last same is =
       free = same_free now last same is.free;
     }
 
-same_shows : (layout : SuggestionLayout) (first : ℕ) (lines : List (List ℕ)) (shown : SuggestionRow) (now last : List Cell) → AreSame now last
+pub same_shows : (layout : SuggestionLayout) (first : ℕ) (lines : List (List ℕ)) (shown : SuggestionRow) (now last : List Cell) → AreSame now last
     → Shows layout first lines shown last → Shows layout first lines shown now
 same_shows layout first lines (Begins start) now last same is =
     same_stroke layout.base.decor layout.base.gutter (beside_gutter layout.base.gutter (begin_glyph layout.base.decor start)) now last same is

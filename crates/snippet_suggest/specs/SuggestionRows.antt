@@ -214,6 +214,14 @@ IsStart layout Path tail =
     (row : List Cell) × (tail ≡ row ∷ []) × IsEdgeRow layout.base.decor layout.base.gutter
     (beside_gutter layout.base.gutter (begin_glyph layout.base.decor Path)) row
 
+-- what the first row of a suggestion is drawn over: a row with no cells, the last row of a suggestion before, or the row that sets its
+-- path off
+abbrev pub IsUnder : DecorStyle → ℕ → SuggestionStart → List Cell → Type 0
+IsUnder decor gutter Opening row = row ≡ []
+IsUnder decor gutter Next row =
+    (follows : Bool) × IsEdgeRow decor gutter (beside_gutter gutter (end_glyph decor follows)) row
+IsUnder decor gutter Path row = IsEdgeRow decor gutter (beside_gutter gutter (begin_glyph decor Path)) row
+
 -- the rows of a suggestion stand below some rows, and nothing else, each of which shows what the suggestion has there; the last is
 -- what it ends with, in which a further suggestion may begin
 pub record AddsSuggestion (layout : SuggestionLayout) (start : SuggestionStart) (follows : Bool) (s : Snippet Patch)
