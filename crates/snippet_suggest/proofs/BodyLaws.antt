@@ -1,10 +1,10 @@
 -- What the rows of a suggestion show, one below the other.
-use Rattle.std.proofs.Common.{◌≡◌, ℕ, ◌+◌, ◌-◌, ◌^◌, ◌<◌, Bool, true, false, if◌then◌else◌, ◌&&◌, All, List, [], ◌∷◌, ◌++◌, chars, length, map, refl, sym, ap, ◌∙◌}
-use Rattle.std.proofs.Common.{arith, inl, inr, subst}
+use Rattle.std.proofs.Common.{◌≡◌, ℕ, ◌+◌, ◌-◌, ◌^◌, ◌<◌, Bool, true, false, if◌then◌else◌, ◌&&◌, All, List, [], ◌∷◌, chars, length, map, ◌∙◌}
+use Rattle.std.proofs.Common.{arith}
 use Rattle.std.specs.Cow.{cow_str_bytes}
-use Rattle.std.specs.List.{AllZip, range_with_len}
+use Rattle.std.specs.List.{AllZip}
 use Rattle.std.specs.Str.{bytes_eq}
-use Rattle.std.proofs.lemmas.Bool.{cases_Bool, cond-false, cond-true, cond_both}
+use Rattle.std.proofs.lemmas.Bool.{cond_both}
 use Rattle.std.proofs.lemmas.List.Elements.{All-append, All-cons, All-head, All-nil, All-tail}
 use Rattle.std.proofs.lemmas.List.FromFn.{get_or-range_with_len, length-range_with_len}
 use Rattle.snippet_model.specs.declared.snippet.Snippet.{Snippet}
@@ -25,7 +25,7 @@ use Rattle.snippet_suggest.specs.declared.layout.SuggestionLayout.{SuggestionLay
 use Rattle.snippet_suggest.specs.declared.layout.SuggestionStart.{SuggestionStart}
 use Rattle.snippet_suggest.specs.declared.shown.SuggestionLine.{SuggestionLine}
 use Rattle.snippet_suggest.specs.declared.shown.SuggestionLine.TheVariants.{Gap, Line}
-use Rattle.snippet_suggest.specs.Cells.{end_cells, left_out_cells, on_last, removed_cells}
+use Rattle.snippet_suggest.specs.Cells.{end_cells, left_out_cells, on_last}
 use Rattle.snippet_suggest.specs.Given.{edits_of, emptied_lines, first_end, first_given, given_lines, given_ranges, is_left_out, last_reached, lines_touched}
 use Rattle.snippet_suggest.specs.Given.{removed_lines, removed_of, replaced_lines, shown_kind, trimmed_of}
 use Rattle.snippet_suggest.specs.PreparedSuggestion.{IsSuggestible}
@@ -33,10 +33,10 @@ use Rattle.snippet_suggest.specs.RowOrder.{Begins, Empty, Ends, Offers, Removes,
 use Rattle.snippet_suggest.specs.RowOrder.{removed_number, removed_row, row_of_shown, rows_of_suggestion, rows_where}
 use Rattle.snippet_suggest.specs.Suggested.{body_cells, cells_of, cells_over, marked_edits, new_on, removed_in, suggested_stretches, with_left_out}
 use Rattle.snippet_suggest.specs.SuggestedLines.{is_touched, lines_suggested}
-use Rattle.snippet_suggest.specs.SuggestionRows.{HasGutter, IsBareRow, IsRowOfRemoved, IsUnder, NumberFits, Shows, without_role}
+use Rattle.snippet_suggest.specs.SuggestionRows.{HasGutter, IsBareRow, IsRowOfRemoved, IsUnder, NumberFits, Shows}
 use Rattle.snippet_suggest.proofs.BareLemmas.{bare_none, stroke_none}
 use Rattle.snippet_suggest.proofs.GutterFits.{numbers_fit}
-use Rattle.snippet_suggest.proofs.RepaintLemmas.{same_shows}
+use Rattle.snippet_suggest.proofs.RepaintLemmas.{same_shows, without_role}
 use Rattle.snippet_suggest.proofs.RisingLemmas.{rooms_shown}
 use Rattle.snippet_suggest.proofs.RowLaws.{begin_shows, end_shows, gap_shows, marks_show, offered_shows, removed_shows, replaced_shows, under_bare, with_same}
 

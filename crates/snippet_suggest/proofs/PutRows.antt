@@ -3,7 +3,7 @@ use Rattle.std.proofs.Common.{◌≡◌, ◌≢◌, ℕ, zero, suc, ◌+◌, ◌
 use Rattle.std.proofs.Common.{arith, inl, inr, subst}
 use Rattle.std.specs.List.{slice_index_or}
 use Rattle.std.proofs.lemmas.Bool.{cases_lt}
-use Rattle.std.proofs.lemmas.List.{append-nil, drop_all, get_or-append_right, get_or_past, length-replicate, places, same_lists, take_at}
+use Rattle.std.proofs.lemmas.List.{append-nil, drop_all, get_or_past, places, same_lists, take_at}
 use Rattle.snippet_style.specs.declared.role.ElementStyle.{ElementStyle}
 use Rattle.snippet_style.specs.Cell.{Cell, SPACE, text_cells, unlinked_cell, written}
 use Rattle.snippet_style.proofs.CellLemmas.{All-text_cells, drop-written, length-text_cells, length-written, slice_index_or-written_after}

@@ -1,5 +1,5 @@
 -- What each row of a suggestion shows, by the cells that it holds.
-use Rattle.std.proofs.Common.{◌≡◌, ◌≢◌, ℕ, ◌+◌, ◌-◌, ◌^◌, ◌<◌, ◌≤◌, Bool, true, false, ◌==◌, ◌&&◌, if◌then◌else◌, min, nat_le, All, List, [], ◌∷◌, ◌++◌, chars, codes, length, map, replicate, take, drop}
+use Rattle.std.proofs.Common.{◌≡◌, ℕ, ◌+◌, ◌-◌, ◌^◌, ◌<◌, ◌≤◌, Bool, true, false, ◌==◌, ◌&&◌, if◌then◌else◌, min, nat_le, All, List, [], ◌∷◌, ◌++◌, chars, codes, length, map, replicate}
 use Rattle.std.proofs.Common.{refl, sym, ap, ◌∙◌, arith, inl, inr, subst}
 use Rattle.std.specs.Char.{is_ascii_alphanumeric}
 use Rattle.std.specs.List.{list_all, list_any, slice_index_or}
@@ -10,10 +10,10 @@ use Rattle.snippet_style.specs.declared.glyphs.SuggestionGlyph.{SuggestionGlyph}
 use Rattle.snippet_style.specs.declared.glyphs.SuggestionGlyph.TheVariants as sign
 use Rattle.snippet_style.specs.declared.role.ElementStyle.{ElementStyle}
 use Rattle.snippet_style.specs.declared.role.ElementStyle.TheVariants.{Addition, LineNumber, NoStyle, Removal}
-use Rattle.snippet_style.specs.Cell.{Cell, SPACE, text_cells, written}
+use Rattle.snippet_style.specs.Cell.{Cell, SPACE}
 use Rattle.snippet_style.specs.Glyphs.{changed_mark_of, char_of, placeholder_of, suggestion_glyph_of, suggestion_role_of}
 use Rattle.snippet_grid.specs.Grid.{changed_within, restyled}
-use Rattle.snippet_grid.specs.Layout.{inner_cell, separator_cell}
+use Rattle.snippet_grid.specs.Layout.{separator_cell}
 use Rattle.snippet_grid.specs.Print.{row_text}
 use Rattle.snippet_text.specs.Normalized.{is_listed, norm}
 use Rattle.snippet_text.specs.Width.{width_of}
@@ -35,18 +35,15 @@ use Rattle.snippet_suggest.specs.Cells.{stretch_cell, with_stretches}
 use Rattle.snippet_style.specs.Bounds.{max_column}
 use Rattle.snippet_suggest.specs.Kind.{adds_text}
 use Rattle.snippet_suggest.specs.Marks.{edit_columns, mark_glyph_of, mark_start, patch_mark_end, with_mark, with_marks}
-use Rattle.snippet_suggest.specs.SuggestionGlyphs.{is_sign}
-use Rattle.snippet_suggest.specs.SuggestionRows.{IsBareRow, IsBeforeSign, IsEdgeRow, IsLeftOver, IsLineRow, IsMarkOrSpace, IsRemovedRow, IsRowOfRemoved}
-use Rattle.snippet_suggest.specs.SuggestionRows.{IsSign, IsUnder, begin_glyph, beside_gutter, end_glyph, gap_left, is_stroke, without_role}
-use Rattle.snippet_suggest.proofs.BareLemmas.{stroke_led, stroke_none, stroke_put, stroke_signed}
-use Rattle.snippet_suggest.proofs.GlyphLemmas.{glyph_plain, glyph_short, glyph_unlisted, sign_first, sign_second}
+use Rattle.snippet_suggest.specs.SuggestionRows.{IsBareRow, IsBeforeSign, IsEdgeRow, IsLeftOver, IsLineRow, IsMarkOrSpace, IsRowOfRemoved}
+use Rattle.snippet_suggest.specs.SuggestionRows.{IsSign, IsUnder, begin_glyph, beside_gutter, end_glyph, gap_left, is_stroke}
+use Rattle.snippet_suggest.proofs.BareLemmas.{stroke_blank, stroke_led, stroke_none, stroke_put}
+use Rattle.snippet_suggest.proofs.GlyphLemmas.{glyph_plain, glyph_short, glyph_unlisted, is_sign, sign_first, sign_second}
 use Rattle.snippet_suggest.proofs.LeftOver.{number_before, number_left}
-use Rattle.snippet_suggest.proofs.MarkLemmas.{mark_unlisted}
-use Rattle.snippet_suggest.proofs.PaintLemmas.{changed_same}
-use Rattle.snippet_suggest.proofs.PutLemmas.{glyph_some, placeholder_some, put_some}
+use Rattle.snippet_suggest.proofs.PutLemmas.{glyph_some, placeholder_some}
 use Rattle.snippet_suggest.proofs.PutRows.{put_after, put_alone, put_before, put_begun, put_cell, put_covers, put_ends, put_free, put_grows, put_inside, put_long}
 use Rattle.snippet_suggest.proofs.PutRows.{put_stands, put_take, put_within}
-use Rattle.snippet_suggest.proofs.RepaintLemmas.{same_line, same_removed}
+use Rattle.snippet_suggest.proofs.RepaintLemmas.{changed_same, same_line, same_removed, without_role}
 
 -- ---- a line that is offered
 
@@ -221,27 +218,12 @@ gap_shows layout =
     unlisted Ascii = refl
     unlisted Unicode = refl
 
--- a glyph that is put after the gutter, over one that is no longer
-glyph_shows : (layout : SuggestionLayout) (glyph : SuggestionGlyph) (old : List ℕ) (under : List Cell) → is_sign glyph ≡ false
-    → length old ≤ length (suggestion_glyph_of layout.base.decor glyph)
-    → IsEdgeRow layout.base.decor layout.base.gutter (beside_gutter layout.base.gutter old) under
-    → IsEdgeRow layout.base.decor layout.base.gutter (beside_gutter layout.base.gutter (suggestion_glyph_of layout.base.decor glyph))
-    (put LineNumber (suggestion_glyph_of layout.base.decor glyph) (separator_cell layout.base) under)
-glyph_shows layout glyph old under other covers is =
-    let cs : List ℕ = suggestion_glyph_of layout.base.decor glyph in
-    subst (IsEdgeRow layout.base.decor layout.base.gutter (beside_gutter layout.base.gutter cs))
-    (sym (put_some LineNumber cs (layout.base.gutter + 1) under (glyph_some layout.base.decor glyph)))
-    (stroke_put layout.base.decor layout.base.gutter LineNumber glyph old under other covers is)
-
--- or into a row with no cells
+-- a glyph alone
 glyph_alone : (layout : SuggestionLayout) (glyph : SuggestionGlyph) → is_sign glyph ≡ false
     → IsEdgeRow layout.base.decor layout.base.gutter (beside_gutter layout.base.gutter (suggestion_glyph_of layout.base.decor glyph))
     (put LineNumber (suggestion_glyph_of layout.base.decor glyph) (separator_cell layout.base) [])
 glyph_alone layout glyph other =
-    let cs : List ℕ = suggestion_glyph_of layout.base.decor glyph in
-    subst (IsEdgeRow layout.base.decor layout.base.gutter (beside_gutter layout.base.gutter cs))
-    (sym (put_some LineNumber cs (layout.base.gutter + 1) [] (glyph_some layout.base.decor glyph)))
-    (stroke_signed layout.base.decor layout.base.gutter LineNumber glyph other)
+    stroke_put layout.base.decor layout.base.gutter LineNumber glyph [] [] other (omega arith) (stroke_blank layout.base.decor layout.base.gutter)
 
 -- the glyph that joins a suggestion to the one before is as long as what that ends with
 next_covers : (decor : DecorStyle) (follows : Bool) → length (end_glyph decor follows) ≤ length (suggestion_glyph_of decor sign.Next)
@@ -259,7 +241,8 @@ begin_shows layout Opening under none =
     let left : List ℕ = beside_gutter layout.base.gutter (begin_glyph layout.base.decor Opening) in
     subst (λ (row : List Cell). IsEdgeRow layout.base.decor layout.base.gutter left (Row row)) (sym none) (glyph_alone layout sign.Opening refl)
 begin_shows layout Next under is =
-    glyph_shows layout sign.Next (end_glyph layout.base.decor is.0) under refl (next_covers layout.base.decor is.0) is.1
+    stroke_put layout.base.decor layout.base.gutter LineNumber sign.Next (end_glyph layout.base.decor is.0) under refl
+    (next_covers layout.base.decor is.0) is.1
 begin_shows layout Path under is = is
 
 -- what a suggestion stands over shows no line
@@ -276,6 +259,22 @@ pub end_shows : (layout : SuggestionLayout) (follows : Bool)
 unfolding end_cells
 end_shows layout true = glyph_alone layout sign.Leading refl
 end_shows layout false = glyph_alone layout sign.Closing refl
+
+-- no mark is listed
+mark_unlisted : (decor : DecorStyle) (ch : ℕ) → IsMarkOrSpace decor ch → is_listed ch ≡ false
+mark_unlisted decor ch is =
+    elim is [
+      | inl space ↦ ap is_listed space
+      | inr mark ↦
+          elim mark [
+            | inl plus ↦ ap is_listed plus
+            | inr changed ↦ ap is_listed changed ∙ changed_unlisted decor
+          ]
+    ]
+  where
+    changed_unlisted : (decor : DecorStyle) → is_listed (changed_mark_of decor) ≡ false
+    changed_unlisted Ascii = refl
+    changed_unlisted Unicode = refl
 
 -- marks leave what stands left of the lines
 mark_shows : (layout : SuggestionLayout) (mark start end : ℕ) (left : List ℕ) (row : List Cell) → IsMarkOrSpace layout.base.decor mark

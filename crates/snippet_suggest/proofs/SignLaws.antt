@@ -1,35 +1,26 @@
 -- The sign beside a line that is offered stands in its row, whatever else is written there.
-use Rattle.std.proofs.Common.{◌≡◌, ◌≢◌, ℕ, ◌+◌, ◌-◌, ◌<◌, ◌≤◌, Bool, true, ◌&&◌, List, [], ◌∷◌, length, map, chars, refl, sym, ap, ◌∙◌, arith, inl, inr, subst}
+use Rattle.std.proofs.Common.{◌≡◌, ℕ, ◌+◌, ◌-◌, ◌≤◌, List, [], ◌∷◌, length, map, chars, ap, ◌∙◌, arith}
 use Rattle.std.proofs.Common.{All}
-use Rattle.std.specs.Cow.{cow_str_bytes}
 use Rattle.std.specs.List.{AllZip, slice_index_or}
-use Rattle.std.specs.Str.{bytes_eq}
-use Rattle.std.proofs.lemmas.Bool.{cases_Bool, cond-false, cond-true}
 use Rattle.snippet_model.specs.declared.snippet.Snippet.{Snippet}
 use Rattle.snippet_model.specs.declared.snippet.Patch.{Patch}
-use Rattle.snippet_style.specs.declared.role.ElementStyle.{ElementStyle}
-use Rattle.snippet_style.specs.declared.role.ElementStyle.TheVariants.{Addition, LineNumber, NoStyle, Removal}
-use Rattle.snippet_style.specs.Cell.{Cell, SPACE, text_cells}
-use Rattle.snippet_style.proofs.CellLemmas.{length-text_cells, slice_index_or-written_after, slice_index_or-written_before, slice_index_or-written_inside}
-use Rattle.snippet_grid.specs.Grid.{changed_within, restyled}
+use Rattle.snippet_style.specs.declared.role.ElementStyle.TheVariants.{Addition, LineNumber, NoStyle}
+use Rattle.snippet_style.specs.Cell.{Cell, SPACE}
 use Rattle.snippet_text.specs.Normalized.{norm}
 use Rattle.snippet_lines.specs.Number.{shown_number}
-use Rattle.snippet_splice.specs.Spliced.{last_line_reached}
 use Rattle.snippet_splice.specs.declared.stretches.SubstitutionHighlight.{SubstitutionHighlight}
 use Rattle.snippet_style.specs.declared.glyphs.SuggestionGlyph.{SuggestionGlyph}
 use Rattle.snippet_suggest.specs.declared.kind.DisplaySuggestion.{DisplaySuggestion}
 use Rattle.snippet_suggest.specs.declared.layout.SuggestionLayout.{SuggestionLayout}
 use Rattle.snippet_suggest.specs.declared.layout.SuggestionStart.{SuggestionStart}
-use Rattle.snippet_suggest.specs.Cells.{left_out_cells, line_cells, offered_cells, on_last, put, sign_of, stretch_cell, with_stretches}
-use Rattle.snippet_suggest.specs.Given.{edits_of, first_given, given_lines, given_ranges, is_left_out, last_reached, shown_kind}
+use Rattle.snippet_suggest.specs.Cells.{line_cells, offered_cells, put, sign_of, with_stretches}
+use Rattle.snippet_suggest.specs.Given.{given_lines, shown_kind}
 use Rattle.snippet_style.specs.Glyphs.{suggestion_glyph_of, suggestion_role_of}
-use Rattle.snippet_suggest.specs.RowOrder.{Begins, Empty, Ends, Offers, Removes, Skips, SuggestionRow, is_diff, rows_of_suggestion}
-use Rattle.snippet_suggest.specs.SuggestionRows.{without_role}
-use Rattle.snippet_suggest.specs.SuggestedLines.{is_touched}
-use Rattle.snippet_suggest.specs.Suggested.{HasSign, body_cells, cells_of, cells_over, new_on, suggested_stretches, with_left_out}
+use Rattle.snippet_suggest.specs.RowOrder.{Begins, Empty, Ends, Offers, Removes, Skips, SuggestionRow, rows_of_suggestion}
+use Rattle.snippet_suggest.specs.Suggested.{HasSign, body_cells, cells_of, new_on}
 use Rattle.std.proofs.lemmas.List.Elements.{All-cons, All-nil}
 use Rattle.snippet_suggest.proofs.BodyLaws.{AreEach, body_each}
-use Rattle.snippet_suggest.proofs.PaintLemmas.{seen_ch}
+use Rattle.snippet_suggest.proofs.RepaintLemmas.{same_ch, without_role}
 use Rattle.snippet_suggest.proofs.PutRows.{put_after, put_alone, put_before}
 use Rattle.snippet_suggest.proofs.RowLaws.{with_same}
 
@@ -56,7 +47,7 @@ offered_sign : (layout : SuggestionLayout) (kind : DisplaySuggestion) (count num
 unfolding offered_cells
 offered_sign layout kind count number line ss fits =
     let row : List Cell = line_cells layout (sign_of kind count line ss) number line in
-    seen_ch (layout.base.gutter + 1) (with_stretches Addition layout.base.gutter (chars line) ss row) row
+    same_ch (layout.base.gutter + 1) (with_stretches Addition layout.base.gutter (chars line) ss row) row
     (with_same Addition layout.base.gutter (chars line) ss row) ∙ line_sign layout (sign_of kind count line ss) number line fits
 
 -- each row has its sign
@@ -75,7 +66,7 @@ has_sign layout s under (Ends follows) = tt
 sign_kept : (layout : SuggestionLayout) (s : Snippet Patch) (shown : SuggestionRow) (now row : List Cell) → map without_role now ≡ map without_role row
     → HasSign layout s shown row → HasSign layout s shown now
 sign_kept layout s (Begins start) now row same has = tt
-sign_kept layout s (Offers k) now row same has = λ fits. seen_ch (layout.base.gutter + 1) now row same ∙ has fits
+sign_kept layout s (Offers k) now row same has = λ fits. same_ch (layout.base.gutter + 1) now row same ∙ has fits
 sign_kept layout s Skips now row same has = tt
 sign_kept layout s (Removes i number text) now row same has = tt
 sign_kept layout s Empty now row same has = tt
