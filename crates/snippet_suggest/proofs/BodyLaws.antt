@@ -1,5 +1,5 @@
 -- What the rows of a suggestion show, one below the other.
-use Rattle.std.proofs.Common.{◌≡◌, ℕ, ◌+◌, ◌-◌, ◌^◌, ◌<◌, Bool, true, false, if◌then◌else◌, ◌&&◌, All, List, [], ◌∷◌, chars, length, map, ◌∙◌}
+use Rattle.std.proofs.Common.{◌≡◌, ℕ, ◌+◌, ◌-◌, ◌^◌, ◌<◌, Bool, true, false, if◌then◌else◌, ◌&&◌, All, List, [], ◌∷◌, ◌++◌, chars, length, map, ◌∙◌}
 use Rattle.std.proofs.Common.{arith}
 use Rattle.std.specs.Cow.{cow_str_bytes}
 use Rattle.std.specs.List.{AllZip}
@@ -39,6 +39,13 @@ use Rattle.snippet_suggest.proofs.GutterFits.{numbers_fit}
 use Rattle.snippet_suggest.proofs.RepaintLemmas.{same_shows, without_role}
 use Rattle.snippet_suggest.proofs.RisingLemmas.{rooms_shown}
 use Rattle.snippet_suggest.proofs.RowLaws.{begin_shows, end_shows, gap_shows, marks_show, offered_shows, removed_shows, replaced_shows, under_bare, with_same}
+
+-- two lists, and others after them
+pub zip_append : {A B : Type 0} (R : A → B → Type 0) (xs vs : List A) (ys ws : List B) → AllZip R xs ys → AllZip R vs ws → AllZip R (xs ++ vs) (ys ++ ws)
+zip_append R [] vs [] ws front back = back
+zip_append R [] vs (y ∷ ys) ws front back = elim front [ ]
+zip_append R (x ∷ xs) vs [] ws front back = elim front [ ]
+zip_append R (x ∷ xs) vs (y ∷ ys) ws front back = (front.0, zip_append R xs vs ys ws front.1 back)
 
 -- ---- what holds of each row by its cells, whatever their roles
 
@@ -89,6 +96,15 @@ module _ (layout : SuggestionLayout) (s : Snippet Patch) (P : SuggestionRow → 
   body_each start under all =
       holds_left_out (given_lines s) (rows_of_suggestion start s) (cells_over (cells_of layout s) under (rows_of_suggestion start s))
       (holds_over under (rows_of_suggestion start s) all)
+
+  -- also where it holds of each, whatever it is drawn over
+  pub body_all : (start : SuggestionStart) (under : List Cell) → ((u : List Cell) (row : SuggestionRow) → Holds u row)
+      → AllZip P (rows_of_suggestion start s) (body_cells layout start s under)
+  body_all start under each = body_each start under (over (rows_of_suggestion start s))
+    where
+      over : (rows : List SuggestionRow) → AreEach Holds under rows
+      over [] = tt
+      over (row ∷ rows) = (each under row, λ i d within. each [] _)
 
 -- ---- what the rows of a suggestion show, where the gutter has room
 

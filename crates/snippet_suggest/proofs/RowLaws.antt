@@ -1,5 +1,6 @@
 -- What each row of a suggestion shows, by the cells that it holds.
-use Rattle.std.proofs.Common.{◌≡◌, ℕ, ◌+◌, ◌-◌, ◌^◌, ◌<◌, ◌≤◌, Bool, true, false, ◌==◌, ◌&&◌, if◌then◌else◌, min, nat_le, All, List, [], ◌∷◌, ◌++◌, chars, codes, length, map, replicate}
+use Rattle.std.proofs.Common.{◌≡◌, ℕ, ◌+◌, ◌-◌, ◌^◌, ◌<◌, ◌≤◌, Bool, true, false, ◌==◌, ◌&&◌}
+use Rattle.std.proofs.Common.{if◌then◌else◌, min, nat_le, All, List, [], ◌∷◌, ◌++◌, chars, codes, length, map, replicate}
 use Rattle.std.proofs.Common.{refl, sym, ap, ◌∙◌, arith, inl, inr, subst}
 use Rattle.std.specs.Char.{is_ascii_alphanumeric}
 use Rattle.std.specs.List.{list_all, list_any, slice_index_or}
@@ -41,7 +42,8 @@ use Rattle.snippet_suggest.proofs.BareLemmas.{stroke_blank, stroke_led, stroke_n
 use Rattle.snippet_suggest.proofs.GlyphLemmas.{glyph_plain, glyph_short, glyph_unlisted, is_sign, sign_first, sign_second}
 use Rattle.snippet_suggest.proofs.LeftOver.{number_before, number_left}
 use Rattle.snippet_suggest.proofs.PutLemmas.{glyph_some, placeholder_some}
-use Rattle.snippet_suggest.proofs.PutRows.{put_after, put_alone, put_before, put_begun, put_cell, put_covers, put_ends, put_free, put_grows, put_inside, put_long}
+use Rattle.snippet_suggest.proofs.PutRows.{put_after, put_alone, put_before, put_begun, put_cell, put_covers, put_ends, put_free, put_grows}
+use Rattle.snippet_suggest.proofs.PutRows.{put_inside, put_long}
 use Rattle.snippet_suggest.proofs.PutRows.{put_stands, put_take, put_within}
 use Rattle.snippet_suggest.proofs.RepaintLemmas.{changed_same, same_line, same_removed, without_role}
 

@@ -1,6 +1,5 @@
 -- The sign beside a line that is offered stands in its row, whatever else is written there.
-use Rattle.std.proofs.Common.{◌≡◌, ℕ, ◌+◌, ◌-◌, ◌≤◌, List, [], ◌∷◌, length, map, chars, ap, ◌∙◌, arith}
-use Rattle.std.proofs.Common.{All}
+use Rattle.std.proofs.Common.{◌≡◌, ℕ, ◌+◌, ◌≤◌, List, [], length, map, chars, ap, ◌∙◌, arith}
 use Rattle.std.specs.List.{AllZip, slice_index_or}
 use Rattle.snippet_model.specs.declared.snippet.Snippet.{Snippet}
 use Rattle.snippet_model.specs.declared.snippet.Patch.{Patch}
@@ -18,8 +17,7 @@ use Rattle.snippet_suggest.specs.Given.{given_lines, shown_kind}
 use Rattle.snippet_style.specs.Glyphs.{suggestion_glyph_of, suggestion_role_of}
 use Rattle.snippet_suggest.specs.RowOrder.{Begins, Empty, Ends, Offers, Removes, Skips, SuggestionRow, rows_of_suggestion}
 use Rattle.snippet_suggest.specs.Suggested.{HasSign, body_cells, cells_of, new_on}
-use Rattle.std.proofs.lemmas.List.Elements.{All-cons, All-nil}
-use Rattle.snippet_suggest.proofs.BodyLaws.{AreEach, body_each}
+use Rattle.snippet_suggest.proofs.BodyLaws.{body_all}
 use Rattle.snippet_suggest.proofs.RepaintLemmas.{same_ch, without_role}
 use Rattle.snippet_suggest.proofs.PutRows.{put_after, put_alone, put_before}
 use Rattle.snippet_suggest.proofs.RowLaws.{with_same}
@@ -72,19 +70,8 @@ sign_kept layout s (Removes i number text) now row same has = tt
 sign_kept layout s Empty now row same has = tt
 sign_kept layout s (Ends follows) now row same has = tt
 
-signs_later : (layout : SuggestionLayout) (s : Snippet Patch) (rows : List SuggestionRow)
-    → All (λ row. HasSign layout s row (cells_of layout s [] row)) rows
-signs_later layout s [] = All-nil (λ row. HasSign layout s row (cells_of layout s [] row))
-signs_later layout s (row ∷ rows) =
-    All-cons (λ row. HasSign layout s row (cells_of layout s [] row)) row rows (has_sign layout s [] row) (signs_later layout s rows)
-
-signs_over : (layout : SuggestionLayout) (s : Snippet Patch) (under : List Cell) (rows : List SuggestionRow)
-    → AreEach (λ u row. HasSign layout s row (cells_of layout s u row)) under rows
-signs_over layout s under [] = tt
-signs_over layout s under (row ∷ rows) = (has_sign layout s under row, signs_later layout s rows)
-
 -- the rows of a suggestion have their signs
 pub body_signs : (layout : SuggestionLayout) (start : SuggestionStart) (s : Snippet Patch) (under : List Cell)
     → AllZip (HasSign layout s) (rows_of_suggestion start s) (body_cells layout start s under)
 body_signs layout start s under =
-    body_each layout s (HasSign layout s) (sign_kept layout s) start under (signs_over layout s under (rows_of_suggestion start s))
+    body_all layout s (HasSign layout s) (sign_kept layout s) start under (has_sign layout s)
