@@ -9,9 +9,8 @@ use Rattle.std.proofs.lemmas.List.FromFn.{get_or-enumerate_from, length-enumerat
 use Rattle.std.proofs.lemmas.Option.{slice_get-get_or, slice_get_within}
 use Rattle.snippet_style.specs.Cell.{Cell}
 use Rattle.snippet_model.specs.declared.snippet.Element.{Element}
-use Rattle.snippet_suggest.specs.SuggestionRows.{IsTail}
-use Rattle.annotate_snippets.specs.Around.{CanStandIn, begins_in_row_above, context_at, first_two_share}
-use Rattle.annotate_snippets.specs.DrawnReport.{AddsElement, AddsElements, IsElementDrawn, found_at, last_row}
+use Rattle.annotate_snippets.specs.Around.{CanStandIn, begins_in_row_above, context_at, first_two_share, is_end, next_of}
+use Rattle.annotate_snippets.specs.DrawnReport.{AddsElement, AddsElements, IsElementDrawn, found_at, last_row, shared_row}
 use Rattle.annotate_snippets.specs.declared.renderer.Renderer.{Renderer}
 use Rattle.snippet_grid.specs.Layout.{Layout}
 use Rattle.annotate_snippets.specs.PreparedReport.{AreAround, element_of}
@@ -25,13 +24,10 @@ use Rattle.annotate_snippets.proofs.AroundLaws.{begins_is, can_stand, shared_goe
 pub record DrawnSoFar (r : Renderer) (layout : Layout) (place : GroupPosition) (file : Option (List ℕ)) (es : List Element) (n : ℕ)
     (old new : List (List Cell)) : Type 0 where
   pub parts : List (List (List Cell))
-  pub tail : List (List Cell)
-  pub added : new ≡ (old ++ flat_map (λ part. part) parts) ++ tail
+  pub added : new ≡ (old ++ flat_map (λ part. part) parts) ++ shared_row (shares_before es n) (found_at r layout es n)
   pub count : length parts ≡ n
   pub each : (i : ℕ) (e : Element) → i < n → slice_get es i ≡ Some e
       → IsElementDrawn r layout (context_at place file es i e) (found_at r layout es i) e (slice_index_or parts i [])
-  pub ends : IsTail layout.decor layout.gutter (shares_before es n) tail
-  pub last : shares_before es n ≡ true → tail ≡ found_at r layout es n ∷ []
 
 -- before the first element nothing is drawn
 pub drawn_none : (r : Renderer) (layout : Layout) (place : GroupPosition) (file : Option (List ℕ)) (es : List Element) (old : List (List Cell))
@@ -39,13 +35,15 @@ pub drawn_none : (r : Renderer) (layout : Layout) (place : GroupPosition) (file 
 drawn_none r layout place file es old =
     record {
       parts = [];
-      tail = [];
       added = sym (append-nil old) ∙ sym (append-nil (old ++ []));
       count = refl;
       each = λ i e within is. absurd (omega (arith, within));
-      ends = refl;
-      last = λ shares. let never : ◌≡◌ {A = Bool} false true = shares in cc;
     }
+
+-- rows that are shared are the same, where they are if they are shared
+shared_same : (shares : Bool) (row other : List Cell) → (shares ≡ true → row ≡ other) → shared_row shares row ≡ shared_row shares other
+shared_same true row other same = ap (λ (cells : List Cell). cells ∷ []) (same refl)
+shared_same false row other same = refl
 
 -- one more
 pub drawn_more : (r : Renderer) (layout : Layout) (place : GroupPosition) (file : Option (List ℕ)) (es : List Element) (n : ℕ) (e : Element)
@@ -60,11 +58,18 @@ drawn_more r layout place file es n e old mid new before here adds =
     ++ adds.rows = flat_map-append (λ (part : Part). part) before.parts (adds.rows ∷ [])
     ∙ ap (λ rows. flat_map (λ (part : Part). part) before.parts ++ rows) (append-nil adds.rows) in
     let last : slice_index_or parts n [] ≡ adds.rows = last_part before.parts adds.rows n before.count in
+    let shares : Bool = first_two_share (drop n es) in
+    let end : List Cell = last_row r layout (not (is_end (next_of (drop (n + 1) es)))) (Some e) in
+    let next : List Cell = found_at r layout es (n + 1) in
+    let ends : shares ≡ true → end ≡ next = λ shared. ap (λ ends. last_row r layout (not ends) (Some e)) (shared_goes_on es n shared)
+    ∙ ap (λ x. last_row r layout true x) (sym here ∙ ap (slice_get es) (one_back n)) in
+    let tail : shared_row shares end ≡ shared_row (shares_before es (n + 1)) next = shared_same shares end next ends
+    ∙ ap (λ b. shared_row b next) (sym (shares_after es n)) in
     record {
       parts = parts;
-      tail = adds.tail;
-      added = adds.added ∙ sym (append_assoc (old ++ flat_map (λ (part : Part). part) before.parts) adds.rows adds.tail)
-          ∙ ap (λ rows. rows ++ adds.tail) (append_assoc old (flat_map (λ (part : Part). part) before.parts) adds.rows ∙ ap (λ rows. old ++ rows) (sym joined));
+      added = adds.added ∙ sym (append_assoc (old ++ flat_map (λ (part : Part). part) before.parts) adds.rows (shared_row shares end))
+          ∙ ap (λ rows. rows ++ shared_row shares end) (append_assoc old (flat_map (λ (part : Part). part) before.parts) adds.rows
+          ∙ ap (λ rows. old ++ rows) (sym joined)) ∙ ap (λ rows. (old ++ flat_map (λ (part : Part). part) parts) ++ rows) tail;
       count = omega (arith, length-append before.parts (adds.rows ∷ []), before.count);
       each = λ i x within is.
           elim (cases_lt i n) [
@@ -76,11 +81,6 @@ drawn_more r layout place file es n e old mid new before here adds =
                 subst (λ j. Holds j x) at (subst (λ y. Holds n y) same (subst (λ part.
                 IsElementDrawn r layout (context_at place file es n e) (found_at r layout es n) e part) (sym last) adds.is))
           ];
-      ends = subst (λ b. IsTail layout.decor layout.gutter b adds.tail) (sym (shares_after es n)) adds.ends;
-      last = λ shares.
-          let shared : first_two_share (drop n es) ≡ true = sym (shares_after es n) ∙ shares in
-          adds.last shared ∙ ap (λ ends. last_row r layout (not ends) (Some e) ∷ []) (shared_goes_on es n shared)
-          ∙ ap (λ x. last_row r layout true x ∷ []) (sym here ∙ ap (slice_get es) (one_back n));
     }
   where
     one_back : (n : ℕ) → n ≡ n + 1 - 1
@@ -102,7 +102,8 @@ drawn_more r layout place file es n e old mid new before here adds =
 pub drawn_all : (r : Renderer) (layout : Layout) (place : GroupPosition) (file : Option (List ℕ)) (es : List Element) (n : ℕ) (old new : List (List Cell))
     → n ≡ length es → DrawnSoFar r layout place file es n old new → AddsElements r layout place file es old new
 drawn_all r layout place file es n old new all drawn =
-    let none : drawn.tail ≡ [] = subst (λ b. IsTail layout.decor layout.gutter b drawn.tail) (ap (shares_before es) all ∙ shares_end es) drawn.ends in
+    let found : List Cell = found_at r layout es n in
+    let none : shared_row (shares_before es n) found ≡ [] = ap (λ b. shared_row b found) (ap (shares_before es) all ∙ shares_end es) in
     record {
       parts = drawn.parts;
       added = drawn.added ∙ ap (λ rows. (old ++ flat_map (λ part. part) drawn.parts) ++ rows) none ∙ append-nil (old ++ flat_map (λ part. part) drawn.parts);
@@ -162,8 +163,7 @@ pub turn_drawn : (r : Renderer) (layout : Layout) (place : GroupPosition) (file 
     (around : List ElementContext) (n m i : ℕ) (p : PreparedElement) (at : ElementContext) (old mid new : List (List Cell))
     → AreAround place file (map element_of ps) around → (n < length (enumerate_from 0 ps)) × ((i, p) ≡ get_or (enumerate_from 0 ps) n (i, p))
     → at ≡ slice_index_or around i at → m ≡ n + 1 → DrawnSoFar r layout place file (map element_of ps) n old mid
-    → ((above tail : List (List Cell)) (found : List Cell) → mid ≡ above ++ tail
-    → IsTail layout.decor layout.gutter (begins_in_row_above at) tail → (begins_in_row_above at ≡ true → tail ≡ found ∷ [])
+    → ((above : List (List Cell)) (found : List Cell) → mid ≡ above ++ shared_row (begins_in_row_above at) found
     → AddsElement r layout at found (element_of p) above new) → DrawnSoFar r layout place file (map element_of ps) m old new
 turn_drawn r layout place file ps around n m i p at old mid new are turn is next before adds =
     let es : List Element = map element_of ps in
@@ -172,8 +172,8 @@ turn_drawn r layout place file ps around n m i p at old mid new are turn is next
     let at_is : at ≡ context_at place file es n e = turn_around place file ps around n i p at are turn is in
     let begins : begins_in_row_above at ≡ shares_before es n = ap begins_in_row_above at_is ∙ begins_is place file es n e here in
     let above : List (List Cell) = old ++ flat_map (λ part. part) before.parts in
-    let added : AddsElement r layout at (found_at r layout es n) e above new = adds above before.tail (found_at r layout es n) before.added
-    (subst (λ b. IsTail layout.decor layout.gutter b before.tail) (sym begins) before.ends) (λ starts. before.last (sym begins ∙ starts)) in
+    let found : List Cell = found_at r layout es n in
+    let added : AddsElement r layout at found e above new = adds above found (before.added ∙ ap (λ b. above ++ shared_row b found) (sym begins)) in
     subst (λ k. DrawnSoFar r layout place file es k old new) (sym next)
     (drawn_more r layout place file es n e old mid new before here (subst (λ a. AddsElement r layout a (found_at r layout es n) e above new) at_is added))
 

@@ -26,7 +26,7 @@ use Rattle.snippet_model.specs.FreeRows.{IsFree, IsFreeCell}
 use Rattle.snippet_titles.specs.Title.{id_links, title_rows}
 use Rattle.snippet_titles.proofs.HeadFacts.{message_rows-unlinked}
 use Rattle.snippet_titles.proofs.LinkLemmas.{title_rows-links}
-use Rattle.annotate_snippets.specs.Around.{drawn_elements, is_drawn, is_end, next_of, context_at}
+use Rattle.annotate_snippets.specs.Around.{begins_in_row_above, drawn_elements, is_drawn, is_end, next_of, context_at}
 use Rattle.annotate_snippets.specs.DrawnReport.{AreElementsDrawn, HasRoomFor, IsElementDrawn, IsGroupGrid, found_at}
 use Rattle.annotate_snippets.specs.GraphicForm.{element_rows, rows_of_elements}
 use Rattle.annotate_snippets.specs.Page.{NamedRow, cells_of}
@@ -44,22 +44,25 @@ use Rattle.annotate_snippets.proofs.ElementShown.{ElementShown}
 use Rattle.annotate_snippets.proofs.GroupShown.{GroupShown}
 use Rattle.annotate_snippets.proofs.HeadingFeedLaws.{title_part-one_line}
 use Rattle.annotate_snippets.proofs.HeadingShown.{message_shown, origin_shown, padding_shown, title_shown}
+use Rattle.annotate_snippets.proofs.AroundLaws.{begins_is}
+use Rattle.annotate_snippets.proofs.SuggestionLines.{IsEnding, found_ends}
 use Rattle.annotate_snippets.proofs.SuggestionShown.{suggestion_shown}
 use Rattle.annotate_snippets.proofs.TrustedLemmas.{AreTextsAmong, IsFreeRow, after_title-free, element_free, free_text, texts_among, title_part-free}
 
 -- the rows of an element that is drawn show it
 pub element_shown : (r : Renderer) (layout : Layout) (around : ElementContext) (found : List Cell) (e : Element) (rows : List (List Cell)) → IsElementDrawable e
-    → is_drawn e ≡ true → HasRoomFor r layout e → IsElementDrawn r layout around found e rows → ElementShown r layout around found e rows
-element_shown r layout around found (Message message) rows drawable drawn room is = message_shown r layout around found message rows is
-element_shown r layout around found (Cause snippet) rows drawable drawn room is = cause_shown r layout around found snippet rows drawable room is
-element_shown r layout around found (Suggestion snippet) rows drawable drawn room is =
-    suggestion_shown r layout around found snippet rows drawable (some snippet.markers.items drawn) room is
+    → is_drawn e ≡ true → HasRoomFor r layout e → (begins_in_row_above around ≡ true → IsEnding layout found)
+    → IsElementDrawn r layout around found e rows → ElementShown r layout around found e rows
+element_shown r layout around found (Message message) rows drawable drawn room ends is = message_shown r layout around found message rows is
+element_shown r layout around found (Cause snippet) rows drawable drawn room ends is = cause_shown r layout around found snippet rows drawable room is
+element_shown r layout around found (Suggestion snippet) rows drawable drawn room ends is =
+    suggestion_shown r layout around found snippet rows drawable (some snippet.markers.items drawn) room ends is
   where
     some : (patches : List Patch) → not (length patches == 0) ≡ true → patches ≢ []
     some [] given empty = cc
     some (p ∷ ps) given empty = cc
-element_shown r layout around found (Origin origin) rows drawable drawn room is = origin_shown r layout around found origin rows is
-element_shown r layout around found (Padding padding) rows drawable drawn room is = padding_shown r layout around found padding rows is
+element_shown r layout around found (Origin origin) rows drawable drawn room ends is = origin_shown r layout around found origin rows is
+element_shown r layout around found (Padding padding) rows drawable drawn room ends is = padding_shown r layout around found padding rows is
 
 -- where there is a value for each item of a list, by its index, there is a list of them
 chosen : {X Y : Type 0} (R : ℕ → X → Y → Type 0) (d : Y) (xs : List X) → ((i : ℕ) (x : X) → slice_get xs i ≡ Some x → (y : Y) × R i x y)
@@ -159,7 +162,8 @@ module _ (r : Renderer) (layout : Layout) (place : GroupPosition) (file : Option
         let shown = element_shown r layout (context_at place file es i e) (found_at r layout es i) e (get_or parts i [])
         (subst IsElementDrawable own (All-get_or IsElementDrawable es i e within drawable))
         (subst (λ x. is_drawn x ≡ true) own (All-get_or (λ x. is_drawn x ≡ true) es i e within drawn))
-        (subst (HasRoomFor r layout) own (All-get_or (HasRoomFor r layout) es i e within room)) (are.each i e is) in (
+        (subst (HasRoomFor r layout) own (All-get_or (HasRoomFor r layout) es i e within room))
+        (λ begins. found_ends r layout es i (sym (begins_is place file es i e is) ∙ begins)) (are.each i e is) in (
           shown.part,
           record {
             value = shown.value;

@@ -61,6 +61,7 @@ pub mod SpanParts
 pub mod SpanPlaces
 pub mod SuggestFeedLaws
 pub mod SuggestionLemmas
+pub mod SuggestionLines
 pub mod SuggestionShown
 pub mod ContextLemmas
 pub mod TextLineLaws

@@ -1,49 +1,48 @@
 -- The rows of a suggestion hold a line feed only where its path does.
-use Rattle.std.proofs.Common.{◌≡◌, ℕ, zero, suc, ◌+◌, ◌-◌, ◌<◌, ◌≤◌, ◌==◌, ◌&&◌, max, Bool, true, false, cond, not, Option, None, Some, List, [], ◌∷◌, ◌++◌}
+use Rattle.std.proofs.Common.{◌≡◌, ℕ, zero, suc, ◌+◌, ◌-◌, ◌<◌, ◌≤◌, ◌==◌, Bool, true, false, Option, None, Some, List, [], ◌∷◌}
 use Rattle.std.proofs.Common.{All, chars, take, drop, map, length, get_or, refl, sym, ap, subst, ◌∙◌, arith, inl, inr}
 use Rattle.std.specs.Cow.{cow_str_bytes}
 use Rattle.std.specs.List.{AllZip, list_any, slice_index_or}
-use Rattle.std.specs.Str.{IsUtf8, bytes_eq}
+use Rattle.std.specs.Str.{IsUtf8}
 use Rattle.std.proofs.lemmas.Bool.{cases_Bool, cases_eq, cases_lt, eqb-true, false≢true}
 use Rattle.std.proofs.lemmas.Bool.Decides.{nat_tests}
 use Rattle.std.proofs.lemmas.List.{get_or-drop, get_or-take}
-use Rattle.std.proofs.lemmas.List.Elements.{All-append, All-cons, All-drop, All-from_get_or, All-head, All-map, All-nil, All-tail, All-take}
-use Rattle.snippet_grid.specs.Grid.{changed_within, restyled}
+use Rattle.std.proofs.lemmas.List.Elements.{All-append, All-cons, All-from_get_or, All-head, All-nil, All-tail}
 use Rattle.snippet_lines.specs.Lines.{Line, lines_of, text_at}
 use Rattle.snippet_lines.specs.Number.{shown_number}
 use Rattle.snippet_lines.specs.declared.number.LineNumbers.{LineNumbers}
 use Rattle.snippet_lines.specs.declared.number.LineNumbers.TheVariants.{Anonymized, Hidden, Shown}
 use Rattle.snippet_model.specs.declared.snippet.Patch.{Patch}
 use Rattle.snippet_model.specs.declared.snippet.Snippet.{Snippet}
-use Rattle.snippet_splice.specs.Spliced.{last_line_reached, texts_of}
-use Rattle.snippet_splice.specs.declared.stretches.SubstitutionHighlight.{SubstitutionHighlight}
+use Rattle.snippet_splice.specs.Spliced.{texts_of}
 use Rattle.snippet_style.specs.Cell.{Cell, SPACE, text_cells}
 use Rattle.snippet_style.specs.declared.glyphs.DecorStyle.{DecorStyle}
 use Rattle.snippet_style.specs.declared.glyphs.DecorStyle.TheVariants.{Ascii, Unicode}
 use Rattle.snippet_style.specs.declared.role.ElementStyle.{ElementStyle}
-use Rattle.snippet_style.specs.declared.role.ElementStyle.TheVariants.{Addition, LineNumber, NoStyle, Removal}
+use Rattle.snippet_style.specs.declared.role.ElementStyle.TheVariants.{Addition, LineNumber, NoStyle}
 use Rattle.snippet_text.specs.Normalized.{norm}
 use Rattle.snippet_titles.specs.Origin.{primary_start}
 use Rattle.snippet_titles.proofs.OriginFree.{each-fails}
 use Rattle.snippet_parts.proofs.PartLemmas.{All-unmapped}
-use Rattle.snippet_suggest.specs.Cells.{left_out_cells, line_cells, offered_cells, on_last, put, sign_of, stretch_cell, with_stretches}
-use Rattle.snippet_suggest.specs.Given.{edits_of, first_given, given_lines, given_ranges, given_text, is_left_out, last_reached, shown_kind}
+use Rattle.snippet_suggest.specs.Cells.{line_cells, offered_cells, put, sign_of, with_stretches}
+use Rattle.snippet_suggest.specs.Given.{first_given, given_lines, given_text, shown_kind}
 use Rattle.snippet_style.specs.Glyphs.{suggestion_glyph_of, suggestion_role_of}
-use Rattle.snippet_suggest.specs.RowOrder.{Begins, Empty, Ends, Offers, Removes, Skips, SuggestionRow, is_diff, number_after, rows_of_suggestion}
+use Rattle.snippet_suggest.specs.RowOrder.{Begins, Empty, Ends, Offers, Removes, Skips, SuggestionRow, number_after, rows_of_suggestion}
 use Rattle.snippet_suggest.specs.SuggestionRows.{IsBareRow, IsBeforeSign, IsLeftOver, IsMarkOrSpace, IsRemovedRow, Shows, is_stroke}
-use Rattle.snippet_suggest.specs.SuggestedLines.{is_touched}
-use Rattle.snippet_suggest.specs.Suggested.{body_cells, cells_of as row_cells, cells_over, new_on, suggested_stretches, with_left_out}
+use Rattle.snippet_suggest.specs.Suggested.{body_cells, cells_of as row_cells, new_on}
 use Rattle.snippet_suggest.specs.declared.SuggestionLayout.{SuggestionLayout}
 use Rattle.snippet_suggest.specs.declared.SuggestionStart.{SuggestionStart}
 use Rattle.snippet_suggest.specs.declared.SuggestionStart.TheVariants as start
 use Rattle.snippet_style.specs.declared.glyphs.SuggestionGlyph.{SuggestionGlyph}
 use Rattle.snippet_style.specs.declared.glyphs.SuggestionGlyph.TheVariants.{Opening, Next, Leading, Closing, Kept, Alone, Changed, Added}
-use Rattle.snippet_suggest.proofs.ComposeLemmas.{zip_append}
+use Rattle.snippet_suggest.proofs.BodyLaws.{body_all}
+use Rattle.snippet_suggest.proofs.RepaintLemmas.{same_ch, without_role}
+use Rattle.snippet_suggest.proofs.RowLaws.{with_same}
 use Rattle.snippet_suggest.proofs.OrderLaws.{IsRowOf}
 use Rattle.annotate_snippets.specs.declared.renderer.Renderer.{Renderer}
 use Rattle.annotate_snippets.specs.declared.renderer.element_context.ElementContext.{ElementContext}
 use Rattle.snippet_grid.specs.Layout.{Layout}
-use Rattle.annotate_snippets.specs.Around.{is_end, path_bytes, suggestion_rows}
+use Rattle.annotate_snippets.specs.Around.{path_bytes, suggestion_rows}
 use Rattle.annotate_snippets.specs.DrawnReport.{IsSuggestionDrawn, suggestion_layout, suggestion_lines, under_of}
 use Rattle.annotate_snippets.specs.Feeds.{HasNoFeed, HoldsNoFeed, IsNoFeed, IsOneLineText}
 use Rattle.annotate_snippets.specs.RowsWithoutSource.{origin_layout, patch_place, path_row, suggestion_head, suggestion_head_at}
@@ -51,6 +50,7 @@ use Rattle.annotate_snippets.proofs.FeedLaws.{at_any}
 use Rattle.annotate_snippets.proofs.LineFeedLaws.{line_plain, row_written}
 use Rattle.annotate_snippets.proofs.PathFeedLaws.{cells_plain, norm-plain, row_plain}
 use Rattle.annotate_snippets.proofs.SourceFeedLaws.{number_plain}
+use Rattle.annotate_snippets.proofs.SuggestionLines.{lines_each}
 
 -- ---- characters
 
@@ -157,25 +157,10 @@ unfolding put
 put_plain role [] at row plain own = plain
 put_plain role (c ∷ cs) at row plain own = row_written row at (text_cells role (c ∷ cs)) plain (cells_plain role (c ∷ cs) own)
 
-restyled_plain : (role : ElementStyle) (from to : ℕ) (row : List Cell) → HasNoFeed row → HasNoFeed (changed_within (restyled role true) from to row)
-unfolding changed_within
-restyled_plain role from to row plain =
-    let before : List Cell = take from row in
-    let part : List Cell = take (to - from) (drop from row) in
-    let now : List Cell = map (restyled role true) part in
-    let part_plain : HasNoFeed part = All-take HoldsNoFeed (to - from) (drop from row) (All-drop HoldsNoFeed from row plain) in
-    All-append HoldsNoFeed (before ++ now) (drop (max from to) row)
-    (All-append HoldsNoFeed before now (All-take HoldsNoFeed from row plain) (All-map HoldsNoFeed (restyled role true) part part_plain))
-    (All-drop HoldsNoFeed (max from to) row plain)
-
-stretches_plain : (role : ElementStyle) (gutter : ℕ) (line : List ℕ) (ss : List SubstitutionHighlight) (row : List Cell) → HasNoFeed row
-    → HasNoFeed (with_stretches role gutter line ss row)
-unfolding with_stretches
-stretches_plain role gutter line [] row plain = plain
-stretches_plain role gutter line (s ∷ ss) row plain =
-    let from : ℕ = stretch_cell gutter line s.start in
-    let to : ℕ = stretch_cell gutter line s.end in
-    stretches_plain role gutter line ss (changed_within (restyled role true) from to row) (restyled_plain role from to row plain)
+-- nor does a row that holds the same characters
+same_plain : (now row : List Cell) → map without_role now ≡ map without_role row → HasNoFeed row → HasNoFeed now
+same_plain now row same plain =
+    All-from_get_or HoldsNoFeed now SPACE (λ c within. subst IsNoFeed (sym (same_ch c now row same)) (at_any row plain c))
 
 line_row_plain : (suggested : SuggestionLayout) (glyph : SuggestionGlyph) (number : ℕ) (line : List ℕ) → All IsNoFeed (chars line)
     → HasNoFeed (line_cells suggested glyph number line)
@@ -198,6 +183,15 @@ IsPlainOffer (Removes i number text) row = Unit {0}
 IsPlainOffer Empty row = Unit {0}
 IsPlainOffer (Ends follows) row = Unit {0}
 
+-- so it does in other roles
+offer_kept : (shown : SuggestionRow) (now row : List Cell) → map without_role now ≡ map without_role row → IsPlainOffer shown row → IsPlainOffer shown now
+offer_kept (Begins at) now row same plain = tt
+offer_kept (Offers k) now row same plain = same_plain now row same plain
+offer_kept Skips now row same plain = tt
+offer_kept (Removes i number text) now row same plain = tt
+offer_kept Empty now row same plain = tt
+offer_kept (Ends follows) now row same plain = tt
+
 -- the lines that are given, by number
 given_line : (ls : List Line) (k : ℕ) → slice_index_or (texts_of ls) k [] ≡ text_at ls k
 given_line [] k = refl
@@ -218,83 +212,23 @@ module _ (suggested : SuggestionLayout) (s : Snippet Patch) (utf8 : IsUtf8 (give
       let line : List ℕ = slice_index_or (given_lines s) k [] in
       let glyph : SuggestionGlyph = sign_of (shown_kind s) (length (given_lines s)) line (new_on s k) in
       let number : ℕ = number_after (s.line_start + first_given s) k in
-      stretches_plain Addition suggested.base.gutter (chars line) (new_on s k) (line_cells suggested glyph number line)
+      let row : List Cell = line_cells suggested glyph number line in
+      same_plain (with_stretches Addition suggested.base.gutter (chars line) (new_on s k) row) row
+      (with_same Addition suggested.base.gutter (chars line) (new_on s k) row)
       (line_row_plain suggested glyph number line (text_line_plain (given_text s) k utf8))
   offer_plain under Skips = tt
   offer_plain under (Removes i number text) = tt
   offer_plain under Empty = tt
   offer_plain under (Ends follows) = tt
 
-  offers_later : (rows : List SuggestionRow) → AllZip IsPlainOffer rows (map (row_cells suggested s []) rows)
-  offers_later [] = tt
-  offers_later (row ∷ rows) = (offer_plain [] row, offers_later rows)
-
-  offers_over : (under : List Cell) (rows : List SuggestionRow) → AllZip IsPlainOffer rows (cells_over (row_cells suggested s) under rows)
-  offers_over under [] = tt
-  offers_over under (row ∷ rows) = (offer_plain under row, offers_later rows)
-
-  -- other roles bring none
-  offer_kept : (f : List Cell → List Cell) → ((row : List Cell) → HasNoFeed row → HasNoFeed (f row)) → (shown : SuggestionRow) (row : List Cell)
-      → IsPlainOffer shown row → IsPlainOffer shown (f row)
-  offer_kept f keeps (Begins at) row plain = tt
-  offer_kept f keeps (Offers k) row plain = keeps row plain
-  offer_kept f keeps Skips row plain = tt
-  offer_kept f keeps (Removes i number text) row plain = tt
-  offer_kept f keeps Empty row plain = tt
-  offer_kept f keeps (Ends follows) row plain = tt
-
-  offers_last : (f : List Cell → List Cell) → ((row : List Cell) → HasNoFeed row → HasNoFeed (f row)) → (shown : List SuggestionRow) (rows : List (List Cell))
-      → AllZip IsPlainOffer shown rows → AllZip IsPlainOffer shown (on_last f rows)
-  unfolding on_last
-  offers_last f keeps [] [] plain = tt
-  offers_last f keeps [] (row ∷ rows) plain = elim plain [ ]
-  offers_last f keeps (x ∷ shown) [] plain = elim plain [ ]
-  offers_last f keeps (x ∷ shown) (row ∷ []) plain = (offer_kept f keeps x row plain.0, plain.1)
-  offers_last f keeps (x ∷ shown) (row ∷ next ∷ rows) plain = (plain.0, offers_last f keeps shown (next ∷ rows) plain.1)
-
-  offers_left_out : (lines : List (List ℕ)) (shown : List SuggestionRow) (rows : List (List Cell)) → AllZip IsPlainOffer shown rows
-      → AllZip IsPlainOffer shown (with_left_out suggested s lines rows)
-  offers_left_out [] shown rows plain = plain
-  offers_left_out (line ∷ lines) shown rows plain =
-      let gone : List SubstitutionHighlight = cond (bytes_eq line (last_reached s))
-      (suggested_stretches s (last_line_reached (cow_str_bytes s.source) (edits_of s) - first_given s)) [] in
-      let f : List Cell → List Cell = left_out_cells suggested.base.gutter line gone (new_on s 0) in
-      let keeps : (row : List Cell) → HasNoFeed row → HasNoFeed (f row) =
-      λ row own. stretches_plain Addition suggested.base.gutter (chars line) (new_on s 0) (with_stretches Removal suggested.base.gutter (chars line) gone row)
-      (stretches_plain Removal suggested.base.gutter (chars line) gone row own) in
-      let test : Bool = is_diff (shown_kind s) && is_touched s.fold (given_ranges s) 0 && is_left_out (shown_kind s) (line ∷ lines) (last_reached s) in
-      elim test as (λ b. AllZip IsPlainOffer shown (cond b (on_last f rows) rows)) [
-        | true ↦ offers_last f keeps shown rows plain
-        | false ↦ plain
-      ]
-
   offers_body : (at : SuggestionStart) (under : List Cell) → AllZip IsPlainOffer (rows_of_suggestion at s) (body_cells suggested at s under)
-  unfolding body_cells
-  offers_body at under =
-      offers_left_out (given_lines s) (rows_of_suggestion at s) (cells_over (row_cells suggested s) under (rows_of_suggestion at s))
-      (offers_over under (rows_of_suggestion at s))
+  offers_body at under = body_all suggested s IsPlainOffer offer_kept at under offer_plain
 
 -- ---- all rows
 
 module _ (r : Renderer) (layout : Layout) (around : ElementContext) (found : List Cell) (s : Snippet Patch) where
   abbrev own_layout : SuggestionLayout
   own_layout = suggestion_layout r layout s
-
-  offers_drawn : (lines : List (List Cell)) → IsUtf8 (given_text s) → lines ≡ suggestion_lines r layout around found s
-      → AllZip IsPlainOffer (suggestion_rows around s) lines
-  offers_drawn lines utf8 drawn =
-      let next : Bool = not (is_end around.next) in
-      let shown : List SuggestionRow = rows_of_suggestion around.start s in
-      let under : List Cell = under_of r layout around.start found in
-      let body : List (List Cell) = body_cells own_layout around.start s under in
-      let last : List (List Cell) = cond around.shared [] (row_cells own_layout s [] (Ends next) ∷ []) in
-      subst (AllZip IsPlainOffer (suggestion_rows around s)) (sym drawn)
-      (zip_append IsPlainOffer shown (cond around.shared [] (Ends next ∷ [])) body last (offers_body own_layout s utf8 around.start under)
-      (ends around.shared next))
-    where
-      ends : (shared next : Bool) → AllZip IsPlainOffer (cond shared [] (Ends next ∷ [])) (cond shared [] (row_cells own_layout s [] (Ends next) ∷ []))
-      ends true next = tt
-      ends false next = (tt, tt)
 
   abbrev IsShown : SuggestionRow → List Cell → Type 0
   IsShown = Shows own_layout (s.line_start + first_given s) (given_lines s)
@@ -331,10 +265,13 @@ module _ (r : Renderer) (layout : Layout) (around : ElementContext) (found : Lis
   head_plain start.Path first plain = path_plain first (path_bytes s.path) plain
 
   -- where its path holds no line feed, no row of a suggestion holds one
-  pub suggestion_one_line : (rows : List (List Cell)) → IsSuggestionDrawn r layout around found s rows → All (IsRowOf s) (suggestion_rows around s)
+  pub suggestion_one_line : (rows : List (List Cell)) → IsSuggestionDrawn r layout around found s rows
+      → AllZip IsShown (suggestion_rows around s) (suggestion_lines r layout around found s) → All (IsRowOf s) (suggestion_rows around s)
       → IsOneLineText (path_bytes s.path) → All HasNoFeed rows
-  suggestion_one_line rows drawn own plain =
+  suggestion_one_line rows drawn are own plain =
       let head : List (List Cell) = suggestion_head r layout around s in
-      let lines : All HasNoFeed drawn.lines = all_rows (suggestion_rows around s) drawn.lines drawn.utf8 drawn.are
-      (offers_drawn drawn.lines drawn.given_utf8 drawn.cells) own in
-      subst (All HasNoFeed) (sym drawn.rows_are) (All-append HasNoFeed head drawn.lines (head_plain around.start around.first plain) lines)
+      let lines : List (List Cell) = suggestion_lines r layout around found s in
+      let offers : AllZip IsPlainOffer (suggestion_rows around s) lines = lines_each r layout around found s IsPlainOffer
+      (offers_body own_layout s drawn.given_utf8 around.start (under_of r layout around.start found)) tt in
+      subst (All HasNoFeed) (sym drawn.rows_are) (All-append HasNoFeed head lines (head_plain around.start around.first plain)
+      (all_rows (suggestion_rows around s) lines drawn.utf8 are offers own))

@@ -13,9 +13,7 @@ use Rattle.snippet_parts.proofs.PartLemmas.{All-unmapped}
 use Rattle.snippet_suggest.specs.Given.{first_given, given_lines, numbers_given, offered_lines, removed_lines}
 use Rattle.snippet_suggest.specs.RowOrder.{Ends, SuggestionRow, line_taken, lines_taken, number_offered, numbers_offered, rows_of_suggestion}
 use Rattle.snippet_suggest.specs.PreparedSuggestion.{IsSuggestible}
-use Rattle.snippet_suggest.specs.Suggested.{HasSign, body_cells, cells_of as row_cells}
-use Rattle.snippet_suggest.specs.declared.SuggestionLayout.{SuggestionLayout}
-use Rattle.snippet_suggest.proofs.ComposeLemmas.{zip_append}
+use Rattle.snippet_suggest.specs.Suggested.{HasSign}
 use Rattle.snippet_suggest.proofs.SignLaws.{body_signs}
 use Rattle.snippet_suggest.specs.SuggestionRows.{Shows}
 use Rattle.snippet_suggest.specs.SuggestedLines.{AreRising}
@@ -26,7 +24,7 @@ use Rattle.snippet_suggest.proofs.OrderLaws.{IsRowOf, rows-offer, rows-own, rows
 use Rattle.snippet_suggest.proofs.TouchLaws.{touched-offered}
 use Rattle.snippet_titles.specs.Origin.{primary_start}
 use Rattle.snippet_titles.proofs.OriginFree.{origin_row-free}
-use Rattle.annotate_snippets.specs.Around.{is_end, path_bytes, suggestion_rows}
+use Rattle.annotate_snippets.specs.Around.{begins_in_row_above, is_end, path_bytes, suggestion_rows}
 use Rattle.annotate_snippets.specs.DrawnReport.{HasRoomFor, IsSuggestionDrawn, suggestion_layout, suggestion_lines, under_of}
 use Rattle.annotate_snippets.specs.GraphicForm.{named_rows}
 use Rattle.annotate_snippets.specs.Page.{IsAscending, NamedRow, cells_of, lines_offered, others}
@@ -38,6 +36,7 @@ use Rattle.annotate_snippets.specs.declared.renderer.element_context.ElementCont
 use Rattle.annotate_snippets.proofs.ElementShown.{ElementShown}
 use Rattle.annotate_snippets.proofs.PageLemmas.{cells_of-others}
 use Rattle.annotate_snippets.proofs.SuggestFeedLaws.{suggestion_one_line}
+use Rattle.annotate_snippets.proofs.SuggestionLines.{IsEnding, lines_each, lines_show}
 use Rattle.annotate_snippets.proofs.SuggestionLemmas.{cells_of-named, lines_free, lines_offered-named, lines_removed-named, names_of-named, rising_ascends}
 use Rattle.annotate_snippets.proofs.SuggestionLemmas.{rows_named, strokes_shown}
 
@@ -86,40 +85,25 @@ module _ (around : ElementContext) (s : Snippet Patch) where
   all_own : All (IsRowOf s) (suggestion_rows around s)
   all_own = All-append (IsRowOf s) rows (ends around.shared) (rows-own around.start s) (ends_own around.shared)
 
--- the rows of a suggestion have the signs of their lines
-ends_sign : (suggested : SuggestionLayout) (s : Snippet Patch) (next shared : Bool)
-    → AllZip (HasSign suggested s) (if shared then [] else Ends next ∷ []) (if shared then [] else row_cells suggested s [] (Ends next) ∷ [])
-ends_sign suggested s next true = tt
-ends_sign suggested s next false = (tt, tt)
-
-signs_shown : (r : Renderer) (layout : Layout) (around : ElementContext) (found : List Cell) (s : Snippet Patch) (lines : List (List Cell))
-    → lines ≡ suggestion_lines r layout around found s → AllZip (HasSign (suggestion_layout r layout s) s) (suggestion_rows around s) lines
-signs_shown r layout around found s lines shown =
-    let under : List Cell = under_of r layout around.start found in
-    let suggested : SuggestionLayout = suggestion_layout r layout s in
-    let next : Bool = not (is_end around.next) in
-    subst (AllZip (HasSign suggested s) (suggestion_rows around s)) (sym shown)
-    (zip_append (HasSign suggested s) (rows_of_suggestion around.start s) (if around.shared then [] else Ends next ∷ [])
-    (body_cells suggested around.start s under) (if around.shared then [] else row_cells suggested s [] (Ends next) ∷ [])
-    (body_signs suggested around.start s under) (ends_sign suggested s next around.shared))
-
 -- the rows of a suggestion show it, once they have names: after the row of its path those of its lines
 pub suggestion_shown : (r : Renderer) (layout : Layout) (around : ElementContext) (found : List Cell) (s : Snippet Patch) (rows : List (List Cell))
-    → IsSuggestible s → s.markers.items ≢ [] → HasRoomFor r layout (Suggestion s) → IsSuggestionDrawn r layout around found s rows
-    → ElementShown r layout around found (Suggestion s) rows
-suggestion_shown r layout around found s rows suggestible some room drawn =
+    → IsSuggestible s → s.markers.items ≢ [] → HasRoomFor r layout (Suggestion s) → (begins_in_row_above around ≡ true → IsEnding layout found)
+    → IsSuggestionDrawn r layout around found s rows → ElementShown r layout around found (Suggestion s) rows
+suggestion_shown r layout around found s rows suggestible some room ends drawn =
     let IsShown : SuggestionRow → List Cell → Type 0 = Shows (suggestion_layout r layout s) (s.line_start + first_given s) (given_lines s) in
     let shown : List SuggestionRow = suggestion_rows around s in
     let head : List (List Cell) = suggestion_head r layout around s in
-    let after : List NamedRow = named_rows s shown drawn.lines in
+    let lines_are : List (List Cell) = suggestion_lines r layout around found s in
+    let are : AllZip IsShown shown lines_are = lines_show r layout around found s suggestible some room ends in
+    let after : List NamedRow = named_rows s shown lines_are in
     let same : map (λ k. first_given s + k) (numbers_offered shown) ≡ offered_lines s = ap (map (λ k. first_given s + k)) (all_offer around s) in
-    let lines : lines_offered after ≡ offered_lines s = lines_offered-named IsShown s shown drawn.lines drawn.are ∙ same in
+    let lines : lines_offered after ≡ offered_lines s = lines_offered-named IsShown s shown lines_are are ∙ same in
     let end : ℕ = first_given s + length (given_lines s) in
     let cells : cells_of (others head ++ after) ≡ rows = map-append (λ (row : NamedRow). row.cells) (others head) after
-    ∙ ap (λ rs. rs ++ cells_of after) (cells_of-others head) ∙ ap (λ rs. head ++ rs) (cells_of-named IsShown s shown drawn.lines drawn.are)
+    ∙ ap (λ rs. rs ++ cells_of after) (cells_of-others head) ∙ ap (λ rs. head ++ rs) (cells_of-named IsShown s shown lines_are are)
     ∙ sym drawn.rows_are in
     let free : All IsFree rows = subst (All IsFree) (sym drawn.rows_are)
-    (All-append IsFree head drawn.lines (suggestion_head-free r layout around.start around.first s) (lines_free r layout s shown drawn.lines drawn.are)) in
+    (All-append IsFree head lines_are (suggestion_head-free r layout around.start around.first s) (lines_free r layout s shown lines_are are)) in
     let shows : ShowsSuggestion r layout around found s (others head ++ after) = record {
       after = after;
       rows_are = refl;
@@ -129,21 +113,22 @@ suggestion_shown r layout around found s rows suggestible some room drawn =
       ];
       ordered = subst IsAscending (sym lines) (rising_ascends (first_given s) end (offered_lines s) (offered-ascends s));
       lines = lines;
-      order = names_of-named IsShown s shown drawn.lines drawn.are;
-      cells = cells_of-named IsShown s shown drawn.lines drawn.are ∙ drawn.cells;
-      signs = subst (AllZip (HasSign (suggestion_layout r layout s) s) shown) (sym (cells_of-named IsShown s shown drawn.lines drawn.are))
-          (signs_shown r layout around found s drawn.lines drawn.cells);
-      strokes = subst (AllZip (HasStrokes layout.decor layout.gutter) shown) (sym (cells_of-named IsShown s shown drawn.lines drawn.are))
-          (strokes_shown r layout s shown drawn.lines drawn.are);
-      removed = lines_removed-named IsShown s shown drawn.lines drawn.are ∙ all_take around s;
-      named = rows_named r layout s suggestible some (first_given s) shown drawn.lines (subst (AreRising (first_given s) end) (sym same) (offered-ascends s))
-          (all_own around s) drawn.are;
+      order = names_of-named IsShown s shown lines_are are;
+      cells = cells_of-named IsShown s shown lines_are are;
+      signs = subst (AllZip (HasSign (suggestion_layout r layout s) s) shown) (sym (cells_of-named IsShown s shown lines_are are))
+          (lines_each r layout around found s (HasSign (suggestion_layout r layout s) s) (body_signs (suggestion_layout r layout s) around.start s
+          (under_of r layout around.start found)) tt);
+      strokes = subst (AllZip (HasStrokes layout.decor layout.gutter) shown) (sym (cells_of-named IsShown s shown lines_are are))
+          (strokes_shown r layout s shown lines_are are);
+      removed = lines_removed-named IsShown s shown lines_are are ∙ all_take around s;
+      named = rows_named r layout s suggestible some (first_given s) shown lines_are (subst (AreRising (first_given s) end) (sym same) (offered-ascends s))
+          (all_own around s) are;
     } in
     record {
       part = others head ++ after;
-      value = ap (λ lines. others head ++ named_rows s shown lines) drawn.cells;
+      value = refl;
       cells = cells;
       shows = shows;
       free = All-unmapped IsFree (λ (row : NamedRow). row.cells) (others head ++ after) (subst (All IsFree) (sym cells) free);
-      one_line = suggestion_one_line r layout around found s rows drawn (all_own around s);
+      one_line = suggestion_one_line r layout around found s rows drawn are (all_own around s);
     }

@@ -1,6 +1,6 @@
 -- What the grids of a report hold: for each group its title and its elements, one below the other.
 use Rattle.std.specs.Prelude.{◌≡◌, ℕ, ◌+◌, ◌-◌, ◌≤◌, Bool, true, false, not, if◌then◌else◌, List, [], ◌∷◌, ◌++◌, Option, None, Some, length, map}
-use Rattle.std.specs.List.{AllZip, flat_map, slice_get, slice_index_or}
+use Rattle.std.specs.List.{flat_map, slice_get, slice_index_or}
 use Rattle.std.specs.Str.{IsUtf8}
 use Rattle.std.specs.Cow.{cow_str_bytes}
 use Rattle.snippet_style.specs.Cell.{Cell}
@@ -18,9 +18,8 @@ use Rattle.snippet_window.specs.Margin.{bounds_of}
 use Rattle.snippet_window.specs.Measures.{margin_of}
 use Rattle.snippet_strokes.specs.Snippet.{AreLinesShown}
 use Rattle.snippet_suggest.specs.declared.SuggestionLayout.{SuggestionLayout}
-use Rattle.snippet_suggest.specs.Given.{first_given, given_lines, given_text}
+use Rattle.snippet_suggest.specs.Given.{given_text}
 use Rattle.snippet_suggest.specs.RowOrder.{Ends}
-use Rattle.snippet_suggest.specs.SuggestionRows.{IsTail, Shows}
 use Rattle.snippet_suggest.specs.Suggested.{body_cells, cells_of as row_cells}
 use Rattle.snippet_suggest.specs.declared.SuggestionStart.{SuggestionStart}
 use Rattle.snippet_suggest.specs.declared.SuggestionStart.TheVariants as start
@@ -31,7 +30,7 @@ use Rattle.snippet_grid.specs.Layout.{Layout}
 use Rattle.annotate_snippets.specs.declared.renderer.graphic.GroupGrid.{GroupGrid}
 use Rattle.annotate_snippets.specs.declared.renderer.element_context.GroupPosition.{GroupPosition}
 use Rattle.annotate_snippets.specs.declared.renderer.element_context.ElementContext.{ElementContext}
-use Rattle.annotate_snippets.specs.Around.{closes_with, drawn_elements, file_of_group, is_end, next_of, position_of_group, context_at, suggestion_rows}
+use Rattle.annotate_snippets.specs.Around.{closes_with, drawn_elements, file_of_group, is_end, next_of, position_of_group, context_at}
 use Rattle.annotate_snippets.specs.Gutter.{code_after, depth_of_element, layout_of_group, line_numbers, numbered_source, width_wanted}
 use Rattle.annotate_snippets.specs.RowsWithoutSource.{cause_head, message_rows, origin_rows, rows_after_cause, suggestion_head, title_part}
 use Rattle.snippet_model.specs.declared.snippet.Title.{Title}
@@ -110,16 +109,12 @@ suggestion_lines r layout around found s =
     body_cells suggested around.start s (under_of r layout around.start found)
     ++ (if around.shared then [] else row_cells suggested s [] (Ends (not (is_end around.next))) ∷ [])
 
--- the rows of a suggestion, whose source and whose lines are UTF-8: that of its path, where it names that, and those of its lines, each
--- of which shows what the suggestion has there
+-- the rows of a suggestion, whose source and whose lines are UTF-8: that of its path, where it names that, and those of its lines
 pub record IsSuggestionDrawn (r : Renderer) (layout : Layout) (around : ElementContext) (found : List Cell) (s : Snippet Patch)
     (rows : List (List Cell)) : Type 0 where
   pub utf8 : IsUtf8 (cow_str_bytes s.source)
   pub given_utf8 : IsUtf8 (given_text s)
-  pub lines : List (List Cell)
-  pub rows_are : rows ≡ suggestion_head r layout around s ++ lines
-  pub are : AllZip (Shows (suggestion_layout r layout s) (s.line_start + first_given s) (given_lines s)) (suggestion_rows around s) lines
-  pub cells : lines ≡ suggestion_lines r layout around found s
+  pub rows_are : rows ≡ suggestion_head r layout around s ++ suggestion_lines r layout around found s
 
 -- the rows of an element, where this stands in the row in which the one before it ends
 abbrev pub IsElementDrawn : Renderer → Layout → ElementContext → List Cell → Element → List (List Cell) → Type 0
@@ -130,16 +125,17 @@ IsElementDrawn r layout around found (Origin origin) rows = rows ≡ origin_rows
 IsElementDrawn r layout around found (Padding padding) rows =
     rows ≡ padding_row layout.decor layout.gutter (is_end around.next) ∷ []
 
+-- the row that an element shares with the next one, if it does
+abbrev pub shared_row : Bool → List Cell → List (List Cell)
+shared_row shares row = if shares then row ∷ [] else []
+
 -- the rows of an element stand below some rows, and nothing else, but the row in which the next one begins, where it shares that: the
 -- one that the element ends with
 pub record AddsElement (r : Renderer) (layout : Layout) (around : ElementContext) (found : List Cell) (e : Element)
     (above new : List (List Cell)) : Type 0 where
   pub rows : List (List Cell)
-  pub tail : List (List Cell)
-  pub added : new ≡ above ++ (rows ++ tail)
   pub is : IsElementDrawn r layout around found e rows
-  pub ends : IsTail layout.decor layout.gutter around.shared tail
-  pub last : around.shared ≡ true → tail ≡ last_row r layout (not (is_end around.next)) (Some e) ∷ []
+  pub added : new ≡ above ++ (rows ++ shared_row around.shared (last_row r layout (not (is_end around.next)) (Some e)))
 
 -- each of these parts is the rows of one of these elements, which are all that a group draws, in order
 pub record AreElementsDrawn (r : Renderer) (layout : Layout) (place : GroupPosition) (file : Option (List ℕ)) (es : List Element)

@@ -1,5 +1,5 @@
 -- The characters of the glyphs of suggestions, and what is known of each.
-use Rattle.std.proofs.Common.{◌≡◌, ◌≤◌, ◌∷◌, [], true, false, codes, chars, refl, inl, inr, length, arith}
+use Rattle.std.proofs.Common.{Bool, ◌≡◌, ◌≤◌, ◌∷◌, [], true, false, codes, chars, refl, inl, inr, length, arith}
 use Rattle.std.specs.Char.{is_ascii_alphanumeric}
 use Rattle.std.specs.List.{list_all, list_any, slice_index_or}
 use Rattle.std.proofs.lemmas.Str.{chars-encodes}
@@ -9,13 +9,23 @@ use Rattle.snippet_style.specs.declared.glyphs.SuggestionGlyph.{SuggestionGlyph}
 use Rattle.snippet_style.specs.declared.glyphs.SuggestionGlyph.TheVariants.{Opening, Next, Leading, Closing, Kept, Alone, Changed, Added}
 use Rattle.snippet_text.specs.Normalized.{is_listed}
 use Rattle.snippet_style.specs.Glyphs.{suggestion_glyph_of}
-use Rattle.snippet_suggest.specs.SuggestionGlyphs.{is_sign}
 use Rattle.snippet_suggest.specs.SuggestionRows.{IsSign, is_stroke}
 
 -- the characters of the bytes that the code writes for `- `
 pub chars-minus : chars (45 ∷ 32 ∷ []) ≡ codes "- "
 unfolding lib.Utf8.encode
 chars-minus = chars-encodes (codes "- ") refl
+
+-- whether a glyph stands beside a line
+abbrev pub is_sign : SuggestionGlyph → Bool
+is_sign Opening = false
+is_sign Next = false
+is_sign Leading = false
+is_sign Closing = false
+is_sign Kept = true
+is_sign Alone = true
+is_sign Changed = true
+is_sign Added = true
 
 -- each has a character or two
 pub glyph_short : (decor : DecorStyle) (glyph : SuggestionGlyph) → length (suggestion_glyph_of decor glyph) ≤ 2

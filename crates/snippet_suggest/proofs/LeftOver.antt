@@ -1,20 +1,14 @@
 -- What stands beside a removed line: its number, what a row that was there held, and the end of a long number.
-use Rattle.std.proofs.Common.{◌≡◌, ◌⊎◌, ℕ, ◌-◌, ◌+◌, ◌^◌, ◌<◌, ◌≤◌, ◌%◌, true, List, [], ◌∷◌, All, chars, length, replicate, refl, sym, subst, arith, inl, inr}
+use Rattle.std.proofs.Common.{◌⊎◌, ℕ, ◌-◌, ◌+◌, ◌^◌, ◌<◌, ◌≤◌, ◌%◌, List, [], ◌∷◌, All, length, replicate, refl, arith, inl, inr}
 use Rattle.std.specs.Fmt.{decimal}
-use Rattle.std.specs.List.{slice_index_or}
-use Rattle.std.proofs.lemmas.Bool.{cases_lt}
 use Rattle.std.proofs.lemmas.Fmt.{decimal_by_steps}
 use Rattle.std.proofs.lemmas.List.{length-append, length-replicate}
 use Rattle.std.proofs.lemmas.List.Elements.{All-append, All-cons, All-nil, All-push, All-replicate}
 use Rattle.snippet_style.specs.declared.glyphs.DecorStyle.{DecorStyle}
-use Rattle.snippet_style.specs.declared.role.ElementStyle.TheVariants.{LineNumber}
-use Rattle.snippet_style.specs.Cell.{Cell, SPACE, text_cells, written}
-use Rattle.snippet_style.proofs.CellLemmas.{All-text_cells, length-text_cells, slice_index_or-written_after, slice_index_or-written_inside}
 use Rattle.snippet_lines.specs.Number.{set_right, shown_number}
 use Rattle.snippet_lines.specs.declared.number.LineNumbers.{LineNumbers}
 use Rattle.snippet_lines.specs.declared.number.LineNumbers.TheVariants.{Shown, Anonymized, Hidden}
-use Rattle.snippet_suggest.specs.SuggestionRows.{IsBeforeSign, IsLeftOver, IsMarkOrSpace, is_stroke}
-use Rattle.snippet_suggest.proofs.RowLemmas.{each_written, texted}
+use Rattle.snippet_suggest.specs.SuggestionRows.{IsBeforeSign, IsLeftOver}
 
 -- a number holds digits and spaces
 decimal_holds : (P : ℕ → Type 0) → ((d : ℕ) → d < 10 → P (48 + d)) → (n : ℕ) → n < 2 ^ 64 → All P (decimal n)
@@ -55,34 +49,3 @@ number_before decor Anonymized gutter number fits =
 number_before decor Hidden gutter number fits =
     let P : ℕ → Type 0 = IsBeforeSign Hidden decor in
     All-replicate P gutter 32 (inl refl)
-
--- what stands in the gutter of a row that showed no line, once a number was put into it
-pub before_sign : (numbers : LineNumbers) (decor : DecorStyle) (gutter : ℕ) (number : List ℕ) (row : List Cell)
-    → All (IsBeforeSign numbers decor) (chars number) → ((c : ℕ) → c < gutter + 3 → is_stroke decor (slice_index_or row c SPACE).ch ≡ true) → (c : ℕ)
-    → c < gutter + 3 → IsBeforeSign numbers decor (slice_index_or (texted number row 0 (text_cells LineNumber (chars number))) c SPACE).ch
-before_sign numbers decor gutter [] row number_is strokes c left = inl (strokes c left)
-before_sign numbers decor gutter (b ∷ bs) row number_is strokes c left =
-    let P : Cell → Type 0 = λ cell. IsBeforeSign numbers decor cell.ch in
-    each_written P row 0 (gutter + 3) (text_cells LineNumber (chars (b ∷ bs))) (λ k inside.
-    inl (strokes k inside)) (All-text_cells P LineNumber (chars (b ∷ bs)) number_is) c left
-
--- what stands after the gutter of a row that showed no line, once a number was put into it
-pub left_over : (decor : DecorStyle) (gutter : ℕ) (number : List ℕ) (row : List Cell) → StaysLeft decor gutter (chars number)
-    → ((c : ℕ) → gutter + 3 ≤ c → IsMarkOrSpace decor (slice_index_or row c SPACE).ch) → (c : ℕ) → gutter + 3 ≤ c
-    → IsLeftOver decor (slice_index_or (texted number row 0 (text_cells LineNumber (chars number))) c SPACE).ch
-left_over decor gutter [] row number_is marks c right = inl (marks c right)
-left_over decor gutter (b ∷ bs) row number_is marks c right =
-    let P : Cell → Type 0 = λ cell. IsLeftOver decor cell.ch in
-    let cells : List Cell = text_cells LineNumber (chars (b ∷ bs)) in
-    let here : 0 + c ≡ c = omega arith in
-    elim (cases_lt c (length cells)) [
-      | inl inside ↦
-          let there : P (slice_index_or cells c SPACE) = elim number_is [
-            | inl left ↦ All-text_cells P LineNumber (chars (b ∷ bs)) left c SPACE inside
-            | inr short ↦ absurd (omega (arith, short, inside, right, length-text_cells LineNumber (chars (b ∷ bs))))
-          ] in
-          subst (λ (k : ℕ). P (slice_index_or (written SPACE row 0 cells) k SPACE)) here
-          (subst P (sym (slice_index_or-written_inside SPACE row 0 cells c SPACE inside)) there)
-      | inr past ↦
-          subst P (sym (slice_index_or-written_after SPACE row 0 cells c SPACE (omega (arith, past)))) (inl (marks c right))
-    ]

@@ -25,7 +25,7 @@ use Rattle.snippet_suggest.specs.declared.kind.DisplaySuggestion.TheVariants.{Di
 use Rattle.snippet_suggest.specs.declared.layout.SuggestionStart.TheVariants.{Next, Opening, Path}
 use Rattle.snippet_suggest.specs.Cells.{begin_cells, end_cells, gap_cells, line_cells, offered_cells, put, removed_cells, sign_of, with_stretches}
 use Rattle.snippet_suggest.specs.SuggestionRows.{end_glyph}
-use Rattle.snippet_suggest.proofs.TailLemmas.{skipped_written}
+use Rattle.std.proofs.lemmas.List.{get_or_past, places, same_lists}
 use Rattle.snippet_style.specs.Glyphs.{suggestion_glyph_of, suggestion_role_of}
 
 -- a text that isn't empty has characters
@@ -112,7 +112,7 @@ glyph_some Unicode sign.Alone = λ none. cc
 glyph_some Unicode sign.Changed = λ none. cc
 glyph_some Unicode sign.Added = λ none. cc
 
-placeholder_some : (decor : DecorStyle) → placeholder_of decor ≢ []
+pub placeholder_some : (decor : DecorStyle) → placeholder_of decor ≢ []
 placeholder_some Ascii = λ none. cc
 placeholder_some Unicode = λ none. cc
 
@@ -188,6 +188,16 @@ offered_is layout kind glyph count counted number numbered line text ss new sign
     ∙ ap (sign_of kind counted text) stretches in
     ap (λ t. Row t ss glyph number) lines ∙ ap (λ es. Row text es glyph number) stretches ∙ ap (λ g. Row text new g number) signed
     ∙ ap (Row text new (sign_of kind counted text new)) numbers
+
+-- writing so many rows below all
+skipped_written : (rows : List (List Cell)) (skipped at : ℕ) (cells : List Cell)
+    → cells_written rows (length rows + skipped) at cells ≡ rows ++ (replicate skipped [] ++ written SPACE [] at cells ∷ [])
+skipped_written rows skipped at cells =
+    ap (λ (row : List Cell). written [] rows (length rows + skipped) (written SPACE row at cells ∷ []))
+    (get_or_past rows (length rows + skipped) [] (omega arith)) ∙ filled (written SPACE [] at cells)
+  where
+    filled : (row : List Cell) → written [] rows (length rows + skipped) (row ∷ []) ≡ rows ++ (replicate skipped [] ++ row ∷ [])
+    filled row = same_lists _ _ (unfold written in grind (arith, places)) (λ k d h. unfold written in grind (arith, places))
 
 -- a glyph that was drawn below all rows and so many empty ones
 pub glyph_below : (role : ElementStyle) (decor : DecorStyle) (glyph : SuggestionGlyph) (cs : List ℕ) (at r skipped : ℕ) (old new : List (List Cell))

@@ -1,21 +1,48 @@
 -- A row whose cells get other roles shows what it showed.
 use Rattle.std.proofs.Common.{◌≡◌, ℕ, ◌+◌, ◌<◌, true, false, Option, None, List, ◌∷◌, [], length, take, drop, map, get_or, refl, sym, ap, ◌∙◌, arith, subst}
-use Rattle.std.proofs.Common.{chars}
+use Rattle.std.proofs.Common.{◌++◌, ◌-◌, chars, max}
 use Rattle.std.proofs.Math.ListN.{get_or-map}
-use Rattle.std.proofs.lemmas.List.{drop-map, take-map, length-map}
+use Rattle.std.proofs.lemmas.List.{drop-map, length-map, map-append, places, same_lists, take-map}
 use Rattle.snippet_text.specs.Normalized.{is_listed, norm}
 use Rattle.snippet_style.specs.declared.glyphs.DecorStyle.{DecorStyle}
 use Rattle.std.specs.Char.{is_ascii_alphanumeric}
 use Rattle.snippet_style.specs.Cell.{Cell, SPACE}
+use Rattle.snippet_style.specs.declared.role.ElementStyle.{ElementStyle}
+use Rattle.snippet_grid.specs.Grid.{changed_within, restyled}
 use Rattle.snippet_grid.specs.Print.{row_text}
 use Rattle.snippet_model.specs.FreeRows.{IsFree}
 use Rattle.snippet_lines.specs.Number.{shown_number}
 use Rattle.snippet_lines.specs.declared.number.LineNumbers.{LineNumbers}
 use Rattle.snippet_suggest.specs.declared.layout.SuggestionLayout.{SuggestionLayout}
 use Rattle.snippet_suggest.specs.RowOrder.{Begins, Empty, Ends, Offers, Removes, Skips, SuggestionRow, number_after}
-use Rattle.snippet_suggest.specs.SuggestionRows.{without_role, AddsRow, IsBareRow, IsBeforeSign, IsLeftOver, IsLineRow, IsRemovedRow, IsRepainted}
-use Rattle.snippet_suggest.specs.SuggestionRows.{IsRowOfRemoved}
+use Rattle.snippet_suggest.specs.SuggestionRows.{IsBareRow, IsBeforeSign, IsLeftOver, IsLineRow, IsRemovedRow}
 use Rattle.snippet_suggest.specs.SuggestionRows.{IsMarkOrSpace, IsSign, IsEdgeRow, Shows, begin_glyph, beside_gutter, end_glyph, gap_left, is_stroke}
+
+-- the character and the link of a cell, whatever its role
+abbrev pub without_role : Cell → ℕ × Option (List ℕ)
+without_role cell = (cell.ch, cell.link)
+
+-- a cell in another role
+restyled_same : (role : ElementStyle) (cells : List Cell) → map without_role (map (restyled role true) cells) ≡ map without_role cells
+restyled_same role [] = refl
+restyled_same role (cell ∷ cells) = ap (λ (t : List (ℕ × Option (List ℕ))). without_role cell ∷ t) (restyled_same role cells)
+
+-- the parts of a list
+parts_whole : (xs : List Cell) (start end : ℕ) → take start xs ++ take (end - start) (drop start xs) ++ drop (max start end) xs ≡ xs
+parts_whole xs start end = same_lists _ _ (grind (arith, places)) (λ k d h. grind (arith, places))
+
+-- restyled cells are the same but for their role
+pub changed_same : (role : ElementStyle) (xs : List Cell) (start end : ℕ)
+    → map without_role (changed_within (restyled role true) start end xs) ≡ map without_role xs
+unfolding changed_within
+changed_same role xs start end =
+    let a = take start xs in
+    let b = take (end - start) (drop start xs) in
+    let c = drop (max start end) xs in
+    let w = without_role in
+    map-append w (a ++ map (restyled role true) b) c ∙ ap (λ t. t ++ map w c)
+    (map-append w a (map (restyled role true) b) ∙ ap (λ t. map w a ++ t) (restyled_same role b) ∙ sym (map-append w a b)) ∙ sym (map-append w (a ++ b) c)
+    ∙ ap (map w) (parts_whole xs start end)
 
 -- two rows hold the same characters and links
 abbrev pub AreSame : List Cell → List Cell → Type 0
@@ -26,8 +53,12 @@ same_cell : (xs ys : List Cell) (c : ℕ) → AreSame xs ys → without_role (ge
 same_cell xs ys c same =
     sym (get_or-map without_role xs c SPACE) ∙ ap (λ zs. get_or zs c (without_role SPACE)) same ∙ get_or-map without_role ys c SPACE
 
+-- and each character is the other's
+pub same_ch : (c : ℕ) (xs ys : List Cell) → AreSame xs ys → (get_or xs c SPACE).ch ≡ (get_or ys c SPACE).ch
+same_ch c xs ys same = ap (λ (p : ℕ × Option (List ℕ)). p.0) (same_cell xs ys c same)
+
 -- what holds of a cell's character holds of the other's
-same_char : (P : ℕ → Type 0) (xs ys : List Cell) (c : ℕ) → AreSame xs ys → P (get_or ys c SPACE).ch → P (get_or xs c SPACE).ch
+pub same_char : (P : ℕ → Type 0) (xs ys : List Cell) (c : ℕ) → AreSame xs ys → P (get_or ys c SPACE).ch → P (get_or xs c SPACE).ch
 same_char P xs ys c same =
     subst P (ap (λ (p : ℕ × Option (List ℕ)). p.0) (sym (same_cell xs ys c same)))
 
@@ -76,7 +107,7 @@ same_stroke decor gutter left now last same is =
       left_is = λ c inside. same_char (λ ch. ch ≡ get_or left c 32) now last c same (is.left_is c inside);
     }
 
-same_removed : (numbers : LineNumbers) (decor : DecorStyle) (gutter : ℕ) (number text : List ℕ) (now last : List Cell) → AreSame now last
+pub same_removed : (numbers : LineNumbers) (decor : DecorStyle) (gutter : ℕ) (number text : List ℕ) (now last : List Cell) → AreSame now last
     → IsRemovedRow numbers decor gutter number text last → IsRemovedRow numbers decor gutter number text now
 same_removed numbers decor gutter number text now last same is =
     let n : ℕ = length text in
@@ -91,7 +122,7 @@ same_removed numbers decor gutter number text now last same is =
       free = same_free now last same is.free;
     }
 
-same_line : (decor : DecorStyle) (gutter : ℕ) (number text : List ℕ) (now last : List Cell) → AreSame now last → IsLineRow decor gutter number text last
+pub same_line : (decor : DecorStyle) (gutter : ℕ) (number text : List ℕ) (now last : List Cell) → AreSame now last → IsLineRow decor gutter number text last
     → IsLineRow decor gutter number text now
 same_line decor gutter number text now last same is =
     record {
@@ -103,7 +134,7 @@ same_line decor gutter number text now last same is =
       free = same_free now last same is.free;
     }
 
-same_shows : (layout : SuggestionLayout) (first : ℕ) (lines : List (List ℕ)) (shown : SuggestionRow) (now last : List Cell) → AreSame now last
+pub same_shows : (layout : SuggestionLayout) (first : ℕ) (lines : List (List ℕ)) (shown : SuggestionRow) (now last : List Cell) → AreSame now last
     → Shows layout first lines shown last → Shows layout first lines shown now
 same_shows layout first lines (Begins start) now last same is =
     same_stroke layout.base.decor layout.base.gutter (beside_gutter layout.base.gutter (begin_glyph layout.base.decor start)) now last same is
@@ -118,33 +149,3 @@ same_shows layout first lines (Removes i number text) now last same is =
 same_shows layout first lines Empty now last same is = same_stroke layout.base.decor layout.base.gutter [] now last same is
 same_shows layout first lines (Ends follows) now last same is =
     same_stroke layout.base.decor layout.base.gutter (beside_gutter layout.base.gutter (end_glyph layout.base.decor follows)) now last same is
-
--- so a row that was added and then painted is added
-row_repainted : (P : List Cell → Type 0) → ((now last : List Cell) → AreSame now last → P last → P now)
-    → (old mid new : List (List Cell)) (adds : AddsRow P old mid) → IsRepainted old adds.row new → AddsRow P old new
-row_repainted P stays old mid new adds painted =
-    record {
-      row = painted.now;
-      added = painted.is;
-      is = stays painted.now adds.row painted.same adds.is;
-    }
-
--- the row of a removed line that is repainted is its row still
-pub removed_repainted : (layout : SuggestionLayout) (line : ℕ × List ℕ) (old mid new : List (List Cell)) (adds : AddsRow (IsRowOfRemoved layout line) old mid)
-    → IsRepainted old adds.row new → AddsRow (IsRowOfRemoved layout line) old new
-removed_repainted layout line old mid new adds painted =
-    let number : List ℕ = shown_number layout.numbers layout.base.gutter line.0 in
-    row_repainted (IsRowOfRemoved layout line) (same_removed layout.numbers layout.base.decor layout.base.gutter number
-    (norm (chars line.1))) old mid new adds painted
-
--- a row of a suggestion that is repainted shows the same still
-pub shows_repainted : (layout : SuggestionLayout) (first : ℕ) (lines : List (List ℕ)) (shown : SuggestionRow) (old mid new : List (List Cell))
-    (adds : AddsRow (Shows layout first lines shown) old mid) → IsRepainted old adds.row new → AddsRow (Shows layout first lines shown) old new
-shows_repainted layout first lines shown old mid new adds painted = row_repainted (Shows layout first lines shown)
-    (same_shows layout first lines shown) old mid new adds painted
-
--- the row of a line that is repainted is its row still
-pub line_repainted : (decor : DecorStyle) (gutter : ℕ) (number text : List ℕ) (old mid new : List (List Cell))
-    (adds : AddsRow (IsLineRow decor gutter number text) old mid) → IsRepainted old adds.row new → AddsRow (IsLineRow decor gutter number text) old new
-line_repainted decor gutter number text old mid new adds painted = row_repainted (IsLineRow decor gutter number text)
-    (same_line decor gutter number text) old mid new adds painted

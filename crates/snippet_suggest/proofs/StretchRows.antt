@@ -17,7 +17,24 @@ use Rattle.snippet_suggest.specs.declared.roles.TabCursor.{TabCursor}
 use Rattle.snippet_suggest.specs.Cells.{stretch_cell, with_stretches}
 use Rattle.snippet_suggest.specs.Cursor.{IsCursor}
 use Rattle.std.proofs.lemmas.List.{length-drop, places, same_lists, take_all, take_more}
-use Rattle.snippet_suggest.proofs.PaintLemmas.{changed_last}
+use Rattle.std.proofs.Common.{set}
+use Rattle.std.proofs.lemmas.List.{get_or_at, length-append}
+use Rattle.snippet_grid.proofs.ChangeLemmas.{changed_within_one}
+
+-- ---- the last row of some
+
+set_last : (above : List (List Cell)) (row new : List Cell) → set (above ++ row ∷ []) (length above) new ≡ above ++ new ∷ []
+set_last [] row new = refl
+set_last (x ∷ above) row new = ap (λ t. x ∷ t) (set_last above row new)
+
+-- the last row of some
+changed_last : (f : List Cell → List Cell) (above : List (List Cell)) (row : List Cell)
+    → changed_within f (length above) (length above + 1) (above ++ row ∷ []) ≡ above ++ f row ∷ []
+changed_last f above row =
+    let rows = above ++ row ∷ [] in
+    let r = length above in
+    let within : r < length rows = omega (arith, length-append above (row ∷ [])) in
+    changed_within_one f r rows row within ∙ ap (λ x. set rows r (f x)) (get_or_at above row [] row r refl) ∙ set_last above row (f row)
 
 -- ---- the walk
 

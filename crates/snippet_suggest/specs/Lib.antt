@@ -1,7 +1,6 @@
 pub mod Cells
 pub mod Cursor
 pub mod Given
-pub mod SuggestionGlyphs
 pub mod Kind
 pub mod Marks
 pub mod Moves

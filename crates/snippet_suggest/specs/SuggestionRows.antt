@@ -1,8 +1,8 @@
 -- What the rows of a suggestion show.
-use Rattle.std.specs.Prelude.{◌≡◌, ◌⊎◌, ℕ, ◌+◌, ◌-◌, ◌<◌, ◌≤◌, ◌==◌, Bool, true, false, Option, List, [], ◌∷◌, ◌++◌, length, map, replicate, take, drop, chars}
+use Rattle.std.specs.Prelude.{◌≡◌, ◌⊎◌, ℕ, ◌+◌, ◌-◌, ◌<◌, ◌≤◌, ◌==◌, Bool, true, false, List, [], ◌∷◌, ◌++◌, length, replicate, take, drop, chars}
 use Rattle.std.specs.Prelude.{if◌then◌else◌, codes}
 use Rattle.std.specs.Char.{is_ascii_alphanumeric}
-use Rattle.std.specs.List.{AllZip, list_any, slice_index_or}
+use Rattle.std.specs.List.{list_any, slice_index_or}
 use Rattle.snippet_model.specs.declared.snippet.Snippet.{Snippet}
 use Rattle.snippet_model.specs.declared.snippet.Patch.{Patch}
 use Rattle.snippet_style.specs.declared.glyphs.DecorStyle.{DecorStyle}
@@ -20,8 +20,8 @@ use Rattle.snippet_suggest.specs.declared.layout.SuggestionStart.{SuggestionStar
 use Rattle.snippet_suggest.specs.declared.layout.SuggestionStart.TheVariants.{Opening, Next, Path}
 use Rattle.snippet_suggest.specs.declared.shown.SuggestionLine.{SuggestionLine}
 use Rattle.snippet_suggest.specs.declared.shown.SuggestionLine.TheVariants.{Line, Gap}
-use Rattle.snippet_suggest.specs.Given.{counted_line, first_given, given_lines}
-use Rattle.snippet_suggest.specs.RowOrder.{Begins, Empty, Ends, Offers, Removes, Skips, SuggestionRow, number_after, rows_of_suggestion}
+use Rattle.snippet_suggest.specs.Given.{counted_line}
+use Rattle.snippet_suggest.specs.RowOrder.{Begins, Empty, Ends, Offers, Removes, Skips, SuggestionRow, number_after}
 use Rattle.snippet_style.specs.declared.glyphs.SuggestionGlyph.TheVariants as sign
 use Rattle.snippet_style.specs.Glyphs.{changed_mark_of, suggestion_glyph_of}
 use Rattle.snippet_grid.specs.Layout.{separator_cell}
@@ -120,35 +120,6 @@ pub record IsEdgeRow (decor : DecorStyle) (gutter : ℕ) (left : List ℕ) (row 
   pub bare : IsBareRow decor gutter row
   pub left_is : HasLeft gutter left row
 
--- one row of this kind was added below the rows that are there
-pub record AddsRow (P : List Cell → Type 0) (old new : List (List Cell)) : Type 0 where
-  pub row : List Cell
-  pub added : new ≡ old ++ row ∷ []
-  pub is : P row
-
--- the character and the link of a cell, whatever its role
-abbrev pub without_role : Cell → ℕ × Option (List ℕ)
-without_role cell = (cell.ch, cell.link)
-
--- the last row has cells in other roles now, and nothing else changed
-pub record IsRepainted (above : List (List Cell)) (last : List Cell) (new : List (List Cell)) : Type 0 where
-  pub now : List Cell
-  pub is : new ≡ above ++ now ∷ []
-  pub same : map without_role now ≡ map without_role last
-
--- the row that a line of some is shown by, the first of which has this number; and one that shows none of them
-abbrev pub IsShownRow : SuggestionLayout → ℕ → List (List ℕ) → SuggestionLine → List Cell → Type 0
-IsShownRow layout first lines (Line k) row =
-    IsLineRow layout.base.decor layout.base.gutter (shown_number layout.numbers layout.base.gutter (number_after first k))
-    (norm (chars (slice_index_or lines k []))) row
-IsShownRow layout first lines Gap row = IsEdgeRow layout.base.decor layout.base.gutter (gap_left layout.base.decor layout.base.gutter) row
-
--- rows for these, one each, stand below some rows, and nothing else
-pub record AddsShown (layout : SuggestionLayout) (first : ℕ) (lines : List (List ℕ)) (shown : List SuggestionLine) (above new : List (List Cell)) : Type 0 where
-  pub rows : List (List Cell)
-  pub added : new ≡ above ++ rows
-  pub are : AllZip (IsShownRow layout first lines) shown rows
-
 -- a row of a line that is removed, with this number beside it, and this text
 abbrev pub IsRowOfRemoved : SuggestionLayout → ℕ × List ℕ → List Cell → Type 0
 IsRowOfRemoved layout line row =
@@ -158,43 +129,21 @@ IsRowOfRemoved layout line row =
 abbrev pub Shows : SuggestionLayout → ℕ → List (List ℕ) → SuggestionRow → List Cell → Type 0
 Shows layout first lines (Begins start) row =
     IsEdgeRow layout.base.decor layout.base.gutter (beside_gutter layout.base.gutter (begin_glyph layout.base.decor start)) row
-Shows layout first lines (Offers k) row = IsShownRow layout first lines (Line k) row
-Shows layout first lines Skips row = IsShownRow layout first lines Gap row
+Shows layout first lines (Offers k) row =
+    IsLineRow layout.base.decor layout.base.gutter (shown_number layout.numbers layout.base.gutter (number_after first k))
+    (norm (chars (slice_index_or lines k []))) row
+Shows layout first lines Skips row =
+    IsEdgeRow layout.base.decor layout.base.gutter (gap_left layout.base.decor layout.base.gutter) row
 Shows layout first lines (Removes i number text) row = IsRowOfRemoved layout (number, text) row
 Shows layout first lines Empty row = IsEdgeRow layout.base.decor layout.base.gutter [] row
 Shows layout first lines (Ends follows) row =
     IsEdgeRow layout.base.decor layout.base.gutter (beside_gutter layout.base.gutter (end_glyph layout.base.decor follows)) row
-
--- rows that show these, one each, stand below some rows, and nothing else
-pub record AddsRows (layout : SuggestionLayout) (first : ℕ) (lines : List (List ℕ)) (shown : List SuggestionRow) (above new : List (List Cell)) : Type 0 where
-  pub rows : List (List Cell)
-  pub added : new ≡ above ++ rows
-  pub are : AllZip (Shows layout first lines) shown rows
-
--- a row for each of these lines, which are removed, stands below some rows, and nothing else
-pub record AddsRemoved (layout : SuggestionLayout) (removed : List (ℕ × List ℕ)) (above new : List (List Cell)) : Type 0 where
-  pub rows : List (List Cell)
-  pub added : new ≡ above ++ rows
-  pub are : AllZip (IsRowOfRemoved layout) removed rows
-
--- a last row with this glyph stands below some rows and so many empty ones
-pub record AddsEnd (layout : SuggestionLayout) (glyph : List ℕ) (skipped : ℕ) (above new : List (List Cell)) : Type 0 where
-  pub last : List Cell
-  pub added : new ≡ above ++ (replicate skipped [] ++ last ∷ [])
-  pub is : IsEdgeRow layout.base.decor layout.base.gutter (beside_gutter layout.base.gutter glyph) last
 
 -- the number of a line that is shown stands left of the sign
 abbrev pub NumberFits : SuggestionLayout → ℕ → SuggestionLine → Type 0
 NumberFits layout first (Line k) =
     length (shown_number layout.numbers layout.base.gutter (number_after first k)) ≤ separator_cell layout.base
 NumberFits layout first Gap = Unit {0}
-
--- what stands below the rows above an element: the row in which it begins, if it shares that with a suggestion before it, which
--- ends with it, else nothing
-abbrev pub IsTail : DecorStyle → ℕ → Bool → List (List Cell) → Type 0
-IsTail decor gutter true tail =
-    (row : List Cell) × (follows : Bool) × (tail ≡ row ∷ []) × IsEdgeRow decor gutter (beside_gutter gutter (end_glyph decor follows)) row
-IsTail decor gutter false tail = tail ≡ []
 
 -- whether a suggestion begins in a row that is there
 abbrev pub begins_in_last : SuggestionStart → Bool
@@ -206,23 +155,13 @@ begins_in_last Path = true
 abbrev pub rows_shared : SuggestionStart → ℕ
 rows_shared start = if begins_in_last start then 1 else 0
 
--- what a suggestion finds below the rows above it
-abbrev pub IsStart : SuggestionLayout → SuggestionStart → List (List Cell) → Type 0
-IsStart layout Opening tail = tail ≡ []
-IsStart layout Next tail = IsTail layout.base.decor layout.base.gutter true tail
-IsStart layout Path tail =
-    (row : List Cell) × (tail ≡ row ∷ []) × IsEdgeRow layout.base.decor layout.base.gutter
-    (beside_gutter layout.base.gutter (begin_glyph layout.base.decor Path)) row
-
--- the rows of a suggestion stand below some rows, and nothing else, each of which shows what the suggestion has there; the last is
--- what it ends with, in which a further suggestion may begin
-pub record AddsSuggestion (layout : SuggestionLayout) (start : SuggestionStart) (follows : Bool) (s : Snippet Patch)
-    (above new : List (List Cell)) : Type 0 where
-  pub rows : List (List Cell)
-  pub last : List Cell
-  pub added : new ≡ above ++ (rows ++ last ∷ [])
-  pub are : AllZip (Shows layout (s.line_start + first_given s) (given_lines s)) (rows_of_suggestion start s) rows
-  pub last_is : Shows layout (s.line_start + first_given s) (given_lines s) (Ends follows) last
+-- what the first row of a suggestion is drawn over: a row with no cells, the last row of a suggestion before, or the row that sets its
+-- path off
+abbrev pub IsUnder : DecorStyle → ℕ → SuggestionStart → List Cell → Type 0
+IsUnder decor gutter Opening row = row ≡ []
+IsUnder decor gutter Next row =
+    (follows : Bool) × IsEdgeRow decor gutter (beside_gutter gutter (end_glyph decor follows)) row
+IsUnder decor gutter Path row = IsEdgeRow decor gutter (beside_gutter gutter (begin_glyph decor Path)) row
 
 -- the gutter has room for the number that a suggestion counts
 abbrev pub HasGutter : SuggestionLayout → Snippet Patch → Type 0

@@ -1,15 +1,12 @@
 //! A suggestion that is shown as the lines that are removed, and the one line that stands in their place.
-ghost use Rattle.std.specs.Prelude.{◌≡◌, ℕ, ◌<◌, ◌^◌, ◌-◌, ◌++◌, ◌∷◌, [], List, true, false, OnOk, chars, length};
+ghost use Rattle.std.specs.Prelude.{◌≡◌, ◌<◌, ◌-◌, ◌++◌, ◌∷◌, [], List, true, false, OnOk, chars, length};
 ghost use Rattle.snippet_style.specs.declared.role.ElementStyle.TheVariants.{Addition};
 ghost use Rattle.snippet_splice.specs.EditStretches.{line_stretches};
 ghost use Rattle.snippet_suggest.specs.Cells.{diff_cells, offered_cells, taken_cells, with_stretches};
 ghost use Rattle.std.specs.Str.{bytes_eq};
 ghost use Rattle.snippet_style.specs.Cell.{Cell};
 ghost use Rattle.snippet_suggest.specs.declared.kind.DisplaySuggestion.TheVariants.{Diff};
-ghost use Rattle.snippet_suggest.specs.declared.shown.SuggestionLine.TheVariants.{Line};
-ghost use Rattle.snippet_suggest.specs.Given.{is_left_out, last_removed, texts_at, unless_stays};
-ghost use Rattle.snippet_suggest.specs.SuggestionRows.{AddsRemoved, AddsRows, IsRepainted, NumberFits, Shows};
-ghost use Rattle.snippet_suggest.specs.RowOrder.{Offers, SuggestionRow, changed_rows, counted_from, removed_from};
+ghost use Rattle.snippet_suggest.specs.Given.{is_left_out, last_removed};
 
 use crate::kind::is_blank;
 use crate::layout::SuggestionLayout;
@@ -44,13 +41,6 @@ pub(crate) fn draw_diff(
     added: &[SubstitutionHighlight],
 ) -> Result<(), AllocError>
     requires some { 0 < length removed.now }
-    // Below the row that the suggestion begins with, in which roles may change.
-    ensures added { let left = unless_stays (bytes_eq line.now (last_removed removed.now)) (texts_at removed.now) in
-        (above : List (List Cell)) (last : List Cell) (begin : SuggestionRow) (i : ℕ) → buffer.old ≡ above ++ last ∷ []
-        → Shows layout.now first (line.now ∷ []) begin last → NumberFits layout.now first (Line 0)
-        → OnOk result (AddsRows layout.now first (line.now ∷ []) (begin ∷ changed_rows true
-        (is_left_out Diff (line.now ∷ []) (last_removed removed.now))
-        (removed_from i (counted_from first 0 left))) above buffer.new) }
     ensures cells { (above : List (List Cell)) (last : List Cell) → buffer.old ≡ above ++ last ∷ []
         → OnOk result (buffer.new ≡ above ++ diff_cells layout.now first removed.now
         (line_stretches replaced.now) line.now added.now last) }
@@ -77,10 +67,6 @@ fn draw_diff_line(
     left_out: bool,
     added: &[SubstitutionHighlight],
 ) -> Result<(), AllocError>
-    ensures left { (above : List (List Cell)) (last : List Cell) → left_out ≡ true → buffer.old ≡ above ++ last ∷ []
-        → OnOk result (IsRepainted above last buffer.new) }
-    ensures added { left_out ≡ false → NumberFits layout.now first (Line 0)
-        → OnOk result (AddsRows layout.now first (line.now ∷ []) (Offers 0 ∷ []) buffer.old buffer.new) }
     ensures left_cells { (above : List (List Cell)) (last : List Cell) → left_out ≡ true → buffer.old ≡ above
         ++ last ∷ []
         → OnOk result (buffer.new ≡ above ++ with_stretches Addition layout.now.base.gutter
@@ -102,8 +88,6 @@ fn paint_last(
     stretches: &[SubstitutionHighlight],
     role: ElementStyle,
 ) -> Result<(), AllocError>
-    ensures repaints { (above : List (List Cell)) (last : List Cell) → buffer.old ≡ above ++ last ∷ []
-        → OnOk result (IsRepainted above last buffer.new) }
     ensures cells { (above : List (List Cell)) (last : List Cell) → buffer.old ≡ above ++ last ∷ []
         → OnOk result (buffer.new ≡ above ++ with_stretches role layout.now.base.gutter
         (chars line.now) stretches.now last ∷ []) }
@@ -150,8 +134,6 @@ fn draw_diff_removed(
     removed: &[LineInfo<'_>],
     replaced: &[Vec<SubstitutionHighlight>],
 ) -> Result<(), AllocError>
-    ensures added { OnOk result (AddsRemoved layout.now (counted_from first 0
-        (texts_at removed.now)) buffer.old buffer.new) }
     ensures cells { OnOk result (buffer.new ≡ buffer.old
         ++ taken_cells layout.now first (line_stretches replaced.now) 0 removed.now) }
 {

@@ -1,10 +1,8 @@
 //! The rows that a suggestion begins and ends with.
-ghost use Rattle.std.specs.Prelude.{◌≡◌, ℕ, ◌<◌, ◌≤◌, ◌+◌, ◌++◌, ◌∷◌, [], Bool, true, false, List, IfOk, OnOk};
+ghost use Rattle.std.specs.Prelude.{◌≡◌, ℕ, ◌<◌, ◌≤◌, ◌+◌, ◌++◌, ◌∷◌, [], List, IfOk, OnOk};
 ghost use Rattle.std.specs.Prelude.{length, replicate};
 ghost use Rattle.snippet_style.specs.Glyphs.{suggestion_glyph_of};
-ghost use Rattle.snippet_suggest.specs.SuggestionGlyphs.{is_begin, is_sign};
-ghost use Rattle.snippet_suggest.specs.SuggestionRows.{AddsEnd, AddsRow, IsStart, IsEdgeRow, IsTail, begin_glyph};
-ghost use Rattle.snippet_suggest.specs.SuggestionRows.{beside_gutter, end_glyph, rows_shared};
+ghost use Rattle.snippet_suggest.specs.SuggestionRows.{end_glyph, rows_shared};
 ghost use Rattle.snippet_suggest.specs.Cells.{begin_cells, end_cells, put};
 ghost use Rattle.snippet_style.specs.declared.role.ElementStyle.TheVariants.{LineNumber};
 ghost use Rattle.snippet_grid.specs.Grid.{row_at};
@@ -35,9 +33,6 @@ pub(crate) fn draw_head(
     layout: &SuggestionLayout,
     start: SuggestionStart,
 ) -> Result<(), AllocError>
-    ensures added { (above tail : List (List Cell)) → buffer.old ≡ above ++ tail → IsStart layout.now start tail
-        → OnOk result (AddsRow (IsEdgeRow layout.now.base.decor layout.now.base.gutter
-        (beside_gutter layout.now.base.gutter (begin_glyph layout.now.base.decor start))) above buffer.new) }
     ensures cells { (above tail : List (List Cell)) → buffer.old ≡ above ++ tail → length tail ≡ rows_shared start
         → OnOk result (buffer.new ≡ above ++ begin_cells layout.now start (row_at tail 0) ∷ []) }
 {
@@ -60,14 +55,6 @@ fn draw_glyph(
     glyph: SuggestionGlyph,
 ) -> Result<(), AllocError>
     requires row { HasNext row }
-    ensures added { is_begin glyph ≡ true → (above tail : List (List Cell)) (shares : Bool) → row ≡ length above
-        → buffer.old ≡ above ++ tail
-        → IsTail layout.now.base.decor layout.now.base.gutter shares tail
-        → OnOk result (AddsRow (IsEdgeRow layout.now.base.decor layout.now.base.gutter
-        (beside_gutter layout.now.base.gutter (suggestion_glyph_of layout.now.base.decor glyph))) above buffer.new) }
-    ensures end { is_sign glyph ≡ false → (skipped : ℕ) → row ≡ length buffer.old + skipped
-        → OnOk result (AddsEnd layout.now (suggestion_glyph_of layout.now.base.decor glyph) skipped
-        buffer.old buffer.new) }
     ensures over { (above tail : List (List Cell)) → row ≡ length above → buffer.old ≡ above ++ tail → length tail ≤ 1
         → OnOk result (buffer.new ≡ above ++ put LineNumber (suggestion_glyph_of layout.now.base.decor glyph)
         (separator_cell layout.now.base) (row_at tail 0) ∷ []) }
@@ -102,8 +89,6 @@ pub(crate) fn draw_end(
     follows: bool,
 ) -> Result<usize, AllocError>
     requires few { skipped < 2 }
-    ensures added { OnOk result (AddsEnd layout.now (end_glyph layout.now.base.decor follows) skipped buffer.old
-        buffer.new) }
     ensures cells { OnOk result (buffer.new ≡ (buffer.old ++ replicate skipped [])
         ++ end_cells layout.now follows ∷ []) }
     ensures row { IfOk result (λ row. (row ≡ length buffer.old + skipped) × HasNext row) }
@@ -115,7 +100,6 @@ pub(crate) fn draw_end(
 
 /// The glyph of the row that a suggestion ends with, before a further element or not.
 fn end_glyph(follows: bool) -> SuggestionGlyph
-    ensures other { is_sign result ≡ false }
     ensures value { (decor : DecorStyle) → suggestion_glyph_of decor result ≡ end_glyph decor follows }
 {
     if follows {

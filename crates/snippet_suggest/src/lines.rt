@@ -1,18 +1,13 @@
 //! The rows of the lines of a spliced text.
-ghost use Rattle.std.specs.Prelude.{◌≡◌, ℕ, ◌<◌, ◌≤◌, ◌^◌, ◌+◌, ◌++◌, ◌∷◌, true, [], All, IfOk, OnOk, chars, length};
+ghost use Rattle.std.specs.Prelude.{◌≡◌, ◌<◌, ◌+◌, ◌++◌, ◌∷◌, [], IfOk, OnOk, length};
 ghost use Rattle.std.specs.Prelude.{map};
 ghost use Rattle.std.specs.List.{slice_index_or};
-ghost use Rattle.snippet_text.specs.Normalized.{norm};
 ghost use Rattle.snippet_lines.specs.Lines.{lines_of};
 ghost use Rattle.snippet_splice.specs.Spliced.{texts_of};
-ghost use Rattle.snippet_suggest.specs.Cells.{sign_alone, sign_of, sign_touched, lines_shown, row_shown};
-ghost use Rattle.snippet_suggest.specs.SuggestionGlyphs.{is_sign};
+ghost use Rattle.snippet_suggest.specs.Cells.{sign_alone, sign_of, sign_touched, row_shown};
 ghost use Rattle.snippet_suggest.specs.declared.shown.SuggestionLine.TheVariants.{Line};
 ghost use Rattle.snippet_suggest.specs.SuggestedLines.{is_touched, lines_suggested};
-ghost use Rattle.snippet_lines.specs.Number.{shown_number};
-ghost use Rattle.snippet_suggest.specs.SuggestionRows.{AddsRow, AddsShown, NumberFits, IsLineRow, IsShownRow};
 ghost use Rattle.snippet_suggest.specs.RowOrder.{number_after};
-ghost use Rattle.snippet_grid.specs.Layout.{separator_cell};
 
 use crate::kind::DisplaySuggestion;
 use crate::layout::SuggestionLayout;
@@ -70,9 +65,6 @@ pub(crate) fn draw_lines(
     ranges: &[LineRange],
     fold: bool,
 ) -> Result<(), AllocError>
-    ensures added { let shown = lines_suggested (is_touched fold ranges.now) (length text.now.lines.now) in
-        ((k : ℕ) → k < length text.now.lines.now → NumberFits layout.now text.now.first (Line k))
-        → OnOk result (AddsShown layout.now text.now.first (lines_shown text.now) shown buffer.old buffer.new) }
     ensures cells { OnOk result (buffer.new ≡ buffer.old ++ map (row_shown layout.now text.now)
         (lines_suggested (is_touched fold ranges.now) (length text.now.lines.now))) }
 {
@@ -89,8 +81,6 @@ fn draw_shown(
     text: &SuggestedText<'_>,
     shown: &[SuggestionLine],
 ) -> Result<(), AllocError>
-    ensures added { All (NumberFits layout.now text.now.first) shown.now
-        → OnOk result (AddsShown layout.now text.now.first (lines_shown text.now) shown.now buffer.old buffer.new) }
     ensures cells { OnOk result (buffer.new ≡ buffer.old ++ map (row_shown layout.now text.now) shown.now) }
 {
     for line in shown {
@@ -107,9 +97,6 @@ fn draw_shown_line(
     text: &SuggestedText<'_>,
     line: SuggestionLine,
 ) -> Result<(), AllocError>
-    ensures added { NumberFits layout.now text.now.first line
-        → OnOk result (AddsRow (IsShownRow layout.now text.now.first (lines_shown text.now) line)
-        buffer.old buffer.new) }
     ensures cells { OnOk result (buffer.new ≡ buffer.old ++ row_shown layout.now text.now line ∷ []) }
 {
     match line {
@@ -126,11 +113,6 @@ fn draw_text_line(
     text: &SuggestedText<'_>,
     k: usize,
 ) -> Result<(), AllocError>
-    ensures added { length (shown_number layout.now.numbers layout.now.base.gutter
-        (number_after text.now.first k)) ≤ separator_cell layout.now.base
-        → OnOk result (AddsRow (IsLineRow layout.now.base.decor layout.now.base.gutter
-        (shown_number layout.now.numbers layout.now.base.gutter (number_after text.now.first k))
-        (norm (chars (slice_index_or (lines_shown text.now) k [])))) buffer.old buffer.new) }
     ensures cells { OnOk result (buffer.new ≡ buffer.old ++ row_shown layout.now text.now (Line k) ∷ []) }
 {
     let line = line_at(text.lines, k);
@@ -167,7 +149,6 @@ fn glyph_of(
     line: &str,
     stretches: &[SubstitutionHighlight],
 ) -> SuggestionGlyph
-    ensures sign { is_sign result ≡ true }
     ensures value { result ≡ sign_of kind count line.now stretches.now }
 {
     if count <= 1 {
@@ -182,7 +163,6 @@ fn glyph_of(
 
 /// The glyph beside the one line of a suggestion.
 fn alone_glyph(kind: DisplaySuggestion) -> SuggestionGlyph
-    ensures sign { is_sign result ≡ true }
     ensures value { result ≡ sign_alone kind }
 {
     match kind {
@@ -193,7 +173,6 @@ fn alone_glyph(kind: DisplaySuggestion) -> SuggestionGlyph
 
 /// The glyph beside a line that has this stretch alone.
 fn only_glyph(line: &str, stretch: SubstitutionHighlight) -> SuggestionGlyph
-    ensures sign { is_sign result ≡ true }
     ensures value { result ≡ sign_touched line.now stretch }
 {
     if stretch.start == 0 && stretch.end == line.len() {

@@ -1,5 +1,5 @@
 //! The marks below what a suggestion puts in.
-ghost use Rattle.std.specs.Prelude.{◌≡◌, ℕ, ◌+◌, ◌-◌, ◌++◌, ◌∷◌, [], List, All, OnOk, length};
+ghost use Rattle.std.specs.Prelude.{◌≡◌, ◌+◌, ◌-◌, ◌++◌, ◌∷◌, [], List, All, OnOk, length};
 ghost use Rattle.snippet_splice.specs.Edits.{trimmed_edit_of};
 ghost use Rattle.snippet_splice.specs.EditStretches.{capped};
 ghost use Rattle.snippet_suggest.specs.Marks.{edit_columns, edits_at, left_of, patch_mark_end, mark_glyph_of};
@@ -8,7 +8,6 @@ ghost use Rattle.snippet_suggest.specs.Marks.{text_width, with_mark, with_marks}
 ghost use Rattle.snippet_suggest.specs.Moves.{AreMoves, shift_of};
 ghost use Rattle.snippet_suggest.specs.declared.marks.PatchColumns.{PatchColumns};
 ghost use Rattle.snippet_style.specs.Cell.{Cell};
-ghost use Rattle.snippet_suggest.specs.SuggestionRows.{AddsRow, IsMarkOrSpace, IsEdgeRow};
 ghost use Rattle.snippet_lines.specs.Span.{IsSpan};
 ghost use Rattle.snippet_style.specs.Bounds.{HasNext};
 
@@ -146,11 +145,6 @@ pub(crate) fn draw_marks(
 ) -> Result<(), AllocError>
     requires row { HasNext row }
     requires spans { All (λ p. IsSpan map.now.text p.span.start p.span.end) patches.now }
-    // Into the last row, which shows no line.
-    ensures marked { (above : List (List Cell)) (last : List Cell) (left : List ℕ) → row ≡ length above → buffer.old
-        ≡ above ++ last ∷ []
-        → IsEdgeRow layout.now.base.decor layout.now.base.gutter left last
-        → OnOk result (AddsRow (IsEdgeRow layout.now.base.decor layout.now.base.gutter left) above buffer.new) }
     ensures cells { (above : List (List Cell)) (last : List Cell) → row ≡ length above → buffer.old ≡ above ++ last ∷ []
         → OnOk result (buffer.new ≡ above ++ with_marks layout.now map.now [] (edits_at patches.now) last ∷ []) }
 {
@@ -167,7 +161,6 @@ pub(crate) fn draw_marks(
 
 /// The mark below what a patch puts in.
 fn patch_mark(layout: &SuggestionLayout, map: &SourceMap<'_>, patch: &TrimmedPatch<'_>) -> char
-    ensures mark { IsMarkOrSpace layout.now.base.decor result }
     ensures value { IsSpan map.now.text patch.now.span.start patch.now.span.end
         → result ≡ mark_glyph_of layout.now.base.decor map.now.text (trimmed_edit_of patch.now) }
 {
@@ -189,11 +182,6 @@ fn draw_mark(
     mark: char,
 ) -> Result<(), AllocError>
     requires row { HasNext row }
-    ensures marked { (above : List (List Cell)) (last : List Cell) (left : List ℕ) → row ≡ length above → buffer.old
-        ≡ above ++ last ∷ []
-        → IsEdgeRow layout.now.base.decor layout.now.base.gutter left last
-        → IsMarkOrSpace layout.now.base.decor mark
-        → OnOk result (AddsRow (IsEdgeRow layout.now.base.decor layout.now.base.gutter left) above buffer.new) }
     ensures cells { (above : List (List Cell)) (last : List Cell) → row ≡ length above → buffer.old ≡ above ++ last ∷ []
         → OnOk result (buffer.new ≡ above ++ with_mark layout.now mark start end last ∷ []) }
 {

@@ -1,10 +1,9 @@
 //! The rows of lines that are removed.
-ghost use Rattle.std.specs.Prelude.{◌≡◌, ◌<◌, ◌≤◌, ◌++◌, Bool, List, OnOk, length};
+ghost use Rattle.std.specs.Prelude.{◌≡◌, ◌<◌, ◌≤◌, ◌++◌, List, OnOk, length};
 ghost use Rattle.snippet_grid.specs.Grid.{row_at};
 ghost use Rattle.snippet_suggest.specs.Cells.{emptied_cells};
 ghost use Rattle.snippet_style.specs.Cell.{Cell};
 ghost use Rattle.snippet_suggest.specs.RowOrder.{numbered_at};
-ghost use Rattle.snippet_suggest.specs.SuggestionRows.{AddsRemoved, IsTail};
 ghost use Rattle.snippet_style.specs.Bounds.{IsRowNumber};
 
 use crate::layout::SuggestionLayout;
@@ -33,10 +32,6 @@ pub(crate) fn draw_removed_lines(
 ) -> Result<(), AllocError>
     requires row { IsRowNumber row }
     requires some { 0 < length lines.now }
-    // Below some rows, the first of them perhaps over a row that shows no line.
-    ensures added { (above tail : List (List Cell)) (shares : Bool) → row ≡ length above → buffer.old ≡ above ++ tail
-        → IsTail layout.now.base.decor layout.now.base.gutter shares tail
-        → OnOk result (AddsRemoved layout.now (numbered_at lines.now) above buffer.new) }
     ensures cells { (above tail : List (List Cell)) → row ≡ length above → buffer.old ≡ above ++ tail → length tail ≤ 1
         → OnOk result (buffer.new ≡ above ++ emptied_cells layout.now (numbered_at lines.now) (row_at tail 0)) }
 {

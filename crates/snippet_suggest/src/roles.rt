@@ -4,7 +4,6 @@ ghost use Rattle.snippet_splice.specs.EditStretches.{capped, line_stretches};
 ghost use Rattle.snippet_suggest.specs.Cells.{with_stretches};
 ghost use Rattle.snippet_suggest.specs.Cursor.{IsCursor};
 ghost use Rattle.snippet_style.specs.Cell.{Cell};
-ghost use Rattle.snippet_suggest.specs.SuggestionRows.{IsRepainted};
 ghost use Rattle.snippet_grid.specs.Layout.{inner_cell};
 
 use crate::layout::SuggestionLayout;
@@ -23,8 +22,6 @@ pub(crate) fn paint_stretches(
     stretches: &[SubstitutionHighlight],
     role: ElementStyle,
 ) -> Result<(), AllocError>
-    ensures repaints { OnOk result ((above : List (List Cell)) (last : List Cell) → row ≡ length above
-        → buffer.old ≡ above ++ last ∷ [] → IsRepainted above last buffer.new) }
     ensures cells { OnOk result ((above : List (List Cell)) (last : List Cell) → row ≡ length above → buffer.old
         ≡ above ++ last ∷ []
         → buffer.new ≡ above ++ with_stretches role layout.now.base.gutter (chars line.now) stretches.now last ∷ []) }

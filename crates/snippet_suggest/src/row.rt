@@ -1,13 +1,9 @@
 //! The row of one line.
-ghost use Rattle.std.specs.Prelude.{◌≡◌, ◌≤◌, ◌++◌, ◌∷◌, [], true, Bool, List, IfOk, OnOk, chars};
+ghost use Rattle.std.specs.Prelude.{◌≡◌, ◌≤◌, ◌++◌, ◌∷◌, [], List, IfOk, OnOk};
 ghost use Rattle.std.specs.Prelude.{length};
-ghost use Rattle.snippet_text.specs.Normalized.{norm};
-ghost use Rattle.snippet_lines.specs.Number.{shown_number};
 ghost use Rattle.snippet_style.specs.Cell.{Cell};
 ghost use Rattle.snippet_grid.specs.Grid.{row_at};
 ghost use Rattle.snippet_suggest.specs.Cells.{gap_cells, line_cells, removed_cells};
-ghost use Rattle.snippet_suggest.specs.SuggestionGlyphs.{is_sign};
-ghost use Rattle.snippet_suggest.specs.SuggestionRows.{AddsRow, IsLineRow, IsRowOfRemoved, IsEdgeRow, IsTail, gap_left};
 ghost use Rattle.snippet_grid.specs.Layout.{separator_cell};
 ghost use Rattle.snippet_style.specs.Bounds.{HasNext};
 
@@ -35,11 +31,6 @@ pub(crate) fn draw_line(
     number: usize,
     line: &str,
 ) -> Result<usize, AllocError>
-    requires sign { is_sign glyph ≡ true }
-    ensures added { let shown = shown_number layout.now.numbers layout.now.base.gutter number in length shown ≤
-        separator_cell layout.now.base
-        → OnOk result (AddsRow (IsLineRow layout.now.base.decor layout.now.base.gutter shown
-        (norm (chars line.now))) buffer.old buffer.new) }
     ensures cells { OnOk result (buffer.new ≡ buffer.old ++ line_cells layout.now glyph number line.now ∷ []) }
     ensures row { IfOk result (λ row. row ≡ length buffer.old) }
 {
@@ -73,10 +64,6 @@ pub(crate) fn draw_removed_line(
     role: ElementStyle,
 ) -> Result<(), AllocError>
     requires row { HasNext row }
-    // In a row of its own, or over one that shows no line.
-    ensures added { (above tail : List (List Cell)) (shares : Bool) → row ≡ length above → buffer.old ≡ above ++ tail
-        → IsTail layout.now.base.decor layout.now.base.gutter shares tail
-        → OnOk result (AddsRow (IsRowOfRemoved layout.now (number, line.now)) above buffer.new) }
     ensures cells { (above tail : List (List Cell)) → row ≡ length above → buffer.old ≡ above ++ tail → length tail ≤ 1
         → OnOk result (buffer.new ≡ above ++ removed_cells layout.now role number line.now (row_at tail 0) ∷ []) }
 {
@@ -102,8 +89,6 @@ pub(crate) fn draw_gap(
     buffer: &mut StyledBuffer,
     layout: &SuggestionLayout,
 ) -> Result<(), AllocError>
-    ensures added { OnOk result (AddsRow (IsEdgeRow layout.now.base.decor layout.now.base.gutter
-        (gap_left layout.now.base.decor layout.now.base.gutter)) buffer.old buffer.new) }
     ensures cells { OnOk result (buffer.new ≡ buffer.old ++ gap_cells layout.now ∷ []) }
 {
     let row = buffer.num_lines();

@@ -1,9 +1,9 @@
 //! Which lines of the spliced text are shown.
-ghost use Rattle.std.specs.Prelude.{◌≡◌, ℕ, ◌++◌, ◌<◌, ◌≤◌, nat_le, ◌&&◌, ◌||◌, true, false, Contains, IfOk, OnOk};
+ghost use Rattle.std.specs.Prelude.{◌≡◌, ℕ, ◌++◌, ◌<◌, ◌≤◌, nat_le, ◌&&◌, ◌||◌, true, false, IfOk, OnOk};
 ghost use Rattle.std.specs.Prelude.{length};
 ghost use Rattle.std.specs.List.{slice_index_or};
 ghost use Rattle.snippet_suggest.specs.SuggestedLines as spec;
-ghost use Rattle.snippet_suggest.specs.SuggestedLines.{AreRising, numbers_shown, shown_run};
+ghost use Rattle.snippet_suggest.specs.SuggestedLines.{shown_run};
 
 use snippet_splice::LineRange;
 use std::alloc::{AllocError, Global};
@@ -26,11 +26,6 @@ pub(crate) fn shown_lines(
     fold: bool,
 ) -> Result<Vec<SuggestionLine>, AllocError>
     ensures value { IfOk result (λ shown. shown.items ≡ spec.lines_suggested (spec.is_touched fold ranges.now) count) }
-    // Each line at most once, and one below the other.
-    ensures rising { IfOk result (λ shown. AreRising 0 count (numbers_shown shown.items)) }
-    // Each touched line, all where lines aren't folded.
-    ensures touched { IfOk result (λ shown. (k : ℕ) → k < count → spec.is_touched fold ranges.now k ≡ true
-        → Contains (numbers_shown shown.items) k) }
 {
     let touched = touched_table(alloc, count, ranges, fold)?;
     let mut shown = Vec::new(alloc);

@@ -10,13 +10,10 @@ ghost use Rattle.snippet_splice.specs.Copied.{end_from};
 ghost use Rattle.snippet_splice.specs.ShownText.{first_start};
 ghost use Rattle.snippet_splice.specs.Edits.{AreApart, trimmed_edit_of};
 ghost use Rattle.snippet_suggest.specs.PreparedSuggestion.{IsPrepared};
-ghost use Rattle.snippet_suggest.specs.SuggestionRows.{AddsRows, AddsSuggestion, HasGutter, IsStart, NumberFits, Shows};
 ghost use Rattle.snippet_suggest.specs.SuggestionRows.{rows_shared};
-ghost use Rattle.snippet_suggest.specs.RowOrder.{Begins, rows_of_suggestion};
 ghost use Rattle.snippet_suggest.specs.Given.{first_given, first_original, first_original_end, given_lines};
 ghost use Rattle.snippet_suggest.specs.declared.kind.DisplaySuggestion.TheVariants.{Diff};
 ghost use Rattle.snippet_suggest.specs.declared.layout.SuggestionStart.{SuggestionStart};
-ghost use Rattle.snippet_suggest.specs.declared.shown.SuggestionLine.TheVariants.{Line};
 ghost use Rattle.snippet_style.specs.Bounds.{IsRowNumber};
 
 use crate::diff::draw_diff;
@@ -58,12 +55,7 @@ pub fn draw_suggestion(
     follows: bool,
 ) -> Result<(), AllocError>
     requires prepared { IsPrepared suggestion.now }
-    // Where the gutter has room for the number that it counts: the rows that it has, in their order, and nothing else,
-    // below what stands there.
-    ensures added { HasGutter layout.now suggestion.now.snippet.now
-        → (above tail : List (List Cell)) → buffer.old ≡ above ++ tail → IsStart layout.now start tail
-        → OnOk result (AddsSuggestion layout.now start follows suggestion.now.snippet.now above buffer.new) }
-    // These rows are a value, cell by cell.
+    // The rows that it has, cell by cell, below those that stand there, the first of them over the row that it shares.
     ensures cells { (above tail : List (List Cell)) → buffer.old ≡ above ++ tail → length tail ≡ rows_shared start
         → OnOk result (buffer.new ≡ above ++ suggestion_cells layout.now start follows suggestion.now.snippet.now
         (row_at tail 0)) }
@@ -90,12 +82,6 @@ fn draw_body(
     requires prepared { IsPrepared suggestion.now }
     requires lines { map (λ l. l.now) lines.now ≡ given_lines suggestion.now.snippet.now }
     ensures few { IfOk result (λ skipped. skipped < 2) }
-    // Its rows, once those that stay empty stand there.
-    ensures added { let s = suggestion.now.snippet.now in HasGutter layout.now s
-        → (above tail : List (List Cell)) → buffer.old ≡ above ++ tail → IsStart layout.now start tail
-        → IfOk result (λ skipped. AddsRows layout.now (s.line_start + first_given s) (given_lines s)
-        (rows_of_suggestion start s)
-        above (buffer.new ++ replicate skipped [])) }
     ensures cells { let s = suggestion.now.snippet.now in
         (above tail : List (List Cell)) → buffer.old ≡ above ++ tail → length tail ≡ rows_shared start
         → IfOk result (λ skipped. buffer.new ++ replicate skipped [] ≡ above
@@ -137,12 +123,6 @@ fn draw_changed(
     requires diff { suggestion.now.kind ≡ Diff }
     requires first { first ≡ suggestion.now.snippet.now.line_start + first_given suggestion.now.snippet.now }
     ensures few { IfOk result (λ skipped. skipped < 2) }
-    // Below the row that the suggestion begins with.
-    ensures added { let s = suggestion.now.snippet.now in NumberFits layout.now first (Line 0)
-        → (above : List (List Cell)) (last : List Cell) (start : SuggestionStart) → buffer.old ≡ above ++ last ∷ []
-        → Shows layout.now first (given_lines s) (Begins start) last
-        → IfOk result (λ skipped. AddsRows layout.now first (given_lines s) (rows_of_suggestion start s)
-        above (buffer.new ++ replicate skipped [])) }
     ensures cells { let s = suggestion.now.snippet.now in
         (above : List (List Cell)) (under : List Cell) (start : SuggestionStart)
         → buffer.old ≡ above ++ begin_cells layout.now start under ∷ []
@@ -173,10 +153,6 @@ fn draw_emptied(
 ) -> Result<(), AllocError>
     requires prepared { IsPrepared suggestion.now }
     requires none { given_lines suggestion.now.snippet.now ≡ [] }
-    ensures added { let s = suggestion.now.snippet.now in (above tail : List (List Cell)) → buffer.old ≡ above ++ tail
-        → IsStart layout.now start tail
-        → OnOk result (AddsRows layout.now (s.line_start + first_given s) (given_lines s)
-        (rows_of_suggestion start s) above buffer.new) }
     ensures cells { let s = suggestion.now.snippet.now in
         (above tail : List (List Cell)) → buffer.old ≡ above ++ tail → length tail ≡ rows_shared start
         → OnOk result (buffer.new ≡ above ++ body_cells layout.now start s (row_at tail 0)) }

@@ -1,10 +1,9 @@
 //! The rows of a group's elements, one below the other.
-ghost use Rattle.std.specs.Prelude.{◌≡◌, ◌+◌, ◌<◌, ◌≤◌, ◌^◌, ◌++◌, ◌∷◌, [], All, List, OnOk, map, true};
+ghost use Rattle.std.specs.Prelude.{◌≡◌, ◌+◌, ◌<◌, ◌++◌, All, List, OnOk, map};
 ghost use Rattle.std.specs.Option.{option_copied};
 ghost use Rattle.snippet_style.specs.Cell.{Cell};
-ghost use Rattle.snippet_suggest.specs.SuggestionRows.{IsTail};
 ghost use Rattle.annotate_snippets.specs.Around.{CanStandIn, begins_in_row_above};
-ghost use Rattle.annotate_snippets.specs.DrawnReport.{AddsElement, AddsElements, HasRoomFor};
+ghost use Rattle.annotate_snippets.specs.DrawnReport.{AddsElement, AddsElements, HasRoomFor, shared_row};
 ghost use Rattle.annotate_snippets.specs.PreparedReport.{IsElementPrepared, element_of};
 ghost use Rattle.annotate_snippets.specs.RowsWithoutSource as spec;
 ghost use Rattle.annotate_snippets.specs.RowsWithoutSource.{message_rows, origin_rows};
@@ -62,9 +61,8 @@ fn draw_element<'a>(
     requires prepared { IsElementPrepared element }
     requires room { HasRoomFor renderer.now layout (element_of element) }
     requires around { CanStandIn around (element_of element) }
-    ensures added { (above tail : List (List Cell)) (found : List Cell) → buffer.old ≡ above ++ tail
-        → IsTail layout.decor layout.gutter (begins_in_row_above around) tail
-        → (begins_in_row_above around ≡ true → tail ≡ found ∷ [])
+    ensures added { (above : List (List Cell)) (found : List Cell) → buffer.old ≡ above
+        ++ shared_row (begins_in_row_above around) found
         → OnOk result (AddsElement renderer.now layout around found (element_of element.entry) above buffer.new) }
 {
     match element {

@@ -6,12 +6,11 @@
 //!  1 | foo(x)             the lines as they will be
 //!    |     +
 //! ```
-ghost use Rattle.std.specs.Prelude.{◌≡◌, ◌≤◌, ◌++◌, ◌∷◌, [], List, OnOk, true};
+ghost use Rattle.std.specs.Prelude.{◌≡◌, ◌++◌, List, OnOk};
 ghost use Rattle.snippet_model.specs.declared.snippet.Element.TheVariants.{Suggestion};
 ghost use Rattle.snippet_style.specs.Cell.{Cell};
 ghost use Rattle.snippet_suggest.specs.PreparedSuggestion.{IsPrepared};
-ghost use Rattle.snippet_suggest.specs.SuggestionRows.{IsTail};
-ghost use Rattle.annotate_snippets.specs.DrawnReport.{AddsElement, HasRoomFor};
+ghost use Rattle.annotate_snippets.specs.DrawnReport.{AddsElement, shared_row};
 ghost use Rattle.annotate_snippets.specs.Around.{HasPathFor, begins_in_row_above};
 ghost use Rattle.annotate_snippets.specs.RowsWithoutSource as spec;
 
@@ -38,11 +37,9 @@ pub fn draw_patches(
     suggestion: &PreparedSuggestion<'_>,
 ) -> Result<(), AllocError>
     requires prepared { IsPrepared suggestion.now }
-    requires room { HasRoomFor renderer.now layout (Suggestion suggestion.now.snippet.now) }
     requires path { HasPathFor around.start suggestion.now.snippet.now }
-    ensures added { (above tail : List (List Cell)) (found : List Cell) → buffer.old ≡ above ++ tail
-        → IsTail layout.decor layout.gutter (begins_in_row_above around) tail
-        → (begins_in_row_above around ≡ true → tail ≡ found ∷ [])
+    ensures added { (above : List (List Cell)) (found : List Cell) → buffer.old ≡ above
+        ++ shared_row (begins_in_row_above around) found
         → OnOk result (AddsElement renderer.now layout around found
         (Suggestion suggestion.now.snippet.now) above buffer.new) }
 {

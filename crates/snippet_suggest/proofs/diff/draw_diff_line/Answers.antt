@@ -2,20 +2,8 @@ use Rattle.std.proofs.Common.{◌∙◌, ◌++◌, ◌∷◌, [], List, ap}
 use Rattle.snippet_style.specs.Cell.{Cell}
 use Rattle.snippet_suggest.proofs.PutLemmas.{diff_offered}
 use Rattle.std.proofs.lemmas.Result.{on_ok_weaker}
-use Rattle.snippet_suggest.proofs.ComposeLemmas.{first_fits, line_lines}
 use Rattle.snippet_suggest.proofs.diff.draw_diff_line.Goals as goal
 use Rattle.snippet_suggest.proofs.diff.draw_diff_line.Goals.{then-not-left_out+in_ok-draw_line, else-not-left_out}
-
-pub returns-clause-added : goal.returns-clause-added
-returns-clause-added c = λ drawn fits.
-    let a = c.args in
-    elim c.if-not-left_out.branch [
-      | then-not-left_out+in_ok-draw_line w ↦
-          let adds = w.in_ok-draw_line.ensures.added (first_fits a.layout.now a.first c.ranges.first.fits fits) in
-          on_ok_weaker _ (λ painted. line_lines a.layout.now a.first a.line.now a.buffer.now w.draw_line.new.buffer c.paint_last.new.buffer c.ranges.first.fits
-          adds painted) (c.paint_last.ensures.repaints a.buffer.now adds.row (w.buffer-is ∙ adds.added))
-      | else-not-left_out w ↦ absurd (cc)
-    ]
 
 pub returns-clause-left_cells : goal.returns-clause-left_cells
 returns-clause-left_cells c = λ above last left is.

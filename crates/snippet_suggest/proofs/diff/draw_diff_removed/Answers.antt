@@ -1,17 +1,14 @@
-use Rattle.std.proofs.Common.{◌∙◌, ◌++◌, ℕ, [], List, ap, arith, false, refl, sym}
+use Rattle.std.proofs.Common.{◌∙◌, ◌++◌, ℕ, [], List, ap, arith, sym}
 use Rattle.std.proofs.lemmas.List.{append-nil, take_all}
 use Rattle.snippet_parts.specs.declared.source_map.LineInfo.{LineInfo}
 use Rattle.snippet_splice.specs.EditStretches.{line_stretches}
 use Rattle.snippet_suggest.specs.Cells.{taken_cells}
-use Rattle.snippet_suggest.proofs.RemovedRows.{removed_all, removed_more, removed_none}
-use Rattle.snippet_suggest.proofs.RepaintLemmas.{removed_repainted}
 use Rattle.snippet_suggest.proofs.RowsDrawn.{taken_next, taken_none}
 use Rattle.snippet_suggest.proofs.diff.draw_diff_removed.Goals as goal
 
 pub loop-i-init : goal.loop-i-init
 loop-i-init c =
     record {
-      added = removed_none c.args.layout.now c.args.buffer.now;
       cells = taken_none c.args.layout.now c.args.first (line_stretches c.args.replaced.now) c.args.removed.now c.args.buffer.now;
     }
 
@@ -20,13 +17,8 @@ loop-i-preserved c =
     let a = c.args in
     let old = c.loop-i.buffer in
     let number : ℕ = c.saturating_add-number.result in
-    let adds = c.in_ok-draw_removed_line.ensures.added old [] false c.num_lines-row.ensures.count (sym (append-nil old)) refl in
-    let painted = c.in_ok-paint_stretches.ensures.repaints old adds.row c.num_lines-row.ensures.count adds.added in
     let drawn = c.in_ok-draw_removed_line.ensures.cells old [] c.num_lines-row.ensures.count (sym (append-nil old)) (omega arith) in
     record {
-      added = removed_more a.layout.now a.first number a.removed.now c.loop-i.i _ a.buffer.now old c.paint_stretches.new.buffer (omega arith)
-          c.saturating_add-number.ensures c.loop-i.invariant.added
-          (removed_repainted a.layout.now (number, _) old c.draw_removed_line.new.buffer c.paint_stretches.new.buffer adds painted);
       cells = taken_next a.layout.now a.first (line_stretches a.replaced.now)
           a.removed.now c.loop-i.i number _ c.diff_stretches-stretches.result.now a.buffer.now old c.paint_stretches.new.buffer (omega arith)
           c.saturating_add-number.ensures c.diff_stretches-stretches.ensures.value c.loop-i.invariant.cells
@@ -37,7 +29,6 @@ pub returns : goal.returns
 returns c =
     let a = c.args in
     record {
-      added = removed_all a.layout.now a.first a.removed.now _ a.buffer.now c.loop-i.buffer (omega arith) c.loop-i.invariant.added;
       cells = c.loop-i.invariant.cells ∙ ap (λ (infos : List LineInfo). a.buffer.now
           ++ taken_cells a.layout.now a.first (line_stretches a.replaced.now) 0 infos) (take_all c.loop-i.i a.removed.now (omega arith));
     }

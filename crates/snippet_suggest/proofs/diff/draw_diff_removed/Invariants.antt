@@ -1,14 +1,10 @@
 use Rattle.std.proofs.Common.{◌≡◌, ◌++◌, take}
 use Rattle.snippet_splice.specs.EditStretches.{line_stretches}
 use Rattle.snippet_suggest.specs.Cells.{taken_cells}
-use Rattle.snippet_suggest.specs.Given.{texts_at}
-use Rattle.snippet_suggest.specs.RowOrder.{counted_from}
-use Rattle.snippet_suggest.specs.SuggestionRows.{AddsRemoved}
 use Rattle.snippet_suggest.proofs.diff.draw_diff_removed.Given as goal
 
 -- the rows so far are added
 abbrev pub invariant-loop-i : goal.invariant-loop-i
 invariant-loop-i l = record {
-  added : AddsRemoved l.layout (counted_from l.first 0 (take l.i (texts_at l.removed))) l.initial.buffer l.buffer;
   cells : l.buffer ≡ l.initial.buffer ++ taken_cells l.layout l.first (line_stretches l.replaced) 0 (take l.i l.removed);
 }

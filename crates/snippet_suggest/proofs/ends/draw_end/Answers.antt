@@ -1,16 +1,9 @@
-use Rattle.std.proofs.Common.{ℕ, ◌+◌, ◌∙◌, ◌++◌, ◌∷◌, [], List, ap, arith, replicate, subst}
+use Rattle.std.proofs.Common.{ℕ, ◌+◌, ◌∙◌, ◌++◌, ◌∷◌, [], List, ap, arith, replicate}
 use Rattle.snippet_style.specs.Cell.{Cell}
 use Rattle.snippet_style.specs.declared.role.ElementStyle.TheVariants.{LineNumber}
 use Rattle.snippet_suggest.specs.Cells.{put}
 use Rattle.snippet_suggest.proofs.PutLemmas.{end_is}
-use Rattle.snippet_suggest.specs.SuggestionRows.{AddsEnd}
 use Rattle.snippet_suggest.proofs.ends.draw_end.Goals as goal
-
-pub returns-clause-added : goal.returns-clause-added
-returns-clause-added c =
-    let a = c.args in
-    subst (λ (cs : List ℕ). AddsEnd a.layout.now cs a.skipped a.buffer.now c.draw_glyph.new.buffer) (c.end_glyph.ensures.value a.layout.now.base.decor)
-    (c.in_ok-draw_glyph.ensures.end c.end_glyph.ensures.other a.skipped (omega (arith, c.num_lines.ensures.count)))
 
 pub returns-clause-cells : goal.returns-clause-cells
 returns-clause-cells c =

@@ -6,7 +6,6 @@ use Rattle.snippet_style.specs.declared.role.ElementStyle.TheVariants.{LineNumbe
 use Rattle.snippet_style.specs.Glyphs.{suggestion_glyph_of}
 use Rattle.snippet_suggest.proofs.PutLemmas.{glyph_below, glyph_over}
 use Rattle.snippet_suggest.proofs.GlyphLemmas.{glyph_short}
-use Rattle.snippet_suggest.proofs.TailLemmas.{end_added, glyph_added}
 use Rattle.snippet_suggest.proofs.ends.draw_glyph.Goals as goal
 
 pub puts-requires-clause-end : goal.puts-requires-clause-end
@@ -19,9 +18,6 @@ returns c =
     let drawn = c.in_ok-puts.ensures.ok c.text.ensures.some ∙ ap (λ n.
     cells_written c.args.buffer.now c.args.row n (text_cells LineNumber (chars c.text.result.now))) c.separator_cell.ensures.value in
     record {
-      added = λ other above tail shares. glyph_added c.args.layout.now shares c.args.glyph above tail c.args.buffer.now c.puts.new.self c.args.row
-          c.text.result.now other shown drawn;
-      end = λ other skipped. end_added c.args.layout.now c.args.glyph skipped c.args.buffer.now c.puts.new.self c.args.row c.text.result.now other shown drawn;
       over = λ above tail here is few. glyph_over LineNumber c.args.layout.now.base.decor c.args.glyph (chars c.text.result.now)
           (c.args.layout.now.base.gutter + 1) c.args.row above tail c.args.buffer.now c.puts.new.self shown here is few drawn;
       below = λ skipped here. glyph_below LineNumber c.args.layout.now.base.decor c.args.glyph (chars c.text.result.now)

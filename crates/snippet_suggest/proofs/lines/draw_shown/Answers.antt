@@ -1,14 +1,12 @@
 use Rattle.std.proofs.Common.{sym}
 use Rattle.std.proofs.lemmas.List.{append-nil}
-use Rattle.snippet_suggest.specs.Cells.{lines_shown, row_shown}
-use Rattle.snippet_suggest.proofs.DrawnLemmas.{shown-next, shown_none}
+use Rattle.snippet_suggest.specs.Cells.{row_shown}
 use Rattle.snippet_suggest.proofs.RowsDrawn.{drawn_next}
 use Rattle.snippet_suggest.proofs.lines.draw_shown.Goals as goal
 
 pub loop-line-init : goal.loop-line-init
 loop-line-init c =
     record {
-      added = λ rooms. shown_none c.args.layout.now c.args.text.now.first (lines_shown c.args.text.now) c.args.buffer.now;
       cells = sym (append-nil c.args.buffer.now);
     }
 
@@ -16,11 +14,7 @@ pub loop-line-preserved : goal.loop-line-preserved
 loop-line-preserved c =
     let a = c.args in
     let i = c.loop-line.line-index in
-    let lines = lines_shown a.text.now in
     record {
-      added = λ rooms. shown-next a.layout.now a.text.now.first lines a.shown.now i _ a.buffer.now c.loop-line.buffer
-          c.draw_shown_line.new.buffer c.loop-line-test.true
-          (c.loop-line.invariant.added rooms) (c.in_ok-draw_shown_line.ensures.added (rooms i _ c.loop-line-test.true));
       cells = drawn_next (row_shown a.layout.now a.text.now) a.shown.now i _ a.buffer.now c.loop-line.buffer c.draw_shown_line.new.buffer c.loop-line-test.true
           c.loop-line.invariant.cells c.in_ok-draw_shown_line.ensures.cells;
     }

@@ -1,16 +1,13 @@
 use Rattle.std.proofs.Common.{◌∙◌, ◌-◌, ◌+◌, ◌∷◌, [], ap, arith}
 use Rattle.snippet_style.specs.Cell.{unlinked_cell}
 use Rattle.snippet_grid.specs.Grid.{cells_written}
-use Rattle.snippet_grid.specs.Layout.{Layout}
 use Rattle.snippet_style.specs.declared.role.ElementStyle.TheVariants.{Addition}
-use Rattle.snippet_suggest.proofs.MarkLemmas.{marks_more}
 use Rattle.snippet_suggest.proofs.MarksDrawn.{marks_begun, marks_done, marks_next}
 use Rattle.snippet_suggest.proofs.marks.draw_mark.Goals as goal
 
 pub loop-column-init : goal.loop-column-init
 loop-column-init c =
     record {
-      marked = λ above last left here is stroke mark. record { row = last; added = is; is = stroke };
       within = omega arith;
       cells = λ above last here is. marks_begun c.args.mark (c.args.layout.now.base.gutter + 3 + c.args.start)
           (c.args.start - c.args.start) above last c.args.buffer.now (omega arith) is;
@@ -24,8 +21,6 @@ loop-column-preserved c =
     let written = c.in_ok-putc.ensures.ok ∙ ap (λ n. cells_written c.loop-column.buffer c.args.row (n + column)
     (unlinked_cell Addition c.args.mark ∷ [])) c.inner_cell.ensures.value in
     record {
-      marked = λ above last left here is bare mark. marks_more c.args.layout.now.base.decor c.args.layout.now.base.gutter _ Addition c.args.mark left above
-          c.loop-column.buffer c.putc.new.self c.args.row here (omega arith) mark (inv.marked above last left here is bare mark) written;
       within = omega arith;
       cells = λ above last here is. marks_next c.args.mark (c.args.layout.now.base.gutter + 3 + start) (c.args.layout.now.base.gutter + 3 + column)
           (column - start)
@@ -36,7 +31,6 @@ loop-column-preserved c =
 pub returns : goal.returns
 returns c =
     record {
-      marked = c.loop-column.invariant.marked;
       cells = λ above last here is. marks_done c.args.layout.now c.args.mark c.args.start c.args.end (c.loop-column.column - c.args.start)
           above last c.loop-column.buffer
           (omega (arith, c.loop-column.invariant.within, c.loop-column-test.false, c.loop-column.auto.column, c.min-column-end.ensures))

@@ -1,16 +1,12 @@
-use Rattle.std.proofs.Common.{◌≡◌, ℕ, ◌+◌, ◌-◌, ◌≤◌, ◌++◌, ◌∷◌, [], List, length, max, replicate}
+use Rattle.std.proofs.Common.{◌≡◌, ◌+◌, ◌-◌, ◌≤◌, ◌++◌, ◌∷◌, [], List, length, max, replicate}
 use Rattle.snippet_style.specs.declared.role.ElementStyle.TheVariants.{Addition}
 use Rattle.snippet_style.specs.Cell.{Cell}
 use Rattle.snippet_suggest.specs.Cells.{put}
-use Rattle.snippet_suggest.specs.SuggestionRows.{AddsRow, IsMarkOrSpace, IsEdgeRow}
 use Rattle.snippet_suggest.proofs.marks.draw_mark.Given as goal
 
 -- the row shows no line so far, and holds the marks before this column
 abbrev pub invariant-loop-column : goal.invariant-loop-column
 invariant-loop-column l = record {
-  marked : (above : List (List Cell)) (last : List Cell) (left : List ℕ) → l.row ≡ length above → l.initial.buffer ≡ above ++ last ∷ []
-      → IsEdgeRow l.layout.base.decor l.layout.base.gutter left last → IsMarkOrSpace l.layout.base.decor l.mark
-      → AddsRow (IsEdgeRow l.layout.base.decor l.layout.base.gutter left) above l.buffer;
   within : l.column ≤ max l.start l.column-end;
   cells : (above : List (List Cell)) (last : List Cell) → l.row ≡ length above → l.initial.buffer ≡ above ++ last ∷ []
       → l.buffer ≡ above ++ put Addition (replicate (l.column - l.start) l.mark) (l.layout.base.gutter + 3 + l.start) last ∷ [];

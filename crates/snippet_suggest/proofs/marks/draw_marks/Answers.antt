@@ -11,7 +11,6 @@ use Rattle.snippet_suggest.proofs.marks.draw_marks.Goals as goal
 pub loop-patch-init : goal.loop-patch-init
 loop-patch-init c =
     record {
-      marked = λ above last left here is stroke. record { row = last; added = is; is = stroke };
       of = c.none-moves.ensures.of;
       cells = λ above last here is. record { row = last; is = is; whole = refl };
     }
@@ -39,9 +38,6 @@ loop-patch-preserved c =
     let shift = c.before-in-loop-patch.ensures.value earlier inv.of in
     let bounds = c.marked_columns-start.ensures.value earlier shift in
     record {
-      marked = λ above last left here is stroke.
-          let so_far = inv.marked above last left here is stroke in
-          c.in_ok-draw_mark.ensures.marked above so_far.row left here so_far.added so_far.is c.patch_mark-mark.ensures.mark;
       of = subst (λ (cs : List PatchColumns). AreMoves cs c.push.new.self) (sym (more ∙ ap (λ (x : PatchColumns). earlier ++ x ∷ []) (sym columns)))
           (c.in_ok-push.ensures.of earlier inv.of);
       cells = λ above last here is.
@@ -59,7 +55,6 @@ loop-patch-preserved c =
 pub returns : goal.returns
 returns c =
     record {
-      marked = c.loop-patch.invariant.marked;
       cells = λ above last here is. marked_done c.args.layout.now c.args.map.now _ _ _ above c.loop-patch.buffer
           (ap (map trimmed_edit_of) (drop_all c.loop-patch.patch-index c.args.patches.now c.loop-patch-test.false))
           (c.loop-patch.invariant.cells above last here is);

@@ -1,17 +1,14 @@
-use Rattle.std.proofs.Common.{◌≡◌, ℕ, ◌++◌, ◌∷◌, [], List, drop, length, map, take}
+use Rattle.std.proofs.Common.{◌≡◌, ◌++◌, ◌∷◌, [], List, drop, length, map, take}
 use Rattle.snippet_style.specs.Cell.{Cell}
 use Rattle.snippet_splice.specs.Edits.{trimmed_edit_of}
 use Rattle.snippet_suggest.specs.Marks.{edit_columns, with_marks}
 use Rattle.snippet_suggest.specs.Moves.{AreMoves}
-use Rattle.snippet_suggest.specs.SuggestionRows.{AddsRow, IsEdgeRow}
 use Rattle.snippet_suggest.proofs.MarksDrawn.{Marked}
 use Rattle.snippet_suggest.proofs.marks.draw_marks.Given as goal
 
 -- the row shows no line so far; the patches before this one are kept, and their marks are there
 abbrev pub invariant-loop-patch : goal.invariant-loop-patch
 invariant-loop-patch l = record {
-  marked : (above : List (List Cell)) (last : List Cell) (left : List ℕ) → l.row ≡ length above → l.initial.buffer ≡ above ++ last ∷ []
-      → IsEdgeRow l.layout.base.decor l.layout.base.gutter left last → AddsRow (IsEdgeRow l.layout.base.decor l.layout.base.gutter left) above l.buffer;
   of : AreMoves (map (λ p. edit_columns l.map (trimmed_edit_of p)) (take l.patch-index l.patches)) l.moves;
   cells : (above : List (List Cell)) (last : List Cell) → l.row ≡ length above → l.initial.buffer ≡ above ++ last ∷ []
       → Marked l.layout l.map (map (λ p. edit_columns l.map (trimmed_edit_of p)) (take l.patch-index l.patches))

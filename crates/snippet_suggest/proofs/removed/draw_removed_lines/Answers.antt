@@ -1,5 +1,4 @@
 use Rattle.std.proofs.Common.{◌++◌, arith}
-use Rattle.snippet_suggest.proofs.RemovedRows.{removes_begun, removes_done, removes_more}
 use Rattle.snippet_grid.specs.Grid.{row_at}
 use Rattle.snippet_suggest.specs.RowOrder.{numbered_at}
 use Rattle.snippet_suggest.proofs.RowsDrawn.{emptied_begun, emptied_done, emptied_next, numbered_all}
@@ -9,8 +8,6 @@ pub loop-info-init : goal.loop-info-init
 loop-info-init c =
     record {
       small = c.requires.row;
-      drawn = λ above tail shares here stands is. removes_begun c.args.layout.now above tail shares c.args.lines.now c.args.row c.args.buffer.now here
-          stands is;
       cells = λ above tail here is few. emptied_begun c.args.layout.now above tail (numbered_at c.args.lines.now) c.args.row c.args.buffer.now here is few;
     }
 
@@ -18,12 +15,6 @@ pub loop-info-preserved : goal.loop-info-preserved
 loop-info-preserved c =
     record {
       small = c.num_lines-row.ensures.small;
-      drawn = λ above tail shares here stands is.
-          let l = c.args.layout.now in
-          let so_far = c.loop-info.invariant.drawn above tail shares here stands is in
-          let adds = c.in_ok-draw_removed_line.ensures.added (above ++ so_far.rows) so_far.tail so_far.shares so_far.here so_far.stands so_far.tail_is in
-          removes_more l above c.args.lines.now _ c.loop-info.row c.loop-info.info-index c.num_lines-row.result c.loop-info.buffer
-          c.draw_removed_line.new.buffer so_far c.loop-info-test.true adds c.num_lines-row.ensures.count;
       cells = λ above tail here is few.
           let l = c.args.layout.now in
           let i = c.loop-info.info-index in
@@ -37,9 +28,6 @@ loop-info-preserved c =
 pub returns : goal.returns
 returns c =
     record {
-      added = λ above tail shares here stands is. removes_done c.args.layout.now above c.args.lines.now c.loop-info.row c.loop-info.info-index
-          c.loop-info.buffer (omega (arith, c.requires.some, c.loop-info-test.false)) (omega (arith, c.loop-info-test.false))
-          (c.loop-info.invariant.drawn above tail shares here stands is);
       cells = λ above tail here is few. emptied_done c.args.layout.now above (row_at tail 0) (numbered_at c.args.lines.now)
           c.loop-info.row c.loop-info.info-index c.loop-info.buffer (omega (arith, c.requires.some, c.loop-info-test.false))
           (numbered_all c.args.lines.now c.loop-info.info-index c.loop-info-test.false) (c.loop-info.invariant.cells above tail here is few);

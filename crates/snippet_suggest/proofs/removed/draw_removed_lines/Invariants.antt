@@ -1,9 +1,7 @@
-use Rattle.std.proofs.Common.{◌≡◌, ◌<◌, ◌^◌, ◌≤◌, ◌++◌, Bool, List, length}
+use Rattle.std.proofs.Common.{◌≡◌, ◌<◌, ◌^◌, ◌≤◌, ◌++◌, List, length}
 use Rattle.snippet_style.specs.Cell.{Cell}
-use Rattle.snippet_suggest.specs.SuggestionRows.{IsTail}
 use Rattle.snippet_grid.specs.Grid.{row_at}
 use Rattle.snippet_suggest.specs.RowOrder.{numbered_at}
-use Rattle.snippet_suggest.proofs.RemovedRows.{RemovesAt}
 use Rattle.snippet_suggest.proofs.RowsDrawn.{Emptied}
 use Rattle.snippet_suggest.proofs.removed.draw_removed_lines.Given as goal
 
@@ -11,8 +9,6 @@ use Rattle.snippet_suggest.proofs.removed.draw_removed_lines.Given as goal
 abbrev pub invariant-loop-info : goal.invariant-loop-info
 invariant-loop-info l = record {
   small : l.row < 2 ^ 60;
-  drawn : (above tail : List (List Cell)) (shares : Bool) → l.initial.row ≡ length above → l.initial.buffer ≡ above ++ tail
-      → IsTail l.layout.base.decor l.layout.base.gutter shares tail → RemovesAt l.layout above l.lines l.row l.info-index l.buffer;
   cells : (above tail : List (List Cell)) → l.initial.row ≡ length above → l.initial.buffer ≡ above ++ tail → length tail ≤ 1
       → Emptied l.layout above (row_at tail 0) (numbered_at l.lines) l.row l.info-index l.buffer;
 }

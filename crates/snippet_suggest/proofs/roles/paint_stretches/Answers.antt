@@ -1,13 +1,10 @@
 use Rattle.std.proofs.Common.{◌≡◌, ◌∙◌, ◌==◌, ◌++◌, ◌∷◌, ℕ, [], List, ap, chars, count_by, get_or, subst, sym, take}
 use Rattle.std.proofs.lemmas.List.{take_all}
-use Rattle.snippet_style.specs.Cell.{Cell}
 use Rattle.snippet_splice.specs.declared.stretches.SubstitutionHighlight.{SubstitutionHighlight}
 use Rattle.snippet_splice.specs.EditStretches.{capped}
 use Rattle.snippet_suggest.specs.declared.roles.TabCursor.{TabCursor}
 use Rattle.snippet_suggest.specs.Cells.{stretch_cell, with_stretches}
 use Rattle.snippet_suggest.specs.Cursor.{IsCursor}
-use Rattle.snippet_suggest.specs.SuggestionRows.{IsRepainted}
-use Rattle.snippet_suggest.proofs.PaintLemmas.{repaint_none, repaint_more}
 use Rattle.snippet_suggest.proofs.StretchRows.{painted_begun, painted_next, passed_next}
 use Rattle.snippet_suggest.proofs.roles.paint_stretches.Goals as goal
 use Rattle.snippet_suggest.proofs.roles.paint_stretches.Goals.{then-stretch+in_ok-set_style_range, else-stretch}
@@ -17,7 +14,6 @@ loop-stretch-init c =
     record {
       at = c.new-tabs.ensures.at;
       line = c.new-tabs.ensures.line;
-      painted = λ above last here is. repaint_none above last c.args.buffer.now is;
       cells = λ above last here is. painted_begun c.args.role c.args.layout.now.base.gutter
           (chars c.args.line.now) c.args.stretches.now above last c.args.buffer.now is;
     }
@@ -43,9 +39,6 @@ loop-stretch-preserved c =
           record {
             at = subst IsCursor (sym w.tabs-is) w.before-then-stretch-2.ensures.at;
             line = ap (λ (t : TabCursor). t.line.now) w.tabs-is ∙ w.before-then-stretch-2.ensures.line ∙ line;
-            painted = λ above last here is. subst (λ (rows : List (List Cell)). IsRepainted above last rows) (sym w.buffer-is)
-                (repaint_more above last c.loop-stretch.buffer w.set_style_range.new.self a.row w.stretch_cell-start.result w.stretch_cell-end.result
-                a.role here (inv.painted above last here is) w.in_ok-set_style_range.ensures.ok);
             cells = λ above last here is. w.buffer-is
                 ∙ painted_next a.role g cs ss i d above last c.loop-stretch.buffer w.set_style_range.new.self a.row w.stretch_cell-start.result
                 w.stretch_cell-end.result c.loop-stretch-test.true here (inv.cells above last here is) starts ends w.in_ok-set_style_range.ensures.ok;
@@ -54,15 +47,17 @@ loop-stretch-preserved c =
           record {
             at = subst IsCursor (sym w.tabs-is) inv.at;
             line = ap (λ (t : TabCursor). t.line.now) w.tabs-is ∙ inv.line;
-            painted = λ above last here is. subst (λ (rows : List (List Cell)). IsRepainted above last rows) (sym w.buffer-is) (inv.painted above last here is);
             cells = λ above last here is. w.buffer-is ∙ passed_next a.role g cs ss i d above last c.loop-stretch.buffer c.loop-stretch-test.true
                 (inv.cells above last here is) w.if-stretch.false;
           }
     ]
 
-pub returns-clause-cells : goal.returns-clause-cells
-returns-clause-cells c = λ above last here is.
-    let a = c.args in
-    c.loop-stretch.invariant.cells above last here is ∙ ap (λ (ss : List SubstitutionHighlight). above
-    ++ with_stretches a.role a.layout.now.base.gutter (chars a.line.now) ss last ∷ [])
-    (take_all c.loop-stretch.stretch-index a.stretches.now c.loop-stretch-test.false)
+pub returns : goal.returns
+returns c =
+    record {
+      cells = λ above last here is.
+          let a = c.args in
+          c.loop-stretch.invariant.cells above last here is ∙ ap (λ (ss : List SubstitutionHighlight). above
+          ++ with_stretches a.role a.layout.now.base.gutter (chars a.line.now) ss last ∷ [])
+          (take_all c.loop-stretch.stretch-index a.stretches.now c.loop-stretch-test.false);
+    }

@@ -2,7 +2,6 @@ use Rattle.std.proofs.Common.{◌≡◌, ◌++◌, ◌∷◌, [], List, chars, l
 use Rattle.snippet_style.specs.Cell.{Cell}
 use Rattle.snippet_suggest.specs.Cells.{with_stretches}
 use Rattle.snippet_suggest.specs.Cursor.{IsCursor}
-use Rattle.snippet_suggest.specs.SuggestionRows.{IsRepainted}
 use Rattle.snippet_suggest.proofs.roles.paint_stretches.Given as goal
 
 -- the row is painted so far, with the stretches before this one, and the walk goes on in the line
@@ -10,7 +9,6 @@ abbrev pub invariant-loop-stretch : goal.invariant-loop-stretch
 invariant-loop-stretch l = record {
   at : IsCursor l.tabs;
   line : l.tabs.line.now ≡ l.line;
-  painted : (above : List (List Cell)) (last : List Cell) → l.row ≡ length above → l.initial.buffer ≡ above ++ last ∷ [] → IsRepainted above last l.buffer;
   cells : (above : List (List Cell)) (last : List Cell) → l.row ≡ length above → l.initial.buffer ≡ above ++ last ∷ []
       → l.buffer ≡ above ++ with_stretches l.role l.layout.base.gutter (chars l.line) (take l.stretch-index l.stretches) last ∷ [];
 }

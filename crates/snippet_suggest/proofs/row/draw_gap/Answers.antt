@@ -2,7 +2,6 @@ use Rattle.std.proofs.Common.{ℕ, ◌-◌, ◌∙◌, ap}
 use Rattle.snippet_grid.specs.Layout.{Layout}
 use Rattle.snippet_style.specs.Glyphs.{placeholder_of}
 use Rattle.snippet_text.specs.Width.{width_of}
-use Rattle.snippet_suggest.proofs.BareLemmas.{gap_added}
 use Rattle.snippet_suggest.proofs.PutLemmas.{gap_drawn}
 use Rattle.snippet_suggest.proofs.row.draw_gap.Goals as goal
 
@@ -13,9 +12,6 @@ returns c =
     (c.str_width.ensures.value ∙ ap width_of c.placeholder-placeholder.ensures.value)
     ∙ ap (λ (l : Layout). l.gutter - width_of (placeholder_of l.decor)) c.base.view_is in
     record {
-      added = gap_added c.args.layout.now.base.gutter c.args.layout.now.base.decor c.args.buffer.now c.puts.new.self c.num_lines-row.result
-          c.saturating_sub-cell.result
-          c.placeholder-placeholder.result.now c.num_lines-row.ensures.count cell is c.in_ok-puts.ensures.ok;
       cells = gap_drawn c.args.layout.now c.placeholder-placeholder.result.now c.num_lines-row.result c.saturating_sub-cell.result c.args.buffer.now
           c.puts.new.self c.num_lines-row.ensures.count cell is c.in_ok-puts.ensures.ok;
     }

@@ -1,8 +1,8 @@
-use Rattle.std.proofs.Common.{◌≡◌, ◌+◌, ◌<◌, ◌∙◌, false, length, get_or, sym, subst, arith, ℕ, Vec, Global, List, Contains}
+use Rattle.std.proofs.Common.{◌≡◌, ◌+◌, ◌<◌, ◌∙◌, false, length, get_or, sym, subst, arith, ℕ, Vec, Global}
 use Rattle.std.proofs.lemmas.List.{get_or_default}
 use Rattle.snippet_suggest.specs.declared.shown.SuggestionLine.{SuggestionLine}
-use Rattle.snippet_suggest.specs.SuggestedLines.{is_touched, lines_suggested, numbers_shown, AreRising}
-use Rattle.snippet_suggest.proofs.RisingLemmas.{rising_shown, shown_all, touched_shown}
+use Rattle.snippet_suggest.specs.SuggestedLines.{is_touched, lines_suggested}
+use Rattle.snippet_suggest.proofs.RisingLemmas.{shown_all}
 use Rattle.snippet_suggest.proofs.ShownLemmas.{touched_step, untouched_step}
 use Rattle.snippet_suggest.proofs.shown.shown_lines.Invariants.{Shows}
 use Rattle.snippet_suggest.proofs.shown.shown_lines.Goals as goal
@@ -34,18 +34,11 @@ loop-line-preserved c =
           }))
     ]
 
-pub returns-clause-rising : goal.returns-clause-rising
-returns-clause-rising c =
+pub returns : goal.returns
+returns c =
     let touched = is_touched c.args.fold c.args.ranges.now in
     let l = c.loop-line in
-    let all = shown_all touched l.shown.items (lines_suggested touched c.args.count) l.after l.line c.args.count
-    (omega (arith, c.loop-line-test.false)) l.invariant.whole in
-    subst (λ (shown : List SuggestionLine). AreRising 0 c.args.count (numbers_shown shown)) (sym all) (rising_shown touched c.args.count)
-
-pub returns-clause-touched : goal.returns-clause-touched
-returns-clause-touched c = λ k below holds.
-    let touched = is_touched c.args.fold c.args.ranges.now in
-    let l = c.loop-line in
-    let all = shown_all touched l.shown.items (lines_suggested touched c.args.count) l.after l.line c.args.count
-    (omega (arith, c.loop-line-test.false)) l.invariant.whole in
-    subst (λ (shown : List SuggestionLine). Contains (numbers_shown shown) k) (sym all) (touched_shown touched c.args.count k below holds)
+    record {
+      value = shown_all touched l.shown.items (lines_suggested touched c.args.count) l.after l.line c.args.count
+          (omega (arith, c.loop-line-test.false)) l.invariant.whole;
+    }

@@ -1,5 +1,5 @@
 use denote.Enum.Bare.{same_true, true_same}
-use Rattle.std.proofs.Common.{◌≡◌, ◌≢◌, ℕ, ◌+◌, ◌<◌, ◌∷◌, ◌++◌, ◌∙◌, [], All, List, ap, append_assoc, arith, if◌then◌else◌, length, map, replicate, rules}
+use Rattle.std.proofs.Common.{◌≡◌, ◌≢◌, ℕ, ◌+◌, ◌<◌, ◌∷◌, ◌++◌, ◌∙◌, [], All, List, ap, append_assoc, if◌then◌else◌, length, map, rules}
 use Rattle.std.proofs.Common.{subst, sym}
 use Rattle.std.proofs.lemmas.List.{append-nil, length-map}
 use Rattle.snippet_grid.specs.Grid.{row_at}
@@ -10,21 +10,15 @@ use Rattle.snippet_suggest.specs.declared.kind.DisplaySuggestion.{DisplaySuggest
 use Rattle.snippet_suggest.specs.Cells.{begin_cells, suggestion_row}
 use Rattle.snippet_suggest.specs.Suggested.{new_on}
 use Rattle.snippet_suggest.proofs.SuggestedRows.{body_shown, shown_same}
-use Rattle.std.proofs.lemmas.Result.{IfOk-weaker}
 use Rattle.snippet_lines.specs.Lines.{source_lines}
 use Rattle.snippet_lines.specs.Place.{line_of}
 use Rattle.snippet_lines.specs.Span.{IsSpan}
 use Rattle.snippet_splice.specs.declared.patches.TrimmedPatch.{TrimmedPatch}
 use Rattle.snippet_suggest.specs.contracts.kind.DisplaySuggestion.{the_type}
 use Rattle.snippet_suggest.specs.declared.kind.DisplaySuggestion.TheVariants.{Diff}
-use Rattle.snippet_suggest.specs.declared.shown.SuggestionLine.TheVariants.{Line}
 use Rattle.snippet_splice.specs.declared.splice.LineRange.{LineRange}
 use Rattle.snippet_suggest.specs.Given.{first_given, first_original, given_lines, given_ranges, shown_kind}
-use Rattle.snippet_suggest.specs.RowOrder.{Begins, SuggestionRow, row_of_shown, rows_of_suggestion}
-use Rattle.snippet_suggest.specs.SuggestionRows.{AddsRows, NumberFits}
 use Rattle.snippet_suggest.specs.SuggestedLines.{is_touched, lines_suggested}
-use Rattle.snippet_suggest.proofs.ComposeLemmas.{none_empty, row_alone, rows_append, rows_shown}
-use Rattle.snippet_suggest.proofs.GutterFits.{numbers_fit}
 use Rattle.snippet_suggest.proofs.KnownLemmas.{known_first, known_originals, known_some}
 use Rattle.snippet_suggest.proofs.KnownNumbers.{known_one, lines_none, lines_some}
 use Rattle.snippet_suggest.proofs.OrderLaws.{rows_others}
@@ -33,13 +27,6 @@ use Rattle.snippet_suggest.proofs.suggestion.draw_body.Goals as goal
 pub draw_emptied-requires-clause-none : goal.draw_emptied-requires-clause-none
 draw_emptied-requires-clause-none c =
     lines_none (λ l. l.now) c.args.lines.now (given_lines c.args.suggestion.now.snippet.now) (sym c.in_default.ensures.value) c.requires.lines
-
-pub returns-in_default-clause-added : goal.returns-in_default-clause-added
-returns-in_default-clause-added c = λ room above tail is shared.
-    let a = c.args in
-    let s = a.suggestion.now.snippet.now in
-    none_empty a.layout.now (s.line_start + first_given s) (given_lines s) (rows_of_suggestion a.start s) above c.draw_emptied.new.buffer
-    (c.in_ok-draw_emptied.ensures.added above tail is shared)
 
 pub first_number-first-requires-clause-some : goal.first_number-first-requires-clause-some
 first_number-first-requires-clause-some c =
@@ -61,62 +48,6 @@ draw_changed-requires c =
       first = c.first_number-first.ensures.value ∙ ap (λ ps. p.map.first +
           (if p.snippet.now.fold then line_of (source_lines p.map.text) (first_original ps) else 0)) c.deref.ensures.value ∙ known_first p c.requires.prepared;
     }
-
-pub returns-then-eq-clause-added : goal.returns-then-eq-clause-added
-returns-then-eq-clause-added c = λ room above tail is shared.
-    let a = c.args in
-    let p = a.suggestion.now in
-    let s = p.snippet.now in
-    let lines = given_lines s in
-    let new = c.draw_changed.new.buffer in
-    let n : ℕ = c.first_number-first.result in
-    let first : n ≡ s.line_start + first_given s = c.first_number-first.ensures.value
-    ∙ ap (λ ps. p.map.first + (if s.fold then line_of (source_lines p.map.text) (first_original ps) else 0)) c.deref.ensures.value
-    ∙ known_first p c.requires.prepared in
-    let some : 0 < length lines = omega (arith, ap length c.requires.lines, length-map a.lines.now (λ l. l.now), c.in-Some.ensures.item.3.0) in
-    let fits : NumberFits a.layout.now n (Line 0) = subst (λ (m : ℕ). NumberFits a.layout.now m (Line 0)) (sym first)
-    (numbers_fit a.layout.now s c.requires.prepared.suggestible room 0 some) in
-    let head = c.in_ok-draw_head.ensures.added above tail is shared in
-    let Adds : ℕ → ℕ → Type 0 = λ m skipped. AddsRows a.layout.now m lines (rows_of_suggestion a.start s) above (new ++ replicate skipped []) in
-    IfOk-weaker c.draw_changed.result (Adds n) (Adds (s.line_start + first_given s)) (λ skipped adds.
-    subst (λ (m : ℕ). Adds m skipped) first adds) (c.draw_changed.ensures.added fits above head.row a.start head.added head.is)
-
-pub returns-clause-added : goal.returns-clause-added
-returns-clause-added c = λ room above tail is shared.
-    let a = c.args in
-    let p = a.suggestion.now in
-    let s = p.snippet.now in
-    let l = a.layout.now in
-    let at : ℕ = s.line_start + first_given s in
-    let lines = given_lines s in
-    let mid = c.draw_head.new.buffer in
-    let new = c.draw_lines.new.buffer in
-    let n : ℕ = c.first_number-first.result in
-    let first : n ≡ at = c.first_number-first.ensures.value ∙ ap (λ ps.
-    p.map.first + (if s.fold then line_of (source_lines p.map.text) (first_original ps) else 0)) c.deref.ensures.value
-    ∙ known_first p c.requires.prepared in
-    let count : length a.lines.now ≡ length lines = sym (length-map a.lines.now (λ l. l.now)) ∙ ap length c.requires.lines in
-    let fits : (k : ℕ) → k < length a.lines.now → NumberFits l n (Line k) = λ k within.
-    subst (λ (m : ℕ). NumberFits l m (Line k)) (sym first) (numbers_fit l s c.requires.prepared.suggestible room k (omega (arith, within, count))) in
-    let other : p.kind ≢ Diff = λ same. cc (c.if-eq.false, c.eq.ensures, true_same the_type p.kind Diff same) in
-    let Shown : List LineRange → ℕ → List SuggestionRow = λ ranges m. map row_of_shown (lines_suggested (is_touched s.fold ranges) m) in
-    let ranges : c.deref-3.result.now ≡ given_ranges s = c.deref-3.ensures.value ∙ c.requires.prepared.ranges in
-    let shown : Shown c.deref-3.result.now (length a.lines.now) ≡ Shown (given_ranges s) (length lines) = ap (λ rs. Shown rs (length a.lines.now)) ranges
-    ∙ ap (Shown (given_ranges s)) count in
-    let Adds : ℕ → List (List ℕ) → List SuggestionRow → Type 0 = λ m ls rs. AddsRows l m ls rs mid new in
-    let drawn : Adds n (map (λ l. l.now) a.lines.now) (Shown c.deref-3.result.now (length a.lines.now)) = rows_shown l n (map (λ l. l.now) a.lines.now)
-    (lines_suggested (is_touched s.fold c.deref-3.result.now) (length a.lines.now)) mid new (c.in_ok-draw_lines.ensures.added fits) in
-    let below : Adds at lines (Shown (given_ranges s) (length lines)) =
-    subst (Adds at lines) shown
-    (subst (λ (m : ℕ). Adds m lines
-    (Shown c.deref-3.result.now (length a.lines.now)))
-    first (subst (λ (ls : List (List ℕ)). Adds n ls (Shown c.deref-3.result.now (length a.lines.now))) c.requires.lines drawn)) in
-    let head = row_alone l at lines (Begins a.start) above mid (c.in_ok-draw_head.ensures.added above tail is shared) in
-    let line = lines_some (λ l. l.now) a.lines.now lines c.in-Some.line.now (sym c.in-Some.ensures.value) c.requires.lines in
-    let rows = rows_others a.start s _ line.0 line.1 (λ diff. other (c.requires.prepared.kind ∙ diff)) in
-    none_empty l at lines (rows_of_suggestion a.start s) above new (subst (λ rs.
-    AddsRows l at lines rs above new) (sym rows) (rows_append l at lines (Begins a.start ∷ [])
-    (Shown (given_ranges s) (length lines)) above mid new head below))
 
 pub returns-in_default-clause-cells : goal.returns-in_default-clause-cells
 returns-in_default-clause-cells c = λ above tail is count.

@@ -1,5 +1,5 @@
 use denote.Enum.Bare.{same_true, true_same}
-use Rattle.std.proofs.Common.{◌≡◌, ◌≢◌, ℕ, ◌+◌, ◌<◌, ◌≤◌, ◌∷◌, ◌++◌, ◌∙◌, All, [], false, List, ap, append_assoc, arith, if◌then◌else◌, length, map, refl}
+use Rattle.std.proofs.Common.{◌≡◌, ◌≢◌, ℕ, ◌+◌, ◌<◌, ◌≤◌, ◌∷◌, ◌++◌, ◌∙◌, All, [], false, List, ap, append_assoc, arith, if◌then◌else◌, length, map}
 use Rattle.std.proofs.Common.{rules, subst, sym}
 use Rattle.std.proofs.lemmas.List.{append-nil, length-append}
 use Rattle.snippet_grid.specs.Grid.{row_at}
@@ -14,15 +14,11 @@ use Rattle.snippet_splice.specs.declared.patches.TrimmedPatch.{TrimmedPatch}
 use Rattle.snippet_parts.specs.declared.source_map.LineInfo.{LineInfo}
 use Rattle.snippet_suggest.specs.contracts.kind.DisplaySuggestion.{the_type}
 use Rattle.snippet_suggest.specs.declared.kind.DisplaySuggestion.TheVariants.{Diff}
-use Rattle.snippet_suggest.specs.Given.{first_given, first_original, first_original_end, given_lines, removed_lines}
-use Rattle.snippet_suggest.specs.RowOrder.{Begins, SuggestionRow, numbered_at, removed_from, removed_row}
-use Rattle.snippet_suggest.specs.SuggestionRows.{AddsRows, begins_in_last}
-use Rattle.snippet_suggest.proofs.ComposeLemmas.{row_alone, rows_append}
+use Rattle.snippet_suggest.specs.Given.{first_original, first_original_end, removed_lines}
+use Rattle.snippet_suggest.specs.RowOrder.{Begins, numbered_at, removed_from, removed_row}
 use Rattle.snippet_suggest.proofs.KnownLemmas.{known_originals, known_some}
 use Rattle.snippet_suggest.proofs.KnownRemoved.{known_emptied_rows}
 use Rattle.snippet_suggest.proofs.OrderLaws.{rows_none, rows_none_diff}
-use Rattle.snippet_suggest.proofs.RemovedRows.{removed_rows, tail_row}
-use Rattle.snippet_suggest.proofs.TailLemmas.{start_tail}
 use Rattle.snippet_suggest.proofs.ReachLemmas.{touched_some}
 use Rattle.snippet_suggest.proofs.suggestion.draw_emptied.Goals as goal
 
@@ -48,32 +44,6 @@ draw_removed_lines-requires-2-clause-some c =
 pub returns-then-eq : goal.returns-then-eq
 returns-then-eq c =
     record {
-      added = λ above tail is shared.
-          let a = c.args in
-          let p = a.suggestion.now in
-          let s = p.snippet.now in
-          let first = s.line_start + first_given s in
-          let mid = c.draw_head.new.buffer in
-          let new = c.draw_removed_lines.new.buffer in
-          let span = c.given_span.result in
-          let i : ℕ = line_of (source_lines p.map.text) span.start in
-          let infos = c.in_ok-removed.removed.items in
-          let diff : p.kind ≡ Diff = same_true the_type (search rules) p.kind Diff (sym c.if-eq.ensures) in
-          let some : 0 < length c.deref.result.now = subst (λ (ps : List TrimmedPatch). 0 < length ps) (sym c.deref.ensures.value)
-          (known_some p c.requires.prepared) in
-          let starts = c.given_span.ensures.start ∙ ap (λ ps. if s.fold then first_original ps else 0) c.deref.ensures.value in
-          let ends = c.given_span.ensures.end some ∙ ap (λ ps. if s.fold then first_original_end ps else length p.map.text) c.deref.ensures.value in
-          let removed : removed_from i (numbered_at c.deref-then-eq.result.now) ≡ map (removed_row s) (removed_lines s) =
-          ap (λ is. removed_from i (numbered_at is)) c.deref-then-eq.ensures.value
-          ∙ known_emptied_rows p c.requires.prepared infos span.start span.end c.requires.none starts ends c.in_ok-removed.ensures.lines in
-          let rows = rows_none_diff a.start s c.requires.none (sym c.requires.prepared.kind ∙ diff) in
-          let Adds : List SuggestionRow → Type 0 = λ rs. AddsRows a.layout.now first (given_lines s) rs above new in
-          let head = row_alone a.layout.now first (given_lines s) (Begins a.start) above mid (c.in_ok-draw_head.ensures.added above tail is shared) in
-          let below = c.draw_removed_lines.ensures.added mid [] false c.num_lines-row.ensures.count (sym (append-nil mid)) refl in
-          on_ok_weaker c.draw_removed_lines.result
-          (λ adds. subst Adds (ap (λ rs. Begins a.start ∷ rs) removed ∙ sym rows)
-          (rows_append a.layout.now first (given_lines s) (Begins a.start ∷ []) (removed_from i (numbered_at c.deref-then-eq.result.now))
-          above mid new head (removed_rows a.layout.now first (given_lines s) i (numbered_at c.deref-then-eq.result.now) mid new adds))) below;
       cells = λ above tail is count.
           let a = c.args in
           let p = a.suggestion.now in
@@ -103,31 +73,6 @@ returns-then-eq c =
 pub returns : goal.returns
 returns c =
     record {
-      added = λ above tail is shared.
-          let a = c.args in
-          let p = a.suggestion.now in
-          let s = p.snippet.now in
-          let first = s.line_start + first_given s in
-          let new = c.draw_removed_lines-2.new.buffer in
-          let span = c.given_span.result in
-          let i : ℕ = line_of (source_lines p.map.text) span.start in
-          let infos = c.in_ok-removed.removed.items in
-          let other : p.kind ≢ Diff = λ same. cc (c.if-eq.false, c.eq.ensures, true_same the_type p.kind Diff same) in
-          let some : 0 < length c.deref.result.now = subst (λ (ps : List TrimmedPatch). 0 < length ps) (sym c.deref.ensures.value)
-          (known_some p c.requires.prepared) in
-          let starts = c.given_span.ensures.start ∙ ap (λ ps. if s.fold then first_original ps else 0) c.deref.ensures.value in
-          let ends = c.given_span.ensures.end some ∙ ap (λ ps. if s.fold then first_original_end ps else length p.map.text) c.deref.ensures.value in
-          let removed : removed_from i (numbered_at c.deref-2.result.now) ≡ map (removed_row s) (removed_lines s) =
-          ap (λ is. removed_from i (numbered_at is)) c.deref-2.ensures.value
-          ∙ known_emptied_rows p c.requires.prepared infos span.start span.end c.requires.none starts ends c.in_ok-removed.ensures.lines in
-          let rows = rows_none a.start s c.requires.none (λ diff. other (c.requires.prepared.kind ∙ diff)) in
-          let Adds : List SuggestionRow → Type 0 = λ rs. AddsRows a.layout.now first (given_lines s) rs above new in
-          let row = tail_row a.layout.now (begins_in_last a.start) above tail a.buffer.now c.first_row-row.result is
-          (start_tail a.layout.now a.start tail shared) c.first_row-row.ensures.value in
-          on_ok_weaker c.draw_removed_lines-2.result
-          (λ adds. subst Adds (removed ∙ sym rows)
-          (removed_rows a.layout.now first (given_lines s) i (numbered_at c.deref-2.result.now) above new adds))
-          (c.draw_removed_lines-2.ensures.added above tail (begins_in_last a.start) row is (start_tail a.layout.now a.start tail shared));
       cells = λ above tail is count.
           let a = c.args in
           let p = a.suggestion.now in

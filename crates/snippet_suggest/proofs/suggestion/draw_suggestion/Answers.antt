@@ -1,5 +1,7 @@
 use denote.Enum.Bare.{same_true, true_same}
 use Rattle.std.proofs.Common.{◌≡◌, ◌≢◌, ◌∙◌, ℕ, ◌++◌, ◌∷◌, [], All, List, ap, map, replicate, rules, subst, sym}
+use Rattle.std.proofs.Common.{◌+◌, arith, length}
+use Rattle.std.proofs.lemmas.List.{length-append, length-replicate}
 use Rattle.snippet_splice.specs.Edits.{trimmed_edit_of}
 use Rattle.snippet_suggest.specs.contracts.kind.DisplaySuggestion.{the_type}
 use Rattle.snippet_suggest.specs.declared.kind.DisplaySuggestion.TheVariants.{Underline}
@@ -13,11 +15,14 @@ use Rattle.snippet_suggest.proofs.SuggestedRows.{ends_marked, ends_plain, sugges
 use Rattle.snippet_lines.specs.Span.{IsSpan}
 use Rattle.snippet_style.specs.Cell.{Cell}
 use Rattle.snippet_splice.specs.declared.patches.TrimmedPatch.{TrimmedPatch}
-use Rattle.snippet_suggest.specs.SuggestionRows.{AddsRow, IsEdgeRow, beside_gutter, end_glyph}
-use Rattle.snippet_suggest.proofs.LastRow.{end_number, end_row, suggestion_added}
 use Rattle.snippet_suggest.proofs.KnownLemmas.{known_spans}
 use Rattle.snippet_suggest.proofs.suggestion.draw_suggestion.Goals as goal
 use Rattle.snippet_suggest.proofs.suggestion.draw_suggestion.Goals.{then-eq+in_ok-draw_marks, else-eq}
+
+-- the number of the row below all rows and so many empty ones
+end_number : (skipped row : ℕ) (old : List (List Cell)) → row ≡ length old + skipped → row ≡ length (old ++ replicate skipped [])
+end_number skipped row old is =
+    omega (arith, is, length-append old (replicate skipped []), length-replicate {A = List Cell} skipped [])
 
 pub draw_marks-requires-clause-spans : goal.draw_marks-requires-clause-spans
 draw_marks-requires-clause-spans c =
@@ -27,24 +32,6 @@ draw_marks-requires-clause-spans c =
 pub returns : goal.returns
 returns c =
     record {
-      added = λ room above tail is shared.
-          let a = c.args in
-          let l = a.layout.now in
-          let s = a.suggestion.now.snippet.now in
-          let skipped = c.in_ok-skipped.skipped in
-          let mid = c.draw_body.new.buffer in
-          let before : List (List Cell) = mid ++ replicate skipped [] in
-          let glyph : List ℕ = end_glyph l.base.decor a.follows in
-          let left : List ℕ = beside_gutter l.base.gutter glyph in
-          let Ended : List (List Cell) → Type 0 = λ rows. AddsRow (IsEdgeRow l.base.decor l.base.gutter left) before rows in
-          let ended : Ended c.draw_end.new.buffer = end_row l glyph skipped mid c.draw_end.new.buffer c.in_ok-row.ensures.added in
-          let last : Ended c.if-eq.buffer = elim c.if-eq.branch [
-            | then-eq+in_ok-draw_marks w ↦
-                subst Ended (sym w.buffer-is) (w.in_ok-draw_marks.ensures.marked before ended.row left
-                (end_number skipped c.in_ok-row.row mid c.in_ok-row.ensures.row.0) ended.added ended.is)
-            | else-eq w ↦ subst Ended (sym w.buffer-is) ended
-          ] in
-          suggestion_added l a.start a.follows s skipped above mid c.if-eq.buffer (c.in_ok-skipped.ensures.added room above tail is shared) last;
       cells = λ above tail is count.
           let a = c.args in
           let l = a.layout.now in

@@ -8,37 +8,37 @@ use Rattle.annotate_snippets.proofs.renderer.elements.draw_element.Goals as goal
 
 pub returns-in-Message : goal.returns-in-Message
 returns-in-Message c = record {
-  added = λ above tail found is tail_is found_is.
+  added = λ above found is.
       on_ok_weaker c.draw_message.result
       (λ drawn. plain_added c.args.renderer.now c.args.layout c.args.around found c.args.element (Message c.in-Message.message.now)
-      above tail c.args.buffer.now c.draw_message.new.buffer _ (ap element_of c.in-Message.is) c.requires.around (λ alone. alone)
-      is tail_is drawn refl) c.draw_message.ensures.rows;
+      above c.args.buffer.now c.draw_message.new.buffer _ (ap element_of c.in-Message.is) c.requires.around (λ alone. alone)
+      is drawn refl) c.draw_message.ensures.rows;
 }
 
 pub returns-in-Cause : goal.returns-in-Cause
 returns-in-Cause c = record {
-  added = λ above tail found is tail_is found_is.
+  added = λ above found is.
       on_ok_weaker c.draw_cause.result
       (λ drawn. plain_added c.args.renderer.now c.args.layout c.args.around found c.args.element (Cause c.in-Cause.cause.snippet.now)
-      above tail c.args.buffer.now c.draw_cause.new.buffer drawn.rows (ap element_of c.in-Cause.is) c.requires.around (λ alone. alone)
-      is tail_is drawn.added drawn.is) c.draw_cause.ensures.added;
+      above c.args.buffer.now c.draw_cause.new.buffer drawn.rows (ap element_of c.in-Cause.is) c.requires.around (λ alone. alone)
+      is drawn.added drawn.is) c.draw_cause.ensures.added;
 }
 
 pub returns-in-Origin : goal.returns-in-Origin
 returns-in-Origin c = record {
-  added = λ above tail found is tail_is found_is.
+  added = λ above found is.
       on_ok_weaker c.draw_place.result
       (λ drawn. plain_added c.args.renderer.now c.args.layout c.args.around found c.args.element (Origin c.in-Origin.origin.now)
-      above tail c.args.buffer.now c.draw_place.new.buffer _ (ap element_of c.in-Origin.is) c.requires.around (λ alone. alone)
-      is tail_is drawn refl) c.draw_place.ensures.rows;
+      above c.args.buffer.now c.draw_place.new.buffer _ (ap element_of c.in-Origin.is) c.requires.around (λ alone. alone)
+      is drawn refl) c.draw_place.ensures.rows;
 }
 
 pub returns-in-Padding : goal.returns-in-Padding
 returns-in-Padding c = record {
-  added = λ above tail found is tail_is found_is.
+  added = λ above found is.
       on_ok_weaker c.draw_padding.result
       (λ drawn. plain_added c.args.renderer.now c.args.layout c.args.around found c.args.element (Padding c.in-Padding.field-0.now)
-      above tail c.args.buffer.now c.draw_padding.new.buffer _ (ap element_of c.in-Padding.is) c.requires.around (λ alone. alone)
-      is tail_is drawn (ap (λ last. padding_row c.args.layout.decor c.args.layout.gutter last ∷ []) c.is_nothing-last.ensures.value))
+      above c.args.buffer.now c.draw_padding.new.buffer _ (ap element_of c.in-Padding.is) c.requires.around (λ alone. alone)
+      is drawn (ap (λ last. padding_row c.args.layout.decor c.args.layout.gutter last ∷ []) c.is_nothing-last.ensures.value))
       c.draw_padding.ensures.row;
 }

@@ -10,12 +10,12 @@ use Rattle.annotate_snippets.proofs.renderer.suggestions.draw_patches.Goals as g
 
 pub returns : goal.returns
 returns c = record {
-  added = λ above tail found is tail_is found_is.
-      patches_added c.args.renderer.now c.args.layout c.args.around c.args.suggestion.now.snippet.now found above tail c.args.buffer.now c.if-eq.buffer
+  added = λ above found is.
+      patches_added c.args.renderer.now c.args.layout c.args.around c.args.suggestion.now.snippet.now found above c.args.buffer.now c.if-eq.buffer
       c.draw_suggestion.new.buffer c.line_numbers.result _ c.draw_suggestion.result
       c.line_numbers.ensures.value (ap not c.is_nothing-follows.ensures.value)
-      c.requires.prepared.some c.requires.prepared.utf8 (subst IsUtf8 c.requires.prepared.text
-      (IsUtf8-string_bytes c.args.suggestion.now.splice.complete)) c.requires.room is tail_is found_is c.requires.path
+      c.requires.prepared.utf8 (subst IsUtf8 c.requires.prepared.text
+      (IsUtf8-string_bytes c.args.suggestion.now.splice.complete)) is c.requires.path
       (elim c.if-eq.branch [
         | then-eq+in_ok-draw_path w ↦ λ starts. w.buffer-is ∙ w.in_ok-draw_path.ensures.rows
         | else-eq w ↦ λ starts. let never : ◌≡◌ {A = Bool} false true = w.if-eq.ensures ∙ ap (λ at. sameb the_type at Path) starts in absurd (cc)
@@ -24,5 +24,5 @@ returns c = record {
         | then-eq+in_ok-draw_path w ↦ λ other. absurd (other (same_true the_type (search rules) _ _ (sym w.if-eq.ensures)))
         | else-eq w ↦ λ other. w.buffer-is
       ])
-      c.draw_suggestion.ensures.added c.draw_suggestion.ensures.cells;
+      c.draw_suggestion.ensures.cells;
 }
