@@ -1,6 +1,9 @@
 //! The codes that open a sheet's styles, each made once, when it is first needed.
-ghost use Rattle.std.specs.Prelude.{◌≡◌, ◌≢◌, ◌<◌, ◌++◌, true, false, slice_index_or, IfOk, OnOk, string_bytes};
+ghost use Rattle.std.specs.Prelude.{◌≡◌, ◌≢◌, ◌<◌, ◌++◌, true, false, map, slice_index_or, IfOk, OnOk, string_bytes};
+ghost use Rattle.std.specs.Prelude.{encode_utf8_all};
 ghost use Rattle.snippet_grid.specs.SheetCodes.{opening_bytes, style_at, styles_in};
+ghost use Rattle.snippet_style.specs.Codes.{reset};
+ghost use Rattle.snippet_style.specs.Style.{is_plain_style};
 ghost use Rattle.snippet_style.specs.Stylesheet as spec;
 ghost use Rattle.snippet_style.specs.declared.style.Style.{Style};
 ghost use Rattle.snippet_style.specs.declared.stylesheet.Stylesheet.{Stylesheet};
@@ -14,15 +17,17 @@ use std::marker::Model;
 pub struct SheetCodes {
     alloc: Global,
     sheet: Stylesheet,
-    /// The styles of the sheet, in the order of its fields.
+    /// The styles of the sheet, in the order of its fields, and whether each is plain.
     styles: [Style; 11],
+    plain: [bool; 11],
     /// The codes that were needed so far, in the same order.
     codes: [Option<String>; 11],
 }
 
 impl Model for SheetCodes {
-    ghost use Rattle.std.specs.Prelude.{◌≡◌};
+    ghost use Rattle.std.specs.Prelude.{◌≡◌, map};
     ghost use Rattle.snippet_grid.specs.SheetCodes.{AreOpenings, styles_in};
+    ghost use Rattle.snippet_style.specs.Style.{is_plain_style};
     ghost use Rattle.snippet_style.specs.declared.stylesheet.Stylesheet.{Stylesheet};
 
     ghost Value = { Stylesheet };
@@ -31,6 +36,7 @@ impl Model for SheetCodes {
 
     ghost invariant = { λ c. record {
       styles : c.styles ≡ styles_in c.sheet;
+      plain : c.plain ≡ map is_plain_style (styles_in c.sheet);
       codes : AreOpenings c.codes (styles_in c.sheet);
     } };
 }
@@ -44,6 +50,7 @@ impl SheetCodes {
             alloc,
             sheet: *sheet,
             styles: styles(sheet),
+            plain: plain_places(sheet),
             codes: [
                 None, None, None, None, None, None, None, None, None, None, None,
             ],
@@ -51,11 +58,20 @@ impl SheetCodes {
     }
 
     /// The style at a place.
-    pub(crate) fn style_at(&self, place: usize) -> Style
+    fn style_at(&self, place: usize) -> Style
         requires within { place < 11 }
         ensures value { result ≡ style_at self.now place }
     {
         self.styles[place]
+    }
+
+    /// Whether the style at a place is plain.
+    #[inline(always)]
+    fn is_plain(&self, place: usize) -> bool
+        requires within { place < 11 }
+        ensures value { result ≡ is_plain_style (style_at self.now place) }
+    {
+        self.plain[place]
     }
 
     /// Whether the styles at two places differ.
@@ -68,6 +84,19 @@ impl SheetCodes {
         a != b && self.styles[a] != self.styles[b]
     }
 
+    /// Adds the code that switches the style at a place off, if it has one.
+    #[inline(always)]
+    pub(crate) fn push_reset(&self, out: &mut String, place: usize) -> Result<(), AllocError>
+        requires within { place < 11 }
+        ensures text { OnOk result (string_bytes out.new ≡ string_bytes out.old
+            ++ encode_utf8_all (reset (style_at self.now place))) }
+    {
+        if self.is_plain(place) {
+            return Ok(());
+        }
+        out.push_str(RESET)
+    }
+
     /// Adds the code that opens the style at a place.
     #[inline(always)]
     pub(crate) fn push_opening(&mut self, out: &mut String, place: usize) -> Result<(), AllocError>
@@ -76,7 +105,7 @@ impl SheetCodes {
         ensures text { OnOk result (string_bytes out.new ≡ string_bytes out.old
             ++ opening_bytes (style_at self.old place)) }
     {
-        if self.styles[place].is_plain() {
+        if self.is_plain(place) {
             return Ok(());
         }
         if let Some(code) = &self.codes[place] {
@@ -107,6 +136,28 @@ fn styles(sheet: &Stylesheet) -> [Style; 11]
         sheet.removal,
     ]
 }
+
+/// Whether each style of a sheet is plain, in the order of its fields.
+fn plain_places(sheet: &Stylesheet) -> [bool; 11]
+    ensures value { result ≡ map is_plain_style (styles_in sheet.now) }
+{
+    [
+        sheet.error.is_plain(),
+        sheet.warning.is_plain(),
+        sheet.info.is_plain(),
+        sheet.note.is_plain(),
+        sheet.help.is_plain(),
+        sheet.line_num.is_plain(),
+        sheet.emphasis.is_plain(),
+        sheet.none.is_plain(),
+        sheet.context.is_plain(),
+        sheet.addition.is_plain(),
+        sheet.removal.is_plain(),
+    ]
+}
+
+/// The code that switches any style off.
+const RESET: &str = "\u{1b}[0m";
 
 /// Room for the code of a style of the default sheet, in bytes.
 const ROOM: usize = 12;

@@ -78,6 +78,15 @@ impl<'a> StyledBuffer<'a> {
         }
     }
 
+    /// Takes all rows away. What they had room in is used again.
+    pub fn clear(&mut self)
+        ensures empty { self.new ≡ [] }
+    {
+        self.runs.clear();
+        self.widths.clear();
+        self.text.clear();
+    }
+
     /// How many rows there are.
     pub fn num_lines(&self) -> usize
         ensures count { result ≡ length self.now }

@@ -7,7 +7,7 @@
 //! a cell  | link ends | reset | opening | link begins |  the next cell
 //! ```
 ghost use Rattle.std.specs.Prelude.{◌≡◌, ◌≢◌, ◌<◌, ◌≤◌, ◌++◌, ℕ, List, [], ◌∷◌, length, replicate, None, Some, OnOk};
-ghost use Rattle.std.specs.Prelude.{encode_utf8_all, string_bytes};
+ghost use Rattle.std.specs.Prelude.{string_bytes};
 ghost use Rattle.std.specs.Option.{option_copied};
 ghost use Rattle.std.specs.Str.{chars};
 ghost use Rattle.std.specs.List.{AllPairs, flat_map, slice_index_or};
@@ -15,13 +15,12 @@ ghost use Rattle.snippet_grid.specs.SheetCodes.{style_at};
 ghost use Rattle.snippet_grid.specs.Runs.{IsGrid, IsRow, EndsBy, Precedes, cells_to, grid_shown};
 ghost use Rattle.snippet_grid.specs.declared.runs.Run.{Run};
 ghost use Rattle.snippet_grid.specs.Stretch.{PrintsStretch};
-ghost use Rattle.snippet_style.specs.Codes as spec;
 ghost use Rattle.snippet_grid.specs.Woven.{Opening, Reset, LinkTo, LinkEnd, piece_text, WeavesRow, WeavesRows};
 
 use crate::codes::{NONE, SheetCodes, place_of};
 use crate::runs::Run;
 use crate::spaces::push_spaces;
-use snippet_style::{LevelInner, Style, reset_code};
+use snippet_style::LevelInner;
 use std::alloc::AllocError;
 
 /// How a cell looks: the place of its style in the sheet, and where its link leads.
@@ -115,7 +114,7 @@ fn weave_row(
         last = SPACE;
     }
     end_link(out, last.link, None)?;
-    push_reset(out, codes.style_at(last.place))
+    codes.push_reset(out, last.place)
 }
 
 /// Adds a text that looks like this, after what was printed and looks like `last`.
@@ -190,22 +189,10 @@ fn change_style(
         ++ flat_map piece_text (Reset (style_at codes.old last) ∷ Opening (style_at codes.old next) ∷ [])) }
 {
     if codes.differ(last, next) {
-        push_reset(out, codes.style_at(last))?;
+        codes.push_reset(out, last)?;
         codes.push_opening(out, next)?;
     }
     Ok(())
-}
-
-/// Adds the code that switches a style off, if it has one.
-#[inline(always)]
-fn push_reset(out: &mut String, style: Style) -> Result<(), AllocError>
-    ensures text { OnOk result (string_bytes out.new ≡ string_bytes out.old ++ encode_utf8_all (spec.reset style)) }
-{
-    let code = reset_code(style);
-    if code.is_empty() {
-        return Ok(());
-    }
-    out.push_str(code)
 }
 
 /// Begins the next link, if there is one, unless it was open before.

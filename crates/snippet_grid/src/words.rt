@@ -91,7 +91,12 @@ fn widen(widths: &mut Vec<usize>, row: usize, end: usize) -> Result<(), AllocErr
     ensures wide { IsWidened widths.old.items widths.new.items row end }
     ensures succeeds { IsOk result }
 {
-    if widths.len() <= row {
+    let len = widths.len();
+    if len == row {
+        widths.push(end)?;
+        return Ok(());
+    }
+    if len < row {
         widths.resize(row + 1, 0)?;
     }
     if widths[row] < end {

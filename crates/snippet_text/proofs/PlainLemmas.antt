@@ -1,8 +1,9 @@
 -- A text of printable ASCII alone is as wide as it is long, and shown as it is.
-use Rattle.std.proofs.Common.{◌≡◌, ℕ, ◌+◌, ◌<◌, ◌≤◌, take, drop, subst, List, [], ◌∷◌, All, false, length, chars, refl, arith, ◌++◌, sym, ap, ◌∙◌}
+use Rattle.std.proofs.Common.{◌≡◌, ℕ, ◌+◌, ◌-◌, ◌<◌, ◌≤◌, take, drop, drop-drop, subst, List, [], ◌∷◌, All}
+use Rattle.std.proofs.Common.{false, length, length-drop, chars, refl, arith, ◌++◌, sym, ap, ◌∙◌}
 use Rattle.std.proofs.lemmas.Bool.Decides.{nat_tests}
-use Rattle.std.proofs.lemmas.List.{length-take-le, take-append-drop}
-use Rattle.std.proofs.lemmas.List.Elements.{All-append, All-head, All-nil, All-tail, All-weaker}
+use Rattle.std.proofs.lemmas.List.{length-take-le, take-append-drop, take_all}
+use Rattle.std.proofs.lemmas.List.Elements.{All-append, All-drop, All-head, All-nil, All-tail, All-weaker}
 use Rattle.std.proofs.lemmas.List.Folds.{list_any_none}
 use Rattle.std.proofs.lemmas.List.Sums.{sum_by-cons}
 use Rattle.std.proofs.Math.Seq.{take-append-add}
@@ -57,3 +58,14 @@ plain_further bs a n within first second =
 -- no byte is plain where there is none
 pub plain_none : (bs : List ℕ) → All IsPlain (take 0 bs)
 plain_none bs = All-nil IsPlain
+
+-- where the first bytes are plain, and all from one of these or the next on, all are
+pub plain_overlapping : (bs : List ℕ) (at from n : ℕ) → from ≤ at → length bs ≤ from + n → All IsPlain (take at bs) → All IsPlain (take n (drop from bs))
+    → All IsPlain bs
+plain_overlapping bs at from n low all front back =
+    let whole : take n (drop from bs) ≡ drop from bs = take_all n (drop from bs) (omega (arith, length-drop from bs, all)) in
+    let rest : drop (at - from) (drop from bs) ≡ drop at bs = drop-drop (at - from) from bs
+    ∙ ap (λ k. drop k bs) {x = from + (at - from)} {y = at} (omega arith) in
+    let end : All IsPlain (drop from bs) = subst (λ (l : List ℕ). All IsPlain l) whole back in
+    subst (λ (l : List ℕ). All IsPlain l) (take-append-drop at bs)
+    (All-append IsPlain (take at bs) (drop at bs) front (subst (λ (l : List ℕ). All IsPlain l) rest (All-drop IsPlain (at - from) (drop from bs) end)))

@@ -11,6 +11,6 @@ mod width;
 pub use limit::text_fits;
 pub use normalize::{normalize_untrusted_str, normalized};
 pub use one_line::is_one_line;
-pub use plain::plain_prefix;
+pub use plain::{is_plain, plain_prefix};
 pub use std::borrow::CowStr;
 pub use width::{char_width, str_width};

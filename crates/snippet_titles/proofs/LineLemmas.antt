@@ -1,5 +1,5 @@
 -- The rows of a text's lines.
-use Rattle.std.proofs.Common.{◌≡◌, ◌≢◌, ℕ, ◌+◌, ◌<◌, ◌==◌, false, List, [], ◌∷◌, ◌++◌, length, map, take, get_or, refl, sym, ap, ◌∙◌, arith}
+use Rattle.std.proofs.Common.{◌≡◌, ◌≢◌, ℕ, ◌+◌, ◌<◌, ◌==◌, false, List, [], ◌∷◌, ◌++◌, length, map, take, get_or, All, refl, sym, ap, ◌∙◌, arith}
 use Rattle.std.specs.Borrow.{Bor}
 use Rattle.std.specs.List.{enumerate_from}
 use Rattle.std.specs.Str.{chars}
@@ -11,6 +11,7 @@ use Rattle.std.proofs.lemmas.List.Elements.{All-from_get_or}
 use Rattle.snippet_grid.specs.Grid.{row_at}
 use Rattle.snippet_style.specs.Cell.{Cell, text_cells}
 use Rattle.snippet_style.specs.declared.role.ElementStyle.{ElementStyle}
+use Rattle.snippet_text.specs.Plain.{IsPlain}
 use Rattle.snippet_titles.specs.Appended.{IsAtEnd, appended}
 use Rattle.snippet_titles.specs.HeadingRows.{lines_below, without_empty_end}
 use Rattle.snippet_titles.proofs.SplitLemmas.{lines_at}
@@ -20,6 +21,10 @@ use Rattle.snippet_titles.proofs.EndLemmas.{IsAtEnd-more, appended-further, refi
 pub lines_at-one : (text : List ℕ) → ((i : ℕ) → i < length text → get_or text i 0 ≢ 10) → lines_at text ≡ text ∷ []
 lines_at-one text none = slice_split_none (λ b. b == 10) text (All-from_get_or (λ b. (b == 10) ≡ false) text 0 (λ i within.
     let other : get_or text i 0 ≢ 10 = none i within in grind (arith, nat_tests)))
+
+-- a text of printable ASCII is one line
+pub lines_at-plain : (text : List ℕ) → All IsPlain text → lines_at text ≡ text ∷ []
+lines_at-plain text plain = lines_at-one text (λ i within. let low = (plain i 0 within).0 in omega (arith, low))
 
 -- a line feed ends the first line
 pub lines_at-first : (text first rest : List ℕ) → text ≡ first ++ (10 ∷ rest) → ((i : ℕ) → i < length first → get_or first i 0 ≢ 10)

@@ -28,7 +28,7 @@ use snippet_model::MessageOrTitle;
 use snippet_model::level::{Level, LevelName};
 use snippet_model::snippet::Id;
 use snippet_style::{ElementStyle, char_count};
-use snippet_text::{CowStr, normalized, str_width};
+use snippet_text::{CowStr, is_plain, normalized, str_width};
 use std::alloc::{AllocError, Global};
 
 /// Draws a title or message below all that stands in the grid. Further lines of its text stand below the first. Where
@@ -199,6 +199,11 @@ fn draw_lines(
         (indent_cells style.now (spec.label_width (heading_of heading.now))) role
         (map chars (slice_split (λ b. b == 10) text.now)))) }
 {
+    // Most texts are printable ASCII, in which no line feed has to be looked for.
+    if is_plain(text) {
+        extend_row(buffer, row, text, role)?;
+        return Ok(());
+    }
     let Some((first, rest)) = text.split_once('\n') else {
         extend_row(buffer, row, text, role)?;
         return Ok(());

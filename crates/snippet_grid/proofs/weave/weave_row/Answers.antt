@@ -117,10 +117,10 @@ returns-clause-text c =
           (style_at c.args.codes.now c.loop-run.last.place) (option_copied c.loop-run.last.link) (string_bytes c.args.out.now)
           (string_bytes c.loop-run.out)) here c.loop-run.invariant.woven)
     ] in
-    let worn : c.style_at.result ≡ style_at c.args.codes.now c.if-col-width.last.place = c.style_at.ensures.value
-    ∙ ap (λ s. style_at s c.if-col-width.last.place) kept in
+    let style = style_at c.if-col-width.codes c.if-col-width.last.place in
+    let worn : style ≡ style_at c.args.codes.now c.if-col-width.last.place = ap (λ s. style_at s c.if-col-width.last.place) kept in
     on_ok_weaker c.push_reset.result
-    (λ bytes. row_closed c.args.codes.now c.args.level c.style_at.result (option_copied c.if-col-width.last.link)
+    (λ bytes. row_closed c.args.codes.now c.args.level style (option_copied c.if-col-width.last.link)
     (cells_to c.args.text.now c.args.runs.now c.args.row c.args.width) (string_bytes c.args.out.now) (string_bytes c.if-col-width.out)
     (string_bytes c.end_link.new.out) _ c.in_ok-end_link.ensures.none c.in_ok-end_link.ensures.ended bytes
     (subst (λ (s : Style). Goes c.args.codes.now c.args.level (Some s) (option_copied c.if-col-width.last.link)

@@ -3,7 +3,7 @@ use Rattle.std.proofs.lemmas.Result.{on_ok_weaker}
 use Rattle.snippet_grid.specs.SheetCodes.{opening_bytes, style_at, styles_in}
 use Rattle.std.proofs.lemmas.List.{append-nil}
 use Rattle.snippet_style.proofs.StyleLemmas.{plain_is_plain}
-use Rattle.snippet_grid.proofs.CodeLemmas.{openings_set, style_read}
+use Rattle.snippet_grid.proofs.CodeLemmas.{openings_set}
 use Rattle.snippet_grid.proofs.OutcomeLemmas.{on_ok_value}
 use Rattle.snippet_grid.proofs.codes.SheetCodes.push_opening.Goals as goal
 
@@ -21,13 +21,12 @@ invariant_of-self c =
     let style = c.style_at.ensures.value ∙ sym (ap (λ s. style_at s c.args.place) c.self.view_is) in
     record {
       styles = c.self.invariant.styles;
+      plain = c.self.invariant.plain;
       codes = openings_set c.self.inside.codes (styles_in sheet) c.args.place c.in_ok-code.code sheet.none c.self.invariant.codes c.requires.within
           (c.in_ok-code.ensures.text ∙ ap opening_bytes style);
     }
 
 pub returns-then-is_plain-clause-text : goal.returns-then-is_plain-clause-text
 returns-then-is_plain-clause-text c =
-    let read = style_read c.self.inside.sheet c.args.self.now c.self.inside.styles c.args.place _ c.requires.within c.self.view_is
-    c.self.invariant.styles in
-    let plain = read ∙ plain_is_plain _ (sym c.is_plain.ensures.value ∙ c.if-is_plain.true) in
+    let plain = plain_is_plain _ (sym c.is_plain.ensures.value ∙ c.if-is_plain.true) in
     sym (ap (λ (t : List ℕ). string_bytes c.args.out.now ++ t) (ap opening_bytes plain) ∙ append-nil (string_bytes c.args.out.now))
