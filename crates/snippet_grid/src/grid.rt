@@ -32,6 +32,14 @@ use std::ops::Range;
 ///
 /// Rows and cells are numbered from 0, and each character takes one cell. A call that fails for
 /// running out of memory leaves the grid as it was.
+///
+/// ```
+/// let mut grid = StyledBuffer::new(alloc);
+/// grid.puts(0, 0, "1 | ab", ElementStyle::Quotation)?;
+/// grid.putc(1, 4, '^', ElementStyle::UnderlinePrimary)?;
+/// // "1 | ab", a line feed, "    ^"
+/// let text = grid.render(LevelInner::Error, &Stylesheet::plain())?;
+/// ```
 #[derive(Drop)]
 pub struct StyledBuffer<'a> {
     /// What is written, in order; a cell that no run holds is an unstyled space.
