@@ -30,8 +30,8 @@ use std::ops::Range;
 
 /// A grid of styled cells. It has no row at first.
 ///
-/// Rows and cells are numbered from 0, and each character takes one cell. A call that fails for
-/// running out of memory leaves the grid as it was.
+/// Rows and cells are numbered from 0, and each character takes one cell. What writes asks that the number after a
+/// row's and after a cell's fits in a `usize`. A call that fails for running out of memory leaves the grid as it was.
 ///
 /// ```
 /// let mut grid = StyledBuffer::new(alloc);

@@ -105,7 +105,8 @@ impl<'a> Title<'a> {
         Group::with_title(alloc, self).element(element)
     }
 
-    /// A group with this title and these elements, in their order. The one error is that memory ran out.
+    /// A group with this title and these elements, in their order. The iterator has to end. The one error is that
+    /// memory ran out.
     pub fn elements<I: IntoIterator<Item = Element<'a>>>(
         self,
         alloc: Global,
