@@ -529,7 +529,7 @@ LIBRARY = load()
 def call(name, *inputs):
     """What a function of the library answers, in as much room as that takes."""
     given = [it for each in inputs for it in (each, len(each))]
-    room = 4096 + 2 * sum(map(len, inputs))
+    room = 16384 + 4 * sum(map(len, inputs))
     while True:
         output = ctypes.create_string_buffer(room)
         length = getattr(LIBRARY, name)(*given, output, room)

@@ -28,9 +28,10 @@ pub(crate) fn draw_one(input: &[u8]) -> Result<String, RenderError> {
     Ok(draw(input)?.remove(0))
 }
 
-/// The bytes of the answer to a report in its bytes.
+/// The bytes of the answer to a report in its bytes. Where there is less room than the answer takes the report is drawn once more, so
+/// there is room for what most reports take: labels and bars make a text longer than what it is made of.
 fn answer_to(input: &[u8]) -> Vec<u8> {
-    let mut output = Vec::with_capacity(2 * input.len() + 4096);
+    let mut output = Vec::with_capacity(4 * input.len() + 16384);
     loop {
         let room = output.capacity();
         // SAFETY: both pointers are of a slice's length and not null, and the output overlaps nothing else; the library writes the

@@ -30,8 +30,16 @@ use std::ops::Range;
 
 /// A grid of styled cells. It has no row at first.
 ///
-/// Rows and cells are numbered from 0, and each character takes one cell. A call that fails for
-/// running out of memory leaves the grid as it was.
+/// Rows and cells are numbered from 0, and each character takes one cell. What writes asks that the number after a
+/// row's and after a cell's fits in a `usize`. A call that fails for running out of memory leaves the grid as it was.
+///
+/// ```
+/// let mut grid = StyledBuffer::new(alloc);
+/// grid.puts(0, 0, "1 | ab", ElementStyle::Quotation)?;
+/// grid.putc(1, 4, '^', ElementStyle::UnderlinePrimary)?;
+/// // "1 | ab", a line feed, "    ^"
+/// let text = grid.render(LevelInner::Error, &Stylesheet::plain())?;
+/// ```
 #[derive(Drop)]
 pub struct StyledBuffer<'a> {
     /// What is written, in order; a cell that no run holds is an unstyled space.

@@ -33,7 +33,8 @@ impl EndLine {
 
 /// The lines of a text, each with its end; an empty text has none.
 ///
-/// The text is scanned once, as far as lines are asked for.
+/// The text is scanned once, as far as lines are asked for. Of `one`, CR, LF, `two` it gives `one` with `EndLine::Crlf`
+/// and `two` with `EndLine::Eof`.
 #[derive(Drop)]
 pub struct CursorLines<'a> {
     rest: &'a str,
@@ -108,7 +109,7 @@ pub fn without_line_end(line: &str) -> (&str, EndLine)
     }
 }
 
-/// The number of line feeds in a text, not counting one that ends it.
+/// The number of line feeds in a text, not counting one that ends it: of `a`, LF, `b`, LF it is 1.
 pub fn newline_count(text: &str) -> usize
     ensures value { result ≡ newline_count text.now }
     ensures lines { result + 1 ≡ length (source_lines text.now) }

@@ -12,7 +12,12 @@ use std::marker::Model;
 /// A source with the bytes at which its lines start.
 ///
 /// It is made once, kept, and lent to any number of snippets by `Snippet::indexed`: drawing these looks for no line
-/// again, and prints what it prints of the source's text.
+/// again, and prints what it prints of the source's text. It takes eight bytes for each line.
+///
+/// ```
+/// let lines = SourceLines::new(alloc, source)?;
+/// let snippet = Snippet::indexed(alloc, &lines).annotation(mark)?;
+/// ```
 #[derive(Drop)]
 pub struct SourceLines<'a> {
     source: CowStr<'a>,

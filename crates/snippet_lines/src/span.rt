@@ -17,7 +17,8 @@ pub enum SpanFault {
 
 /// The first fault of a span of bytes, if it has one.
 ///
-/// A span may end, and start, one byte after the source.
+/// A span may end, and start, one byte after the source. Of `é`, two bytes, 0..2 and 3..3 have no fault, 2..1 is
+/// `Reversed`, 0..4 `PastEnd` and 1..2 `OffBoundary`.
 #[tactic(auto, unfolding(crate::specs::Span::span_fault))]
 pub fn check_span(source: &str, span: &Range<usize>) -> Option<SpanFault>
     ensures value { result ≡ span_fault source.now span.now.start span.now.end }

@@ -7,7 +7,8 @@ ghost use Rattle.snippet_model.specs.OptionCow.{text_of};
 
 use snippet_text::CowStr;
 
-/// A text that may be left out. It is made by `From`, of a borrowed or owned text or of an `Option` of one.
+/// A text that may be left out. It is made by `From`, of a borrowed or owned text or of an `Option` of one:
+/// `OptionCow::from("here")`, or `OptionCow(None)` for none.
 #[derive(Debug, Drop)]
 pub struct OptionCow<'a>(
     /// The text, where there is one.

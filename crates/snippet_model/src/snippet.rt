@@ -92,7 +92,7 @@ pub struct Message<'a> {
     pub text: CowStr<'a>,
 }
 
-/// An empty row.
+/// A row of the gutter and the separator alone. As the last element of its group it is the row that closes it.
 #[derive(Clone, Debug, Drop)]
 pub struct Padding;
 
@@ -212,7 +212,8 @@ impl<'a, T> Snippet<'a, T> {
         self.path(OptionCow(Some(CowStr::Borrowed(path))))
     }
 
-    /// The number of the source's first line.
+    /// The number of the source's first line, where it isn't 1. A snippet in which the number after that of the last
+    /// line doesn't fit in a `usize` is refused, as `LineNumberTooLarge`.
     pub fn line_start(mut self, line_start: usize) -> Snippet<'a, T>
         ensures changed { result ≡ record self.entry { line_start = line_start } }
     {
@@ -228,7 +229,8 @@ impl<'a, T> Snippet<'a, T> {
         self
     }
 
-    /// Whether lines far from any span are left out; they are unless this says otherwise.
+    /// Whether lines far from any span are left out, with `...` in their place; they are unless this says otherwise.
+    /// With `false` each line of the source is shown.
     pub fn fold(mut self, fold: bool) -> Snippet<'a, T>
         ensures changed { result ≡ record self.entry { fold = fold } }
     {
@@ -251,7 +253,8 @@ pub struct Annotation<'a> {
 }
 
 impl<'a> Annotation<'a> {
-    /// What is said of the span, drawn beside or below its mark: the text given, or nothing.
+    /// What is said of the span, drawn beside or below its mark: the text given, or nothing. The text isn't trusted: it
+    /// is normalised where it is drawn.
     pub fn label(mut self, label: OptionCow<'a>) -> Annotation<'a>
         ensures changed { result ≡ record self.entry { label = label.entry.0 } }
     {
@@ -306,7 +309,14 @@ impl AnnotationKind {
         }
     }
 
-    /// An annotation of this kind, without label, of the bytes of this span.
+    /// An annotation of this kind, without label, of the bytes of this span: from its start to before its end, counted
+    /// from 0 in the source. Any span may be given; one that isn't of the source is refused by name where the report is
+    /// drawn, as `SpanPastEnd`.
+    ///
+    /// ```text
+    /// AnnotationKind::Context.span(0..3)                             1 | let x = 1;
+    /// AnnotationKind::Primary.span(4..5).label_str("never read")       | --- ^ never read
+    /// ```
     pub fn span<'a>(self, span: Range<usize>) -> Annotation<'a>
         ensures span { result.span ≡ span }
         ensures label { result.label ≡ None }
@@ -356,7 +366,16 @@ pub struct Patch<'a> {
 }
 
 impl<'a> Patch<'a> {
-    /// The edit that puts this text in place of the bytes of this span.
+    /// The edit that puts this text in place of the bytes of this span: an empty span puts it in, an empty text takes
+    /// the bytes away. Two patches of a snippet that overlap are refused where the report is drawn, as
+    /// `PatchesOverlap`.
+    ///
+    /// ```text
+    /// Patch::new(4..5, "y")      1 - let x = 1;
+    ///                            1 + let y = 1;
+    /// Patch::new(4..4, "_")      1 | let _x = 1;
+    ///                              |     +
+    /// ```
     pub fn new(span: Range<usize>, replacement: &'a str) -> Patch<'a>
         ensures span { result.span ≡ span }
         ensures replacement { result.replacement ≡ Borrowed replacement.entry }

@@ -86,7 +86,8 @@ impl<'a> Model for SourceMap<'a> {
 impl<'a> SourceMap<'a> {
     /// The map of a source whose first line has the number `line_start`.
     ///
-    /// The one error is that memory ran out.
+    /// The source has to have fewer than 2^56 bytes, and the number after its last line's to fit in a `usize`. The one
+    /// error is that memory ran out.
     pub fn new(
         alloc: Global,
         source: &'a str,
@@ -204,7 +205,7 @@ impl<'a> SourceMap<'a> {
 
     /// The greatest depth of spans of several lines, and the lines that are kept, each with its entries.
     ///
-    /// The one error is that memory ran out.
+    /// No span may have a fault, as `check_span` finds it. The one error is that memory ran out.
     pub fn annotated_lines<'b>(
         &self,
         annotations: &'b [Annotation<'_>],
@@ -247,7 +248,7 @@ impl<'a> SourceMap<'a> {
         annotated_lines(self.alloc, self, annotations, fold)
     }
 
-    /// Where a span of bytes starts and ends.
+    /// Where a span of bytes starts and ends. It may have no fault, as `check_span` finds it.
     ///
     /// The end of an empty span is its start. A start after the end of its line's text, at the line end, counts one
     /// character more than the text has; such an end does too, and one column more, if the span started on an earlier
@@ -284,7 +285,7 @@ impl<'a> SourceMap<'a> {
     }
 
     /// The lines that a span of bytes touches, in order: from the one that holds its start to the one that holds its
-    /// end.
+    /// end. The span may have no fault, as `check_span` finds it.
     ///
     /// The last line holds each byte after it too. The one error is that memory ran out.
     pub fn span_to_lines(&self, span: Range<usize>) -> Result<Vec<LineInfo<'a>>, AllocError>
@@ -305,8 +306,10 @@ impl<'a> SourceMap<'a> {
     ///
     /// Folded it goes from the line on which the first patch starts to the end of the line on which the last one ends,
     /// or to the end of the last trimmed replacement, if that ends with a line feed. Unfolded it is the whole patched
-    /// source. Line ends that are copied before the last patch are written as line feeds. The one error is that memory
-    /// ran out.
+    /// source. Line ends that are copied before the last patch are written as line feeds.
+    ///
+    /// No span may have a fault, as `check_span` finds it, and no two patches may overlap, as `check_patches` finds it.
+    /// The one error is that memory ran out.
     pub fn splice_lines<'b>(
         &self,
         patches: &'b [Patch<'_>],

@@ -53,6 +53,10 @@ fn push_shown(out: &mut String, c: char) -> Result<(), AllocError>
 ///
 /// A tab becomes four spaces, a control character its control picture (U+2400 and above), a bidirectional control
 /// U+FFFD, and a zero width joiner nothing. The text keeps its width. The one error is that memory ran out.
+///
+/// ```text
+/// a, a tab, b, U+001B, [1m     becomes     a    b␛[1m
+/// ```
 pub fn normalize_untrusted_str(alloc: Global, text: &str) -> Result<String, AllocError>
     ensures value { IfOk result (λ t. chars (string_bytes t) ≡ spec.norm (chars text.now)) }
     ensures unlisted { IfOk result (λ t. list_any spec.is_listed (chars (string_bytes t)) ≡ false) }

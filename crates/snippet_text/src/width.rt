@@ -28,7 +28,8 @@ pub fn char_width(c: char) -> usize
 
 /// The number of columns that a text takes: the sum of its characters' widths.
 ///
-/// Sequences such as emoji and flags get no treatment of their own.
+/// The text has to have fewer than 2^56 bytes, which `text_fits` tests. Sequences such as emoji and flags get no
+/// treatment of their own. `日本` takes 4 columns, and `e` with the accent U+0301 takes 1.
 pub fn str_width(text: &str) -> usize
     requires fits { TextFits text.now }
     ensures value { result ≡ spec.width_of (chars text.now) }

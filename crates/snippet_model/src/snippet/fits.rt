@@ -11,6 +11,14 @@ use snippet_text::{CowStr, text_fits};
 
 /// Whether each text of a report is within the library's one limit: fewer than 2^56 bytes. It is all that `render` and
 /// `render_sheets` ask of a report. It takes no memory, and walks over no text.
+///
+/// ```
+/// if report_fits(&groups) {
+///     Renderer::plain().render(alloc, &groups)
+/// } else {
+///     // A text of the report has 2^56 bytes or more.
+/// }
+/// ```
 pub fn report_fits(groups: &[Group<'_>]) -> bool
     ensures value { IsTrue result ↔ ReportFits groups.now }
 {

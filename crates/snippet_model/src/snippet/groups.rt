@@ -53,7 +53,8 @@ impl<'a> Group<'a> {
         Ok(self)
     }
 
-    /// The group with these elements after those it has, in their order. The one error is that memory ran out.
+    /// The group with these elements after those it has, in their order. The iterator has to end. The one error is
+    /// that memory ran out.
     pub fn elements<I: IntoIterator<Item = Element<'a>>>(
         mut self,
         elements: I,

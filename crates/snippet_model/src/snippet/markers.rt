@@ -23,7 +23,8 @@ impl<'a> Snippet<'a, Annotation<'a>> {
         Ok(self)
     }
 
-    /// The snippet with these annotations after those it has, in their order. The one error is that memory ran out.
+    /// The snippet with these annotations after those it has, in their order. The iterator has to end. The one error
+    /// is that memory ran out.
     pub fn annotations<I: IntoIterator<Item = Annotation<'a>>>(
         mut self,
         annotations: I,
@@ -58,7 +59,8 @@ impl<'a> Snippet<'a, Patch<'a>> {
         Ok(self)
     }
 
-    /// The snippet with these patches after those it has, in their order. The one error is that memory ran out.
+    /// The snippet with these patches after those it has, in their order. The iterator has to end. The one error is
+    /// that memory ran out.
     pub fn patches<I: IntoIterator<Item = Patch<'a>>>(
         mut self,
         patches: I,

@@ -44,8 +44,12 @@ fn with_url<'a>(had: Option<Id<'a>>, url: CowStr<'a>) -> Id<'a>
 }
 
 impl<'a> Title<'a> {
-    /// The title with this identifier, as `E0308`, which is shown in brackets after the level's name. An address that
-    /// was given stays.
+    /// The title with this identifier, which is shown in brackets after the level's name. An address that was given
+    /// stays. The identifier isn't trusted: it is normalised where it is drawn.
+    ///
+    /// ```text
+    /// Level::ERROR.primary_title("mismatched types").id("E0308")     error[E0308]: mismatched types
+    /// ```
     pub fn id(self, id: &'a str) -> Title<'a>
         ensures changed { result ≡ record self.entry {
           id = Some (record { id = Some (Borrowed id.entry); url = option_and_then (λ had. had.url) self.entry.id });
@@ -101,7 +105,8 @@ impl<'a> Title<'a> {
         Group::with_title(alloc, self).element(element)
     }
 
-    /// A group with this title and these elements, in their order. The one error is that memory ran out.
+    /// A group with this title and these elements, in their order. The iterator has to end. The one error is that
+    /// memory ran out.
     pub fn elements<I: IntoIterator<Item = Element<'a>>>(
         self,
         alloc: Global,
