@@ -9,7 +9,7 @@ use Rattle.std.proofs.lemmas.Bool.{eq-eqb}
 use Rattle.std.proofs.lemmas.List.{append_cancel_left}
 use Rattle.std.proofs.lemmas.List.Elements.{All-nil, All-cons, All-head, All-tail, All-weaker, filter_map-append}
 use Rattle.std.proofs.lemmas.List.Sums.{AllPass-from_list_all}
-use Rattle.snippet_style.specs.Glyphs.{char_of}
+use Rattle.snippet_style.specs.Glyphs.{added_mark_of, char_of, placeholder_of, removed_sign_of, separator_of}
 use Rattle.snippet_style.specs.Cell.{Cell, SPACE, text_cells}
 use Rattle.snippet_style.specs.declared.glyphs.DecorStyle.TheVariants.{Ascii, Unicode}
 use Rattle.snippet_style.specs.declared.role.ElementStyle.TheVariants.{Addition, LineNumber, Quotation, Removal}
@@ -111,9 +111,10 @@ named_first s is (OfferedLine j) cells same shows =
     let at : j ≡ 0 = omega (arith, shows.from, shows.within, ap length given, from) in
     ap OfferedLine at
 named_first s is (RemovedLine i) cells same shows =
-    let P : List Cell → Type 0 = λ row. (get_or row 2 SPACE).ch ≡ 45 in
-    let minus : ◌≡◌ {A = ℕ} 43 45 = subst P same shows.minus in
-    absurd (omega (arith, minus))
+    let P : List Cell → Type 0 = λ row. (get_or row 2 SPACE).ch ≡ char_of (removed_sign_of Ascii) in
+    let minus : added_mark_of Ascii ≡ char_of (removed_sign_of Ascii) = subst P same shows.minus in
+    let same_sign : false ≡ true = ap (λ c. c == char_of (removed_sign_of Ascii)) minus in
+    cc
 named_first s is Other cells same shows =
     let digit : false ≡ true = (subst (IsBareRow Ascii 1) same shows).strokes 0 (omega arith) in
     cc
@@ -138,9 +139,10 @@ old_row_named s is Elision cells same shows = shows
 old_row_named s is (OfferedLine j) cells same shows =
     old_line_offered s is j (subst (IsOfferedRow plain_settings Ascii 1 s j) same shows)
 old_row_named s is (RemovedLine i) cells same shows =
-    let P : List Cell → Type 0 = λ row. (get_or row 2 SPACE).ch ≡ 45 in
-    let minus : ◌≡◌ {A = ℕ} 43 45 = subst P same shows.minus in
-    absurd (omega (arith, minus))
+    let P : List Cell → Type 0 = λ row. (get_or row 2 SPACE).ch ≡ char_of (removed_sign_of Ascii) in
+    let minus : added_mark_of Ascii ≡ char_of (removed_sign_of Ascii) = subst P same shows.minus in
+    let same_sign : false ≡ true = ap (λ c. c == char_of (removed_sign_of Ascii)) minus in
+    cc
 old_row_named s is Other cells same shows =
     let digit : false ≡ true = (subst (IsBareRow Ascii 1) same shows).strokes 0 (omega arith) in
     cc
@@ -442,9 +444,10 @@ module _ (v : Vec Patch Global) (layout : Layout) (narrow : layout.gutter ≡ 1)
   new_line_above_removed : {found : List Cell} → layout.decor ≡ Ascii → (first row : NamedRow) (rest : List NamedRow) → row.cells ≡ offering_row (codes "bar")
       → ShowsSuggestion plain_settings layout around found foo (others (suggestion_head plain_settings layout around foo) ++ (first ∷ row ∷ rest)) → ⊥
   new_line_above_removed ascii first row rest is shown =
-      let P : List Cell → Type 0 = λ cells. (get_or cells 2 SPACE).ch ≡ 45 in
-      let minus : ◌≡◌ {A = ℕ} 43 45 = subst P is (second_removed ascii first row rest shown).minus in
-      absurd (omega (arith, minus))
+      let P : List Cell → Type 0 = λ cells. (get_or cells 2 SPACE).ch ≡ char_of (removed_sign_of Ascii) in
+      let minus : added_mark_of Ascii ≡ char_of (removed_sign_of Ascii) = subst P is (second_removed ascii first row rest shown).minus in
+      let same_sign : false ≡ true = ap (λ c. c == char_of (removed_sign_of Ascii)) minus in
+      cc
 
   -- nor in which the removed line has another number:
   --
@@ -486,10 +489,11 @@ module _ (v : Vec Patch Global) (layout : Layout) (narrow : layout.gutter ≡ 1)
       → first.cells ≡ text_cells LineNumber (codes "...")
       → ShowsSuggestion plain_settings layout around found foo (others (suggestion_head plain_settings layout around foo) ++ (first ∷ rest)) → ⊥
   gap_row_over_separator ascii first rest is shown =
-      let P : List Cell → Type 0 = λ cells. (get_or cells 2 SPACE).ch ≡ 124 in
-      let dot : ◌≡◌ {A = ℕ} 46 124 = subst P is (subst (λ d. HasStrokes d 1 (Begins Opening) first.cells) ascii
+      let P : List Cell → Type 0 = λ cells. (get_or cells 2 SPACE).ch ≡ separator_of Ascii in
+      let dot : char_of (placeholder_of Ascii) ≡ separator_of Ascii = subst P is (subst (λ d. HasStrokes d 1 (Begins Opening) first.cells) ascii
       (first_begins plain_settings first rest shown) 2 (omega arith)) in
-      absurd (omega (arith, dot))
+      let same_sign : false ≡ true = ap (λ c. c == separator_of Ascii) dot in
+      cc
 
   -- nor does it close there:
   --

@@ -28,9 +28,9 @@ first_start-of (s ∷ ts) t is =
     ap (λ (u : TrimmedPatch). u.span.start) (sym same)
 
 -- what holds of each patch holds of the first
-first-all : (P : TrimmedPatch → Type 0) (ts : List TrimmedPatch) (t : TrimmedPatch) → All P ts → slice_get ts 0 ≡ Some t → P t
-first-all P [] t all is = absurd (cc)
-first-all P (s ∷ ts) t all is =
+first_among_all : (P : TrimmedPatch → Type 0) (ts : List TrimmedPatch) (t : TrimmedPatch) → All P ts → slice_get ts 0 ≡ Some t → P t
+first_among_all P [] t all is = absurd (cc)
+first_among_all P (s ∷ ts) t all is =
     let same : s ≡ t = cc in
     subst P same (all 0 s (omega arith))
 
@@ -51,7 +51,7 @@ first-span p t h is =
     let spans : All (λ e. IsSpan source e.start e.end) (edits_of p.snippet.now) = All-map (λ e.
     IsSpan source e.start e.end) edit_of p.snippet.now.markers.items h.suggestible.spans in
     subst (λ (m : Source). IsSpan m.text t.span.start t.span.end) (sym h.lines)
-    (first-all (λ u. IsSpan source u.span.start u.span.end) p.splice.patches.items t
+    (first_among_all (λ u. IsSpan source u.span.start u.span.end) p.splice.patches.items t
     (trimmed_spans source (edits_of p.snippet.now) p.splice.patches.items spans h.edits) is)
 
 -- where it starts is the place that the path names

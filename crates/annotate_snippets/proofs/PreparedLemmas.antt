@@ -36,9 +36,9 @@ pub record AreDrawnPrepared (es : List Element) (ps : List PreparedElement) : Ty
   pub prepared : All IsElementPrepared ps
 
 -- what is drawn of one more element
-drawn-one : (e : Element) (p : Option PreparedElement) → option_map element_of p ≡ cond (is_drawn e) (Some e) None
+prepared_one : (e : Element) (p : Option PreparedElement) → option_map element_of p ≡ cond (is_drawn e) (Some e) None
     → map element_of (option_to_list p) ≡ cond (is_drawn e) (e ∷ []) []
-drawn-one e p is = mapped p ∙ ap option_to_list is ∙ listed (is_drawn e)
+prepared_one e p is = mapped p ∙ ap option_to_list is ∙ listed (is_drawn e)
   where
     mapped : (q : Option PreparedElement) → map element_of (option_to_list q) ≡ option_to_list (option_map element_of q)
     mapped None = refl
@@ -59,7 +59,7 @@ pub AreDrawnPrepared-push : (es : List Element) (i : ℕ) (e : Element) (ps new 
     → IfSome p IsElementPrepared → AreDrawnPrepared (take i es) ps → AreDrawnPrepared (take (i + 1) es) new
 AreDrawnPrepared-push es i e ps new p pushed within is drawn prepared before = record {
   elements = ap (map element_of) pushed ∙ map-append element_of ps (option_to_list p)
-      ∙ ap (λ ds. ds ++ map element_of (option_to_list p)) before.elements ∙ ap (λ ds. filter is_drawn (take i es) ++ ds) (drawn-one e p drawn)
+      ∙ ap (λ ds. ds ++ map element_of (option_to_list p)) before.elements ∙ ap (λ ds. filter is_drawn (take i es) ++ ds) (prepared_one e p drawn)
       ∙ ap (λ d. filter is_drawn (take i es) ++ cond (is_drawn d) (d ∷ []) []) is ∙ sym (filter_more is_drawn es i e within);
   prepared = All-same IsElementPrepared new (ps ++ option_to_list p) pushed (All-option ps p before.prepared prepared);
 }

@@ -13,7 +13,7 @@ use Rattle.snippet_style.specs.declared.style.Style.{Style}
 use Rattle.snippet_style.specs.declared.stylesheet.Stylesheet.{Stylesheet}
 use Rattle.snippet_grid.specs.Woven.{Char, LinkEnd, LinkTo, Opening, Piece, Prints, PrintsCells, PrintsFurther, PrintsRows, Reset, next_link, piece_text}
 use Rattle.snippet_grid.proofs.WeaveLemmas.{Url, none≢some, some_same}
-use Rattle.annotate_snippets.specs.Page.{ArePrinted, GroupPage, Page, group_rows}
+use Rattle.annotate_snippets.specs.Page.{ArePrinted, Page, group_rows}
 
 -- two links are the same or not
 cases_link : (a b : Option Url) → (a ≡ b) ⊎ (a ≢ b)

@@ -26,7 +26,7 @@ use Rattle.snippet_text_form.specs.declared.heading.HeadingKind.{HeadingKind}
 use Rattle.snippet_text_form.specs.declared.heading.HeadingKind.TheVariants as kind
 use Rattle.snippet_text_form.proofs.FreeLaws.{cause-free, heading-free, origin-free, suggestion-free}
 use Rattle.snippet_text_form.proofs.LinkLaws.{cause-links, heading-links, origin-links, suggestion-links}
-use Rattle.snippet_text_form.proofs.OrderLaws.{cause-holds, heading_holds as heading-holds, plain-append, stand-append}
+use Rattle.snippet_text_form.proofs.OrderLaws.{cause-holds, heading_stays, plain-append, stand-append}
 use Rattle.annotate_snippets.specs.Around.{drawn_elements, file_of_group, first_two_share, is_drawn}
 use Rattle.annotate_snippets.specs.FormLaws.{LawsIn, TextLaws}
 use Rattle.annotate_snippets.specs.Forms.{TextShown}
@@ -120,7 +120,7 @@ heading_holds begun hyperlink of heading = by (list_any (λ c. c == 10) (shown_t
     by : (fed : Bool) → list_any (λ c. c == 10) (shown_text heading) ≡ fed
         → StandInOrder (if not fed then shown_text heading ∷ [] else []) (plain_from begun (heading_form hyperlink of heading))
     by true is = tt
-    by false is = heading-holds begun hyperlink of heading is
+    by false is = heading_stays begun hyperlink of heading is
 
 element_holds : (r : Renderer) (file : Option (List ℕ)) (before : Option PreviousSuggestion) (followed : Bool) (e : Element) (begun : Bool)
     → StandInOrder (element_texts e) (plain_from begun (element_form r file before followed e))

@@ -19,6 +19,7 @@ pub mod ShownPage
 pub mod TextForm
 pub mod Written
 pub use Rattle.snippet_model.specs.Fits
+pub use Rattle.snippet_model.specs.KeptSettings
 pub use Rattle.snippet_model.specs.Level
 pub use Rattle.snippet_model.specs.Trusted
 pub use Rattle.snippet_lines.specs.Span

@@ -1,8 +1,8 @@
 //! Where the parts of rows stand.
 
-ghost use Rattle.std.specs.Prelude.{◌≡◌, ◌+◌, ◌^◌, ◌<◌, ◌≤◌};
+ghost use Rattle.std.specs.Prelude.{◌≡◌, ◌+◌, ◌<◌, ◌≤◌};
 ghost use Rattle.snippet_grid.specs.Layout as spec;
-ghost use Rattle.snippet_style.specs.Bounds.{IsAddable, IsCodeCell};
+ghost use Rattle.snippet_style.specs.Bounds.{IsAddable, IsCodeCell, code_limit};
 
 use snippet_style::DecorStyle;
 use std::marker::Model;
@@ -74,7 +74,7 @@ impl Layout {
     pub fn code_cell(self, column: usize) -> usize
         requires column { IsAddable column }
         ensures value { result ≡ spec.code_cell self column }
-        ensures near { result < 2 ^ 63 + 2 ^ 32 + column }
+        ensures near { result < code_limit + column }
     {
         self.code + column
     }

@@ -2,7 +2,7 @@
 //!
 //! A put takes only the runs that the new one touches: what the first of them holds before it, and the last after it,
 //! stays. All other runs keep their places.
-ghost use Rattle.std.specs.Prelude.{◌≡◌, ◌+◌, ◌-◌, ◌<◌, ◌≤◌, ◌++◌, ℕ, List, [], true, false, length, take, drop};
+ghost use Rattle.std.specs.Prelude.{◌≡◌, ◌+◌, ◌-◌, ◌<◌, ◌≤◌, ◌++◌, ℕ, [], true, false, length, take, drop};
 ghost use Rattle.std.specs.Prelude.{All, OnOk, OnErr, string_bytes, option_to_list};
 ghost use Rattle.snippet_grid.specs.Runs.{IsRun, BeginsWith, Precedes, Differ, IsClear, ReachesTo, Touches};
 ghost use Rattle.snippet_grid.specs.Runs.{AreTouchedRuns};

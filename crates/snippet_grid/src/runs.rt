@@ -1,8 +1,8 @@
 //! Runs of neighbouring cells that share their role and their link.
-ghost use Rattle.std.specs.Prelude.{◌≡◌, ◌+◌, ◌-◌, ◌<◌, ◌≤◌, ℕ, List, true, false, length, min, take, drop, All};
-ghost use Rattle.std.specs.Prelude.{IfOk, OnOk, OnErr, string_bytes, vec_len};
+ghost use Rattle.std.specs.Prelude.{◌≡◌, ◌+◌, ◌-◌, ◌<◌, ◌≤◌, ℕ, true, false, length, min, take, drop, All};
+ghost use Rattle.std.specs.Prelude.{IfOk, OnOk, OnErr, string_bytes};
 ghost use Rattle.snippet_grid.specs.Runs.{IsRun, Continues, Differ, IsJoined, IsMoved, IsPart, BeginsWith, ShowsMore};
-ghost use Rattle.snippet_grid.specs.Runs.{ShowsCopy, FitsMoved, AddsRun, IsRow, EndsBy, FitIn, Precedes, BeginsAfter};
+ghost use Rattle.snippet_grid.specs.Runs.{ShowsCopy, FitsMoved, AddsRun, IsRow, EndsBy, Precedes, BeginsAfter};
 ghost use Rattle.snippet_grid.specs.Runs.{BeginsBy, run_bytes, run_chars};
 ghost use Rattle.snippet_grid.specs.Changes.{num_touched};
 ghost use Rattle.snippet_grid.specs.declared.runs.Run.{Run};

@@ -172,9 +172,9 @@ module _ (f : PlacedEntry → PlacedEntry)
       ∙ ap (λ ps. cond (are_starts es) (flipped ps) ps) (positions-changed 0 es)
 
 -- what doesn't look at positions is kept where nothing else changes
-pub all_kept : (P : PlacedEntry → Type 0) (es fs : List PlacedEntry) → ((e : PlacedEntry) → P (unplaced e) → P e) → ((e : PlacedEntry) → P e → P (unplaced e))
+pub each_kept : (P : PlacedEntry → Type 0) (es fs : List PlacedEntry) → ((e : PlacedEntry) → P (unplaced e) → P e) → ((e : PlacedEntry) → P e → P (unplaced e))
     → map unplaced es ≡ map unplaced fs → All P fs → All P es
-all_kept P es fs back forth kept all k d within =
+each_kept P es fs back forth kept all k d within =
     let long : length es ≡ length fs = sym (length-map es unplaced) ∙ ap length kept ∙ length-map fs unplaced in
     let inside : k < length fs = omega (arith, long, within) in
     let same : unplaced (get_or es k d) ≡ unplaced (get_or fs k d) = sym (get_or-map unplaced es k d (unplaced d) within)
@@ -228,8 +228,8 @@ ArePlaced-from es labelled sorted placed ps ns entries labels bytes same order o
       same = subst (IsPermutation es) (sym (entries_kept placed sorted kept))
           (subst (λ xs. IsPermutation xs (map f sorted)) entries (IsPermutation-map f labelled sorted same));
       from_right = subst IsFromRight (sym (entries_kept placed sorted kept)) ordered;
-      labels = all_kept HasItsLabel placed sorted (λ e has. has) (λ e has. has) kept (All-permutation HasItsLabel labelled sorted same labels);
-      bytes = all_kept HasItsBytes placed sorted (λ e has. has) (λ e has. has) kept (All-permutation HasItsBytes labelled sorted same bytes);
+      labels = each_kept HasItsLabel placed sorted (λ e has. has) (λ e has. has) kept (All-permutation HasItsLabel labelled sorted same labels);
+      bytes = each_kept HasItsBytes placed sorted (λ e has. has) (λ e has. has) kept (All-permutation HasItsBytes labelled sorted same bytes);
       positions_are = got ∙ are ∙ sym (line_positions_kept placed sorted kept);
       looked_are = counted ∙ counts ∙ sym (look_counts_kept placed sorted kept);
     }

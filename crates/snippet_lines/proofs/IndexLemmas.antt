@@ -8,10 +8,10 @@ use Rattle.std.proofs.lemmas.List.Elements.{All-take}
 use Rattle.std.proofs.lemmas.Bool.{cases_lt, cond_both, ltb-true, ltb-false, eqb-true}
 use Rattle.snippet_lines.specs.declared.lines.EndLine.{EndLine}
 use Rattle.snippet_lines.specs.declared.lines.EndLine.TheVariants.{Eof, Lf, Crlf}
-use Rattle.snippet_lines.specs.Lines.{Line, end_bytes, line_bytes, joined, last_byte, IsLineWithEnd, AreLines, AreLinesOf, lines_of, source_lines, is_lf}
+use Rattle.snippet_lines.specs.Lines.{Line, line_bytes, joined, last_byte, IsLineWithEnd, AreLines, lines_of, source_lines, is_lf}
 use Rattle.snippet_lines.specs.Lines.{newline_count, start_of}
 use Rattle.snippet_lines.specs.Place.{line_of}
-use Rattle.snippet_lines.proofs.LinesLemmas.{split_last, last_byte-push, lines_of-joined, lines_of-append, length-lines_of, length-source_lines}
+use Rattle.snippet_lines.proofs.LinesLemmas.{split_last, last_byte-push, lines_of-append, length-lines_of, length-source_lines}
 use Rattle.snippet_lines.proofs.LinesLemmas.{ending_newlines}
 use Rattle.snippet_lines.proofs.LinesLemmas.{start_of-zero, length-lines_of-pos, AreLines-lines_of, joined-lines_of, source_lines-some}
 use Rattle.snippet_lines.proofs.CursorLemmas.{count_by-none}

@@ -1,5 +1,5 @@
 -- The library's one limit: each text of a report has fewer than 2^56 bytes.
-use Rattle.std.specs.Prelude.{ℕ, ◌^◌, ◌<◌, List, All, IfSome, length}
+use Rattle.std.specs.Prelude.{ℕ, ◌^◌, ◌<◌, List, All, IfSome}
 use Rattle.std.specs.Cow.{cow_str_bytes}
 use Rattle.snippet_model.specs.declared.level.Level.{Level}
 use Rattle.snippet_model.specs.declared.snippet.Id.{Id}

@@ -1,6 +1,7 @@
 pub mod AnnotationKind
 pub mod Fits
 pub mod Heading
+pub mod KeptSettings
 pub mod Level
 pub mod LevelOrder
 pub mod LevelTies

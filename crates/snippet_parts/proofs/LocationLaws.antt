@@ -139,11 +139,11 @@ first-there place_on line_at k ks n place missing first = record {
   ];
 }
 
-first-of : (place_on : KeptLine → Option Location) (line_at : ℕ → KeptLine) (ks : List ℕ) (some : ℕ) → Ascends ks → Contains ks some
+first_found : (place_on : KeptLine → Option Location) (line_at : ℕ → KeptLine) (ks : List ℕ) (some : ℕ) → Ascends ks → Contains ks some
     → is_some (place_on (line_at some)) ≡ true → (k : ℕ) × (place : Location) × IsFirst place_on line_at ks k place
-first-of place_on line_at [] some rises among has = absurd (omega (arith, among.1))
-first-of place_on line_at (k ∷ ks) some rises among has =
-    by (place_on (line_at k)) refl (λ later. first-of place_on line_at ks some (ascends-tail k ks rises) later has)
+first_found place_on line_at [] some rises among has = absurd (omega (arith, among.1))
+first_found place_on line_at (k ∷ ks) some rises among has =
+    by (place_on (line_at k)) refl (λ later. first_found place_on line_at ks some (ascends-tail k ks rises) later has)
   where
     later-ones : place_on (line_at k) ≡ None → Contains ks some
     later-ones missing =
@@ -220,11 +220,11 @@ has-place choice test s marks k a chooses there =
     ap is_some (place-on choice test s marks k chooses) ∙ ap (λ o. is_some (option_map (at-column s k) o)) lowest.1.is
 
 -- and the place of a line is that of a span of least column
-place-is : (choice : List PartEntry → List PartEntry) (test : Annotation → Bool) (s : Source) (marks : List Annotation) (k : ℕ) (place : Location)
+place_found : (choice : List PartEntry → List PartEntry) (test : Annotation → Bool) (s : Source) (marks : List Annotation) (k : ℕ) (place : Location)
     → Chooses choice test s marks → least_place choice (kept_line s marks k) ≡ Some place
     → (a : Annotation) × IsLeast (start_at s) (starting test s marks k) a × (place ≡ at-column s k (start_at s a))
 unfolding at-column
-place-is choice test s marks k place chooses has =
+place_found choice test s marks k place chooses has =
     by (starting test s marks k) refl (sym has ∙ place-on choice test s marks k chooses)
   where
     by : (spans : List Annotation) → starting test s marks k ≡ spans
@@ -248,10 +248,10 @@ named-by choice test fold s marks a spans chooses among passes =
     let has : (b : Annotation) → Contains marks b → test b ≡ true → is_some (least_place choice (kept_line s marks (first_line s.text b)))
     ≡ true = λ b found passed. has-place choice test s marks (first_line s.text b) b chooses
     (starts-there test s marks (first_line s.text b) b found passed refl) in
-    let first = first-of (least_place choice) (kept_line s marks) ks (first_line s.text a) (kept-ascends fold s.text marks) (kept-first a among)
+    let first = first_found (least_place choice) (kept_line s marks) ks (first_line s.text a) (kept-ascends fold s.text marks) (kept-first a among)
     (has a among passes) in
     let k : ℕ = first.0 in
-    let lowest = place-is choice test s marks k first.1 chooses first.2.has in
+    let lowest = place_found choice test s marks k first.1 chooses first.2.has in
     let span : Annotation = lowest.0 in
     let chosen = passing (λ (b : Annotation). test b && eqb (first_line s.text b) k) marks span lowest.1.among in
     let parts = and_parts (test span) (eqb (first_line s.text span) k) chosen.1 in

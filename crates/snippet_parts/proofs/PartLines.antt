@@ -2,7 +2,6 @@
 use Rattle.std.proofs.Common.{◌≡◌, ℕ, zero, suc, ◌+◌, ◌-◌, ◌<◌, ◌≤◌, List, [], ◌∷◌, ◌++◌, inl, inr, length, take, drop, refl, sym, ap, ◌∙◌, ⊎_elim, arith}
 use Rattle.std.proofs.lemmas.List.{drop_at, length-drop, length-take, take-append-drop, take_at}
 use Rattle.std.proofs.lemmas.List.Concat.{flat_map-append}
-use Rattle.snippet_lines.specs.declared.lines.EndLine.TheVariants.{Eof}
 use Rattle.snippet_lines.specs.Lines.{Line, line_bytes, joined, AreLines, AreLinesOf, source_lines, start_of}
 use Rattle.snippet_lines.proofs.LinesLemmas.{AreLinesOf-source_lines, joined-source_lines, source_lines-only}
 use Rattle.snippet_parts.proofs.TableLemmas.{start_of-drop}
@@ -22,9 +21,9 @@ AreLines-take (suc n) [] are = tt
 AreLines-take (suc n) (l ∷ ls) are = (are.0, λ eof. ((are.1 eof).0, take-none n ls (are.1 eof).1), AreLines-take n ls are.2)
 
 -- what stands from where line k starts on are the lines from it on
-drop-lines : (ls : List Line) (k : ℕ) → drop (start_of ls k) (joined ls) ≡ joined (drop k ls)
+part_lines : (ls : List Line) (k : ℕ) → drop (start_of ls k) (joined ls) ≡ joined (drop k ls)
 unfolding start_of
-drop-lines ls k =
+part_lines ls k =
     ap (drop (length (joined (take k ls)))) (ap joined (sym (take-append-drop k ls)) ∙ flat_map-append line_bytes (take k ls) (drop k ls))
     ∙ drop_at (joined (take k ls)) (joined (drop k ls)) (length (joined (take k ls))) refl
 
@@ -46,7 +45,7 @@ lines-of-part source part k n start end some within start_is end_is is =
     let bytes : part ≡ joined lines = is ∙ ap (λ m. take m (drop start source)) size
     ∙ ap (λ m. take (start_of (drop k ls) n) (drop m source)) start_is
     ∙ ap (λ bs. take (start_of (drop k ls) n) (drop (start_of ls k) bs)) (sym (joined-source_lines source))
-    ∙ ap (take (start_of (drop k ls) n)) (drop-lines ls k) ∙ take-lines (drop k ls) n in
+    ∙ ap (take (start_of (drop k ls) n)) (part_lines ls k) ∙ take-lines (drop k ls) n in
     let are : AreLinesOf source ls = AreLinesOf-source_lines source in
     let filled : 0 < length lines = omega (arith, length-take n (drop k ls), length-drop k ls) in
     let mine : AreLinesOf part lines = record {

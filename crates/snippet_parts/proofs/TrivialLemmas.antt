@@ -269,13 +269,13 @@ pub record IsReadTo (cs : List ℕ) (n : ℕ) (s : Seen) : Type 0 where
   pub after : trivial_after s (drop n cs) ≡ is_trivial cs
 
 -- before any character nothing is read
-pub read-none : (cs : List ℕ) → IsReadTo cs 0 Nothing
+pub trivial_none : (cs : List ℕ) → IsReadTo cs 0 Nothing
 unfolding trivial_after
-read-none cs = record { after = refl }
+trivial_none cs = record { after = refl }
 
 -- with one more character read the characters so far are read
-pub read-more : (cs : List ℕ) (n m c : ℕ) (s t : Seen) → (n < length cs) × (c ≡ get_or cs n c) → m ≡ n + 1 → t ≡ step s c → IsReadTo cs n s → IsReadTo cs m t
-read-more cs n m c s t at is stepped before =
+pub trivial_more : (cs : List ℕ) (n m c : ℕ) (s t : Seen) → (n < length cs) × (c ≡ get_or cs n c) → m ≡ n + 1 → t ≡ step s c → IsReadTo cs n s → IsReadTo cs m t
+trivial_more cs n m c s t at is stepped before =
     record {
       after = ap (λ k. trivial_after t (drop k cs)) is ∙ ap (λ x. trivial_after x (drop (n + 1) cs)) stepped ∙ sym (after-step s c (drop (n + 1) cs))
           ∙ ap (λ x. trivial_after s (x ∷ drop (n + 1) cs)) at.1 ∙ ap (trivial_after s) (sym (drop_more cs n c at.0)) ∙ before.after;
@@ -292,9 +292,9 @@ unfolding trivial_after
 read-strong cs n before = before.after
 
 -- once all characters are read it is known whether the text is trivial
-pub read-all : (cs : List ℕ) (n : ℕ) (s : Seen) → length cs ≡ n → IsReadTo cs n s → is_trivial_whole s ≡ is_trivial cs
+pub trivial_read : (cs : List ℕ) (n : ℕ) (s : Seen) → length cs ≡ n → IsReadTo cs n s → is_trivial_whole s ≡ is_trivial cs
 unfolding trivial_after is_blank
-read-all cs n s all before = end s ∙ ap (trivial_after s) (sym (drop_all n cs (omega arith))) ∙ before.after
+trivial_read cs n s all before = end s ∙ ap (trivial_after s) (sym (drop_all n cs (omega arith))) ∙ before.after
   where
     end : (s : Seen) → is_trivial_whole s ≡ trivial_after s []
     end Nothing = refl

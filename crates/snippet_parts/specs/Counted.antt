@@ -15,6 +15,6 @@ abbrev pub reached_source : Snippet Annotation → List ℕ
 reached_source s =
     if s.fold && not (length s.markers.items == 0) then take (greatest_end s.markers.items) (cow_str_bytes s.source) else cow_str_bytes s.source
 
--- the line number that an annotated snippet counts for the gutter's width
+-- as the original does, by the line feeds before the greatest end: the line number that an annotated snippet counts for the gutter's width
 abbrev pub counted_number : Snippet Annotation → ℕ
 counted_number s = s.line_start + newline_count (reached_source s)

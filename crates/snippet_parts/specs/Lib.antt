@@ -14,6 +14,6 @@ pub mod Marked
 pub mod Numbered
 pub mod OnLine
 pub mod ShownLines
-pub mod Starts
+pub mod MapStarts
 pub mod LineStretches
 pub mod Trivial

@@ -6,7 +6,6 @@ ghost use Rattle.std.specs.List.Sorted.{IsNonDecreasingBy};
 ghost use Rattle.snippet_parts.specs.Kept as kept;
 ghost use Rattle.snippet_parts.specs.Kept.{keeps};
 ghost use Rattle.snippet_lines.specs.Lines.{Source, source_lines};
-ghost use Rattle.snippet_parts.specs.Marked.{first_line, last_line};
 ghost use Rattle.snippet_parts.specs.Located.{IsLocated, annotations_of};
 ghost use Rattle.snippet_parts.specs.LineStretches.{holds_line, is_held, is_seen};
 

@@ -75,7 +75,7 @@ impl<'a> Model for SourceMap<'a> {
     ghost Value = { Source };
 
     ghost use Rattle.snippet_parts.specs.LineTable.{IsLineTable};
-    ghost use Rattle.snippet_parts.specs.Starts.{starts_of};
+    ghost use Rattle.snippet_parts.specs.MapStarts.{starts_of};
 
     ghost view = { λ m. record { text = m.source.now; first = m.line_start } };
 

@@ -1,6 +1,6 @@
 //! Where lines start, as a map of a source has it.
 ghost use Rattle.std.specs.Prelude.{◌≡◌};
-ghost use Rattle.snippet_parts.specs.Starts.{starts_of};
+ghost use Rattle.snippet_parts.specs.MapStarts.{starts_of};
 
 /// The byte at which each of some lines starts: found for one map, or lent by who found the lines of the source.
 #[derive(Drop)]

@@ -1,5 +1,5 @@
 //! Spans of a source whose ends are named by line and column.
-ghost use Rattle.std.specs.Prelude.{◌≡◌, ◌+◌, ◌^◌, ◌<◌, ◌≤◌, IfSome, chars, drop, length, slice_get};
+ghost use Rattle.std.specs.Prelude.{◌≡◌, ◌+◌, ◌^◌, ◌<◌, ◌≤◌, IfSome, chars, length, slice_get};
 ghost use Rattle.std.specs.Str.{IsCharBoundary};
 ghost use Rattle.snippet_places.specs.Places as spec;
 ghost use Rattle.snippet_places.specs.Places.{IsLocated};

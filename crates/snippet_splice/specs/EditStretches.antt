@@ -1,6 +1,7 @@
 -- Which stretches of the lines that are shown the texts of trimmed edits take.
-use Rattle.std.specs.Prelude.{ℕ, ◌+◌, ◌-◌, ◌*◌, ◌^◌, nat_lt, min, max, ◌==◌, Bool, Vec, List, [], ◌∷◌, ◌++◌, length, map, take, drop, count_by, chars}
+use Rattle.std.specs.Prelude.{ℕ, ◌+◌, ◌-◌, ◌*◌, nat_lt, min, max, ◌==◌, Bool, Vec, List, [], ◌∷◌, ◌++◌, length, map, take, drop, count_by, chars}
 use Rattle.std.specs.Prelude.{if◌then◌else◌}
+use Rattle.snippet_style.specs.Bounds.{max_usize}
 use Rattle.std.specs.List.{slice_index_or, slice_range, slice_split}
 use Rattle.std.specs.declared.alloc.Global.{Global}
 use Rattle.snippet_lines.specs.Lines.{is_lf, last_byte, source_lines}
@@ -12,7 +13,7 @@ use Rattle.snippet_splice.specs.ShownText.{first_start, shown_start, shown_rest,
 
 -- a number, as far as there are numbers
 abbrev pub capped : ℕ → ℕ
-capped n = min n (2 ^ 64 - 1)
+capped n = min n max_usize
 
 -- how many characters a text takes in a stretch: a tab as many as four
 abbrev pub stretch_width : List ℕ → ℕ

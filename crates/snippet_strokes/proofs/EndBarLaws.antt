@@ -39,7 +39,7 @@ use Rattle.snippet_strokes.specs.EndBars.{BarBegins, BarEnds, BeginsBelow, dotte
 use Rattle.snippet_strokes.specs.LineRows.{AreLineRows}
 use Rattle.snippet_strokes.specs.Reach.{Reaches}
 use Rattle.snippet_strokes.specs.Strokes as strokes
-use Rattle.snippet_strokes.specs.Strokes.{StrokesPainted, begun_rows, column_of, connectors_of, corner_by, corner_of, corners_of, label_of, labels_of, line_to}
+use Rattle.snippet_strokes.specs.Strokes.{StrokesPainted, begun_rows, column_of, connectors_of, corner_by, corner_of, corners_of, label_of, labels_of}
 use Rattle.snippet_strokes.specs.Strokes.{stem_of, stems_of, line_strokes}
 use Rattle.snippet_strokes.proofs.AmongLaws.{all_from_among, among_contains, contains_among, filter_map_cases}
 use Rattle.snippet_strokes.proofs.BarLaws.{bar_stands, drawn_beside}

@@ -8,7 +8,7 @@ use Rattle.snippet_model.specs.declared.snippet.AnnotationKind.{AnnotationKind}
 use Rattle.snippet_model.specs.declared.snippet.AnnotationKind.TheVariants.{Primary, Context}
 use Rattle.snippet_grid.specs.Grid.{replaced_within}
 use Rattle.snippet_style.specs.Cell.{text_cells}
-use Rattle.snippet_style.specs.Glyphs.{char_of}
+use Rattle.snippet_style.specs.Glyphs.{char_of, placeholder_of}
 use Rattle.snippet_style.specs.declared.glyphs.DecorStyle.TheVariants.{Ascii, Unicode}
 use Rattle.snippet_style.specs.declared.role.ElementStyle.TheVariants.{LineNumber, Quotation}
 use Rattle.snippet_parts.specs.declared.entries.LineAnnotation.{LineAnnotation}
@@ -82,12 +82,12 @@ five_stay : end_columns 9 ≡ 5
 five_stay = refl
 
 -- the placeholder stands in place of the cells that are cut: `ab...gh` for `abcdefgh`
-cut_in_the_middle : cut_row Ascii (record { from = 2; to = 6 } ∷ []) (text_cells Quotation (97 ∷ 98 ∷ 99 ∷ 100 ∷ 101 ∷ 102 ∷ 103 ∷ 104 ∷ []))
-    ≡ text_cells Quotation (97 ∷ 98 ∷ []) ++ text_cells LineNumber (46 ∷ 46 ∷ 46 ∷ []) ++ text_cells Quotation (103 ∷ 104 ∷ [])
+cut_in_the_middle : cut_row Ascii (record { from = 2; to = 6 } ∷ []) (text_cells Quotation (codes "abcdefgh"))
+    ≡ text_cells Quotation (codes "ab") ++ text_cells LineNumber (placeholder_of Ascii) ++ text_cells Quotation (codes "gh")
 unfolding replaced_within
 cut_in_the_middle = refl
 
 -- a stretch that the row doesn't hold stays
-cut_past_the_end : cut_row Ascii (record { from = 1; to = 3 } ∷ []) (text_cells Quotation (97 ∷ 98 ∷ [])) ≡ text_cells Quotation (97 ∷ 98 ∷ [])
+cut_past_the_end : cut_row Ascii (record { from = 1; to = 3 } ∷ []) (text_cells Quotation (codes "ab")) ≡ text_cells Quotation (codes "ab")
 unfolding replaced_within
 cut_past_the_end = refl

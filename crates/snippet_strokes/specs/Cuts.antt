@@ -67,8 +67,8 @@ abbrev pub cut_of : Layout → ℕ → PlacedEntry × Bool → List Stretch
 cut_of layout room pair =
     if is_wide_at room layout.decor pair.0 && not pair.1 then middle_of layout room pair.0.entry ∷ [] else []
 
--- what is cut of a line, for each of its entries in the order in which their marks are painted. What is known of the entry at a place in
--- the order in which they are placed stands for the one at the same place here, as in the original
+-- as the original does, by place: what is cut of a line, for each of its entries in the order in which their marks are painted. What is
+-- known of the entry at a place in the order in which they are placed stands for the one at the same place here
 abbrev pub cuts_of : Layout → ℕ → List PlacedEntry → List Bool → List Stretch
 cuts_of layout room placed flags = flat_map (cut_of layout room) (zip placed flags)
 

@@ -1,5 +1,5 @@
 -- How large the numbers are that rows are drawn with. Sums of a few of them stay below 2^64.
-use Rattle.std.specs.Prelude.{ℕ, ◌+◌, ◌^◌, ◌<◌, ◌≤◌, List, length}
+use Rattle.std.specs.Prelude.{ℕ, ◌+◌, ◌-◌, ◌^◌, ◌<◌, ◌≤◌, List, length}
 
 -- ---- columns of a line
 
@@ -53,9 +53,13 @@ IsAddable n = n < 2 ^ 62
 abbrev pub IsDepth : ℕ → Type 0
 IsDepth n = n < 2 ^ 63 + 2 ^ 31
 
+-- the cell left of which code begins
+abbrev pub code_limit : ℕ
+code_limit = 2 ^ 63 + 2 ^ 32
+
 -- a cell at which code may begin: right of the deepest bar
 abbrev pub IsCodeCell : ℕ → Type 0
-IsCodeCell n = n < 2 ^ 63 + 2 ^ 32
+IsCodeCell n = n < code_limit
 
 -- a number of cells that a row of code takes
 abbrev pub IsRowEnd : ℕ → Type 0
@@ -70,6 +74,10 @@ IsSignWidth n = n < 2 ^ 33
 -- how many things a list in memory holds, or a place among them
 abbrev pub IsCount : ℕ → Type 0
 IsCount n = n < 2 ^ 63
+
+-- the greatest number of 64 bits
+abbrev pub max_usize : ℕ
+max_usize = 2 ^ 64 - 1
 
 -- a number of 64 bits
 abbrev pub IsUsize : ℕ → Type 0

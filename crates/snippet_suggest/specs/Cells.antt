@@ -43,8 +43,8 @@ sign_alone Diff = sign.Added
 sign_alone Plain = sign.Alone
 sign_alone Add = sign.Added
 
--- the sign beside one of several lines that has one stretch: `+` where the stretch goes from its start to as many characters as the line
--- has bytes, a separator where it is empty and stands at the start, else the glyph of a changed line
+-- as the original does, by bytes: the sign beside one of several lines that has one stretch: `+` where the stretch goes from its start to
+-- as many characters as the line has bytes, a separator where it is empty and stands at the start, else the glyph of a changed line
 abbrev pub sign_touched : List ℕ → SubstitutionHighlight → SuggestionGlyph
 sign_touched line s =
     if s.start == 0 && s.end == length line then sign.Added

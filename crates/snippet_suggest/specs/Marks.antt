@@ -44,16 +44,16 @@ to_left earlier = capped (sum_by (λ c. c.end) earlier)
 abbrev pub moved : ℕ → List PatchColumns → ℕ → ℕ
 moved start earlier column = capped (column + to_right (left_of start earlier)) - to_left (left_of start earlier)
 
--- how many bytes of whitespace a text begins with, none if it is nothing else; and the columns of the text without the whitespace around
--- it, or of all of it if it is nothing else
+-- as the original does, in bytes: how much whitespace a text begins with, none if it is nothing else; and the columns of the text without
+-- the whitespace around it, or of all of it if it is nothing else
 abbrev pub lead_of : List ℕ → ℕ
 lead_of text = if is_blank text then 0 else length text - length (trim_start text)
 
 abbrev pub inner_width : PatchColumns → List ℕ → ℕ
 inner_width c text = if is_blank text then c.width else text_width (trim text)
 
--- the columns from which on and before which the marks of an edit stand, below its text in the line as it will be. The whitespace that
--- the text begins with counts as many columns as it has bytes
+-- as the original does: the columns from which on and before which the marks of an edit stand, below its text in the line as it will be.
+-- The whitespace that the text begins with counts as many columns as it has bytes
 abbrev pub mark_start : List PatchColumns → PatchColumns → List ℕ → ℕ
 mark_start earlier c text = moved c.start earlier (capped (c.start + lead_of text))
 

@@ -10,7 +10,7 @@ use Rattle.unicode_width.specs.declared.kind.Kind.TheVariants as kinds
 use Rattle.unicode_width.specs.declared.state.State.{State}
 use Rattle.unicode_width.specs.Kind.{kind}
 use Rattle.unicode_width.specs.Width as unicode
-use Rattle.unicode_width.specs.Width.{alone, before, plain, is_quote_selector, of_kind, single}
+use Rattle.unicode_width.specs.Width.{alone, is_quote_selector, of_kind, single}
 use Rattle.snippet_text.specs.Normalized.{has_control_picture, is_bidirectional_control}
 use Rattle.snippet_text.specs.Width.{char_width, is_replacement, width_of}
 

@@ -5,7 +5,7 @@ use Rattle.std.specs.Option.{option_to_list}
 use Rattle.std.proofs.lemmas.List.{append_assoc}
 use Rattle.std.proofs.lemmas.List.Elements.{All-nil, All-cons}
 use Rattle.snippet_grid.specs.Woven as woven
-use Rattle.snippet_grid.specs.Woven.{Piece, Opening, Reset, LinkTo, LinkEnd, piece_text, plain_piece, piece_link, IsOfSheet, AreLinksEnded, IsStyleOf, IsWoven}
+use Rattle.snippet_grid.specs.Woven.{Piece, Opening, Reset, LinkTo, LinkEnd, plain_piece, piece_link, IsOfSheet, AreLinksEnded, IsStyleOf, IsWoven}
 use Rattle.snippet_style.specs.declared.role.ElementStyle.{ElementStyle}
 use Rattle.snippet_style.specs.declared.role.LevelInner.TheVariants.{Note}
 use Rattle.snippet_style.specs.declared.style.Style.{Style}
@@ -27,14 +27,14 @@ in_style-pieces style (Some url) text rest =
     (append_assoc (woven_chars text) (LinkEnd ∷ []) (Reset style ∷ [])) ∙ append_assoc (woven_chars text) (LinkEnd ∷ Reset style ∷ []) rest)
 
 -- the plain text
-plain-chars : (cs : List ℕ) (ps : List Piece) → flat_map plain_piece (woven_chars cs ++ ps) ≡ cs ++ flat_map plain_piece ps
-plain-chars [] ps = refl
-plain-chars (c ∷ cs) ps = ap (λ (t : List ℕ). c ∷ t) (plain-chars cs ps)
+plain_form_chars : (cs : List ℕ) (ps : List Piece) → flat_map plain_piece (woven_chars cs ++ ps) ≡ cs ++ flat_map plain_piece ps
+plain_form_chars [] ps = refl
+plain_form_chars (c ∷ cs) ps = ap (λ (t : List ℕ). c ∷ t) (plain_form_chars cs ps)
 
 plain-linked : (style : Style) (link : Option (List ℕ)) (text : List ℕ) (rest : List Piece)
     → flat_map plain_piece (link_codes_before link ++ (woven_chars text ++ (link_codes_after link ++ Reset style ∷ rest))) ≡ text ++ flat_map plain_piece rest
-plain-linked style None text rest = plain-chars text (Reset style ∷ rest)
-plain-linked style (Some url) text rest = plain-chars text (LinkEnd ∷ Reset style ∷ rest)
+plain-linked style None text rest = plain_form_chars text (Reset style ∷ rest)
+plain-linked style (Some url) text rest = plain_form_chars text (LinkEnd ∷ Reset style ∷ rest)
 
 plain-in_style : (style : Style) (link : Option (List ℕ)) (text : List ℕ) (rest : List Piece)
     → flat_map plain_piece (in_style style link text ++ rest) ≡ text ++ flat_map plain_piece rest

@@ -14,7 +14,7 @@ use Rattle.std.proofs.lemmas.Str.{encodes-chars, encodes-IsAscii, length-le-enco
 use Rattle.std.proofs.lemmas.Str.Ascii.{IsAscii-from_all}
 use Rattle.snippet_style.specs.Codes.{opening, reset}
 use Rattle.snippet_grid.specs.Woven as woven
-use Rattle.snippet_grid.specs.Woven.{Piece, Opening, Reset, piece_text}
+use Rattle.snippet_grid.specs.Woven.{Piece, Reset, piece_text}
 use Rattle.snippet_style.specs.declared.style.Style.{Style}
 use Rattle.snippet_style.specs.declared.stylesheet.Stylesheet.{Stylesheet}
 use Rattle.snippet_titles.proofs.DigitLemmas.{IsDigit, decimal-all}

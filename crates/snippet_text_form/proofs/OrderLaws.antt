@@ -97,10 +97,10 @@ holds-bare : (parts : List (List ℕ)) (text : List ℕ) → StandInOrder parts 
 holds-bare parts text stand begun = subst (StandInOrder parts) (sym (plain-bare begun text)) stand
 
 -- the text of a heading that has one line
-pub heading_holds : (begun hyperlink : Bool) (kind : HeadingKind) (heading : Heading) → list_any (λ c. c == 10) (shown_text heading) ≡ false
+pub heading_stays : (begun hyperlink : Bool) (kind : HeadingKind) (heading : Heading) → list_any (λ c. c == 10) (shown_text heading) ≡ false
     → StandInOrder (shown_text heading ∷ []) (plain_from begun (heading_form hyperlink kind heading))
 unfolding heading_form
-heading_holds begun hyperlink kind heading one =
+heading_stays begun hyperlink kind heading one =
     let roles : HeadingRoles = text_roles_of kind heading.level.kind heading.allows_styling in
     let width : ℕ = width_of (heading_label kind heading) in
     let label : List FormPiece = label_form hyperlink kind roles heading in

@@ -49,8 +49,8 @@ is_alone None from to anything = false
 is_alone (Some line) from to anything =
     is_character_border line from && is_character_border line to && is_blank (take from line) && (anything || is_blank (drop to line))
 
--- whether an edit is that of a whole line: its span is on one line, on which nothing else stands. The bytes at which the line is cut
--- are those of the source, so it is mostly a first line
+-- as the original does, by the bytes of the source: whether an edit is that of a whole line: its span is on one line, on which nothing
+-- else stands. The bytes at which the line is cut are those of the source, so it is mostly a first line
 abbrev pub replaces_whole_line : Source → Loc → Loc → Edit → Bool
 replaces_whole_line source start end e =
     start.line == end.line && is_alone (line_at source start.line) start.byte end.byte (has_several_lines e.text)

@@ -328,16 +328,9 @@ fn is_blank_after(line: Option<&str>, count: usize) -> bool
     ensures value { result ≡ spec.is_blank_after (option_copied line.entry) count }
 {
     match line {
-        Some(line) => is_blank_from(line, count),
+        Some(line) => ends_blank(line, count) && count <= char_count(line),
         None => false,
     }
-}
-
-/// The same of a line that is there.
-fn is_blank_from(line: &str, count: usize) -> bool
-    ensures value { result ≡ spec.is_blank_after (Some line.now) count }
-{
-    ends_blank(line, count) && count <= char_count(line)
 }
 
 /// Whether nothing but whitespace stands after this many characters of a line.

@@ -1,5 +1,6 @@
 -- What the parts of a heading do to a grid.
-use Rattle.std.specs.Prelude.{◌≡◌, ◌≤◌, ℕ, ◌-◌, ◌^◌, List, [], ◌∷◌, ◌++◌, Option, None, Some, take, length}
+use Rattle.std.specs.Prelude.{◌≡◌, ◌≤◌, ℕ, List, [], ◌∷◌, ◌++◌, Option, None, Some, take, length}
+use Rattle.snippet_style.specs.Bounds.{max_usize}
 use Rattle.snippet_grid.specs.Grid.{row_at, cells_written, cells_linked}
 use Rattle.snippet_style.specs.Cell.{Cell}
 use Rattle.snippet_titles.specs.HeadingRows.{without_empty_end}
@@ -17,4 +18,4 @@ pub record IsAtEnd (row : ℕ) (rows : List (List Cell)) : Type 0 where
 -- the grid with the cells of a row linked to this address from one on, if there is one
 abbrev pub linked_from : Option (List ℕ) → ℕ → ℕ → List (List Cell) → List (List Cell)
 linked_from None row from rows = rows
-linked_from (Some url) row from rows = cells_linked rows row from (2 ^ 64 - 1) url
+linked_from (Some url) row from rows = cells_linked rows row from max_usize url

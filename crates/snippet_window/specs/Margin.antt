@@ -1,5 +1,6 @@
 -- The bounds between which a snippet's lines are shown.
-use Rattle.std.specs.Prelude.{ℕ, ◌+◌, ◌-◌, ◌*◌, ◌/◌, ◌^◌, ◌&&◌, nat_le, nat_lt, min, max, if◌then◌else◌}
+use Rattle.std.specs.Prelude.{ℕ, ◌+◌, ◌-◌, ◌*◌, ◌/◌, ◌&&◌, nat_le, nat_lt, min, max, if◌then◌else◌}
+use Rattle.snippet_style.specs.Bounds.{max_usize}
 use Rattle.snippet_window.specs.declared.margin.Margin.{Margin}
 
 -- two bounds, in columns: what lies between them is shown
@@ -13,7 +14,7 @@ bounds_of m = record { left = m.computed_left; right = m.computed_right }
 
 -- a sum, which stops at the greatest number that there is
 abbrev pub capped_sum : ℕ → ℕ → ℕ
-capped_sum a b = min (a + b) (2 ^ 64 - 1)
+capped_sum a b = min (a + b) max_usize
 
 -- the room from this column on
 abbrev pub room_from : ℕ → ℕ → Bounds

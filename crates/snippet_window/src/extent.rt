@@ -1,6 +1,6 @@
 //! How far the lines of a snippet reach, with their spans and labels, and the margin for them.
-ghost use Rattle.std.specs.Prelude.{◌≡◌, ◌-◌, ◌≤◌, ◌++◌, ◌∷◌, [], All, List, IfSome, Some, min, max};
-ghost use Rattle.std.specs.Option.{option_copied, option_map_or};
+ghost use Rattle.std.specs.Prelude.{◌≡◌, ◌-◌, ◌≤◌, ◌++◌, ◌∷◌, [], All, List, IfSome, Some, max};
+ghost use Rattle.std.specs.Option.{option_copied};
 ghost use Rattle.snippet_parts.specs.declared.entries.AnnotatedLineInfo.{AnnotatedLineInfo};
 ghost use Rattle.snippet_parts.specs.declared.entries.LineAnnotation.{LineAnnotation};
 ghost use Rattle.snippet_parts.specs.Entries.{is_bar};

@@ -4,7 +4,7 @@ ghost use Rattle.std.specs.Option.{option_copied};
 ghost use Rattle.annotate_snippets.specs.Around as spec;
 ghost use Rattle.annotate_snippets.specs.Around.{path_bytes, report_path};
 
-use snippet_model::snippet::{Element, Group};
+use snippet_model::snippet::{Element, Group, Patch, Snippet};
 use snippet_text::CowStr;
 
 /// A path, if there is one.
@@ -26,6 +26,13 @@ pub fn is_same_file(path: Option<&str>, other: Option<&str>) -> bool
         (None, None) => true,
         (Some(_), None) | (None, Some(_)) => false,
     }
+}
+
+/// Whether two suggestions are for one file.
+pub fn is_for_same_file(suggestion: &Snippet<'_, Patch<'_>>, other: &Snippet<'_, Patch<'_>>) -> bool
+    ensures value { result ≡ spec.is_same_file (path_bytes suggestion.now.path) (path_bytes other.now.path) }
+{
+    is_same_file(path_of(&suggestion.path), path_of(&other.path))
 }
 
 /// The path of a group's primary file, which is that of the first element that is of a file, if it has one.

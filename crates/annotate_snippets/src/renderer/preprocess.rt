@@ -11,7 +11,7 @@ ghost use Rattle.annotate_snippets.specs.PreparedReport.{IsElementPrepared};
 ghost use Rattle.annotate_snippets.specs.PreparedReport.{IsGroupDrawable, IsGroupPrepared, element_of};
 ghost use Rattle.snippet_style.specs.Bounds.{IsCount};
 
-use crate::renderer::paths::{is_same_file, path_of};
+use crate::renderer::paths::is_for_same_file;
 use snippet_model::snippet::{
     Annotation, Element, Group, Message, Origin, Padding, Patch, Snippet,
 };
@@ -70,7 +70,7 @@ impl<'a> PreparedElement<'a> {
     {
         match (self, other) {
             (PreparedElement::Suggestion(s), PreparedElement::Suggestion(t)) => {
-                is_same_file(path_of(&s.snippet.path), path_of(&t.snippet.path))
+                is_for_same_file(s.snippet, t.snippet)
             }
             _ => false,
         }

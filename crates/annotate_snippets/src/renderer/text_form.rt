@@ -12,7 +12,7 @@ ghost use Rattle.annotate_snippets.specs.PreparedReport.{IsDrawable, IsElementDr
 ghost use Rattle.annotate_snippets.specs.TextForm as spec;
 ghost use Rattle.annotate_snippets.specs.TextForm.{before_seen, element_form, elements_form, group_form};
 ghost use Rattle.snippet_model.specs.declared.snippet.Group.{Group};
-ghost use Rattle.annotate_snippets.specs.Around.{file_of_group, share_file};
+ghost use Rattle.annotate_snippets.specs.Around.{file_of_group};
 ghost use Rattle.snippet_model.specs.Fits.{MessageFits, TitleFits};
 ghost use Rattle.snippet_suggest.specs.PreparedSuggestion.{IsSuggestible};
 ghost use Rattle.snippet_model.specs.Heading.{heading_of_message, heading_of_title};
@@ -23,7 +23,7 @@ ghost use Rattle.snippet_text_form.specs.declared.heading.HeadingKind.TheVariant
 ghost use Rattle.snippet_style.specs.Bounds.{HasNext};
 
 use crate::renderer::Renderer;
-use crate::renderer::paths::{is_same_file, path_of, primary_path, report_file};
+use crate::renderer::paths::{is_for_same_file, is_same_file, path_of, primary_path, report_file};
 use snippet_model::snippet::{Annotation, Element, Group, Message, Patch, Snippet, Title};
 use snippet_parts::map_of;
 use snippet_suggest::prepare_suggestion;
@@ -157,19 +157,10 @@ fn first_two_share(elements: &[DrawnElement<'_>]) -> bool
     ensures value { result ≡ around.first_two_share (map (λ d. d.element.now) elements.now) }
 {
     match elements {
-        [first, second, ..] => shares_file(first.element, second.element),
-        _ => false,
-    }
-}
-
-/// Whether two elements are suggestions for one file.
-fn shares_file(first: &Element<'_>, second: &Element<'_>) -> bool
-    ensures value { result ≡ share_file first.now second.now }
-{
-    match (first, second) {
-        (Element::Suggestion(first), Element::Suggestion(second)) => {
-            is_same_file(path_of(&first.path), path_of(&second.path))
-        }
+        [first, second, ..] => match (first.element, second.element) {
+            (Element::Suggestion(first), Element::Suggestion(second)) => is_for_same_file(first, second),
+            _ => false,
+        },
         _ => false,
     }
 }

@@ -1,6 +1,7 @@
 //! How snippets get their annotations and patches.
 ghost use Rattle.std.specs.Prelude.{◌≡◌, List, [], ◌∷◌, ◌++◌, IfOk};
 ghost use Rattle.std.specs.Iterator.{IsFiniteIterable, Drains};
+ghost use Rattle.snippet_model.specs.KeptSettings.{KeepsSettings};
 
 use super::{Annotation, Patch, Snippet};
 use std::alloc::AllocError;
@@ -13,11 +14,7 @@ impl<'a> Snippet<'a, Annotation<'a>> {
     ) -> Result<Snippet<'a, Annotation<'a>>, AllocError>
         ensures annotations { IfOk result
             (λ s. s.markers.items ≡ self.entry.markers.items ++ annotation.entry ∷ []) }
-        ensures source { IfOk result (λ s. s.source ≡ self.entry.source) }
-        ensures path { IfOk result (λ s. s.path ≡ self.entry.path) }
-        ensures line_start { IfOk result (λ s. s.line_start ≡ self.entry.line_start) }
-        ensures line_numbering { IfOk result (λ s. s.line_numbering ≡ self.entry.line_numbering) }
-        ensures fold { IfOk result (λ s. s.fold ≡ self.entry.fold) }
+        ensures settings { IfOk result (λ s. KeepsSettings self.entry s) }
     {
         self.markers.push(annotation)?;
         Ok(self)
@@ -33,11 +30,7 @@ impl<'a> Snippet<'a, Annotation<'a>> {
         ensures annotations { IfOk result (λ s. (it : I.IntoIter) × (xs : List Annotation)
             × I.into_iter_gives annotations it × Drains I.IntoIter.next_gives it xs
             × (s.markers.items ≡ self.entry.markers.items ++ xs)) }
-        ensures source { IfOk result (λ s. s.source ≡ self.entry.source) }
-        ensures path { IfOk result (λ s. s.path ≡ self.entry.path) }
-        ensures line_start { IfOk result (λ s. s.line_start ≡ self.entry.line_start) }
-        ensures line_numbering { IfOk result (λ s. s.line_numbering ≡ self.entry.line_numbering) }
-        ensures fold { IfOk result (λ s. s.fold ≡ self.entry.fold) }
+        ensures settings { IfOk result (λ s. KeepsSettings self.entry s) }
     {
         self.markers.extend(annotations)?;
         Ok(self)
@@ -49,11 +42,7 @@ impl<'a> Snippet<'a, Patch<'a>> {
     pub fn patch(mut self, patch: Patch<'a>) -> Result<Snippet<'a, Patch<'a>>, AllocError>
         ensures patches { IfOk result
             (λ s. s.markers.items ≡ self.entry.markers.items ++ patch.entry ∷ []) }
-        ensures source { IfOk result (λ s. s.source ≡ self.entry.source) }
-        ensures path { IfOk result (λ s. s.path ≡ self.entry.path) }
-        ensures line_start { IfOk result (λ s. s.line_start ≡ self.entry.line_start) }
-        ensures line_numbering { IfOk result (λ s. s.line_numbering ≡ self.entry.line_numbering) }
-        ensures fold { IfOk result (λ s. s.fold ≡ self.entry.fold) }
+        ensures settings { IfOk result (λ s. KeepsSettings self.entry s) }
     {
         self.markers.push(patch)?;
         Ok(self)
@@ -69,11 +58,7 @@ impl<'a> Snippet<'a, Patch<'a>> {
         ensures patches { IfOk result (λ s. (it : I.IntoIter) × (xs : List Patch)
             × I.into_iter_gives patches it × Drains I.IntoIter.next_gives it xs
             × (s.markers.items ≡ self.entry.markers.items ++ xs)) }
-        ensures source { IfOk result (λ s. s.source ≡ self.entry.source) }
-        ensures path { IfOk result (λ s. s.path ≡ self.entry.path) }
-        ensures line_start { IfOk result (λ s. s.line_start ≡ self.entry.line_start) }
-        ensures line_numbering { IfOk result (λ s. s.line_numbering ≡ self.entry.line_numbering) }
-        ensures fold { IfOk result (λ s. s.fold ≡ self.entry.fold) }
+        ensures settings { IfOk result (λ s. KeepsSettings self.entry s) }
     {
         self.markers.extend(patches)?;
         Ok(self)

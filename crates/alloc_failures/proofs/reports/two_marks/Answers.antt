@@ -9,11 +9,10 @@ pub returns : goal.returns
 returns c =
     record {
       fits = IfOk-weaker c.annotations.result _ _
-          (λ s ((source, path), (it, xs, gives, drains, items)). (
-            subst (λ t. TextFits (cow_str_bytes t)) (sym (source ∙ c.source.ensures.source)) (omega arith),
-            subst (λ p. IfSome p (λ t. TextFits (cow_str_bytes t))) (sym (path ∙ c.source.ensures.path)) tt,
+          (λ s (kept, (it, xs, gives, drains, items)). (
+            subst (λ t. TextFits (cow_str_bytes t)) (sym (kept.source ∙ c.source.ensures.source)) (omega arith),
+            subst (λ p. IfSome p (λ t. TextFits (cow_str_bytes t))) (sym (kept.path ∙ c.source.ensures.path)) tt,
             subst (All AnnotationFits) (sym (items ∙ ap (λ l. l ++ xs) c.source.ensures.markers ∙ array-drained xs it drains ∙ gives.0)) (search rules),
           ))
-          (IfOk-both _ _ c.annotations.result (IfOk-both _ _ c.annotations.result c.annotations.ensures.source c.annotations.ensures.path)
-          c.annotations.ensures.annotations);
+          (IfOk-both _ _ c.annotations.result c.annotations.ensures.settings c.annotations.ensures.annotations);
     }

@@ -7,6 +7,7 @@ use Rattle.annotate_snippets.specs.declared.snippet.Group.{Group}
 use Rattle.annotate_snippets.specs.declared.snippet.Snippet.{Snippet}
 use Rattle.annotate_snippets.specs.declared.snippet.Title.{Title}
 use Rattle.snip_run.specs.declared.words.Command.{Command}
+use Rattle.annotate_snippets.specs.KeptSettings.{KeepsSettings}
 use Rattle.snip_run.specs.Report.{IsMarkFor, IsSnippetFor, IsTitleFor}
 use Rattle.snip_run.proofs.Reporting.{ok_had}
 use Rattle.snip_run.proofs.run.report_of.Goals as goal
@@ -22,6 +23,7 @@ returns-clause-report c =
     let begun : Snippet Annotation = c.source.result in
     let added : (P : Snippet Annotation → Type 0) → IfOk c.annotation.result P → P snippet = λ P holds.
     ok_had P c.annotation.result snippet c.in_ok-snippet.was holds in
+    let kept : KeepsSettings begun snippet = added (KeepsSettings begun) c.annotation.ensures.settings in
     let grouped : (P : Group → Type 0) → IfOk c.element.result P → P group = λ P holds. ok_had P c.element.result group c.in_ok-group.was holds in
     let mark_is : IsMarkFor command mark =
     record {
@@ -36,11 +38,11 @@ returns-clause-report c =
       mark_is = mark_is;
       markers = added (λ s. s.markers.items ≡ begun.markers.items ++ mark ∷ []) c.annotation.ensures.annotations
           ∙ ap (λ (ms : List Annotation). ms ++ mark ∷ []) c.source.ensures.markers;
-      source_is = ap cow_str_bytes (added (λ s. s.source ≡ begun.source) c.annotation.ensures.source ∙ c.source.ensures.source);
-      path = added (λ s. s.path ≡ begun.path) c.annotation.ensures.path ∙ c.source.ensures.path;
-      line_start = added (λ s. s.line_start ≡ begun.line_start) c.annotation.ensures.line_start ∙ c.source.ensures.line_start;
-      line_numbering = added (λ s. s.line_numbering ≡ begun.line_numbering) c.annotation.ensures.line_numbering ∙ c.source.ensures.line_numbering;
-      fold = added (λ s. s.fold ≡ begun.fold) c.annotation.ensures.fold ∙ c.source.ensures.fold;
+      source_is = ap cow_str_bytes (kept.source ∙ c.source.ensures.source);
+      path = kept.path ∙ c.source.ensures.path;
+      line_start = kept.line_start ∙ c.source.ensures.line_start;
+      line_numbering = kept.line_numbering ∙ c.source.ensures.line_numbering;
+      fold = kept.fold ∙ c.source.ensures.fold;
     } in
     let title_is : IsTitleFor command title =
     record {

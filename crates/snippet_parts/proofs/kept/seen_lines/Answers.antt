@@ -1,9 +1,9 @@
-use Rattle.std.proofs.Common.{◌≡◌, ℕ, length, ap, refl, ◌∙◌}
-use Rattle.std.specs.List.{filter, list_any, range_with_len}
+use Rattle.std.proofs.Common.{◌≡◌, ℕ, length, refl, ◌∙◌}
+use Rattle.std.specs.List.{filter, list_any}
 use Rattle.std.proofs.lemmas.Result.{IfOk-weaker}
 use Rattle.snippet_lines.specs.Lines.{source_lines}
 use Rattle.snippet_parts.specs.declared.located.LocatedSpan.{LocatedSpan}
-use Rattle.snippet_parts.specs.LineStretches.{is_held, is_seen}
+use Rattle.snippet_parts.specs.LineStretches.{is_seen}
 use Rattle.snippet_parts.proofs.KeptLemmas.{filter-cut, held-all, unseen}
 use Rattle.snippet_parts.proofs.kept.seen_lines.Goals as goal
 

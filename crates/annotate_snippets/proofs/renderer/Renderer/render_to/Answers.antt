@@ -1,9 +1,8 @@
-use Rattle.std.proofs.Common.{◌≡◌, ◌∙◌, List, None, sym}
+use Rattle.std.proofs.Common.{◌≡◌, ◌∙◌, None, sym}
 use Rattle.std.proofs.lemmas.Result.{on_err_weaker, on_ok_weaker}
-use Rattle.snippet_model.specs.declared.snippet.Group.{Group}
 use Rattle.annotate_snippets.specs.Fault.{first_fault, missing_title, refusal_in}
 use Rattle.annotate_snippets.proofs.FaultLemmas.{groups-drawable, titled, unrefused}
-use Rattle.annotate_snippets.proofs.WriteLemmas.{laws_whole, shown_part, shown_whole}
+use Rattle.annotate_snippets.proofs.WriteLemmas.{laws_whole, written_part, written_whole}
 use Rattle.annotate_snippets.proofs.renderer.Renderer.render_to.Goals as goal
 
 pub write_form-requires : goal.write_form-requires
@@ -17,7 +16,7 @@ write_form-requires g c =
 
 pub returns-clause-whole : goal.returns-clause-whole
 returns-clause-whole g c =
-    on_ok_weaker c.write_form.result (shown_whole c.args.self.now c.args.groups.now c.form_of-form.result _ _ c.form_of-form.ensures.value)
+    on_ok_weaker c.write_form.result (written_whole c.args.self.now c.args.groups.now c.form_of-form.result _ _ c.form_of-form.ensures.value)
     c.write_form.ensures.whole
 
 pub returns-clause-laws : goal.returns-clause-laws
@@ -27,5 +26,5 @@ returns-clause-laws g c =
 
 pub returns-clause-part : goal.returns-clause-part
 returns-clause-part g c =
-    on_err_weaker c.write_form.result (shown_part g.W.Write.contents c.args.self.now c.args.groups.now c.form_of-form.result _ _ c.form_of-form.ensures.value)
+    on_err_weaker c.write_form.result (written_part g.W.Write.contents c.args.self.now c.args.groups.now c.form_of-form.result _ _ c.form_of-form.ensures.value)
     c.write_form.ensures.part

@@ -1,7 +1,5 @@
-use Rattle.std.proofs.Common.{◌≡◌, ◌∙◌, None, sym, List, string_bytes}
-use Rattle.snippet_model.specs.declared.snippet.Group.{Group}
+use Rattle.std.proofs.Common.{◌≡◌, ◌∙◌, None, sym}
 use Rattle.annotate_snippets.specs.Fault.{first_fault, missing_title, refusal_in}
-use Rattle.annotate_snippets.specs.FormLaws.{IsTextUnder}
 use Rattle.annotate_snippets.proofs.FaultLemmas.{groups-drawable, titled, unrefused}
 use Rattle.annotate_snippets.proofs.renderer.Renderer.text_in.Goals as goal
 

@@ -1,7 +1,7 @@
 use Rattle.std.proofs.Common.{◌≡◌, ◌+◌, ◌∙◌, length, List, ℕ, ap, arith}
 use Rattle.snippet_lines.specs.Lines.{Source, source_lines}
 use Rattle.snippet_lines.proofs.LinesLemmas.{AreLinesOf-source_lines, length-source_lines, newline_count-le, source_lines-only}
-use Rattle.snippet_parts.specs.Starts.{starts_of}
+use Rattle.snippet_parts.specs.MapStarts.{starts_of}
 use Rattle.snippet_parts.proofs.TableLemmas.{table-last}
 use Rattle.snippet_parts.proofs.source_map.SourceMap.line_count.Goals as goal
 

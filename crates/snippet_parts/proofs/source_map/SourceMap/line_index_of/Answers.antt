@@ -6,7 +6,7 @@ use Rattle.snippet_lines.specs.Place.{line_of}
 use Rattle.snippet_lines.proofs.IndexLemmas.{line_of-clamped}
 use Rattle.snippet_lines.proofs.LinesLemmas.{length-source_lines, newline_count-le}
 use Rattle.snippet_lines.proofs.PlaceLemmas.{line_of-within}
-use Rattle.snippet_parts.specs.Starts.{starts_of}
+use Rattle.snippet_parts.specs.MapStarts.{starts_of}
 use Rattle.snippet_parts.proofs.TableLemmas.{table-ordered, table-first, table-holding}
 use Rattle.snippet_parts.proofs.source_map.SourceMap.line_index_of.Goals as goal
 

@@ -11,18 +11,18 @@ use Rattle.snippet_parts.proofs.TableLemmas.{entry_at-is}
 use Rattle.snippet_parts.proofs.source_map.SourceMap.line_info.Goals as goal
 
 -- what is said of the source that the map is seen as holds of the one that it has
-same-lines : (s t : Source) → s ≡ t → length (source_lines s.text) ≡ length (source_lines t.text)
-same-lines s t same = ap (λ (u : Source). length (source_lines u.text)) same
+lines_alike : (s t : Source) → s ≡ t → length (source_lines s.text) ≡ length (source_lines t.text)
+lines_alike s t same = ap (λ (u : Source). length (source_lines u.text)) same
 
-same-start : (s t : Source) (k at : ℕ) → s ≡ t → at ≡ start_of (source_lines t.text) k → at ≡ start_of (source_lines s.text) k
-same-start s t k at same is = is ∙ sym (ap (λ (u : Source). start_of (source_lines u.text) k) same)
+starts_alike : (s t : Source) (k at : ℕ) → s ≡ t → at ≡ start_of (source_lines t.text) k → at ≡ start_of (source_lines s.text) k
+starts_alike s t k at same is = is ∙ sym (ap (λ (u : Source). start_of (source_lines u.text) k) same)
 
 pub overflow_add-index : goal.overflow_add-index
 overflow_add-index c =
     let source : List ℕ = c.self.inside.source.now in
     omega (
       arith,
-      same-lines _ _ c.self.view_is,
+      lines_alike _ _ c.self.view_is,
       c.requires.within,
       length-source_lines source,
       newline_count-le source,
@@ -40,12 +40,12 @@ range-requires-clause-start_le_end c =
 
 pub range-requires-clause-start_boundary : goal.range-requires-clause-start_boundary
 range-requires-clause-start_boundary c = λ _.
-    subst (IsCharBoundary c.self.inside.source.now) (sym (same-start _ _ c.args.index _ c.self.view_is c.start_of_line-start.ensures.value))
+    subst (IsCharBoundary c.self.inside.source.now) (sym (starts_alike _ _ c.args.index _ c.self.view_is c.start_of_line-start.ensures.value))
     (IsCharBoundary-start_of c.self.inside.source.now c.args.index c.self.invariant.utf8)
 
 pub range-requires-clause-end_boundary : goal.range-requires-clause-end_boundary
 range-requires-clause-end_boundary c =
-    subst (IsCharBoundary c.self.inside.source.now) (sym (same-start _ _ (c.args.index + 1) _ c.self.view_is c.start_of_line-end.ensures.value))
+    subst (IsCharBoundary c.self.inside.source.now) (sym (starts_alike _ _ (c.args.index + 1) _ c.self.view_is c.start_of_line-end.ensures.value))
     (IsCharBoundary-start_of c.self.inside.source.now (c.args.index + 1) c.self.invariant.utf8)
 
 -- the bytes of the line
@@ -60,12 +60,12 @@ pub without_line_end-requires : goal.without_line_end-requires
 without_line_end-requires c =
     let source : List ℕ = c.self.inside.source.now in
     let k : ℕ = c.args.index in
-    let within : k < length (source_lines source) = omega (arith, same-lines _ _ c.self.view_is, c.requires.within) in
+    let within : k < length (source_lines source) = omega (arith, lines_alike _ _ c.self.view_is, c.requires.within) in
     let line : Line = get_or (source_lines source) k ([], Eof) in
     record {
       one_line = subst IsLineWithEnd (sym (bytes source k c.start_of_line-start.result c.start_of_line-end.result c.range.result.now within
-          (same-start _ _ k _ c.self.view_is c.start_of_line-start.ensures.value)
-          (same-start _ _ (k + 1) _ c.self.view_is c.start_of_line-end.ensures.value)
+          (starts_alike _ _ k _ c.self.view_is c.start_of_line-start.ensures.value)
+          (starts_alike _ _ (k + 1) _ c.self.view_is c.start_of_line-end.ensures.value)
           c.range.ensures.value)) (IsOneLine-line line (IsLine-at source k within));
     }
 
@@ -75,9 +75,9 @@ returns c =
     let source : List ℕ = m.source.now in
     let k : ℕ = c.args.index in
     let ls : List Line = source_lines source in
-    let within : k < length ls = omega (arith, same-lines _ _ c.self.view_is, c.requires.within) in
-    let start = same-start _ _ k _ c.self.view_is c.start_of_line-start.ensures.value in
-    let end = same-start _ _ (k + 1) _ c.self.view_is c.start_of_line-end.ensures.value in
+    let within : k < length ls = omega (arith, lines_alike _ _ c.self.view_is, c.requires.within) in
+    let start = starts_alike _ _ k _ c.self.view_is c.start_of_line-start.ensures.value in
+    let end = starts_alike _ _ (k + 1) _ c.self.view_is c.start_of_line-end.ensures.value in
     let line : Line = get_or ls k ([], Eof) in
     let cut = c.without_line_end.ensures in
     let whole : line_bytes line ≡ line_bytes (c.without_line_end.result.0.now, c.without_line_end.result.1) = sym
