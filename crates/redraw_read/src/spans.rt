@@ -1,5 +1,9 @@
 //! The places of a diagnostic of rustc, or of one of its children.
 
+ghost use Rattle.std.specs.Prelude.{◌≡◌, IfOk, option_map, string_bytes};
+ghost use Rattle.json_node.specs.Field.{lent_text};
+ghost use Rattle.redraw_read.specs.Told.{said_label};
+
 use crate::calls::add_call;
 use crate::expansion::shown_place;
 use crate::json::{given, given_text, listed, owned, values_of};
@@ -19,7 +23,7 @@ pub fn spans_of(node: &Node<'_, '_>) -> Result<Vec<FileSpan>, Fault> {
     let mut spans = each_span(&list, values)?;
     add_calls(&list, values, &mut spans)?;
     settle_roles(&mut spans);
-    settle_order(&mut spans);
+    settle_order(node.alloc, &mut spans)?;
     Ok(spans)
 }
 
@@ -104,7 +108,9 @@ pub fn file_span(
 }
 
 /// A copy of a label, where there is one that says something.
-fn owned_label(alloc: Global, label: Option<&str>) -> Result<Option<String>, AllocError> {
+fn owned_label(alloc: Global, label: Option<&str>) -> Result<Option<String>, AllocError>
+    ensures value { IfOk result (λ copy. option_map string_bytes copy ≡ said_label (lent_text label.entry)) }
+{
     match label {
         Some(label) if !label.is_empty() => Ok(Some(owned(alloc, label)?)),
         _ => Ok(None),
