@@ -4,4 +4,5 @@ pub mod Loaded
 pub mod Order
 pub mod Placed
 pub mod Rendered
+pub mod Spans
 pub mod Told
