@@ -26,12 +26,12 @@ abbrev pub is_among : List ℕ → List (List ℕ) → Bool
 is_among digest digests = list_any (bytes_eq digest) digests
 
 -- how many digests are kept before all are forgotten
-abbrev pub most : ℕ
-most = 16384
+abbrev pub most_kept : ℕ
+most_kept = 16384
 
 -- a digest is kept that wasn't among these: beside them, or alone where too many are kept
 abbrev pub Remembers : List ℕ → List (List ℕ) → List (List ℕ) → Type 0
-Remembers digest old new = IsPermutation (digest ∷ old) new ⊎ ((most ≤ length old) × IsPermutation (digest ∷ []) new)
+Remembers digest old new = IsPermutation (digest ∷ old) new ⊎ ((most_kept ≤ length old) × IsPermutation (digest ∷ []) new)
 
 -- what is answered of a value, and what is kept then: it was seen where its digest is kept, and then nothing changes; else its digest is
 -- kept from then on
