@@ -1,5 +1,9 @@
 //! What was drawn before: the diagnostics of cargo, and the files that places lie in.
 
+ghost use Rattle.std.specs.Prelude.{◌≡◌, [], IfOk};
+ghost use Rattle.redraw_command.specs.Seen.{Keeps, digests_of};
+ghost use Rattle.serde_json.specs.View.{view};
+
 use serde_json::Value;
 use sha2::{Digest, Sha256};
 use std::alloc::{AllocError, Global};
@@ -19,7 +23,9 @@ pub struct Seen {
 
 impl Seen {
     /// None was drawn.
-    pub fn new(alloc: Global) -> Seen {
+    pub fn new(alloc: Global) -> Seen
+        ensures none { digests_of result ≡ [] }
+    {
         Seen {
             alloc,
             digests: HashSet::new(alloc),
@@ -28,7 +34,10 @@ impl Seen {
 
     /// Keeps a diagnostic in mind, and says whether it was kept before. When too many are kept, all others are
     /// forgotten first.
-    pub fn keeps(&mut self, message: &Value) -> Result<bool, AllocError> {
+    pub fn keeps(&mut self, message: &Value) -> Result<bool, AllocError>
+        ensures keeps { IfOk result (λ was.
+            Keeps (view message.now) was (digests_of self.old) (digests_of self.new)) }
+    {
         let text = message.to_string(self.alloc)?;
         let digest = Sha256::digest(text.as_bytes());
         if self.digests.contains(&digest) {

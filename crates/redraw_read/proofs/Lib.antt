@@ -4,4 +4,5 @@ pub mod Loading
 pub mod NotLoaded
 pub mod Offered
 mod Rows
+pub mod Settled
 pub mod Walked

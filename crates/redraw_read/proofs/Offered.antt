@@ -1,14 +1,16 @@
 -- Edits at spots, one after another, and the line around a spot.
-use Rattle.std.proofs.Common.{◌≡◌, ◌≢◌, ◌⊎◌, ℕ, zero, suc, ◌+◌, ◌<◌, ◌≤◌, List, [], ◌∷◌, ◌++◌, Option, Some, None, drop, take, get_or, get_or-drop, length}
-use Rattle.std.proofs.Common.{length-append, length-drop, slice_get, refl, sym, ap, ◌∙◌, arith, inl, inr}
+use Rattle.std.proofs.Common.{◌≡◌, ◌≢◌, ◌⊎◌, ℕ, zero, suc, ◌+◌, ◌-◌, ◌<◌, ◌≤◌, List, [], ◌∷◌, ◌++◌, Option, Some, None, drop, take, get_or, get_or-drop, length}
+use Rattle.std.proofs.Common.{length-append, length-drop, slice_get, refl, sym, ap, subst, ◌∙◌, arith, inl, inr}
 use Rattle.std.specs.Borrow.{Bor}
 use Rattle.std.specs.List.{HoldsAt}
 use Rattle.std.specs.Option.{MatchOption, option_map}
+use Rattle.std.specs.Str.{IsCharBoundary, IsUtf8}
 use Rattle.std.proofs.lemmas.Option.{slice_get_past, slice_get_read}
 use Rattle.std.proofs.Math.Seq.{get_or-append_seam, take-suc}
 use Rattle.std.proofs.lemmas.Bool.{cases_lt}
 use Rattle.std.proofs.lemmas.List.{at_drop_more, get_or-take, length-take-le}
 use Rattle.std.proofs.lemmas.List.Elements.{All-from_get_or}
+use Rattle.std.proofs.lemmas.Str.{IsCharBoundary-start, IsCharBoundary-after_ascii}
 use Rattle.redraw_report.specs.declared.diagnostic.Edit.{Edit}
 use Rattle.redraw_read.specs.Placed.{HasNoFeed, IsLastStart, IsLineIn, edit_at, edits_at}
 use Rattle.redraw_read.specs.declared.spot.Spot.{Spot}
@@ -84,3 +86,50 @@ reaches text at start line within from none is = by_cases (cases_lt (start + len
     by_cases : (start + length line < at) ⊎ (at ≤ start + length line) → at ≤ start + length line
     by_cases (inl less) = absurd (fed less is.after is.is is.ends)
     by_cases (inr done) = done
+
+-- the last line of a text starts at one byte: not at an earlier one, since a line feed stands before it
+no_earlier : (text : List ℕ) (a b : ℕ) → IsLastStart text a → IsLastStart text b → a < b → ⊥
+no_earlier text a b p q less = by_start q.starts
+  where
+    by_start : (take b text ≡ []) ⊎ ((front : List ℕ) × (take b text ≡ front ++ (10 ∷ []))) → ⊥
+    by_start (inl none) = omega (arith, less, ap length none, length-take-le b text q.within)
+    by_start (inr fed) =
+        let front = fed.0 in
+        let count : b ≡ length front + 1 = sym (length-take-le b text q.within) ∙ ap length fed.1 ∙ length-append front (10 ∷ []) in
+        let seam : get_or (take b text) (length front) 0 ≡ 10 = ap (λ l. get_or l (length front) 0) fed.1 ∙ get_or-append_seam front 10 [] 0 in
+        let feed : get_or text (length front) 0 ≡ 10 = sym (get_or-take b text (length front) 0 (omega arith)) ∙ seam in
+        let place : a + (length front - a) ≡ length front = omega (arith, less, count) in
+        p.last (length front - a) 0 (omega (arith, less, count, q.within, length-drop a text))
+        (get_or-drop a text (length front - a) 0 ∙ ap (λ n. get_or text n 0) place ∙ feed)
+
+pub one_start : (text : List ℕ) (a b : ℕ) → IsLastStart text a → IsLastStart text b → a ≡ b
+one_start text a b p q = by_order (cases_lt a b) (cases_lt b a)
+  where
+    by_order : (a < b) ⊎ (b ≤ a) → (b < a) ⊎ (a ≤ b) → a ≡ b
+    by_order (inl less) other = absurd (no_earlier text a b p q less)
+    by_order (inr more) (inl less) = absurd (no_earlier text b a q p less)
+    by_order (inr more) (inr most) = omega (arith, more, most)
+
+-- where the last line starts of a text up to some byte, a character begins: it is the text's start, or a line feed stands before it
+pub start_border : (text : List ℕ) (at start : ℕ) → IsUtf8 text → at ≤ length text → IsLastStart (take at text) start → IsCharBoundary text start
+start_border text at start utf8 within is = by_start is.starts
+  where
+    front : List ℕ
+    front = take at text
+
+    fits : start ≤ at
+    fits = omega (arith, is.within, length-take-le at text within)
+
+    long : length (take start front) ≡ start
+    long = length-take-le start front is.within
+
+    by_start : (take start front ≡ []) ⊎ ((before : List ℕ) × (take start front ≡ before ++ (10 ∷ []))) → IsCharBoundary text start
+    by_start (inl none) = subst (IsCharBoundary text) (sym (sym long ∙ ap length none)) (IsCharBoundary-start text utf8)
+    by_start (inr fed) =
+        let before = fed.0 in
+        let i : ℕ = length before in
+        let count : start ≡ i + 1 = sym long ∙ ap length fed.1 ∙ length-append before (10 ∷ []) in
+        let seam : get_or (take start front) i 0 ≡ 10 = ap (λ l. get_or l i 0) fed.1 ∙ get_or-append_seam before 10 [] 0 in
+        let feed : get_or text i 0 ≡ 10 =
+        sym (get_or-take at text i 0 (omega (arith, count, fits))) ∙ sym (get_or-take start front i 0 (omega (arith, count))) ∙ seam in
+        subst (IsCharBoundary text) (sym count) (IsCharBoundary-after_ascii text i utf8 (omega (arith, count, fits, within)) (omega (arith, feed)))

@@ -1,5 +1,8 @@
 -- The vocabulary of what is read for a report.
 pub mod Extract
 pub mod Loaded
+pub mod Order
 pub mod Placed
 pub mod Rendered
+pub mod Spans
+pub mod Told

@@ -5,7 +5,7 @@ use Rattle.std.specs.Borrow.{Bor}
 use Rattle.std.specs.Global.{Global, Vec}
 use Rattle.std.specs.List.{All, AllZip, ends_with, filter_map, list_all, slice_range, starts_with}
 use Rattle.std.specs.Option.{option_map}
-use Rattle.std.specs.Str.{trim}
+use Rattle.std.specs.Str.{IsCharBoundary, trim}
 use Rattle.redraw_report.specs.declared.diagnostic.Carried.{Carried}
 use Rattle.redraw_report.specs.declared.diagnostic.Child.{Child}
 use Rattle.redraw_report.specs.declared.diagnostic.Code.{Code}
@@ -185,6 +185,13 @@ pub record IsLastStart (text : List ℕ) (start : ℕ) : Type 0 where
   pub starts : IsBeforeLine (take start text)
   pub last : HasNoFeed (drop start text)
 
+-- nothing but blanks stands before this byte of a text in its line, and a character begins there, or the text ends
+pub record IsAlone (text : List ℕ) (at : ℕ) : Type 0 where
+  pub border : IsCharBoundary text at
+  pub start : ℕ
+  pub begins : IsLastStart (take at text) start
+  pub blank : trim (slice_range text start at) ≡ []
+
 -- the offer of an attribute at this spot: all of the line around it is shown, of this text and with this number, and the attribute is
 -- put in where the spot is in that, before which nothing but blanks stands there
 pub record IsAttributeIn (text : List ℕ) (number : ℕ) (s : Spot) (e : Edit) (o : Offer) : Type 0 where
@@ -216,10 +223,28 @@ IsAttributeOffer (s ∷ []) [] o = ⊥
 IsAttributeOffer (s ∷ []) (e ∷ f ∷ es) o = ⊥
 IsAttributeOffer (s ∷ t ∷ ss) edits o = ⊥
 
--- the offer of edits at these spots, if there is one: of all of them, or of an attribute that is shown with its line
+-- an edit of this text is an attribute that is to stand above a line of what is shown there of a region: nothing but blanks stands
+-- before it in that line
+abbrev pub IsAboveLine : Content → Region → ℕ → List ℕ → Type 0
+IsAboveLine (content.Lines text first) (region.Lines r) at replacement = (is_attribute replacement ≡ true) × IsAlone text.now at
+IsAboveLine (content.Lines text first) (region.Bytes start end) at replacement = ⊥
+IsAboveLine (content.Lines text first) (region.Chars start end unit) at replacement = ⊥
+IsAboveLine (content.Nothing line column) r at replacement = ⊥
+IsAboveLine (content.Blank line column) r at replacement = ⊥
+
+-- edits are one that puts an attribute above a line
+abbrev pub AreAboveLine : List Spot → List Edit → Type 0
+AreAboveLine (s ∷ []) (e ∷ []) = IsAboveLine s.source.content e.region s.start (string_bytes e.replacement)
+AreAboveLine [] edits = ⊥
+AreAboveLine (s ∷ []) [] = ⊥
+AreAboveLine (s ∷ []) (e ∷ f ∷ es) = ⊥
+AreAboveLine (s ∷ t ∷ ss) edits = ⊥
+
+-- the offer of edits at these spots, if there is one: of an attribute above a line that line with it; of any other edits all of them
 abbrev pub IsOfferAt : List Spot → List Edit → Option Offer → Type 0
 IsOfferAt spots edits offer =
-    (option_map offered_view offer ≡ offer_at spots edits) ⊎ ((o : Offer) × (offer ≡ Some o) × IsAttributeOffer spots edits o)
+    ((AreAboveLine spots edits → ⊥) × (option_map offered_view offer ≡ offer_at spots edits))
+    ⊎ ((o : Offer) × (offer ≡ Some o) × IsAttributeOffer spots edits o)
 
 -- the offer of an alternative, if there is one: never of a part of its edits
 abbrev pub IsOfferOf : AtHand → List Edit → Option Offer → Type 0

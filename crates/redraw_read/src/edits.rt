@@ -1,5 +1,8 @@
 //! The edits that a child of a diagnostic of rustc suggests.
 
+ghost use Rattle.std.specs.Prelude.{◌≡◌, ◌≢◌, [], false, IfOk};
+ghost use Rattle.std.specs.List.{All, flat_map};
+
 use crate::json::{given_text, listed, owned};
 use crate::offers::is_attribute;
 use crate::spans::{carried_of, region_of};
@@ -87,7 +90,10 @@ fn text_before(span: &Value, region: LineRegion) -> Option<&str> {
 
 /// Edits as the alternatives that they are. rustc writes these one after another, and none of them has edits that
 /// overlap: so one begins with an edit that overlaps with one of the edits before.
-pub fn alternatives_of(alloc: Global, edits: Vec<Edit>) -> Result<Vec<Vec<Edit>>, AllocError> {
+pub fn alternatives_of(alloc: Global, edits: Vec<Edit>) -> Result<Vec<Vec<Edit>>, AllocError>
+    ensures all { IfOk result (λ alternatives. flat_map (λ each. each.items) alternatives.items ≡ edits.items) }
+    ensures some { IfOk result (λ alternatives. All (λ each. each.items ≢ []) alternatives.items) }
+{
     let mut alternatives = Vec::new(alloc);
     let mut current: Vec<Edit> = Vec::new(alloc);
     for edit in edits {
@@ -104,7 +110,9 @@ pub fn alternatives_of(alloc: Global, edits: Vec<Edit>) -> Result<Vec<Vec<Edit>>
 }
 
 /// Whether an edit overlaps with one of these.
-fn overlaps_one(edit: &Edit, others: &[Edit]) -> bool {
+fn overlaps_one(edit: &Edit, others: &[Edit]) -> bool
+    ensures none { others.now ≡ [] → result ≡ false }
+{
     for other in others {
         if !are_apart(other, edit) {
             return true;

@@ -3,13 +3,13 @@
 ghost use Rattle.std.specs.Prelude.{◌≡◌, ◌+◌, ◌≤◌, ◌++◌, ◌∷◌, [], Some, None, true, false, if◌then◌else◌, ◌&&◌};
 ghost use Rattle.std.specs.Prelude.{IfOk, IfSome, IsTrue, OnOk, length, map, string_bytes, take};
 ghost use Rattle.std.specs.List.{AllZip, filter_map, slice_range};
-ghost use Rattle.std.specs.Str.{trim};
+ghost use Rattle.std.specs.Str.{IsCharBoundary, trim};
 ghost use Rattle.std.specs.Option.{option_map};
 ghost use Rattle.redraw_report.specs.Report.{edited_of};
 ghost use Rattle.redraw_read.specs.Placed as spec;
 ghost use Rattle.redraw_read.specs.Placed.{AreOffersOf, IsOfferAt, IsOfferOf, IsSpotOf, at_hand, edit_at, edits_at};
 ghost use Rattle.redraw_read.specs.Placed.{IsAttributeAt, IsAttributeIn, IsAttributeOffer, IsLastStart, IsLineIn};
-ghost use Rattle.redraw_read.specs.Placed.{Lines, offered_view, sight_of};
+ghost use Rattle.redraw_read.specs.Placed.{AreAboveLine, IsAboveLine, IsAlone, Lines, offered_view, sight_of};
 
 use crate::hand::Hand;
 use crate::spot::{Placing, Spot, counted};
@@ -212,6 +212,7 @@ fn attribute_of<'a>(
     edits: &'a [Edit],
 ) -> Result<Option<Offer<'a>>, AllocError>
     ensures is { IfOk result (λ offer. IfSome offer (IsAttributeOffer spots.now edits.now)) }
+    ensures none { IfOk result (λ offer. offer ≡ None → AreAboveLine spots.now edits.now → ⊥) }
 {
     match (spots, edits) {
         ([spot], [edit]) => attribute_at(alloc, spot, edit),
@@ -227,6 +228,8 @@ fn attribute_at<'a>(
 ) -> Result<Option<Offer<'a>>, AllocError>
     ensures is { IfOk result (λ offer. IfSome offer
         (IsAttributeAt spot.now.source.content edit.now.region spot.now edit.now)) }
+    ensures none { IfOk result (λ offer. offer ≡ None → IsAboveLine spot.now.source.content edit.now.region
+        spot.now.start (string_bytes edit.now.replacement) → ⊥) }
 {
     match (spot.source.content, edit.region) {
         (Content::Lines { text, .. }, Region::Lines(region)) => {
@@ -247,6 +250,8 @@ fn attribute_if<'a>(
     ensures is { IfOk result (λ offer. IfSome offer (λ o.
         (spec.is_attribute (string_bytes edit.now.replacement) ≡ true)
         × IsAttributeIn text.now number spot.now edit.now o)) }
+    ensures none { IfOk result (λ offer. offer ≡ None → spec.is_attribute (string_bytes edit.now.replacement) ≡ true
+        → IsAlone text.now spot.now.start → ⊥) }
 {
     if is_attribute(edit.replacement.as_str()) {
         attribute_in(alloc, text, number, spot, edit)
@@ -265,20 +270,24 @@ fn attribute_in<'a>(
     edit: &'a Edit,
 ) -> Result<Option<Offer<'a>>, AllocError>
     ensures is { IfOk result (λ offer. IfSome offer (IsAttributeIn text.now number spot.now edit.now)) }
+    ensures none { IfOk result (λ offer. offer ≡ None → IsAlone text.now spot.now.start → ⊥) }
 {
-    match line_around(text, spot.start) {
-        Some(line) if is_blank_from(text, line.start, spot.start) => {
-            let at = spot.start.saturating_sub(line.start);
-            let changes = one_change(alloc, at, edit)?;
-            Ok(Some(line_offer(spot.source.path, line.text, number, changes)))
-        }
-        _ => Ok(None),
+    let Some(line) = line_around(text, spot.start) else {
+        return Ok(None);
+    };
+    if !is_blank_from(text, line.start, spot.start) {
+        return Ok(None);
     }
+    let at = spot.start.saturating_sub(line.start);
+    let changes = one_change(alloc, at, edit)?;
+    Ok(Some(line_offer(spot.source.path, line.text, number, changes)))
 }
 
 /// Whether there is nothing but blanks between two bytes of a text.
 fn is_blank_from(text: &str, start: usize, end: usize) -> bool
     ensures blank { IsTrue result → trim (slice_range text.now start end) ≡ [] }
+    ensures told { start ≤ end → IsCharBoundary text.now start → IsCharBoundary text.now end
+        → trim (slice_range text.now start end) ≡ [] → IsTrue result }
 {
     match text.get(start..end) {
         Some(between) => between.trim().is_empty(),
@@ -333,6 +342,8 @@ fn line_around<'a>(text: &'a str, at: usize) -> Option<Line<'a>>
     ensures start { IfSome result (λ line. length (take line.start text.now) ≡ line.start) }
     ensures from { IfSome result (λ line. line.start ≤ at) }
     ensures to { IfSome result (λ line. at ≤ line.start + length line.text.now) }
+    ensures begins { IfSome result (λ line. IsLastStart (take at text.now) line.start) }
+    ensures none { result ≡ None → IsCharBoundary text.now at → ⊥ }
 {
     let start = last_start(text.get(..at)?);
     Some(Line {

@@ -1,10 +1,11 @@
 //! How a suggestion is shown, which rustc's own text of a diagnostic tells: its JSON says of each suggestion only what
 //! it changes.
 
-ghost use Rattle.std.specs.Prelude.{◌≡◌, ◌==◌};
+ghost use Rattle.std.specs.Prelude.{◌≡◌, ◌==◌, IfOk};
 ghost use Rattle.std.specs.List.{slice_split};
 ghost use Rattle.redraw_read.specs.Rendered as spec;
 ghost use Rattle.redraw_read.specs.Rendered.{way, way_of};
+ghost use Rattle.redraw_read.specs.Told.{KeepsHeading};
 ghost use Rattle.redraw_report.specs.Report.{lent};
 
 use crate::columns::show_columns;
@@ -110,13 +111,17 @@ pub fn as_rendered(
     alloc: Global,
     text: &str,
     diagnostic: Diagnostic,
-) -> Result<Diagnostic, AllocError> {
+) -> Result<Diagnostic, AllocError>
+    ensures headed { IfOk result (KeepsHeading diagnostic) }
+{
     let text = without_styles(alloc, text)?;
     as_shown(alloc, text.as_str(), diagnostic)
 }
 
 /// A diagnostic with its suggestions as they are shown in a text of it.
-fn as_shown(alloc: Global, text: &str, diagnostic: Diagnostic) -> Result<Diagnostic, AllocError> {
+fn as_shown(alloc: Global, text: &str, diagnostic: Diagnostic) -> Result<Diagnostic, AllocError>
+    ensures headed { IfOk result (KeepsHeading diagnostic) }
+{
     let mut spans = diagnostic.spans;
     show_columns(alloc, text, &mut spans)?;
     let children = shown_children(alloc, text, diagnostic.children, &mut spans)?;

@@ -1,6 +1,8 @@
 //! What rustc writes with `--error-format=json`, a diagnostic a line.
 
-ghost use Rattle.std.specs.Prelude.{◌≤◌, length};
+ghost use Rattle.std.specs.Prelude.{◌≡◌, ◌≤◌, IfOk, length, option_map, string_bytes};
+ghost use Rattle.redraw_read.specs.Told.{IsHeaded, IsHeading, code_seen, code_told};
+ghost use Rattle.serde_json.specs.View.{view};
 
 use crate::edits::{alternatives_of, edits_of};
 use crate::expansion::Macros;
@@ -16,7 +18,9 @@ use serde_json::Value;
 use std::alloc::Global;
 
 /// The diagnostic that a value describes, with its suggestions as its own text shows them, where it has that.
-pub fn diagnostic_of(node: &Node<'_, '_>) -> Result<Diagnostic, Fault> {
+pub fn diagnostic_of(node: &Node<'_, '_>) -> Result<Diagnostic, Fault>
+    ensures headed { IfOk result (IsHeaded (view node.now.value.now)) }
+{
     let diagnostic = told_diagnostic(node)?;
     match given_text(node, "rendered")? {
         Some(text) if is_whole(text) => Ok(as_rendered(node.alloc, text, diagnostic)?),
@@ -25,7 +29,9 @@ pub fn diagnostic_of(node: &Node<'_, '_>) -> Result<Diagnostic, Fault> {
 }
 
 /// The diagnostic that the other fields of a value describe.
-fn told_diagnostic(node: &Node<'_, '_>) -> Result<Diagnostic, Fault> {
+fn told_diagnostic(node: &Node<'_, '_>) -> Result<Diagnostic, Fault>
+    ensures headed { IfOk result (IsHeaded (view node.now.value.now)) }
+{
     let (severity, message) = heading_of(node)?;
     let (spans, children, code) = parts_of(node)?;
     Ok(Diagnostic {
@@ -39,7 +45,9 @@ fn told_diagnostic(node: &Node<'_, '_>) -> Result<Diagnostic, Fault> {
 }
 
 /// The places, the children and the code of a diagnostic.
-fn parts_of(node: &Node<'_, '_>) -> Result<(Vec<FileSpan>, Vec<Child>, Option<Code>), Fault> {
+fn parts_of(node: &Node<'_, '_>) -> Result<(Vec<FileSpan>, Vec<Child>, Option<Code>), Fault>
+    ensures code { IfOk result (λ parts. option_map code_seen parts.2 ≡ code_told (view node.now.value.now)) }
+{
     let spans = spans_of(node)?;
     let children = children_of(node)?;
     let code = code_of(node)?;
@@ -114,7 +122,10 @@ fn count_before_edits(children: &[Child]) -> usize
 }
 
 /// A child: its places, or the edits that it suggests.
-fn child_of(node: &Node<'_, '_>) -> Result<Child, Fault> {
+fn child_of(node: &Node<'_, '_>) -> Result<Child, Fault>
+    ensures headed { IfOk result (λ child.
+        IsHeading (view node.now.value.now) child.severity (string_bytes child.message)) }
+{
     let (severity, message) = heading_of(node)?;
     let edits = edits_of(node)?;
     let spans = if edits.is_empty() {

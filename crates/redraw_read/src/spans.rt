@@ -1,5 +1,12 @@
 //! The places of a diagnostic of rustc, or of one of its children.
 
+ghost use Rattle.std.specs.Prelude.{◌≡◌, Some, IfOk, codes, option_map, string_bytes, ℕ, List, Option};
+ghost use Rattle.json_node.specs.Field.{flag_at, lent_text, number_at, optional_at};
+ghost use Rattle.redraw_read.specs.Spans.{SaysPlace, IsRegionOf, IsSpanIn};
+ghost use Rattle.serde_json.specs.Find.{as_str};
+ghost use Rattle.serde_json.specs.View.{view};
+ghost use Rattle.redraw_read.specs.Told.{said_label};
+
 use crate::calls::add_call;
 use crate::expansion::shown_place;
 use crate::json::{given, given_text, listed, owned, values_of};
@@ -19,7 +26,7 @@ pub fn spans_of(node: &Node<'_, '_>) -> Result<Vec<FileSpan>, Fault> {
     let mut spans = each_span(&list, values)?;
     add_calls(&list, values, &mut spans)?;
     settle_roles(&mut spans);
-    settle_order(&mut spans);
+    settle_order(node.alloc, &mut spans)?;
     Ok(spans)
 }
 
@@ -66,7 +73,13 @@ fn is_start(region: Region) -> bool {
 }
 
 /// A place. One in the source of a macro that isn't at hand is shown where the macro is called.
-fn span_of(node: &Node<'_, '_>) -> Result<FileSpan, Fault> {
+fn span_of(node: &Node<'_, '_>) -> Result<FileSpan, Fault>
+    ensures label { IfOk result (λ span. (said : Option (List ℕ))
+        × (optional_at as_str (codes "label") (view node.now.value.now) ≡ Some said)
+        × (option_map string_bytes span.label ≡ said_label said)) }
+    ensures primary { IfOk result (λ span.
+        flag_at (codes "is_primary") (view node.now.value.now) ≡ Some span.is_primary) }
+{
     let label = given_text(node, "label")?;
     let is_primary = node.flag("is_primary")?;
     let place = at_value(node, shown_place(node.value));
@@ -74,11 +87,11 @@ fn span_of(node: &Node<'_, '_>) -> Result<FileSpan, Fault> {
 }
 
 /// A place of which this is said.
-fn labelled(
-    place: &Node<'_, '_>,
-    label: Option<&str>,
-    is_primary: bool,
-) -> Result<FileSpan, Fault> {
+fn labelled(place: &Node<'_, '_>, label: Option<&str>, is_primary: bool) -> Result<FileSpan, Fault>
+    ensures place { IfOk result (SaysPlace (view place.now.value.now)) }
+    ensures label { IfOk result (λ span. option_map string_bytes span.label ≡ said_label (lent_text label.entry)) }
+    ensures primary { IfOk result (λ span. span.is_primary ≡ is_primary) }
+{
     let file = place.text("file_name")?;
     let region = region_of(place)?;
     file_span(place, file, region, label, is_primary)
@@ -91,7 +104,9 @@ pub fn file_span(
     region: LineRegion,
     label: Option<&str>,
     is_primary: bool,
-) -> Result<FileSpan, Fault> {
+) -> Result<FileSpan, Fault>
+    ensures is { IfOk result (IsSpanIn file.now region (lent_text label.entry) is_primary) }
+{
     let carried = carried_of(place, region)?;
     let label = owned_label(place.alloc, label)?;
     Ok(FileSpan {
@@ -104,7 +119,9 @@ pub fn file_span(
 }
 
 /// A copy of a label, where there is one that says something.
-fn owned_label(alloc: Global, label: Option<&str>) -> Result<Option<String>, AllocError> {
+fn owned_label(alloc: Global, label: Option<&str>) -> Result<Option<String>, AllocError>
+    ensures value { IfOk result (λ copy. option_map string_bytes copy ≡ said_label (lent_text label.entry)) }
+{
     match label {
         Some(label) if !label.is_empty() => Ok(Some(owned(alloc, label)?)),
         _ => Ok(None),
@@ -112,7 +129,9 @@ fn owned_label(alloc: Global, label: Option<&str>) -> Result<Option<String>, All
 }
 
 /// The lines and columns of a place.
-pub fn region_of(node: &Node<'_, '_>) -> Result<LineRegion, Fault> {
+pub fn region_of(node: &Node<'_, '_>) -> Result<LineRegion, Fault>
+    ensures value { IfOk result (IsRegionOf (view node.now.value.now)) }
+{
     let (start_line, start_column) = numbers_of(node, "line_start", "column_start")?;
     let (end_line, end_column) = numbers_of(node, "line_end", "column_end")?;
     Ok(LineRegion {
@@ -125,7 +144,10 @@ pub fn region_of(node: &Node<'_, '_>) -> Result<LineRegion, Fault> {
 }
 
 /// The line and the column in the fields of these names.
-fn numbers_of(node: &Node<'_, '_>, line: &str, column: &str) -> Result<(usize, usize), Fault> {
+fn numbers_of(node: &Node<'_, '_>, line: &str, column: &str) -> Result<(usize, usize), Fault>
+    ensures line { IfOk result (λ numbers. number_at line.now (view node.now.value.now) ≡ Some numbers.0) }
+    ensures column { IfOk result (λ numbers. number_at column.now (view node.now.value.now) ≡ Some numbers.1) }
+{
     let line = node.number(line)?;
     let column = node.number(column)?;
     Ok((line, column))
@@ -184,7 +206,9 @@ fn add_lines<'v>(list: &Node<'v, '_>, lines: &'v [Value], text: &mut String) -> 
 }
 
 /// This value, where a node stands.
-pub fn at_value<'v, 'p>(node: &Node<'_, 'p>, value: &'v Value) -> Node<'v, 'p> {
+pub fn at_value<'v, 'p>(node: &Node<'_, 'p>, value: &'v Value) -> Node<'v, 'p>
+    ensures value { result.value.now ≡ value.now }
+{
     Node {
         alloc: node.alloc,
         value,

@@ -1,14 +1,12 @@
 -- What becomes of parts becomes of the whole.
 use Rattle.std.proofs.Common.{◌≡◌, ◌++◌, ◌∙◌, ℕ, List, [], ◌∷◌, Option, None, Some, ap, append_assoc, append-nil, false, inl, inr, refl, subst, sym, true}
 use Rattle.serde_json.specs.Data.{Data, null}
-use Rattle.redraw_command.specs.Choice.{IsTaken}
 use Rattle.redraw_command.specs.declared.choice.Choice.{Choice}
-use Rattle.redraw_command.specs.declared.choice.Form.TheVariants.{Report, Workflow}
 use Rattle.redraw_report.specs.declared.diagnostic.Diagnostic.{Diagnostic}
 use Rattle.redraw_run.specs.Deeds.{Deed, Drawn, Commanded, HandedOn, Told, LeftOut, Repeated, BuildFailed, IsPart}
-use Rattle.redraw_run.specs.Fates.{AreMessages, AreNone, AreResults, AreRuns, Each, IsChosen, IsDrawing, IsFound, IsHandedOn, IsKnown, IsRepeated, IsReported}
+use Rattle.redraw_run.specs.Fates.{AreMessages, AreNone, AreResults, AreRuns, Each, IsChosen, IsFound, IsHandedOn, IsKnown, IsRepeated}
 use Rattle.redraw_run.specs.Fates.{IsResult, IsRun, IsShown}
-use Rattle.redraw_run.specs.Fates.{IsUnknown, IsWritten, IsWrong, Then}
+use Rattle.redraw_run.specs.Fates.{IsUnknown, IsWrong, Then}
 use Rattle.redraw_run.specs.declared.input.Kind.{Kind}
 use Rattle.redraw_run.proofs.Doing.{part_as, part_then}
 
@@ -27,10 +25,6 @@ then_assoc {P} {Q} {R} c ds h =
 pub then_as : {P Q R S : Choice → List Deed → Type 0} (c : Choice) (ds : List Deed) → ((ds : List Deed) → P c ds → R c ds)
     → ((ds : List Deed) → Q c ds → S c ds) → Then P Q c ds → Then R S c ds
 then_as c ds f g h = record { before = h.before; after = h.after; split = h.split; first = f h.before h.first; next = g h.after h.next }
-
--- nothing, and then something
-pub then_none : {P : Choice → List Deed → Type 0} (c : Choice) (ds : List Deed) → P c ds → Then AreNone P c ds
-then_none c ds p = record { before = []; after = ds; split = refl; first = refl; next = p }
 
 -- something, and then nothing
 pub then_end : {P : Choice → List Deed → Type 0} (c : Choice) (ds : List Deed) → P c ds → Then P AreNone c ds
@@ -92,27 +86,8 @@ messages_then c ds h = subst (AreMessages c) (sym h.split) (messages_after c h.b
 
 -- ---- findings
 
-pub drawing_shown : (d : Diagnostic) (c : Choice) → c.form ≡ Report → (ds : List Deed) → IsShown d c ds → IsDrawing d c ds
-drawing_shown d c form ds h = inl (form, h)
-
-pub drawing_written : (d : Diagnostic) (c : Choice) → c.form ≡ Workflow → (ds : List Deed) → IsWritten d c ds → IsDrawing d c ds
-drawing_written d c form ds h = inr (form, h)
-
--- what becomes of a finding that is asked for, or isn't, is what becomes of what reports it
-pub reported_chosen : (d : Diagnostic) (c : Choice) → IsTaken c d → (ds : List Deed) → IsChosen d c ds → IsReported c ds
-reported_chosen d c taken ds h = inr (d, inr (taken, h))
-
-pub chosen_drawn : (d : Diagnostic) (c : Choice) (ds : List Deed) → IsDrawing d c ds → IsChosen d c ds
-chosen_drawn d c ds h = inr h
-
 pub chosen_again : (d : Diagnostic) (c : Choice) (ds : List Deed) → IsRepeated c ds → IsChosen d c ds
 chosen_again d c ds h = inl h
-
-pub reported_passed : (d : Diagnostic) (c : Choice) → (IsTaken c d → ⊥) → (ds : List Deed) → AreNone c ds → IsReported c ds
-reported_passed d c other ds h = inr (d, inl (other, h))
-
-pub reported_wrong : (c : Choice) (ds : List Deed) → IsWrong c ds → IsReported c ds
-reported_wrong c ds h = inl h
 
 -- ---- logs
 

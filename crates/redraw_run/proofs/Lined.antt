@@ -56,10 +56,6 @@ concat_more (x ∷ rest) line = ap (λ l. x ++ l) (concat_more rest line) ∙ sy
 
 -- ---- lines so far
 
--- nothing becomes of no lines
-pub no_lines : (c : Choice) (ds : List Deed) → AreNone c ds → IsSoFar [] None c ds
-no_lines c ds none = none
-
 open_more : (lines : List (List ℕ)) (line document : List ℕ) (c : Choice) (ds : List Deed) → Then (IsOpen lines document) (IsDocumentLine line) c ds
     → IsOpen (lines ++ line ∷ []) (document ++ line) c ds
 open_more lines line document c ds h =

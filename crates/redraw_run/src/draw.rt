@@ -1,14 +1,16 @@
 //! Findings, drawn one after another as they are read.
-ghost use Rattle.std.specs.Prelude.{◌≡◌, ℕ, List, Option, ◌++◌, [], ◌∷◌, if◌then◌else◌, false, true};
+ghost use Rattle.std.specs.Prelude.{◌≡◌, ℕ, Bool, List, Option, option_map, ◌++◌, [], ◌∷◌, if◌then◌else◌, false, true};
 ghost use Rattle.std.specs.Prelude.{OnErr, OnOk, IfOk, IfErr};
 ghost use Rattle.std.specs.Prelude.{string_bytes};
 ghost use Rattle.std.specs.Io.KnownBytes.{Appends};
+ghost use Rattle.redraw_command.specs.Seen.{IsSeen, digests_of};
 ghost use Rattle.redraw_command.specs.Tally.{one_more};
 ghost use Rattle.redraw_command.specs.Told.{Tells};
 ghost use Rattle.redraw_run.specs.Deeds.{Does, Goes, TellsAll, repeated, standing};
 ghost use Rattle.redraw_run.specs.Fates.{AreMessages, IsChosen, IsDrawing, IsTaking, LeavesOut, IsReported, IsShown};
 ghost use Rattle.redraw_run.specs.Fates.{IsWritten, IsWrong};
 ghost use Rattle.redraw_run.specs.DrawnFinding.{Draws, IsCounted, IsLeftOut, ShowsFinding, ending_after};
+ghost use Rattle.serde_json.specs.View.{view};
 ghost use Rattle.redraw_read.specs.declared.sources.File.{File};
 ghost use Rattle.redraw_command.specs.declared.choice.Form.TheVariants.{Report, Workflow};
 
@@ -172,6 +174,13 @@ impl<S: SourceFiles + Drop> Drawing<'_, S> {
         out: &mut W,
         err: &mut V,
     ) -> Result<(), Stop>
+        ensures once { OnOk result ((was : Bool) × (kept : List (List ℕ))
+            × IsSeen (option_map (λ m. view m.now) message.entry) self.old.choice.has_duplicates was
+            (digests_of self.old.seen) kept
+            × (was ≡ true → (out.new ≡ out.old) × (self.new.tally ≡ repeated self.old.tally))
+            × (was ≡ false → Draws self.old.choice.form self.old.renderer self.new.sources.files.items
+            diagnostic.now (W.contents out.old) (W.contents out.new) (out.new ≡ out.old)
+            self.old.tally self.new.tally)) }
         ensures does { Goes result (IsChosen diagnostic.now)
             (standing self.old (W.contents out.old) (V.contents err.old))
             (standing self.new (W.contents out.new) (V.contents err.new)) }
@@ -190,6 +199,8 @@ impl<S: SourceFiles + Drop> Drawing<'_, S> {
         ensures uncounted { OnErr result (self.new.tally ≡ self.old.tally) }
         ensures kept { (self.new.renderer ≡ self.old.renderer) × (self.new.choice ≡ self.old.choice) }
         ensures once { IfOk result (λ is. is ≡ true → self.old.choice.has_duplicates ≡ false) }
+        ensures seen { IfOk result (λ is. IsSeen (option_map (λ m. view m.now) message.entry)
+            self.old.choice.has_duplicates is (digests_of self.old.seen) (digests_of self.new.seen)) }
     {
         match message {
             Some(message) if !self.choice.has_duplicates => {

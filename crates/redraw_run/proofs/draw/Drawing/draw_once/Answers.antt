@@ -1,36 +1,70 @@
-use Rattle.std.proofs.Common.{inr, ap, if◌then◌else◌, refl, ◌∙◌, Bool}
+use Rattle.std.proofs.Common.{◌≡◌, ℕ, List, Option, inr, ap, if◌then◌else◌, refl, subst, ◌∙◌, Bool}
+use Rattle.std.proofs.lemmas.Result.{on_ok_weaker}
+use Rattle.annotate_snippets.specs.declared.renderer.Renderer.{Renderer}
+use Rattle.redraw_command.specs.declared.choice.Choice.{Choice}
+use Rattle.redraw_command.specs.declared.tally.Tally.{Tally}
+use Rattle.redraw_read.specs.declared.sources.File.{File}
+use Rattle.redraw_report.specs.declared.diagnostic.Diagnostic.{Diagnostic}
 use Rattle.redraw_run.specs.Deeds.{repeated}
+use Rattle.redraw_run.specs.DrawnFinding.{Draws}
 use Rattle.redraw_run.specs.Fates.{IsChosen, IsDrawing}
 use Rattle.redraw_run.proofs.Doing.{does_as, goes_after, goes_as, goes_err, stops_none}
 use Rattle.redraw_run.proofs.Done.{does_repeated, does_same}
 use Rattle.redraw_run.proofs.Fated.{chosen_again}
 use Rattle.redraw_run.proofs.draw.Drawing.draw_once.Goals as goal
 
-pub returns-in_err-is_seen : goal.returns-in_err-is_seen
-returns-in_err-is_seen g c =
+pub returns-in_err-is_seen-clause-does : goal.returns-in_err-is_seen-clause-does
+returns-in_err-is_seen-clause-does g c =
     let kept = c.in_err-is_seen.ensures.kept in
-    record {
-      does = goes_err (IsChosen c.args.diagnostic.now) _ _ c.from_residual.result c.from_residual.ensures.1
-          (λ s q. stops_none (IsChosen c.args.diagnostic.now) s (does_same refl refl c.in_err-is_seen.ensures.uncounted kept.0 kept.1));
-    }
+    goes_err (IsChosen c.args.diagnostic.now) _ _ c.from_residual.result c.from_residual.ensures.1
+    (λ s q. stops_none (IsChosen c.args.diagnostic.now) s (does_same refl refl c.in_err-is_seen.ensures.uncounted kept.0 kept.1))
 
-pub returns-then-is_seen : goal.returns-then-is_seen
-returns-then-is_seen g c =
+pub returns-then-is_seen-clause-once : goal.returns-then-is_seen-clause-once
+returns-then-is_seen-clause-once g c =
+    let t = c.args.self.now.tally in (
+      c.in_ok-is_seen.is_seen,
+      _,
+      c.in_ok-is_seen.ensures.seen,
+      λ yes. (refl, c.in_ok-is_seen.ensures.counted ∙ ap (λ (b : Bool). if b then repeated t else t) yes),
+      λ no. absurd (cc (no, c.if-is_seen.true)),
+    )
+
+pub returns-then-is_seen-clause-does : goal.returns-then-is_seen-clause-does
+returns-then-is_seen-clause-does g c =
     let kept = c.in_ok-is_seen.ensures.kept in
     let t = c.args.self.now.tally in
-    record {
-      does = does_as (chosen_again c.args.diagnostic.now c.args.self.now.choice)
-          (does_repeated (c.in_ok-is_seen.ensures.once c.if-is_seen.true) refl refl
-          (c.in_ok-is_seen.ensures.counted ∙ ap (λ (b : Bool). if b then repeated t else t) c.if-is_seen.true) kept.0 kept.1);
-    }
+    does_as (chosen_again c.args.diagnostic.now c.args.self.now.choice)
+    (does_repeated (c.in_ok-is_seen.ensures.once c.if-is_seen.true) refl refl
+    (c.in_ok-is_seen.ensures.counted ∙ ap (λ (b : Bool). if b then repeated t else t) c.if-is_seen.true) kept.0 kept.1)
 
-pub returns : goal.returns
-returns g c =
+-- what is drawn is drawn for the same choice, in the same settings, from the same tally
+drawn_for : {a b : Choice} {r s : Renderer} {t u : Tally} (files : List File) (d : Diagnostic) (o n : Option (List ℕ)) (Same : Type 0) (after : Tally)
+    → a ≡ b → r ≡ s → t ≡ u → Draws a.form r files d o n Same t after → Draws b.form s files d o n Same u after
+drawn_for {a} {b} {r} {s} {t} {u} files d o n Same after p q w h =
+    subst (λ (x : Choice). Draws x.form s files d o n Same u after) p
+    (subst (λ (y : Renderer). Draws a.form y files d o n Same u after) q
+    (subst (λ (z : Tally). Draws a.form r files d o n Same z after) w h))
+
+pub returns-clause-once : goal.returns-clause-once
+returns-clause-once g c =
+    let kept = c.in_ok-is_seen.ensures.kept in
+    let t = c.args.self.now.tally in
+    let same = c.in_ok-is_seen.ensures.counted ∙ ap (λ (b : Bool). if b then repeated t else t) c.if-is_seen.false in
+    on_ok_weaker c.draw.result
+    (λ drawn. (
+      c.in_ok-is_seen.is_seen,
+      _,
+      c.in_ok-is_seen.ensures.seen,
+      λ yes. absurd (cc (yes, c.if-is_seen.false)),
+      λ no. drawn_for _ _ _ _ _ _ kept.1 kept.0 same drawn,
+    ))
+    c.draw.ensures.draws
+
+pub returns-clause-does : goal.returns-clause-does
+returns-clause-does g c =
     let kept = c.in_ok-is_seen.ensures.kept in
     let t = c.args.self.now.tally in
     let d = c.args.diagnostic.now in
-    record {
-      does = goes_after (IsChosen d) _ _ _ c.draw.result
-          (does_same refl refl (c.in_ok-is_seen.ensures.counted ∙ ap (λ (b : Bool). if b then repeated t else t) c.if-is_seen.false) kept.0 kept.1)
-          (goes_as (IsDrawing d) (IsChosen d) _ _ c.draw.result (λ ds h. inr h) c.draw.ensures.does);
-    }
+    goes_after (IsChosen d) _ _ _ c.draw.result
+    (does_same refl refl (c.in_ok-is_seen.ensures.counted ∙ ap (λ (b : Bool). if b then repeated t else t) c.if-is_seen.false) kept.0 kept.1)
+    (goes_as (IsDrawing d) (IsChosen d) _ _ c.draw.result (λ ds h. inr h) c.draw.ensures.does)

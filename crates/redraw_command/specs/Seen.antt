@@ -1,0 +1,50 @@
+-- What is kept in mind of the diagnostics of cargo that were drawn.
+use Rattle.std.specs.Prelude.{◌≡◌, ◌≤◌, ◌⊎◌, ℕ, Bool, true, false, List, [], ◌∷◌, Option, Some, None, length}
+use Rattle.std.specs.List.{list_any}
+use Rattle.std.specs.List.Sorted.{IsPermutation}
+use Rattle.std.specs.Str.{bytes_eq}
+use Rattle.serde_json.specs.Data.{Data, depth}
+use Rattle.serde_json.specs.Read.{max_depth, read}
+use Rattle.serde_json.specs.Written.{compact_text, has_float}
+use Rattle.sha2.specs.Sha256.{sha256}
+use Rattle.redraw_command.specs.declared.seen.Seen.{Seen}
+
+-- the digest of a value of JSON: of a text that is read as that value where it nests as deep as is read, and that is the compact one
+-- where the value has no number with a point or an exponent
+pub record IsDigestOf (d : Data) (digest : List ℕ) : Type 0 where
+  pub text : List ℕ
+  pub reads_back : depth d ≤ max_depth → read text ≡ Some d
+  pub compact : has_float d ≡ false → text ≡ compact_text d
+  pub is : digest ≡ sha256 text
+
+-- the digests that are kept
+abbrev pub digests_of : Seen → List (List ℕ)
+digests_of s = s.digests.keys
+
+-- whether a digest is among these
+abbrev pub is_among : List ℕ → List (List ℕ) → Bool
+is_among digest digests = list_any (bytes_eq digest) digests
+
+-- how many digests are kept before all are forgotten
+abbrev pub most_kept : ℕ
+most_kept = 16384
+
+-- a digest is kept that wasn't among these: beside them, or alone where too many are kept
+abbrev pub Remembers : List ℕ → List (List ℕ) → List (List ℕ) → Type 0
+Remembers digest old new = IsPermutation (digest ∷ old) new ⊎ ((most_kept ≤ length old) × IsPermutation (digest ∷ []) new)
+
+-- what is answered of a value, and what is kept then: it was seen where its digest is kept, and then nothing changes; else its digest is
+-- kept from then on
+pub record Keeps (d : Data) (was : Bool) (old new : List (List ℕ)) : Type 0 where
+  pub digest : List ℕ
+  pub of : IsDigestOf d digest
+  pub told : was ≡ is_among digest old
+  pub same : was ≡ true → new ≡ old
+  pub more : was ≡ false → Remembers digest old new
+
+-- whether a finding was drawn before, which comes from a message of cargo or from none, and what is kept then: of one that comes from
+-- none it isn't asked, nor where those are drawn again that cargo reports again
+abbrev pub IsSeen : Option Data → Bool → Bool → (old new : List (List ℕ)) → Type 0
+IsSeen None again was old new = (was ≡ false) × (new ≡ old)
+IsSeen (Some message) true was old new = (was ≡ false) × (new ≡ old)
+IsSeen (Some message) false was old new = Keeps message was old new
