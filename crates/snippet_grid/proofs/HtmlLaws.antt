@@ -1,8 +1,8 @@
 -- The laws of a grid's rows as HTML: read as HTML, the text is the plain text of the rows; its tags are its own; and each character
 -- stands in the class of its cell's role, and in the link of the cell.
-use Rattle.std.proofs.Common.{◌≡◌, ℕ, Bool, true, false, ◌&&◌, if◌then◌else◌, nat_eq, List, [], ◌∷◌, ◌++◌, Option, None, Some, refl, sym, ap, ◌∙◌, inl, inr}
-use Rattle.std.proofs.lemmas.Bool.{and_parts, cases_Bool, false≢true}
-use Rattle.std.proofs.lemmas.List.{append_assoc, append-nil}
+use Rattle.std.proofs.Common.{◌≡◌, ℕ, Bool, true, ◌&&◌, if◌then◌else◌, nat_eq, List, [], ◌∷◌, ◌++◌, None, refl, sym, ap, ◌∙◌, inl, inr}
+use Rattle.std.proofs.lemmas.Bool.{and_parts, cases_Bool}
+use Rattle.std.proofs.lemmas.List.{append_assoc}
 use Rattle.std.proofs.lemmas.Grind.{flat_map-append}
 use Rattle.std.specs.Cmp.Lexicographic.{same_text}
 use Rattle.std.specs.List.{flat_map, list_all}
@@ -10,7 +10,7 @@ use Rattle.std.specs.Str.{chars}
 use lib.Pointwise.{pointwise}
 use Rattle.snippet_grid.proofs.HtmlLemmas.{look_is}
 use Rattle.snippet_grid.proofs.HtmlReads.{html_says_pieces, is_made, lacks, piece_says, tags_are}
-use Rattle.snippet_grid.specs.Html.{HtmlLook, HtmlPiece, Text, SpanStart, AnchorStart, anchor_ended, anchor_started, between, cells_html, class_of, ended}
+use Rattle.snippet_grid.specs.Html.{HtmlLook, HtmlPiece, Text, anchor_ended, anchor_started, between, cells_html, class_of, ended}
 use Rattle.snippet_grid.specs.Html.{further_html, html_text, level_class, look_of, plain_look, row_html, rows_html, same_look, span_ended, span_started}
 use Rattle.snippet_grid.specs.Html.{started}
 use Rattle.snippet_grid.specs.HtmlRead.{ReadChar, chars_of_cells, chars_of_rows, chars_read, feed_read, html_says, piece_tag, tags_of}

@@ -1,5 +1,5 @@
 -- Rows that are printed as HTML run by run.
-use Rattle.std.proofs.Common.{◌≡◌, ℕ, ◌+◌, ◌-◌, ◌<◌, ◌≤◌, List, [], ◌∷◌, ◌++◌, length, map, take, get_or, replicate, Option, None, refl, sym, ap, ◌∙◌, subst}
+use Rattle.std.proofs.Common.{◌≡◌, ℕ, ◌+◌, ◌-◌, ◌<◌, ◌≤◌, List, [], ◌∷◌, ◌++◌, length, map, take, get_or, replicate, None, refl, sym, ap, ◌∙◌, subst}
 use Rattle.std.proofs.Common.{arith, inl, inr, encode_utf8}
 use Rattle.std.proofs.lemmas.List.{append-nil, take_more, take_all, get_or_default, length-take, length-map, length-replicate, get_or-map, get_or-replicate}
 use Rattle.std.proofs.lemmas.Bool.{cases_lt}

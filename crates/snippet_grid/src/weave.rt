@@ -64,6 +64,7 @@ pub(crate) fn weave_rows(
 }
 
 /// Where the runs of a row end that begin here.
+#[inline(always)]
 pub(crate) fn row_end(runs: &[Run<'_>], from: usize, row: usize) -> usize
     requires within { from ≤ length runs.now }
     requires ordered { AllPairs (λ a b. Precedes a b) runs.now }

@@ -1,4 +1,4 @@
-use Rattle.std.proofs.Common.{◌≡◌, ◌≤◌, ◌<◌, ◌+◌, ◌++◌, subst, sym, arith, get_or, refl, length, map, None, string_bytes, List, ℕ}
+use Rattle.std.proofs.Common.{◌≤◌, ◌<◌, ◌+◌, ◌++◌, subst, sym, arith, get_or, refl, length, map, None, string_bytes, List, ℕ}
 use Rattle.std.proofs.lemmas.Result.{on_ok_weaker}
 use Rattle.std.specs.Option.{option_copied}
 use Rattle.std.specs.Str.{chars}
@@ -8,7 +8,7 @@ use Rattle.snippet_grid.proofs.RowWoven.{first_ahead}
 use Rattle.snippet_grid.proofs.RunLemmas.{starts_at_boundary, ends_at_boundary}
 use Rattle.snippet_grid.specs.Html.{AddsHtml, HtmlLook, Text, between, look_at}
 use Rattle.snippet_grid.specs.HtmlLooks.{look_seen}
-use Rattle.snippet_grid.specs.Runs.{run_bytes, run_chars, cells_to}
+use Rattle.snippet_grid.specs.Runs.{run_chars, cells_to}
 use Rattle.snippet_grid.specs.declared.runs.Run.{Run}
 use Rattle.snippet_style.specs.declared.role.ElementStyle.TheVariants.{MainHeaderMsg}
 use Rattle.snippet_grid.proofs.html.push_html_row.Goals as goal

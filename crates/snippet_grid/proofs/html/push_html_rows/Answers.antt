@@ -1,4 +1,4 @@
-use Rattle.std.proofs.Common.{◌≡◌, ◌++◌, ◌<◌, arith, get_or, string_bytes, encode_utf8}
+use Rattle.std.proofs.Common.{◌≡◌, ◌++◌, ◌<◌, arith, string_bytes, encode_utf8}
 use Rattle.snippet_grid.proofs.HtmlRows.{html_rows_next, html_rows_all}
 use Rattle.snippet_grid.proofs.PutLemmas.{IsRow-stretch}
 use Rattle.snippet_grid.proofs.RowPut.{row_ends}
