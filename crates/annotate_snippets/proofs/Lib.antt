@@ -18,6 +18,7 @@ pub mod GroupShown
 pub mod GutterLemmas
 pub mod HeadingFeedLaws
 pub mod HeadingShown
+pub mod HtmlShown
 pub mod LabelLemmas
 pub mod LeftLaws
 pub mod LineFeedLaws
@@ -27,6 +28,7 @@ pub mod ListLemmas
 pub mod MarkLemmas
 pub mod NotBarred
 pub mod NotDrawn
+pub mod NotHtml
 pub mod NotLabelled
 pub mod NotOffered
 pub mod NotOneLine

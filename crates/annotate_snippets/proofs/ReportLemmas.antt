@@ -62,12 +62,12 @@ module _ (r : Renderer) (groups : List Group) where
   abbrev IsShownAt : ℕ → Group → GroupPage → Type 0
   IsShownAt i g page = ShowsGroup r (layout_of_group r groups g) (position_of_group (length groups) i) (file_of_group groups g) g page
 
-  abbrev IsGridShown : ℕ → Group → GroupGrid → Type 0
+  abbrev pub IsGridShown : ℕ → Group → GroupGrid → Type 0
   IsGridShown i g grid =
       GroupShown r (layout_of_group r groups g) (position_of_group (length groups) i) (file_of_group groups g) g grid.buffer
 
   -- the page of a group of the report, which stands at this place in it
-  abbrev page_at : ℕ × Group → GroupPage
+  abbrev pub page_at : ℕ × Group → GroupPage
   page_at pair =
       group_page r (layout_of_group r groups pair.1) (position_of_group (length groups) pair.0) (file_of_group groups pair.1) pair.1
 
@@ -180,7 +180,7 @@ taken_at (suc n) (suc i) (y ∷ xs) x at = taken_at n i xs x at
 
 module _ (r : Renderer) (groups : List Group) (drawable : All IsGroupDrawable groups) where
   -- the grid of a group of the report shows it
-  grid_shown : (i : ℕ) (g : Group) (grid : GroupGrid) → slice_get groups i ≡ Some g → IsGridAt r groups i g grid → IsGridShown r groups (0 + i) g grid
+  pub grid_shown : (i : ℕ) (g : Group) (grid : GroupGrid) → slice_get groups i ≡ Some g → IsGridAt r groups i g grid → IsGridShown r groups (0 + i) g grid
   grid_shown i g grid at drawn =
       subst (λ k. IsGridShown r groups k g grid) (sym (zero-add i))
       (group_shown r (layout_of_group r groups g) (position_of_group (length groups) i) (file_of_group groups g) g grid.buffer

@@ -6,6 +6,7 @@ pub mod FormLaws
 pub mod Forms
 pub mod GraphicForm
 pub mod Gutter
+pub mod Html
 pub mod Levels
 pub mod Numbers
 pub mod Page

@@ -9,6 +9,8 @@ mod error;
 mod form;
 mod graphic;
 mod gutter;
+mod html;
+mod html_stylesheet;
 mod layout;
 mod page;
 pub mod parts;
@@ -27,7 +29,9 @@ pub use crate::snippet::Id;
 use crate::snippet::Report;
 use drawn::{Drawn, draw, texts_under};
 pub use error::RenderError;
-use form::form_of;
+use form::{Form, form_of};
+use html::page_html;
+pub use html_stylesheet::HTML_STYLESHEET;
 use page::text_in_form;
 pub use snippet_model::MessageOrTitle;
 pub use snippet_style::{
@@ -73,6 +77,9 @@ impl Renderer {
     ghost use Rattle.annotate_snippets.specs.Forms.{AreFree, ShowsReport, TextsShown, links_in};
     ghost use Rattle.std.specs.List.{AllZip};
     ghost use Rattle.annotate_snippets.specs.DrawnReport.{IsDrawnAs};
+    ghost use Rattle.annotate_snippets.specs.Html.{HtmlLaws, report_html};
+    ghost use Rattle.annotate_snippets.specs.declared.renderer.form.Form.TheVariants as form;
+    ghost use Rattle.snippet_grid.specs.Html.{html_bytes};
     ghost use Rattle.snippet_model.specs.Trusted.{trusted_texts};
 
     /// A renderer that writes no style codes.
@@ -287,6 +294,47 @@ impl Renderer {
             (string_bytes text ∷ [])) }
     {
         self.text_in(alloc, groups, &self.stylesheet)
+    }
+
+    /// The page of a report's graphic form as HTML, for `<pre>`: its rows, joined by line feeds. `short_message`,
+    /// `no_graphics` and the sheet aren't looked at.
+    ///
+    /// `&`, `<`, `>`, `"` and `'` stand as `&amp;`, `&lt;`, `&gt;`, `&quot;` and `&#39;`, so no text of the report is
+    /// taken for a tag; each other character stands as it is, also one that a trusted text holds. A run of cells stands
+    /// in a `<span>` of the class of its style: `snippet-error`, `snippet-warning`, `snippet-info`, `snippet-note`,
+    /// `snippet-help`, `snippet-line-number`, `snippet-emphasis`, `snippet-context`, `snippet-addition` or
+    /// `snippet-removal`; a primary mark or label has the class of its group's level, and what has no style of its own
+    /// has none. [`HTML_STYLESHEET`] has the colours of the default styles for these classes.
+    ///
+    /// Where `hyperlink` is set, an id links to its address, in an `<a>`: an address that begins with `http:`, `https:`
+    /// or `mailto:`, in letters of either case, and holds ASCII characters that are seen and nothing else. With any
+    /// other address the id stands without a link.
+    ///
+    /// # Errors
+    ///
+    /// Why a report gives no text, the first reason in order, as of [`render`](Renderer::render) in the graphic form;
+    /// and `Memory` where there is no memory for the text.
+    pub fn render_html(&self, alloc: Global, groups: Report<'_>) -> Result<String, RenderError>
+        requires fits { ReportFits groups.now }
+
+        // A report is refused for the first fault of what it holds.
+        ensures refused { IfSome (spec.refusal_in form.Graphic groups.now) (λ refusal. result ≡ Err refusal) }
+
+        // One without a fault gives a text where memory is found.
+        ensures renders { spec.refusal_in form.Graphic groups.now ≡ None
+            → IsOkUnless result (RenderError.Memory alloc_error) }
+
+        // The text is the page of the graphic form as HTML.
+        ensures html { IfOk result (λ text. string_bytes text ≡ html_bytes (report_html self.now groups.now)) }
+
+        // What follows for who reads it: read as HTML it is the page's plain text, its tags are its own, and each
+        // character stands in the class of its role and in the link of its cell.
+        ensures laws { IfOk result (λ text. HtmlLaws self.now groups.now (string_bytes text)) }
+    {
+        if let Some(refusal) = first_refusal(Form::Graphic, groups) {
+            return Err(refusal);
+        }
+        page_html(alloc, self, groups).map_err(RenderError::Memory)
     }
 
     /// The texts of a report, one under each of these sheets, in order; the renderer's own sheet isn't looked at. The

@@ -6,6 +6,10 @@ pub mod CutLemmas
 pub mod GridChanged
 pub mod GridLemmas
 pub mod GridShown
+pub mod HtmlLaws
+pub mod HtmlLemmas
+pub mod HtmlReads
+pub mod HtmlRows
 pub mod OutcomeLemmas
 pub mod PieceLemmas
 pub mod PrintsOnce

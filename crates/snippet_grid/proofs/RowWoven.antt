@@ -59,7 +59,7 @@ shown_gap text row c n runs after ahead =
     ])
 
 -- further cells of a row
-cells_more : (text : List ℕ) (runs : List Run) (row a b : ℕ) (more : List Cell) → a + length more ≡ b
+pub cells_more : (text : List ℕ) (runs : List Run) (row a b : ℕ) (more : List Cell) → a + length more ≡ b
     → ((k : ℕ) → k < length more → get_or more k SPACE ≡ shown_cell text runs row (a + k)) → cells_to text runs row b ≡ cells_to text runs row a ++ more
 cells_more text runs row a b more long same =
     let f = λ (c : ℕ). shown_cell text runs row c in

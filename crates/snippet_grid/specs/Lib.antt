@@ -1,6 +1,9 @@
 pub mod Changes
 pub mod SheetCodes
 pub mod Grid
+pub mod Html
+pub mod HtmlLooks
+pub mod HtmlRead
 pub mod Layout
 pub mod LayoutOf
 pub mod Print

@@ -13,11 +13,13 @@ ghost use Rattle.snippet_style.specs.declared.role.ElementStyle.TheVariants.{Lin
 ghost use Rattle.std.specs.Str.{chars};
 ghost use Rattle.snippet_grid.specs.Print as spec;
 ghost use Rattle.snippet_style.specs.Stylesheet.{is_plain_sheet};
+ghost use Rattle.snippet_grid.specs.Html.{AddsHtml, rows_html};
 ghost use Rattle.snippet_grid.specs.Woven.{WeavesRows, Prints, IsWoven, links_of};
 ghost use Rattle.snippet_style.specs.Bounds.{HasNext, IsRowNumber, IsUsize};
 
 use crate::change::{Change, change_cells};
 use crate::codes::SheetCodes;
+use crate::html::push_html_rows;
 use crate::put::Spare;
 use crate::replace::replace_cells;
 use crate::runs::Run;
@@ -371,5 +373,27 @@ impl<'a> StyledBuffer<'a> {
             codes,
         )?;
         Ok(text)
+    }
+
+    /// The rows, joined by line feeds, as HTML in a group of this level, after a text that is there: characters that
+    /// HTML gives a meaning stand as escapes, each run of cells whose role has a style stands in a `<span>` of the
+    /// class of that style, and in an `<a>` where it links to an address of the web or of mail.
+    ///
+    /// # Errors
+    ///
+    /// There is no memory for the text.
+    pub fn html_after(&self, before: String, level: LevelInner) -> Result<String, AllocError>
+        ensures added { IfOk result (λ html. AddsHtml (rows_html level self.now) (string_bytes before)
+            (string_bytes html)) }
+    {
+        let mut html = before;
+        push_html_rows(
+            &mut html,
+            self.text.as_str(),
+            &self.runs,
+            &self.widths,
+            level,
+        )?;
+        Ok(html)
     }
 }

@@ -4,6 +4,7 @@
 mod change;
 pub mod codes;
 pub mod grid;
+mod html;
 pub mod layout;
 mod put;
 mod replace;

@@ -63,7 +63,8 @@ pub(crate) fn weave_rows(
 }
 
 /// Where the runs of a row end that begin here.
-fn row_end(runs: &[Run<'_>], from: usize, row: usize) -> usize
+#[inline(always)]
+pub(crate) fn row_end(runs: &[Run<'_>], from: usize, row: usize) -> usize
     requires within { from ≤ length runs.now }
     requires ordered { AllPairs (λ a b. Precedes a b) runs.now }
     requires from_here { (k : ℕ) (d : Run) → from ≤ k → k < length runs.now → row ≤ (slice_index_or runs.now k d).row }

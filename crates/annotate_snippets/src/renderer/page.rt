@@ -100,7 +100,7 @@ fn text_with(
 }
 
 /// A text, and a line feed after it, unless what follows is the first group's.
-fn fed(before: String, is_first: bool) -> Result<String, AllocError>
+pub fn fed(before: String, is_first: bool) -> Result<String, AllocError>
     ensures value { IfOk result (λ text. string_bytes text
         ≡ (if is_first then string_bytes before else string_bytes before ++ 10 ∷ [])) }
 {

@@ -1,0 +1,34 @@
+-- What isn't HTML of a report: texts that are wrong, each of a small report, contradict what is said of the text that `render_html` gives.
+use Rattle.std.proofs.Common.{◌≡◌, ℕ, nat_eq, Some, Vec, List, [], ◌∷◌, codes, length, refl, sym, ap, ◌∙◌, arith}
+use Rattle.std.proofs.lemmas.Bool.{false≢true}
+use Rattle.std.specs.Str.{chars}
+use Rattle.std.specs.declared.alloc.Global.{Global}
+use Rattle.snippet_grid.specs.Html.{html_bytes, link_address}
+use Rattle.snippet_model.specs.declared.snippet.Element.{Element}
+use Rattle.snippet_model.specs.declared.snippet.Group.{Group}
+use Rattle.snippet_text.specs.Normalized.{norm}
+use Rattle.snippet_titles.specs.HeadingRows.{heading_rows, label_cells}
+use Rattle.annotate_snippets.specs.Html.{report_html}
+use Rattle.annotate_snippets.specs.Settings.{plain_settings}
+use Rattle.annotate_snippets.proofs.SmallReports.{group, hidden_title}
+
+-- a report of the title `<` alone, without the name of a level
+abbrev less_alone : Vec Element Global → List Group
+less_alone v = group v (Some (hidden_title (codes "<"))) [] (omega arith) ∷ []
+
+-- its text in HTML
+html_is : (v : Vec Element Global) → html_bytes (report_html plain_settings (less_alone v)) ≡ codes "<span class=\"snippet-emphasis\">&lt;</span>"
+unfolding chars norm heading_rows label_cells lib.Utf8.encode
+html_is v = refl
+
+-- the title's `<` as it is, where it begins a tag
+less_unescaped : (v : Vec Element Global) → codes "<span class=\"snippet-emphasis\"><</span>" ≡ html_bytes (report_html plain_settings (less_alone v)) → ⊥
+less_unescaped v wrong = false≢true (sym (ap (λ (text : List ℕ). nat_eq (length text) 39) (wrong ∙ html_is v)))
+
+-- a link to an address that runs a script, whatever the case of its letters
+script_linked : link_address (Some (codes "JavaScript:f()")) ≡ codes "JavaScript:f()" → ⊥
+script_linked wrong = false≢true (ap (λ (text : List ℕ). nat_eq (length text) 14) wrong)
+
+-- a link to an address that holds a blank
+blank_linked : link_address (Some (codes "https://a b")) ≡ codes "https://a b" → ⊥
+blank_linked wrong = false≢true (ap (λ (text : List ℕ). nat_eq (length text) 11) wrong)

@@ -1,0 +1,67 @@
+-- A report as HTML: the page of its graphic form, characters and tags; and what follows of it for who reads it.
+use Rattle.std.specs.Prelude.{◌≡◌, ℕ, List, [], ◌∷◌, ◌++◌, None, encode_utf8_all, Bool, if◌then◌else◌}
+use Rattle.std.specs.List.{flat_map}
+use Rattle.snippet_grid.specs.Html.{AddsHtml, HtmlPiece, Text, plain_look, rows_html}
+use Rattle.snippet_grid.specs.HtmlRead.{ReadChar, chars_of_rows, chars_read, feed_read, html_says, piece_tag, tags_of}
+use Rattle.snippet_model.specs.declared.snippet.Group.{Group}
+use Rattle.snippet_style.specs.declared.role.LevelInner.{LevelInner}
+use Rattle.annotate_snippets.specs.GraphicForm.{graphic_form}
+use Rattle.annotate_snippets.specs.Page.{Page, group_rows, page_text}
+use Rattle.annotate_snippets.specs.ShownPage.{levels_of}
+use Rattle.annotate_snippets.specs.declared.renderer.Renderer.{Renderer}
+use Rattle.annotate_snippets.specs.declared.renderer.graphic.GroupGrid.{GroupGrid}
+
+-- the groups of a page, each in its level and after a line feed
+abbrev pub further_groups : List LevelInner → Page → List HtmlPiece
+further_groups [] page = []
+further_groups (level ∷ levels) [] = []
+further_groups (level ∷ levels) (g ∷ gs) = (Text 10 ∷ rows_html level (group_rows g)) ++ further_groups levels gs
+
+-- a page, whose groups have these levels: its groups, joined by line feeds
+abbrev pub page_html : List LevelInner → Page → List HtmlPiece
+page_html [] page = []
+page_html (level ∷ levels) [] = []
+page_html (level ∷ levels) (g ∷ gs) = rows_html level (group_rows g) ++ further_groups levels gs
+
+-- a report
+abbrev pub report_html : Renderer → List Group → List HtmlPiece
+report_html r groups = page_html (levels_of groups) (graphic_form r groups)
+
+-- the characters of a page, each with the class and the address that it stands in: those of its cell. A line feed stands in neither
+abbrev pub further_chars : List LevelInner → Page → List ReadChar
+further_chars [] page = []
+further_chars (level ∷ levels) [] = []
+further_chars (level ∷ levels) (g ∷ gs) = (feed_read ∷ chars_of_rows level (group_rows g)) ++ further_chars levels gs
+
+abbrev pub page_chars : List LevelInner → Page → List ReadChar
+page_chars [] page = []
+page_chars (level ∷ levels) [] = []
+page_chars (level ∷ levels) (g ∷ gs) = chars_of_rows level (group_rows g) ++ further_chars levels gs
+
+-- what follows for who reads the text of a report in HTML
+pub record HtmlLaws (r : Renderer) (groups : List Group) (text : List ℕ) : Type 0 where
+  -- the characters of the text
+  pub html : List ℕ
+  pub text_is : text ≡ encode_utf8_all html
+  -- without its tags and with its escapes undone, it is the plain text of the page, which is the same under every sheet. So no character
+  -- of the report is taken for a part of a tag or of an escape
+  pub says : html_says html ≡ page_text (graphic_form r groups)
+  -- its tags are those that its pieces are: the two of a class, and the two of a link
+  pub tags : tags_of None html ≡ flat_map piece_tag (report_html r groups)
+  -- each character stands in the class of its cell's role and in the link of its cell
+  pub stands : chars_read plain_look (report_html r groups) ≡ page_chars (levels_of groups) (graphic_form r groups)
+
+-- ---- what is drawn so far
+
+-- grids, each in its level and after a line feed; and grids joined by line feeds
+abbrev pub further_grids : List GroupGrid → List HtmlPiece
+further_grids grids = flat_map (λ (grid : GroupGrid). Text 10 ∷ rows_html grid.level grid.buffer) grids
+
+abbrev pub grids_html : List GroupGrid → List HtmlPiece
+grids_html [] = []
+grids_html (grid ∷ grids) = rows_html grid.level grid.buffer ++ further_grids grids
+
+-- a text grew by the grid of a group, after a line feed unless the group is the first
+abbrev pub AddsGridHtml : Bool → GroupGrid → List ℕ → List ℕ → Type 0
+AddsGridHtml first grid old new =
+    AddsHtml (if first then rows_html grid.level grid.buffer else (Text 10 ∷ rows_html grid.level grid.buffer)) old new

@@ -1,0 +1,255 @@
+-- The laws of a grid's rows as HTML: read as HTML, the text is the plain text of the rows; its tags are its own; and each character
+-- stands in the class of its cell's role, and in the link of the cell.
+use Rattle.std.proofs.Common.{◌≡◌, ℕ, Bool, true, ◌&&◌, if◌then◌else◌, nat_eq, List, [], ◌∷◌, ◌++◌, None, refl, sym, ap, ◌∙◌, inl, inr}
+use Rattle.std.proofs.lemmas.Bool.{and_parts, cases_Bool}
+use Rattle.std.proofs.lemmas.List.{append_assoc}
+use Rattle.std.proofs.lemmas.Grind.{flat_map-append}
+use Rattle.std.specs.Cmp.Lexicographic.{same_text}
+use Rattle.std.specs.List.{flat_map, list_all}
+use Rattle.std.specs.Str.{chars}
+use lib.Pointwise.{pointwise}
+use Rattle.snippet_grid.proofs.HtmlLemmas.{look_is}
+use Rattle.snippet_grid.proofs.HtmlReads.{html_says_pieces, is_made, lacks, piece_says, tags_are}
+use Rattle.snippet_grid.specs.Html.{HtmlLook, HtmlPiece, Text, anchor_ended, anchor_started, between, cells_html, class_of, ended}
+use Rattle.snippet_grid.specs.Html.{further_html, html_text, level_class, look_of, plain_look, row_html, rows_html, same_look, span_ended, span_started}
+use Rattle.snippet_grid.specs.Html.{started}
+use Rattle.snippet_grid.specs.HtmlRead.{ReadChar, chars_of_cells, chars_of_rows, chars_read, feed_read, html_says, piece_tag, tags_of}
+use Rattle.snippet_grid.specs.Print.{further_text, plain_text, row_text}
+use Rattle.snippet_style.specs.Cell.{Cell}
+use Rattle.snippet_style.specs.declared.role.ElementStyle.{ElementStyle}
+use Rattle.snippet_style.specs.declared.role.ElementStyle.TheVariants.{MainHeaderMsg, HeaderMsg, LineAndColumn, Quotation, NoStyle, LineNumber}
+use Rattle.snippet_style.specs.declared.role.ElementStyle.TheVariants.{UnderlinePrimary, LabelPrimary, UnderlineSecondary, LabelSecondary, Level, Addition}
+use Rattle.snippet_style.specs.declared.role.ElementStyle.TheVariants.{Removal}
+use Rattle.snippet_style.specs.declared.role.LevelInner.{LevelInner}
+use Rattle.snippet_style.specs.declared.role.LevelInner.TheVariants.{Error, Warning, Info, Note, Help}
+
+-- ---- the text
+
+says_span_started : (class : List ℕ) → flat_map piece_says (span_started class) ≡ []
+says_span_started [] = refl
+says_span_started (c ∷ cs) = refl
+
+says_anchor_started : (address : List ℕ) → flat_map piece_says (anchor_started address) ≡ []
+says_anchor_started [] = refl
+says_anchor_started (c ∷ cs) = refl
+
+says_span_ended : (class : List ℕ) → flat_map piece_says (span_ended class) ≡ []
+says_span_ended [] = refl
+says_span_ended (c ∷ cs) = refl
+
+says_anchor_ended : (address : List ℕ) → flat_map piece_says (anchor_ended address) ≡ []
+says_anchor_ended [] = refl
+says_anchor_ended (c ∷ cs) = refl
+
+-- two lists of tags say nothing
+says_both : (ps qs : List HtmlPiece) → flat_map piece_says ps ≡ [] → flat_map piece_says qs ≡ [] → flat_map piece_says (ps ++ qs) ≡ []
+says_both ps qs first second =
+    flat_map-append piece_says ps qs ∙ ap (λ (t : List ℕ). t ++ flat_map piece_says qs) first ∙ second
+
+says_ended : (look : HtmlLook) → flat_map piece_says (ended look) ≡ []
+says_ended look = says_both (anchor_ended look.address) (span_ended look.class) (says_anchor_ended look.address) (says_span_ended look.class)
+
+says_started : (look : HtmlLook) → flat_map piece_says (started look) ≡ []
+says_started look = says_both (span_started look.class) (anchor_started look.address) (says_span_started look.class) (says_anchor_started look.address)
+
+says_between : (last next : HtmlLook) → flat_map piece_says (between last next) ≡ []
+says_between last next = elim (cases_Bool (same_look last next)) [
+  | inl same ↦ ap (λ (b : Bool). flat_map piece_says (if b then [] else (ended last ++ started next))) same
+  | inr other ↦ ap (λ (b : Bool). flat_map piece_says (if b then [] else (ended last ++ started next))) other
+      ∙ says_both (ended last) (started next) (says_ended last) (says_started next)
+]
+
+says_cells : (level : LevelInner) (last : HtmlLook) (cells : List Cell) → flat_map piece_says (cells_html level last cells) ≡ row_text cells
+says_cells level last [] = says_ended last
+says_cells level last (cell ∷ cells) =
+    let look = look_of level cell in
+    let rest : List HtmlPiece = Text cell.ch ∷ cells_html level look cells in
+    flat_map-append piece_says (between last look) rest ∙ ap (λ (t : List ℕ). t ++ flat_map piece_says rest) (says_between last look)
+    ∙ ap (λ (t : List ℕ). cell.ch ∷ t) (says_cells level look cells)
+
+says_further : (level : LevelInner) (rows : List (List Cell)) → flat_map piece_says (further_html level rows) ≡ further_text rows
+says_further level [] = refl
+says_further level (row ∷ rows) =
+    flat_map-append piece_says (Text 10 ∷ row_html level row) (further_html level rows)
+    ∙ ap (λ (t : List ℕ). (10 ∷ t) ++ flat_map piece_says (further_html level rows)) (says_cells level plain_look row)
+    ∙ ap (λ (t : List ℕ). (10 ∷ row_text row) ++ t) (says_further level rows)
+
+-- the pieces of rows say their plain text
+pub says_rows : (level : LevelInner) (rows : List (List Cell)) → flat_map piece_says (rows_html level rows) ≡ plain_text rows
+says_rows level [] = refl
+says_rows level (row ∷ rows) =
+    flat_map-append piece_says (row_html level row) (further_html level rows)
+    ∙ ap (λ (t : List ℕ). t ++ flat_map piece_says (further_html level rows)) (says_cells level plain_look row)
+    ∙ ap (λ (t : List ℕ). row_text row ++ t) (says_further level rows)
+
+-- ---- tags
+
+pub made-append : (ps qs : List HtmlPiece) → list_all is_made ps ≡ true → list_all is_made qs ≡ true → list_all is_made (ps ++ qs) ≡ true
+made-append [] qs first second = second
+made-append (p ∷ ps) qs first second =
+    let parts = and_parts _ _ first in
+    ap (λ (b : Bool). b && list_all is_made (ps ++ qs)) parts.0 ∙ made-append ps qs parts.1 second
+
+-- the class of a role ends no tag
+level_lacks : (level : LevelInner) → lacks 62 (chars (level_class level)) ≡ true
+unfolding chars
+level_lacks Error = refl
+level_lacks Warning = refl
+level_lacks Info = refl
+level_lacks Note = refl
+level_lacks Help = refl
+
+class_lacks : (level : LevelInner) (role : ElementStyle) → lacks 62 (chars (class_of level role)) ≡ true
+unfolding chars
+class_lacks level MainHeaderMsg = refl
+class_lacks level HeaderMsg = refl
+class_lacks level LineAndColumn = refl
+class_lacks level Quotation = refl
+class_lacks level NoStyle = refl
+class_lacks level LineNumber = refl
+class_lacks level UnderlinePrimary = level_lacks level
+class_lacks level LabelPrimary = level_lacks level
+class_lacks level UnderlineSecondary = refl
+class_lacks level LabelSecondary = refl
+class_lacks level (Level own) = level_lacks own
+class_lacks level Addition = refl
+class_lacks level Removal = refl
+
+made_span_started : (class : List ℕ) → lacks 62 (chars class) ≡ true → list_all is_made (span_started class) ≡ true
+made_span_started [] none = refl
+made_span_started (c ∷ cs) none = ap (λ (b : Bool). b && true) none
+
+made_anchor_started : (address : List ℕ) → list_all is_made (anchor_started address) ≡ true
+made_anchor_started [] = refl
+made_anchor_started (c ∷ cs) = refl
+
+made_span_ended : (class : List ℕ) → list_all is_made (span_ended class) ≡ true
+made_span_ended [] = refl
+made_span_ended (c ∷ cs) = refl
+
+made_anchor_ended : (address : List ℕ) → list_all is_made (anchor_ended address) ≡ true
+made_anchor_ended [] = refl
+made_anchor_ended (c ∷ cs) = refl
+
+made_ended : (look : HtmlLook) → list_all is_made (ended look) ≡ true
+made_ended look = made-append (anchor_ended look.address) (span_ended look.class) (made_anchor_ended look.address) (made_span_ended look.class)
+
+made_started : (level : LevelInner) (cell : Cell) → list_all is_made (started (look_of level cell)) ≡ true
+made_started level cell =
+    let look = look_of level cell in
+    made-append (span_started look.class) (anchor_started look.address) (made_span_started look.class (class_lacks level cell.role))
+    (made_anchor_started look.address)
+
+made_between : (level : LevelInner) (last : HtmlLook) (cell : Cell) → list_all is_made (between last (look_of level cell)) ≡ true
+made_between level last cell =
+    let next = look_of level cell in
+    elim (cases_Bool (same_look last next)) [
+      | inl same ↦ ap (λ (b : Bool). list_all is_made (if b then [] else (ended last ++ started next))) same
+      | inr other ↦ ap (λ (b : Bool). list_all is_made (if b then [] else (ended last ++ started next))) other
+          ∙ made-append (ended last) (started next) (made_ended last) (made_started level cell)
+    ]
+
+made_cells : (level : LevelInner) (last : HtmlLook) (cells : List Cell) → list_all is_made (cells_html level last cells) ≡ true
+made_cells level last [] = made_ended last
+made_cells level last (cell ∷ cells) =
+    let look = look_of level cell in
+    made-append (between last look) (Text cell.ch ∷ cells_html level look cells) (made_between level last cell) (made_cells level look cells)
+
+made_further : (level : LevelInner) (rows : List (List Cell)) → list_all is_made (further_html level rows) ≡ true
+made_further level [] = refl
+made_further level (row ∷ rows) =
+    made-append (Text 10 ∷ row_html level row) (further_html level rows) (made_cells level plain_look row) (made_further level rows)
+
+pub made_rows : (level : LevelInner) (rows : List (List Cell)) → list_all is_made (rows_html level rows) ≡ true
+made_rows level [] = refl
+made_rows level (row ∷ rows) = made-append (row_html level row) (further_html level rows) (made_cells level plain_look row) (made_further level rows)
+
+-- read as HTML, rows are their plain text
+pub rows_read : (level : LevelInner) (rows : List (List Cell)) → html_says (html_text (rows_html level rows)) ≡ plain_text rows
+rows_read level rows = html_says_pieces (rows_html level rows) (made_rows level rows) ∙ says_rows level rows
+
+-- the tags of rows are those of their pieces
+pub rows_tags : (level : LevelInner) (rows : List (List Cell)) → tags_of None (html_text (rows_html level rows)) ≡ flat_map piece_tag (rows_html level rows)
+rows_tags level rows = tags_are (rows_html level rows) (made_rows level rows)
+
+-- ---- classes and links
+
+-- after the tags that begin something, its class and its address are open
+read_span : (class : List ℕ) (ps : List HtmlPiece)
+    → chars_read plain_look (span_started class ++ ps) ≡ chars_read (let look : HtmlLook = record { class = class; address = [] } in look) ps
+read_span [] ps = refl
+read_span (c ∷ cs) ps = refl
+
+read_anchor : (class address : List ℕ) (ps : List HtmlPiece) → chars_read (let look : HtmlLook = record { class = class; address = [] } in look)
+    (anchor_started address ++ ps) ≡ chars_read (let look : HtmlLook = record { class = class; address = address } in look) ps
+read_anchor class [] ps = refl
+read_anchor class (c ∷ cs) ps = refl
+
+read_anchor_end : (class address : List ℕ) (ps : List HtmlPiece) → chars_read (let look : HtmlLook = record { class = class; address = address } in look)
+    (anchor_ended address ++ ps) ≡ chars_read (let look : HtmlLook = record { class = class; address = [] } in look) ps
+read_anchor_end class [] ps = refl
+read_anchor_end class (c ∷ cs) ps = refl
+
+read_span_end : (class : List ℕ) (ps : List HtmlPiece)
+    → chars_read (let look : HtmlLook = record { class = class; address = [] } in look) (span_ended class ++ ps) ≡ chars_read plain_look ps
+read_span_end [] ps = refl
+read_span_end (c ∷ cs) ps = refl
+
+read_started : (look : HtmlLook) (ps : List HtmlPiece) → chars_read plain_look (started look ++ ps) ≡ chars_read look ps
+read_started look ps =
+    ap (chars_read plain_look) (append_assoc (span_started look.class) (anchor_started look.address) ps)
+    ∙ read_span look.class (anchor_started look.address ++ ps) ∙ read_anchor look.class look.address ps
+
+read_ended : (look : HtmlLook) (ps : List HtmlPiece) → chars_read look (ended look ++ ps) ≡ chars_read plain_look ps
+read_ended look ps =
+    ap (chars_read look) (append_assoc (anchor_ended look.address) (span_ended look.class) ps)
+    ∙ read_anchor_end look.class look.address (span_ended look.class ++ ps) ∙ read_span_end look.class ps
+
+-- what stands in the same is the same
+same_is : (a b : HtmlLook) → same_look a b ≡ true → a ≡ b
+same_is a b same =
+    let parts = and_parts (pointwise nat_eq a.class b.class) (pointwise nat_eq a.address b.address) same in
+    look_is a b.class b.address (same_text a.class b.class (sym parts.0)) (same_text a.address b.address (sym parts.1))
+
+read_between : (last next : HtmlLook) (ps : List HtmlPiece) → chars_read last (between last next ++ ps) ≡ chars_read next ps
+read_between last next ps = elim (cases_Bool (same_look last next)) [
+  | inl same ↦ ap (λ (b : Bool). chars_read last ((if b then [] else (ended last ++ started next)) ++ ps)) same
+      ∙ ap (λ (l : HtmlLook). chars_read l ps) (same_is last next same)
+  | inr other ↦ ap (λ (b : Bool). chars_read last ((if b then [] else (ended last ++ started next)) ++ ps)) other
+      ∙ ap (chars_read last) (append_assoc (ended last) (started next) ps) ∙ read_ended last (started next ++ ps) ∙ read_started next ps
+]
+
+read_cells : (level : LevelInner) (last : HtmlLook) (cells : List Cell) (ps : List HtmlPiece)
+    → chars_read last (cells_html level last cells ++ ps) ≡ chars_of_cells level cells ++ chars_read plain_look ps
+read_cells level last [] ps = read_ended last ps
+read_cells level last (cell ∷ cells) ps =
+    let look = look_of level cell in
+    let read : ReadChar = record { ch = cell.ch; look = look } in
+    ap (chars_read last) (append_assoc (between last look) (Text cell.ch ∷ cells_html level look cells) ps)
+    ∙ read_between last look (Text cell.ch ∷ (cells_html level look cells ++ ps)) ∙ ap (λ (rs : List ReadChar). read ∷ rs) (read_cells level look cells ps)
+
+-- each character of a row stands in the class of its cell's role, and in the link of the cell, whatever follows
+pub row_read : (level : LevelInner) (row : List Cell) (ps : List HtmlPiece)
+    → chars_read plain_look (row_html level row ++ ps) ≡ chars_of_cells level row ++ chars_read plain_look ps
+row_read level row ps = read_cells level plain_look row ps
+
+further_read : (level : LevelInner) (rows : List (List Cell)) (ps : List HtmlPiece) → chars_read plain_look (further_html level rows ++ ps)
+    ≡ flat_map (λ below. feed_read ∷ chars_of_cells level below) rows ++ chars_read plain_look ps
+further_read level [] ps = refl
+further_read level (row ∷ rows) ps =
+    let more = flat_map (λ below. feed_read ∷ chars_of_cells level below) rows in
+    ap (chars_read plain_look) (append_assoc (Text 10 ∷ row_html level row) (further_html level rows) ps)
+    ∙ ap (λ (rs : List ReadChar). feed_read ∷ rs) (row_read level row (further_html level rows ++ ps)
+    ∙ ap (λ (rs : List ReadChar). chars_of_cells level row ++ rs) (further_read level rows ps)
+    ∙ sym (append_assoc (chars_of_cells level row) more (chars_read plain_look ps)))
+
+-- and so does each character of rows
+pub rows_chars : (level : LevelInner) (rows : List (List Cell)) (ps : List HtmlPiece)
+    → chars_read plain_look (rows_html level rows ++ ps) ≡ chars_of_rows level rows ++ chars_read plain_look ps
+rows_chars level [] ps = refl
+rows_chars level (row ∷ rows) ps =
+    let more = flat_map (λ below. feed_read ∷ chars_of_cells level below) rows in
+    ap (chars_read plain_look) (append_assoc (row_html level row) (further_html level rows) ps)
+    ∙ row_read level row (further_html level rows ++ ps)
+    ∙ ap (λ (rs : List ReadChar). chars_of_cells level row ++ rs) (further_read level rows ps)
+    ∙ sym (append_assoc (chars_of_cells level row) more (chars_read plain_look ps))

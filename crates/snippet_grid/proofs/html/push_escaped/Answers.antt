@@ -1,0 +1,35 @@
+use Rattle.std.proofs.Common.{◌≡◌, ◌∙◌, ◌++◌, ◌∷◌, [], ℕ, List, ap, sym, append_assoc, append-nil, encode_utf8_all, string_bytes}
+use Rattle.std.specs.List.{flat_map}
+use Rattle.std.proofs.lemmas.List.{map-id}
+use Rattle.std.proofs.lemmas.Grind.{flat_map-append}
+use Rattle.std.proofs.lemmas.Str.{encodes-append}
+use Rattle.std.proofs.lemmas.Iterator.{YieldsList-from_chars}
+use Rattle.std.proofs.lemmas.Iterator.Consumers.{YieldsList-end}
+use Rattle.snippet_grid.specs.Html.{escape, escaped}
+use Rattle.snippet_grid.proofs.html.push_escaped.Goals as goal
+
+-- a text that has the characters so far escaped, and one more, has them all escaped
+step : (before now after : List ℕ) (yielded : List ℕ) (ch : ℕ) → now ≡ before ++ encode_utf8_all (escaped yielded)
+    → after ≡ now ++ encode_utf8_all (escape ch) → after ≡ before ++ encode_utf8_all (escaped (yielded ++ ch ∷ []))
+step before now after yielded ch so_far added =
+    let more : escaped (yielded ++ ch ∷ []) ≡ escaped yielded ++ escape ch =
+    flat_map-append escape yielded (ch ∷ []) ∙ ap (λ t. flat_map escape yielded ++ t) (append-nil (escape ch)) in
+    added ∙ ap (λ t. t ++ encode_utf8_all (escape ch)) so_far ∙ append_assoc before _ _
+    ∙ ap (λ t. before ++ t) (sym (encodes-append (escaped yielded) (escape ch)) ∙ ap encode_utf8_all (sym more))
+
+pub loop-ch-init : goal.loop-ch-init
+loop-ch-init c = sym (append-nil _)
+
+pub loop-ch-preserved : goal.loop-ch-preserved
+loop-ch-preserved c =
+    step (string_bytes c.args.out.now) (string_bytes c.loop-ch.out) (string_bytes c.push_character.new.out) c.loop-ch.yielded c.in-Some.ch
+    c.loop-ch.invariant c.in_ok-push_character.ensures.added
+
+pub returns : goal.returns
+returns c =
+    let all = YieldsList-end (YieldsList-from_chars c.args.text.now c.utf8.text cc) c.loop-ch.yielded _ c.loop-ch.yielded_by _ _ c.in-None.is
+    c.next.ensures.steps in
+    record {
+      added =
+          c.loop-ch.invariant ∙ ap (λ y. string_bytes c.args.out.now ++ encode_utf8_all (escaped y)) (sym (map-id c.loop-ch.yielded) ∙ all.0);
+    }

@@ -1,0 +1,54 @@
+use Rattle.std.proofs.Common.{◌≡◌, ◌++◌, ◌<◌, arith, string_bytes, encode_utf8}
+use Rattle.snippet_grid.proofs.HtmlRows.{html_rows_next, html_rows_all}
+use Rattle.snippet_grid.proofs.PutLemmas.{IsRow-stretch}
+use Rattle.snippet_grid.proofs.RowPut.{row_ends}
+use Rattle.snippet_grid.specs.Changes.{RowAt}
+use Rattle.snippet_grid.proofs.html.push_html_rows.Goals as goal
+use Rattle.snippet_grid.proofs.html.push_html_rows.Goals.{then-row-gt0+in_ok-push, else-row-gt0}
+
+pub push_html_row-requires-clause-runs : goal.push_html_row-requires-clause-runs
+push_html_row-requires-clause-runs c =
+    let grid = c.requires.grid in
+    IsRow-stretch c.args.text.now c.loop-row.row c.args.runs.now c.loop-row.from c.row_end-to.result c.row_end-to.ensures.bounds.0
+    c.row_end-to.ensures.bounds.1 grid.are_runs grid.ordered grid.apart c.row_end-to.ensures.inside
+
+pub push_html_row-requires-clause-ends : goal.push_html_row-requires-clause-ends
+push_html_row-requires-clause-ends c =
+    let at : RowAt c.args.runs.now c.loop-row.row c.loop-row.from c.row_end-to.result = record {
+      ordered = c.row_end-to.ensures.bounds.0;
+      within = c.row_end-to.ensures.bounds.1;
+      above = c.loop-row.invariant.above;
+      inside = c.row_end-to.ensures.inside;
+      below = c.row_end-to.ensures.below;
+    } in
+    row_ends c.args.widths.now c.args.runs.now c.loop-row.row c.loop-row.from c.row_end-to.result at c.requires.grid.inside
+
+pub row_end-to-requires-clause-within : goal.row_end-to-requires-clause-within
+row_end-to-requires-clause-within c = c.loop-row.invariant.within
+
+pub row_end-to-requires-clause-ordered : goal.row_end-to-requires-clause-ordered
+row_end-to-requires-clause-ordered c = c.requires.grid.ordered
+
+pub row_end-to-requires-clause-from_here : goal.row_end-to-requires-clause-from_here
+row_end-to-requires-clause-from_here c = c.loop-row.invariant.below
+
+pub loop-row-preserved : goal.loop-row-preserved
+loop-row-preserved c =
+    let first : c.loop-row.row ≡ 0 → string_bytes c.if-row-gt0.out ≡ string_bytes c.loop-row.out = λ zero. elim c.if-row-gt0.branch [
+      | then-row-gt0+in_ok-push w ↦ absurd (omega (arith, zero, w.if-row-gt0.true))
+      | else-row-gt0 w ↦ rw (w.out-is)
+    ] in
+    let further : 0 < c.loop-row.row → string_bytes c.if-row-gt0.out ≡ string_bytes c.loop-row.out ++ encode_utf8 10 = λ some. elim c.if-row-gt0.branch [
+      | then-row-gt0+in_ok-push w ↦ rw (w.out-is) w.in_ok-push.ensures.bytes
+      | else-row-gt0 w ↦ absurd (omega (arith, some, w.if-row-gt0.false))
+    ] in
+    html_rows_next c.args.level c.args.text.now c.args.runs.now c.args.widths.now c.loop-row.row c.loop-row.from c.row_end-to.result
+    (string_bytes c.args.out.now) (string_bytes c.loop-row.out) (string_bytes c.if-row-gt0.out) (string_bytes c.push_html_row.new.out)
+    c.loop-row-test.true c.row_end-to.ensures.bounds.0 c.row_end-to.ensures.bounds.1 c.row_end-to.ensures.inside c.row_end-to.ensures.below first
+    further c.in_ok-push_html_row.ensures.added c.loop-row.invariant
+
+pub returns : goal.returns
+returns c =
+    let all = html_rows_all c.args.level c.args.text.now c.args.runs.now c.args.widths.now c.loop-row.row c.loop-row.from (string_bytes c.args.out.now)
+    (string_bytes c.loop-row.out) (omega (arith, c.loop-row-test.false, c.loop-row.auto.row-end)) c.loop-row.invariant in
+    record { added = all }

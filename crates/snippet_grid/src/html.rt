@@ -1,0 +1,299 @@
+//! The text of a grid's rows as HTML: characters, escaped, with tags between them.
+//!
+//! Tags stand where two neighbouring cells differ in their class or their link. What is open ends there, and what the
+//! next cell stands in begins; a row ends with nothing open:
+//!
+//! ```text
+//! a cell  </a></span>  <span class="snippet-error"><a href="https://..">  the next cell
+//! ```
+ghost use Rattle.std.specs.Prelude.{◌≡◌, ◌++◌, IfOk, OnOk, string_bytes, encode_utf8_all, map};
+ghost use Rattle.std.specs.Char.{to_ascii_lowercase};
+ghost use Rattle.std.specs.Option.{option_copied};
+ghost use Rattle.std.specs.Str.{chars};
+ghost use Rattle.snippet_grid.specs.Runs.{IsGrid, IsRow, EndsBy, cells_to, grid_shown};
+ghost use Rattle.snippet_grid.specs.Html as spec;
+ghost use Rattle.snippet_grid.specs.Html.{AddsHtml, Text, anchor_ended, anchor_started, between, ended, escape};
+ghost use Rattle.snippet_grid.specs.Html.{look_at, row_html, rows_html, span_ended, span_started, started};
+ghost use Rattle.snippet_grid.specs.HtmlLooks.{IsHtmlGap, look_seen};
+
+use crate::runs::Run;
+use crate::spaces::push_spaces;
+use crate::weave::row_end;
+use snippet_style::{ElementStyle, LevelInner};
+use std::alloc::AllocError;
+
+/// What a cell stands in: the class of its role, and the address that it links to. Each is empty where there is none.
+#[derive(Clone, Copy)]
+struct Look<'a> {
+    class: &'static str,
+    address: &'a str,
+}
+
+/// What a cell stands in that has neither.
+const PLAIN: Look<'static> = Look {
+    class: "",
+    address: "",
+};
+
+/// Adds a text, with what HTML gives a meaning escaped.
+fn push_escaped(out: &mut String, text: &str) -> Result<(), AllocError>
+    ensures added { OnOk result
+        (string_bytes out.new ≡ string_bytes out.old ++ encode_utf8_all (spec.escaped (chars text.now))) }
+{
+    for ch in text.chars() {
+        push_character(out, ch)?;
+    }
+    Ok(())
+}
+
+/// Adds a character, escaped where HTML gives it a meaning.
+fn push_character(out: &mut String, ch: char) -> Result<(), AllocError>
+    ensures added { OnOk result
+        (string_bytes out.new ≡ string_bytes out.old ++ encode_utf8_all (escape ch)) }
+{
+    match ch {
+        '&' => out.push_str("&amp;"),
+        '<' => out.push_str("&lt;"),
+        '>' => out.push_str("&gt;"),
+        '"' => out.push_str("&quot;"),
+        '\'' => out.push_str("&#39;"),
+        _ => out.push(ch),
+    }
+}
+
+/// The class of a cell of this role, in a group of this level; empty where the role has no style of its own.
+fn class_of(level: LevelInner, role: ElementStyle) -> &'static str
+    ensures value { result.now ≡ spec.class_of level role }
+{
+    match role {
+        ElementStyle::UnderlinePrimary | ElementStyle::LabelPrimary => level_class(level),
+        ElementStyle::Level(own) => level_class(own),
+        ElementStyle::LineNumber => "snippet-line-number",
+        ElementStyle::MainHeaderMsg => "snippet-emphasis",
+        ElementStyle::HeaderMsg
+        | ElementStyle::LineAndColumn
+        | ElementStyle::Quotation
+        | ElementStyle::NoStyle => "",
+        ElementStyle::UnderlineSecondary | ElementStyle::LabelSecondary => "snippet-context",
+        ElementStyle::Addition => "snippet-addition",
+        ElementStyle::Removal => "snippet-removal",
+    }
+}
+
+/// The class of a level.
+fn level_class(level: LevelInner) -> &'static str
+    ensures value { result.now ≡ spec.level_class level }
+{
+    match level {
+        LevelInner::Error => "snippet-error",
+        LevelInner::Warning => "snippet-warning",
+        LevelInner::Info => "snippet-info",
+        LevelInner::Note => "snippet-note",
+        LevelInner::Help => "snippet-help",
+    }
+}
+
+/// The address that a link leads to in HTML; empty where it leads nowhere.
+fn link_address(link: Option<&str>) -> &str
+    ensures value { result.now ≡ spec.link_address (option_copied link.entry) }
+{
+    match link {
+        Some(address) if is_link_address(address) => address,
+        _ => "",
+    }
+}
+
+/// Whether an address may be a link: it is of the web or of mail, and each of its characters is an ASCII character
+/// that is seen. So no address runs a script, and none hides what it leads to.
+fn is_link_address(address: &str) -> bool
+    ensures value { result ≡ spec.is_link_address address.now }
+{
+    let is_known = has_scheme("http:", address)
+        || has_scheme("https:", address)
+        || has_scheme("mailto:", address);
+    is_known && is_seen(address)
+}
+
+/// Whether each character of an address is an ASCII character that is seen.
+fn is_seen(address: &str) -> bool
+    ensures value { result ≡ spec.is_seen address.now }
+{
+    address.as_bytes().iter().all(|b| b.is_ascii_graphic())
+}
+
+/// Whether an address begins with this scheme, in letters of either case.
+fn has_scheme(scheme: &str, address: &str) -> bool
+    requires lower { map to_ascii_lowercase scheme.now ≡ scheme.now }
+    ensures value { result ≡ spec.has_scheme scheme.now address.now }
+{
+    let bytes = address.as_bytes();
+    let len = scheme.len();
+    len <= bytes.len() && bytes[..len].eq_ignore_ascii_case(scheme.as_bytes())
+}
+
+/// What a cell of this role and link stands in, in a group of this level.
+fn look_of<'a>(level: LevelInner, role: ElementStyle, link: Option<&'a str>) -> Look<'a>
+    ensures value { look_seen result ≡ look_at level role (option_copied link.entry) }
+{
+    Look {
+        class: class_of(level, role),
+        address: link_address(link),
+    }
+}
+
+/// Adds the tag that begins a stretch of this class, if it has one.
+fn start_span(out: &mut String, class: &str) -> Result<(), AllocError>
+    ensures added { OnOk result (AddsHtml (span_started class.now) (string_bytes out.old) (string_bytes out.new)) }
+{
+    if class.is_empty() {
+        return Ok(());
+    }
+    out.push_str("<span class=\"")?;
+    out.push_str(class)?;
+    out.push_str("\">")
+}
+
+/// Adds the tag that begins a link to this address, if there is one.
+fn start_anchor(out: &mut String, address: &str) -> Result<(), AllocError>
+    ensures added { OnOk result (AddsHtml (anchor_started address.now) (string_bytes out.old) (string_bytes out.new)) }
+{
+    if address.is_empty() {
+        return Ok(());
+    }
+    out.push_str("<a href=\"")?;
+    push_escaped(out, address)?;
+    out.push_str("\">")
+}
+
+/// Adds the tag that ends a stretch of this class, if it has one.
+fn end_span(out: &mut String, class: &str) -> Result<(), AllocError>
+    ensures added { OnOk result (AddsHtml (span_ended class.now) (string_bytes out.old) (string_bytes out.new)) }
+{
+    if class.is_empty() {
+        return Ok(());
+    }
+    out.push_str("</span>")
+}
+
+/// Adds the tag that ends a link to this address, if there is one.
+fn end_anchor(out: &mut String, address: &str) -> Result<(), AllocError>
+    ensures added { OnOk result (AddsHtml (anchor_ended address.now) (string_bytes out.old) (string_bytes out.new)) }
+{
+    if address.is_empty() {
+        return Ok(());
+    }
+    out.push_str("</a>")
+}
+
+/// Adds the tags that end what is open.
+fn end_look(out: &mut String, look: Look<'_>) -> Result<(), AllocError>
+    ensures added { OnOk result (AddsHtml (ended (look_seen look.entry)) (string_bytes out.old)
+        (string_bytes out.new)) }
+{
+    end_anchor(out, look.address)?;
+    end_span(out, look.class)
+}
+
+/// Adds the tags that begin what comes next.
+fn start_look(out: &mut String, look: Look<'_>) -> Result<(), AllocError>
+    ensures added { OnOk result (AddsHtml (started (look_seen look.entry)) (string_bytes out.old)
+        (string_bytes out.new)) }
+{
+    start_span(out, look.class)?;
+    start_anchor(out, look.address)
+}
+
+/// Adds the tags between two neighbours: none where they stand in the same.
+fn change_look(out: &mut String, last: Look<'_>, next: Look<'_>) -> Result<(), AllocError>
+    ensures added { OnOk result (AddsHtml (between (look_seen last.entry) (look_seen next.entry))
+        (string_bytes out.old) (string_bytes out.new)) }
+{
+    if last.class == next.class && last.address == next.address {
+        return Ok(());
+    }
+    end_look(out, last)?;
+    start_look(out, next)
+}
+
+/// Adds a text that stands in this, after what was printed and stands in `last`.
+fn push_stretch(
+    out: &mut String,
+    word: &str,
+    last: Look<'_>,
+    next: Look<'_>,
+) -> Result<(), AllocError>
+    ensures added { OnOk result (AddsHtml (between (look_seen last.entry) (look_seen next.entry)
+        ++ map Text (chars word.now)) (string_bytes out.old) (string_bytes out.new)) }
+{
+    change_look(out, last, next)?;
+    push_escaped(out, word)
+}
+
+/// Adds spaces from one cell to before another, after what was printed and stands in `last`; gives what is open then.
+fn push_gap<'a>(
+    out: &mut String,
+    from: usize,
+    to: usize,
+    last: Look<'a>,
+) -> Result<Look<'a>, AllocError>
+    ensures gap { IfOk result (λ next. IsHtmlGap from to (look_seen last.entry) (look_seen next)
+        (string_bytes out.old) (string_bytes out.new)) }
+{
+    if to <= from {
+        return Ok(last);
+    }
+    change_look(out, last, PLAIN)?;
+    push_spaces(out, to - from)?;
+    Ok(PLAIN)
+}
+
+/// Adds a row of this many cells to a text: what its runs hold, and spaces between them.
+fn push_html_row(
+    out: &mut String,
+    text: &str,
+    runs: &[Run<'_>],
+    row: usize,
+    width: usize,
+    level: LevelInner,
+) -> Result<(), AllocError>
+    requires runs { IsRow text.now row runs.now }
+    requires ends { EndsBy width runs.now }
+    ensures added { OnOk result (AddsHtml (row_html level (cells_to text.now runs.now row width))
+        (string_bytes out.old) (string_bytes out.new)) }
+{
+    let mut last = PLAIN;
+    let mut col = 0;
+    for run in runs {
+        let begun = push_gap(out, col, run.cell, last)?;
+        let next = look_of(level, run.role, run.link);
+        push_stretch(out, &text[run.start..run.end], begun, next)?;
+        last = next;
+        col = run.cell + run.count;
+    }
+    let rest = push_gap(out, col, width, last)?;
+    end_look(out, rest)
+}
+
+/// Adds the rows to a text as HTML, one below another.
+pub(crate) fn push_html_rows(
+    out: &mut String,
+    text: &str,
+    runs: &[Run<'_>],
+    widths: &[usize],
+    level: LevelInner,
+) -> Result<(), AllocError>
+    requires grid { IsGrid text.now runs.now widths.now }
+    ensures added { OnOk result (AddsHtml (rows_html level (grid_shown text.now runs.now widths.now))
+        (string_bytes out.old) (string_bytes out.new)) }
+{
+    let mut from = 0;
+    for row in 0..widths.len() {
+        if row > 0 {
+            out.push('\n')?;
+        }
+        let to = row_end(runs, from, row);
+        push_html_row(out, text, &runs[from..to], row, widths[row], level)?;
+        from = to;
+    }
+    Ok(())
+}
