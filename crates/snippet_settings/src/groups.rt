@@ -38,8 +38,8 @@ fn group_as_set<'a>(
     })
 }
 
-/// The groups that are shown in place of these: with the line feeds of labels, paths, identifiers and level names shown,
-/// where that is asked for. All texts that stay as they are are lent.
+/// The groups that are shown in place of these: with the line feeds of labels, paths, identifiers and level names
+/// shown, where that is asked for. All texts that stay as they are are lent.
 ///
 /// # Errors
 ///
