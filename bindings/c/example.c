@@ -45,6 +45,7 @@ static void put_settings(struct bytes *b) {
     put_byte(b, 0);     /* hyperlink */
     put_byte(b, 0);     /* short_message */
     put_byte(b, 0);     /* no_graphics */
+    put_byte(b, 0);     /* show_line_feeds */
 }
 
 /* Eleven styles, each without a colour (two options) and without an effect (eight flags). */

@@ -60,6 +60,7 @@ fn settings(r: &Renderer, out: &mut Vec<u8>) {
     out.push(r.hyperlink.into());
     out.push(r.short_message.into());
     out.push(r.no_graphics.into());
+    out.push(r.show_line_feeds.into());
 }
 
 fn sheet(s: &Stylesheet, out: &mut Vec<u8>) {

@@ -63,6 +63,7 @@ pub struct Renderer {
     pub(crate) hyperlink: bool,
     pub(crate) short_message: bool,
     pub(crate) no_graphics: bool,
+    pub(crate) show_line_feeds: bool,
 }
 
 impl Renderer {
@@ -77,6 +78,7 @@ impl Renderer {
             hyperlink: false,
             short_message: false,
             no_graphics: false,
+            show_line_feeds: false,
         }
     }
 
@@ -88,6 +90,13 @@ impl Renderer {
     /// Whether a report is written without graphics, for speech and Braille; where it is, `short_message` isn't looked at.
     pub const fn no_graphics(mut self, no_graphics: bool) -> Self {
         self.no_graphics = no_graphics;
+        self
+    }
+
+    /// Whether line feeds of labels, paths, identifiers and level names are shown, as `␊`, so that no such text can begin a line of the
+    /// report. They are drawn as they are unless this says otherwise.
+    pub const fn show_line_feeds(mut self, show_line_feeds: bool) -> Self {
+        self.show_line_feeds = show_line_feeds;
         self
     }
 

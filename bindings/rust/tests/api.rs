@@ -97,7 +97,8 @@ fn renderers_are_made_in_constants() {
         .decor_style(DecorStyle::Unicode)
         .anonymized_snippet_line_numbers(true)
         .anonymized_line_numbers(true)
-        .anonymized_origin_line_numbers(true);
+        .anonymized_origin_line_numbers(true)
+        .show_line_feeds(true);
     const STYLED: Renderer = Renderer::styled()
         .error(DEFAULT_ERROR_STYLE)
         .warning(DEFAULT_WARNING_STYLE)

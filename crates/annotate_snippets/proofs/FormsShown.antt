@@ -24,8 +24,8 @@ use Rattle.annotate_snippets.specs.declared.renderer.form.Form.{Form}
 use Rattle.annotate_snippets.specs.declared.renderer.form.Form.TheVariants.{Graphic, Short, Text}
 use Rattle.annotate_snippets.specs.DrawnReport.{IsDrawnAs, IsPrintedAs}
 use Rattle.annotate_snippets.specs.Fault.{first_refusal, form_of, missing_title}
-use Rattle.annotate_snippets.specs.FormLaws.{FormLaws, HasLaws, IsTextUnder, LawsIn}
-use Rattle.annotate_snippets.specs.Forms.{AreFree, ShortShown, ShowsForm, TextsShown, links_in, plain_in}
+use Rattle.annotate_snippets.specs.FormLaws.{FormLaws, IsTextUnder, LawsIn}
+use Rattle.annotate_snippets.specs.Forms.{AreFree, ShortShown, ShowsForm, links_in, plain_in}
 use Rattle.annotate_snippets.specs.GraphicForm.{graphic_form}
 use Rattle.annotate_snippets.specs.Page.{Page, PrintsPage, page_text}
 use Rattle.annotate_snippets.specs.PageLaws.{PageLaws}
@@ -96,7 +96,7 @@ module _ (r : Renderer) (groups : List Group) (sheets : List Stylesheet) (texts 
 
   -- the texts of a report that is drawn in the renderer's form show it in that form
   pub texts-shown : (report : Drawn) → All IsGroupDrawable groups → IsDrawnAs (form_of r) r groups report → AllZip (IsPrintedAs report) sheets texts
-      → TextsShown r groups sheets texts
+      → ShowsForm (form_of r) r groups sheets texts
   texts-shown report = shown-in (form_of r) report
 
   -- the laws of a form are those of the texts of a report that is drawn in it
@@ -120,7 +120,7 @@ module _ (r : Renderer) (groups : List Group) (sheets : List Stylesheet) (texts 
 
   -- so it is in the renderer's form
   pub laws-hold : (report : Drawn) → FormLaws (form_of r) r groups → All IsGroupDrawable groups → IsDrawnAs (form_of r) r groups report
-      → AllZip (IsPrintedAs report) sheets texts → AllZip (HasLaws r groups) sheets texts
+      → AllZip (IsPrintedAs report) sheets texts → AllZip (LawsIn (form_of r) r groups) sheets texts
   laws-hold report = laws-in (form_of r) report
 
 -- each form's laws say that its plain text is free
@@ -156,20 +156,20 @@ Texts = Result (Vec (String Global) Global) RenderError
 -- under no sheets there are no texts, and these show a report that isn't refused
 pub none-shown : (r : Renderer) (groups : List Group) (sheets : List Stylesheet) (answer : Texts) → length sheets ≡ 0
     → IfOk answer (λ texts. texts.items ≡ []) → IfSome (first_refusal r groups) (λ refusal. answer ≡ Err refusal)
-    → IfOk answer (λ texts. TextsShown r groups sheets (map string_bytes texts.items))
+    → IfOk answer (λ texts. ShowsForm (form_of r) r groups sheets (map string_bytes texts.items))
 none-shown r groups sheets (Err e) none nothing refused = tt
 none-shown r groups sheets (Ok texts) none nothing refused =
-    let shown : TextsShown r groups [] [] = none-in r groups (form_of r) (titled-from_ok r groups (Ok texts) texts refused refl) in
-    subst (λ ss. TextsShown r groups ss (map string_bytes texts.items)) (sym (nil_from_length sheets none))
-    (subst (TextsShown r groups []) (sym (ap (map string_bytes) nothing)) shown)
+    let shown : ShowsForm (form_of r) r groups [] [] = none-in r groups (form_of r) (titled-from_ok r groups (Ok texts) texts refused refl) in
+    subst (λ ss. ShowsForm (form_of r) r groups ss (map string_bytes texts.items)) (sym (nil_from_length sheets none))
+    (subst (ShowsForm (form_of r) r groups []) (sym (ap (map string_bytes) nothing)) shown)
 
 -- and have its laws
 pub none-laws : (r : Renderer) (groups : List Group) (sheets : List Stylesheet) (answer : Texts) → length sheets ≡ 0
-    → IfOk answer (λ texts. texts.items ≡ []) → IfOk answer (λ texts. AllZip (HasLaws r groups) sheets (map string_bytes texts.items))
+    → IfOk answer (λ texts. texts.items ≡ []) → IfOk answer (λ texts. AllZip (LawsIn (form_of r) r groups) sheets (map string_bytes texts.items))
 none-laws r groups sheets (Err e) none nothing = tt
 none-laws r groups sheets (Ok texts) none nothing =
-    subst (λ ss. AllZip (HasLaws r groups) ss (map string_bytes texts.items)) (sym (nil_from_length sheets none))
-    (subst (AllZip (HasLaws r groups) []) (sym (ap (map string_bytes) nothing)) tt)
+    subst (λ ss. AllZip (LawsIn (form_of r) r groups) ss (map string_bytes texts.items)) (sym (nil_from_length sheets none))
+    (subst (AllZip (LawsIn (form_of r) r groups) []) (sym (ap (map string_bytes) nothing)) tt)
 
 -- a sheet that is alone
 pub one_sheet : (sheets : List Stylesheet) (d : Stylesheet) → 1 ≤ length sheets → length sheets < 2 → get_or sheets 0 d ∷ [] ≡ sheets

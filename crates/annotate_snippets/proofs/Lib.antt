@@ -1,7 +1,10 @@
 pub mod AroundLaws
+pub mod AsSetFaults
+pub mod AsSetLemmas
 pub mod BarExamples
 pub mod BoundsLaws
 pub mod CauseShown
+pub mod ContextLemmas
 pub mod DisjointLemmas
 pub mod DrawnElementLemmas
 pub mod DrawnLines
@@ -43,8 +46,8 @@ pub mod NotWhole
 pub mod NumberLaws
 pub mod PageLemmas
 pub mod PartsFacts
-pub mod PathFeedLaws
 pub mod PatchRows
+pub mod PathFeedLaws
 pub mod PlaceLemmas
 pub mod PlainRows
 pub mod PreparedLemmas
@@ -65,7 +68,6 @@ pub mod SuggestFeedLaws
 pub mod SuggestionLemmas
 pub mod SuggestionLines
 pub mod SuggestionShown
-pub mod ContextLemmas
 pub mod TextLineLaws
 pub mod TextShown
 pub mod TitleNumbers

@@ -1,17 +1,27 @@
 -- Pages without the laws of a report: with texts of one line, a page with a row that reads as two lines of the text; and a page with a
 -- number before a row of an element that shows no line.
-use Rattle.std.proofs.Common.{◌≡◌, ℕ, List, [], ◌∷◌, ◌++◌, Some, codes, refl, sym, arith}
-use Rattle.std.specs.List.{All, Contains, slice_get}
+use Rattle.std.proofs.Common.{◌≡◌, ◌∙◌, ℕ, true, Global, List, [], ◌∷◌, ◌++◌, Some, ap, codes, refl, subst, sym, arith}
+use Rattle.std.specs.Cow.{cow_str_bytes}
+use Rattle.std.specs.List.{All, Contains, slice_get, slice_index_or}
+use Rattle.std.specs.Str.{chars}
+use Rattle.std.specs.declared.borrow.CowStr.{CowStr}
 use Rattle.std.proofs.lemmas.Bool.{false≢true}
 use Rattle.std.proofs.lemmas.List.Elements.{All-contains}
 use Rattle.snippet_grid.specs.Print.{row_text}
 use Rattle.snippet_model.specs.declared.snippet.Group.{Group}
+use Rattle.snippet_settings.specs.LineFeeds.{IsTextAsSet, with_line_feeds_shown}
+use Rattle.snippet_style.specs.declared.stylesheet.Stylesheet.{Stylesheet}
 use Rattle.snippet_style.specs.Cell.{Cell, SPACE, text_cells}
 use Rattle.snippet_style.specs.Separators.{separator_row}
 use Rattle.snippet_style.specs.declared.glyphs.DecorStyle.TheVariants.{Ascii}
 use Rattle.snippet_style.specs.declared.role.ElementStyle.TheVariants.{LabelPrimary, NoStyle, UnderlinePrimary}
 use Rattle.annotate_snippets.specs.declared.renderer.Renderer.{Renderer}
+use Rattle.annotate_snippets.specs.Fault.{form_of}
 use Rattle.annotate_snippets.specs.Feeds.{HasNoFeed, HasOneLineRows, HasOneLineTexts, text_lines}
+use Rattle.annotate_snippets.specs.FormLaws.{FormLaws, HasLaws}
+use Rattle.annotate_snippets.specs.GraphicForm.{graphic_form}
+use Rattle.annotate_snippets.specs.declared.renderer.form.Form.{Form}
+use Rattle.annotate_snippets.specs.declared.renderer.form.Form.TheVariants.{Graphic}
 use Rattle.annotate_snippets.specs.Gutter.{layout_of_group}
 use Rattle.annotate_snippets.specs.Numbers.{IsNumberedAsLine}
 use Rattle.annotate_snippets.specs.Page.{GroupPage, NamedRow, Other, Page, group_rows}
@@ -61,3 +71,23 @@ number_without_a_line r groups page laws i g part at there rows of_part among =
     (laws.numbers i g part at there) of_part in
     let row : IsNumberedAsLine gutter numbered_row = All-contains (IsNumberedAsLine gutter) rows numbered_row all among in
     false≢true (sym (row refl 0 (omega arith)))
+
+-- ---- line feeds that are shown
+
+-- no text of a report whose line feeds are shown has a page with such a row, whatever the report's labels, paths, ids and names hold
+pub line_feed_left : (r : Renderer) (groups : List Group) (sheet : Stylesheet) (text : List ℕ) → r.show_line_feeds ≡ true → form_of r ≡ Graphic
+    → (has : HasLaws r groups sheet text) → (part : GroupPage) → Contains (graphic_form r has.shown) part → Contains (group_rows part) forged_row → ⊥
+line_feed_left r groups sheet text asked graphic has part there among =
+    let Laws : Form → Type 0 = λ form. FormLaws form r has.shown in
+    let laws : PageLaws r has.shown (graphic_form r has.shown) = subst Laws graphic has.laws.form_laws in
+    forged_line r has.shown (graphic_form r has.shown) laws (has.one_line asked) part there among
+
+-- the label of that row as a text: it isn't the one that is shown in its place
+pub label_as_given : (a b : CowStr Global) → cow_str_bytes a ≡ codes "here\n2 | let y = 666;" → cow_str_bytes b ≡ cow_str_bytes a
+    → IsTextAsSet true a b → ⊥
+unfolding chars
+label_as_given a b is same set =
+    let given : chars (codes "here\n2 | let y = 666;") ≡ with_line_feeds_shown (chars (codes "here\n2 | let y = 666;")) =
+    sym (ap chars (same ∙ is)) ∙ set ∙ ap (λ bytes. with_line_feeds_shown (chars bytes)) is in
+    let feed : ◌≡◌ {A = ℕ} 10 0x240A = ap (λ (cs : List ℕ). slice_index_or cs 4 0) given in
+    absurd (omega (arith, feed))

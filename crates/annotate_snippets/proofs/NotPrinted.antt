@@ -22,6 +22,7 @@ use Rattle.annotate_snippets.specs.Page.{ArePrinted, Page, PrintsPage, page_link
 use Rattle.annotate_snippets.specs.Settings.{plain_settings}
 use Rattle.annotate_snippets.specs.ShownPage.{levels_of}
 use Rattle.annotate_snippets.specs.declared.renderer.Renderer.{Renderer}
+use Rattle.annotate_snippets.proofs.AsSetLemmas.{unset-shows}
 use Rattle.annotate_snippets.proofs.ReportLemmas.{plain_printed}
 use Rattle.annotate_snippets.proofs.SmallReports.{nameless, title_alone}
 
@@ -40,7 +41,8 @@ empty_text : (v : Vec Element Global) → ShowsReport plain_settings (title_alon
 unfolding lib.Utf8.encode
 empty_text v shown =
     let page : Page = graphic_form plain_settings (title_alone v) in
-    let right : [] ≡ encode_utf8_all (codes "error: e") = plain_printed plain_sheet (levels_of (title_alone v)) page [] (no_links_are v) refl shown.printed.0
+    let right : [] ≡ encode_utf8_all (codes "error: e") = plain_printed plain_sheet (levels_of (title_alone v)) page [] (no_links_are v) refl
+    (unset-shows _ _ _ _ shown refl).printed.0
     ∙ ap encode_utf8_all (plain_text_is v) in
     cc
 
@@ -103,7 +105,7 @@ printed =
 only_text : (v : Vec Element Global) (text : List ℕ) → ShowsReport coloured (nameless v) default_sheet text → text ≡ bold_text
 only_text v text shown =
     let page : PrintsPage default_sheet (Error ∷ []) (record { title = bold_row ∷ []; elements = [] } ∷ []) text = subst (λ page.
-    PrintsPage default_sheet (Error ∷ []) page text) (page_is v) shown.printed.0 in
+    PrintsPage default_sheet (Error ∷ []) page text) (page_is v) (unset-shows _ _ _ _ shown refl).printed.0 in
     page.joined ∙ joined page.parts page.printed
   where
     joined : (parts : List (List ℕ)) → ArePrinted default_sheet (Error ∷ []) (record { title = bold_row ∷ []; elements = [] } ∷ []) parts

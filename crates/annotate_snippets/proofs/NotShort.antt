@@ -30,6 +30,7 @@ use Rattle.annotate_snippets.specs.Forms.{ShowsReport}
 use Rattle.annotate_snippets.specs.Settings.{plain_settings}
 use Rattle.annotate_snippets.specs.ShortForm.{short_form}
 use Rattle.annotate_snippets.specs.declared.renderer.Renderer.{Renderer}
+use Rattle.annotate_snippets.proofs.AsSetLemmas.{unset-shows}
 use Rattle.annotate_snippets.proofs.NotShown.{span_of}
 use Rattle.annotate_snippets.proofs.NotWhole.{at_first, at_second, both_spans, second_span}
 use Rattle.annotate_snippets.proofs.SmallReports.{error_title, group, snippet, title_alone}
@@ -61,7 +62,8 @@ links_are v g title first titled =
 -- no text for the title `error: e`
 titles_left_out : (v : Vec Element Global) → ShowsReport one_line (title_alone v) plain_sheet [] → ⊥
 unfolding lib.Utf8.encode
-titles_left_out v shown =
+titles_left_out v given =
+    let shown = unset-shows one_line (title_alone v) (plain_sheet ∷ []) ([] ∷ []) given refl in
     let rows : List (List Cell) = short_form one_line shown.group shown.title in
     let none : links_of rows ≡ [] = links_are v shown.group shown.title shown.first shown.titled in
     let woven : IsWoven plain_sheet [] (plain_text rows) (links_of rows) = IsWoven-from_prints plain_sheet shown.group.level rows [] shown.printed.0 in

@@ -21,6 +21,7 @@ use Rattle.annotate_snippets.specs.Forms.{ShowsReport}
 use Rattle.annotate_snippets.specs.Settings.{plain_settings}
 use Rattle.annotate_snippets.specs.TextForm.{text_form}
 use Rattle.annotate_snippets.specs.declared.renderer.Renderer.{Renderer}
+use Rattle.annotate_snippets.proofs.AsSetLemmas.{unset-shows}
 use Rattle.annotate_snippets.proofs.NotShown.{labelled_span}
 use Rattle.annotate_snippets.proofs.SmallReports.{error_title, group, hidden_title, nameless, note, snippet, title_alone}
 
@@ -34,7 +35,7 @@ speaking = record plain_settings { no_graphics = true }
 text_form_empty : (v : Vec Element Global) → ShowsReport speaking (title_alone v) plain_sheet [] → ⊥
 unfolding heading_form norm chars lib.Utf8.encode
 text_form_empty v shown =
-    let right : [] ≡ codes "error: e" = shown.are.0 in
+    let right : [] ≡ codes "error: e" = (unset-shows _ _ _ _ shown refl).are.0 in
     cc
 
 -- a message below a title left out, here ` note: m`:
@@ -45,7 +46,7 @@ messages_left_out : (v : Vec Element Global)
     → ⊥
 unfolding heading_form norm chars lib.Utf8.encode
 messages_left_out v shown =
-    let right : codes "error: e" ≡ codes "error: e" ++ 10 ∷ codes " note: m" = shown.are.0 in
+    let right : codes "error: e" ≡ codes "error: e" ++ 10 ∷ codes " note: m" = (unset-shows _ _ _ _ shown refl).are.0 in
     absurd (omega (arith, ap length right))
 
 -- a report of the source `ab` in the file of this path, of which a span with this label covers `a`
@@ -67,7 +68,7 @@ labelled_is v w = refl
 text_form_without_labels : (v : Vec Element Global) (w : Vec Annotation Global)
     → ShowsReport speaking (labelled v w (codes "f") (codes "x")) plain_sheet (codes "error: e\n at f:1:1") → ⊥
 text_form_without_labels v w shown =
-    let right : codes "error: e\n at f:1:1" ≡ codes "error: e\n at f:1:1: x" = shown.are.0 ∙ labelled_is v w in
+    let right : codes "error: e\n at f:1:1" ≡ codes "error: e\n at f:1:1: x" = (unset-shows _ _ _ _ shown refl).are.0 ∙ labelled_is v w in
     absurd (omega (arith, ap length right))
 
 -- ---- texts that are written as they are given, here U+001B, which is shown as U+241B
@@ -80,7 +81,8 @@ id_drawn_raw : (v : Vec Element Global)
     (omega arith) ∷ []) plain_sheet (codes "error " ++ 27 ∷ codes ": e") → ⊥
 unfolding heading_form norm chars lib.Utf8.encode
 id_drawn_raw v shown =
-    let right : codes "error " ++ 27 ∷ codes ": e" ≡ codes "error " ++ (encode_utf8_all (0x241B ∷ []) ++ codes ": e") = shown.are.0 in
+    let right : codes "error " ++ 27 ∷ codes ": e" ≡ codes "error " ++ (encode_utf8_all (0x241B ∷ []) ++ codes ": e") =
+    (unset-shows _ _ _ _ shown refl).are.0 in
     let byte : ◌≡◌ {A = ℕ} 27 0xE2 = ap (λ (bs : List ℕ). slice_index_or bs 6 0) right in
     absurd (omega (arith, byte))
 
@@ -99,7 +101,7 @@ path_drawn_raw : (v : Vec Element Global) (w : Vec Annotation Global)
     → ShowsReport speaking (labelled v w (27 ∷ []) (codes "x")) plain_sheet (codes "error: e\n at " ++ 27 ∷ codes ":1:1: x") → ⊥
 unfolding lib.Utf8.encode
 path_drawn_raw v w shown =
-    let byte : ◌≡◌ {A = ℕ} 27 0xE2 = ap (λ (bs : List ℕ). slice_index_or bs 13 0) (shown.are.0 ∙ raw_path_is v w) in
+    let byte : ◌≡◌ {A = ℕ} 27 0xE2 = ap (λ (bs : List ℕ). slice_index_or bs 13 0) ((unset-shows _ _ _ _ shown refl).are.0 ∙ raw_path_is v w) in
     absurd (omega (arith, byte))
 
 -- a label:
@@ -116,7 +118,7 @@ label_drawn_raw : (v : Vec Element Global) (w : Vec Annotation Global)
     → ShowsReport speaking (labelled v w (codes "f") (27 ∷ [])) plain_sheet (codes "error: e\n at f:1:1: " ++ 27 ∷ []) → ⊥
 unfolding lib.Utf8.encode
 label_drawn_raw v w shown =
-    let byte : ◌≡◌ {A = ℕ} 27 0xE2 = ap (λ (bs : List ℕ). slice_index_or bs 20 0) (shown.are.0 ∙ raw_label_is v w) in
+    let byte : ◌≡◌ {A = ℕ} 27 0xE2 = ap (λ (bs : List ℕ). slice_index_or bs 20 0) ((unset-shows _ _ _ _ shown refl).are.0 ∙ raw_label_is v w) in
     absurd (omega (arith, byte))
 
 -- ---- codes
@@ -134,7 +136,7 @@ off = 27 ∷ codes "[0m"
 no_codes : (v : Vec Element Global) → ShowsReport speaking (nameless v) default_sheet (codes "e") → ⊥
 unfolding heading_form norm chars lib.Utf8.encode digits
 no_codes v shown =
-    let right : codes "e" ≡ bold ++ (codes "e" ++ off) = shown.are.0 in
+    let right : codes "e" ≡ bold ++ (codes "e" ++ off) = (unset-shows _ _ _ _ shown refl).are.0 in
     let byte : ◌≡◌ {A = ℕ} 101 27 = ap (λ (bs : List ℕ). slice_index_or bs 0 0) right in
     absurd (omega (arith, byte))
 
@@ -145,6 +147,6 @@ codes_counted_as_text : (v : Vec Element Global)
     → ⊥
 unfolding heading_form norm chars lib.Utf8.encode digits
 codes_counted_as_text v shown =
-    let right : bold ++ (off ++ 10 ∷ (bold ++ (codes "e" ++ off))) ≡ bold ++ (off ++ (bold ++ (codes "e" ++ off))) = shown.are.0 in
+    let right : bold ++ (off ++ 10 ∷ (bold ++ (codes "e" ++ off))) ≡ bold ++ (off ++ (bold ++ (codes "e" ++ off))) = (unset-shows _ _ _ _ shown refl).are.0 in
     let byte : ◌≡◌ {A = ℕ} 10 27 = ap (λ (bs : List ℕ). slice_index_or bs 8 0) right in
     absurd (omega (arith, byte))

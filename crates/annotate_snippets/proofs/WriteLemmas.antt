@@ -14,9 +14,7 @@ use Rattle.snippet_model.specs.declared.snippet.Group.{Group}
 use Rattle.snippet_style.specs.declared.role.LevelInner.{LevelInner}
 use Rattle.snippet_style.specs.declared.stylesheet.Stylesheet.{Stylesheet}
 use Rattle.annotate_snippets.specs.DrawnReport.{AreGridsOf, IsDrawnAs, IsPrintedAs}
-use Rattle.annotate_snippets.specs.Fault.{form_of}
-use Rattle.annotate_snippets.specs.FormLaws.{FormLaws, HasLaws, IsTextUnder, LawsIn}
-use Rattle.annotate_snippets.specs.Forms.{ShowsReport}
+use Rattle.annotate_snippets.specs.FormLaws.{FormLaws, IsTextUnder}
 use Rattle.annotate_snippets.specs.GraphicForm.{graphic_form}
 use Rattle.annotate_snippets.specs.Page.{ArePrinted, Page, PrintsGrids, PrintsPage}
 use Rattle.annotate_snippets.specs.PreparedReport.{IsGroupDrawable}
@@ -145,42 +143,6 @@ module _ (sheet : Stylesheet) where
 part_goes_on : (a b c : List ℕ) (k : ℕ) → k ≤ length b → take (length a + k) ((a ++ b) ++ c) ≡ a ++ take k b
 part_goes_on a b c k within =
     ap (take (length a + k)) (append_assoc a b c) ∙ take-append-add a (b ++ c) k ∙ ap (λ t. a ++ t) (take-append-le k b c within)
-
--- ---- a report that is written whole
-
--- what is written in the form that the renderer is set to shows the report
-pub written_whole : (r : Renderer) (groups : List Group) (form : Form) (old new : Option (List ℕ)) → form ≡ form_of r
-    → WritesText (IsTextIn form r groups) old new → WritesText (ShowsReport r groups r.stylesheet) old new
-written_whole r groups form old new is writes =
-    record {
-      text = writes.text;
-      is = subst (λ (f : Form). ShowsIn f r groups writes.text) is writes.is.shows;
-      appended = writes.appended;
-    }
-
--- it has the laws of that form
-pub laws_whole : (r : Renderer) (groups : List Group) (form : Form) (old new : Option (List ℕ)) → form ≡ form_of r
-    → WritesText (IsTextIn form r groups) old new → WritesText (HasLaws r groups r.stylesheet) old new
-laws_whole r groups form old new is writes =
-    record {
-      text = writes.text;
-      is = subst (λ (f : Form). LawsIn f r groups r.stylesheet writes.text) is writes.is.laws;
-      appended = writes.appended;
-    }
-
--- and what is written where it stops is a first part of such a text, or nothing
-pub written_part : {W : Type 0} (contents : W → Option (List ℕ)) (r : Renderer) (groups : List Group) (form : Form) (start now : W) → form ≡ form_of r
-    → (now ≡ start) ⊎ WritesPart (ShowsIn form r groups) (contents start) (contents now)
-    → (now ≡ start) ⊎ WritesPart (ShowsReport r groups r.stylesheet) (contents start) (contents now)
-written_part contents r groups form start now is stopped =
-    elim stopped [
-      | inl same ↦ inl same
-      | inr writes ↦ inr (record {
-        text = writes.text;
-        is = subst (λ (f : Form). ShowsIn f r groups writes.text) is writes.is;
-        part = writes.part;
-      })
-    ]
 
 -- ---- a report that is written a group at a time
 

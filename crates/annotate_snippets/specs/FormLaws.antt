@@ -24,10 +24,13 @@ use Rattle.snippet_titles.specs.Origin.{origin_text}
 use Rattle.snippet_titles.specs.ShortRows.{short_texts}
 use Rattle.snippet_titles.specs.ShownHeading.{IsFreeButText}
 use Rattle.annotate_snippets.specs.Around.{path_bytes}
+use Rattle.annotate_snippets.specs.AsSet.{IsAsSet}
 use Rattle.annotate_snippets.specs.Fault.{form_of}
+use Rattle.annotate_snippets.specs.Feeds.{HasOneLineTexts, page_lines, text_lines}
 use Rattle.annotate_snippets.specs.Forms.{links_in, plain_in, short_links, ShowsForm, TextsShown}
 use Rattle.annotate_snippets.specs.GraphicForm.{graphic_form}
 use Rattle.annotate_snippets.specs.Gutter.{numbered_source}
+use Rattle.annotate_snippets.specs.Page.{page_text}
 use Rattle.annotate_snippets.specs.PageLaws.{PageLaws}
 use Rattle.annotate_snippets.specs.RowsWithoutSource.{place_found}
 use Rattle.annotate_snippets.specs.ShortForm.{before_title, after_title, first_cause, short_form}
@@ -96,9 +99,15 @@ pub record IsTextUnder (form : Form) (r : Renderer) (groups : List Group) (sheet
   pub shows : ShowsForm form r groups (sheet ∷ []) (text ∷ [])
   pub laws : LawsIn form r groups sheet text
 
--- a text has the laws of the form that the renderer is set to
-abbrev pub HasLaws : Renderer → List Group → Stylesheet → List ℕ → Type 0
-HasLaws r groups sheet text = LawsIn (form_of r) r groups sheet text
+-- a text has the laws of the form that the renderer is set to, for the report that is shown in place of one. Where the renderer is set to
+-- show line feeds, no label, path, id and name of a level of that holds one; so in the graphic form the lines of its plain text are the rows
+-- of its page, whatever the report holds
+pub record HasLaws (r : Renderer) (groups : List Group) (sheet : Stylesheet) (text : List ℕ) : Type 0 where
+  pub shown : List Group
+  pub set : IsAsSet r groups shown
+  pub laws : LawsIn (form_of r) r shown sheet text
+  pub one_line : r.show_line_feeds ≡ true → HasOneLineTexts shown
+  pub lines : r.show_line_feeds ≡ true → form_of r ≡ Graphic → text_lines (page_text (graphic_form r shown)) ≡ page_lines (graphic_form r shown)
 
 -- texts show a report, one under each of these sheets, and each has its laws: what `render_sheets` says of them
 pub record TextsWithLaws (r : Renderer) (groups : List Group) (sheets : List Stylesheet) (texts : List (List ℕ)) : Type 0 where

@@ -7,6 +7,7 @@ use Rattle.snippet_grid.specs.Print.{plain_text}
 use Rattle.snippet_grid.specs.Woven.{IsWoven, Prints}
 use Rattle.snippet_style.specs.declared.stylesheet.Stylesheet.{Stylesheet}
 use Rattle.snippet_text_form.specs.Form.{form_bytes, form_text}
+use Rattle.annotate_snippets.specs.AsSet.{IsAsSet}
 use Rattle.annotate_snippets.specs.Fault.{form_of}
 use Rattle.annotate_snippets.specs.GraphicForm.{graphic_form}
 use Rattle.annotate_snippets.specs.Page.{page_text}
@@ -39,9 +40,11 @@ ShowsForm Graphic r groups sheets texts = SheetsShown r groups sheets texts
 ShowsForm Short r groups sheets texts = ShortShown r groups sheets texts
 ShowsForm Text r groups sheets texts = TextShown r groups sheets texts
 
--- the texts show a report in the form that the renderer is set to
-abbrev pub TextsShown : Renderer → List Group → List Stylesheet → List (List ℕ) → Type 0
-TextsShown r groups sheets texts = ShowsForm (form_of r) r groups sheets texts
+-- the texts show a report as the renderer is set: they show, in the form that it is set to, the report that is shown in place of it
+pub record TextsShown (r : Renderer) (groups : List Group) (sheets : List Stylesheet) (texts : List (List ℕ)) : Type 0 where
+  pub shown : List Group
+  pub set : IsAsSet r groups shown
+  pub shows : ShowsForm (form_of r) r shown sheets texts
 
 -- one text shows a report under its sheet
 abbrev pub ShowsReport : Renderer → List Group → Stylesheet → List ℕ → Type 0

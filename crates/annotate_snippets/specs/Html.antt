@@ -1,10 +1,11 @@
 -- A report as HTML: the page of its graphic form, characters and tags; and what follows of it for who reads it.
 use Rattle.std.specs.Prelude.{◌≡◌, ℕ, List, [], ◌∷◌, ◌++◌, None, encode_utf8_all, Bool, if◌then◌else◌}
 use Rattle.std.specs.List.{flat_map}
-use Rattle.snippet_grid.specs.Html.{AddsHtml, HtmlPiece, Text, plain_look, rows_html}
+use Rattle.snippet_grid.specs.Html.{AddsHtml, HtmlPiece, Text, html_bytes, plain_look, rows_html}
 use Rattle.snippet_grid.specs.HtmlRead.{ReadChar, chars_of_rows, chars_read, feed_read, html_says, piece_tag, tags_of}
 use Rattle.snippet_model.specs.declared.snippet.Group.{Group}
 use Rattle.snippet_style.specs.declared.role.LevelInner.{LevelInner}
+use Rattle.annotate_snippets.specs.AsSet.{IsAsSet}
 use Rattle.annotate_snippets.specs.GraphicForm.{graphic_form}
 use Rattle.annotate_snippets.specs.Page.{Page, group_rows, page_text}
 use Rattle.annotate_snippets.specs.ShownPage.{levels_of}
@@ -50,6 +51,18 @@ pub record HtmlLaws (r : Renderer) (groups : List Group) (text : List ℕ) : Typ
   pub tags : tags_of None html ≡ flat_map piece_tag (report_html r groups)
   -- each character stands in the class of its cell's role and in the link of its cell
   pub stands : chars_read plain_look (report_html r groups) ≡ page_chars (levels_of groups) (graphic_form r groups)
+
+-- a text is a report as HTML, as the renderer is set: it is that of the report that is shown in place of it
+pub record IsReportHtml (r : Renderer) (groups : List Group) (text : List ℕ) : Type 0 where
+  pub shown : List Group
+  pub set : IsAsSet r groups shown
+  pub is : text ≡ html_bytes (report_html r shown)
+
+-- and it has the laws of that
+pub record HasHtmlLaws (r : Renderer) (groups : List Group) (text : List ℕ) : Type 0 where
+  pub shown : List Group
+  pub set : IsAsSet r groups shown
+  pub laws : HtmlLaws r shown text
 
 -- ---- what is drawn so far
 

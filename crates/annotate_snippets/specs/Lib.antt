@@ -1,4 +1,5 @@
 pub mod Around
+pub mod AsSet
 pub mod DrawnReport
 pub mod Fault
 pub mod Feeds

@@ -16,6 +16,7 @@ plain_settings =
       hyperlink = false;
       short_message = false;
       no_graphics = false;
+      show_line_feeds = false;
     }
 
 -- the plain settings with the default sheet's codes in place of none, and with links

@@ -1,5 +1,5 @@
 //! The settings that reports are drawn with.
-ghost use Rattle.std.specs.Prelude.{◌≡◌, [], ◌∷◌, Err, IfSome, IfOk, IsOkUnless, alloc_error, map, string_bytes};
+ghost use Rattle.std.specs.Prelude.{◌≡◌, [], ◌∷◌, Err, IfSome, IfOk, IsOkUnless, alloc_error, map, string_bytes, true};
 
 mod cause;
 mod drawn;
@@ -34,6 +34,9 @@ use html::page_html;
 pub use html_stylesheet::HTML_STYLESHEET;
 use page::text_in_form;
 pub use snippet_model::MessageOrTitle;
+use snippet_model::report_fits;
+use snippet_model::snippet::Group;
+use snippet_settings::groups_as_set;
 pub use snippet_style::{
     DEFAULT_ADDITION_STYLE, DEFAULT_CONTEXT_STYLE, DEFAULT_EMPHASIS_STYLE, DEFAULT_ERROR_STYLE,
     DEFAULT_HELP_STYLE, DEFAULT_INFO_STYLE, DEFAULT_LINE_NUM_STYLE, DEFAULT_NONE_STYLE,
@@ -66,6 +69,8 @@ pub struct Renderer {
     pub short_message: bool,
     /// Whether a report is written without graphics, for speech and Braille.
     pub no_graphics: bool,
+    /// Whether line feeds of labels, paths, identifiers and level names are shown, as `␊`.
+    pub show_line_feeds: bool,
 }
 
 impl Renderer {
@@ -73,11 +78,12 @@ impl Renderer {
     ghost use Rattle.annotate_snippets.specs.Fault as spec;
     ghost use Rattle.annotate_snippets.specs.Fault.{IsWithinBounds};
     ghost use Rattle.annotate_snippets.specs.Settings.{plain_settings, styled_settings};
-    ghost use Rattle.annotate_snippets.specs.FormLaws.{FormLaws, HasLaws, IsTextUnder};
-    ghost use Rattle.annotate_snippets.specs.Forms.{AreFree, ShowsReport, TextsShown, links_in};
+    ghost use Rattle.annotate_snippets.specs.AsSet.{IsAsSet};
+    ghost use Rattle.annotate_snippets.specs.FormLaws.{FormLaws, HasLaws, IsTextUnder, LawsIn};
+    ghost use Rattle.annotate_snippets.specs.Forms.{AreFree, ShowsForm, ShowsReport, TextsShown, links_in};
     ghost use Rattle.std.specs.List.{AllZip};
     ghost use Rattle.annotate_snippets.specs.DrawnReport.{IsDrawnAs};
-    ghost use Rattle.annotate_snippets.specs.Html.{HtmlLaws, report_html};
+    ghost use Rattle.annotate_snippets.specs.Html.{HasHtmlLaws, IsReportHtml, report_html};
     ghost use Rattle.annotate_snippets.specs.declared.renderer.form.Form.TheVariants as form;
     ghost use Rattle.snippet_grid.specs.Html.{html_bytes};
     ghost use Rattle.snippet_model.specs.Trusted.{trusted_texts};
@@ -96,6 +102,7 @@ impl Renderer {
             hyperlink: false,
             short_message: false,
             no_graphics: false,
+            show_line_feeds: false,
         }
     }
 
@@ -264,6 +271,23 @@ impl Renderer {
         self
     }
 
+    /// Whether line feeds of labels, paths, identifiers and level names are shown, as `␊`, U+240A, so that no such text
+    /// can begin a line of the report. In the graphic form each row is then one line of the text.
+    ///
+    /// ```text
+    /// 1 | let x = 1;
+    ///   |     ^ here␊2 | let y = 666;
+    /// ```
+    ///
+    /// They are drawn as they are unless this says otherwise. Nothing changes in sources, in patches, and in the texts
+    /// of titles and messages, each line of which has a row.
+    pub fn show_line_feeds(mut self, show_line_feeds: bool) -> Renderer
+        ensures changed { result ≡ record self { show_line_feeds = show_line_feeds } }
+    {
+        self.show_line_feeds = show_line_feeds;
+        self
+    }
+
     /// The text of a report, under the renderer's own sheet.
     ///
     /// # Errors
@@ -293,7 +317,11 @@ impl Renderer {
             (links_in (spec.form_of self.now) self.now groups.now) (self.now.stylesheet ∷ [])
             (string_bytes text ∷ [])) }
     {
-        self.text_in(alloc, groups, &self.stylesheet)
+        if !self.show_line_feeds {
+            return self.text_in(alloc, groups, &self.stylesheet);
+        }
+        let shown = self.report_shown(alloc, groups)?;
+        self.text_in(alloc, &shown, &self.stylesheet)
     }
 
     /// The page of a report's graphic form as HTML, for `<pre>`: its rows, joined by line feeds. `short_message`,
@@ -324,12 +352,33 @@ impl Renderer {
         ensures renders { spec.refusal_in form.Graphic groups.now ≡ None
             → IsOkUnless result (RenderError.Memory alloc_error) }
 
-        // The text is the page of the graphic form as HTML.
-        ensures html { IfOk result (λ text. string_bytes text ≡ html_bytes (report_html self.now groups.now)) }
+        // The text is the page of the graphic form as HTML, of the report that is shown in place of the one given.
+        ensures html { IfOk result (λ text. IsReportHtml self.now groups.now (string_bytes text)) }
 
         // What follows for who reads it: read as HTML it is the page's plain text, its tags are its own, and each
         // character stands in the class of its role and in the link of its cell.
-        ensures laws { IfOk result (λ text. HtmlLaws self.now groups.now (string_bytes text)) }
+        ensures laws { IfOk result (λ text. HasHtmlLaws self.now groups.now (string_bytes text)) }
+    {
+        if !self.show_line_feeds {
+            return self.html_of_given(alloc, groups);
+        }
+        if let Some(refusal) = first_refusal(Form::Graphic, groups) {
+            return Err(refusal);
+        }
+        let shown = groups_as_set(alloc, true, groups)?;
+        if !report_fits(&shown) {
+            return Err(RenderError::Memory(AllocError));
+        }
+        self.html_of_given(alloc, &shown)
+    }
+
+    /// The page of a report's graphic form as HTML, drawn as it is given.
+    fn html_of_given(&self, alloc: Global, groups: Report<'_>) -> Result<String, RenderError>
+        requires fits { ReportFits groups.now }
+        ensures refused { IfSome (spec.refusal_in form.Graphic groups.now) (λ refusal. result ≡ Err refusal) }
+        ensures renders { spec.refusal_in form.Graphic groups.now ≡ None
+            → IsOkUnless result (RenderError.Memory alloc_error) }
+        ensures html { IfOk result (λ text. string_bytes text ≡ html_bytes (report_html self.now groups.now)) }
     {
         if let Some(refusal) = first_refusal(Form::Graphic, groups) {
             return Err(refusal);
@@ -343,7 +392,7 @@ impl Renderer {
     /// # Errors
     ///
     /// As of [`render`](Renderer::render). With no sheets the report is looked through as ever, but not drawn, and no
-    /// memory is taken.
+    /// memory is taken, unless line feeds are to be shown.
     pub fn render_sheets(
         &self,
         alloc: Global,
@@ -371,6 +420,52 @@ impl Renderer {
         // the plain text is one of a trusted text. It follows from `laws`, in fewer words.
         ensures free { IfOk result (λ texts. AreFree (trusted_texts groups.now)
             (links_in (spec.form_of self.now) self.now groups.now) sheets.now (map string_bytes texts.items)) }
+    {
+        if !self.show_line_feeds {
+            return self.texts_in(alloc, groups, sheets);
+        }
+        let shown = self.report_shown(alloc, groups)?;
+        self.texts_in(alloc, &shown, sheets)
+    }
+
+    /// The report that is shown in place of one that isn't refused: with its line feeds shown. Where a text of it no
+    /// longer fits, there is no memory for it.
+    pub(crate) fn report_shown<'a>(
+        &self,
+        alloc: Global,
+        groups: Report<'a>,
+    ) -> Result<Vec<Group<'a>>, RenderError>
+        requires asked { self.now.show_line_feeds ≡ true }
+        ensures refused { IfSome (spec.first_refusal self.now groups.now) (λ refusal. result ≡ Err refusal) }
+        ensures renders { IsWithinBounds self.now groups.now → IsOkUnless result (RenderError.Memory alloc_error) }
+        ensures set { IfOk result (λ shown. IsAsSet self.now groups.now shown.items) }
+        ensures fits { IfOk result (λ shown. ReportFits shown.items) }
+    {
+        if let Some(refusal) = first_refusal(form_of(self), groups) {
+            return Err(refusal);
+        }
+        let shown = groups_as_set(alloc, self.show_line_feeds, groups)?;
+        if report_fits(&shown) {
+            Ok(shown)
+        } else {
+            Err(RenderError::Memory(AllocError))
+        }
+    }
+
+    /// The texts of a report under some sheets, drawn as it is given.
+    fn texts_in(
+        &self,
+        alloc: Global,
+        groups: Report<'_>,
+        sheets: &[Stylesheet],
+    ) -> Result<Vec<String>, RenderError>
+        requires fits { ReportFits groups.now }
+        ensures refused { IfSome (spec.first_refusal self.now groups.now) (λ refusal. result ≡ Err refusal) }
+        ensures renders { IsWithinBounds self.now groups.now → IsOkUnless result (RenderError.Memory alloc_error) }
+        ensures shows { IfOk result (λ texts.
+            ShowsForm (spec.form_of self.now) self.now groups.now sheets.now (map string_bytes texts.items)) }
+        ensures laws { IfOk result (λ texts.
+            AllZip (LawsIn (spec.form_of self.now) self.now groups.now) sheets.now (map string_bytes texts.items)) }
     {
         if sheets.is_empty() {
             return self.no_texts(alloc, groups);

@@ -19,6 +19,7 @@ use Rattle.annotate_snippets.specs.Around.{drawn_elements, file_of_group}
 use Rattle.annotate_snippets.specs.Settings.{plain_settings}
 use Rattle.annotate_snippets.specs.TextForm.{elements_form, group_form, text_form}
 use Rattle.annotate_snippets.specs.declared.renderer.Renderer.{Renderer}
+use Rattle.annotate_snippets.proofs.AsSetLemmas.{unset-shows}
 use Rattle.redraw_command.specs.Workflow.{command}
 use Rattle.redraw_command.specs.declared.choice.Choice.{Choice}
 use Rattle.redraw_command.specs.declared.choice.Form.TheVariants.{Report}
@@ -119,7 +120,8 @@ pub nothing_drawn : (files : List File) (d : Diagnostic) → d.severity ≡ Erro
 nothing_drawn files d error shown =
     let f : Finding = shown.finding in
     let (first, rest, split, titled) = begins_titled (headed_of f) (section_of (headed_of f) (marked_parts f.marks.items)) f.remarks.items refl in
-    by_groups f shown.groups first rest (shown.told ∙ split) titled (shown.is.severity ∙ error) shown.shows.are.0
+    by_groups f shown.groups first rest (shown.told ∙ split) titled (shown.is.severity ∙ error)
+    (unset-shows _ _ _ _ shown.shows refl).are.0
 
 -- ---- another command
 

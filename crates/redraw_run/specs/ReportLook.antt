@@ -1,5 +1,5 @@
 -- How reports look.
-use Rattle.std.specs.Prelude.{◌&&◌}
+use Rattle.std.specs.Prelude.{◌&&◌, true}
 use Rattle.std.specs.Option.{option_or}
 use Rattle.annotate_snippets.specs.declared.renderer.Renderer.{Renderer}
 use Rattle.redraw_command.specs.Look.{has_colors, has_links}
@@ -19,6 +19,7 @@ shared_options look around =
       width = option_or look.width around.columns;
     }
 
--- the settings of reports: those of these options, and links where codes are written and links are asked for
+-- the settings of reports: those of these options, links where codes are written and links are asked for, and line feeds shown
 abbrev pub looks : Look → Surroundings → Renderer
-looks look around = record (settings_of (shared_options look around)) { hyperlink = has_colors look around && has_links look }
+looks look around =
+    record (settings_of (shared_options look around)) { hyperlink = has_colors look around && has_links look; show_line_feeds = true }

@@ -18,5 +18,7 @@ pub fn renderer_for(look: &Look, around: Surroundings<'_>) -> Renderer
         styled: has_colors,
         width: look.width.or(around.columns),
     };
-    renderer_of(options).hyperlink(has_colors && look.has_links())
+    renderer_of(options)
+        .hyperlink(has_colors && look.has_links())
+        .show_line_feeds(true)
 }

@@ -27,6 +27,7 @@ pub record HasSettingsOf (d : Data) (renderer : Renderer) : Type 0 where
   pub snippet : given_or as_bool false (codes "anonymized_snippet") d ≡ Some renderer.anonymized_snippet_line_numbers
   pub origin : given_or as_bool false (codes "anonymized_origin") d ≡ Some renderer.anonymized_origin_line_numbers
   pub hyperlink : given_or as_bool false (codes "hyperlink") d ≡ Some renderer.hyperlink
+  pub show_line_feeds : given_or as_bool false (codes "show_line_feeds") d ≡ Some renderer.show_line_feeds
   pub stylesheet : renderer.stylesheet ≡ plain_settings.stylesheet
 
 -- the same where the settings may be missing: then it is the plain one

@@ -80,6 +80,7 @@ fn settings_of(node: &Node<'_, '_>) -> Result<Renderer, Fault>
     let (anonymized_snippet, anonymized_origin) = anonymized_by(node)?;
     let term_width = node.number_or("term_width", DEFAULT_TERM_WIDTH)?;
     let unicode = node.flag_or("unicode", false)?;
+    let show_line_feeds = node.flag_or("show_line_feeds", false)?;
     Ok(Renderer {
         no_graphics,
         short_message,
@@ -88,6 +89,7 @@ fn settings_of(node: &Node<'_, '_>) -> Result<Renderer, Fault>
         anonymized_snippet_line_numbers: anonymized_snippet,
         anonymized_origin_line_numbers: anonymized_origin,
         hyperlink,
+        show_line_feeds,
         stylesheet: Stylesheet::plain(),
     })
 }

@@ -18,6 +18,7 @@ const SETTINGS: &[&str] = &[
     "anonymized_snippet",
     "anonymized_origin",
     "hyperlink",
+    "show_line_feeds",
 ];
 
 /// The fields of a sheet.

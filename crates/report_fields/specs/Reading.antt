@@ -87,6 +87,7 @@ after_settings bytes = do
   rest ← after_kind 2 rest
   rest ← after_flag rest
   rest ← after_flag rest
+  rest ← after_flag rest
   after_flag rest
 
 -- one byte of a colour

@@ -26,6 +26,8 @@ pub struct Settings {
     pub short_message: bool,
     /// Whether a report is written without graphics, for speech and Braille.
     pub no_graphics: bool,
+    /// Whether line feeds of labels, paths, identifiers and level names are shown, as `␊`.
+    pub show_line_feeds: bool,
 }
 
 /// The settings at the front.
@@ -41,6 +43,7 @@ pub fn settings_at(bytes: &[u8]) -> Result<(Settings, &[u8]), ReadError>
     let (hyperlink, rest) = flag(rest)?;
     let (short_message, rest) = flag(rest)?;
     let (no_graphics, rest) = flag(rest)?;
+    let (show_line_feeds, rest) = flag(rest)?;
     let settings = Settings {
         anonymized_origin_line_numbers,
         anonymized_snippet_line_numbers,
@@ -49,6 +52,7 @@ pub fn settings_at(bytes: &[u8]) -> Result<(Settings, &[u8]), ReadError>
         hyperlink,
         short_message,
         no_graphics,
+        show_line_feeds,
     };
     Ok((settings, rest))
 }

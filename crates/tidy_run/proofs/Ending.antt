@@ -39,7 +39,7 @@ none_told : (path source : List ℕ) (told : List Told) (log : Option Word) (tex
     → texts ≡ [] → told ≡ []
 none_told path source [] log texts are none = refl
 none_told path source (t ∷ ts) log texts are none =
-    absurd (sheets_some log (sym (AllZip-long _ (sheets_for log) texts are.shows.printed) ∙ ap length none))
+    absurd (sheets_some log (sym (AllZip-long _ (sheets_for log) texts are.shows.shows.printed) ∙ ap length none))
 
 pub clean_of_texts : (line : Line) (file : Option (List ℕ)) (tells : List ℕ → List Told) (texts : List (List ℕ)) → IsSomeAnd file (Reads line file)
     → IfSome file (λ source. AreTextsOf line.file source (tells source) (sheets_for line.log) texts) → texts ≡ []

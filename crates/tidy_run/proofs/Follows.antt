@@ -25,7 +25,7 @@ in_file (Some bytes) source is holds =
 as_many : (line : Line) (file : Option (List ℕ)) (tells : List ℕ → List Told) (shown : List ℕ) (logged : Option (List ℕ))
     → IsReport line file tells shown logged
     → length (sheets_for line.log) ≡ length (shown ∷ option_to_list logged)
-as_many line file tells shown logged report = sym (AllZip-long _ (sheets_for line.log) (shown ∷ option_to_list logged) report.shows.shows.printed)
+as_many line file tells shown logged report = sym (AllZip-long _ (sheets_for line.log) (shown ∷ option_to_list logged) report.shows.shows.shows.printed)
 
 given : (log : Option Word) (Printed : List ℕ → Type 0) (Log : Output → Type 0) (shown : List ℕ) (logged : Option (List ℕ))
     → length (sheets_for log) ≡ length (shown ∷ option_to_list logged)

@@ -60,7 +60,7 @@ module _ (file : Option (List ℕ)) (tells : List ℕ → List Told) (line : Lin
   unlogged_at Clean may is out log = out
   unlogged_at (Found shown logged) may is out log = cc
   unlogged_at (Unprinted shown None) may is out log =
-      absurd (two_texts line.log shown named (sym (AllZip-long _ (sheets_for line.log) (shown ∷ []) may.shows.shows.printed)))
+      absurd (two_texts line.log shown named (sym (AllZip-long _ (sheets_for line.log) (shown ∷ []) may.shows.shows.shows.printed)))
   unlogged_at (Unprinted shown (Some plain)) may is out log = absurd (line_added plain log)
   unlogged_at (Unlogged shown plain failure) may is out log = out
   unlogged_at (Failed failure) may is out log = out

@@ -21,7 +21,7 @@ use Rattle.tidy_run.specs.Run.{AreTextsOf, ShowsTold}
 counted : (path source : List ℕ) (told : List Told) (sheets : List Stylesheet) (texts : List (List ℕ)) → AreTextsOf path source told sheets texts
     → (texts ≡ []) ⊎ (length texts ≡ length sheets)
 counted path source [] sheets texts none = inl none
-counted path source (t ∷ ts) sheets texts shown = inr (AllZip-long _ sheets texts shown.shows.printed)
+counted path source (t ∷ ts) sheets texts shown = inr (AllZip-long _ sheets texts shown.shows.shows.printed)
 
 -- so it is of the texts of a file that was read
 pub counted_texts : (P : List ℕ → Type 0) (file : Option (List ℕ)) (path : List ℕ) (told : List ℕ → List Told) (sheets : List Stylesheet)

@@ -32,6 +32,7 @@ renderer_of s =
       hyperlink = s.hyperlink;
       short_message = s.short_message;
       no_graphics = s.no_graphics;
+      show_line_feeds = s.show_line_feeds;
     }
 
 -- a refusal as an answer; that there was no memory is no refusal

@@ -79,5 +79,6 @@ fn renderer(settings: &Settings) -> Renderer
         hyperlink: settings.hyperlink,
         short_message: settings.short_message,
         no_graphics: settings.no_graphics,
+        show_line_feeds: settings.show_line_feeds,
     }
 }

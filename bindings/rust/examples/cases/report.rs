@@ -19,6 +19,7 @@ pub fn renderer(case: &Json) -> Renderer {
         .anonymized_snippet_line_numbers(s.flag("anonymized_snippet", false))
         .anonymized_origin_line_numbers(s.flag("anonymized_origin", false))
         .hyperlink(s.flag("hyperlink", false))
+        .show_line_feeds(s.flag("show_line_feeds", false))
 }
 
 /// The sheets of a case: the plain one where none is named.

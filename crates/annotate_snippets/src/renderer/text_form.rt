@@ -158,7 +158,9 @@ fn first_two_share(elements: &[DrawnElement<'_>]) -> bool
 {
     match elements {
         [first, second, ..] => match (first.element, second.element) {
-            (Element::Suggestion(first), Element::Suggestion(second)) => is_for_same_file(first, second),
+            (Element::Suggestion(first), Element::Suggestion(second)) => is_for_same_file(
+                first, second,
+            ),
             _ => false,
         },
         _ => false,

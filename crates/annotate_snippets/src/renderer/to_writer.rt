@@ -121,12 +121,36 @@ impl Renderer {
             ⊎ WritesPart (ShowsReport self.now groups.now self.now.stylesheet)
             (W.contents out.old) (W.contents out.new)) }
     {
-        let form = form_of(self);
-        if let Some(refusal) = first_refusal(form, groups) {
-            return Err(RenderToError::Refused(refusal));
+        if !self.show_line_feeds {
+            return write_given(alloc, self, groups, out);
         }
-        write_form(alloc, self, form, groups, out)
+        let shown = self.report_shown(alloc, groups)?;
+        write_given(alloc, self, &shown, out)
     }
+}
+
+/// Writes the text of a report, drawn as it is given, in the form that the renderer is set to.
+fn write_given<W: Write>(
+    alloc: Global,
+    renderer: &Renderer,
+    groups: Report<'_>,
+    out: &mut W,
+) -> Result<(), RenderToError>
+    requires fits { ReportFits groups.now }
+    ensures refused { IfSome (spec.first_refusal renderer.now groups.now)
+        (λ refusal. (result ≡ Err (RenderToError.Refused refusal)) × (out.new ≡ out.old)) }
+    ensures renders { IsWithinBounds renderer.now groups.now → IfErr result IsStop }
+    ensures whole { OnOk result (WritesText (IsTextIn (spec.form_of renderer.now) renderer.now groups.now)
+        (W.contents out.old) (W.contents out.new)) }
+    ensures part { OnErr result ((out.new ≡ out.old)
+        ⊎ WritesPart (ShowsIn (spec.form_of renderer.now) renderer.now groups.now)
+        (W.contents out.old) (W.contents out.new)) }
+{
+    let form = form_of(renderer);
+    if let Some(refusal) = first_refusal(form, groups) {
+        return Err(RenderToError::Refused(refusal));
+    }
+    write_form(alloc, renderer, form, groups, out)
 }
 
 /// Writes the text of a report in a form.

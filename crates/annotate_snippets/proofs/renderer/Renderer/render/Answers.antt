@@ -1,37 +1,69 @@
-use Rattle.std.proofs.Common.{[], ◌∷◌, List, string_bytes}
-use Rattle.std.proofs.lemmas.Result.{IfOk-weaker}
-use Rattle.snippet_model.specs.Trusted.{trusted_texts}
+use Rattle.std.proofs.Common.{◌≡◌, Err, List, false, rules, subst, sym}
+use Rattle.snippet_model.specs.Fits.{ReportFits}
 use Rattle.snippet_model.specs.declared.snippet.Group.{Group}
-use Rattle.snippet_style.specs.declared.stylesheet.Stylesheet.{Stylesheet}
-use Rattle.annotate_snippets.specs.Fault.{form_of}
-use Rattle.annotate_snippets.specs.FormLaws.{HasLaws, IsTextUnder}
-use Rattle.annotate_snippets.specs.Forms.{AreFree, ShowsReport, links_in}
-use Rattle.annotate_snippets.proofs.FormsShown.{are-free}
+use Rattle.annotate_snippets.specs.AsSet.{IsAsSet}
+use Rattle.annotate_snippets.proofs.AsSetFaults.{bounds-set}
+use Rattle.annotate_snippets.proofs.AsSetLemmas.{answer-free, answer-laws, answer-shows, set-refused, unset}
 use Rattle.annotate_snippets.proofs.renderer.Renderer.render.Goals as goal
+
+pub returns-then-not-self-clause-shows : goal.returns-then-not-self-clause-shows
+returns-then-not-self-clause-shows c =
+    let r = c.args.self.now in
+    let groups : List Group = c.args.groups.now in
+    let off : r.show_line_feeds ≡ false = search rules in
+    answer-shows r groups groups (unset r groups off) c.text_in.result c.text_in.ensures.text
+
+pub returns-then-not-self-clause-laws : goal.returns-then-not-self-clause-laws
+returns-then-not-self-clause-laws c =
+    let r = c.args.self.now in
+    let groups : List Group = c.args.groups.now in
+    let off : r.show_line_feeds ≡ false = search rules in
+    answer-laws r groups groups (unset r groups off) c.text_in.result c.text_in.ensures.text
+
+pub returns-then-not-self-clause-free : goal.returns-then-not-self-clause-free
+returns-then-not-self-clause-free c =
+    let r = c.args.self.now in
+    let groups : List Group = c.args.groups.now in
+    let off : r.show_line_feeds ≡ false = search rules in
+    answer-free r groups groups (unset r groups off) c.text_in.result c.text_in.ensures.text
 
 pub returns-clause-shows : goal.returns-clause-shows
 returns-clause-shows c =
     let r = c.args.self.now in
     let groups : List Group = c.args.groups.now in
-    let sheet : Stylesheet = r.stylesheet in
-    IfOk-weaker c.text_in.result (λ text. IsTextUnder (form_of r) r groups sheet (string_bytes text))
-    (λ text. ShowsReport r groups sheet (string_bytes text))
-    (λ text is. is.shows) c.text_in.ensures.text
+    let shown : List Group = c.deref.result.now in
+    let set : IsAsSet r groups shown = subst (λ (gs : List Group). IsAsSet r groups gs) (sym c.deref.ensures.value) c.in_ok-shown.ensures.set in
+    answer-shows r groups shown set c.text_in-2.result c.text_in-2.ensures.text
 
 pub returns-clause-laws : goal.returns-clause-laws
 returns-clause-laws c =
     let r = c.args.self.now in
     let groups : List Group = c.args.groups.now in
-    let sheet : Stylesheet = r.stylesheet in
-    IfOk-weaker c.text_in.result (λ text. IsTextUnder (form_of r) r groups sheet (string_bytes text))
-    (λ text. HasLaws r groups sheet (string_bytes text))
-    (λ text is. is.laws) c.text_in.ensures.text
+    let shown : List Group = c.deref.result.now in
+    let set : IsAsSet r groups shown = subst (λ (gs : List Group). IsAsSet r groups gs) (sym c.deref.ensures.value) c.in_ok-shown.ensures.set in
+    answer-laws r groups shown set c.text_in-2.result c.text_in-2.ensures.text
 
 pub returns-clause-free : goal.returns-clause-free
 returns-clause-free c =
     let r = c.args.self.now in
     let groups : List Group = c.args.groups.now in
-    let sheet : Stylesheet = r.stylesheet in
-    IfOk-weaker c.text_in.result (λ text. HasLaws r groups sheet (string_bytes text))
-    (λ text. AreFree (trusted_texts groups) (links_in (form_of r) r groups) (sheet ∷ []) (string_bytes text ∷ []))
-    (λ text laws. are-free r groups (form_of r) (sheet ∷ []) (string_bytes text ∷ []) (laws, tt)) (returns-clause-laws c)
+    let shown : List Group = c.deref.result.now in
+    let set : IsAsSet r groups shown = subst (λ (gs : List Group). IsAsSet r groups gs) (sym c.deref.ensures.value) c.in_ok-shown.ensures.set in
+    answer-free r groups shown set c.text_in-2.result c.text_in-2.ensures.text
+
+pub returns-clause-refused : goal.returns-clause-refused
+returns-clause-refused c =
+    let r = c.args.self.now in
+    let groups : List Group = c.args.groups.now in
+    let shown : List Group = c.deref.result.now in
+    let set : IsAsSet r groups shown = subst (λ (gs : List Group). IsAsSet r groups gs) (sym c.deref.ensures.value) c.in_ok-shown.ensures.set in
+    set-refused r groups shown set (λ refusal. c.text_in-2.result ≡ Err refusal) c.text_in-2.ensures.refused
+
+pub returns-clause-renders : goal.returns-clause-renders
+returns-clause-renders c within =
+    let r = c.args.self.now in
+    let groups : List Group = c.args.groups.now in
+    let shown : List Group = c.deref.result.now in
+    let set : IsAsSet r groups shown = subst (λ (gs : List Group). IsAsSet r groups gs) (sym c.deref.ensures.value) c.in_ok-shown.ensures.set in
+    let fits : ReportFits shown = subst ReportFits (sym c.deref.ensures.value) c.in_ok-shown.ensures.fits in
+    c.text_in-2.ensures.renders (bounds-set r groups shown set fits within)

@@ -1,103 +1,69 @@
-use Rattle.std.proofs.Common.{◌≡◌, IfOk, arith, length, List, map, string_bytes, subst}
-use Rattle.std.specs.List.{AllZip}
-use Rattle.std.proofs.lemmas.Result.{IfOk-weaker}
-use Rattle.snippet_model.specs.Trusted.{trusted_texts}
+use Rattle.std.proofs.Common.{◌≡◌, Err, List, false, rules, subst, sym}
+use Rattle.snippet_model.specs.Fits.{ReportFits}
 use Rattle.snippet_model.specs.declared.snippet.Group.{Group}
-use Rattle.snippet_style.specs.declared.stylesheet.Stylesheet.{Stylesheet}
-use Rattle.annotate_snippets.specs.DrawnReport.{IsPrintedAs}
-use Rattle.annotate_snippets.specs.Fault.{form_of}
-use Rattle.annotate_snippets.specs.FormLaws.{HasLaws, IsTextUnder}
-use Rattle.annotate_snippets.specs.Forms.{AreFree, TextsShown, links_in}
-use Rattle.annotate_snippets.specs.declared.renderer.drawn.Drawn.{Drawn}
-use Rattle.annotate_snippets.proofs.FormsShown.{are-free, laws-hold, none-laws, none-shown, one_sheet, one_shown, texts-shown}
-use Rattle.annotate_snippets.proofs.PrintLemmas.{AllZip-weaker}
-use Rattle.annotate_snippets.proofs.ReportLemmas.{IfOk-map_err, drawable-from_ok}
+use Rattle.annotate_snippets.specs.AsSet.{IsAsSet}
+use Rattle.annotate_snippets.proofs.AsSetFaults.{bounds-set}
+use Rattle.annotate_snippets.proofs.AsSetLemmas.{answers-free, answers-laws, answers-show, set-refused, unset}
 use Rattle.annotate_snippets.proofs.renderer.Renderer.render_sheets.Goals as goal
 
-pub returns-then-is_empty-clause-shows : goal.returns-then-is_empty-clause-shows
-returns-then-is_empty-clause-shows c =
-    let none : length c.args.sheets.now ≡ 0 = grind arith in
-    none-shown c.args.self.now c.args.groups.now c.args.sheets.now c.no_texts.result none c.no_texts.ensures.none c.no_texts.ensures.refused
-
-pub returns-then-is_empty-clause-laws : goal.returns-then-is_empty-clause-laws
-returns-then-is_empty-clause-laws c =
-    let none : length c.args.sheets.now ≡ 0 = grind arith in
-    none-laws c.args.self.now c.args.groups.now c.args.sheets.now c.no_texts.result none c.no_texts.ensures.none
-
-pub returns-then-is_empty-clause-free : goal.returns-then-is_empty-clause-free
-returns-then-is_empty-clause-free c =
+pub returns-then-not-self-clause-shows : goal.returns-then-not-self-clause-shows
+returns-then-not-self-clause-shows c =
     let r = c.args.self.now in
     let groups : List Group = c.args.groups.now in
-    let sheets : List Stylesheet = c.args.sheets.now in
-    IfOk-weaker c.no_texts.result (λ texts. AllZip (HasLaws r groups) sheets (map string_bytes texts.items))
-    (λ texts. AreFree (trusted_texts groups) (links_in (form_of r) r groups) sheets (map string_bytes texts.items))
-    (λ texts. are-free r groups (form_of r) sheets (map string_bytes texts.items)) (returns-then-is_empty-clause-laws c)
+    let off : r.show_line_feeds ≡ false = search rules in
+    answers-show r groups groups (unset r groups off) c.args.sheets.now c.texts_in.result c.texts_in.ensures.shows
+
+pub returns-then-not-self-clause-laws : goal.returns-then-not-self-clause-laws
+returns-then-not-self-clause-laws c =
+    let r = c.args.self.now in
+    let groups : List Group = c.args.groups.now in
+    let off : r.show_line_feeds ≡ false = search rules in
+    answers-laws r groups groups (unset r groups off) c.args.sheets.now c.texts_in.result c.texts_in.ensures.laws
+
+pub returns-then-not-self-clause-free : goal.returns-then-not-self-clause-free
+returns-then-not-self-clause-free c =
+    let r = c.args.self.now in
+    let groups : List Group = c.args.groups.now in
+    let off : r.show_line_feeds ≡ false = search rules in
+    answers-free r groups groups (unset r groups off) c.args.sheets.now c.texts_in.result c.texts_in.ensures.laws
 
 pub returns-clause-shows : goal.returns-clause-shows
 returns-clause-shows c =
     let r = c.args.self.now in
     let groups : List Group = c.args.groups.now in
-    let sheets : List Stylesheet = c.args.sheets.now in
-    let report : Drawn = c.in_ok-drawn.drawn in
-    let drawable = drawable-from_ok r groups c.drawn.result report c.requires.fits c.drawn.ensures.refused c.in_ok-drawn.was in
-    IfOk-map_err (λ texts. TextsShown r groups sheets (map string_bytes texts.items))
-    _ c.texts_under.result c.map_err.result
-    (IfOk-weaker c.texts_under.result (λ texts. AllZip (IsPrintedAs report) sheets (map string_bytes texts.items))
-    (λ texts. TextsShown r groups sheets (map string_bytes texts.items))
-    (λ texts. texts-shown r groups sheets (map string_bytes texts.items) report drawable c.in_ok-drawn.ensures.drawn)
-    c.texts_under.ensures.printed) c.map_err.ensures.cases
+    let shown : List Group = c.deref.result.now in
+    let set : IsAsSet r groups shown = subst (λ (gs : List Group). IsAsSet r groups gs) (sym c.deref.ensures.value) c.in_ok-shown.ensures.set in
+    answers-show r groups shown set c.args.sheets.now c.texts_in-2.result c.texts_in-2.ensures.shows
 
 pub returns-clause-laws : goal.returns-clause-laws
 returns-clause-laws c =
     let r = c.args.self.now in
     let groups : List Group = c.args.groups.now in
-    let sheets : List Stylesheet = c.args.sheets.now in
-    let report : Drawn = c.in_ok-drawn.drawn in
-    let drawable = drawable-from_ok r groups c.drawn.result report c.requires.fits c.drawn.ensures.refused c.in_ok-drawn.was in
-    IfOk-map_err (λ texts. AllZip (HasLaws r groups) sheets (map string_bytes texts.items))
-    _ c.texts_under.result c.map_err.result
-    (IfOk-weaker c.texts_under.result (λ texts. AllZip (IsPrintedAs report) sheets (map string_bytes texts.items))
-    (λ texts. AllZip (HasLaws r groups) sheets (map string_bytes texts.items))
-    (λ texts. laws-hold r groups sheets (map string_bytes texts.items) report c.in_ok-drawn.ensures.laws drawable c.in_ok-drawn.ensures.drawn)
-    c.texts_under.ensures.printed) c.map_err.ensures.cases
+    let shown : List Group = c.deref.result.now in
+    let set : IsAsSet r groups shown = subst (λ (gs : List Group). IsAsSet r groups gs) (sym c.deref.ensures.value) c.in_ok-shown.ensures.set in
+    answers-laws r groups shown set c.args.sheets.now c.texts_in-2.result c.texts_in-2.ensures.laws
 
 pub returns-clause-free : goal.returns-clause-free
 returns-clause-free c =
     let r = c.args.self.now in
     let groups : List Group = c.args.groups.now in
-    let sheets : List Stylesheet = c.args.sheets.now in
-    IfOk-weaker c.map_err.result (λ texts. AllZip (HasLaws r groups) sheets (map string_bytes texts.items))
-    (λ texts. AreFree (trusted_texts groups) (links_in (form_of r) r groups) sheets (map string_bytes texts.items))
-    (λ texts. are-free r groups (form_of r) sheets (map string_bytes texts.items)) (returns-clause-laws c)
+    let shown : List Group = c.deref.result.now in
+    let set : IsAsSet r groups shown = subst (λ (gs : List Group). IsAsSet r groups gs) (sym c.deref.ensures.value) c.in_ok-shown.ensures.set in
+    answers-free r groups shown set c.args.sheets.now c.texts_in-2.result c.texts_in-2.ensures.laws
 
--- one sheet is all that there is
-pub returns-in-len1-clause-shows : goal.returns-in-len1-clause-shows
-returns-in-len1-clause-shows c =
+pub returns-clause-refused : goal.returns-clause-refused
+returns-clause-refused c =
     let r = c.args.self.now in
     let groups : List Group = c.args.groups.now in
-    let sheets : List Stylesheet = c.args.sheets.now in
-    let are = subst (λ (ss : List Stylesheet). IfOk c.one_text.result (λ texts. AllZip (IsTextUnder (form_of r) r groups) ss (map string_bytes texts.items)))
-    (one_sheet sheets _ c.in-len1.len_at_least c.in-len1.len_below) c.one_text.ensures.text in
-    IfOk-weaker c.one_text.result (λ texts. AllZip (IsTextUnder (form_of r) r groups) sheets (map string_bytes texts.items))
-    (λ texts. TextsShown r groups sheets (map string_bytes texts.items))
-    (λ texts. one_shown (form_of r) r groups sheets (map string_bytes texts.items) c.in-len1.len_at_least c.in-len1.len_below) are
+    let shown : List Group = c.deref.result.now in
+    let set : IsAsSet r groups shown = subst (λ (gs : List Group). IsAsSet r groups gs) (sym c.deref.ensures.value) c.in_ok-shown.ensures.set in
+    set-refused r groups shown set (λ refusal. c.texts_in-2.result ≡ Err refusal) c.texts_in-2.ensures.refused
 
-pub returns-in-len1-clause-laws : goal.returns-in-len1-clause-laws
-returns-in-len1-clause-laws c =
+pub returns-clause-renders : goal.returns-clause-renders
+returns-clause-renders c within =
     let r = c.args.self.now in
     let groups : List Group = c.args.groups.now in
-    let sheets : List Stylesheet = c.args.sheets.now in
-    let are = subst (λ (ss : List Stylesheet). IfOk c.one_text.result (λ texts. AllZip (IsTextUnder (form_of r) r groups) ss (map string_bytes texts.items)))
-    (one_sheet sheets _ c.in-len1.len_at_least c.in-len1.len_below) c.one_text.ensures.text in
-    IfOk-weaker c.one_text.result (λ texts. AllZip (IsTextUnder (form_of r) r groups) sheets (map string_bytes texts.items))
-    (λ texts. AllZip (HasLaws r groups) sheets (map string_bytes texts.items))
-    (λ texts. AllZip-weaker (IsTextUnder (form_of r) r groups) (HasLaws r groups) (λ sheet text is. is.laws) sheets (map string_bytes texts.items)) are
-
-pub returns-in-len1-clause-free : goal.returns-in-len1-clause-free
-returns-in-len1-clause-free c =
-    let r = c.args.self.now in
-    let groups : List Group = c.args.groups.now in
-    let sheets : List Stylesheet = c.args.sheets.now in
-    IfOk-weaker c.one_text.result (λ texts. AllZip (HasLaws r groups) sheets (map string_bytes texts.items))
-    (λ texts. AreFree (trusted_texts groups) (links_in (form_of r) r groups) sheets (map string_bytes texts.items))
-    (λ texts. are-free r groups (form_of r) sheets (map string_bytes texts.items)) (returns-in-len1-clause-laws c)
+    let shown : List Group = c.deref.result.now in
+    let set : IsAsSet r groups shown = subst (λ (gs : List Group). IsAsSet r groups gs) (sym c.deref.ensures.value) c.in_ok-shown.ensures.set in
+    let fits : ReportFits shown = subst ReportFits (sym c.deref.ensures.value) c.in_ok-shown.ensures.fits in
+    c.texts_in-2.ensures.renders (bounds-set r groups shown set fits within)

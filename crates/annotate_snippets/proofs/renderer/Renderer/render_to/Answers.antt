@@ -1,30 +1,70 @@
-use Rattle.std.proofs.Common.{◌≡◌, ◌∙◌, None, sym}
+use Rattle.std.proofs.Common.{◌≡◌, List, false, rules, subst, sym}
 use Rattle.std.proofs.lemmas.Result.{on_err_weaker, on_ok_weaker}
-use Rattle.annotate_snippets.specs.Fault.{first_fault, missing_title, refusal_in}
-use Rattle.annotate_snippets.proofs.FaultLemmas.{groups-drawable, titled, unrefused}
-use Rattle.annotate_snippets.proofs.WriteLemmas.{laws_whole, written_part, written_whole}
+use Rattle.snippet_model.specs.Fits.{ReportFits}
+use Rattle.snippet_model.specs.declared.snippet.Group.{Group}
+use Rattle.annotate_snippets.specs.AsSet.{IsAsSet}
+use Rattle.annotate_snippets.proofs.AsSetFaults.{bounds-set}
+use Rattle.annotate_snippets.proofs.AsSetLemmas.{set-refused, unset, written-laws, written-part, written-shows}
 use Rattle.annotate_snippets.proofs.renderer.Renderer.render_to.Goals as goal
 
-pub write_form-requires : goal.write_form-requires
-write_form-requires g c =
-    let none : refusal_in c.form_of-form.result c.args.groups.now ≡ None = sym c.first_refusal.ensures.value ∙ c.in_default.is in
-    record {
-      drawable = groups-drawable c.args.groups.now c.requires.fits (unrefused (missing_title c.form_of-form.result c.args.groups.now)
-          (first_fault c.args.groups.now) none);
-      titled = titled (missing_title c.form_of-form.result c.args.groups.now) (first_fault c.args.groups.now) none;
-    }
+pub returns-then-not-self-clause-whole : goal.returns-then-not-self-clause-whole
+returns-then-not-self-clause-whole g c =
+    let r = c.args.self.now in
+    let groups : List Group = c.args.groups.now in
+    let off : r.show_line_feeds ≡ false = search rules in
+    on_ok_weaker c.write_given.result (written-shows r groups groups (unset r groups off) _ _) c.write_given.ensures.whole
+
+pub returns-then-not-self-clause-laws : goal.returns-then-not-self-clause-laws
+returns-then-not-self-clause-laws g c =
+    let r = c.args.self.now in
+    let groups : List Group = c.args.groups.now in
+    let off : r.show_line_feeds ≡ false = search rules in
+    on_ok_weaker c.write_given.result (written-laws r groups groups (unset r groups off) _ _) c.write_given.ensures.whole
+
+pub returns-then-not-self-clause-part : goal.returns-then-not-self-clause-part
+returns-then-not-self-clause-part g c =
+    let r = c.args.self.now in
+    let groups : List Group = c.args.groups.now in
+    let off : r.show_line_feeds ≡ false = search rules in
+    on_err_weaker c.write_given.result (written-part r groups groups (unset r groups off) g.W.Write.contents _ _) c.write_given.ensures.part
 
 pub returns-clause-whole : goal.returns-clause-whole
 returns-clause-whole g c =
-    on_ok_weaker c.write_form.result (written_whole c.args.self.now c.args.groups.now c.form_of-form.result _ _ c.form_of-form.ensures.value)
-    c.write_form.ensures.whole
+    let r = c.args.self.now in
+    let groups : List Group = c.args.groups.now in
+    let shown : List Group = c.deref.result.now in
+    let set : IsAsSet r groups shown = subst (λ (gs : List Group). IsAsSet r groups gs) (sym c.deref.ensures.value) c.in_ok-shown.ensures.set in
+    on_ok_weaker c.write_given-2.result (written-shows r groups shown set _ _) c.write_given-2.ensures.whole
 
 pub returns-clause-laws : goal.returns-clause-laws
 returns-clause-laws g c =
-    on_ok_weaker c.write_form.result (laws_whole c.args.self.now c.args.groups.now c.form_of-form.result _ _ c.form_of-form.ensures.value)
-    c.write_form.ensures.whole
+    let r = c.args.self.now in
+    let groups : List Group = c.args.groups.now in
+    let shown : List Group = c.deref.result.now in
+    let set : IsAsSet r groups shown = subst (λ (gs : List Group). IsAsSet r groups gs) (sym c.deref.ensures.value) c.in_ok-shown.ensures.set in
+    on_ok_weaker c.write_given-2.result (written-laws r groups shown set _ _) c.write_given-2.ensures.whole
 
 pub returns-clause-part : goal.returns-clause-part
 returns-clause-part g c =
-    on_err_weaker c.write_form.result (written_part g.W.Write.contents c.args.self.now c.args.groups.now c.form_of-form.result _ _ c.form_of-form.ensures.value)
-    c.write_form.ensures.part
+    let r = c.args.self.now in
+    let groups : List Group = c.args.groups.now in
+    let shown : List Group = c.deref.result.now in
+    let set : IsAsSet r groups shown = subst (λ (gs : List Group). IsAsSet r groups gs) (sym c.deref.ensures.value) c.in_ok-shown.ensures.set in
+    on_err_weaker c.write_given-2.result (written-part r groups shown set g.W.Write.contents _ _) c.write_given-2.ensures.part
+
+pub returns-clause-refused : goal.returns-clause-refused
+returns-clause-refused g c =
+    let r = c.args.self.now in
+    let groups : List Group = c.args.groups.now in
+    let shown : List Group = c.deref.result.now in
+    let set : IsAsSet r groups shown = subst (λ (gs : List Group). IsAsSet r groups gs) (sym c.deref.ensures.value) c.in_ok-shown.ensures.set in
+    set-refused r groups shown set _ c.write_given-2.ensures.refused
+
+pub returns-clause-renders : goal.returns-clause-renders
+returns-clause-renders g c within =
+    let r = c.args.self.now in
+    let groups : List Group = c.args.groups.now in
+    let shown : List Group = c.deref.result.now in
+    let set : IsAsSet r groups shown = subst (λ (gs : List Group). IsAsSet r groups gs) (sym c.deref.ensures.value) c.in_ok-shown.ensures.set in
+    let fits : ReportFits shown = subst ReportFits (sym c.deref.ensures.value) c.in_ok-shown.ensures.fits in
+    c.write_given-2.ensures.renders (bounds-set r groups shown set fits within)

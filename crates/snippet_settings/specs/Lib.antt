@@ -1,0 +1,2 @@
+pub mod LineFeeds
+pub mod AsSet
