@@ -9,5 +9,5 @@ pub use snippet_places::{ColumnUnit, Position, SpanAt, span_at};
 pub use snippet_splice::{
     LineRange, SplicedLines, SubstitutionHighlight, TrimmedPatch, as_substr, check_patches,
 };
-pub use snippet_style::{ElementStyle, LevelInner};
+pub use snippet_style::{ElementStyle, LevelInner, Strokes};
 pub use snippet_window::Margin;
