@@ -17,6 +17,9 @@ plain_settings =
       short_message = false;
       no_graphics = false;
       show_line_feeds = false;
+      context_before = 0;
+      context_after = 0;
+      wrap = false;
     }
 
 -- the plain settings with the default sheet's codes in place of none, and with links

@@ -71,6 +71,12 @@ pub struct Renderer {
     pub no_graphics: bool,
     /// Whether line feeds of labels, paths, identifiers and level names are shown, as `␊`.
     pub show_line_feeds: bool,
+    /// How many lines before each line that is shown for its spans are shown too.
+    pub context_before: usize,
+    /// How many lines after each line that is shown for its spans are shown too.
+    pub context_after: usize,
+    /// Whether lines of titles and messages that are wider than the terminal are broken at blanks.
+    pub wrap: bool,
 }
 
 impl Renderer {
@@ -103,6 +109,9 @@ impl Renderer {
             short_message: false,
             no_graphics: false,
             show_line_feeds: false,
+            context_before: 0,
+            context_after: 0,
+            wrap: false,
         }
     }
 
@@ -285,6 +294,24 @@ impl Renderer {
         ensures changed { result ≡ record self { show_line_feeds = show_line_feeds } }
     {
         self.show_line_feeds = show_line_feeds;
+        self
+    }
+
+    /// How many lines before and after each line that is shown for the spans of an annotated snippet are shown too.
+    pub fn context_lines(mut self, before: usize, after: usize) -> Renderer
+        ensures changed { result ≡ record self { context_before = before; context_after = after } }
+    {
+        self.context_before = before;
+        self.context_after = after;
+        self
+    }
+
+    /// Whether a line of a title or message that is wider than the room right of where it begins is broken at the last
+    /// blank before that.
+    pub fn wrap(mut self, wrap: bool) -> Renderer
+        ensures changed { result ≡ record self { wrap = wrap } }
+    {
+        self.wrap = wrap;
         self
     }
 
