@@ -1,20 +1,18 @@
 -- The characters of the glyphs of suggestions, and what is known of each.
-use Rattle.std.proofs.Common.{Bool, ◌≡◌, ◌≤◌, ◌∷◌, [], true, false, codes, chars, refl, inl, inr, length, arith}
+use Rattle.std.proofs.Common.{Bool, ◌≡◌, ◌≤◌, true, false, refl, inl, inr, length, arith}
 use Rattle.std.specs.Char.{is_ascii_alphanumeric}
 use Rattle.std.specs.List.{list_all, list_any, slice_index_or}
-use Rattle.std.proofs.lemmas.Str.{chars-encodes}
 use Rattle.snippet_style.specs.declared.glyphs.DecorStyle.{DecorStyle}
 use Rattle.snippet_style.specs.declared.glyphs.DecorStyle.TheVariants.{Ascii, Unicode}
 use Rattle.snippet_style.specs.declared.glyphs.SuggestionGlyph.{SuggestionGlyph}
 use Rattle.snippet_style.specs.declared.glyphs.SuggestionGlyph.TheVariants.{Opening, Next, Leading, Closing, Kept, Alone, Changed, Added}
 use Rattle.snippet_text.specs.Normalized.{is_listed}
-use Rattle.snippet_style.specs.Glyphs.{suggestion_glyph_of}
+use Rattle.snippet_style.specs.Glyphs.{removed_sign_of, suggestion_glyph_of}
 use Rattle.snippet_suggest.specs.SuggestionRows.{IsSign, is_stroke}
 
--- the characters of the bytes that the code writes for `- `
-pub chars-minus : chars (45 ∷ 32 ∷ []) ≡ codes "- "
-unfolding lib.Utf8.encode
-chars-minus = chars-encodes (codes "- ") refl
+-- the sign of a removed line has two characters
+pub removed_sign_short : (decor : DecorStyle) → length (removed_sign_of decor) ≤ 2
+removed_sign_short decor = omega arith
 
 -- whether a glyph stands beside a line
 abbrev pub is_sign : SuggestionGlyph → Bool

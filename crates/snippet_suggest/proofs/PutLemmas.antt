@@ -1,5 +1,5 @@
 -- Rows as values: what the texts that are put into them make of them.
-use Rattle.std.proofs.Common.{◌≡◌, ◌≢◌, ℕ, ◌+◌, ◌-◌, ◌<◌, ◌≤◌, Bool, List, [], ◌∷◌, ◌++◌, length, replicate, refl, sym, ap, ◌∙◌, arith, chars, codes}
+use Rattle.std.proofs.Common.{◌≡◌, ◌≢◌, ℕ, ◌+◌, ◌-◌, ◌<◌, ◌≤◌, Bool, List, [], ◌∷◌, ◌++◌, length, replicate, refl, sym, ap, ◌∙◌, arith, chars}
 use Rattle.std.proofs.Common.{append_assoc}
 use Rattle.std.proofs.lemmas.List.{append-nil}
 use Rattle.std.proofs.lemmas.Str.{chars-nil, encodes-chars}
@@ -10,7 +10,7 @@ use Rattle.snippet_style.specs.declared.glyphs.DecorStyle.TheVariants.{Ascii, Un
 use Rattle.snippet_style.specs.declared.role.ElementStyle.{ElementStyle}
 use Rattle.snippet_style.specs.declared.role.ElementStyle.TheVariants.{Addition, LineNumber, NoStyle, Removal}
 use Rattle.snippet_style.specs.Cell.{Cell, SPACE, text_cells, written}
-use Rattle.snippet_style.specs.Glyphs.{placeholder_of}
+use Rattle.snippet_style.specs.Glyphs.{placeholder_of, removed_sign_of}
 use Rattle.snippet_grid.specs.Grid.{cells_written, row_at}
 use Rattle.snippet_grid.proofs.GridLemmas.{cells_written_below, cells_written_last}
 use Rattle.snippet_text.specs.Normalized.{norm}
@@ -141,27 +141,28 @@ line_drawn layout glyph number line role signed digits text r old one two new he
     ∙ ap (λ (cs : List ℕ). old ++ put NoStyle (norm (chars line)) (g + 3) (put LineNumber cs 0 sign_row) ∷ []) digits_are
 
 -- the row of a line that is removed was drawn, over one that is there or not
-pub removed_drawn : (layout : SuggestionLayout) (role : ElementStyle) (number : ℕ) (line : List ℕ) (minus digits text : List ℕ) (r : ℕ)
-    (above tail old one two new : List (List Cell)) → r ≡ length above → old ≡ above ++ tail → length tail ≤ 1 → chars minus ≡ codes "- "
+pub removed_drawn : (layout : SuggestionLayout) (role : ElementStyle) (number : ℕ) (line : List ℕ) (sign digits text : List ℕ) (r : ℕ)
+    (above tail old one two new : List (List Cell)) → r ≡ length above → old ≡ above ++ tail → length tail ≤ 1 → chars sign ≡ removed_sign_of layout.base.decor
     → chars digits ≡ shown_number layout.numbers layout.base.gutter number → chars text ≡ norm (chars line) → IsUtf8 digits → IsUtf8 text
     → (0 < length digits → one ≡ cells_written old r 0 (text_cells LineNumber (chars digits))) → (digits ≡ [] → one ≡ old)
-    → two ≡ cells_written one r (layout.base.gutter + 1) (text_cells Removal (chars minus))
+    → two ≡ cells_written one r (layout.base.gutter + 1) (text_cells Removal (chars sign))
     → (0 < length text → new ≡ cells_written two r (layout.base.gutter + 3) (text_cells role (chars text))) → (text ≡ [] → new ≡ two)
     → new ≡ above ++ removed_cells layout role number line (row_at tail 0) ∷ []
 unfolding removed_cells
-removed_drawn layout role number line minus digits text r above tail old one two new here is few minus_is digits_are text_is utf8_digits utf8_text numbers
+removed_drawn layout role number line sign digits text r above tail old one two new here is few sign_is digits_are text_is utf8_digits utf8_text numbers
     no_number signs texts no_text =
     let g = layout.base.gutter in
     let under = row_at tail 0 in
     let first = put_over LineNumber digits 0 r above tail old one utf8_digits here is few numbers no_number in
     let numbered = put LineNumber (chars digits) 0 under in
-    let second : two ≡ above ++ put Removal (codes "- ") (g + 1) numbered ∷ [] =
-    put_begun Removal (codes "- ") (g + 1) r above first.tail one two (λ none. cc)
-    here first.is first.few (signs ∙ ap (λ (cs : List ℕ). cells_written one r (g + 1) (text_cells Removal cs)) minus_is)
-    ∙ ap (λ (row : List Cell). above ++ put Removal (codes "- ") (g + 1) row ∷ []) first.row_is in
-    let third = put_more role text (g + 3) r above (put Removal (codes "- ") (g + 1) numbered) two new utf8_text here second texts no_text in
-    third ∙ ap (λ (cs : List ℕ). above ++ put role cs (g + 3) (put Removal (codes "- ") (g + 1) numbered) ∷ []) text_is
-    ∙ ap (λ (cs : List ℕ). above ++ put role (norm (chars line)) (g + 3) (put Removal (codes "- ") (g + 1) (put LineNumber cs 0 under)) ∷ []) digits_are
+    let removed : List ℕ = removed_sign_of layout.base.decor in
+    let second : two ≡ above ++ put Removal removed (g + 1) numbered ∷ [] =
+    put_begun Removal removed (g + 1) r above first.tail one two (λ none. cc)
+    here first.is first.few (signs ∙ ap (λ (cs : List ℕ). cells_written one r (g + 1) (text_cells Removal cs)) sign_is)
+    ∙ ap (λ (row : List Cell). above ++ put Removal removed (g + 1) row ∷ []) first.row_is in
+    let third = put_more role text (g + 3) r above (put Removal removed (g + 1) numbered) two new utf8_text here second texts no_text in
+    third ∙ ap (λ (cs : List ℕ). above ++ put role cs (g + 3) (put Removal removed (g + 1) numbered) ∷ []) text_is
+    ∙ ap (λ (cs : List ℕ). above ++ put role (norm (chars line)) (g + 3) (put Removal removed (g + 1) (put LineNumber cs 0 under)) ∷ []) digits_are
 
 -- the row in place of lines that are left out was drawn
 pub gap_drawn : (layout : SuggestionLayout) (text : List ℕ) (r at : ℕ) (old new : List (List Cell)) → r ≡ length old

@@ -16,6 +16,7 @@ use Rattle.snippet_lines.specs.declared.number.LineNumbers.{LineNumbers}
 use Rattle.snippet_suggest.specs.declared.layout.SuggestionLayout.{SuggestionLayout}
 use Rattle.snippet_suggest.specs.RowOrder.{Begins, Empty, Ends, Offers, Removes, Skips, SuggestionRow, number_after}
 use Rattle.snippet_suggest.specs.SuggestionRows.{IsBareRow, IsBeforeSign, IsLeftOver, IsLineRow, IsRemovedRow}
+use Rattle.snippet_style.specs.Glyphs.{char_of, removed_sign_of}
 use Rattle.snippet_suggest.specs.SuggestionRows.{IsMarkOrSpace, IsSign, IsEdgeRow, Shows, begin_glyph, beside_gutter, end_glyph, gap_left, is_stroke}
 
 -- the character and the link of a cell, whatever its role
@@ -114,7 +115,7 @@ same_removed numbers decor gutter number text now last same is =
     record {
       numbered = λ short. same_text (take (length number) now) (take (length number) last) (same_take (length number) now last same) ∙ is.numbered short;
       before = λ c left. same_char (IsBeforeSign numbers decor) now last c same (is.before c left);
-      minus = same_char (λ ch. ch ≡ 45) now last (gutter + 1) same is.minus;
+      minus = same_char (λ ch. ch ≡ char_of (removed_sign_of decor)) now last (gutter + 1) same is.minus;
       space = same_char (λ ch. ch ≡ 32) now last (gutter + 2) same is.space;
       begins = same_text (take n (drop (gutter + 3) now)) (take n (drop (gutter + 3) last))
           (same_take n (drop (gutter + 3) now) (drop (gutter + 3) last) (same_drop (gutter + 3) now last same)) ∙ is.begins;

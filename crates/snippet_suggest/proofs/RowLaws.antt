@@ -1,6 +1,6 @@
 -- What each row of a suggestion shows, by the cells that it holds.
 use Rattle.std.proofs.Common.{◌≡◌, ℕ, ◌+◌, ◌-◌, ◌^◌, ◌<◌, ◌≤◌, Bool, true, false, ◌==◌, ◌&&◌}
-use Rattle.std.proofs.Common.{if◌then◌else◌, min, nat_le, All, List, [], ◌∷◌, ◌++◌, chars, codes, length, map, replicate}
+use Rattle.std.proofs.Common.{if◌then◌else◌, min, nat_le, All, List, [], ◌∷◌, ◌++◌, chars, length, map, replicate}
 use Rattle.std.proofs.Common.{refl, sym, ap, ◌∙◌, arith, inl, inr, subst}
 use Rattle.std.specs.Char.{is_ascii_alphanumeric}
 use Rattle.std.specs.List.{list_all, list_any, slice_index_or}
@@ -12,7 +12,7 @@ use Rattle.snippet_style.specs.declared.glyphs.SuggestionGlyph.TheVariants as si
 use Rattle.snippet_style.specs.declared.role.ElementStyle.{ElementStyle}
 use Rattle.snippet_style.specs.declared.role.ElementStyle.TheVariants.{Addition, LineNumber, NoStyle, Removal}
 use Rattle.snippet_style.specs.Cell.{Cell, SPACE}
-use Rattle.snippet_style.specs.Glyphs.{changed_mark_of, char_of, placeholder_of, suggestion_glyph_of, suggestion_role_of}
+use Rattle.snippet_style.specs.Glyphs.{added_mark_of, changed_mark_of, placeholder_of, removed_sign_of, suggestion_glyph_of, suggestion_role_of}
 use Rattle.snippet_grid.specs.Grid.{changed_within, restyled}
 use Rattle.snippet_grid.specs.Layout.{separator_cell}
 use Rattle.snippet_grid.specs.Print.{row_text}
@@ -160,28 +160,29 @@ removed_shows layout role number line under small bare =
     let digits : List ℕ = shown_number layout.numbers g number in
     let text : List ℕ = norm (chars line) in
     let numbered : List Cell = put LineNumber digits 0 under in
-    let signed : List Cell = put Removal (codes "- ") (g + 1) numbered in
+    let removed : List ℕ = removed_sign_of decor in
+    let signed : List Cell = put Removal removed (g + 1) numbered in
     let row : List Cell = put role text (g + 3) signed in
     let Before : Cell → Type 0 = λ cell. IsBeforeSign layout.numbers decor cell.ch in
     let Left : Cell → Type 0 = λ cell. IsLeftOver decor cell.ch in
     let covers : length digits ≤ length numbered = put_covers LineNumber digits under in
-    let grown : length numbered ≤ length signed = put_grows Removal (codes "- ") (g + 1) numbered in
+    let grown : length numbered ≤ length signed = put_grows Removal removed (g + 1) numbered in
     record {
       numbered = λ short. ap row_text (put_take role text (g + 3) (length digits) signed (omega (arith, short)) (omega (arith, covers, grown))
-          ∙ put_take Removal (codes "- ") (g + 1) (length digits) numbered short covers) ∙ put_stands LineNumber digits 0 under;
+          ∙ put_take Removal removed (g + 1) (length digits) numbered short covers) ∙ put_stands LineNumber digits 0 under;
       before = λ c left. subst Before (sym (put_before role text (g + 3) c signed (omega (arith, left))
-          ∙ put_before Removal (codes "- ") (g + 1) c numbered (omega (arith, left))))
+          ∙ put_before Removal removed (g + 1) c numbered (omega (arith, left))))
           (put_cell Before LineNumber digits 0 c under (inl (bare.strokes c (omega (arith, left)))) (number_before decor layout.numbers g number small));
       minus = ap (λ (cell : Cell). cell.ch) (put_before role text (g + 3) (g + 1) signed (omega arith))
-          ∙ put_inside Removal (codes "- ") (g + 1) (g + 1) 0 numbered (omega arith) (omega arith);
+          ∙ put_inside Removal removed (g + 1) (g + 1) 0 numbered (omega arith) (omega arith);
       space = ap (λ (cell : Cell). cell.ch) (put_before role text (g + 3) (g + 2) signed (omega arith))
-          ∙ put_inside Removal (codes "- ") (g + 1) (g + 2) 1 numbered (omega arith) (omega arith);
+          ∙ put_inside Removal removed (g + 1) (g + 2) 1 numbered (omega arith) (omega arith);
       begins = put_stands role text (g + 3) signed;
       after = λ c right. subst Left (sym (put_after role text (g + 3) c signed right
-          ∙ put_after Removal (codes "- ") (g + 1) c numbered (omega (arith, right))))
+          ∙ put_after Removal removed (g + 1) c numbered (omega (arith, right))))
           (left_over layout number c under small (omega (arith, right)) (bare.marks c (omega (arith, right))));
-      free = put_free role text (g + 3) signed (put_free Removal (codes "- ") (g + 1) numbered (put_free LineNumber digits 0 under bare.free
-          (shown_number_unlisted layout.numbers g number small)) (each_fails is_listed (codes "- ") refl)) (norm_unlisted line);
+      free = put_free role text (g + 3) signed (put_free Removal removed (g + 1) numbered (put_free LineNumber digits 0 under bare.free
+          (shown_number_unlisted layout.numbers g number small)) (each_fails is_listed removed refl)) (norm_unlisted line);
     }
 
 -- so does that of a line whose stretches that are replaced have their role
@@ -305,7 +306,7 @@ mark_shows layout mark start end left row is edge =
 mark_is : (decor : DecorStyle) (source : List ℕ) (e : Edit) → IsMarkOrSpace decor (mark_glyph_of decor source e)
 mark_is decor source e = by_test (adds_text source e)
   where
-    by_test : (adds : Bool) → IsMarkOrSpace decor (if adds then char_of (codes "+") else changed_mark_of decor)
+    by_test : (adds : Bool) → IsMarkOrSpace decor (if adds then added_mark_of decor else changed_mark_of decor)
     by_test true = inr (inl refl)
     by_test false = inr (inr refl)
 

@@ -1,11 +1,11 @@
 -- What the rows of a suggestion hold, cell by cell: a value for each kind of row.
-use Rattle.std.specs.Prelude.{ℕ, ◌+◌, ◌-◌, ◌*◌, nat_le, ◌==◌, ◌&&◌, true, Bool, List, [], ◌∷◌, ◌++◌, chars, codes, count_by, length, map, take, if◌then◌else◌}
+use Rattle.std.specs.Prelude.{ℕ, ◌+◌, ◌-◌, ◌*◌, nat_le, ◌==◌, ◌&&◌, true, Bool, List, [], ◌∷◌, ◌++◌, chars, count_by, length, map, take, if◌then◌else◌}
 use Rattle.std.specs.List.{slice_index_or}
 use Rattle.std.specs.Str.{bytes_eq}
 use Rattle.snippet_style.specs.declared.role.ElementStyle.{ElementStyle}
 use Rattle.snippet_style.specs.declared.role.ElementStyle.TheVariants.{Addition, LineNumber, NoStyle, Removal}
 use Rattle.snippet_style.specs.Cell.{Cell, SPACE, text_cells, written}
-use Rattle.snippet_style.specs.Glyphs.{placeholder_of}
+use Rattle.snippet_style.specs.Glyphs.{placeholder_of, removed_sign_of}
 use Rattle.snippet_grid.specs.Grid.{changed_within, restyled}
 use Rattle.snippet_text.specs.Normalized.{norm}
 use Rattle.snippet_text.specs.Width.{width_of}
@@ -36,7 +36,7 @@ put role (c ∷ cs) at row = written SPACE row at (text_cells role (c ∷ cs))
 
 -- ---- the row of a line that is offered
 
--- the sign beside the one line of a suggestion: `+` where that is new, or stands in place of removed ones, else a separator
+-- the sign beside the one line of a suggestion: that of a new line where it is new, or stands in place of removed ones, else a separator
 abbrev pub sign_alone : DisplaySuggestion → SuggestionGlyph
 sign_alone Underline = sign.Alone
 sign_alone Diff = sign.Added
@@ -92,7 +92,7 @@ offered_cells layout kind count number line stretches =
 unfoldable pub removed_cells : SuggestionLayout → ElementStyle → ℕ → List ℕ → List Cell → List Cell
 removed_cells layout role number line under =
     let numbered = put LineNumber (shown_number layout.numbers layout.base.gutter number) 0 under in
-    put role (norm (chars line)) (inner_cell layout.base) (put Removal (codes "- ") (separator_cell layout.base) numbered)
+    put role (norm (chars line)) (inner_cell layout.base) (put Removal (removed_sign_of layout.base.decor) (separator_cell layout.base) numbered)
 
 -- the row in place of lines that are left out
 unfoldable pub gap_cells : SuggestionLayout → List Cell

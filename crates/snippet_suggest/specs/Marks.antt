@@ -1,7 +1,6 @@
 -- The marks below the one line of a suggestion, as values.
-use Rattle.std.specs.Prelude.{ℕ, ◌+◌, ◌-◌, min, nat_le, List, [], ◌∷◌, ◌++◌, chars, filter, length, map, replicate, sum_by, if◌then◌else◌, codes}
+use Rattle.std.specs.Prelude.{ℕ, ◌+◌, ◌-◌, min, nat_le, List, [], ◌∷◌, ◌++◌, chars, filter, length, map, replicate, sum_by, if◌then◌else◌}
 use Rattle.std.specs.Str.{trim, trim_start}
-use Rattle.snippet_style.specs.Glyphs.{char_of}
 use Rattle.snippet_style.specs.Cell.{Cell}
 use Rattle.snippet_style.specs.declared.glyphs.DecorStyle.{DecorStyle}
 use Rattle.snippet_style.specs.declared.role.ElementStyle.TheVariants.{Addition}
@@ -14,7 +13,7 @@ use Rattle.snippet_splice.specs.EditStretches.{capped}
 use Rattle.snippet_suggest.specs.declared.layout.SuggestionLayout.{SuggestionLayout}
 use Rattle.snippet_suggest.specs.declared.marks.PatchColumns.{PatchColumns}
 use Rattle.snippet_suggest.specs.Cells.{put}
-use Rattle.snippet_style.specs.Glyphs.{changed_mark_of}
+use Rattle.snippet_style.specs.Glyphs.{added_mark_of, changed_mark_of}
 use Rattle.snippet_suggest.specs.Kind.{adds_text, is_blank}
 use Rattle.snippet_grid.specs.Layout.{inner_cell}
 use Rattle.snippet_style.specs.Bounds.{max_column}
@@ -60,9 +59,9 @@ mark_start earlier c text = moved c.start earlier (capped (c.start + lead_of tex
 abbrev pub patch_mark_end : List PatchColumns → PatchColumns → List ℕ → ℕ
 patch_mark_end earlier c text = moved c.start earlier (capped (capped (c.start + lead_of text) + inner_width c text))
 
--- the mark of an edit: `+` where it adds text, else that of what is changed
+-- the mark of an edit: that of what is put in where it adds text, else that of what is changed
 abbrev pub mark_glyph_of : DecorStyle → List ℕ → Edit → ℕ
-mark_glyph_of decor source e = if adds_text source e then char_of (codes "+") else changed_mark_of decor
+mark_glyph_of decor source e = if adds_text source e then added_mark_of decor else changed_mark_of decor
 
 -- a row with a mark in the columns from one to before another, as far as there are columns
 unfoldable pub with_mark : SuggestionLayout → ℕ → ℕ → ℕ → List Cell → List Cell

@@ -1,12 +1,12 @@
 -- What the rows of a suggestion show.
 use Rattle.std.specs.Prelude.{◌≡◌, ◌⊎◌, ℕ, ◌+◌, ◌-◌, ◌<◌, ◌≤◌, ◌==◌, Bool, true, false, List, [], ◌∷◌, ◌++◌, length, replicate, take, drop, chars}
-use Rattle.std.specs.Prelude.{if◌then◌else◌, codes}
+use Rattle.std.specs.Prelude.{if◌then◌else◌}
 use Rattle.std.specs.Char.{is_ascii_alphanumeric}
 use Rattle.std.specs.List.{list_any, slice_index_or}
 use Rattle.snippet_model.specs.declared.snippet.Snippet.{Snippet}
 use Rattle.snippet_model.specs.declared.snippet.Patch.{Patch}
 use Rattle.snippet_style.specs.declared.glyphs.DecorStyle.{DecorStyle}
-use Rattle.snippet_style.specs.Glyphs.{char_of, placeholder_of, separator_of}
+use Rattle.snippet_style.specs.Glyphs.{added_mark_of, changed_mark_of, char_of, placeholder_of, removed_sign_of}
 use Rattle.snippet_style.specs.Cell.{Cell, SPACE}
 use Rattle.snippet_grid.specs.Print.{row_text}
 use Rattle.snippet_text.specs.Normalized.{norm}
@@ -23,12 +23,12 @@ use Rattle.snippet_suggest.specs.declared.shown.SuggestionLine.TheVariants.{Line
 use Rattle.snippet_suggest.specs.Given.{counted_line}
 use Rattle.snippet_suggest.specs.RowOrder.{Begins, Empty, Ends, Offers, Removes, Skips, SuggestionRow, number_after}
 use Rattle.snippet_style.specs.declared.glyphs.SuggestionGlyph.TheVariants as sign
-use Rattle.snippet_style.specs.Glyphs.{changed_mark_of, suggestion_glyph_of}
+use Rattle.snippet_style.specs.Glyphs.{separator_of, suggestion_glyph_of}
 use Rattle.snippet_grid.specs.Layout.{separator_cell}
 
--- what stands beside a line that is offered: a separator, the glyph of a changed line, or `+`
+-- what stands beside a line that is offered: a separator, or the glyph of a changed or of a new line
 abbrev pub IsSign : DecorStyle → ℕ → Type 0
-IsSign decor c = (c ≡ separator_of decor) ⊎ (c ≡ changed_mark_of decor) ⊎ (c ≡ char_of (codes "+"))
+IsSign decor c = (c ≡ separator_of decor) ⊎ (c ≡ changed_mark_of decor) ⊎ (c ≡ added_mark_of decor)
 
 -- what stands left of the lines in a row that shows none: spaces, what stands for lines that are left out, and the glyphs that
 -- suggestions begin and end with
@@ -37,9 +37,9 @@ is_stroke decor c =
     list_any (λ d. d == c) (32 ∷ (placeholder_of decor ++ suggestion_glyph_of decor sign.Opening ++ suggestion_glyph_of decor sign.Next
     ++ suggestion_glyph_of decor sign.Leading ++ suggestion_glyph_of decor sign.Closing))
 
--- what stands in a row of marks: spaces, `+`, and the mark below what is changed
+-- what stands in a row of marks: spaces, and the marks below what is put in and below what is changed
 abbrev pub IsMarkOrSpace : DecorStyle → ℕ → Type 0
-IsMarkOrSpace decor c = (c ≡ 32) ⊎ (c ≡ char_of (codes "+")) ⊎ (c ≡ changed_mark_of decor)
+IsMarkOrSpace decor c = (c ≡ 32) ⊎ (c ≡ added_mark_of decor) ⊎ (c ≡ changed_mark_of decor)
 
 -- three cells after the gutter the row holds this text, to its end
 abbrev pub HoldsText : ℕ → List ℕ → List Cell → Type 0
@@ -77,7 +77,7 @@ IsLeftOver decor c = IsMarkOrSpace decor c ⊎ ((48 ≤ c) × (c ≤ 57))
 pub record IsRemovedRow (numbers : LineNumbers) (decor : DecorStyle) (gutter : ℕ) (number text : List ℕ) (row : List Cell) : Type 0 where
   pub numbered : length number ≤ gutter + 1 → row_text (take (length number) row) ≡ number
   pub before : (c : ℕ) → c ≤ gutter → IsBeforeSign numbers decor (slice_index_or row c SPACE).ch
-  pub minus : (slice_index_or row (gutter + 1) SPACE).ch ≡ char_of (codes "-")
+  pub minus : (slice_index_or row (gutter + 1) SPACE).ch ≡ char_of (removed_sign_of decor)
   pub space : (slice_index_or row (gutter + 2) SPACE).ch ≡ 32
   pub begins : row_text (take (length text) (drop (gutter + 3) row)) ≡ text
   pub after : (c : ℕ) → gutter + 3 + length text ≤ c → IsLeftOver decor (slice_index_or row c SPACE).ch

@@ -166,7 +166,7 @@ fn patch_mark(layout: &SuggestionLayout, map: &SourceMap<'_>, patch: &TrimmedPat
 {
     let base = layout.base;
     if is_addition(map.source(), patch) {
-        '+'
+        base.decor.added_mark()
     } else {
         base.decor.changed_mark()
     }

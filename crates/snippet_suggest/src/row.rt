@@ -70,7 +70,12 @@ pub(crate) fn draw_removed_line(
     let base = layout.base;
     let number = number_text(alloc, layout.numbers, base.gutter, number)?;
     buffer.puts(row, 0, number.as_str(), ElementStyle::LineNumber)?;
-    buffer.puts(row, base.separator_cell(), "- ", ElementStyle::Removal)?;
+    buffer.puts(
+        row,
+        base.separator_cell(),
+        base.decor.removed_sign(),
+        ElementStyle::Removal,
+    )?;
     let text = normalized(alloc, line)?;
     buffer.puts(row, base.inner_cell(), text.as_str(), role)?;
     Ok(())

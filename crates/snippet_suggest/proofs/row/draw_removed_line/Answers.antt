@@ -1,12 +1,13 @@
-use Rattle.std.proofs.Common.{◌≡◌, ◌<◌, ◌∷◌, [], ◌∙◌, arith, ap, chars, length}
+use Rattle.std.proofs.Common.{◌≡◌, ◌<◌, ◌∙◌, arith, ap, chars, length}
 use Rattle.snippet_grid.specs.Grid.{cells_written}
 use Rattle.snippet_grid.specs.Layout.{Layout}
 use Rattle.snippet_style.specs.Cell.{text_cells}
 use Rattle.snippet_style.specs.declared.role.ElementStyle.TheVariants.{Removal}
 use Rattle.snippet_text.specs.Normalized.{norm}
 use Rattle.snippet_lines.specs.Number.{shown_number}
-use Rattle.snippet_suggest.proofs.GlyphLemmas.{chars-minus}
+use Rattle.snippet_suggest.proofs.GlyphLemmas.{removed_sign_short}
 use Rattle.snippet_lines.proofs.NumberLemmas.{chars-shown_number}
+use Rattle.snippet_style.specs.Glyphs.{removed_sign_of}
 use Rattle.snippet_style.proofs.CellLemmas.{length-chars_le}
 use Rattle.snippet_suggest.proofs.PutLemmas.{removed_drawn}
 use Rattle.snippet_suggest.proofs.row.draw_removed_line.Goals as goal
@@ -15,7 +16,7 @@ pub puts-requires-clause-end : goal.puts-requires-clause-end
 puts-requires-clause-end c = omega (arith, length-chars_le c.as_str.result.now)
 
 pub puts-requires-2-clause-end : goal.puts-requires-2-clause-end
-puts-requires-2-clause-end c = omega (arith, c.separator_cell.ensures.few, length-chars_le (45 ∷ 32 ∷ []))
+puts-requires-2-clause-end c = omega (arith, c.separator_cell.ensures.few, removed_sign_short c.base-2.inside.decor, ap length c.removed_sign.ensures.value)
 
 pub puts-requires-3-clause-end : goal.puts-requires-3-clause-end
 puts-requires-3-clause-end c = omega (arith, c.inner_cell.ensures.few, length-chars_le c.as_str-2.result.now)
@@ -31,13 +32,15 @@ returns c =
     ∙ chars-shown_number a.layout.now.numbers c.base.inside.gutter a.number (omega arith)
     ∙ ap (λ (l : Layout). shown_number a.layout.now.numbers l.gutter a.number) c.base.view_is in
     let is_text : chars text ≡ norm (chars a.line.now) = ap chars c.as_str-2.ensures.value ∙ c.in_ok-text.ensures.value in
-    let signed = c.in_ok-puts-2.ensures.ok (omega arith) ∙ ap (λ n.
-    cells_written c.puts.new.self a.row n (text_cells Removal (chars (45 ∷ 32 ∷ [])))) c.separator_cell.ensures.value in
+    let sign = c.removed_sign.result.now in
+    let is_sign : chars sign ≡ removed_sign_of a.layout.now.base.decor = c.removed_sign.ensures.value
+    ∙ ap (λ (l : Layout). removed_sign_of l.decor) c.base-2.view_is in
+    let signed = c.in_ok-puts-2.ensures.ok c.removed_sign.ensures.some
+    ∙ ap (λ n. cells_written c.puts.new.self a.row n (text_cells Removal (chars sign))) c.separator_cell.ensures.value in
     let lined = λ (some : 0 < length c.as_str-2.result.now). c.in_ok-puts-3.ensures.ok some
     ∙ ap (λ n. cells_written c.puts-2.new.self a.row n (text_cells a.role (chars text))) c.inner_cell.ensures.value in
     record {
-      cells = λ above tail here is few. removed_drawn a.layout.now a.role a.number a.line.now (45 ∷ 32 ∷ [])
-          number text a.row above tail a.buffer.now c.puts.new.self c.puts-2.new.self c.puts-3.new.self here is few chars-minus is_number is_text
-          c.as_str.utf8 c.as_str-2.utf8 c.in_ok-puts.ensures.ok c.puts.ensures.empty signed
-          lined c.puts-3.ensures.empty;
+      cells = λ above tail here is few. removed_drawn a.layout.now a.role a.number a.line.now sign number text a.row above tail a.buffer.now
+          c.puts.new.self c.puts-2.new.self c.puts-3.new.self here is few is_sign is_number is_text
+          c.as_str.utf8 c.as_str-2.utf8 c.in_ok-puts.ensures.ok c.puts.ensures.empty signed lined c.puts-3.ensures.empty;
     }
