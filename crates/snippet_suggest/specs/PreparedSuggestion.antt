@@ -1,5 +1,5 @@
 -- What is known of a suggestion before any row is drawn.
-use Rattle.std.specs.Prelude.{◌≡◌, ◌≢◌, ℕ, ◌+◌, ◌≤◌, ◌^◌, [], All, length, map}
+use Rattle.std.specs.Prelude.{◌≡◌, ◌≢◌, ℕ, ◌+◌, ◌≤◌, [], All, length, map}
 use Rattle.std.specs.String.{string_bytes}
 use Rattle.std.specs.Cow.{cow_str_bytes}
 use Rattle.std.specs.Str.{IsUtf8}
@@ -14,7 +14,7 @@ use Rattle.snippet_suggest.specs.declared.prepared.PreparedSuggestion.{PreparedS
 use Rattle.snippet_suggest.specs.Given.{counted_line, edits_of, first_given, given_lines, given_ranges, given_text, shown_kind, trimmed_of}
 use Rattle.snippet_parts.specs.Numbered.{numbered_source}
 use Rattle.snippet_text.specs.TextBounds.{TextFits}
-use Rattle.snippet_style.specs.Bounds.{IsUsize}
+use Rattle.snippet_style.specs.Bounds.{IsUsize, max_usize}
 
 -- what preparing a snippet of patches asks of it: that its source fits, that each patch has a span, that no two of them
 -- overlap, and that there are numbers for the lines that it gives
@@ -23,7 +23,7 @@ pub record IsSuggestible (s : Snippet Patch) : Type 0 where
   pub lines : IsUsize (s.line_start + length (source_lines (cow_str_bytes s.source)))
   pub spans : All (λ p. IsSpan (cow_str_bytes s.source) p.span.start p.span.end) s.markers.items
   pub disjoint : AreDisjoint (edits_of s)
-  pub numbers : s.line_start + first_given s + length (given_lines s) ≤ 2 ^ 64
+  pub numbers : s.line_start + first_given s + length (given_lines s) ≤ max_usize + 1
 
 -- what was prepared is that of its snippet, which has patches, and whose source is UTF-8, as each `str` is
 pub record IsPrepared (p : PreparedSuggestion) : Type 0 where
