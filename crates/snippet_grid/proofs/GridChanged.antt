@@ -7,7 +7,7 @@ use Rattle.std.proofs.lemmas.Result.{on_ok_weaker}
 use Rattle.std.specs.Bool.{if◌then◌else◌}
 use Rattle.snippet_grid.proofs.ChangeLemmas.{ChangesCells-cells_changed, ChangesCells-from_equal}
 use Rattle.snippet_grid.proofs.GridShown.{count_shown, width_shown, cell_shown, same_row}
-use Rattle.snippet_grid.proofs.PutLemmas.{are_runs-put, ordered-put, apart-put, inside-put, AreOrdered, AreApart}
+use Rattle.snippet_grid.proofs.PutLemmas.{are_runs-put, ordered-put, apart-put, fit-put, AreOrdered, AreApart}
 use Rattle.snippet_grid.proofs.RowPut.{row_shows, put_shows, put_others}
 use Rattle.snippet_grid.proofs.ShownLemmas.{pick, painted-grown}
 use Rattle.snippet_grid.proofs.SpanLemmas.{within_yes, within_before, within_after}
@@ -106,7 +106,7 @@ IsGrid-put old new runs now fresh w v row start end put fit =
 pub FitIn-put : (old new : List ℕ) (runs now fresh : List Run) (w : List ℕ) (row start end : ℕ) → IsExchanged old new runs now fresh row start end
     → FitIn w runs → (EndsBy (get_or w row 0) (stretch runs start end) → EndsBy (get_or w row 0) fresh) → FitIn w now
 FitIn-put old new runs now fresh w row start end put fit ends =
-    inside-put w new runs now fresh row start end put.at.ordered put.at.within put.at.inside fit put.is_row ends put.is
+    fit-put w new runs now fresh row start end put.at.ordered put.at.within put.at.inside fit put.is_row ends put.is
 
 -- a grid whose runs show changed cells in a stretch is that grid with its cells changed there
 pub grid_changed : (f : Cell → Cell) (old new : List ℕ) (runs now fresh : List Run) (w : List ℕ) (row start end last from to : ℕ)

@@ -244,11 +244,11 @@ apart-put new runs now fresh row start end low high above below apart is_row is 
     absurd (omega (arith, front_rows i d i_within, zs_rows j d j_within, goes.row))))
 
 -- runs with a row put in fit the widths, where those before did
-pub inside-put : (widths : List ℕ) (new : List ℕ) (runs now fresh : List Run) (row start end : ℕ) → start ≤ end → end ≤ length runs
+pub fit-put : (widths : List ℕ) (new : List ℕ) (runs now fresh : List Run) (row start end : ℕ) → start ≤ end → end ≤ length runs
     → ((k : ℕ) (d : Run) → start ≤ k → k < end → (get_or runs k d).row ≡ row) → FitIn widths runs → IsRow new row fresh
     → (EndsBy (get_or widths row 0) (stretch runs start end) → EndsBy (get_or widths row 0) fresh) → now ≡ take start runs ++ fresh ++ drop end runs
     → FitIn widths now
-inside-put widths new runs now fresh row start end low high inside fit is_row ends is =
+fit-put widths new runs now fresh row start end low high inside fit is_row ends is =
     let P = λ (x : Run). x.cell + x.count ≤ get_or widths x.row 0 in
     let ys = stretch runs start end in
     let ends_old : EndsBy (get_or widths row 0) ys = λ k d within.

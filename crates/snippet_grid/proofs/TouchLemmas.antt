@@ -7,7 +7,7 @@ use Rattle.std.proofs.lemmas.Bool.{cases_lt, cases_eq}
 use Rattle.std.specs.List.{AllPairs}
 use Rattle.snippet_grid.proofs.StretchLemmas.{stretch, below_take, get_or-stretch}
 use Rattle.snippet_grid.proofs.ShownLemmas.{All-IsRun-grown, painted-append, painted-grown, pick, holds_inside, holds_elsewhere, holds_before, holds-after}
-use Rattle.snippet_grid.proofs.PutLemmas.{AreOrdered, AreApart, AllPairs-append, AllPairs-take, AllPairs-drop, split_three, IsRow-stretch, inside-put}
+use Rattle.snippet_grid.proofs.PutLemmas.{AreOrdered, AreApart, AllPairs-append, AllPairs-take, AllPairs-drop, split_three, IsRow-stretch, fit-put}
 use Rattle.snippet_grid.proofs.RowWoven.{painted_unheld}
 use Rattle.snippet_style.specs.Cell.{Cell, SPACE}
 use Rattle.snippet_grid.specs.Runs.{IsRun, BeginsWith, ShowsMore, AddsRun, Precedes, Differ, BeginsAfter, BeginsBy, IsClear, Touches, AreTouchedRuns, ArePieces}
@@ -264,7 +264,7 @@ IsPut-touched old new runs now fresh run start end low high above touch below ar
           zs (All-append (λ x. x.cell + x.count ≤ n) xs fresh (All-take (λ x. x.cell + x.count ≤ n) start runs all)
           (pieces.ends n (All-take (λ x. x.cell + x.count ≤ n) (end - start) (drop start runs) (All-drop (λ x. x.cell + x.count ≤ n) start runs all))
           within)) (All-drop (λ x. x.cell + x.count ≤ n) end runs all));
-      inside = λ widths fit within. inside-put widths new runs now fresh run.row start end low high (λ k d first last.
+      inside = λ widths fit within. fit-put widths new runs now fresh run.row start end low high (λ k d first last.
           (touch k d first last).row) fit pieces.is_row (λ ends. pieces.ends (get_or widths run.row 0) ends within) is;
       few =
           let count : length now ≡ length xs + length fresh + length zs = ap length is ∙ length-append (xs ++ fresh) zs

@@ -15,7 +15,7 @@ use Rattle.snippet_lines.proofs.LinesLemmas.{split_last, last_byte-push, lines_o
 use Rattle.snippet_lines.proofs.LinesLemmas.{ending_newlines}
 use Rattle.snippet_lines.proofs.LinesLemmas.{start_of-zero, length-lines_of-pos, AreLines-lines_of, joined-lines_of, source_lines-some}
 use Rattle.snippet_lines.proofs.CursorLemmas.{count_by-none}
-use Rattle.snippet_lines.proofs.PlaceLemmas.{line_of-start, line_of-within}
+use Rattle.snippet_lines.proofs.PlaceLemmas.{line_of-start, line_of-within, line_with_end-some}
 use Rattle.snippet_lines.proofs.BoundsLemmas.{IsOneLine-line}
 
 -- bytes that are no line feed have none
@@ -45,13 +45,6 @@ front-one bs n one =
       | inr long ↦ subst IsLineWithEnd (sym (take_all n bs long)) one
     ]
 
--- a line that isn't empty, and one that ends
-line-some : (text : List ℕ) (ending : EndLine) → (ending ≡ Eof → 0 < length text) → 0 < length (line_bytes (text, ending))
-line-some [] Eof some = absurd (omega (arith, some refl))
-line-some [] Lf some = omega arith
-line-some [] Crlf some = omega arith
-line-some (b ∷ text) ending some = omega arith
-
 last-closed : (text : List ℕ) (ending : EndLine) → ending ≢ Eof → last_byte (line_bytes (text, ending)) ≡ 10
 last-closed text Eof ended = absurd (ended refl)
 last-closed text Lf ended = last_byte-push text 10
@@ -63,7 +56,7 @@ unfolding line_of
 length-front [] b some are = absurd (omega arith)
 length-front (l ∷ []) b some are =
     let bytes : List ℕ = line_bytes l in
-    let filled : 0 < length bytes = line-some l.0 l.1 (λ eof. (are.1 eof).0) in
+    let filled : 0 < length bytes = line_with_end-some l.0 l.1 (λ eof. (are.1 eof).0) in
     let cut : 0 < length (take (b + 1) bytes) = elim (cases_lt (b + 1) (length bytes)) [
       | inl short ↦ omega (arith, length-take-le (b + 1) bytes (omega arith))
       | inr long ↦ omega (arith, ap length (take_all (b + 1) bytes long))
@@ -74,7 +67,7 @@ length-front (l ∷ m ∷ ls) b some are =
     let n : ℕ = length bytes in
     let rest : List ℕ = joined (m ∷ ls) in
     let closed : l.1 ≢ Eof = λ eof. absurd (omega (arith, ap length (are.1 eof).1)) in
-    let filled : 0 < n = line-some l.0 l.1 (λ eof. (are.1 eof).0) in
+    let filled : 0 < n = line_with_end-some l.0 l.1 (λ eof. (are.1 eof).0) in
     cond_both (ltb b n) 0 (line_of (m ∷ ls) (b - n) + 1) (λ k. length (lines_of (take (b + 1) (bytes ++ rest))) ≡ k + 1)
     (λ is.
     let before : b + 1 ≤ n = omega (arith, ltb-true b n is) in

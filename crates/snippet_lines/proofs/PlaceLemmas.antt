@@ -69,15 +69,16 @@ line_of-mono ls b c some le =
     ⊎_elim (λ after. absurd (omega (arith, right.to (omega (arith, left.within)), left.from, start_of-le ls (line_of ls c + 1) (line_of ls b) (omega arith))))
     (λ ok. ok) (cases_lt (line_of ls c) (line_of ls b))
 
+-- a line that isn't empty, and one that ends
+pub line_with_end-some : (text : List ℕ) (ending : EndLine) → (ending ≡ Eof → 0 < length text) → 0 < length (line_bytes (text, ending))
+line_with_end-some [] Eof some = absurd (omega (arith, some refl))
+line_with_end-some [] Lf some = omega arith
+line_with_end-some [] Crlf some = omega arith
+line_with_end-some (b ∷ text) ending some = omega arith
+
 line_bytes-some : (ls : List Line) (k : ℕ) → AreLines ls → k < length ls → 0 < length (line_bytes (get_or ls k ([], Eof)))
 line_bytes-some [] k are within = absurd (omega arith)
-line_bytes-some (l ∷ ls) zero are within = line_some l.0 l.1 (λ eof. (are.1 eof).0)
-  where
-    line_some : (text : List ℕ) (ending : EndLine) → (ending ≡ Eof → 0 < length text) → 0 < length (line_bytes (text, ending))
-    line_some [] Eof some = absurd (omega (arith, some refl))
-    line_some [] Lf some = omega arith
-    line_some [] Crlf some = omega arith
-    line_some (b ∷ text) ending some = omega arith
+line_bytes-some (l ∷ ls) zero are within = line_with_end-some l.0 l.1 (λ eof. (are.1 eof).0)
 line_bytes-some (l ∷ ls) (suc k) are within = line_bytes-some ls k are.2 (omega arith)
 
 -- no line but the last ends where the source does

@@ -4,6 +4,7 @@ use Rattle.std.proofs.Common.{[], ◌∷◌, ◌++◌, length, take, get_or, inl
 use Rattle.std.specs.List.{All, filter, list_any, range_with_len}
 use Rattle.std.specs.List.Sorted.{IsNonDecreasingBy, IsBinarySearchResult, IsPermutation}
 use Rattle.std.specs.Result.{is_ok}
+use Rattle.std.proofs.Math.Bool.{and-false, and-true, or-false}
 use Rattle.std.proofs.lemmas.Bool.{cases_Bool, cases_lt, cases_eq, or_from, le-leb, lt-leb, lt-ltb, eq-eqb, ne_eqb, eqb-true, or_left, or_right}
 use Rattle.std.proofs.lemmas.List.{append-nil, take_more, take_all, get_or-take, length-take}
 use Rattle.std.proofs.lemmas.List.Elements.{All-nil, All-cons, All-head, All-tail, All-filter, All-from_get_or, All-weaker, filter-append, filter_agree}
@@ -213,10 +214,6 @@ holds-not_above s k before = ap (λ b. b && leb k s.last) (lt-leb s.first k befo
 
 holds-not_below : (s : Stretch) (k : ℕ) → s.last < k → holds_line s k ≡ false
 holds-not_below s k after = ap (λ b. leb s.first k && b) (lt-leb k s.last after) ∙ and-false (leb s.first k)
-  where
-    and-false : (b : Bool) → (b && false) ≡ false
-    and-false true = refl
-    and-false false = refl
 
 unpushed : {X : Type 0} (P : X → Type 0) (xs : List X) (y : X) → All P (xs ++ y ∷ []) → All P xs × P y
 unpushed P [] y all = (All-nil P, All-head P y [] all)
@@ -256,10 +253,6 @@ merged-more stretches count i s d next from to now new among at sorted before fr
           sorted j i d (omega (arith, length-take i stretches)) among,
           ap (λ (t : Stretch). t.first) at,
         ))
-
-    or-false : (b : Bool) → (b || false) ≡ b
-    or-false true = refl
-    or-false false = refl
 
     first : (k : ℕ) → k < next → held k ≡ old k
     first k below =
@@ -311,10 +304,6 @@ held-permuted stretches sorted count same =
 pub held-push : (stretches : List Stretch) (s : Stretch) (k : ℕ) → is_held (stretches ++ s ∷ []) k ≡ (is_held stretches k || holds_line s k)
 held-push stretches s k =
     list_any-append (λ (t : Stretch). holds_line t k) stretches (s ∷ []) ∙ ap (λ b. is_held stretches k || b) (or-false (holds_line s k))
-  where
-    or-false : (b : Bool) → (b || false) ≡ b
-    or-false true = refl
-    or-false false = refl
 
 -- the two stretches of one more span
 pub held-two : {A : Type 0} (p : ℕ → A → Bool) (spans : List A) (i : ℕ) (x : A) (old mid new : List Stretch) (s t : Stretch) → i < length spans
@@ -360,10 +349,6 @@ among-kept p n k within =
     any-filter_same (λ j. eqb j k) p (p k) (λ j same. ap p (eqb-true j k same)) (range_with_len 0 n)
     ∙ ap (λ b. p k && b) (list_any_at (λ j. eqb j k) (range_with_len 0 n) k 0 (omega (arith, length-range_with_len 0 n))
     (eq-eqb (get_or (range_with_len 0 n) k 0) k (omega (arith, get_or-range_with_len 0 n k 0 within)))) ∙ and-true (p k)
-  where
-    and-true : (b : Bool) → (b && true) ≡ b
-    and-true true = refl
-    and-true false = refl
 
 -- what is found by halves is among lines in order
 pub among-found : (ks : List ℕ) (k : ℕ) (r : Result ℕ ℕ) → IsBinarySearchResult (λ y. nat_cmp y k) ks r → IsNonDecreasingBy (λ (j : ℕ). j) ks

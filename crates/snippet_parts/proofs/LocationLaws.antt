@@ -139,11 +139,11 @@ first-there place_on line_at k ks n place missing first = record {
   ];
 }
 
-first_found : (place_on : KeptLine → Option Location) (line_at : ℕ → KeptLine) (ks : List ℕ) (some : ℕ) → Ascends ks → Contains ks some
+first_placed : (place_on : KeptLine → Option Location) (line_at : ℕ → KeptLine) (ks : List ℕ) (some : ℕ) → Ascends ks → Contains ks some
     → is_some (place_on (line_at some)) ≡ true → (k : ℕ) × (place : Location) × IsFirst place_on line_at ks k place
-first_found place_on line_at [] some rises among has = absurd (omega (arith, among.1))
-first_found place_on line_at (k ∷ ks) some rises among has =
-    by (place_on (line_at k)) refl (λ later. first_found place_on line_at ks some (ascends-tail k ks rises) later has)
+first_placed place_on line_at [] some rises among has = absurd (omega (arith, among.1))
+first_placed place_on line_at (k ∷ ks) some rises among has =
+    by (place_on (line_at k)) refl (λ later. first_placed place_on line_at ks some (ascends-tail k ks rises) later has)
   where
     later-ones : place_on (line_at k) ≡ None → Contains ks some
     later-ones missing =
@@ -248,7 +248,7 @@ named-by choice test fold s marks a spans chooses among passes =
     let has : (b : Annotation) → Contains marks b → test b ≡ true → is_some (least_place choice (kept_line s marks (first_line s.text b)))
     ≡ true = λ b found passed. has-place choice test s marks (first_line s.text b) b chooses
     (starts-there test s marks (first_line s.text b) b found passed refl) in
-    let first = first_found (least_place choice) (kept_line s marks) ks (first_line s.text a) (kept-ascends fold s.text marks) (kept-first a among)
+    let first = first_placed (least_place choice) (kept_line s marks) ks (first_line s.text a) (kept-ascends fold s.text marks) (kept-first a among)
     (has a among passes) in
     let k : ℕ = first.0 in
     let lowest = place_found choice test s marks k first.1 chooses first.2.has in

@@ -457,10 +457,10 @@ naming-place marks start is fold s utf8 all =
 
 -- ---- a span of no bytes may stand at this byte
 
-start-border : (test : Annotation → Bool) (source : List ℕ) (marks : List Annotation)
+least_start-border : (test : Annotation → Bool) (source : List ℕ) (marks : List Annotation)
     → ((a : Annotation) → Among marks a → IsSpan source a.span.start a.span.end)
     → IfSome (least (map (λ (a : Annotation). a.span.start) (filter test marks))) (λ b. IsSpan source b b)
-start-border test source marks spans = by (filter test marks) refl
+least_start-border test source marks spans = by (filter test marks) refl
   where
     empty : (a : Annotation) → IsSpan source a.span.start a.span.end → IsSpan source a.span.start a.span.start
     empty a span = record { ordered = omega arith; within = omega (arith, span.ordered, span.within); from = span.from; to = span.from }
@@ -478,7 +478,7 @@ pub naming-border : (marks : List Annotation) (start : Option ℕ) → start ≡
     → All (λ a. IsSpan source a.span.start a.span.end) marks → IfSome start (λ b. IsSpan source b b)
 naming-border marks start is source all =
     subst (λ o. IfSome o (λ b. IsSpan source b b)) (sym is) (either (least (primary_starts marks)) (least (marked_starts marks))
-    (start-border (λ a. is_primary a.kind) source marks spans) (start-border (λ a. is_marking a.kind) source marks spans))
+    (least_start-border (λ a. is_primary a.kind) source marks spans) (least_start-border (λ a. is_marking a.kind) source marks spans))
   where
     spans : (a : Annotation) → Among marks a → IsSpan source a.span.start a.span.end
     spans a among = all_among (λ a. IsSpan source a.span.start a.span.end) marks a all among

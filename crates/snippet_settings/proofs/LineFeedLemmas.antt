@@ -21,9 +21,9 @@ same_after c cs false is none below =
     let rest : list_any (λ d. d == 10) cs ≡ false = rw is at none in
     ap (λ (t : Bool). (if t then 0x240A else c) ∷ with_line_feeds_shown cs) is ∙ ap (λ (t : List ℕ). c ∷ t) (below rest)
 
-pub shown-same : (cs : List ℕ) → list_any (λ c. c == 10) cs ≡ false → with_line_feeds_shown cs ≡ cs
-shown-same [] none = refl
-shown-same (c ∷ cs) none = same_after c cs (c == 10) refl none (shown-same cs)
+pub shown-feedless : (cs : List ℕ) → list_any (λ c. c == 10) cs ≡ false → with_line_feeds_shown cs ≡ cs
+shown-feedless [] none = refl
+shown-feedless (c ∷ cs) none = same_after c cs (c == 10) refl none (shown-feedless cs)
 
 -- one more character is written
 pub shown-written : (old new cs : List ℕ) (c p : ℕ) → new ≡ old ++ encode_utf8 p → old ≡ encode_utf8_all (with_line_feeds_shown cs) → p ≡ picture_of c

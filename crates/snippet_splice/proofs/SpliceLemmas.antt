@@ -234,10 +234,10 @@ drop-part f w r s size =
     ap (drop (s + length w)) (sym (append_assoc f w r)) ∙ drop_at (f ++ w) r (s + length w) (omega (arith, length-append f w, size))
 
 -- without CR in the source, and no edit after a final LF, the text that is shown is the spliced text
-pub shown-part : (fold : Bool) (source : List ℕ) (es : List Edit) → HasNoCr source → AreBeforeFinalLf source (trimmed_edits source es)
+pub IsShownPart-plain : (fold : Bool) (source : List ℕ) (es : List Edit) → HasNoCr source → AreBeforeFinalLf source (trimmed_edits source es)
     → AreApart 0 (in_order es) → trimmed_edits source es ≢ [] → IsShownPart fold source es
 unfolding shown_text spliced_text
-shown-part false source es none before apart some =
+IsShownPart-plain false source es none before apart some =
     let ts : List Edit = trimmed_edits source es in
     let w : List ℕ = written source 0 ts in
     let r : List ℕ = drop (end_from 0 ts) source in
@@ -255,7 +255,7 @@ shown-part false source es none before apart some =
       text = refl;
       spliced = ap without_final_line_feeds whole;
     }
-shown-part true source es none before apart some =
+IsShownPart-plain true source es none before apart some =
     let ts : List Edit = trimmed_edits source es in
     let s : ℕ = shown_start true source (first_start (in_order es)) in
     let f : List ℕ = slice_range source 0 s in

@@ -7,6 +7,7 @@ use Rattle.std.proofs.lemmas.Bool.{and_parts, cases_lt, cases_eq}
 use Rattle.std.proofs.lemmas.Bool.Decides.{nat_tests}
 use Rattle.std.proofs.lemmas.List.{places, length-append, length-replicate, get_or_append_left, get_or_push, length_push, get_or-drop, get_or_past}
 use Rattle.std.proofs.lemmas.List.{get_or-replicate, ext_get_or, append-nil, append_assoc, take-append-drop, drop_all, get_or-take, replicate_more, same_lists}
+use Rattle.std.proofs.Math.Bool.{and-false, and-true}
 use Rattle.std.proofs.Math.Seq.{drop-append_seam}
 use Rattle.std.proofs.lemmas.List.Elements.{All-get_or}
 use Rattle.std.proofs.lemmas.List.Sorted.{Contains-permutation, IsPermutation-map, IsPermutation-trans, sum_by-IsPermutation}
@@ -52,10 +53,10 @@ begun_row layout closes old begun count k begins within =
     ap (λ rows. row_at rows (length old + k)) begins ∙ elim (cases_eq (k + 1) count) [
       | inl here ↦
           last (bare_row layout.decor layout.gutter closes) (separator_row layout.decor layout.gutter) here
-          ∙ ap (bare_row layout.decor layout.gutter) (sym (ap (λ b. closes && b) (is_last here) ∙ and_true closes))
+          ∙ ap (bare_row layout.decor layout.gutter) (sym (ap (λ b. closes && b) (is_last here) ∙ and-true closes))
       | inr other ↦
           after (bare_row layout.decor layout.gutter closes) (separator_row layout.decor layout.gutter) (omega (arith, within, other))
-          ∙ ap (bare_row layout.decor layout.gutter) (sym (ap (λ b. closes && b) (not_last other) ∙ and_false closes))
+          ∙ ap (bare_row layout.decor layout.gutter) (sym (ap (λ b. closes && b) (not_last other) ∙ and-false closes))
     ]
   where
     last : (end sep : List Cell) → k + 1 ≡ count → row_at (old ++ replicate (count - 1) sep ++ end ∷ []) (length old + k) ≡ end
@@ -75,14 +76,6 @@ begun_row layout closes old begun count k begins within =
 
     not_last : (k + 1 ≡ count → ⊥) → (k + 1 == count) ≡ false
     not_last other = grind (arith, nat_tests, other)
-
-    and_true : (b : Bool) → (b && true) ≡ b
-    and_true true = refl
-    and_true false = refl
-
-    and_false : (b : Bool) → (b && false) ≡ false
-    and_false true = refl
-    and_false false = refl
 
 -- after a short row, the cells that are written and the space before them
 pub written_far : (row cells : List Cell) (at : ℕ) → length row ≤ at → drop at (written SPACE row (at + 1) cells) ≡ SPACE ∷ cells

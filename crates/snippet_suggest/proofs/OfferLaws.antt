@@ -13,7 +13,7 @@ use Rattle.snippet_splice.specs.Overlap.{AreDisjoint}
 use Rattle.snippet_splice.specs.Spliced.{AreFrom, texts_of}
 use Rattle.snippet_splice.proofs.OverlapLemmas.{apart-in_order, ordered-spans}
 use Rattle.snippet_splice.proofs.ShownLemmas.{some-edits}
-use Rattle.snippet_splice.proofs.SpliceLemmas.{IsShownPart, shown-part}
+use Rattle.snippet_splice.proofs.SpliceLemmas.{IsShownPart, IsShownPart-plain}
 use Rattle.snippet_splice.proofs.LineLemmas.{AreFrom-at, shown-lines}
 use Rattle.snippet_suggest.specs.Given.{IsOfferable, edits_of, first_given, given_lines, given_ranges, is_left_out, last_reached, numbers_given, offered_lines}
 use Rattle.snippet_suggest.specs.Given.{shown_kind}
@@ -34,7 +34,7 @@ edits-apart s spans disjoint =
 pub given-part : (s : Snippet Patch) → HaveSpans s → AreDisjoint (edits_of s) → s.markers.items ≢ [] → IsOfferable s
     → IsShownPart s.fold (cow_str_bytes s.source) (edits_of s)
 given-part s spans disjoint some offerable =
-    shown-part s.fold (cow_str_bytes s.source) (edits_of s) offerable.no_cr offerable.before (edits-apart s spans disjoint)
+    IsShownPart-plain s.fold (cow_str_bytes s.source) (edits_of s) offerable.no_cr offerable.before (edits-apart s spans disjoint)
     (some-edits (cow_str_bytes s.source) s.markers.items some)
 
 -- the lines that are given are lines of the patched source, one after the other

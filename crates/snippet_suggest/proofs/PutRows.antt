@@ -23,9 +23,9 @@ ch_at (cell ∷ row) zero = refl
 ch_at (cell ∷ row) (suc c) = ch_at row c
 
 -- what holds of a cell of a row, and of each that is written into it, holds of the cell that stands there then
-pub cell_written : (P : Cell → Type 0) (row : List Cell) (at c : ℕ) (cells : List Cell) → P (slice_index_or row c SPACE) → All P cells
+pub cell_after_write : (P : Cell → Type 0) (row : List Cell) (at c : ℕ) (cells : List Cell) → P (slice_index_or row c SPACE) → All P cells
     → P (slice_index_or (written SPACE row at cells) c SPACE)
-cell_written P row at c cells there all =
+cell_after_write P row at c cells there all =
     elim (cases_lt c at) [
       | inl before ↦ subst P (sym (slice_index_or-written_before SPACE row at cells c before)) there
       | inr not_before ↦
@@ -44,7 +44,7 @@ pub put_cell : (P : Cell → Type 0) (role : ElementStyle) (cs : List ℕ) (at c
     → All (λ ch. P (unlinked_cell role ch)) cs → P (slice_index_or (put role cs at row) c SPACE)
 unfolding put
 put_cell P role [] at c row there all = there
-put_cell P role (x ∷ cs) at c row there all = cell_written P row at c (text_cells role (x ∷ cs)) there (All-text_cells P role (x ∷ cs) all)
+put_cell P role (x ∷ cs) at c row there all = cell_after_write P row at c (text_cells role (x ∷ cs)) there (All-text_cells P role (x ∷ cs) all)
 
 -- the cells before them stay, and those after them
 pub put_before : (role : ElementStyle) (cs : List ℕ) (at c : ℕ) (row : List Cell) → c < at

@@ -50,8 +50,8 @@ use Rattle.snippet_suggest.proofs.RepaintLemmas.{changed_same, same_line, same_r
 -- ---- a line that is offered
 
 -- none of the characters of a normalised text is listed
-norm_unlisted : (line : List ℕ) → All (λ c. is_listed c ≡ false) (norm (chars line))
-norm_unlisted line = each_fails is_listed (norm (chars line)) (list_any-norm (chars line))
+norm_without_listed : (line : List ℕ) → All (λ c. is_listed c ≡ false) (norm (chars line))
+norm_without_listed line = each_fails is_listed (norm (chars line)) (list_any-norm (chars line))
 
 -- a row that takes roles by stretches keeps its characters
 pub with_same : (role : ElementStyle) (gutter : ℕ) (cs : List ℕ) (ss : List SubstitutionHighlight) (row : List Cell)
@@ -95,7 +95,7 @@ line_shows layout glyph number line is small fits =
       holds = put_ends NoStyle text (g + 3) numbered (put_within LineNumber digits 0 (g + 3) signed short (omega (arith, fits)));
       free = put_free NoStyle text (g + 3) numbered (put_free LineNumber digits 0 signed (put_free (suggestion_role_of glyph) cs (g + 1) []
           (stroke_none decor g).bare.free (each_fails is_listed cs (glyph_unlisted decor glyph)))
-          (shown_number_unlisted layout.numbers g number small)) (norm_unlisted line);
+          (shown_number_unlisted layout.numbers g number small)) (norm_without_listed line);
     }
 
 -- each sign is one that stands beside a line
@@ -182,7 +182,7 @@ removed_shows layout role number line under small bare =
           ∙ put_after Removal removed (g + 1) c numbered (omega (arith, right))))
           (left_over layout number c under small (omega (arith, right)) (bare.marks c (omega (arith, right))));
       free = put_free role text (g + 3) signed (put_free Removal removed (g + 1) numbered (put_free LineNumber digits 0 under bare.free
-          (shown_number_unlisted layout.numbers g number small)) (each_fails is_listed removed refl)) (norm_unlisted line);
+          (shown_number_unlisted layout.numbers g number small)) (each_fails is_listed removed refl)) (norm_without_listed line);
     }
 
 -- so does that of a line whose stretches that are replaced have their role

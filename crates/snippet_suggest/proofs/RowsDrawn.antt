@@ -4,6 +4,7 @@ use Rattle.std.proofs.Common.{arith, chars, append_assoc}
 use mir.Val.{bool_byte}
 use Rattle.std.specs.Str.{bytes_eq}
 use Rattle.std.proofs.lemmas.Bool.{cond-false, cond-true}
+use Rattle.std.proofs.Math.Bool.{or-true}
 use Rattle.std.proofs.Math.ListN.{get_or-map}
 use Rattle.snippet_style.specs.Cell.{Cell}
 use Rattle.snippet_style.specs.declared.role.ElementStyle.TheVariants.{NoStyle, Removal}
@@ -214,10 +215,6 @@ diff_shown layout first infos replaced line added last stays is shown =
 -- a line that is the last that is reached isn't shown
 pub stays_left : (line last : List ℕ) → bytes_eq line last ≡ true → is_left_out Diff (line ∷ []) last ≡ true
 stays_left line last same = ap (λ b. is_blank line || b) same ∙ or-true (is_blank line)
-  where
-    or-true : (b : Bool) → (b || true) ≡ true
-    or-true true = refl
-    or-true false = refl
 
 -- the lines that are drawn, where the last may stay
 pub left_infos : (infos : List LineInfo) (count : ℕ) (stays : Bool) → count ≡ length infos - bool_byte stays → take count infos ≡ unless_stays stays infos

@@ -51,16 +51,16 @@ unfolding cells_of
 empty_is layout s under = refl
 
 -- lines that are shown, which have the same stretches
-pub shown_same : (layout : SuggestionLayout) (kind : DisplaySuggestion) (first : ℕ) (lines : List (List ℕ)) (f g : ℕ → List SubstitutionHighlight)
+pub rows_of_same_stretches : (layout : SuggestionLayout) (kind : DisplaySuggestion) (first : ℕ) (lines : List (List ℕ)) (f g : ℕ → List SubstitutionHighlight)
     (shown : List SuggestionLine) → ((k : ℕ) → f k ≡ g k) → map (suggestion_row layout kind first lines f) shown
     ≡ map (suggestion_row layout kind first lines g) shown
-shown_same layout kind first lines f g [] same = refl
-shown_same layout kind first lines f g (Line k ∷ shown) same =
+rows_of_same_stretches layout kind first lines f g [] same = refl
+rows_of_same_stretches layout kind first lines f g (Line k ∷ shown) same =
     let Row : List SubstitutionHighlight → List Cell = λ ss. suggestion_row layout kind first lines (λ n. ss) (Line k) in
     ap (λ ss. Row ss ∷ map (suggestion_row layout kind first lines f) shown) (same k)
-    ∙ ap (λ rows. Row (g k) ∷ rows) (shown_same layout kind first lines f g shown same)
-shown_same layout kind first lines f g (Gap ∷ shown) same =
-    ap (λ rows. suggestion_row layout kind first lines g Gap ∷ rows) (shown_same layout kind first lines f g shown same)
+    ∙ ap (λ rows. Row (g k) ∷ rows) (rows_of_same_stretches layout kind first lines f g shown same)
+rows_of_same_stretches layout kind first lines f g (Gap ∷ shown) same =
+    ap (λ rows. suggestion_row layout kind first lines g Gap ∷ rows) (rows_of_same_stretches layout kind first lines f g shown same)
 
 pub shown_is : (layout : SuggestionLayout) (s : Snippet Patch) (shown : List SuggestionLine)
     → map (cells_of layout s []) (map row_of_shown shown) ≡ map (suggestion_row layout (shown_kind s) (s.line_start + first_given s) (given_lines s)

@@ -96,9 +96,9 @@ module _ (P : List Cell → Type 0) (first further : List Cell) (r : ElementStyl
   further-each (line ∷ lines) =
       All-cons P (further ++ text_cells r line) (map (λ l. further ++ text_cells r l) lines) (below line) (further-each lines)
 
-  lines-each : (lines : List (List ℕ)) → All P (lines_below first further r lines)
-  lines-each [] = All-nil P
-  lines-each (line ∷ lines) =
+  lines_below-each : (lines : List (List ℕ)) → All P (lines_below first further r lines)
+  lines_below-each [] = All-nil P
+  lines_below-each (line ∷ lines) =
       All-cons P (first ++ text_cells r line) (map (λ l. further ++ text_cells r l) lines) (begun line) (further-each lines)
 
 -- a row that reaches past the gutter and has no number in it
@@ -134,7 +134,7 @@ message_rows-unnumbered hyperlink place heading =
     let further : IsLed place.layout.gutter (spaces ++ bar) = led-more place.layout.gutter spaces bar (spaces-led place.layout.gutter) in
     let P : List Cell → Type 0 = HasNoNumber place.layout.gutter in
     All-trimmed P (lines_below ((spaces ++ sign) ++ label) (spaces ++ bar) roles.text (heading_lines heading))
-    (lines-each P ((spaces ++ sign) ++ label) (spaces ++ bar)
+    (lines_below-each P ((spaces ++ sign) ++ label) (spaces ++ bar)
     roles.text (λ line. (led-more place.layout.gutter ((spaces ++ sign) ++ label) (text_cells roles.text line) first).1)
     (λ line. (led-more place.layout.gutter (spaces ++ bar) (text_cells roles.text line) further).1) (heading_lines heading))
 
@@ -162,7 +162,7 @@ heading_rows-unlinked hyperlink style heading none =
     let further : List Cell = indent_cells style (label_width heading) in
     let first : All IsUnlinked (sign ++ label) = All-append IsUnlinked sign label (sign_unlinked style) (label-unlinked hyperlink roles heading none) in
     All-trimmed (All IsUnlinked) (lines_below (sign ++ label) further roles.text (heading_lines heading))
-    (lines-each (All IsUnlinked) (sign ++ label)
+    (lines_below-each (All IsUnlinked) (sign ++ label)
     further roles.text (λ line. All-append IsUnlinked (sign ++ label) (text_cells roles.text line) first (drawn_unlinked roles.text line))
     (λ line. All-append IsUnlinked further (text_cells roles.text line) (indent_unlinked style (label_width heading))
     (drawn_unlinked roles.text line)) (heading_lines heading))

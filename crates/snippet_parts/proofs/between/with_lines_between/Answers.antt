@@ -1,6 +1,6 @@
-use Rattle.std.proofs.Common.{◌≡◌, ◌<◌, ◌^◌, All, None, Some, List, [], ◌∷◌, ◌++◌, map, length, refl, sym, ap, subst, ◌∙◌, append_assoc, append-nil, arith}
+use Rattle.std.proofs.Common.{◌≡◌, ◌<◌, ◌^◌, All, None, Some, List, [], ◌∷◌, ◌++◌, map, length, sym, ap, subst, ◌∙◌, append_assoc, append-nil, arith}
 use Rattle.std.specs.Vec.Iter.{into_iter_items}
-use Rattle.std.proofs.lemmas.List.{map_push}
+use Rattle.std.proofs.lemmas.List.{map_push, nil_from_length}
 use Rattle.std.proofs.lemmas.List.Elements.{All-tail}
 use Rattle.snippet_parts.specs.declared.entries.AnnotatedLineInfo.{AnnotatedLineInfo}
 use Rattle.snippet_parts.specs.declared.shown_line.ShownLine.{ShownLine}
@@ -10,10 +10,6 @@ use Rattle.snippet_parts.specs.ShownLines.{infos_of, kept_of}
 use Rattle.snippet_parts.proofs.BetweenLemmas.{filled, filled-shown}
 use Rattle.snippet_parts.proofs.ShownLineLemmas.{infos_of-push, kept_of-kept}
 use Rattle.snippet_parts.proofs.between.with_lines_between.Goals as goal
-
-nothing_left : {X : Type 0} (l : List X) → length l ≡ 0 → l ≡ []
-nothing_left [] h = refl
-nothing_left (x ∷ xs) h = absurd (omega arith)
 
 -- a line can be measured
 abbrev Fits : AnnotatedLineInfo → Type 0
@@ -68,7 +64,7 @@ returns c =
     let at = c.loop-info in
     let s = c.args.source.now in
     let lines : List KeptLine = map seen_kept (infos_of at.shown.items) in
-    let empty : into_iter_items at.info-iterator ≡ [] = nothing_left _ (sym at.invariant.left ∙ c.in-None.ensures.steps.0) in
+    let empty : into_iter_items at.info-iterator ≡ [] = nil_from_length _ (sym at.invariant.left ∙ c.in-None.ensures.steps.0) in
     record {
       kept_are = sym (append-nil (kept_of at.shown.items)) ∙ sym (ap (λ is. kept_of at.shown.items ++ is) empty) ∙ at.invariant.kept;
       value = λ fold marks spans kept. sym (append-nil lines) ∙ sym (ap (λ is. lines ++ filled s at.before (map seen_kept is)) empty) ∙ at.invariant.lines

@@ -15,7 +15,7 @@ use Rattle.snippet_splice.specs.EditStretches.{capped, extent_of, extents_from, 
 use Rattle.snippet_splice.proofs.PlaceLemmas.{replaced_are, stretches_are}
 use Rattle.snippet_splice.proofs.ShownLineLemmas.{num_replaced, num_shown}
 use Rattle.snippet_splice.proofs.ShownLemmas.{none_given, first-given, shown_start-border, shown-apart, shown-value, some-trimmed}
-use Rattle.snippet_splice.proofs.SpliceLemmas.{IsShownPart, shown-part}
+use Rattle.snippet_splice.proofs.SpliceLemmas.{IsShownPart, IsShownPart-plain}
 use Rattle.snippet_splice.proofs.WriteLemmas.{without_final-twice}
 use Rattle.snippet_splice.proofs.LineLemmas.{shown-lines}
 use Rattle.snippet_splice.proofs.TouchLemmas.{shown-touched}
@@ -109,7 +109,8 @@ returns-clause-splice c =
     let some : trimmed_edits source es ≢ [] = some-trimmed c.in_ok-patches.patches.items
     (trimmed_edits source es) c.in-Some.first.now c.in_ok-patches.ensures.edits
     (sym (c.in-Some.ensures.value ∙ ap (λ l. slice_get l 0) c.deref.ensures.value)) in
-    let part : IsPlainSplice source es → IsShownPart c.args.fold source es = λ plain. shown-part c.args.fold source es plain.no_cr plain.before apart some in
+    let part : IsPlainSplice source es → IsShownPart c.args.fold source es = λ plain.
+    IsShownPart-plain c.args.fold source es plain.no_cr plain.before apart some in
     record {
       edits = c.in_ok-patches.ensures.edits;
       originals = c.in_ok-patches.ensures.originals;

@@ -9,7 +9,7 @@ use Rattle.snippet_splice.specs.EditStretches.{line_stretches}
 use Rattle.snippet_suggest.specs.declared.kind.DisplaySuggestion.{DisplaySuggestion}
 use Rattle.snippet_suggest.specs.Cells.{begin_cells, suggestion_row}
 use Rattle.snippet_suggest.specs.Suggested.{new_on}
-use Rattle.snippet_suggest.proofs.SuggestedRows.{body_shown, shown_same}
+use Rattle.snippet_suggest.proofs.SuggestedRows.{body_shown, rows_of_same_stretches}
 use Rattle.snippet_lines.specs.Lines.{source_lines}
 use Rattle.snippet_lines.specs.Place.{line_of}
 use Rattle.snippet_lines.specs.Span.{IsSpan}
@@ -85,7 +85,7 @@ returns-clause-cells c = λ above tail is count.
     ∙ ap (λ ls. Rows (shown_kind s) at ls c.deref-3.result.now (length a.lines.now)) c.requires.lines
     ∙ ap (λ rs. Rows (shown_kind s) at lines rs (length a.lines.now)) ranges ∙ ap (Rows (shown_kind s) at lines (given_ranges s)) size in
     let below : Rows (shown_kind s) at lines (given_ranges s) (length lines)
-    ≡ map (suggestion_row l (shown_kind s) at lines (new_on s)) shown = shown_same l (shown_kind s) at lines stretches (new_on s) shown same in
+    ≡ map (suggestion_row l (shown_kind s) at lines (new_on s)) shown = rows_of_same_stretches l (shown_kind s) at lines stretches (new_on s) shown same in
     let line = lines_some (λ l. l.now) a.lines.now lines c.in-Some.line.now (sym c.in-Some.ensures.value) c.requires.lines in
     let kind : shown_kind s ≢ Diff = λ diff. other (c.requires.prepared.kind ∙ diff) in
     let rows = rows_others a.start s _ line.0 line.1 kind in
