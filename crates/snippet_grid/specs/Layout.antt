@@ -13,6 +13,10 @@ pub record Layout : Type 0 where
 abbrev pub separator_cell : Layout → ℕ
 separator_cell layout = layout.gutter + 1
 
+-- the cell of the space after the separator
+abbrev pub space_cell : Layout → ℕ
+space_cell layout = layout.gutter + 2
+
 -- the first cell right of the separator and the space after it
 abbrev pub inner_cell : Layout → ℕ
 inner_cell layout = layout.gutter + 3

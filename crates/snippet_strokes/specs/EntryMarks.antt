@@ -20,8 +20,8 @@ use Rattle.snippet_labels.specs.PlacedEntries.{entry_width}
 abbrev pub EntryCovers : LineAnnotation → ℕ → Type 0
 EntryCovers e p = (e.start.display ≤ p) × (p < e.end.display)
 
--- there is a cell for the bar of an entry, and one after it, between the separator and the code: bars stand from cell
--- `gutter + 3` on, that of depth 1 first
+-- there is a cell for the bar of an entry, and one after it, between the separator and the code: bars stand from the inner
+-- cell on, that of depth 1 first
 abbrev pub HasBarCellAt : Layout → LineAnnotationType → Type 0
 HasBarCellAt layout Singleline = Unit {0}
 HasBarCellAt layout (MultilineStart depth) = (0 < depth) × (inner_cell layout + depth < layout.code)

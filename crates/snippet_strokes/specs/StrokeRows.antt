@@ -13,7 +13,7 @@ use Rattle.snippet_style.specs.Glyphs.{placeholder_of, elision_of, underline_rol
 use Rattle.snippet_grid.specs.Print.{row_text}
 use Rattle.snippet_grid.specs.Grid.{row_at, cell_at, restyled}
 use Rattle.snippet_style.specs.Cell.{Cell, SPACE, text_cells, gives_way}
-use Rattle.snippet_grid.specs.Layout.{Layout, inner_cell}
+use Rattle.snippet_grid.specs.Layout.{Layout, inner_cell, space_cell}
 use Rattle.snippet_strokes.specs.EntryMarks.{EntryCovers, IsEntryMark, IsMarkCell, IsBarCell, are_plain, has_mark_role, wide_entries}
 use Rattle.snippet_labels.specs.PlacedEntries.{label_text, label_role}
 use Rattle.snippet_model.specs.AnnotationKind.{is_primary}
@@ -72,8 +72,8 @@ pub record CutsRows (layout : Layout) (wide : ℕ) (above : List (List Cell)) (s
 -- a source row with its bars beside it, and cut where entries are wide: it begins as this row does, and where bars stand it
 -- holds nothing but parts of them
 pub record IsBeside (layout : Layout) (wide : ℕ) (plain row : List Cell) : Type 0 where
-  pub front : take (layout.gutter + 2) row ≡ take (layout.gutter + 2) plain
-  pub gap : slice_index_or row (layout.gutter + 2) SPACE ≡ slice_index_or plain (layout.gutter + 2) SPACE
+  pub front : take (space_cell layout) row ≡ take (space_cell layout) plain
+  pub gap : slice_index_or row (space_cell layout) SPACE ≡ slice_index_or plain (space_cell layout) SPACE
   pub bar_cells : (c : ℕ) → inner_cell layout ≤ c → c < layout.code → IsBarCell layout.decor (slice_index_or row c SPACE)
   pub text : AreReplaced (placeholder_of layout.decor) wide (row_text (drop layout.code plain)) (row_text (drop layout.code row))
   pub uncut : wide ≡ 0 → drop layout.code row ≡ drop layout.code plain
@@ -82,7 +82,7 @@ pub record IsBeside (layout : Layout) (wide : ℕ) (plain row : List Cell) : Typ
 -- a source row that is drawn, but for its bars: spaces stand in their place, of whatever role
 abbrev pub HasNoBars : Layout → List Cell → Type 0
 HasNoBars layout row =
-    (layout.gutter + 2 ≤ length row) × ((c : ℕ) → inner_cell layout ≤ c → c < layout.code → IsBarCell layout.decor (slice_index_or row c SPACE))
+    (space_cell layout ≤ length row) × ((c : ℕ) → inner_cell layout ≤ c → c < layout.code → IsBarCell layout.decor (slice_index_or row c SPACE))
 
 -- the strokes of a line were drawn below its source row, which is the last row that is there, and beside it
 pub record AddsStrokes (layout : Layout) (room : ℕ) (es : List LineAnnotation) (closes : Bool) (above : List (List Cell)) (plain : List Cell)
