@@ -9,7 +9,7 @@ use Rattle.snippet_model.specs.declared.snippet.Title.{Title}
 use Rattle.snippet_model.specs.declared.snippet.Message.{Message}
 use Rattle.snippet_model.specs.Fits.{TextFits, LevelFits, IdFits}
 
--- what a title or a message answers: its level, its identifier if it has one, the bytes of its text, and whether that text
+-- what a title or a message returns: its level, its identifier if it has one, the bytes of its text, and whether that text
 -- is trusted
 pub record Heading : Type 0 where
   pub level : Level
@@ -17,12 +17,12 @@ pub record Heading : Type 0 where
   pub text : List ℕ
   pub allows_styling : Bool
 
--- what a title answers
+-- what a title returns
 abbrev pub heading_of_title : Title → Heading
 heading_of_title title =
     record { level = title.level; id = title.id; text = cow_str_bytes title.text; allows_styling = title.allows_styling }
 
--- what a message answers: it has no identifier, and its text is trusted
+-- what a message returns: it has no identifier, and its text is trusted
 abbrev pub heading_of_message : Message → Heading
 heading_of_message message =
     record { level = message.level; id = None; text = cow_str_bytes message.text; allows_styling = true }

@@ -1,5 +1,5 @@
 //! What a report is made of: levels and titles, snippets of source with their annotations or patches, and the groups
-//! that hold them. Each builder keeps exactly what it is given; nothing here is judged or drawn.
+//! that hold them. Each builder keeps exactly what it is given; nothing here is validated or drawn.
 #![tactic(auto)]
 
 pub mod level;

@@ -1,4 +1,4 @@
--- Where in a source a place is that is named by line and column, and what is answered where the source doesn't hold it.
+-- Where in a source a place is that is named by line and column, and what is returned where the source doesn't hold it.
 use Rattle.std.specs.Prelude.{◌≡◌, ℕ, zero, suc, ◌+◌, ◌-◌, ◌≤◌, nat_le, nat_lt, max, ◌==◌, ◌&&◌, ◌||◌, not, Bool, true, false, List, [], ◌∷◌, chars, drop}
 use Rattle.std.specs.Prelude.{length}
 use Rattle.std.specs.Prelude.{slice_get, slice_index_or, if◌then◌else◌}
@@ -71,7 +71,7 @@ pub record IsHeld (text : List ℕ) (p : Place) : Type 0 where
   pub exact : p.exact ≡ true
   pub border : IsCharBoundary text p.byte
 
--- what is answered for two places: a part of the text between characters, from the one to the other where the text holds both, in that
+-- what is returned for two places: a part of the text between characters, from the one to the other where the text holds both, in that
 -- order; and only where it is said not to be does it differ
 pub record IsLocated (text : List ℕ) (from to : Place) (r : SpanAt) : Type 0 where
   pub ordered : r.span.start ≤ r.span.end

@@ -13,7 +13,7 @@ use snippet_model::Patch;
 ///
 /// Two patches overlap where, in the order by start, then end, else as given, the first ends after the start of the
 /// second. No span may have a fault, as `check_span` finds it. It takes no memory; patches that are given in order, and
-/// don't overlap, cost one walk. Of `abc`, 0..2 and 1..3 overlap: the answer is 0 and 1.
+/// don't overlap, cost one walk. Of `abc`, 0..2 and 1..3 overlap: 0 and 1 are returned.
 pub fn check_patches(source: &str, patches: &[Patch<'_>]) -> Option<(usize, usize)>
     requires spans { All (λ p. IsSpan source.now p.span.start p.span.end) patches.now }
     ensures some { IfSome result (λ t. IsFirstOverlap (map edit_of patches.now) t.0 t.1) }
