@@ -67,9 +67,9 @@ brackets_plain hidden role address (Some text) plain =
     All-append HoldsNoFeed (text_cells role (opening_bracket_of hidden) ++ own) (text_cells role (closing_bracket_of hidden)) opened
     (cells_plain role (closing_bracket_of hidden) (closing_plain hidden))
 
-id_plain : (hyperlink hidden : Bool) (role : ElementStyle) (id : Option Id) → IsOneLineId id → HasNoFeed (id_cells hyperlink hidden role id)
-id_plain hyperlink hidden role None plain = All-nil HoldsNoFeed
-id_plain hyperlink hidden role (Some id) plain =
+id_cells-plain : (hyperlink hidden : Bool) (role : ElementStyle) (id : Option Id) → IsOneLineId id → HasNoFeed (id_cells hyperlink hidden role id)
+id_cells-plain hyperlink hidden role None plain = All-nil HoldsNoFeed
+id_cells-plain hyperlink hidden role (Some id) plain =
     brackets_plain hidden role (address_of hyperlink id) (option_map cow_str_bytes id.id) plain
 
 colon_plain : (hidden : Bool) (id : Option Id) → All IsNoFeed (colon_of hidden id)
@@ -83,7 +83,7 @@ label_plain hyperlink roles heading plain =
     let name : List ℕ = norm (chars (name_of heading.level)) in
     let id : List Cell = id_cells hyperlink hidden roles.label heading.id in
     let named : HasNoFeed (text_cells roles.label name ++ id) = All-append HoldsNoFeed (text_cells roles.label name) id
-    (cells_plain roles.label name (norm-plain (chars (name_of heading.level)) plain.0)) (id_plain hyperlink hidden roles.label heading.id plain.1) in
+    (cells_plain roles.label name (norm-plain (chars (name_of heading.level)) plain.0)) (id_cells-plain hyperlink hidden roles.label heading.id plain.1) in
     All-append HoldsNoFeed (text_cells roles.label name ++ id) (text_cells roles.colon (colon_of hidden heading.id)) named
     (cells_plain roles.colon (colon_of hidden heading.id) (colon_plain hidden heading.id))
 

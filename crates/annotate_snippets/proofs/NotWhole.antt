@@ -156,15 +156,15 @@ exchanged s is m place file rows parts cells shown =
 -- ---- a title that is trusted, and normalised anyhow
 
 -- a title of the level `error`, with this text, which is trusted
-abbrev trusted_title : CowStr Global → Title
-trusted_title text = record { level = error_level; id = None; text = text; allows_styling = true }
+abbrev title_with_trusted_text : CowStr Global → Title
+title_with_trusted_text text = record { level = error_level; id = None; text = text; allows_styling = true }
 
 -- a trusted code stays as it is, and isn't shown as a picture of its escape:
 --
 --     error: ␛[1mx
 normalised_away : (text : CowStr Global)
     → cow_str_bytes text ≡ 27 ∷ codes "[1mx" → (place : GroupPosition) (follows : Next) (rows : List (List Cell)) → row_text (row_at rows 0) ≡ codes "error: "
-    ++ 9243 ∷ codes "[1mx" → ShowsTitle plain_settings layout place follows (trusted_title text) rows → ⊥
+    ++ 9243 ∷ codes "[1mx" → ShowsTitle plain_settings layout place follows (title_with_trusted_text text) rows → ⊥
 unfolding chars norm
 normalised_away text is place follows rows wrong shown =
     in_own shown.own shown.rows_are (shown.shows.texts 0 ∙ ap (λ bytes.

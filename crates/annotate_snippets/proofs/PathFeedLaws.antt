@@ -90,9 +90,9 @@ file_plain layout start =
     after_spaces layout.base.gutter (text_cells LineNumber glyph) (cells_plain LineNumber glyph
     (each-fails (λ c. c == 10) glyph (glyphs_plain start layout.base.decor)))
 
-text_plain : (anonymized : Bool) (path : List ℕ) (place : OriginLocation) → All IsNoFeed (chars path) → All IsNoFeed (origin_text anonymized path place)
+origin_text-plain : (anonymized : Bool) (path : List ℕ) (place : OriginLocation) → All IsNoFeed (chars path) → All IsNoFeed (origin_text anonymized path place)
 unfolding origin_text
-text_plain anonymized path place plain =
+origin_text-plain anonymized path place plain =
     All-append IsNoFeed (norm (chars path)) (place_text anonymized place) (norm-plain (chars path) plain)
     (place_text-each IsNoFeed digit_plain refl refl anonymized place)
 
@@ -103,7 +103,7 @@ unfolding origin_row
 row_plain layout start path place plain =
     let text : List ℕ = origin_text layout.anonymized path place in
     All-append HoldsNoFeed (file_row layout start) (text_cells LineAndColumn text) (file_plain layout start)
-    (cells_plain LineAndColumn text (text_plain layout.anonymized path place plain))
+    (cells_plain LineAndColumn text (origin_text-plain layout.anonymized path place plain))
 
 head_plain : (layout : OriginLayout) (primary first : Bool) (named : Option (List ℕ)) (place : OriginLocation) → IsOneLineText named
     → All HasNoFeed (snippet_head layout primary first named place)

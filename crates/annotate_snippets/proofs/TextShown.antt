@@ -98,8 +98,8 @@ title_form-links r (Some t) =
     let own : List FormPiece = heading_form r.hyperlink kind.Title (heading_of_title t) in
     flat_map-append piece_links own [] ∙ ap (λ (urls : List (List ℕ)). urls ++ []) (heading-links r.hyperlink kind.Title (heading_of_title t))
 
-group_links : (r : Renderer) (groups : List Group) (g : Group) → form_links (group_form r groups g) ≡ title_links r.hyperlink g
-group_links r groups g =
+form_links-group_form : (r : Renderer) (groups : List Group) (g : Group) → form_links (group_form r groups g) ≡ title_links r.hyperlink g
+form_links-group_form r groups g =
     let title : List FormPiece = title_form r g.title in
     let elements : List FormPiece = elements_form r (file_of_group groups g) None (drawn_elements g) in
     flat_map-append piece_links title elements ∙ ap (λ (urls : List (List ℕ)). form_links title ++ urls)
@@ -109,7 +109,7 @@ groups_links : (r : Renderer) (groups gs : List Group) → form_links (flat_map 
 groups_links r groups [] = refl
 groups_links r groups (g ∷ gs) =
     let rest : List FormPiece = flat_map (group_form r groups) gs in
-    flat_map-append piece_links (group_form r groups g) rest ∙ ap (λ (urls : List (List ℕ)). urls ++ form_links rest) (group_links r groups g)
+    flat_map-append piece_links (group_form r groups g) rest ∙ ap (λ (urls : List (List ℕ)). urls ++ form_links rest) (form_links-group_form r groups g)
     ∙ ap (λ (urls : List (List ℕ)). title_links r.hyperlink g ++ urls) (groups_links r groups gs)
 
 -- which texts stand in a heading, in an element, in elements and in a group
