@@ -1,8 +1,9 @@
 -- Rows of suggestions with a wrong sign or a mark in a wrong place, on small reports, contradict the definitions of what rows show.
-use Rattle.std.proofs.Common.{◌≡◌, ◌∙◌, ℕ, not, Bool, false, true, refl, List, [], ◌∷◌, ◌++◌, Vec, codes, get_or, replicate, sym, ap, arith, if◌then◌else◌}
+use Rattle.std.proofs.Common.{◌≡◌, ◌∙◌, ℕ, ◌==◌, not, Bool, false, true, refl, List, [], ◌∷◌, ◌++◌, Vec, codes, get_or, replicate, sym, ap, if◌then◌else◌}
 use Rattle.std.specs.declared.alloc.Global.{Global}
 use Rattle.snippet_grid.specs.Grid.{row_at}
 use Rattle.snippet_style.specs.Cell.{Cell, SPACE, text_cells}
+use Rattle.snippet_style.specs.Glyphs.{added_mark_of, changed_mark_of, separator_of}
 use Rattle.snippet_style.specs.declared.glyphs.DecorStyle.{DecorStyle}
 use Rattle.snippet_style.specs.declared.glyphs.DecorStyle.TheVariants.{Ascii}
 use Rattle.snippet_style.specs.declared.role.ElementStyle.TheVariants.{Addition, LineNumber, NoStyle, Removal}
@@ -72,8 +73,9 @@ marks_one_right v layout around found rows narrow plain alone shown wrong =
     let all = rows_alone layout around found s (cells_of shown.after) (narrow_layout layout s narrow plain refl) alone shown.cells
     ∙ put_in_cells layout.code v (not (is_end around.next)) in
     let At : List Cell → ℕ = λ row. (get_or row 8 SPACE).ch in
-    let mark : ◌≡◌ {A = ℕ} 32 43 = sym (ap At wrong) ∙ ap (λ (rs : List (List Cell)). At (row_at rs 2)) all in
-    absurd (omega (arith, mark))
+    let mark : ◌≡◌ {A = ℕ} 32 (added_mark_of Ascii) = sym (ap At wrong) ∙ ap (λ (rs : List (List Cell)). At (row_at rs 2)) all in
+    let same_mark : false ≡ true = ap (λ c. c == added_mark_of Ascii) mark in
+    cc
 
 -- ---- a sign beside a line that no edit touches
 
@@ -92,8 +94,9 @@ kept_shown_as_changed v layout around found rows narrow plain alone shown wrong 
     let all = rows_alone layout around found s (cells_of shown.after) (narrow_layout layout s narrow plain refl) alone shown.cells
     ∙ unfolded_cells layout.code v (not (is_end around.next)) in
     let At : List Cell → ℕ = λ row. (get_or row 2 SPACE).ch in
-    let sign : ◌≡◌ {A = ℕ} 126 124 = sym (ap At wrong) ∙ ap (λ (rs : List (List Cell)). At (row_at rs 1)) all in
-    absurd (omega (arith, sign))
+    let sign : changed_mark_of Ascii ≡ separator_of Ascii = sym (ap At wrong) ∙ ap (λ (rs : List (List Cell)). At (row_at rs 1)) all in
+    let same_sign : false ≡ true = ap (λ c. c == separator_of Ascii) sign in
+    cc
 
 -- nor in another role: what is put in place of `c` isn't shown as removed
 --
