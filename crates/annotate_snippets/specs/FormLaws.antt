@@ -104,7 +104,7 @@ pub record IsTextUnder (form : Form) (r : Renderer) (groups : List Group) (sheet
 -- of its page, whatever the report holds
 pub record HasLaws (r : Renderer) (groups : List Group) (sheet : Stylesheet) (text : List ℕ) : Type 0 where
   pub shown : List Group
-  pub set : IsAsSet r groups shown
+  pub set : IsAsSet (form_of r) r groups shown
   pub laws : LawsIn (form_of r) r shown sheet text
   pub one_line : r.show_line_feeds ≡ true → HasOneLineTexts shown
   pub lines : r.show_line_feeds ≡ true → form_of r ≡ Graphic → text_lines (page_text (graphic_form r shown)) ≡ page_lines (graphic_form r shown)

@@ -4,6 +4,8 @@
 #![tactic(auto)]
 
 #[cfg(test)]
+mod context;
+#[cfg(test)]
 mod grid;
 #[cfg(test)]
 mod line;
