@@ -1,5 +1,6 @@
 pub mod Around
 pub mod AsSet
+pub mod ContextLaws
 pub mod DrawnReport
 pub mod Fault
 pub mod Feeds

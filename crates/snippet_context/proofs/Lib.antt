@@ -1,0 +1,2 @@
+pub mod SpanLemmas
+pub mod KeptAround

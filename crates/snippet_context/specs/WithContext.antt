@@ -1,7 +1,9 @@
 -- When a report is another with the lines around those that it keeps: what of the two differs, part by part.
-use Rattle.std.specs.Prelude.{◌≡◌, ℕ, ◌+◌, ◌++◌, All, Bool, true, false, List, length}
+use Rattle.std.specs.Prelude.{◌≡◌, ℕ, ◌+◌, ◌≤◌, ◌++◌, All, List, length}
 use Rattle.std.specs.Cow.{cow_str_bytes}
 use Rattle.std.specs.List.{AllZip}
+use Rattle.std.specs.Str.{IsCharBoundary}
+use Rattle.std.specs.declared.ops.Range.{Range}
 use Rattle.snippet_lines.specs.Lines.{newline_count, source_lines}
 use Rattle.snippet_lines.specs.Span.{IsSpan}
 use Rattle.snippet_model.specs.declared.snippet.Annotation.{Annotation}
@@ -14,11 +16,7 @@ use Rattle.snippet_parts.specs.Numbered.{numbered_source}
 use Rattle.snippet_parts.specs.Annotated.{made_parts}
 use Rattle.snippet_style.specs.Bounds.{HasNext}
 use Rattle.snippet_text.specs.TextBounds.{TextFits}
-use Rattle.snippet_context.specs.Context.{context_marks, lines_around}
-
--- some annotations are spans of a source: none of them has a fault
-abbrev pub AreSpans : List ℕ → List Annotation → Type 0
-AreSpans source marks = All (λ a. IsSpan source a.span.start a.span.end) marks
+use Rattle.snippet_context.specs.Context.{context_marks, context_spans, lines_around}
 
 -- ---- which reports are given
 
@@ -26,7 +24,7 @@ AreSpans source marks = All (λ a. IsSpan source a.span.start a.span.end) marks
 pub record IsSnippetSound (s : Snippet Annotation) : Type 0 where
   pub fits : TextFits (cow_str_bytes s.source)
   pub numbers : HasNext (s.line_start + newline_count (cow_str_bytes s.source))
-  pub spans : AreSpans (cow_str_bytes s.source) s.markers.items
+  pub spans : All (λ a. IsSpan (cow_str_bytes s.source) a.span.start a.span.end) s.markers.items
 
 -- an element whose source is annotated without a fault, or one of another kind
 abbrev pub IsElementSound : Element → Type 0
@@ -42,8 +40,14 @@ IsGroupSound g = All IsElementSound g.elements.items
 
 -- ---- which reports are shown
 
--- the second snippet is the first with the lines around those that it keeps: after its annotations stand those that keep them, which are
--- spans of the source, so that none is refused; and all else is the same
+-- a part of a source: it starts and ends between characters, and doesn't end before it starts
+pub record IsPartOf (source : List ℕ) (span : Range ℕ) : Type 0 where
+  pub ordered : span.start ≤ span.end
+  pub from : IsCharBoundary source span.start
+  pub to : IsCharBoundary source span.end
+
+-- the second snippet is the first with the lines around those that it keeps: after its annotations stand those that keep them, whose
+-- spans are parts of the source, so that none is refused; and all else is the same
 pub record IsSnippetWithContext (before after : ℕ) (a b : Snippet Annotation) : Type 0 where
   pub path : b.path ≡ a.path
   pub line_start : b.line_start ≡ a.line_start
@@ -51,7 +55,7 @@ pub record IsSnippetWithContext (before after : ℕ) (a b : Snippet Annotation) 
   pub line_numbering : b.line_numbering ≡ a.line_numbering
   pub fold : b.fold ≡ a.fold
   pub markers : b.markers.items ≡ a.markers.items ++ context_marks before after a
-  pub spans : AreSpans (cow_str_bytes a.source) (context_marks before after a)
+  pub spans : All (IsPartOf (cow_str_bytes a.source)) (context_spans before after a)
 
 -- the second element is the first with such lines; only an annotated snippet has any
 abbrev pub IsElementWithContext : ℕ → ℕ → Element → Element → Type 0

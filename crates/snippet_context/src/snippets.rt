@@ -36,7 +36,7 @@ fn add_visible(
     markers: &mut Vec<Annotation<'_>>,
     spans: Vec<Range<usize>>,
 ) -> Result<(), AllocError>
-    ensures added { OnOk result (markers.new.items ≡ markers.old.items ++ map visible_mark spans.entry.items) }
+    ensures added { OnOk result (markers.new.items ≡ markers.old.items ++ map visible_mark spans.items) }
 {
     for span in spans {
         markers.push(AnnotationKind::Visible.span(span))?;

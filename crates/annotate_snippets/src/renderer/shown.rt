@@ -57,10 +57,7 @@ impl Renderer {
         if let Some(refusal) = first_refusal(form, groups) {
             return Err(refusal);
         }
-        match self.remade(alloc, form, groups) {
-            Ok(shown) => Ok(shown),
-            Err(failure) => Err(RenderError::Memory(failure)),
-        }
+        Ok(self.remade(alloc, form, groups)?)
     }
 
     /// The report that is made of one that isn't refused.
