@@ -39,7 +39,7 @@ use Rattle.annotate_snippets.proofs.FaultLemmas.{groups-drawable, unrefused}
 
 module _ (group element : ℕ) (source : List ℕ) where
   -- the faults of annotations, numbered from n on
-  faults_of : ℕ → List Annotation → List RenderError
+  abbrev faults_of : ℕ → List Annotation → List RenderError
   faults_of n marks = faults_from (λ m (a : Annotation). span_faults group element source m a.span) n marks
 
   -- annotations of parts of the source have none

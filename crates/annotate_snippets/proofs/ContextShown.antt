@@ -51,18 +51,19 @@ paired P (a ∷ xs) (b ∷ ys) pairs (suc i) x there =
     let rest : Paired P ys i x = paired P xs ys pairs.1 i x there in record { other = rest.other; there = rest.there; pair = rest.pair }
 
 -- of things in the places of others, those that pass a test stand in the places of those that do
+chosen-both : {X : Type 0} (P : X → X → Type 0) (passes : Bool) (x y : X) (xs ys : List X) → P x y → AllZip P xs ys
+    → AllZip P (cond passes (x ∷ xs) xs) (cond passes (y ∷ ys) ys)
+chosen-both P true x y xs ys pair pairs = (pair, pairs)
+chosen-both P false x y xs ys pair pairs = pairs
+
 chosen : {X : Type 0} (P : X → X → Type 0) (p : X → Bool) → ((x y : X) → P x y → p y ≡ p x) → (xs ys : List X) → AllZip P xs ys
     → AllZip P (filter p xs) (filter p ys)
 chosen P p same [] [] pairs = tt
 chosen P p same [] (y ∷ ys) pairs = absurd pairs
 chosen P p same (x ∷ xs) [] pairs = absurd pairs
-chosen {X} P p same (x ∷ xs) (y ∷ ys) pairs =
+chosen P p same (x ∷ xs) (y ∷ ys) pairs =
     subst (λ (passes : Bool). AllZip P (cond (p x) (x ∷ filter p xs) (filter p xs)) (cond passes (y ∷ filter p ys) (filter p ys)))
-    (sym (same x y pairs.0)) (both (p x))
-  where
-    both : (passes : Bool) → AllZip P (cond passes (x ∷ filter p xs) (filter p xs)) (cond passes (y ∷ filter p ys) (filter p ys))
-    both true = (pairs.0, chosen P p same xs ys pairs.1)
-    both false = chosen P p same xs ys pairs.1
+    (sym (same x y pairs.0)) (chosen-both P (p x) x y (filter p xs) (filter p ys) pairs.0 (chosen P p same xs ys pairs.1))
 
 -- ---- which elements are drawn
 

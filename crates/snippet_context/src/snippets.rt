@@ -22,10 +22,11 @@ fn cause_with_context<'a>(
     requires sound { IsSnippetSound snippet }
     ensures with { IfOk result (IsSnippetWithContext before after snippet.entry) }
 {
-    if snippet.fold {
-        let spans = spans_around(alloc, before, after, &snippet)?;
-        add_visible(&mut snippet.markers, spans)?;
+    if !snippet.fold {
+        return Ok(snippet);
     }
+    let spans = spans_around(alloc, before, after, &snippet)?;
+    add_visible(&mut snippet.markers, spans)?;
     Ok(snippet)
 }
 

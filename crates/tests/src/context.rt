@@ -117,6 +117,25 @@ fn shows_lines_around_those_of_a_visible_span(rt: HostRuntime) -> Result<(), Fai
 }
 
 #[test]
+fn names_the_first_line_that_is_shown(rt: HostRuntime) -> Result<(), Fail> {
+    let first = Snippet::source(rt.alloc(), "x")
+        .path_str("a.rs")
+        .annotation(AnnotationKind::Primary.span(0..1))?;
+    let second = Snippet::source(rt.alloc(), LETTERS)
+        .path_str("b.rs")
+        .annotation(AnnotationKind::Visible.span(4..5))?;
+    let group = ERROR
+        .primary_title("e")
+        .snippet(rt.alloc(), first)?
+        .snippet(second)?;
+    let shown =
+        "error: e\n --> a.rs:1:1\n  |\n1 | x\n  | ^\n  |\n ::: b.rs:2\n  |\n2 | b\n3 | c\n  |";
+    let renderer = Renderer::plain().context_lines(1, 0);
+    assert_eq!(rt; renderer.render(rt.alloc(), &[group])?.as_str(), shown);
+    Ok(())
+}
+
+#[test]
 fn changes_neither_the_short_form_nor_the_text_form(rt: HostRuntime) -> Result<(), Fail> {
     let snippet = Snippet::source(rt.alloc(), LETTERS)
         .path_str("a.rs")
