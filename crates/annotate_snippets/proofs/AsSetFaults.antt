@@ -1,11 +1,10 @@
 -- A report whose texts are as they are set has the same faults, under the same numbers.
-use Rattle.std.proofs.Common.{◌≡◌, ◌∙◌, ℕ, ◌+◌, ◌==◌, Bool, true, false, if◌then◌else◌, is_none, count_by}
+use Rattle.std.proofs.Common.{◌≡◌, ◌∙◌, ℕ, ◌+◌, ◌==◌, Bool, if◌then◌else◌, is_none, count_by}
 use Rattle.std.proofs.Common.{List, [], ◌∷◌, ◌++◌, Option, None, Some, map, refl, sym, ap, ap₂}
 use Rattle.std.proofs.lemmas.List.Sums.{sum_by-cons}
 use Rattle.std.specs.Cow.{cow_str_bytes}
 use Rattle.std.specs.List.{AllZip}
-use Rattle.std.specs.Option.{option_map, option_or, option_to_list}
-use Rattle.snippet_model.specs.Fits.{ReportFits}
+use Rattle.std.specs.Option.{option_map, option_to_list}
 use Rattle.snippet_model.specs.Same.{SameOption, SamePatch}
 use Rattle.snippet_model.specs.declared.snippet.Annotation.{Annotation}
 use Rattle.snippet_model.specs.declared.snippet.Element.{Element}
@@ -17,11 +16,9 @@ use Rattle.snippet_model.specs.declared.snippet.Title.{Title}
 use Rattle.snippet_settings.specs.AsSet.{IsAnnotationAsSet, IsElementAsSet, IsGroupAsSet, IsSnippetAsSet, IsTitleAsSet}
 use Rattle.snippet_splice.specs.Edits.{Edit, edit_of}
 use Rattle.snippet_splice.specs.Overlap.{first_overlap}
-use Rattle.annotate_snippets.specs.AsSet.{IsAsSet}
-use Rattle.annotate_snippets.specs.Fault.{IsWithinBounds, added_lines, element_faults, faults_from}
-use Rattle.annotate_snippets.specs.Fault.{first_fault, first_of, first_refusal, form_of, group_faults, missing_title}
+use Rattle.annotate_snippets.specs.Fault.{added_lines, element_faults, faults_from}
+use Rattle.annotate_snippets.specs.Fault.{first_fault, first_of, group_faults, missing_title}
 use Rattle.annotate_snippets.specs.Fault.{number_after_lines, number_faults, overlap_faults, span_faults}
-use Rattle.annotate_snippets.specs.declared.renderer.Renderer.{Renderer}
 use Rattle.annotate_snippets.specs.declared.renderer.error.RenderError.{RenderError}
 use Rattle.annotate_snippets.specs.declared.renderer.error.RenderError.TheVariants.{NoTitle, PatchesOverlap}
 use Rattle.annotate_snippets.specs.declared.renderer.form.Form.{Form}

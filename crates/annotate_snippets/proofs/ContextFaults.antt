@@ -1,5 +1,5 @@
 -- A report with the lines around those that it keeps has the faults that it had, and is refused for the same reason.
-use Rattle.std.proofs.Common.{◌≡◌, ◌∙◌, ℕ, ◌+◌, ◌<◌, ◌^◌, Bool, true, false, if◌then◌else◌, is_none, length, arith}
+use Rattle.std.proofs.Common.{◌≡◌, ◌∙◌, ℕ, ◌+◌, if◌then◌else◌, is_none, arith}
 use Rattle.std.proofs.Common.{List, [], ◌∷◌, ◌++◌, Option, None, Some, All, map, refl, sym, ap, ap₂, subst}
 use Rattle.std.proofs.lemmas.List.Elements.{All-cons, All-head, All-nil, All-tail, All-weaker}
 use Rattle.std.specs.Cow.{cow_str_bytes}
@@ -10,7 +10,7 @@ use Rattle.std.specs.declared.borrow.CowStr.{CowStr}
 use Rattle.std.specs.declared.alloc.Global.{Global}
 use Rattle.std.specs.declared.ops.Range.{Range}
 use Rattle.snippet_context.specs.Context.{context_spans, visible_mark}
-use Rattle.snippet_context.specs.WithContext.{IsElementSound, IsElementWithContext, IsGroupSound, IsGroupWithContext, IsPartOf, IsSnippetSound}
+use Rattle.snippet_context.specs.WithContext.{IsElementSound, IsElementWithContext, IsGroupSound, IsGroupWithContext, IsPartOf}
 use Rattle.snippet_context.specs.WithContext.{IsSnippetWithContext}
 use Rattle.snippet_lines.proofs.LinesLemmas.{length-source_lines}
 use Rattle.snippet_model.specs.Fits.{AnnotationFits, ElementFits, GroupFits, ReportFits, TextFits, TitleFits}
@@ -24,7 +24,7 @@ use Rattle.snippet_lines.specs.declared.span.SpanFault.{SpanFault}
 use Rattle.annotate_snippets.specs.AsSet.{IsAsSet}
 use Rattle.annotate_snippets.specs.Fault.{element_faults, faults_from, first_fault, first_of, form_of, group_faults, missing_title, number_after_lines}
 use Rattle.annotate_snippets.specs.Fault.{IsWithinBounds, number_faults, refusal_in, refusal_of, span_faults}
-use Rattle.annotate_snippets.specs.PreparedReport.{IsDrawable, IsElementDrawable, IsGroupDrawable}
+use Rattle.annotate_snippets.specs.PreparedReport.{IsElementDrawable, IsGroupDrawable}
 use Rattle.annotate_snippets.specs.declared.renderer.Renderer.{Renderer}
 use Rattle.annotate_snippets.specs.declared.renderer.error.RenderError.{RenderError}
 use Rattle.annotate_snippets.specs.declared.renderer.error.RenderError.TheVariants.{NoTitle}
@@ -33,7 +33,7 @@ use Rattle.annotate_snippets.specs.declared.renderer.form.Form.TheVariants.{Grap
 use Rattle.annotate_snippets.proofs.AsSetFaults.{fault-same, faults-same, missing-same}
 use Rattle.annotate_snippets.proofs.AsSetSteps.{all-over, set-same}
 use Rattle.annotate_snippets.proofs.BoundsLaws.{span-faultless}
-use Rattle.annotate_snippets.proofs.FaultLemmas.{groups-drawable, unrefused}
+use Rattle.annotate_snippets.proofs.FaultLemmas.{groups-drawable}
 
 -- ---- faults
 

@@ -1,12 +1,10 @@
 -- Where lines around those that are kept are shown, a page has just the source rows of the lines near one that is kept, and of each single
 -- line between two of these.
-use Rattle.std.proofs.Common.{◌≡◌, ◌∙◌, ℕ, ◌==◌, ◌||◌, zero, suc, Bool, true, false, cond, not, List, [], ◌∷◌, ◌++◌, Option, None, Some, map, length, refl, sym}
+use Rattle.std.proofs.Common.{◌≡◌, ◌∙◌, ℕ, ◌==◌, ◌||◌, zero, suc, Bool, true, false, cond, not, List, [], ◌∷◌, ◌++◌, None, Some, length, refl, sym}
 use Rattle.std.proofs.Common.{ap, ap₂, subst, append-nil}
 use Rattle.std.proofs.lemmas.List.Elements.{filter_agree, filter_map-append}
 use Rattle.std.specs.Cow.{cow_str_bytes}
-use Rattle.std.specs.List.{AllZip, filter, filter_map, list_any, range_with_len, slice_get, slice_index_or}
-use Rattle.std.specs.declared.alloc.Global.{Global}
-use Rattle.std.specs.declared.borrow.CowStr.{CowStr}
+use Rattle.std.specs.List.{AllZip, filter, list_any, range_with_len, slice_get, slice_index_or}
 use Rattle.std.specs.declared.ops.Range.{Range}
 use Rattle.snippet_context.proofs.KeptAround.{keeps-around}
 use Rattle.snippet_context.specs.Context.{lines_around}
@@ -19,7 +17,6 @@ use Rattle.snippet_model.specs.declared.snippet.AnnotationKind.{AnnotationKind}
 use Rattle.snippet_model.specs.declared.snippet.Element.{Element}
 use Rattle.snippet_model.specs.declared.snippet.Element.TheVariants.{Message, Cause, Suggestion, Origin, Padding}
 use Rattle.snippet_model.specs.declared.snippet.Group.{Group}
-use Rattle.snippet_model.specs.declared.snippet.Patch.{Patch}
 use Rattle.snippet_model.specs.declared.snippet.Snippet.{Snippet}
 use Rattle.snippet_parts.specs.Kept.{kept_lines, keeps, with_between}
 use Rattle.snippet_settings.specs.AsSet.{IsAnnotationAsSet, IsElementAsSet, IsGroupAsSet, IsSnippetAsSet}
@@ -29,7 +26,6 @@ use Rattle.annotate_snippets.specs.AsSet.{AreWithContext, IsAsSet, IsRemade, add
 use Rattle.annotate_snippets.specs.ContextLaws.{ShowsLinesAround, lines_with_context}
 use Rattle.annotate_snippets.specs.Page.{GroupPage, NamedRow, Page, line_named, lines_named, others}
 use Rattle.annotate_snippets.specs.PageLaws.{PageLaws}
-use Rattle.annotate_snippets.specs.ShownPage.{ShowsSnippet}
 use Rattle.annotate_snippets.specs.declared.renderer.Renderer.{Renderer}
 use Rattle.annotate_snippets.specs.declared.renderer.form.Form.{Form}
 use Rattle.annotate_snippets.proofs.AsSetSteps.{context-set, remade-set}

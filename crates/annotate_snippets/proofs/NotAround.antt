@@ -1,6 +1,5 @@
 -- Pages that lack a line near one that is kept, or have one that isn't: each contradicts what is said of lines around those that are kept.
-use Rattle.std.proofs.Common.{◌≡◌, ◌∙◌, ℕ, ◌<◌, ◌^◌, true, Vec, List, [], ◌∷◌, None, Some, ap, codes, length, refl, subst, sym, arith}
-use Rattle.std.specs.Cow.{cow_str_bytes}
+use Rattle.std.proofs.Common.{◌≡◌, ◌∙◌, ℕ, true, Vec, List, [], ◌∷◌, None, Some, ap, codes, length, refl, subst, sym, arith}
 use Rattle.std.specs.List.{slice_get, slice_index_or}
 use Rattle.std.specs.Str.{chars}
 use Rattle.std.specs.declared.alloc.Global.{Global}

@@ -5,7 +5,6 @@ use Rattle.std.specs.List.{slice_get, slice_index_or}
 use Rattle.snippet_context.specs.Context.{lines_around}
 use Rattle.snippet_lines.specs.Lines.{source_lines}
 use Rattle.snippet_model.specs.declared.snippet.Annotation.{Annotation}
-use Rattle.snippet_model.specs.declared.snippet.Element.{Element}
 use Rattle.snippet_model.specs.declared.snippet.Element.TheVariants.{Cause}
 use Rattle.snippet_model.specs.declared.snippet.Group.{Group}
 use Rattle.snippet_model.specs.declared.snippet.Snippet.{Snippet}

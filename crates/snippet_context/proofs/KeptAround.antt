@@ -1,7 +1,7 @@
 -- Which lines a snippet keeps with the lines around those that it kept, and that what stands on its lines stays.
-use Rattle.std.proofs.Common.{◌≡◌, ◌∙◌, ℕ, ◌+◌, ◌-◌, ◌<◌, ◌≤◌, Bool, true, false, ◌&&◌, ◌||◌, not, eqb, leb, cond, min, List, [], ◌∷◌, ◌++◌, map, length, inl}
-use Rattle.std.proofs.Common.{inr, arith, get_or, zero, suc, refl, sym, ap, ap₂, subst, append-nil}
-use Rattle.std.proofs.lemmas.Bool.{cases_lt, cases_Bool, eq-eqb, eqb-true, le-leb, lt-leb, or_left, or_right}
+use Rattle.std.proofs.Common.{◌≡◌, ◌∙◌, ℕ, ◌+◌, ◌-◌, ◌<◌, ◌≤◌, Bool, true, false, ◌&&◌, ◌||◌, eqb, leb, cond, min, List, [], ◌∷◌, ◌++◌, map, length, inl}
+use Rattle.std.proofs.Common.{inr, arith, get_or, zero, suc, refl, sym, ap, ap₂, append-nil}
+use Rattle.std.proofs.lemmas.Bool.{cases_lt, eqb-true, le-leb, lt-leb, or_left, or_right}
 use Rattle.std.proofs.lemmas.List.Elements.{All-head, All-tail, filter-append}
 use Rattle.std.proofs.lemmas.List.Folds.{list_any-append}
 use Rattle.std.specs.Cow.{cow_str_bytes}
@@ -18,7 +18,7 @@ use Rattle.snippet_parts.specs.Mark.{touches}
 use Rattle.snippet_parts.specs.Marked.{Entry, first_line, last_line}
 use Rattle.snippet_parts.specs.Numbered.{numbered_source}
 use Rattle.snippet_context.proofs.SpanLemmas.{around-first, around-last}
-use Rattle.snippet_context.specs.Context.{context_marks, context_spans, is_near, lines_around, span_around, visible_mark}
+use Rattle.snippet_context.specs.Context.{context_spans, is_near, lines_around, span_around, visible_mark}
 use Rattle.snippet_context.specs.WithContext.{IsSnippetWithContext, KeepsLinesAround}
 
 -- ---- the line of a range

@@ -72,7 +72,8 @@ impl Renderer {
         ensures set { IfOk result (λ shown. set.IsRemade form self.now groups.now shown.items) }
         ensures fits { IfOk result (λ shown. ReportFits shown.items) }
     {
-        let fed = fitting(groups_as_set(alloc, self.show_line_feeds, groups)?)?;
+        let made = groups_as_set(alloc, self.show_line_feeds, groups)?;
+        let fed = fitting(made)?;
         self.with_context(alloc, form, fed)
     }
 

@@ -1,4 +1,4 @@
-use Rattle.std.proofs.Common.{◌≡◌, ◌∙◌, ℕ, ◌+◌, ◌-◌, ◌<◌, min, List, length, ap, ap₂, arith, sym, get_or}
+use Rattle.std.proofs.Common.{◌≡◌, ◌∙◌, ℕ, ◌+◌, ◌-◌, min, List, length, ap, ap₂, arith}
 use Rattle.std.specs.declared.ops.Range.{Range}
 use Rattle.snippet_lines.specs.Lines.{source_lines, start_of}
 use Rattle.snippet_context.specs.Context as spec

@@ -1,4 +1,4 @@
-use Rattle.std.proofs.Common.{◌≡◌, ℕ, All, List, length, map, true, ap, subst, sym}
+use Rattle.std.proofs.Common.{ℕ, All, List, length, true, subst, sym}
 use Rattle.std.proofs.lemmas.Result.{IfOk-weaker}
 use Rattle.std.specs.Cow.{cow_str_bytes}
 use Rattle.std.specs.List.{list_any}
@@ -6,7 +6,6 @@ use Rattle.std.specs.Str.{IsUtf8}
 use Rattle.snippet_lines.specs.Lines.{Source, source_lines}
 use Rattle.snippet_parts.proofs.KeptLemmas.{kept-within}
 use Rattle.snippet_parts.specs.Kept.{keeps, kept_lines}
-use Rattle.snippet_context.specs.Context as spec
 use Rattle.snippet_context.specs.WithContext.{IsPartOf}
 use Rattle.snippet_context.proofs.SpanLemmas.{around-parts}
 use Rattle.snippet_context.proofs.spans.spans_around.Goals as goal

@@ -1,4 +1,4 @@
-use Rattle.std.proofs.Common.{◌≡◌, Err, List, false, rules, subst, sym}
+use Rattle.std.proofs.Common.{◌≡◌, Err, List, rules, subst, sym}
 use Rattle.snippet_model.specs.Fits.{ReportFits}
 use Rattle.snippet_model.specs.declared.snippet.Group.{Group}
 use Rattle.annotate_snippets.specs.AsSet.{IsAsSet, shows_as_given}

@@ -1,4 +1,4 @@
-use Rattle.std.proofs.Common.{◌≡◌, List, false, rules, subst, sym}
+use Rattle.std.proofs.Common.{◌≡◌, List, rules, subst, sym}
 use Rattle.std.proofs.lemmas.Result.{on_err_weaker, on_ok_weaker}
 use Rattle.snippet_model.specs.Fits.{ReportFits}
 use Rattle.snippet_model.specs.declared.snippet.Group.{Group}
