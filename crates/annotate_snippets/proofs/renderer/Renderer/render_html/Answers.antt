@@ -1,4 +1,4 @@
-use Rattle.std.proofs.Common.{◌≡◌, ◌∙◌, Err, IfSome, List, Option, rules, string_bytes, subst, sym, true}
+use Rattle.std.proofs.Common.{◌≡◌, ◌∙◌, Err, IfSome, List, Option, string_bytes, subst, sym, true}
 use Rattle.std.proofs.lemmas.Result.{IfOk-weaker}
 use Rattle.snippet_grid.specs.Html.{html_bytes}
 use Rattle.snippet_model.specs.declared.snippet.Group.{Group}
@@ -15,7 +15,7 @@ pub returns-then-shows_as_given-clause-laws : goal.returns-then-shows_as_given-c
 returns-then-shows_as_given-clause-laws c =
     let r = c.args.self.now in
     let groups : List Group = c.args.groups.now in
-    let off : shows_as_given Graphic r ≡ true = search rules in
+    let off : shows_as_given Graphic r ≡ true = sym c.shows_as_given.ensures.value ∙ c.if-shows_as_given.true in
     IfOk-weaker c.html_of_given.result (λ text. string_bytes text ≡ html_bytes (report_html r groups)) (λ text. HasHtmlLaws r groups (string_bytes text))
     (λ text is. record { shown = groups; set = unset Graphic r groups off; laws = html_laws r groups (string_bytes text) is }) c.html_of_given.ensures.html
 
