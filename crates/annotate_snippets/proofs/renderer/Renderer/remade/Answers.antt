@@ -13,7 +13,8 @@ with_context-requires c =
     let groups : List Group = c.args.groups.now in
     let fed : List Group = c.in_ok-fed.fed.items in
     let same : fed ≡ c.in_ok-made.made.items = ap (λ v. v.items) c.in_ok-fed.ensures.same in
-    let pairs : AllZip (IsGroupAsSet feeds) groups fed = subst (λ (gs : List Group). AllZip (IsGroupAsSet feeds) groups gs) (sym same) c.in_ok-made.ensures.set in
+    let Set : List Group → Type 0 = λ gs. AllZip (IsGroupAsSet feeds) groups gs in
+    let pairs : Set fed = subst Set (sym same) c.in_ok-made.ensures.set in
     record {
       sound = groups-sound fed c.in_ok-fed.ensures.fits (fault-same feeds groups fed pairs ∙ c.requires.faultless);
       fits = c.in_ok-fed.ensures.fits;
@@ -25,5 +26,6 @@ returns-clause-set c =
     let groups : List Group = c.args.groups.now in
     let fed : List Group = c.in_ok-fed.fed.items in
     let same : fed ≡ c.in_ok-made.made.items = ap (λ v. v.items) c.in_ok-fed.ensures.same in
-    let pairs : AllZip (IsGroupAsSet feeds) groups fed = subst (λ (gs : List Group). AllZip (IsGroupAsSet feeds) groups gs) (sym same) c.in_ok-made.ensures.set in
+    let Set : List Group → Type 0 = λ gs. AllZip (IsGroupAsSet feeds) groups gs in
+    let pairs : Set fed = subst Set (sym same) c.in_ok-made.ensures.set in
     IfOk-weaker c.with_context.result _ _ (λ shown with. record { fed = fed; feeds = pairs; context = with }) c.with_context.ensures.with
