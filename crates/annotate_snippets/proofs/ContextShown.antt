@@ -10,6 +10,7 @@ use Rattle.snippet_context.proofs.KeptAround.{keeps-around}
 use Rattle.snippet_context.specs.Context.{lines_around}
 use Rattle.snippet_context.specs.WithContext.{IsElementWithContext, IsGroupWithContext, IsSnippetWithContext}
 use Rattle.snippet_grid.proofs.WeaveLemmas.{some_same}
+use Rattle.snippet_grid.specs.Layout.{Layout}
 use Rattle.snippet_lines.specs.Lines.{source_lines}
 use Rattle.snippet_model.specs.Same.{SamePatch}
 use Rattle.snippet_model.specs.declared.snippet.Annotation.{Annotation}
@@ -21,12 +22,16 @@ use Rattle.snippet_model.specs.declared.snippet.Snippet.{Snippet}
 use Rattle.snippet_parts.specs.Kept.{kept_lines, keeps, with_between}
 use Rattle.snippet_settings.specs.AsSet.{IsAnnotationAsSet, IsElementAsSet, IsGroupAsSet, IsSnippetAsSet}
 use Rattle.snippet_style.specs.Cell.{Cell}
-use Rattle.annotate_snippets.specs.Around.{drawn_elements, is_drawn}
+use Rattle.annotate_snippets.specs.Around.{context_at, drawn_elements, file_of_group, is_drawn, position_of_group}
 use Rattle.annotate_snippets.specs.AsSet.{AreWithContext, IsAsSet, IsRemade, adds_context}
 use Rattle.annotate_snippets.specs.ContextLaws.{ShowsLinesAround, lines_with_context}
+use Rattle.annotate_snippets.specs.Gutter.{layout_of_group}
 use Rattle.annotate_snippets.specs.Page.{GroupPage, NamedRow, Page, line_named, lines_named, others}
 use Rattle.annotate_snippets.specs.PageLaws.{PageLaws}
+use Rattle.annotate_snippets.specs.RowsWithoutSource.{cause_head, rows_after_cause}
+use Rattle.annotate_snippets.specs.ShownPage.{ShowsSnippet}
 use Rattle.annotate_snippets.specs.declared.renderer.Renderer.{Renderer}
+use Rattle.annotate_snippets.specs.declared.renderer.element_context.ElementContext.{ElementContext}
 use Rattle.annotate_snippets.specs.declared.renderer.form.Form.{Form}
 use Rattle.annotate_snippets.proofs.AsSetSteps.{context-set, remade-set}
 
@@ -173,6 +178,12 @@ module _ (before after : ℕ) where
       ∙ filter_map-append (λ (row : NamedRow). line_named row.name) rows (others below)
       ∙ ap (λ (ks : List ℕ). lines_named rows ++ ks) (none-named below) ∙ append-nil (lines_named rows)
 
+  -- the lines that the rows of a snippet show
+  named-shown : (r : Renderer) (layout : Layout) (around : ElementContext) (s : Snippet Annotation) (rows : List NamedRow)
+      → ShowsSnippet r layout around s rows → lines_named rows ≡ with_between (kept_lines s.fold (cow_str_bytes s.source) s.markers.items)
+  named-shown r layout around s rows shows =
+      ap lines_named shows.rows_are ∙ named-between (cause_head r layout around s) (rows_after_cause r layout around) shows.after ∙ shows.lines
+
   -- ---- the page
 
   -- a page with the laws of the report that is shown has the lines around those that the given one keeps
@@ -196,7 +207,9 @@ module _ (before after : ℕ) where
           let found : IsAround s second.other = cause-around feeds s first.other second.other first.pair second.pair in
           let drawn_as : slice_get (drawn_elements two.other) n ≡ Some (Cause found.shown) = second.there ∙ ap (λ (e : Element). Some e) found.is in
           let shows = (laws.shows.each i two.other part two.there there).elements.each n (Cause found.shown) drawn_as in
-          ap lines_named shows.rows_are ∙ named-between _ _ shows.after ∙ shows.lines ∙ found.lines
+          named-shown r (layout_of_group r shown two.other)
+          (context_at (position_of_group (length shown) i) (file_of_group shown two.other) (drawn_elements two.other) n (Cause found.shown)) found.shown
+          (slice_index_or part.elements n []) shows ∙ found.lines
 
 -- so has the page of the report that is shown, as the renderer is set
 pub around-set : (form : Form) (r : Renderer) (groups shown : List Group) (page : Page) → IsAsSet form r groups shown → PageLaws r shown page
