@@ -31,7 +31,7 @@ use Rattle.snippet_style.specs.declared.stylesheet.Stylesheet.{Stylesheet}
 use Rattle.snippet_text.specs.Normalized.{norm, shown}
 use Rattle.snippet_titles.proofs.OriginFree.{each-fails}
 use Rattle.snippet_titles.specs.Title.{id_chars, id_links, text_links}
-use Rattle.annotate_snippets.specs.AsSet.{AreWithContext, IsAsSet, IsRemade, adds_context, shows_as_given}
+use Rattle.annotate_snippets.specs.AsSet.{AreWithContext, AreWrapped, IsAsSet, IsRemade, adds_context, shows_as_given, wraps}
 use Rattle.annotate_snippets.specs.ContextLaws.{ShowsLinesAround}
 use Rattle.annotate_snippets.specs.Fault.{first_refusal, form_of}
 use Rattle.annotate_snippets.specs.Feeds.{HasOneLineTexts, IsNoFeed, IsOneLineElement, IsOneLineGroup, IsOneLineId, IsOneLineLabel}
@@ -40,18 +40,21 @@ use Rattle.annotate_snippets.specs.FormLaws.{FormLaws, HasLaws, IsTextUnder, Law
 use Rattle.annotate_snippets.specs.Forms.{AreFree, ShowsForm, ShowsReport, TextsShown, links_in}
 use Rattle.annotate_snippets.specs.GraphicForm.{graphic_form}
 use Rattle.annotate_snippets.specs.Page.{page_text}
-use Rattle.annotate_snippets.specs.ShownPage.{report_links}
+use Rattle.annotate_snippets.specs.ShownPage.{IsFreeBut, report_links}
+use Rattle.annotate_snippets.specs.Gutter.{gutter_of_report}
 use Rattle.annotate_snippets.specs.Written.{IsTextIn, ShowsIn, WritesPart, WritesText}
 use Rattle.annotate_snippets.specs.declared.renderer.Renderer.{Renderer}
 use Rattle.annotate_snippets.specs.declared.renderer.error.RenderError.{RenderError}
 use Rattle.annotate_snippets.specs.declared.renderer.form.Form.{Form}
 use Rattle.annotate_snippets.specs.declared.renderer.form.Form.TheVariants.{Graphic, Short, Text}
-use Rattle.annotate_snippets.proofs.AsSetSteps.{feeds-set, first-pair, flat-same, remade-set, set-same, unset-same}
+use Rattle.annotate_snippets.proofs.AsSetSteps.{feeds-set, first-pair, flat-same, remade-set, set-back, set-same, unset-same}
 use Rattle.annotate_snippets.proofs.ContextFaults.{refusal-same}
 use Rattle.annotate_snippets.proofs.ContextShown.{around-set}
 use Rattle.annotate_snippets.proofs.ContextTexts.{links-around, plain-around, trusted-around}
 use Rattle.annotate_snippets.proofs.FormsShown.{are-free}
 use Rattle.annotate_snippets.proofs.PrintLemmas.{AllZip-weaker}
+use Rattle.annotate_snippets.proofs.WrapSet.{rewrapped-set}
+use Rattle.annotate_snippets.proofs.WrapShown.{wrapped-free, wrapped-line, wrapped-links}
 
 -- ---- nothing is set
 
@@ -113,13 +116,19 @@ trusted-group feeds a b is =
     ap₂ (λ (x y : List (List ℕ)). x ++ y) (option-same (IsTitleAsSet feeds) trusted_of_title (trusted-title feeds) a.title b.title is.1)
     (flat-same (IsElementAsSet feeds) trusted_of_element (trusted-element feeds) a.elements.items b.elements.items is.2)
 
--- the trusted texts of what is shown are those of the report
-pub trusted-same : (form : Form) (r : Renderer) (groups shown : List Group) → IsAsSet form r groups shown → trusted_texts shown ≡ trusted_texts groups
-trusted-same form r groups shown set =
-    set-same trusted_texts
-    (λ feeds xs ys pairs. flat-same (IsGroupAsSet feeds)
-    (λ g. flat_map trusted_of_title (option_to_list g.title) ++ flat_map trusted_of_element g.elements.items) (trusted-group feeds) xs ys pairs)
-    trusted-around form r groups shown set
+trusted-fed : (feeds : Bool) (xs ys : List Group) → AllZip (IsGroupAsSet feeds) xs ys → trusted_texts ys ≡ trusted_texts xs
+trusted-fed feeds xs ys pairs =
+    flat-same (IsGroupAsSet feeds) (λ g. flat_map trusted_of_title (option_to_list g.title) ++ flat_map trusted_of_element g.elements.items)
+    (trusted-group feeds) xs ys pairs
+
+-- a text that is free but for the trusted texts of what is shown is so but for those of the report
+pub free-set : (form : Form) (r : Renderer) (groups shown : List Group) → IsAsSet form r groups shown → (text : List ℕ)
+    → IsFreeBut (trusted_texts shown) text → IsFreeBut (trusted_texts groups) text
+free-set form r groups shown set text free =
+    set-back (λ gs. IsFreeBut (trusted_texts gs) text)
+    (λ feeds xs ys pairs own. subst (λ (trusted : List (List ℕ)). IsFreeBut trusted text) (trusted-fed feeds xs ys pairs) own)
+    (λ before after xs ys pairs own. subst (λ (trusted : List (List ℕ)). IsFreeBut trusted text) (trusted-around before after xs ys pairs) own)
+    (λ term_width gutter xs ys pairs own. wrapped-free term_width gutter xs ys pairs text own) form r groups shown set free
 
 -- ---- what stays: links
 
@@ -195,7 +204,8 @@ form-links Short r feeds groups shown pairs =
 pub links-same : (form : Form) (r : Renderer) (groups shown : List Group) → IsAsSet form r groups shown → links_in form r shown ≡ links_in form r groups
 links-same form r groups shown set =
     set-same (links_in form r) (λ feeds xs ys pairs. form-links form r feeds xs ys pairs)
-    (λ before after xs ys pairs. links-around before after form r xs ys pairs) form r groups shown set
+    (λ before after xs ys pairs. links-around before after form r xs ys pairs)
+    (λ term_width gutter xs ys pairs. wrapped-links term_width gutter form r xs ys pairs) form r groups shown set
 
 -- ---- what changes: no line feed
 
@@ -302,9 +312,13 @@ pub plain-set : (form : Form) (r : Renderer) (groups shown : List Group) → IsA
 plain-set form r groups shown set asked =
     let made : IsRemade form r groups shown = remade-set form r groups shown (feeds-set form r asked) set in
     let pairs : AllZip (IsGroupAsSet true) groups made.fed = subst (λ (feeds : Bool). AllZip (IsGroupAsSet feeds) groups made.fed) asked made.feeds in
-    with-context (adds_context form r) r.context_before r.context_after made.fed shown made.context
-    (all-second (IsGroupAsSet true) IsOneLineGroup group-plain groups made.fed pairs)
+    with-wrap (wraps form r) made.around shown made.wrap (with-context (adds_context form r) r.context_before r.context_after made.fed made.around made.context
+    (all-second (IsGroupAsSet true) IsOneLineGroup group-plain groups made.fed pairs))
   where
+    with-wrap : (wrap : Bool) (xs ys : List Group) → AreWrapped wrap r xs ys → HasOneLineTexts xs → HasOneLineTexts ys
+    with-wrap true xs ys pairs plain = wrapped-line r.term_width (gutter_of_report r xs) xs ys pairs plain
+    with-wrap false xs ys same plain = subst HasOneLineTexts (sym same) plain
+
     with-context : (adds : Bool) (before after : ℕ) (xs ys : List Group) → AreWithContext adds before after xs ys → HasOneLineTexts xs → HasOneLineTexts ys
     with-context true before after xs ys pairs plain = plain-around before after xs ys pairs plain
     with-context false before after xs ys same plain = subst HasOneLineTexts (sym same) plain
@@ -333,6 +347,7 @@ module _ (r : Renderer) (groups shown : List Group) (set : IsAsSet (form_of r) r
     one_line = plain-set (form_of r) r groups shown set;
     lines = λ asked graphic. graphic-laws (form_of r) r shown graphic laws.form_laws (plain-set (form_of r) r groups shown set asked);
     around = around-laws (form_of r) r groups shown set laws.form_laws;
+    wrapped = rewrapped-set (form_of r) r groups shown set;
   }
 
   -- and so have texts
@@ -350,7 +365,7 @@ module _ (r : Renderer) (groups shown : List Group) (set : IsAsSet (form_of r) r
   set-free sheets texts laws =
       let free : AreFree (trusted_texts shown) (links_in (form_of r) r shown) sheets texts = are-free r shown (form_of r) sheets texts laws in
       subst (λ (links : List (List ℕ)). AreFree (trusted_texts groups) links sheets texts) (links-same (form_of r) r groups shown set)
-      (subst (λ (trusted : List (List ℕ)). AreFree trusted (links_in (form_of r) r shown) sheets texts) (trusted-same (form_of r) r groups shown set) free)
+      (record { plain = free.plain; woven = free.woven; free = free-set (form_of r) r groups shown set free.plain free.free })
 
 -- ---- answers
 

@@ -5,7 +5,9 @@ use Rattle.std.proofs.lemmas.List.Elements.{All-cons, All-head, All-nil, All-tai
 use Rattle.snippet_context.specs.WithContext.{IsGroupWithContext}
 use Rattle.snippet_model.specs.declared.snippet.Group.{Group}
 use Rattle.snippet_settings.specs.AsSet.{IsGroupAsSet}
-use Rattle.annotate_snippets.specs.AsSet.{AreWithContext, IsAsSet, IsRemade, IsShownFor, adds_context, shows_as_given}
+use Rattle.snippet_wrap.specs.AsWrapped.{AreGroupsWrapped}
+use Rattle.annotate_snippets.specs.AsSet.{AreWithContext, AreWrapped, IsAsSet, IsRemade, IsShownFor, adds_context, shows_as_given, wraps}
+use Rattle.annotate_snippets.specs.Gutter.{gutter_of_report}
 use Rattle.annotate_snippets.specs.declared.renderer.Renderer.{Renderer}
 use Rattle.annotate_snippets.specs.declared.renderer.form.Form.{Form}
 
@@ -60,32 +62,71 @@ pub remade-set : (form : Form) (r : Renderer) (groups shown : List Group) → sh
 remade-set form r groups shown some set =
     let Set : Bool → Type 0 = λ given. IsShownFor given form r groups shown in subst Set some set
 
--- so it is where line feeds are shown, and where lines around those that are kept are
+-- so it is where line feeds are shown, where lines around those that are kept are, and where titles and messages are wrapped
 pub feeds-set : (form : Form) (r : Renderer) → r.show_line_feeds ≡ true → shows_as_given form r ≡ false
-feeds-set form r asked = ap (λ (feeds : Bool). not feeds && not (adds_context form r)) asked
+feeds-set form r asked = ap (λ (feeds : Bool). not feeds && not (adds_context form r) && not (wraps form r)) asked
 
 pub context-set : (form : Form) (r : Renderer) → adds_context form r ≡ true → shows_as_given form r ≡ false
-context-set form r asked = ap (λ (adds : Bool). not r.show_line_feeds && not adds) asked ∙ none (not r.show_line_feeds)
+context-set form r asked =
+    ap (λ (adds : Bool). not r.show_line_feeds && not adds && not (wraps form r)) asked ∙ none (not r.show_line_feeds) (not (wraps form r))
   where
-    none : (b : Bool) → (b && false) ≡ false
-    none true = refl
-    none false = refl
+    none : (b c : Bool) → (b && false && c) ≡ false
+    none true c = refl
+    none false c = refl
+
+pub wrap-set : (form : Form) (r : Renderer) → wraps form r ≡ true → shows_as_given form r ≡ false
+wrap-set form r asked =
+    ap (λ (wrap : Bool). not r.show_line_feeds && not (adds_context form r) && not wrap) asked ∙ none (not r.show_line_feeds) (not (adds_context form r))
+  where
+    none : (b c : Bool) → (b && c && false) ≡ false
+    none true true = refl
+    none true false = refl
+    none false true = refl
+    none false false = refl
 
 -- ---- what stays
 
 -- what is read of a report stays with what is shown in place of it, if it does in each step
 module _ {A : Type 0} (read : List Group → A)
     (feeds-same : (feeds : Bool) (xs ys : List Group) → AllZip (IsGroupAsSet feeds) xs ys → read ys ≡ read xs)
-    (context-same : (before after : ℕ) (xs ys : List Group) → AllZip (IsGroupWithContext before after) xs ys → read ys ≡ read xs) where
+    (context-same : (before after : ℕ) (xs ys : List Group) → AllZip (IsGroupWithContext before after) xs ys → read ys ≡ read xs)
+    (wrap-same : (term_width gutter : ℕ) (xs ys : List Group) → AreGroupsWrapped term_width gutter xs ys → read ys ≡ read xs) where
   with-same : (adds : Bool) (before after : ℕ) (xs ys : List Group) → AreWithContext adds before after xs ys → read ys ≡ read xs
   with-same true before after xs ys pairs = context-same before after xs ys pairs
   with-same false before after xs ys same = ap read same
 
+  wrapped-same : (wrap : Bool) (r : Renderer) (xs ys : List Group) → AreWrapped wrap r xs ys → read ys ≡ read xs
+  wrapped-same true r xs ys pairs = wrap-same r.term_width (gutter_of_report r xs) xs ys pairs
+  wrapped-same false r xs ys same = ap read same
+
   by-steps : (given : Bool) (form : Form) (r : Renderer) (groups shown : List Group) → IsShownFor given form r groups shown → read shown ≡ read groups
   by-steps true form r groups shown same = ap read same
   by-steps false form r groups shown made =
-      with-same (adds_context form r) r.context_before r.context_after made.fed shown made.context
+      wrapped-same (wraps form r) r made.around shown made.wrap
+      ∙ with-same (adds_context form r) r.context_before r.context_after made.fed made.around made.context
       ∙ feeds-same r.show_line_feeds groups made.fed made.feeds
 
   pub set-same : (form : Form) (r : Renderer) (groups shown : List Group) → IsAsSet form r groups shown → read shown ≡ read groups
   set-same form r groups shown set = by-steps (shows_as_given form r) form r groups shown set
+
+-- what holds of what is shown holds of the report, if it goes back over each step
+module _ (Q : List Group → Type 0) (feeds-back : (feeds : Bool) (xs ys : List Group) → AllZip (IsGroupAsSet feeds) xs ys → Q ys → Q xs)
+    (context-back : (before after : ℕ) (xs ys : List Group) → AllZip (IsGroupWithContext before after) xs ys → Q ys → Q xs)
+    (wrap-back : (term_width gutter : ℕ) (xs ys : List Group) → AreGroupsWrapped term_width gutter xs ys → Q ys → Q xs) where
+  with-back : (adds : Bool) (before after : ℕ) (xs ys : List Group) → AreWithContext adds before after xs ys → Q ys → Q xs
+  with-back true before after xs ys pairs holds = context-back before after xs ys pairs holds
+  with-back false before after xs ys same holds = subst Q same holds
+
+  wrapped-back : (wrap : Bool) (r : Renderer) (xs ys : List Group) → AreWrapped wrap r xs ys → Q ys → Q xs
+  wrapped-back true r xs ys pairs holds = wrap-back r.term_width (gutter_of_report r xs) xs ys pairs holds
+  wrapped-back false r xs ys same holds = subst Q same holds
+
+  by-steps-back : (given : Bool) (form : Form) (r : Renderer) (groups shown : List Group) → IsShownFor given form r groups shown → Q shown → Q groups
+  by-steps-back true form r groups shown same holds = subst Q same holds
+  by-steps-back false form r groups shown made holds =
+      feeds-back r.show_line_feeds groups made.fed made.feeds
+      (with-back (adds_context form r) r.context_before r.context_after made.fed made.around made.context
+      (wrapped-back (wraps form r) r made.around shown made.wrap holds))
+
+  pub set-back : (form : Form) (r : Renderer) (groups shown : List Group) → IsAsSet form r groups shown → Q shown → Q groups
+  set-back form r groups shown set holds = by-steps-back (shows_as_given form r) form r groups shown set holds

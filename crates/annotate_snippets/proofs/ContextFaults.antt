@@ -1,5 +1,5 @@
 -- A report with the lines around those that it keeps has the faults that it had, and is refused for the same reason.
-use Rattle.std.proofs.Common.{◌≡◌, ◌∙◌, ℕ, ◌+◌, if◌then◌else◌, is_none, arith}
+use Rattle.std.proofs.Common.{◌≡◌, ◌∙◌, ℕ, ◌+◌, Bool, true, false, if◌then◌else◌, is_none, arith}
 use Rattle.std.proofs.Common.{List, [], ◌∷◌, ◌++◌, Option, None, Some, All, map, refl, sym, ap, ap₂, subst}
 use Rattle.std.proofs.lemmas.List.Elements.{All-cons, All-head, All-nil, All-tail, All-weaker}
 use Rattle.std.specs.Cow.{cow_str_bytes}
@@ -21,7 +21,7 @@ use Rattle.snippet_model.specs.declared.snippet.Group.{Group}
 use Rattle.snippet_model.specs.declared.snippet.Snippet.{Snippet}
 use Rattle.snippet_model.specs.declared.snippet.Title.{Title}
 use Rattle.snippet_lines.specs.declared.span.SpanFault.{SpanFault}
-use Rattle.annotate_snippets.specs.AsSet.{IsAsSet}
+use Rattle.annotate_snippets.specs.AsSet.{AreWithContext, IsAsSet}
 use Rattle.annotate_snippets.specs.Fault.{element_faults, faults_from, first_fault, first_of, form_of, group_faults, missing_title, number_after_lines}
 use Rattle.annotate_snippets.specs.Fault.{IsWithinBounds, number_faults, refusal_in, refusal_of, span_faults}
 use Rattle.annotate_snippets.specs.PreparedReport.{IsElementDrawable, IsGroupDrawable}
@@ -34,6 +34,7 @@ use Rattle.annotate_snippets.proofs.AsSetFaults.{fault-same, faults-same, missin
 use Rattle.annotate_snippets.proofs.AsSetSteps.{all-over, set-same}
 use Rattle.annotate_snippets.proofs.BoundsLaws.{span-faultless}
 use Rattle.annotate_snippets.proofs.FaultLemmas.{groups-drawable}
+use Rattle.annotate_snippets.proofs.WrapShown.{wrapped-refusal}
 
 -- ---- faults
 
@@ -106,7 +107,14 @@ module _ (before after : ℕ) where
 pub refusal-same : (form : Form) (r : Renderer) (groups shown : List Group) → IsAsSet form r groups shown → refusal_in form shown ≡ refusal_in form groups
 refusal-same form r groups shown set =
     set-same (refusal_in form) (λ feeds xs ys pairs. ap₂ option_or (missing-same feeds form xs ys pairs) (fault-same feeds xs ys pairs))
-    (λ before after xs ys pairs. ap₂ option_or (missing-around before after form xs ys pairs) (fault-around before after xs ys pairs)) form r groups shown set
+    (λ before after xs ys pairs. ap₂ option_or (missing-around before after form xs ys pairs) (fault-around before after xs ys pairs))
+    (λ term_width gutter xs ys pairs. wrapped-refusal term_width gutter form xs ys pairs) form r groups shown set
+
+-- the first fault stays, whether lines around those that are kept are shown or not
+pub fault-with : (adds : Bool) (before after : ℕ) (groups shown : List Group) → AreWithContext adds before after groups shown
+    → first_fault shown ≡ first_fault groups
+fault-with true before after groups shown pairs = fault-around before after groups shown pairs
+fault-with false before after groups shown same = ap first_fault same
 
 -- it is within the bounds where the report is and its own texts fit
 pub bounds-set : (r : Renderer) (groups shown : List Group) → IsAsSet (form_of r) r groups shown → ReportFits shown → IsWithinBounds r groups

@@ -23,7 +23,9 @@ use Rattle.snippet_parts.specs.Kept.{kept_lines, keeps, with_between}
 use Rattle.snippet_settings.specs.AsSet.{IsAnnotationAsSet, IsElementAsSet, IsGroupAsSet, IsSnippetAsSet}
 use Rattle.snippet_style.specs.Cell.{Cell}
 use Rattle.annotate_snippets.specs.Around.{context_at, drawn_elements, file_of_group, is_drawn, position_of_group}
-use Rattle.annotate_snippets.specs.AsSet.{AreWithContext, IsAsSet, IsRemade, adds_context}
+use Rattle.snippet_wrap.specs.AsWrapped.{AreGroupsWrapped, IsElementWrapped, IsGroupWrapped}
+use Rattle.annotate_snippets.specs.AsSet.{AreWithContext, AreWrapped, IsAsSet, IsRemade, adds_context, wraps}
+use Rattle.annotate_snippets.specs.Gutter.{gutter_of_report}
 use Rattle.annotate_snippets.specs.ContextLaws.{ShowsLinesAround, lines_with_context}
 use Rattle.annotate_snippets.specs.Gutter.{layout_of_group}
 use Rattle.annotate_snippets.specs.Page.{GroupPage, NamedRow, Page, line_named, lines_named, others}
@@ -211,11 +213,72 @@ module _ (before after : ℕ) where
           (context_at (position_of_group (length shown) i) (file_of_group shown two.other) (drawn_elements two.other) n (Cause found.shown)) found.shown
           (slice_index_or part.elements n []) shows ∙ found.lines
 
+-- ---- titles and messages that are wrapped
+
+module _ (term_width gutter : ℕ) where
+  drawn-wrapped : (x y : Element) → IsElementWrapped term_width gutter x y → is_drawn y ≡ is_drawn x
+  drawn-wrapped (Message a) (Message b) is = refl
+  drawn-wrapped (Message a) (Cause b) is = ap is_drawn is
+  drawn-wrapped (Message a) (Suggestion b) is = ap is_drawn is
+  drawn-wrapped (Message a) (Origin b) is = ap is_drawn is
+  drawn-wrapped (Message a) (Padding b) is = ap is_drawn is
+  drawn-wrapped (Cause a) y is = ap is_drawn is
+  drawn-wrapped (Suggestion a) y is = ap is_drawn is
+  drawn-wrapped (Origin a) y is = ap is_drawn is
+  drawn-wrapped (Padding a) y is = ap is_drawn is
+
+  cause-wrapped : (s : Snippet Annotation) (e : Element) → IsElementWrapped term_width gutter (Cause s) e → e ≡ Cause s
+  cause-wrapped s e is = is
+
+  -- the page of a report that is wrapped after it got these lines has them too
+  page-wrapped : (before after : ℕ) (r : Renderer) (feeds : Bool) (groups fed around shown : List Group) (page : Page) → AllZip (IsGroupAsSet feeds) groups fed
+      → AllZip (IsGroupWithContext before after) fed around → AreGroupsWrapped term_width gutter around shown → PageLaws r shown page
+      → ShowsLinesAround before after groups page
+  page-wrapped before after r feeds groups fed around shown page set with wrapped laws = record { lines = of_snippet }
+    where
+      of_snippet : (i n : ℕ) (g : Group) (part : GroupPage) (s : Snippet Annotation) → slice_get groups i ≡ Some g → slice_get page i ≡ Some part
+          → slice_get (drawn_elements g) n ≡ Some (Cause s) → lines_named (slice_index_or part.elements n []) ≡ lines_with_context before after s
+      of_snippet i n g part s at there drawn =
+          let one : Paired (IsGroupAsSet feeds) fed i g = paired (IsGroupAsSet feeds) groups fed set i g at in
+          let two : Paired (IsGroupWithContext before after) around i one.other =
+          paired (IsGroupWithContext before after) fed around with i one.other one.there in
+          let three : Paired (IsGroupWrapped term_width gutter) shown i two.other =
+          paired (IsGroupWrapped term_width gutter) around shown wrapped i two.other two.there in
+          let first : Paired (IsElementAsSet feeds) (drawn_elements one.other) n (Cause s) =
+          paired (IsElementAsSet feeds) (drawn_elements g) (drawn_elements one.other)
+          (chosen (IsElementAsSet feeds) is_drawn (drawn-set feeds) g.elements.items one.other.elements.items one.pair.2) n (Cause s) drawn in
+          let second : Paired (IsElementWithContext before after) (drawn_elements two.other) n first.other =
+          paired (IsElementWithContext before after) (drawn_elements one.other) (drawn_elements two.other)
+          (chosen (IsElementWithContext before after) is_drawn (drawn-around before after) one.other.elements.items two.other.elements.items two.pair.elements)
+          n first.other first.there in
+          let third : Paired (IsElementWrapped term_width gutter) (drawn_elements three.other) n second.other =
+          paired (IsElementWrapped term_width gutter) (drawn_elements two.other) (drawn_elements three.other)
+          (chosen (IsElementWrapped term_width gutter) is_drawn drawn-wrapped two.other.elements.items three.other.elements.items three.pair.2)
+          n second.other second.there in
+          let found : IsAround before after s second.other = cause-around before after feeds s first.other second.other first.pair second.pair in
+          let last : third.other ≡ Cause found.shown =
+          cause-wrapped found.shown third.other (subst (λ (e : Element). IsElementWrapped term_width gutter e third.other) found.is third.pair) in
+          let shows = (laws.shows.each i three.other part three.there there).elements.each n (Cause found.shown)
+          (third.there ∙ ap (λ (e : Element). Some e) last) in
+          named-shown before after r (layout_of_group r shown three.other)
+          (context_at (position_of_group (length shown) i) (file_of_group shown three.other) (drawn_elements three.other) n (Cause found.shown)) found.shown
+          (slice_index_or part.elements n []) shows ∙ found.lines
+
 -- so has the page of the report that is shown, as the renderer is set
 pub around-set : (form : Form) (r : Renderer) (groups shown : List Group) (page : Page) → IsAsSet form r groups shown → PageLaws r shown page
     → adds_context form r ≡ true → ShowsLinesAround r.context_before r.context_after groups page
 around-set form r groups shown page set laws asked =
     let made : IsRemade form r groups shown = remade-set form r groups shown (context-set form r asked) set in
-    let with : AllZip (IsGroupWithContext r.context_before r.context_after) made.fed shown =
-    subst (λ (adds : Bool). AreWithContext adds r.context_before r.context_after made.fed shown) asked made.context in
-    page-around r.context_before r.context_after r r.show_line_feeds groups made.fed shown page made.feeds with laws
+    let with : AllZip (IsGroupWithContext r.context_before r.context_after) made.fed made.around =
+    subst (λ (adds : Bool). AreWithContext adds r.context_before r.context_after made.fed made.around) asked made.context in
+    either (wraps form r) made.fed made.around made.feeds with made.wrap
+  where
+    either : (wrap : Bool) (fed around : List Group) → AllZip (IsGroupAsSet r.show_line_feeds) groups fed
+        → AllZip (IsGroupWithContext r.context_before r.context_after) fed around → AreWrapped wrap r around shown
+        → ShowsLinesAround r.context_before r.context_after groups page
+    either true fed around feeds with wrapped =
+        page-wrapped r.term_width (gutter_of_report r around) r.context_before r.context_after r r.show_line_feeds groups fed around shown page
+        feeds with wrapped laws
+    either false fed around feeds with same =
+        page-around r.context_before r.context_after r r.show_line_feeds groups fed around page feeds with
+        (subst (λ (gs : List Group). PageLaws r gs page) same laws)

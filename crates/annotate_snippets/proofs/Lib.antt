@@ -48,6 +48,7 @@ pub mod NotSuggested
 pub mod NotText
 pub mod NotTitled
 pub mod NotWhole
+pub mod NotWrapped
 pub mod NumberLaws
 pub mod PageLemmas
 pub mod PartsFacts
@@ -81,4 +82,6 @@ pub mod WalkLemmas
 pub mod WidestLemmas
 pub mod WindowLemmas
 pub mod WovenLemmas
+pub mod WrapSet
+pub mod WrapShown
 pub mod WriteLemmas

@@ -1,5 +1,5 @@
 -- What isn't HTML of a report: texts that are wrong, each of a small report, contradict what is said of the text that `render_html` gives.
-use Rattle.std.proofs.Common.{◌≡◌, ℕ, false, nat_eq, Some, Vec, List, [], ◌∷◌, codes, length, refl, sym, ap, ◌∙◌, arith}
+use Rattle.std.proofs.Common.{◌≡◌, ℕ, true, nat_eq, Some, Vec, List, [], ◌∷◌, codes, length, refl, sym, ap, ◌∙◌, arith}
 use Rattle.std.proofs.lemmas.Bool.{false≢true}
 use Rattle.std.specs.Str.{chars}
 use Rattle.std.specs.declared.alloc.Global.{Global}

@@ -15,6 +15,7 @@ pub mod Page
 pub mod PageLaws
 pub mod PreparedReport
 pub mod Refusal
+pub mod Rewrapped
 pub mod RowsWithoutSource
 pub mod Settings
 pub mod ShortForm

@@ -319,8 +319,21 @@ impl Renderer {
         self
     }
 
-    /// Whether a line of a title or message that is wider than the room right of where it begins is broken at the last
-    /// blank before that.
+    /// Whether a line of a title or message that is wider than the room right of where it begins is broken: at the last
+    /// blank before which it fits, a space or a tab, which gives its place to the break; or where a word alone is wider
+    /// before the first character that has no room. What follows is indented as further lines are.
+    ///
+    /// ```text
+    /// Renderer::plain().term_width(40).wrap(true)
+    ///
+    /// error[E0502]: cannot borrow `scores` as
+    ///               mutable because it is also
+    ///               borrowed as immutable
+    /// ```
+    ///
+    /// The room is that of the `term_width`; widths are those of [`str_width`](crate::text::str_width), so the codes of
+    /// a text that holds some count as the characters that they are. Nothing is broken where the room has fewer than 4
+    /// columns, nor in the short form and the text form, nor unless this says so.
     pub fn wrap(mut self, wrap: bool) -> Renderer
         ensures changed { result ≡ record self { wrap = wrap } }
     {
@@ -427,8 +440,8 @@ impl Renderer {
     /// # Errors
     ///
     /// As of [`render`](Renderer::render). With no sheets the report is looked through as ever, but not drawn, and no
-    /// memory is taken, unless something is set that makes another report of it: line feeds that are shown, or lines
-    /// around those that are kept.
+    /// memory is taken, unless something is set that makes another report of it: line feeds that are shown, lines
+    /// around those that are kept, or titles and messages that are wrapped.
     pub fn render_sheets(
         &self,
         alloc: Global,

@@ -23,3 +23,5 @@ mod snip;
 mod tidy;
 #[cfg(test)]
 mod to_writer;
+#[cfg(test)]
+mod wrap;

@@ -1,22 +1,27 @@
 //! The report that is shown in place of one, as the renderer is set.
-ghost use Rattle.std.specs.Prelude.{◌≡◌, All, Err, IfOk, IfSome, IsOkUnless, None, alloc_error, false};
+ghost use Rattle.std.specs.Prelude.{◌≡◌, ◌≤◌, All, Err, IfOk, IfSome, IsOkUnless, None, alloc_error, false, true};
 ghost use Rattle.std.specs.List.{AllZip};
 ghost use Rattle.snippet_context.specs.WithContext.{IsGroupSound};
 ghost use Rattle.snippet_model.specs.Fits.{ReportFits};
 ghost use Rattle.snippet_settings.specs.AsSet.{IsGroupAsSet};
 ghost use Rattle.annotate_snippets.specs.AsSet as set;
-ghost use Rattle.annotate_snippets.specs.AsSet.{AreWithContext, IsAsSet};
+ghost use Rattle.annotate_snippets.specs.AsSet.{AreWithContext, AreWrapped, IsAsSet};
 ghost use Rattle.annotate_snippets.specs.Fault as spec;
+ghost use Rattle.annotate_snippets.specs.Gutter.{gutter_of_report};
+ghost use Rattle.annotate_snippets.specs.PreparedReport.{IsGroupDrawable};
 
 use crate::renderer::Renderer;
 use crate::renderer::error::RenderError;
 use crate::renderer::form::Form;
+use crate::renderer::gutter::gutter_of;
+use crate::renderer::preprocess::prepare_groups;
 use crate::renderer::validate::first_refusal;
 use crate::snippet::Report;
 use snippet_context::groups_with_context;
 use snippet_model::report_fits;
 use snippet_model::snippet::Group;
 use snippet_settings::groups_as_set;
+use snippet_wrap::groups_wrapped;
 use std::alloc::{AllocError, Global};
 
 impl Renderer {
@@ -24,7 +29,7 @@ impl Renderer {
     pub(crate) fn shows_as_given(&self, form: Form) -> bool
         ensures value { result ≡ set.shows_as_given form self.now }
     {
-        !self.show_line_feeds && !self.adds_context(form)
+        !self.show_line_feeds && !self.adds_context(form) && !self.wraps(form)
     }
 
     /// Whether lines around those that are kept are shown too: in the graphic form, where a number of them is set.
@@ -37,9 +42,19 @@ impl Renderer {
         }
     }
 
+    /// Whether titles and messages are wrapped: in the graphic form, where that is set.
+    fn wraps(&self, form: Form) -> bool
+        ensures value { result ≡ set.wraps form self.now }
+    {
+        match form {
+            Form::Graphic => self.wrap,
+            Form::Short | Form::Text => false,
+        }
+    }
+
     /// The report that is shown in a form in place of one that isn't refused, where something is set that makes another
-    /// of it: with its line feeds shown, and then with the lines around those that it keeps. Where a text of it no
-    /// longer fits, there is no memory for it.
+    /// of it: with its line feeds shown, then with the lines around those that it keeps, and then with its titles and
+    /// messages wrapped. Where a text of it no longer fits, there is no memory for it.
     pub(crate) fn report_shown<'a>(
         &self,
         alloc: Global,
@@ -74,7 +89,8 @@ impl Renderer {
     {
         let made = groups_as_set(alloc, self.show_line_feeds, groups)?;
         let fed = fitting(made)?;
-        self.with_context(alloc, form, fed)
+        let around = self.with_context(alloc, form, fed)?;
+        self.with_wrapped(alloc, form, around)
     }
 
     /// A report with the lines around those that it keeps, where they are shown.
@@ -95,6 +111,52 @@ impl Renderer {
         } else {
             Ok(groups)
         }
+    }
+
+    /// A report with its titles and messages wrapped, where that is set.
+    fn with_wrapped<'a>(
+        &self,
+        alloc: Global,
+        form: Form,
+        groups: Vec<Group<'a>>,
+    ) -> Result<Vec<Group<'a>>, AllocError>
+        requires fits { ReportFits groups.items }
+        requires faultless { spec.first_fault groups.items ≡ None }
+        ensures with { IfOk result (λ shown.
+            AreWrapped (set.wraps form self.now) self.now groups.entry.items shown.items) }
+        ensures fits { IfOk result (λ shown. ReportFits shown.items) }
+    {
+        if self.wraps(form) {
+            self.wrapped(alloc, groups)
+        } else {
+            Ok(groups)
+        }
+    }
+
+    /// A report with its titles and messages wrapped, beside its gutter.
+    fn wrapped<'a>(
+        &self,
+        alloc: Global,
+        groups: Vec<Group<'a>>,
+    ) -> Result<Vec<Group<'a>>, AllocError>
+        requires fits { ReportFits groups.items }
+        requires faultless { spec.first_fault groups.items ≡ None }
+        ensures with { IfOk result (λ shown. AreWrapped true self.now groups.entry.items shown.items) }
+        ensures fits { IfOk result (λ shown. ReportFits shown.items) }
+    {
+        let gutter = self.gutter_for(alloc, &groups)?;
+        let shown = groups_wrapped(alloc, self.term_width, gutter, groups)?;
+        fitting(shown)
+    }
+
+    /// The width of a report's gutter, in cells, before any row is drawn.
+    fn gutter_for(&self, alloc: Global, groups: Report<'_>) -> Result<usize, AllocError>
+        requires drawable { All IsGroupDrawable groups.now }
+        ensures value { IfOk result (λ gutter. gutter ≡ gutter_of_report self.now groups.now) }
+        ensures small { IfOk result (λ gutter. gutter ≤ 20) }
+    {
+        let prepared = prepare_groups(alloc, groups)?;
+        Ok(gutter_of(self, &prepared))
     }
 }
 
