@@ -1,11 +1,10 @@
--- The report that is shown in place of one has the same faults, under the same numbers.
-use Rattle.std.proofs.Common.{◌≡◌, ◌∙◌, ℕ, ◌+◌, ◌==◌, Bool, true, false, if◌then◌else◌, is_none, count_by}
+-- A report whose texts are as they are set has the same faults, under the same numbers.
+use Rattle.std.proofs.Common.{◌≡◌, ◌∙◌, ℕ, ◌+◌, ◌==◌, Bool, if◌then◌else◌, is_none, count_by}
 use Rattle.std.proofs.Common.{List, [], ◌∷◌, ◌++◌, Option, None, Some, map, refl, sym, ap, ap₂}
 use Rattle.std.proofs.lemmas.List.Sums.{sum_by-cons}
 use Rattle.std.specs.Cow.{cow_str_bytes}
 use Rattle.std.specs.List.{AllZip}
-use Rattle.std.specs.Option.{option_map, option_or, option_to_list}
-use Rattle.snippet_model.specs.Fits.{ReportFits}
+use Rattle.std.specs.Option.{option_map, option_to_list}
 use Rattle.snippet_model.specs.Same.{SameOption, SamePatch}
 use Rattle.snippet_model.specs.declared.snippet.Annotation.{Annotation}
 use Rattle.snippet_model.specs.declared.snippet.Element.{Element}
@@ -14,21 +13,19 @@ use Rattle.snippet_model.specs.declared.snippet.Group.{Group}
 use Rattle.snippet_model.specs.declared.snippet.Patch.{Patch}
 use Rattle.snippet_model.specs.declared.snippet.Snippet.{Snippet}
 use Rattle.snippet_model.specs.declared.snippet.Title.{Title}
-use Rattle.snippet_settings.specs.AsSet.{AreGroupsAsSet, IsAnnotationAsSet, IsElementAsSet, IsGroupAsSet, IsSnippetAsSet, IsTitleAsSet}
+use Rattle.snippet_settings.specs.AsSet.{IsAnnotationAsSet, IsElementAsSet, IsGroupAsSet, IsSnippetAsSet, IsTitleAsSet}
 use Rattle.snippet_splice.specs.Edits.{Edit, edit_of}
 use Rattle.snippet_splice.specs.Overlap.{first_overlap}
-use Rattle.annotate_snippets.specs.AsSet.{IsAsSet}
-use Rattle.annotate_snippets.specs.Fault.{IsWithinBounds, added_lines, element_faults, faults_from}
-use Rattle.annotate_snippets.specs.Fault.{first_fault, first_of, first_refusal, form_of, group_faults, missing_title}
+use Rattle.annotate_snippets.specs.Fault.{added_lines, element_faults, faults_from}
+use Rattle.annotate_snippets.specs.Fault.{first_fault, first_of, group_faults, missing_title}
 use Rattle.annotate_snippets.specs.Fault.{number_after_lines, number_faults, overlap_faults, span_faults}
-use Rattle.annotate_snippets.specs.declared.renderer.Renderer.{Renderer}
 use Rattle.annotate_snippets.specs.declared.renderer.error.RenderError.{RenderError}
 use Rattle.annotate_snippets.specs.declared.renderer.error.RenderError.TheVariants.{NoTitle, PatchesOverlap}
 use Rattle.annotate_snippets.specs.declared.renderer.form.Form.{Form}
 use Rattle.annotate_snippets.specs.declared.renderer.form.Form.TheVariants.{Graphic, Short, Text}
 
 -- things that stand in the places of others, and have their faults, have the same faults together
-faults-same : {X : Type 0} (P : X → X → Type 0) (f g : ℕ → X → List RenderError) → ((n : ℕ) (x y : X) → P x y → g n y ≡ f n x) → (n : ℕ)
+pub faults-same : {X : Type 0} (P : X → X → Type 0) (f g : ℕ → X → List RenderError) → ((n : ℕ) (x y : X) → P x y → g n y ≡ f n x) → (n : ℕ)
     → (xs ys : List X) → AllZip P xs ys → faults_from g n ys ≡ faults_from f n xs
 faults-same P f g same n [] [] pairs = refl
 faults-same P f g same n [] (y ∷ ys) pairs = absurd pairs
@@ -136,16 +133,3 @@ missing-same feeds Short [] (b ∷ bs) pairs = absurd pairs
 missing-same feeds Short (a ∷ gs) [] pairs = absurd pairs
 missing-same feeds Short (a ∷ gs) (b ∷ bs) pairs =
     ap (λ (missing : Bool). if missing then Some NoTitle else None) (title-same feeds a.title b.title pairs.0.1)
-
--- and what is shown is refused where the report is, for the same reason
-pub refusal-same : (r : Renderer) (groups shown : List Group) → IsAsSet r groups shown → first_refusal r shown ≡ first_refusal r groups
-refusal-same r groups shown set = by r.show_line_feeds set
-  where
-    by : (feeds : Bool) → AreGroupsAsSet feeds groups shown → first_refusal r shown ≡ first_refusal r groups
-    by true pairs = ap₂ option_or (missing-same true (form_of r) groups shown pairs) (fault-same true groups shown pairs)
-    by false same = ap (first_refusal r) same
-
--- it is within the bounds where the report is and its own texts fit
-pub bounds-set : (r : Renderer) (groups shown : List Group) → IsAsSet r groups shown → ReportFits shown → IsWithinBounds r groups → IsWithinBounds r shown
-bounds-set r groups shown set fits within =
-    record { faultless = refusal-same r groups shown set ∙ within.faultless; fits = fits }

@@ -23,7 +23,7 @@ use Rattle.snippet_model.specs.declared.snippet.Group.{Group}
 use Rattle.snippet_model.specs.declared.snippet.Id.{Id}
 use Rattle.snippet_model.specs.declared.snippet.Snippet.{Snippet}
 use Rattle.snippet_model.specs.declared.snippet.Title.{Title}
-use Rattle.snippet_settings.specs.AsSet.{AreGroupsAsSet, IsAnnotationAsSet, IsElementAsSet, IsGroupAsSet, IsIdAsSet, IsNameAsSet, IsSnippetAsSet, IsTitleAsSet}
+use Rattle.snippet_settings.specs.AsSet.{IsAnnotationAsSet, IsElementAsSet, IsGroupAsSet, IsIdAsSet, IsNameAsSet, IsSnippetAsSet, IsTitleAsSet}
 use Rattle.snippet_settings.specs.LineFeeds.{IsOptionAsSet, IsTextAsSet, picture_of, with_line_feeds_shown}
 use Rattle.snippet_style.specs.declared.role.LevelInner.{LevelInner}
 use Rattle.snippet_style.specs.declared.role.LevelInner.TheVariants.{Error, Warning, Info, Note, Help}
@@ -31,7 +31,8 @@ use Rattle.snippet_style.specs.declared.stylesheet.Stylesheet.{Stylesheet}
 use Rattle.snippet_text.specs.Normalized.{norm, shown}
 use Rattle.snippet_titles.proofs.OriginFree.{each-fails}
 use Rattle.snippet_titles.specs.Title.{id_chars, id_links, text_links}
-use Rattle.annotate_snippets.specs.AsSet.{IsAsSet}
+use Rattle.annotate_snippets.specs.AsSet.{AreWithContext, AreWrapped, IsAsSet, IsRemade, adds_context, shows_as_given, wraps}
+use Rattle.annotate_snippets.specs.ContextLaws.{ShowsLinesAround}
 use Rattle.annotate_snippets.specs.Fault.{first_refusal, form_of}
 use Rattle.annotate_snippets.specs.Feeds.{HasOneLineTexts, IsNoFeed, IsOneLineElement, IsOneLineGroup, IsOneLineId, IsOneLineLabel}
 use Rattle.annotate_snippets.specs.Feeds.{IsOneLineText, IsOneLineTitle, page_lines, text_lines}
@@ -39,48 +40,37 @@ use Rattle.annotate_snippets.specs.FormLaws.{FormLaws, HasLaws, IsTextUnder, Law
 use Rattle.annotate_snippets.specs.Forms.{AreFree, ShowsForm, ShowsReport, TextsShown, links_in}
 use Rattle.annotate_snippets.specs.GraphicForm.{graphic_form}
 use Rattle.annotate_snippets.specs.Page.{page_text}
-use Rattle.annotate_snippets.specs.ShownPage.{report_links}
+use Rattle.annotate_snippets.specs.ShownPage.{IsFreeBut, report_links}
+use Rattle.annotate_snippets.specs.Gutter.{gutter_of_report}
 use Rattle.annotate_snippets.specs.Written.{IsTextIn, ShowsIn, WritesPart, WritesText}
 use Rattle.annotate_snippets.specs.declared.renderer.Renderer.{Renderer}
 use Rattle.annotate_snippets.specs.declared.renderer.error.RenderError.{RenderError}
 use Rattle.annotate_snippets.specs.declared.renderer.form.Form.{Form}
 use Rattle.annotate_snippets.specs.declared.renderer.form.Form.TheVariants.{Graphic, Short, Text}
-use Rattle.annotate_snippets.proofs.AsSetFaults.{refusal-same}
+use Rattle.annotate_snippets.proofs.AsSetSteps.{feeds-set, first-pair, flat-same, remade-set, set-back, set-same, unset-same}
+use Rattle.annotate_snippets.proofs.ContextFaults.{refusal-same}
+use Rattle.annotate_snippets.proofs.ContextShown.{around-set}
+use Rattle.annotate_snippets.proofs.ContextTexts.{links-around, plain-around, trusted-around}
 use Rattle.annotate_snippets.proofs.FormsShown.{are-free}
 use Rattle.annotate_snippets.proofs.PrintLemmas.{AllZip-weaker}
+use Rattle.annotate_snippets.proofs.WrapSet.{rewrapped-set}
+use Rattle.annotate_snippets.proofs.WrapShown.{wrapped-free, wrapped-line, wrapped-links}
 
 -- ---- nothing is set
 
--- where line feeds aren't to be shown, a report is shown in place of itself
-pub unset : (r : Renderer) (groups : List Group) → r.show_line_feeds ≡ false → IsAsSet r groups groups
-unset r groups none = let Set : Bool → Type 0 = λ feeds. AreGroupsAsSet feeds groups groups in subst Set (sym none) refl
-
--- and no other is
-pub unset-same : (r : Renderer) (groups shown : List Group) → r.show_line_feeds ≡ false → IsAsSet r groups shown → shown ≡ groups
-unset-same r groups shown none set = let Set : Bool → Type 0 = λ feeds. AreGroupsAsSet feeds groups shown in subst Set none set
-
--- so the texts show the report in the form that the renderer is set to, and nothing else
+-- where nothing is set that makes another report of it, the texts show the report in the form that the renderer is set to, and nothing else
 pub unset-shows : (r : Renderer) (groups : List Group) (sheets : List Stylesheet) (texts : List (List ℕ)) → TextsShown r groups sheets texts
-    → r.show_line_feeds ≡ false → ShowsForm (form_of r) r groups sheets texts
+    → shows_as_given (form_of r) r ≡ true → ShowsForm (form_of r) r groups sheets texts
 unset-shows r groups sheets texts are none =
-    subst (λ (gs : List Group). ShowsForm (form_of r) r gs sheets texts) (unset-same r groups are.shown none are.set) are.shows
+    subst (λ (gs : List Group). ShowsForm (form_of r) r gs sheets texts) (unset-same (form_of r) r groups are.shown none are.set) are.shows
 
 -- and have the laws of that
 pub unset-laws : (r : Renderer) (groups : List Group) (sheet : Stylesheet) (text : List ℕ) → HasLaws r groups sheet text
-    → r.show_line_feeds ≡ false → LawsIn (form_of r) r groups sheet text
+    → shows_as_given (form_of r) r ≡ true → LawsIn (form_of r) r groups sheet text
 unset-laws r groups sheet text has none =
-    subst (λ (gs : List Group). LawsIn (form_of r) r gs sheet text) (unset-same r groups has.shown none has.set) has.laws
+    subst (λ (gs : List Group). LawsIn (form_of r) r gs sheet text) (unset-same (form_of r) r groups has.shown none has.set) has.laws
 
 -- ---- what stays: trusted texts
-
--- lists that are made of things that stand in the places of others
-flat-same : {A B : Type 0} (P : A → A → Type 0) (f : A → List B) → ((x y : A) → P x y → f y ≡ f x) → (xs ys : List A) → AllZip P xs ys
-    → flat_map f ys ≡ flat_map f xs
-flat-same P f same [] [] pairs = refl
-flat-same P f same [] (y ∷ ys) pairs = absurd pairs
-flat-same P f same (x ∷ xs) [] pairs = absurd pairs
-flat-same {B = B} P f same (x ∷ xs) (y ∷ ys) pairs =
-    ap₂ (λ (a b : List B). a ++ b) (same x y pairs.0) (flat-same P f same xs ys pairs.1)
 
 option-same : {A B : Type 0} (P : A → A → Type 0) (f : A → List B) → ((x y : A) → P x y → f y ≡ f x) → (a b : Option A) → SameOption P a b
     → flat_map f (option_to_list b) ≡ flat_map f (option_to_list a)
@@ -126,15 +116,19 @@ trusted-group feeds a b is =
     ap₂ (λ (x y : List (List ℕ)). x ++ y) (option-same (IsTitleAsSet feeds) trusted_of_title (trusted-title feeds) a.title b.title is.1)
     (flat-same (IsElementAsSet feeds) trusted_of_element (trusted-element feeds) a.elements.items b.elements.items is.2)
 
--- the trusted texts of what is shown are those of the report
-pub trusted-same : (r : Renderer) (groups shown : List Group) → IsAsSet r groups shown → trusted_texts shown ≡ trusted_texts groups
-trusted-same r groups shown set = by r.show_line_feeds set
-  where
-    by : (feeds : Bool) → AreGroupsAsSet feeds groups shown → trusted_texts shown ≡ trusted_texts groups
-    by true pairs =
-        flat-same (IsGroupAsSet true) (λ g. flat_map trusted_of_title (option_to_list g.title) ++ flat_map trusted_of_element g.elements.items)
-        (trusted-group true) groups shown pairs
-    by false same = ap trusted_texts same
+trusted-fed : (feeds : Bool) (xs ys : List Group) → AllZip (IsGroupAsSet feeds) xs ys → trusted_texts ys ≡ trusted_texts xs
+trusted-fed feeds xs ys pairs =
+    flat-same (IsGroupAsSet feeds) (λ g. flat_map trusted_of_title (option_to_list g.title) ++ flat_map trusted_of_element g.elements.items)
+    (trusted-group feeds) xs ys pairs
+
+-- a text that is free but for the trusted texts of what is shown is so but for those of the report
+pub free-set : (form : Form) (r : Renderer) (groups shown : List Group) → IsAsSet form r groups shown → (text : List ℕ)
+    → IsFreeBut (trusted_texts shown) text → IsFreeBut (trusted_texts groups) text
+free-set form r groups shown set text free =
+    set-back (λ gs. IsFreeBut (trusted_texts gs) text)
+    (λ feeds xs ys pairs own. subst (λ (trusted : List (List ℕ)). IsFreeBut trusted text) (trusted-fed feeds xs ys pairs) own)
+    (λ before after xs ys pairs own. subst (λ (trusted : List (List ℕ)). IsFreeBut trusted text) (trusted-around before after xs ys pairs) own)
+    (λ term_width gutter xs ys pairs own. wrapped-free term_width gutter xs ys pairs text own) form r groups shown set free
 
 -- ---- what stays: links
 
@@ -199,12 +193,6 @@ report-links r feeds groups shown pairs =
     ap (λ (links : List (List ℕ)). if r.hyperlink then links else [])
     (flat-same (IsGroupAsSet feeds) (λ g. flat_map (λ (t : Title). id_links true t.id) (option_to_list g.title)) (group-links feeds) groups shown pairs)
 
-first-pair : {A : Type 0} (P : A → A → Type 0) (xs ys : List A) → AllZip P xs ys → AllZip P (take 1 xs) (take 1 ys)
-first-pair P [] [] pairs = tt
-first-pair P [] (y ∷ ys) pairs = absurd pairs
-first-pair P (x ∷ xs) [] pairs = absurd pairs
-first-pair P (x ∷ xs) (y ∷ ys) pairs = (pairs.0, tt)
-
 form-links : (form : Form) (r : Renderer) (feeds : Bool) (groups shown : List Group) → AllZip (IsGroupAsSet feeds) groups shown
     → links_in form r shown ≡ links_in form r groups
 form-links Graphic r feeds groups shown pairs = report-links r feeds groups shown pairs
@@ -213,12 +201,11 @@ form-links Short r feeds groups shown pairs =
     report-links r feeds (take 1 groups) (take 1 shown) (first-pair (IsGroupAsSet feeds) groups shown pairs)
 
 -- what is shown links to what the report links to
-pub links-same : (form : Form) (r : Renderer) (groups shown : List Group) → IsAsSet r groups shown → links_in form r shown ≡ links_in form r groups
-links-same form r groups shown set = by r.show_line_feeds set
-  where
-    by : (feeds : Bool) → AreGroupsAsSet feeds groups shown → links_in form r shown ≡ links_in form r groups
-    by true pairs = form-links form r true groups shown pairs
-    by false same = ap (links_in form r) same
+pub links-same : (form : Form) (r : Renderer) (groups shown : List Group) → IsAsSet form r groups shown → links_in form r shown ≡ links_in form r groups
+links-same form r groups shown set =
+    set-same (links_in form r) (λ feeds xs ys pairs. form-links form r feeds xs ys pairs)
+    (λ before after xs ys pairs. links-around before after form r xs ys pairs)
+    (λ term_width gutter xs ys pairs. wrapped-links term_width gutter form r xs ys pairs) form r groups shown set
 
 -- ---- what changes: no line feed
 
@@ -321,10 +308,20 @@ group-plain a b is = (
 )
 
 -- where line feeds are shown, no label, path, id and name of a level of what is shown holds one
-pub plain-set : (r : Renderer) (groups shown : List Group) → IsAsSet r groups shown → r.show_line_feeds ≡ true → HasOneLineTexts shown
-plain-set r groups shown set asked =
-    let Set : Bool → Type 0 = λ feeds. AreGroupsAsSet feeds groups shown in
-    all-second (IsGroupAsSet true) IsOneLineGroup group-plain groups shown (subst Set asked set)
+pub plain-set : (form : Form) (r : Renderer) (groups shown : List Group) → IsAsSet form r groups shown → r.show_line_feeds ≡ true → HasOneLineTexts shown
+plain-set form r groups shown set asked =
+    let made : IsRemade form r groups shown = remade-set form r groups shown (feeds-set form r asked) set in
+    let pairs : AllZip (IsGroupAsSet true) groups made.fed = subst (λ (feeds : Bool). AllZip (IsGroupAsSet feeds) groups made.fed) asked made.feeds in
+    with-wrap (wraps form r) made.around shown made.wrap (with-context (adds_context form r) r.context_before r.context_after made.fed made.around made.context
+    (all-second (IsGroupAsSet true) IsOneLineGroup group-plain groups made.fed pairs))
+  where
+    with-wrap : (wrap : Bool) (xs ys : List Group) → AreWrapped wrap r xs ys → HasOneLineTexts xs → HasOneLineTexts ys
+    with-wrap true xs ys pairs plain = wrapped-line r.term_width (gutter_of_report r xs) xs ys pairs plain
+    with-wrap false xs ys same plain = subst HasOneLineTexts (sym same) plain
+
+    with-context : (adds : Bool) (before after : ℕ) (xs ys : List Group) → AreWithContext adds before after xs ys → HasOneLineTexts xs → HasOneLineTexts ys
+    with-context true before after xs ys pairs plain = plain-around before after xs ys pairs plain
+    with-context false before after xs ys same plain = subst HasOneLineTexts (sym same) plain
 
 -- ---- what is shown shows the report
 
@@ -334,15 +331,23 @@ graphic-laws Graphic r shown is laws plain = laws.lines plain
 graphic-laws Short r shown is laws plain = cc
 graphic-laws Text r shown is laws plain = cc
 
-module _ (r : Renderer) (groups shown : List Group) (set : IsAsSet r groups shown) where
+around-laws : (form : Form) (r : Renderer) (groups shown : List Group) → IsAsSet form r groups shown → FormLaws form r shown
+    → adds_context form r ≡ true → ShowsLinesAround r.context_before r.context_after groups (graphic_form r shown)
+around-laws Graphic r groups shown set laws asked = around-set Graphic r groups shown (graphic_form r shown) set laws asked
+around-laws Short r groups shown set laws asked = cc
+around-laws Text r groups shown set laws asked = cc
+
+module _ (r : Renderer) (groups shown : List Group) (set : IsAsSet (form_of r) r groups shown) where
   -- a text that has the laws of the form, for what is shown, has those of the report
   pub set-laws : (sheet : Stylesheet) (text : List ℕ) → LawsIn (form_of r) r shown sheet text → HasLaws r groups sheet text
   set-laws sheet text laws = record {
     shown = shown;
     set = set;
     laws = laws;
-    one_line = plain-set r groups shown set;
-    lines = λ asked graphic. graphic-laws (form_of r) r shown graphic laws.form_laws (plain-set r groups shown set asked);
+    one_line = plain-set (form_of r) r groups shown set;
+    lines = λ asked graphic. graphic-laws (form_of r) r shown graphic laws.form_laws (plain-set (form_of r) r groups shown set asked);
+    around = around-laws (form_of r) r groups shown set laws.form_laws;
+    wrapped = rewrapped-set (form_of r) r groups shown set;
   }
 
   -- and so have texts
@@ -360,7 +365,7 @@ module _ (r : Renderer) (groups shown : List Group) (set : IsAsSet r groups show
   set-free sheets texts laws =
       let free : AreFree (trusted_texts shown) (links_in (form_of r) r shown) sheets texts = are-free r shown (form_of r) sheets texts laws in
       subst (λ (links : List (List ℕ)). AreFree (trusted_texts groups) links sheets texts) (links-same (form_of r) r groups shown set)
-      (subst (λ (trusted : List (List ℕ)). AreFree trusted (links_in (form_of r) r shown) sheets texts) (trusted-same r groups shown set) free)
+      (record { plain = free.plain; woven = free.woven; free = free-set (form_of r) r groups shown set free.plain free.free })
 
 -- ---- answers
 
@@ -371,7 +376,7 @@ Answer = Result (String Global) RenderError
 abbrev pub Answers : Type 0
 Answers = Result (Vec (String Global) Global) RenderError
 
-module _ (r : Renderer) (groups shown : List Group) (set : IsAsSet r groups shown) where
+module _ (r : Renderer) (groups shown : List Group) (set : IsAsSet (form_of r) r groups shown) where
   pub answer-shows : (answer : Answer) → IfOk answer (λ text. IsTextUnder (form_of r) r shown r.stylesheet (string_bytes text))
       → IfOk answer (λ text. ShowsReport r groups r.stylesheet (string_bytes text))
   answer-shows (Err refusal) is = tt
@@ -434,4 +439,4 @@ module _ (r : Renderer) (groups shown : List Group) (set : IsAsSet r groups show
 
   -- and it is refused for the report's reason
   pub set-refused : (P : RenderError → Type 0) → IfSome (first_refusal r shown) P → IfSome (first_refusal r groups) P
-  set-refused P refused = subst (λ (o : Option RenderError). IfSome o P) (refusal-same r groups shown set) refused
+  set-refused P refused = subst (λ (o : Option RenderError). IfSome o P) (refusal-same (form_of r) r groups shown set) refused

@@ -1,10 +1,14 @@
 pub mod AroundLaws
 pub mod AsSetFaults
 pub mod AsSetLemmas
+pub mod AsSetSteps
 pub mod BarExamples
 pub mod BoundsLaws
 pub mod CauseShown
+pub mod ContextFaults
 pub mod ContextLemmas
+pub mod ContextShown
+pub mod ContextTexts
 pub mod DisjointLemmas
 pub mod DrawnElementLemmas
 pub mod DrawnLines
@@ -29,6 +33,7 @@ pub mod LineLemmas
 pub mod LineValue
 pub mod ListLemmas
 pub mod MarkLemmas
+pub mod NotAround
 pub mod NotBarred
 pub mod NotDrawn
 pub mod NotHtml
@@ -43,6 +48,7 @@ pub mod NotSuggested
 pub mod NotText
 pub mod NotTitled
 pub mod NotWhole
+pub mod NotWrapped
 pub mod NumberLaws
 pub mod PageLemmas
 pub mod PartsFacts
@@ -76,4 +82,6 @@ pub mod WalkLemmas
 pub mod WidestLemmas
 pub mod WindowLemmas
 pub mod WovenLemmas
+pub mod WrapSet
+pub mod WrapShown
 pub mod WriteLemmas

@@ -1,5 +1,5 @@
 -- What isn't HTML of a report: texts that are wrong, each of a small report, contradict what is said of the text that `render_html` gives.
-use Rattle.std.proofs.Common.{◌≡◌, ℕ, false, nat_eq, Some, Vec, List, [], ◌∷◌, codes, length, refl, sym, ap, ◌∙◌, arith}
+use Rattle.std.proofs.Common.{◌≡◌, ℕ, true, nat_eq, Some, Vec, List, [], ◌∷◌, codes, length, refl, sym, ap, ◌∙◌, arith}
 use Rattle.std.proofs.lemmas.Bool.{false≢true}
 use Rattle.std.specs.Str.{chars}
 use Rattle.std.specs.declared.alloc.Global.{Global}
@@ -8,10 +8,12 @@ use Rattle.snippet_model.specs.declared.snippet.Element.{Element}
 use Rattle.snippet_model.specs.declared.snippet.Group.{Group}
 use Rattle.snippet_text.specs.Normalized.{norm}
 use Rattle.snippet_titles.specs.HeadingRows.{heading_rows, label_cells}
+use Rattle.annotate_snippets.specs.AsSet.{shows_as_given}
 use Rattle.annotate_snippets.specs.Html.{IsReportHtml, report_html}
 use Rattle.annotate_snippets.specs.Settings.{plain_settings}
 use Rattle.annotate_snippets.specs.declared.renderer.Renderer.{Renderer}
-use Rattle.annotate_snippets.proofs.AsSetLemmas.{unset-same}
+use Rattle.annotate_snippets.specs.declared.renderer.form.Form.TheVariants.{Graphic}
+use Rattle.annotate_snippets.proofs.AsSetSteps.{unset-same}
 use Rattle.annotate_snippets.proofs.SmallReports.{group, hidden_title}
 
 -- a report of the title `<` alone, without the name of a level
@@ -23,11 +25,11 @@ html_is : (v : Vec Element Global) → html_bytes (report_html plain_settings (l
 unfolding chars norm heading_rows label_cells lib.Utf8.encode
 html_is v = refl
 
--- where line feeds aren't shown, a report's HTML is that of the report as it is given
-unset-html : (r : Renderer) (groups : List Group) (text : List ℕ) → r.show_line_feeds ≡ false → IsReportHtml r groups text
+-- where nothing is set that makes another report of it, a report's HTML is that of the report as it is given
+unset-html : (r : Renderer) (groups : List Group) (text : List ℕ) → shows_as_given Graphic r ≡ true → IsReportHtml r groups text
     → text ≡ html_bytes (report_html r groups)
 unset-html r groups text off is =
-    is.is ∙ ap (λ (gs : List Group). html_bytes (report_html r gs)) (unset-same r groups is.shown off is.set)
+    is.is ∙ ap (λ (gs : List Group). html_bytes (report_html r gs)) (unset-same Graphic r groups is.shown off is.set)
 
 -- the title's `<` as it is, where it begins a tag
 less_unescaped : (v : Vec Element Global) → IsReportHtml plain_settings (less_alone v) (codes "<span class=\"snippet-emphasis\"><</span>") → ⊥

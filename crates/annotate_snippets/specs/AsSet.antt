@@ -1,9 +1,56 @@
 -- The report that is shown in place of one, as a renderer is set.
-use Rattle.std.specs.Prelude.{List}
+use Rattle.std.specs.Prelude.{◌≡◌, ℕ, ◌==◌, ◌&&◌, Bool, true, false, not, List}
+use Rattle.std.specs.List.{AllZip}
+use Rattle.snippet_context.specs.WithContext.{IsGroupWithContext}
 use Rattle.snippet_model.specs.declared.snippet.Group.{Group}
-use Rattle.snippet_settings.specs.AsSet.{AreGroupsAsSet}
+use Rattle.snippet_settings.specs.AsSet.{IsGroupAsSet}
+use Rattle.snippet_wrap.specs.AsWrapped.{AreGroupsWrapped}
+use Rattle.annotate_snippets.specs.Gutter.{gutter_of_report}
 use Rattle.annotate_snippets.specs.declared.renderer.Renderer.{Renderer}
+use Rattle.annotate_snippets.specs.declared.renderer.form.Form.{Form}
+use Rattle.annotate_snippets.specs.declared.renderer.form.Form.TheVariants.{Graphic, Short, Text}
 
--- the second report is shown in place of the first: with line feeds shown, where the renderer is set so, and else the same
-abbrev pub IsAsSet : Renderer → List Group → List Group → Type 0
-IsAsSet r groups shown = AreGroupsAsSet r.show_line_feeds groups shown
+-- whether lines around those that are kept are shown too: in the graphic form, where a number of them is set
+abbrev pub adds_context : Form → Renderer → Bool
+adds_context Graphic r = not (r.context_before == 0 && r.context_after == 0)
+adds_context Short r = false
+adds_context Text r = false
+
+-- whether titles and messages are wrapped: in the graphic form, where that is set
+abbrev pub wraps : Form → Renderer → Bool
+wraps Graphic r = r.wrap
+wraps Short r = false
+wraps Text r = false
+
+-- whether a report is shown in a form just as it is given: nothing is set that makes another of it
+abbrev pub shows_as_given : Form → Renderer → Bool
+shows_as_given form r = not r.show_line_feeds && not (adds_context form r) && not (wraps form r)
+
+-- the second report is the first with the lines around those that it keeps, where they are shown, and else the same
+abbrev pub AreWithContext : Bool → ℕ → ℕ → List Group → List Group → Type 0
+AreWithContext true before after groups shown = AllZip (IsGroupWithContext before after) groups shown
+AreWithContext false before after groups shown = shown ≡ groups
+
+-- the second report is the first with titles and messages wrapped for the terminal, beside the gutter of the first, where that is set, and
+-- else the same
+abbrev pub AreWrapped : Bool → Renderer → List Group → List Group → Type 0
+AreWrapped true r groups shown = AreGroupsWrapped r.term_width (gutter_of_report r groups) groups shown
+AreWrapped false r groups shown = shown ≡ groups
+
+-- the second report is made of the first, step by step: with the line feeds of its texts as they are set, then with the lines around those
+-- that it keeps, where they are shown, and then with its titles and messages wrapped, where they are
+pub record IsRemade (form : Form) (r : Renderer) (groups shown : List Group) : Type 0 where
+  pub fed : List Group
+  pub around : List Group
+  pub feeds : AllZip (IsGroupAsSet r.show_line_feeds) groups fed
+  pub context : AreWithContext (adds_context form r) r.context_before r.context_after fed around
+  pub wrap : AreWrapped (wraps form r) r around shown
+
+-- the same report, or one that is made of it
+abbrev pub IsShownFor : Bool → Form → Renderer → List Group → List Group → Type 0
+IsShownFor true form r groups shown = shown ≡ groups
+IsShownFor false form r groups shown = IsRemade form r groups shown
+
+-- the second report is shown in a form in place of the first: where nothing is set that makes another of it, the same
+abbrev pub IsAsSet : Form → Renderer → List Group → List Group → Type 0
+IsAsSet form r groups shown = IsShownFor (shows_as_given form r) form r groups shown

@@ -24,7 +24,8 @@ use Rattle.snippet_titles.specs.Origin.{origin_text}
 use Rattle.snippet_titles.specs.ShortRows.{short_texts}
 use Rattle.snippet_titles.specs.ShownHeading.{IsFreeButText}
 use Rattle.annotate_snippets.specs.Around.{path_bytes}
-use Rattle.annotate_snippets.specs.AsSet.{IsAsSet}
+use Rattle.annotate_snippets.specs.AsSet.{IsAsSet, adds_context, wraps}
+use Rattle.annotate_snippets.specs.ContextLaws.{ShowsLinesAround}
 use Rattle.annotate_snippets.specs.Fault.{form_of}
 use Rattle.annotate_snippets.specs.Feeds.{HasOneLineTexts, page_lines, text_lines}
 use Rattle.annotate_snippets.specs.Forms.{links_in, plain_in, short_links, ShowsForm, TextsShown}
@@ -32,6 +33,7 @@ use Rattle.annotate_snippets.specs.GraphicForm.{graphic_form}
 use Rattle.annotate_snippets.specs.Gutter.{numbered_source}
 use Rattle.annotate_snippets.specs.Page.{page_text}
 use Rattle.annotate_snippets.specs.PageLaws.{PageLaws}
+use Rattle.annotate_snippets.specs.Rewrapped.{AreRewrapped}
 use Rattle.annotate_snippets.specs.RowsWithoutSource.{place_found}
 use Rattle.annotate_snippets.specs.ShortForm.{before_title, after_title, first_cause, short_form}
 use Rattle.annotate_snippets.specs.ShownPage.{IsFreeBut}
@@ -101,13 +103,17 @@ pub record IsTextUnder (form : Form) (r : Renderer) (groups : List Group) (sheet
 
 -- a text has the laws of the form that the renderer is set to, for the report that is shown in place of one. Where the renderer is set to
 -- show line feeds, no label, path, id and name of a level of that holds one; so in the graphic form the lines of its plain text are the rows
--- of its page, whatever the report holds
+-- of its page, whatever the report holds. Where it is set to show lines around those that are kept, the page has for each annotated snippet
+-- of the given report just the source rows of the lines near one that it keeps, and of each single line between two of these. Where it is
+-- set to wrap, no text of a title or message has lost a word, and none of their rows is wider than the terminal
 pub record HasLaws (r : Renderer) (groups : List Group) (sheet : Stylesheet) (text : List ℕ) : Type 0 where
   pub shown : List Group
-  pub set : IsAsSet r groups shown
+  pub set : IsAsSet (form_of r) r groups shown
   pub laws : LawsIn (form_of r) r shown sheet text
   pub one_line : r.show_line_feeds ≡ true → HasOneLineTexts shown
   pub lines : r.show_line_feeds ≡ true → form_of r ≡ Graphic → text_lines (page_text (graphic_form r shown)) ≡ page_lines (graphic_form r shown)
+  pub around : adds_context (form_of r) r ≡ true → ShowsLinesAround r.context_before r.context_after groups (graphic_form r shown)
+  pub wrapped : wraps (form_of r) r ≡ true → AreRewrapped r groups shown
 
 -- texts show a report, one under each of these sheets, and each has its laws: what `render_sheets` says of them
 pub record TextsWithLaws (r : Renderer) (groups : List Group) (sheets : List Stylesheet) (texts : List (List ℕ)) : Type 0 where

@@ -43,7 +43,7 @@ ShowsForm Text r groups sheets texts = TextShown r groups sheets texts
 -- the texts show a report as the renderer is set: they show, in the form that it is set to, the report that is shown in place of it
 pub record TextsShown (r : Renderer) (groups : List Group) (sheets : List Stylesheet) (texts : List (List ℕ)) : Type 0 where
   pub shown : List Group
-  pub set : IsAsSet r groups shown
+  pub set : IsAsSet (form_of r) r groups shown
   pub shows : ShowsForm (form_of r) r shown sheets texts
 
 -- one text shows a report under its sheet

@@ -10,6 +10,7 @@ use Rattle.annotate_snippets.specs.GraphicForm.{graphic_form}
 use Rattle.annotate_snippets.specs.Page.{Page, group_rows, page_text}
 use Rattle.annotate_snippets.specs.ShownPage.{levels_of}
 use Rattle.annotate_snippets.specs.declared.renderer.Renderer.{Renderer}
+use Rattle.annotate_snippets.specs.declared.renderer.form.Form.TheVariants.{Graphic}
 use Rattle.annotate_snippets.specs.declared.renderer.graphic.GroupGrid.{GroupGrid}
 
 -- the groups of a page, each in its level and after a line feed
@@ -55,13 +56,13 @@ pub record HtmlLaws (r : Renderer) (groups : List Group) (text : List ℕ) : Typ
 -- a text is a report as HTML, as the renderer is set: it is that of the report that is shown in place of it
 pub record IsReportHtml (r : Renderer) (groups : List Group) (text : List ℕ) : Type 0 where
   pub shown : List Group
-  pub set : IsAsSet r groups shown
+  pub set : IsAsSet Graphic r groups shown
   pub is : text ≡ html_bytes (report_html r shown)
 
 -- and it has the laws of that
 pub record HasHtmlLaws (r : Renderer) (groups : List Group) (text : List ℕ) : Type 0 where
   pub shown : List Group
-  pub set : IsAsSet r groups shown
+  pub set : IsAsSet Graphic r groups shown
   pub laws : HtmlLaws r shown text
 
 -- ---- what is drawn so far

@@ -1,5 +1,6 @@
 pub mod Around
 pub mod AsSet
+pub mod ContextLaws
 pub mod DrawnReport
 pub mod Fault
 pub mod Feeds
@@ -14,6 +15,7 @@ pub mod Page
 pub mod PageLaws
 pub mod PreparedReport
 pub mod Refusal
+pub mod Rewrapped
 pub mod RowsWithoutSource
 pub mod Settings
 pub mod ShortForm

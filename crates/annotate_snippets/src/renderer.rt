@@ -18,6 +18,7 @@ mod paths;
 mod place;
 mod preprocess;
 mod short;
+mod shown;
 pub mod style;
 mod suggestions;
 mod text_form;
@@ -34,9 +35,6 @@ use html::page_html;
 pub use html_stylesheet::HTML_STYLESHEET;
 use page::text_in_form;
 pub use snippet_model::MessageOrTitle;
-use snippet_model::report_fits;
-use snippet_model::snippet::Group;
-use snippet_settings::groups_as_set;
 pub use snippet_style::{
     DEFAULT_ADDITION_STYLE, DEFAULT_CONTEXT_STYLE, DEFAULT_EMPHASIS_STYLE, DEFAULT_ERROR_STYLE,
     DEFAULT_HELP_STYLE, DEFAULT_INFO_STYLE, DEFAULT_LINE_NUM_STYLE, DEFAULT_NONE_STYLE,
@@ -84,7 +82,6 @@ impl Renderer {
     ghost use Rattle.annotate_snippets.specs.Fault as spec;
     ghost use Rattle.annotate_snippets.specs.Fault.{IsWithinBounds};
     ghost use Rattle.annotate_snippets.specs.Settings.{plain_settings, styled_settings};
-    ghost use Rattle.annotate_snippets.specs.AsSet.{IsAsSet};
     ghost use Rattle.annotate_snippets.specs.FormLaws.{FormLaws, HasLaws, IsTextUnder, LawsIn};
     ghost use Rattle.annotate_snippets.specs.Forms.{AreFree, ShowsForm, ShowsReport, TextsShown, links_in};
     ghost use Rattle.std.specs.List.{AllZip};
@@ -297,7 +294,23 @@ impl Renderer {
         self
     }
 
-    /// How many lines before and after each line that is shown for the spans of an annotated snippet are shown too.
+    /// How many lines before and after each line that an annotated snippet keeps for its spans are shown too. They have
+    /// no marks; where one line is left out between two that are shown it is shown as well, and more are elided.
+    ///
+    /// ```text
+    /// Renderer::plain()                Renderer::plain().context_lines(1, 2)
+    ///
+    ///   |                                |
+    /// 4 |     total += price;          3 | for price in prices {
+    ///   |              ^^^^^           4 |     total += price;
+    ///                                    |              ^^^^^
+    ///                                  5 | }
+    ///                                  6 | total
+    ///                                    |
+    /// ```
+    ///
+    /// None are shown unless this says otherwise, nor in the short form and the text form, nor of suggestions. Of a
+    /// source that ends before, there are fewer.
     pub fn context_lines(mut self, before: usize, after: usize) -> Renderer
         ensures changed { result ≡ record self { context_before = before; context_after = after } }
     {
@@ -306,8 +319,21 @@ impl Renderer {
         self
     }
 
-    /// Whether a line of a title or message that is wider than the room right of where it begins is broken at the last
-    /// blank before that.
+    /// Whether a line of a title or message that is wider than the room right of where it begins is broken: at the last
+    /// blank before which it fits, a space or a tab, which gives its place to the break; or where a word alone is wider
+    /// before the first character that has no room. What follows is indented as further lines are.
+    ///
+    /// ```text
+    /// Renderer::plain().term_width(40).wrap(true)
+    ///
+    /// error[E0502]: cannot borrow `scores` as
+    ///               mutable because it is also
+    ///               borrowed as immutable
+    /// ```
+    ///
+    /// The room is that of the `term_width`; widths are those of [`str_width`](crate::text::str_width), so the codes of
+    /// a text that holds some count as the characters that they are. Nothing is broken where the room has fewer than 4
+    /// columns, nor in the short form and the text form, nor unless this says so.
     pub fn wrap(mut self, wrap: bool) -> Renderer
         ensures changed { result ≡ record self { wrap = wrap } }
     {
@@ -344,10 +370,11 @@ impl Renderer {
             (links_in (spec.form_of self.now) self.now groups.now) (self.now.stylesheet ∷ [])
             (string_bytes text ∷ [])) }
     {
-        if !self.show_line_feeds {
+        let form = form_of(self);
+        if self.shows_as_given(form) {
             return self.text_in(alloc, groups, &self.stylesheet);
         }
-        let shown = self.report_shown(alloc, groups)?;
+        let shown = self.report_shown(alloc, form, groups)?;
         self.text_in(alloc, &shown, &self.stylesheet)
     }
 
@@ -386,16 +413,10 @@ impl Renderer {
         // character stands in the class of its role and in the link of its cell.
         ensures laws { IfOk result (λ text. HasHtmlLaws self.now groups.now (string_bytes text)) }
     {
-        if !self.show_line_feeds {
+        if self.shows_as_given(Form::Graphic) {
             return self.html_of_given(alloc, groups);
         }
-        if let Some(refusal) = first_refusal(Form::Graphic, groups) {
-            return Err(refusal);
-        }
-        let shown = groups_as_set(alloc, true, groups)?;
-        if !report_fits(&shown) {
-            return Err(RenderError::Memory(AllocError));
-        }
+        let shown = self.report_shown(alloc, Form::Graphic, groups)?;
         self.html_of_given(alloc, &shown)
     }
 
@@ -419,7 +440,8 @@ impl Renderer {
     /// # Errors
     ///
     /// As of [`render`](Renderer::render). With no sheets the report is looked through as ever, but not drawn, and no
-    /// memory is taken, unless line feeds are to be shown.
+    /// memory is taken, unless something is set that makes another report of it: line feeds that are shown, lines
+    /// around those that are kept, or titles and messages that are wrapped.
     pub fn render_sheets(
         &self,
         alloc: Global,
@@ -448,35 +470,12 @@ impl Renderer {
         ensures free { IfOk result (λ texts. AreFree (trusted_texts groups.now)
             (links_in (spec.form_of self.now) self.now groups.now) sheets.now (map string_bytes texts.items)) }
     {
-        if !self.show_line_feeds {
+        let form = form_of(self);
+        if self.shows_as_given(form) {
             return self.texts_in(alloc, groups, sheets);
         }
-        let shown = self.report_shown(alloc, groups)?;
+        let shown = self.report_shown(alloc, form, groups)?;
         self.texts_in(alloc, &shown, sheets)
-    }
-
-    /// The report that is shown in place of one that isn't refused: with its line feeds shown. Where a text of it no
-    /// longer fits, there is no memory for it.
-    pub(crate) fn report_shown<'a>(
-        &self,
-        alloc: Global,
-        groups: Report<'a>,
-    ) -> Result<Vec<Group<'a>>, RenderError>
-        requires asked { self.now.show_line_feeds ≡ true }
-        ensures refused { IfSome (spec.first_refusal self.now groups.now) (λ refusal. result ≡ Err refusal) }
-        ensures renders { IsWithinBounds self.now groups.now → IsOkUnless result (RenderError.Memory alloc_error) }
-        ensures set { IfOk result (λ shown. IsAsSet self.now groups.now shown.items) }
-        ensures fits { IfOk result (λ shown. ReportFits shown.items) }
-    {
-        if let Some(refusal) = first_refusal(form_of(self), groups) {
-            return Err(refusal);
-        }
-        let shown = groups_as_set(alloc, self.show_line_feeds, groups)?;
-        if report_fits(&shown) {
-            Ok(shown)
-        } else {
-            Err(RenderError::Memory(AllocError))
-        }
     }
 
     /// The texts of a report under some sheets, drawn as it is given.

@@ -4,6 +4,8 @@
 #![tactic(auto)]
 
 #[cfg(test)]
+mod context;
+#[cfg(test)]
 mod grid;
 #[cfg(test)]
 mod line;
@@ -21,3 +23,5 @@ mod snip;
 mod tidy;
 #[cfg(test)]
 mod to_writer;
+#[cfg(test)]
+mod wrap;

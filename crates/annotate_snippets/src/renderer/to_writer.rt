@@ -121,10 +121,11 @@ impl Renderer {
             ⊎ WritesPart (ShowsReport self.now groups.now self.now.stylesheet)
             (W.contents out.old) (W.contents out.new)) }
     {
-        if !self.show_line_feeds {
+        let form = form_of(self);
+        if self.shows_as_given(form) {
             return write_given(alloc, self, groups, out);
         }
-        let shown = self.report_shown(alloc, groups)?;
+        let shown = self.report_shown(alloc, form, groups)?;
         write_given(alloc, self, &shown, out)
     }
 }

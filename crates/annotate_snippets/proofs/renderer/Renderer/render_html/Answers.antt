@@ -1,40 +1,49 @@
-use Rattle.std.proofs.Common.{◌≡◌, ◌∙◌, Bool, List, false, rules, string_bytes, subst, sym, true}
+use Rattle.std.proofs.Common.{◌≡◌, ◌∙◌, Err, IfSome, List, Option, string_bytes, subst, sym, true}
 use Rattle.std.proofs.lemmas.Result.{IfOk-weaker}
-use Rattle.std.specs.List.{AllZip}
 use Rattle.snippet_grid.specs.Html.{html_bytes}
 use Rattle.snippet_model.specs.declared.snippet.Group.{Group}
-use Rattle.snippet_settings.specs.AsSet.{AreGroupsAsSet, IsGroupAsSet}
-use Rattle.annotate_snippets.specs.AsSet.{IsAsSet}
+use Rattle.annotate_snippets.specs.AsSet.{IsAsSet, shows_as_given}
 use Rattle.annotate_snippets.specs.Html.{HasHtmlLaws, report_html}
-use Rattle.annotate_snippets.proofs.AsSetFaults.{fault-same}
-use Rattle.annotate_snippets.proofs.AsSetLemmas.{unset}
+use Rattle.annotate_snippets.specs.declared.renderer.error.RenderError.{RenderError}
+use Rattle.annotate_snippets.specs.declared.renderer.form.Form.TheVariants.{Graphic}
+use Rattle.annotate_snippets.proofs.AsSetSteps.{unset}
+use Rattle.annotate_snippets.proofs.ContextFaults.{refusal-same}
 use Rattle.annotate_snippets.proofs.HtmlShown.{html_laws}
 use Rattle.annotate_snippets.proofs.renderer.Renderer.render_html.Goals as goal
 
-pub returns-then-not-self-clause-laws : goal.returns-then-not-self-clause-laws
-returns-then-not-self-clause-laws c =
+pub returns-then-shows_as_given-clause-laws : goal.returns-then-shows_as_given-clause-laws
+returns-then-shows_as_given-clause-laws c =
     let r = c.args.self.now in
     let groups : List Group = c.args.groups.now in
-    let off : r.show_line_feeds ≡ false = search rules in
+    let off : shows_as_given Graphic r ≡ true = sym c.shows_as_given.ensures.value ∙ c.if-shows_as_given.true in
     IfOk-weaker c.html_of_given.result (λ text. string_bytes text ≡ html_bytes (report_html r groups)) (λ text. HasHtmlLaws r groups (string_bytes text))
-    (λ text is. record { shown = groups; set = unset r groups off; laws = html_laws r groups (string_bytes text) is }) c.html_of_given.ensures.html
+    (λ text is. record { shown = groups; set = unset Graphic r groups off; laws = html_laws r groups (string_bytes text) is }) c.html_of_given.ensures.html
+
+pub returns-clause-refused : goal.returns-clause-refused
+returns-clause-refused c =
+    let r = c.args.self.now in
+    let groups : List Group = c.args.groups.now in
+    let shown : List Group = c.deref.result.now in
+    let Set : List Group → Type 0 = λ gs. IsAsSet Graphic r groups gs in
+    let set : Set shown = subst Set (sym c.deref.ensures.value) c.in_ok-shown.ensures.set in
+    subst (λ (o : Option RenderError). IfSome o (λ refusal. c.html_of_given-2.result ≡ Err refusal)) (refusal-same Graphic r groups shown set)
+    c.html_of_given-2.ensures.refused
 
 pub returns-clause-renders : goal.returns-clause-renders
 returns-clause-renders c faultless =
+    let r = c.args.self.now in
     let groups : List Group = c.args.groups.now in
-    let shown : List Group = c.deref-2.result.now in
-    let pairs : AllZip (IsGroupAsSet true) groups shown = subst (λ (gs : List Group). AllZip (IsGroupAsSet true) groups gs) (sym c.deref-2.ensures.value)
-    c.in_ok-shown.ensures.set in
-    c.html_of_given-2.ensures.renders (fault-same true groups shown pairs ∙ faultless)
+    let shown : List Group = c.deref.result.now in
+    let Set : List Group → Type 0 = λ gs. IsAsSet Graphic r groups gs in
+    let set : Set shown = subst Set (sym c.deref.ensures.value) c.in_ok-shown.ensures.set in
+    c.html_of_given-2.ensures.renders (refusal-same Graphic r groups shown set ∙ faultless)
 
 pub returns-clause-laws : goal.returns-clause-laws
 returns-clause-laws c =
     let r = c.args.self.now in
     let groups : List Group = c.args.groups.now in
-    let shown : List Group = c.deref-2.result.now in
-    let on : r.show_line_feeds ≡ true = search rules in
-    let pairs : AllZip (IsGroupAsSet true) groups shown = subst (λ (gs : List Group). AllZip (IsGroupAsSet true) groups gs) (sym c.deref-2.ensures.value)
-    c.in_ok-shown.ensures.set in
-    let set : IsAsSet r groups shown = subst (λ (feeds : Bool). AreGroupsAsSet feeds groups shown) (sym on) pairs in
+    let shown : List Group = c.deref.result.now in
+    let Set : List Group → Type 0 = λ gs. IsAsSet Graphic r groups gs in
+    let set : Set shown = subst Set (sym c.deref.ensures.value) c.in_ok-shown.ensures.set in
     IfOk-weaker c.html_of_given-2.result (λ text. string_bytes text ≡ html_bytes (report_html r shown)) (λ text. HasHtmlLaws r groups (string_bytes text))
     (λ text is. record { shown = shown; set = set; laws = html_laws r shown (string_bytes text) is }) c.html_of_given-2.ensures.html

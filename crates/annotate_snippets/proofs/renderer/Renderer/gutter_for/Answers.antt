@@ -1,0 +1,12 @@
+use Rattle.std.proofs.Common.{◌∙◌, List, ap, map}
+use Rattle.snippet_model.specs.declared.snippet.Group.{Group}
+use Rattle.annotate_snippets.specs.Gutter.{gutter_of_report}
+use Rattle.annotate_snippets.specs.declared.renderer.preprocess.PreparedGroup.{PreparedGroup}
+use Rattle.annotate_snippets.proofs.renderer.Renderer.gutter_for.Goals as goal
+
+pub returns-clause-value : goal.returns-clause-value
+returns-clause-value c =
+    let r = c.args.self.now in
+    c.gutter_of.ensures.value
+    ∙ ap (λ (ps : List PreparedGroup). gutter_of_report r (map (λ (p : PreparedGroup). p.group.now) ps)) c.deref.ensures.value
+    ∙ ap (λ (gs : List Group). gutter_of_report r gs) c.in_ok-prepared.ensures.groups

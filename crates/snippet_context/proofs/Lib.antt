@@ -1,0 +1,3 @@
+pub mod SpanLemmas
+pub mod KeptAround
+pub mod WithLemmas

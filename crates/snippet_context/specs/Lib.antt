@@ -1,0 +1,2 @@
+pub mod Context
+pub mod WithContext

@@ -1,0 +1,16 @@
+use Rattle.std.proofs.Common.{◌∙◌, ap, chars}
+use Rattle.std.specs.Cow.{cow_str_bytes}
+use Rattle.std.specs.Option.{option_map}
+use Rattle.snippet_text.specs.Width.{width_of}
+use Rattle.snippet_titles.proofs.LabelLemmas.{width_of-bare, width_of-bracketed}
+use Rattle.snippet_wrap.proofs.room.id_width.Goals as goal
+
+pub returns-in-Some-id-clause-value : goal.returns-in-Some-id-clause-value
+returns-in-Some-id-clause-value c =
+    rw c.in-Some.is (width_of-bare c.args.hidden c.in-Some.id.now _ _ c.if-hidden.true (ap (option_map cow_str_bytes) c.in-Some-id.is)
+    (c.str_width.ensures.value ∙ ap (λ bytes. width_of (chars bytes)) c.as_str.ensures.value))
+
+pub returns-in-Some-2-clause-value : goal.returns-in-Some-2-clause-value
+returns-in-Some-2-clause-value c =
+    rw c.in-Some.is (width_of-bracketed c.args.hidden c.in-Some.id.now _ _ c.if-hidden.false (ap (option_map cow_str_bytes) c.in-Some-2.is)
+    (c.str_width-in-Some-2.ensures.value ∙ ap (λ bytes. width_of (chars bytes)) c.as_str-in-Some-2.ensures.value))

@@ -1,0 +1,3 @@
+pub mod AsWrapped
+pub mod WrapLaws
+pub mod Wrapped
