@@ -46,6 +46,9 @@ static void put_settings(struct bytes *b) {
     put_byte(b, 0);     /* short_message */
     put_byte(b, 0);     /* no_graphics */
     put_byte(b, 0);     /* show_line_feeds */
+    put_number(b, 0);   /* context_before */
+    put_number(b, 0);   /* context_after */
+    put_byte(b, 0);     /* wrap */
 }
 
 /* Eleven styles, each without a colour (two options) and without an effect (eight flags). */

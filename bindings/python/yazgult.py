@@ -177,7 +177,7 @@ def render(report, sheet="plain", *, spans="characters", **settings):
     """The text of a report under a sheet: "plain", "default", or a dict of styles.
 
     Settings are those of docs/REPORTS.md: no_graphics, short_message, term_width, unicode, anonymized_snippet, anonymized_origin,
-    hyperlink, show_line_feeds.
+    hyperlink, show_line_feeds, context_before, context_after, wrap.
     """
     return render_sheets(report, [sheet], spans=spans, **settings)[0]
 
@@ -252,7 +252,7 @@ COLORS = ("Black", "Red", "Green", "Yellow", "Blue", "Magenta", "Cyan", "White")
 COLORS += tuple("Bright" + name for name in COLORS)
 ELEMENTS = ("message", "cause", "suggestion", "origin", "padding")
 SETTINGS = ("no_graphics", "short_message", "term_width", "unicode", "anonymized_snippet", "anonymized_origin", "hyperlink",
-            "show_line_feeds")
+            "show_line_feeds", "context_before", "context_after", "wrap")
 
 # the default sheet: the foreground of each part, and whether it is bold
 DEFAULTS = {
@@ -328,6 +328,9 @@ class Bytes:
         self.flag(s.get("short_message", False), "short_message")
         self.flag(s.get("no_graphics", False), "no_graphics")
         self.flag(s.get("show_line_feeds", False), "show_line_feeds")
+        self.number(s.get("context_before", 0))
+        self.number(s.get("context_after", 0))
+        self.flag(s.get("wrap", False), "wrap")
 
     def sheet(self, sheet):
         named = {"plain": {}, "default": DEFAULT_SHEET}

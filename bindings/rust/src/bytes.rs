@@ -61,6 +61,9 @@ fn settings(r: &Renderer, out: &mut Vec<u8>) {
     out.push(r.short_message.into());
     out.push(r.no_graphics.into());
     out.push(r.show_line_feeds.into());
+    number(r.context_before, out);
+    number(r.context_after, out);
+    out.push(r.wrap.into());
 }
 
 fn sheet(s: &Stylesheet, out: &mut Vec<u8>) {

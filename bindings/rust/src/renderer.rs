@@ -64,6 +64,9 @@ pub struct Renderer {
     pub(crate) short_message: bool,
     pub(crate) no_graphics: bool,
     pub(crate) show_line_feeds: bool,
+    pub(crate) context_before: usize,
+    pub(crate) context_after: usize,
+    pub(crate) wrap: bool,
 }
 
 impl Renderer {
@@ -79,6 +82,9 @@ impl Renderer {
             short_message: false,
             no_graphics: false,
             show_line_feeds: false,
+            context_before: 0,
+            context_after: 0,
+            wrap: false,
         }
     }
 
@@ -97,6 +103,21 @@ impl Renderer {
     /// report. They are drawn as they are unless this says otherwise.
     pub const fn show_line_feeds(mut self, show_line_feeds: bool) -> Self {
         self.show_line_feeds = show_line_feeds;
+        self
+    }
+
+    /// How many lines before and after each line that is shown for its spans are shown too, in the graphic form. There are none unless
+    /// this says otherwise.
+    pub const fn context_lines(mut self, before: usize, after: usize) -> Self {
+        self.context_before = before;
+        self.context_after = after;
+        self
+    }
+
+    /// Whether a line of a title or message that is wider than the room right of where it begins is broken at the last blank before
+    /// that. It is drawn as it is unless this says otherwise.
+    pub const fn wrap(mut self, wrap: bool) -> Self {
+        self.wrap = wrap;
         self
     }
 

@@ -98,7 +98,9 @@ fn renderers_are_made_in_constants() {
         .anonymized_snippet_line_numbers(true)
         .anonymized_line_numbers(true)
         .anonymized_origin_line_numbers(true)
-        .show_line_feeds(true);
+        .show_line_feeds(true)
+        .context_lines(2, 1)
+        .wrap(true);
     const STYLED: Renderer = Renderer::styled()
         .error(DEFAULT_ERROR_STYLE)
         .warning(DEFAULT_WARNING_STYLE)

@@ -127,7 +127,7 @@ fn drawn(alloc: Global, groups: Report<'_>, renderer: &Renderer) -> Result<Strin
 }
 
 /// Draws a report in one form, and compares its text.
-fn print_form(
+pub(crate) fn print_form(
     rt: &(impl Print + AllocGlobal),
     groups: Report<'_>,
     renderer: &Renderer,
@@ -143,7 +143,7 @@ fn print_form(
 }
 
 /// Prints why a report isn't drawn, or stops where it is out of memory.
-fn print_refusal(rt: &impl Print, form: &str, refusal: RenderError) -> io::Result<()> {
+pub(crate) fn print_refusal(rt: &impl Print, form: &str, refusal: RenderError) -> io::Result<()> {
     match refusal {
         RenderError::Memory(refused) => Err(io::Error::from(refused)),
         refusal => println!(rt; "{form}: DIFFERS: {refusal}"),

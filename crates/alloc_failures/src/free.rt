@@ -85,11 +85,15 @@ fn switches() -> bool {
         .anonymized_snippet_line_numbers(true)
         .anonymized_line_numbers(true)
         .anonymized_origin_line_numbers(true)
-        .hyperlink(true);
+        .hyperlink(true)
+        .show_line_feeds(true)
+        .context_lines(2, 1)
+        .wrap(true);
     is_switched(&renderer)
 }
 
-/// Whether a renderer has all switches on, is 80 columns wide and draws with the characters of Unicode.
+/// Whether a renderer has all switches on, is 80 columns wide, draws with the characters of Unicode, and shows two
+/// lines before those of spans and one after.
 fn is_switched(renderer: &Renderer) -> bool {
     renderer.no_graphics
         && renderer.short_message
@@ -98,6 +102,10 @@ fn is_switched(renderer: &Renderer) -> bool {
         && renderer.anonymized_snippet_line_numbers
         && renderer.anonymized_origin_line_numbers
         && renderer.hyperlink
+        && renderer.show_line_feeds
+        && renderer.context_before == 2
+        && renderer.context_after == 1
+        && renderer.wrap
 }
 
 /// Whether a renderer whose styles are taken away is as plain as the plain one.

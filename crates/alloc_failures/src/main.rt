@@ -18,6 +18,7 @@ mod grid;
 mod refusals;
 mod reports;
 mod retry;
+mod set;
 mod source;
 mod styles;
 mod subject;
@@ -52,6 +53,7 @@ fn print_free(rt: &(impl Print + AllocGlobal)) -> io::Result<()> {
 fn print_taking(rt: &(impl Print + AllocGlobal)) -> io::Result<()> {
     println!(rt; "what follows takes memory")?;
     drawn::print(rt)?;
+    set::print(rt)?;
     texts::print(rt)?;
     styles::print(rt)?;
     source::print(rt)?;

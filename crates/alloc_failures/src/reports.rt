@@ -22,6 +22,8 @@ pub enum Subject {
     TwoOffers,
     TwoPatches,
     Unset,
+    /// A report with a wide title, and a line feed in its label.
+    Set,
     /// The reports from here on are refused by name.
     PastEnd,
     Reversed,
@@ -207,6 +209,17 @@ fn unset(alloc: Global) -> Group<'static>
     Group::with_title(alloc, title)
 }
 
+/// A wide title, and a span in the middle of three lines whose label has two.
+fn set(alloc: Global) -> Result<Group<'static>, AllocError>
+    ensures fits { IfOk result GroupFits }
+{
+    let mark = AnnotationKind::Primary
+        .span(2..3)
+        .label(OptionCow::from("x\ny"));
+    let snippet = Snippet::source(alloc, "a\nb\nc").annotation(mark)?;
+    titled(alloc, "a wide title", snippet)
+}
+
 /// Builds a report.
 fn build(alloc: Global, subject: Subject) -> Result<Group<'static>, AllocError>
     ensures fits { IfOk result GroupFits }
@@ -221,6 +234,7 @@ fn build(alloc: Global, subject: Subject) -> Result<Group<'static>, AllocError>
         Subject::TwoOffers => two_offers(alloc),
         Subject::TwoPatches => two_patches(alloc),
         Subject::Unset => Ok(unset(alloc)),
+        Subject::Set => set(alloc),
         Subject::PastEnd => marked(alloc, "ab", 3, 4, 1),
         Subject::Reversed => marked(alloc, "let x", 2, 1, 1),
         Subject::OffBorder => marked(alloc, "é", 1, 2, 1),

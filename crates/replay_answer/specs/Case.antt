@@ -28,6 +28,9 @@ pub record HasSettingsOf (d : Data) (renderer : Renderer) : Type 0 where
   pub origin : given_or as_bool false (codes "anonymized_origin") d ≡ Some renderer.anonymized_origin_line_numbers
   pub hyperlink : given_or as_bool false (codes "hyperlink") d ≡ Some renderer.hyperlink
   pub show_line_feeds : given_or as_bool false (codes "show_line_feeds") d ≡ Some renderer.show_line_feeds
+  pub context_before : given_or as_whole 0 (codes "context_before") d ≡ Some renderer.context_before
+  pub context_after : given_or as_whole 0 (codes "context_after") d ≡ Some renderer.context_after
+  pub wrap : given_or as_bool false (codes "wrap") d ≡ Some renderer.wrap
   pub stylesheet : renderer.stylesheet ≡ plain_settings.stylesheet
 
 -- the same where the settings may be missing: then it is the plain one
@@ -41,6 +44,7 @@ pub record IsCaseOf (d : Data) (case : Case) : Type 0 where
   pub id : text_at (codes "id") d ≡ Some case.id.now
   pub renderer : MayHaveSettings (given (codes "settings") d) case.renderer
   pub sheets : AreSheetsOf (given (codes "sheets") d) case.sheets.items
+  pub html : given_or as_bool false (codes "html") d ≡ Some case.html
   pub sources : List (List ℕ)
   pub sources_are : AreSourcesOf (given (codes "sources") d) sources
   pub groups : SaysAt (ListSays (IsGroupOf sources)) (codes "groups") d case.groups.items

@@ -1,9 +1,11 @@
 -- What becomes of a case.
-use Rattle.std.specs.Prelude.{◌≡◌, ℕ, List, Some, codes, map, string_bytes}
+use Rattle.std.specs.Prelude.{◌≡◌, ℕ, Bool, true, false, List, [], ◌∷◌, Option, Some, codes, if◌then◌else◌, map, string_bytes}
 use Rattle.serde_json.specs.Data.{Data}
 use Rattle.serde_json.specs.Read.{read}
-use Rattle.annotate_snippets.specs.Fault.{first_refusal}
+use Rattle.annotate_snippets.specs.Fault.{first_refusal, refusal_in}
 use Rattle.annotate_snippets.specs.FormLaws.{TextsWithLaws}
+use Rattle.annotate_snippets.specs.Html.{HasHtmlLaws, IsReportHtml}
+use Rattle.annotate_snippets.specs.declared.renderer.form.Form.TheVariants.{Graphic}
 use Rattle.annotate_snippets.specs.declared.renderer.RenderError.{RenderError}
 use Rattle.annotate_snippets.specs.declared.renderer.RenderError.TheVariants.{NoGroup, NoTitle, SpanReversed, SpanPastEnd, SpanOffBoundary, PatchesOverlap}
 use Rattle.annotate_snippets.specs.declared.renderer.RenderError.TheVariants.{LineNumberTooLarge, Memory}
@@ -23,12 +25,28 @@ refusal_name (PatchesOverlap group element first second) = codes "PatchesOverlap
 refusal_name (LineNumberTooLarge group element) = codes "LineNumberTooLarge"
 refusal_name (Memory refused) = codes "Memory"
 
--- a case becomes texts that show its report, in its settings and one under each of its sheets, each with its laws, or the first refusal
--- of that report
+-- the refusal of a case, where there is one: the first of its report in the form that is set, or, as HTML, in the graphic form
+abbrev pub refusal_of : Case → Option RenderError
+refusal_of case = if case.html then refusal_in Graphic case.groups.items else first_refusal case.renderer case.groups.items
+
+-- one text, the report of a case as HTML in its settings, with its laws
+abbrev pub IsHtmlOf : Case → List (List ℕ) → Type 0
+IsHtmlOf case texts =
+    (text : List ℕ) × (texts ≡ text ∷ []) × IsReportHtml case.renderer case.groups.items text × HasHtmlLaws case.renderer case.groups.items text
+
+-- the texts of a case, by whether HTML is asked for
+abbrev pub AreTextsAs : Bool → Case → List (List ℕ) → Type 0
+AreTextsAs true case texts = IsHtmlOf case texts
+AreTextsAs false case texts = TextsWithLaws case.renderer case.groups.items case.sheets.items texts
+
+-- the texts of a case show its report, in its settings and one under each of its sheets, each with its laws; or there is one, its HTML
+abbrev pub AreTextsOf : Case → List (List ℕ) → Type 0
+AreTextsOf case texts = AreTextsAs case.html case texts
+
+-- a case becomes its texts, or the first refusal of its report
 abbrev pub IsOutcomeOf : Case → Outcome → Type 0
-IsOutcomeOf case (Texts texts) =
-    TextsWithLaws case.renderer case.groups.items case.sheets.items (map string_bytes texts.items)
-IsOutcomeOf case (Refused refusal words span) = first_refusal case.renderer case.groups.items ≡ Some refusal
+IsOutcomeOf case (Texts texts) = AreTextsOf case (map string_bytes texts.items)
+IsOutcomeOf case (Refused refusal words span) = refusal_of case ≡ Some refusal
 
 -- a line describes this case, and this became of it
 pub record Becomes (line : List ℕ) (case : Case) (outcome : Outcome) : Type 0 where

@@ -12,5 +12,7 @@ pub struct Case<'v> {
     pub renderer: Renderer,
     /// The sheets that the report is printed under, one text for each.
     pub sheets: Vec<Stylesheet>,
+    /// Whether the report is given as HTML, in place of a text under each sheet.
+    pub html: bool,
     pub groups: Vec<Group<'v>>,
 }

@@ -1,8 +1,10 @@
 //! What becomes of a case: texts or a refusal.
 
-ghost use Rattle.std.specs.Prelude.{◌≡◌, IfOk};
+ghost use Rattle.std.specs.Prelude.{◌≡◌, [], ◌∷◌, None, Err, IfOk, IfSome, IsOkUnless, alloc_error, map, string_bytes};
+ghost use Rattle.annotate_snippets.specs.Fault.{refusal_in};
+ghost use Rattle.annotate_snippets.specs.declared.renderer.form.Form.TheVariants as form;
 ghost use Rattle.annotate_snippets.specs.Fits.{ReportFits};
-ghost use Rattle.replay_answer.specs.Outcome.{refusal_name, IsOutcomeOf};
+ghost use Rattle.replay_answer.specs.Outcome.{AreTextsOf, IsHtmlOf, IsOutcomeOf, refusal_name, refusal_of};
 
 use crate::case::Case;
 use crate::spans::span_of;
@@ -12,7 +14,7 @@ use std::alloc::{AllocError, Global};
 /// What becomes of a case.
 #[derive(Drop)]
 pub enum Outcome {
-    /// A text under each sheet, in order.
+    /// A text under each sheet, in order; or the report as HTML alone.
     Texts(Vec<String>),
     /// The refusal, what it prints, and what is told of the span that it is about.
     Refused(RenderError, String, String),
@@ -23,10 +25,7 @@ pub fn outcome_of(alloc: Global, case: &Case<'_>) -> Result<Outcome, AllocError>
     requires fits { ReportFits case.now.groups.items }
     ensures outcome { IfOk result (IsOutcomeOf case.now) }
 {
-    match case
-        .renderer
-        .render_sheets(alloc, &case.groups, &case.sheets)
-    {
+    match texts_of(alloc, case) {
         Ok(texts) => Ok(Outcome::Texts(texts)),
         Err(RenderError::Memory(refused)) => Err(refused),
         Err(refusal) => {
@@ -35,6 +34,46 @@ pub fn outcome_of(alloc: Global, case: &Case<'_>) -> Result<Outcome, AllocError>
             Ok(Outcome::Refused(refusal, text, span))
         }
     }
+}
+
+/// The texts of a case: its report as HTML alone where that is asked for, else a text under each of its sheets.
+///
+/// # Errors
+///
+/// Why the report is refused, as HTML as in the graphic form; and `Memory` where there is no memory for the texts.
+pub fn texts_of(alloc: Global, case: &Case<'_>) -> Result<Vec<String>, RenderError>
+    requires fits { ReportFits case.now.groups.items }
+    ensures refused { IfSome (refusal_of case.now) (λ refusal. result ≡ Err refusal) }
+    ensures renders { refusal_of case.now ≡ None → IsOkUnless result (RenderError.Memory alloc_error) }
+    ensures texts { IfOk result (λ texts. AreTextsOf case.now (map string_bytes texts.items)) }
+{
+    if case.html {
+        return html_of(alloc, case);
+    }
+    case.renderer
+        .render_sheets(alloc, &case.groups, &case.sheets)
+}
+
+/// The report of a case as HTML, its one text.
+fn html_of(alloc: Global, case: &Case<'_>) -> Result<Vec<String>, RenderError>
+    requires fits { ReportFits case.now.groups.items }
+    ensures refused { IfSome (refusal_in form.Graphic case.now.groups.items) (λ refusal. result ≡ Err refusal) }
+    ensures renders { refusal_in form.Graphic case.now.groups.items ≡ None
+        → IsOkUnless result (RenderError.Memory alloc_error) }
+    ensures text { IfOk result (λ texts. IsHtmlOf case.now (map string_bytes texts.items)) }
+{
+    let text = case.renderer.render_html(alloc, &case.groups)?;
+    let texts = alone(alloc, text)?;
+    Ok(texts)
+}
+
+/// A list of this text alone.
+fn alone(alloc: Global, text: String) -> Result<Vec<String>, AllocError>
+    ensures alone { IfOk result (λ texts. texts.items ≡ text ∷ []) }
+{
+    let mut texts = Vec::new(alloc);
+    texts.push(text)?;
+    Ok(texts)
 }
 
 /// The name of a refusal.

@@ -5,7 +5,7 @@ ghost use Rattle.std.specs.Prelude.{◌≡◌, Some, false, IfOk, codes};
 ghost use Rattle.annotate_snippets.specs.Fits.{ReportFits};
 ghost use Rattle.serde_json.specs.Find.{as_bool};
 ghost use Rattle.serde_json.specs.View.{view};
-ghost use Rattle.json_node.specs.Field.{given, given_or};
+ghost use Rattle.json_node.specs.Field.{as_whole, given, given_or};
 ghost use Rattle.replay_answer.specs.Case.{HasSettingsOf, IsCaseOf, MayHaveSettings};
 ghost use Rattle.replay_answer.specs.Case as spec;
 ghost use Rattle.replay_read.specs.Report.{AreSourcesOf};
@@ -57,6 +57,7 @@ pub fn case_of<'v>(
         id: case.text("id")?,
         renderer: renderer_of(&case)?,
         sheets: sheets_of(&case)?,
+        html: case.flag_or("html", false)?,
         groups: parts_at(&case, "groups", sources)?,
     })
 }
@@ -81,6 +82,8 @@ fn settings_of(node: &Node<'_, '_>) -> Result<Renderer, Fault>
     let term_width = node.number_or("term_width", DEFAULT_TERM_WIDTH)?;
     let unicode = node.flag_or("unicode", false)?;
     let show_line_feeds = node.flag_or("show_line_feeds", false)?;
+    let (context_before, context_after) = context_of(node)?;
+    let wrap = node.flag_or("wrap", false)?;
     Ok(Renderer {
         no_graphics,
         short_message,
@@ -90,6 +93,9 @@ fn settings_of(node: &Node<'_, '_>) -> Result<Renderer, Fault>
         anonymized_origin_line_numbers: anonymized_origin,
         hyperlink,
         show_line_feeds,
+        context_before,
+        context_after,
+        wrap,
         stylesheet: Stylesheet::plain(),
     })
 }
@@ -119,6 +125,18 @@ fn anonymized_by(settings: &Node<'_, '_>) -> Result<(bool, bool), Fault>
     let snippet = settings.flag_or("anonymized_snippet", false)?;
     let origin = settings.flag_or("anonymized_origin", false)?;
     Ok((snippet, origin))
+}
+
+/// How many lines before and after those of spans are shown.
+fn context_of(settings: &Node<'_, '_>) -> Result<(usize, usize), Fault>
+    ensures before { IfOk result (λ context.
+        given_or as_whole 0 (codes "context_before") (view settings.now.value.now) ≡ Some context.0) }
+    ensures after { IfOk result (λ context.
+        given_or as_whole 0 (codes "context_after") (view settings.now.value.now) ≡ Some context.1) }
+{
+    let before = settings.number_or("context_before", 0)?;
+    let after = settings.number_or("context_after", 0)?;
+    Ok((before, after))
 }
 
 /// The strokes that are asked for.

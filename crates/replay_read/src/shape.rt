@@ -19,6 +19,9 @@ const SETTINGS: &[&str] = &[
     "anonymized_origin",
     "hyperlink",
     "show_line_feeds",
+    "context_before",
+    "context_after",
+    "wrap",
 ];
 
 /// The fields of a sheet.
@@ -95,7 +98,7 @@ impl Shape {
         ensures value { lent_texts result.now ≡ names_of self }
     {
         match self {
-            Shape::Case => &["id", "settings", "sheets", "sources", "groups"],
+            Shape::Case => &["id", "settings", "sheets", "html", "sources", "groups"],
             Shape::Settings => SETTINGS,
             Shape::Sheet => SHEET,
             Shape::Style => &["fg", "bg", "effects"],

@@ -6,6 +6,7 @@ use crate::lines::{numbered_case, numbered_sources, value_of};
 use crate::problem::{Line, Problem};
 use annotate_snippets::renderer::RenderError;
 use replay_answer::case::Case;
+use replay_answer::outcome::texts_of;
 use std::alloc::Global;
 use std::io;
 use std::io::{BufRead, Write};
@@ -71,9 +72,7 @@ fn draw_often(
 {
     let mut drawn = tally;
     for _ in 0..times {
-        let texts = case
-            .renderer
-            .render_sheets(alloc, &case.groups, &case.sheets)?;
+        let texts = texts_of(alloc, case)?;
         for text in &texts {
             drawn.texts = drawn.texts.saturating_add(1);
             drawn.bytes = drawn.bytes.saturating_add(text.len() as u64);

@@ -163,11 +163,14 @@ decor_again decor.Unicode rest = refl
 pub settings_again : Again settings_then after_settings Any
 unfolding after_settings
 settings_again s rest _ =
+    let around = number_then s.context_before (number_then s.context_after (flag_then s.wrap rest)) in
     seq _ (flag_again s.anonymized_origin_line_numbers _ tt) (seq _ (flag_again s.anonymized_snippet_line_numbers _ tt)
     (seq_number s.term_width (decor_number s.decor_style ∷ flag_then s.hyperlink (flag_then s.short_message
-    (flag_then s.no_graphics (flag_then s.show_line_feeds rest)))) _
+    (flag_then s.no_graphics (flag_then s.show_line_feeds around)))) _
     (seq _ (decor_again s.decor_style _) (seq _ (flag_again s.hyperlink _ tt)
-    (seq _ (flag_again s.short_message _ tt) (seq _ (flag_again s.no_graphics _ tt) (flag_again s.show_line_feeds rest tt)))))))
+    (seq _ (flag_again s.short_message _ tt) (seq _ (flag_again s.no_graphics _ tt) (seq _ (flag_again s.show_line_feeds _ tt)
+    (seq_number s.context_before (number_then s.context_after (flag_then s.wrap rest)) _
+    (seq_number s.context_after (flag_then s.wrap rest) _ (flag_again s.wrap rest tt))))))))))
 
 -- ---- groups
 

@@ -103,7 +103,8 @@ ansi_number ansi.BrightWhite = 15
 abbrev pub settings_then : Settings → List ℕ → List ℕ
 settings_then s rest =
     flag_then s.anonymized_origin_line_numbers (flag_then s.anonymized_snippet_line_numbers (number_then s.term_width
-    (decor_number s.decor_style ∷ flag_then s.hyperlink (flag_then s.short_message (flag_then s.no_graphics (flag_then s.show_line_feeds rest))))))
+    (decor_number s.decor_style ∷ flag_then s.hyperlink (flag_then s.short_message (flag_then s.no_graphics (flag_then s.show_line_feeds
+    (number_then s.context_before (number_then s.context_after (flag_then s.wrap rest)))))))))
 
 abbrev pub color_then : Color → List ℕ → List ℕ
 color_then (Ansi color) rest = 0 ∷ ansi_number color ∷ rest

@@ -88,6 +88,9 @@ after_settings bytes = do
   rest ← after_flag rest
   rest ← after_flag rest
   rest ← after_flag rest
+  rest ← after_flag rest
+  rest ← after_number rest
+  rest ← after_number rest
   after_flag rest
 
 -- one byte of a colour

@@ -28,6 +28,12 @@ pub struct Settings {
     pub no_graphics: bool,
     /// Whether line feeds of labels, paths, identifiers and level names are shown, as `␊`.
     pub show_line_feeds: bool,
+    /// How many lines before each line that is shown for its spans are shown too.
+    pub context_before: usize,
+    /// How many lines after each line that is shown for its spans are shown too.
+    pub context_after: usize,
+    /// Whether lines of titles and messages that are wider than the terminal are broken at blanks.
+    pub wrap: bool,
 }
 
 /// The settings at the front.
@@ -44,6 +50,9 @@ pub fn settings_at(bytes: &[u8]) -> Result<(Settings, &[u8]), ReadError>
     let (short_message, rest) = flag(rest)?;
     let (no_graphics, rest) = flag(rest)?;
     let (show_line_feeds, rest) = flag(rest)?;
+    let (context_before, rest) = number(rest)?;
+    let (context_after, rest) = number(rest)?;
+    let (wrap, rest) = flag(rest)?;
     let settings = Settings {
         anonymized_origin_line_numbers,
         anonymized_snippet_line_numbers,
@@ -53,6 +62,9 @@ pub fn settings_at(bytes: &[u8]) -> Result<(Settings, &[u8]), ReadError>
         short_message,
         no_graphics,
         show_line_feeds,
+        context_before,
+        context_after,
+        wrap,
     };
     Ok((settings, rest))
 }

@@ -33,6 +33,9 @@ renderer_of s =
       short_message = s.short_message;
       no_graphics = s.no_graphics;
       show_line_feeds = s.show_line_feeds;
+      context_before = s.context_before;
+      context_after = s.context_after;
+      wrap = s.wrap;
     }
 
 -- a refusal as an answer; that there was no memory is no refusal

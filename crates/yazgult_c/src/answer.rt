@@ -80,5 +80,8 @@ fn renderer(settings: &Settings) -> Renderer
         short_message: settings.short_message,
         no_graphics: settings.no_graphics,
         show_line_feeds: settings.show_line_feeds,
+        context_before: settings.context_before,
+        context_after: settings.context_after,
+        wrap: settings.wrap,
     }
 }

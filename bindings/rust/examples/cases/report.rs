@@ -20,6 +20,8 @@ pub fn renderer(case: &Json) -> Renderer {
         .anonymized_origin_line_numbers(s.flag("anonymized_origin", false))
         .hyperlink(s.flag("hyperlink", false))
         .show_line_feeds(s.flag("show_line_feeds", false))
+        .context_lines(s.number("context_before").unwrap_or(0), s.number("context_after").unwrap_or(0))
+        .wrap(s.flag("wrap", false))
 }
 
 /// The sheets of a case: the plain one where none is named.
