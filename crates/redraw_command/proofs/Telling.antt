@@ -6,7 +6,7 @@ use Rattle.std.specs.Io.KnownBytes.{Appends}
 use Rattle.std.proofs.lemmas.Str.{IsUtf8-string_bytes, encodes-chars}
 use Rattle.program.specs.Stream.{AppendsPart, line_of}
 use Rattle.snippet_text.specs.Normalized.{norm}
-use Rattle.redraw_command.specs.Told.{IsFirstPart, IsMessage, IsTold, Tells, TellsOfWords, message, shown}
+use Rattle.redraw_command.specs.Told.{IsFirstPart, IsMessage, IsTold, Tells, TellsMemory, TellsOfWords, message, shown}
 
 -- what is shown for a text is spelled by the characters that are shown for it
 pub shown_message : (text : String Global) (given : List ℕ) → chars (string_bytes text) ≡ norm (chars given) → string_bytes text ≡ shown given
@@ -27,10 +27,16 @@ tells_line old new text line is message written =
     record { part = part; told = record { line = line; message = message; is = first }; added = added }
 
 -- so is the message that there was no memory for another
-pub tells_memory : (old new : Option (List ℕ))
+pub memory_told : (old new : Option (List ℕ))
     → Appends old new (line_of (codes "redraw: out of memory")) ⊎ AppendsPart old new (line_of (codes "redraw: out of memory"))
-    → Tells old new
-tells_memory old new written = tells_line old new (codes "redraw: out of memory") (codes "redraw: out of memory") refl (inr refl) written
+    → TellsMemory old new
+memory_told old new written =
+    let (part, first, added) = first_of old new (line_of (codes "redraw: out of memory")) (line_of (codes "redraw: out of memory")) refl written in
+    record { part = part; is = first; added = added }
+
+pub tells_memory : (old new : Option (List ℕ)) → TellsMemory old new → Tells old new
+tells_memory old new t =
+    record { part = t.part; told = record { line = codes "redraw: out of memory"; message = inr refl; is = t.is }; added = t.added }
 
 either_way : {T E : Type 0} (r : Result T E) (old new : Option (List ℕ)) (bytes : List ℕ) → OnOk r (Appends old new bytes) → OnErr r (AppendsPart old new bytes)
     → Appends old new bytes ⊎ AppendsPart old new bytes

@@ -1,5 +1,5 @@
 -- What a line of an input is, before it is read.
-use Rattle.std.specs.Prelude.{◌≡◌, ◌≢◌, ℕ, ◌⊎◌, ◌==◌, Bool, true, false, not, List, [], ◌∷◌, ◌++◌, Option, None, is_some}
+use Rattle.std.specs.Prelude.{◌≡◌, ◌≢◌, ℕ, ◌⊎◌, ◌==◌, ◌&&◌, ◌||◌, Bool, true, false, not, List, [], ◌∷◌, ◌++◌, Option, None, is_some}
 use Rattle.std.specs.Char.{is_ascii_whitespace}
 use Rattle.std.specs.List.{find}
 use Rattle.std.specs.Option.{option_map_or}
@@ -23,6 +23,17 @@ first_of text = find (λ b. not (is_ascii_whitespace b)) text
 -- whether a text begins as an object of JSON does: its first byte that isn't blank is a brace
 abbrev pub begins_object : List ℕ → Bool
 begins_object text = option_map_or (λ b. b == 123) (first_of text) false
+
+-- two bytes begin a text in UTF-16: the mark of its order, or a brace
+abbrev pub are_utf16 : ℕ → ℕ → Bool
+are_utf16 first second =
+    (first == 255 && second == 254) || (first == 254 && second == 255) || (first == 123 && second == 0) || (first == 0 && second == 123)
+
+-- a text begins with two such bytes
+abbrev pub begins_utf16 : List ℕ → Bool
+begins_utf16 (first ∷ second ∷ rest) = are_utf16 first second
+begins_utf16 (first ∷ []) = false
+begins_utf16 [] = false
 
 -- what a line with this text is: it may be an object, whose text this is; or it begins as one does and isn't UTF-8; or it is blank, or
 -- it begins otherwise

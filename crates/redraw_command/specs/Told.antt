@@ -33,6 +33,12 @@ pub record Tells (old new : Option (List ℕ)) : Type 0 where
   pub told : IsTold part
   pub added : Appends old new part
 
+-- what is told where there is no memory to tell more, and no more of it than a first part where a write failed
+pub record TellsMemory (old new : Option (List ℕ)) : Type 0 where
+  pub part : List ℕ
+  pub is : IsFirstPart part (line_of (codes "redraw: out of memory"))
+  pub added : Appends old new part
+
 -- this stands there of what is told of wrong words: of a text as it may be shown, or of a message that there was no memory for it
 abbrev pub IsToldOfWords : List ℕ → Type 0
 IsToldOfWords part = ((text : List ℕ) × IsFirstPart part (shown text)) ⊎ IsTold part

@@ -72,9 +72,21 @@ fn without_mark(bytes: &[u8]) -> &[u8]
 }
 
 /// Whether the first bytes of an input are UTF-16: the mark of its order, or a brace of two bytes.
-pub fn is_utf16(bytes: &[u8]) -> bool {
-    matches!(
-        bytes,
-        [0xff, 0xfe, ..] | [0xfe, 0xff, ..] | [b'{', 0, ..] | [0, b'{', ..]
-    )
+pub fn is_utf16(bytes: &[u8]) -> bool
+    ensures value { result ≡ spec.begins_utf16 bytes.now }
+{
+    match bytes {
+        [first, second, ..] => are_utf16(*first, *second),
+        _ => false,
+    }
+}
+
+/// Whether two bytes begin a text in UTF-16.
+fn are_utf16(first: u8, second: u8) -> bool
+    ensures value { result ≡ spec.are_utf16 first second }
+{
+    (first == 0xff && second == 0xfe)
+        || (first == 0xfe && second == 0xff)
+        || (first == b'{' && second == 0)
+        || (first == 0 && second == b'{')
 }

@@ -1,5 +1,7 @@
 //! Why a run can't go on.
 
+ghost use Rattle.std.specs.Prelude.{◌≡◌};
+
 use std::alloc::{AllocError, AllocFailed};
 use std::{fmt, io};
 
@@ -17,12 +19,20 @@ pub enum Stop {
 }
 
 impl From<AllocError> for Stop {
+    ghost use Rattle.redraw_command.specs.declared.stop.Stop.{Stop};
+
+    ghost from_gives = { λ refused stop. stop ≡ Stop.Memory };
+
     fn from(_refused: AllocError) -> Stop {
         Stop::Memory
     }
 }
 
 impl<T: Drop> From<AllocFailed<T>> for Stop {
+    ghost use Rattle.redraw_command.specs.declared.stop.Stop.{Stop};
+
+    ghost from_gives = { λ refused stop. stop ≡ Stop.Memory };
+
     fn from(_refused: AllocFailed<T>) -> Stop {
         Stop::Memory
     }

@@ -1,8 +1,11 @@
 //! Messages to the user.
 ghost use Rattle.std.specs.Prelude.{◌≡◌, ℕ, List, IfOk, string_bytes};
 ghost use Rattle.redraw_command.specs.Told as spec;
-ghost use Rattle.redraw_command.specs.Told.{Tells, TellsOfWords};
+ghost use Rattle.redraw_command.specs.Told.{Tells, TellsMemory, TellsOfWords};
+ghost use Rattle.std.specs.Prelude.{IsErr};
+ghost use Rattle.clap.specs.Words.{kind_of};
 
+use clap::error::ErrorKind;
 use program::line::{write_line, write_whole};
 use snippet_text::normalize_untrusted_str;
 use std::alloc::{AllocError, Global};
@@ -17,9 +20,18 @@ pub fn tell<D: fmt::Display + Drop, V: Write>(alloc: Global, message: D, err: &m
     ensures told { Tells (V.contents err.old) (V.contents err.new) }
 {
     match shown(alloc, message) {
-        Ok(text) => write_line(text.as_str(), err),
-        Err(AllocError) => write_line(OUT_OF_MEMORY, err),
-    };
+        Ok(text) => {
+            write_line(text.as_str(), err);
+        }
+        Err(AllocError) => tell_memory(err),
+    }
+}
+
+/// Tells that there is no memory to tell more.
+pub fn tell_memory<V: Write>(err: &mut V)
+    ensures told { TellsMemory (V.contents err.old) (V.contents err.new) }
+{
+    write_line(OUT_OF_MEMORY, err);
 }
 
 /// A message as it may be shown.
@@ -34,21 +46,25 @@ fn shown<D: fmt::Display + Drop>(alloc: Global, message: D) -> Result<String, Al
 /// Writes what is wrong with the words, in the same way.
 pub fn tell_error<V: Write>(alloc: Global, error: &clap::Error, err: &mut V)
     ensures told { TellsOfWords (V.contents err.old) (V.contents err.new) }
+    ensures memory { kind_of error.now ≡ ErrorKind.OutOfMemory
+        → TellsMemory (V.contents err.old) (V.contents err.new) }
 {
     match shown_error(alloc, error) {
         Ok(text) => {
             let _ = write_whole(text.as_str().as_bytes(), err);
         }
-        Err(AllocError) => {
-            write_line(OUT_OF_MEMORY, err);
-        }
+        Err(AllocError) => tell_memory(err),
     }
 }
 
-/// The same as it may be shown.
+/// The same as it may be shown, unless it is that there was no memory to read them.
 fn shown_error(alloc: Global, error: &clap::Error) -> Result<String, AllocError>
     ensures shown { IfOk result (λ text. (said : List ℕ) × (string_bytes text ≡ spec.shown said)) }
+    ensures memory { kind_of error.now ≡ ErrorKind.OutOfMemory → IsErr result }
 {
+    if let ErrorKind::OutOfMemory = error.kind() {
+        return Err(AllocError);
+    }
     let message = format!(in alloc; "{error}")?;
     normalize_untrusted_str(alloc, message.as_str())
 }

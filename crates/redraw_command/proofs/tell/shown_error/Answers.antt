@@ -1,3 +1,4 @@
+use Rattle.std.proofs.Common.{rules}
 use Rattle.std.proofs.lemmas.Result.{IfOk-weaker}
 use Rattle.redraw_command.proofs.Telling.{shown_message}
 use Rattle.redraw_command.proofs.tell.shown_error.Goals as goal
@@ -7,4 +8,5 @@ returns c =
     record {
       shown = IfOk-weaker c.normalize_untrusted_str.result _ _
           (λ text value. (c.as_str.result.now, shown_message text _ value)) c.normalize_untrusted_str.ensures.value;
+      memory = search rules;
     }

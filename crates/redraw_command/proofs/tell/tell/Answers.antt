@@ -9,4 +9,4 @@ returns-in-Ok g c =
     }
 
 pub returns-in-Err : goal.returns-in-Err
-returns-in-Err g c = record { told = tells_memory _ _ c.write_line-in-Err.ensures.told }
+returns-in-Err g c = record { told = tells_memory _ _ c.tell_memory.ensures.told }
