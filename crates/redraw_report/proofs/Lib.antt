@@ -1,2 +1,3 @@
 pub mod Joined
+pub mod OneMark
 pub mod Sections

@@ -1,7 +1,7 @@
 -- The report that a finding becomes: which title, which place with which label, which edit.
 use Rattle.std.specs.Prelude.{string_bytes, ℕ, ◌-◌, Bool, true, false, nat_lt, ◌==◌, ◌&&◌, List, [], ◌∷◌, ◌++◌, Option, Some, None, chars, codes, length, map}
 use Rattle.std.specs.Prelude.{take, not, if◌then◌else◌}
-use Rattle.std.specs.List.{flat_map, list_any, repeat}
+use Rattle.std.specs.List.{filter, flat_map, list_any, repeat}
 use Rattle.std.specs.Fmt.{decimal}
 use Rattle.std.specs.Option.{option_map}
 use Rattle.std.specs.Borrow.{Bor}
@@ -52,18 +52,18 @@ marked_of m =
       highlighted = false;
     }
 
--- the mark of a place, if it is in this source
-abbrev pub mark_in : Shown → Mark → List Marked
-mark_in source m = if same_source m.source source then marked_of m ∷ [] else []
+-- those of some places that are in this source
+abbrev pub marks_in : Shown → List Mark → List Mark
+marks_in source marks = filter (λ (m : Mark). same_source m.source source) marks
 
--- what is said of a place, if it is in that source: below an empty row
+-- what is said of a place, if something is: below an empty row
 abbrev pub label_rows : Option (Bor (List ℕ)) → List Part
 label_rows None = []
 label_rows (Some label) = Gap ∷ said Note label.now ∷ []
 
--- what is said of a place, if it is in this source
-abbrev pub label_in : Shown → Mark → List Part
-label_in source m = if same_source m.source source then label_rows m.label else []
+-- the same of a place
+abbrev pub said_of : Mark → List Part
+said_of m = label_rows m.label
 
 -- lines of a file as they are shown
 abbrev pub lines_of : List ℕ → List ℕ → ℕ → Bool → Lines
@@ -74,18 +74,18 @@ lines_of path text first_line folded =
 abbrev pub blanks_before : ℕ → List ℕ
 blanks_before column = repeat (column - 1) (codes " ")
 
--- a source with those of some places that are in it: its lines with a mark for each, or where it has none its place and what is said,
--- or a line of blanks with the marks
+-- a source with places that are in it: its lines with a mark for each, or where it has none its place and what is said, or a line of
+-- blanks with the marks
 abbrev pub content_parts : List Mark → Shown → Content → List Part
-content_parts marks source (content.Lines text first_line) =
-    Marks (lines_of source.path.now text.now first_line true) (flat_map (mark_in source) marks) ∷ []
-content_parts marks source (content.Blank line column) =
-    Marks (lines_of source.path.now (blanks_before column) line true) (flat_map (mark_in source) marks) ∷ []
-content_parts marks source (content.Nothing line column) = Names source.path.now line column ∷ flat_map (label_in source) marks
+content_parts within source (content.Lines text first_line) =
+    Marks (lines_of source.path.now text.now first_line true) (map marked_of within) ∷ []
+content_parts within source (content.Blank line column) =
+    Marks (lines_of source.path.now (blanks_before column) line true) (map marked_of within) ∷ []
+content_parts within source (content.Nothing line column) = Names source.path.now line column ∷ flat_map said_of within
 
--- the same of a source as it is shown
+-- a source as it is shown, with those of some places that are in it
 abbrev pub source_parts : List Mark → Shown → List Part
-source_parts marks source = content_parts marks source source.content
+source_parts marks source = content_parts (marks_in source marks) source source.content
 
 -- some sources, and one more if it isn't among them
 abbrev pub with_shown : List Shown → Shown → List Shown

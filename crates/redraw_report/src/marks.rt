@@ -3,8 +3,8 @@ ghost use Rattle.std.specs.Prelude.{◌≡◌, ◌++◌, [], ◌∷◌, IfOk, On
 ghost use Rattle.std.specs.Cow.{cow_str_bytes};
 ghost use Rattle.std.specs.List.{flat_map, list_any};
 ghost use Rattle.redraw_report.specs.Report as spec;
-ghost use Rattle.redraw_report.specs.Report.{label_in, label_rows, lines_of, mark_in, marked_of, marked_parts, said};
-ghost use Rattle.redraw_report.specs.Report.{source_parts, with_shown, with_source, with_sources};
+ghost use Rattle.redraw_report.specs.Report.{content_parts, label_rows, lines_of, marked_of, marked_parts, said};
+ghost use Rattle.redraw_report.specs.Report.{said_of, source_parts, with_shown, with_source, with_sources};
 ghost use Rattle.redraw_report.specs.SameSource.{same_source};
 ghost use Rattle.redraw_report.specs.View.{Gap, Marks, marked_view, part_view};
 ghost use Rattle.redraw_report.specs.declared.diagnostic.Severity.TheVariants.{Note};
@@ -97,33 +97,30 @@ fn annotation_of<'a>(mark: &Mark<'a>) -> Annotation<'a>
     }
 }
 
-/// Adds the annotation of a place, if it is in this source.
-fn add_annotation<'a>(
-    annotations: &mut Vec<Annotation<'a>>,
-    source: &Shown<'a>,
-    mark: &Mark<'a>,
-) -> Result<(), AllocError>
-    ensures added { OnOk result (map marked_view annotations.new.items
-        ≡ map marked_view annotations.old.items ++ mark_in source.now mark.now) }
-{
-    if is_same(&mark.source, source) {
-        annotations.push(annotation_of(mark))?;
-    }
-    Ok(())
-}
-
-/// The annotations of the places that are in this source.
-fn annotations_in<'a>(
+/// Those of some places that are in this source.
+fn marks_in<'a>(
     alloc: Global,
     source: &Shown<'a>,
     marks: &[Mark<'a>],
-) -> Result<Vec<Annotation<'a>>, AllocError>
-    ensures value { IfOk result (λ annotations. map marked_view annotations.items
-        ≡ flat_map (mark_in source.now) marks.now) }
+) -> Result<Vec<Mark<'a>>, AllocError>
+    ensures value { IfOk result (λ within. within.items ≡ spec.marks_in source.now marks.now) }
+{
+    let mut within = Vec::new(alloc);
+    for mark in marks {
+        if is_same(&mark.source, source) {
+            within.push(*mark)?;
+        }
+    }
+    Ok(within)
+}
+
+/// The annotations of some places.
+fn annotations_of<'a>(alloc: Global, marks: &[Mark<'a>]) -> Result<Vec<Annotation<'a>>, AllocError>
+    ensures value { IfOk result (λ annotations. map marked_view annotations.items ≡ map marked_of marks.now) }
 {
     let mut annotations = Vec::new(alloc);
     for mark in marks {
-        add_annotation(&mut annotations, source, mark)?;
+        annotations.push(annotation_of(mark))?;
     }
     Ok(annotations)
 }
@@ -170,52 +167,35 @@ fn add_note<'a>(
     Ok(())
 }
 
-/// The same of a place that is in this source.
-fn add_label<'a>(
+/// Adds what is said of each of some places.
+fn add_labels<'a>(
     alloc: Global,
     elements: &mut Vec<Element<'a>>,
-    source: &Shown<'a>,
-    mark: &Mark<'a>,
+    marks: &[Mark<'a>],
 ) -> Result<(), AllocError>
-    ensures added { OnOk result (map part_view elements.new.items ≡ map part_view elements.old.items
-        ++ label_in source.now mark.now) }
+    ensures added { OnOk result (map part_view elements.new.items
+        ≡ map part_view elements.old.items ++ flat_map said_of marks.now) }
 {
-    if is_same(&mark.source, source) {
+    for mark in marks {
         add_label_rows(alloc, elements, mark.label)?;
     }
     Ok(())
 }
 
-/// Adds what is said of each place that is in this source.
-fn add_labels<'a>(
-    alloc: Global,
-    elements: &mut Vec<Element<'a>>,
-    source: &Shown<'a>,
-    marks: &[Mark<'a>],
-) -> Result<(), AllocError>
-    ensures added { OnOk result (map part_view elements.new.items
-        ≡ map part_view elements.old.items ++ flat_map (label_in source.now) marks.now) }
-{
-    for mark in marks {
-        add_label(alloc, elements, source, mark)?;
-    }
-    Ok(())
-}
-
-/// Adds a source with the places that are in it.
+/// Adds a source with places that are in it.
 fn add_source<'a>(
     alloc: Global,
     elements: &mut Vec<Element<'a>>,
     source: &Shown<'a>,
-    marks: &[Mark<'a>],
+    within: &[Mark<'a>],
 ) -> Result<(), AllocError>
     ensures added { OnOk result (map part_view elements.new.items
-        ≡ map part_view elements.old.items ++ source_parts marks.now source.now) }
+        ≡ map part_view elements.old.items ++ content_parts within.now source.now source.now.content) }
 {
     match source.content {
         Content::Lines { text, first_line } => {
             let text = CowStr::Borrowed(text);
-            add_marked(alloc, elements, source, text, first_line, marks)
+            add_marked(alloc, elements, source, text, first_line, within)
         }
         Content::Nothing { line, column } => {
             elements.push(Element::Origin(Origin {
@@ -223,11 +203,11 @@ fn add_source<'a>(
                 line,
                 char_column: column,
             }))?;
-            add_labels(alloc, elements, source, marks)
+            add_labels(alloc, elements, within)
         }
         Content::Blank { line, column } => {
             let text = blanks_before(alloc, column)?;
-            add_marked(alloc, elements, source, CowStr::Owned(text), line, marks)
+            add_marked(alloc, elements, source, CowStr::Owned(text), line, within)
         }
     }
 }
@@ -239,20 +219,20 @@ fn blanks_before(alloc: Global, column: usize) -> Result<String, AllocError>
     " ".repeat(alloc, column.saturating_sub(1))
 }
 
-/// Adds lines of a source, with the marks of the places that are in it.
+/// Adds lines of a source, with the marks of places that are in it.
 fn add_marked<'a>(
     alloc: Global,
     elements: &mut Vec<Element<'a>>,
     source: &Shown<'a>,
     text: CowStr<'a>,
     first_line: usize,
-    marks: &[Mark<'a>],
+    within: &[Mark<'a>],
 ) -> Result<(), AllocError>
     ensures added { OnOk result (map part_view elements.new.items ≡ map part_view elements.old.items
         ++ Marks (lines_of source.now.path.now (cow_str_bytes text.entry) first_line true)
-        (flat_map (mark_in source.now) marks.now) ∷ []) }
+        (map marked_of within.now) ∷ []) }
 {
-    let markers = annotations_in(alloc, source, marks)?;
+    let markers = annotations_of(alloc, within)?;
     elements.push(Element::Cause(Snippet {
         path: Some(CowStr::Borrowed(source.path)),
         line_start: first_line,
@@ -264,7 +244,7 @@ fn add_marked<'a>(
     Ok(())
 }
 
-/// The same of some sources, in their order.
+/// Adds some sources in their order, each with those of some places that are in it.
 fn add_each_source<'a>(
     alloc: Global,
     elements: &mut Vec<Element<'a>>,
@@ -275,20 +255,39 @@ fn add_each_source<'a>(
         ≡ map part_view elements.old.items ++ flat_map (source_parts marks.now) order.now) }
 {
     for source in order {
-        add_source(alloc, elements, source, marks)?;
+        let within = marks_in(alloc, source, marks)?;
+        add_source(alloc, elements, source, &within)?;
     }
     Ok(())
 }
 
-/// What is drawn of some places: each source with those that are in it.
+/// Adds what is drawn of some places: each source with those that are in it. Sources are compared only where there are
+/// several places: a file may be long.
+fn add_marks<'a>(
+    alloc: Global,
+    elements: &mut Vec<Element<'a>>,
+    marks: &[Mark<'a>],
+) -> Result<(), AllocError>
+    ensures added { OnOk result (map part_view elements.new.items
+        ≡ map part_view elements.old.items ++ marked_parts marks.now) }
+{
+    match marks {
+        [mark] => add_source(alloc, elements, &mark.source, marks),
+        _ => {
+            let order = sources_of(alloc, marks)?;
+            add_each_source(alloc, elements, &order, marks)
+        }
+    }
+}
+
+/// What is drawn of some places.
 pub fn marked_elements<'a>(
     alloc: Global,
     marks: &[Mark<'a>],
 ) -> Result<Vec<Element<'a>>, AllocError>
     ensures value { IfOk result (λ elements. map part_view elements.items ≡ marked_parts marks.now) }
 {
-    let order = sources_of(alloc, marks)?;
     let mut elements = Vec::new(alloc);
-    add_each_source(alloc, &mut elements, &order, marks)?;
+    add_marks(alloc, &mut elements, marks)?;
     Ok(elements)
 }
