@@ -57,7 +57,7 @@ const RIGHT: Request<'static> = Request {
     label: "\u{1b}[31mhere",
 };
 
-/// Requests of strangers. All but the first are wrong.
+/// Requests of strangers. The first and the last are drawn; the label of the last would look like a row of the report.
 const REQUESTS: [Request<'static>; 5] = [
     RIGHT,
     Request { start: 6, ..RIGHT },

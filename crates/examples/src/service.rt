@@ -2,7 +2,6 @@
 use annotate_snippets::level::ERROR;
 use annotate_snippets::renderer::RenderError;
 use annotate_snippets::snippet::report_fits;
-use annotate_snippets::text::is_one_line;
 use annotate_snippets::{AnnotationKind, Group, Renderer, Snippet};
 use std::alloc::{AllocError, Global};
 
@@ -41,16 +40,16 @@ fn group<'a>(alloc: Global, request: &Request<'a>) -> Result<Group<'a>, AllocErr
 }
 
 /// The report of a request, whatever it holds, or why there is none. A control character in its texts is drawn as a
-/// picture of itself, and so reaches no terminal.
+/// picture of itself, and so reaches no terminal; also a line feed of the label, after which a text could look like a
+/// row of the report.
 pub fn answer<'a>(alloc: Global, request: &Request<'a>) -> Result<String, &'static str> {
-    // A label's line feed is drawn as it is, and what stands after it could look like a row of the report.
-    if !is_one_line(request.label) {
-        return Err("`label` has a line feed");
-    }
     let groups: [Group<'a>; 1] = [group(alloc, request).map_err(|_| OUT_OF_MEMORY)?];
     // The one thing that `render` asks of its caller: each text has fewer than 2^56 bytes.
     if !report_fits(&groups) {
         return Err("a text is too long");
     }
-    Renderer::plain().render(alloc, &groups).map_err(reason)
+    Renderer::plain()
+        .show_line_feeds(true)
+        .render(alloc, &groups)
+        .map_err(reason)
 }
