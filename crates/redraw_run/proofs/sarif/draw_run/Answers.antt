@@ -11,7 +11,7 @@ returns-in_err-tell_all g c =
     let choice = c.args.drawing.now.choice in
     record {
       does = goes_err IsRun _ _ c.from_residual.result c.from_residual.ensures.1
-          (λ s q. stops_any s
+          (λ s q. stops_any s q
           (does_as {P = IsRun} (part_all {P = IsRun} choice)
           (does_as {P = AreMessages} (run_begins choice) (does_tell_all c.in_err-tell_all.ensures.told refl refl refl refl))));
     }
