@@ -1,5 +1,5 @@
 -- What isn't left unread: a run that does nothing, where nothing could be opened, contradicts what a run answers.
-use Rattle.std.proofs.Common.{◌≡◌, ◌⊎◌, ◌&&◌, ◌∙◌, ℕ, Bool, false, List, [], ◌∷◌, Option, None, Some, Bor, ap, inl, inr, refl, subst, sym}
+use Rattle.std.proofs.Common.{◌≡◌, ◌⊎◌, ◌&&◌, ◌∙◌, ℕ, Bool, false, List, [], ◌∷◌, Option, None, Some, Bor, ap, inl, inr, map, refl, subst, sym}
 use Rattle.std.specs.Option.{option_map}
 use Rattle.clap.specs.Faults.{fault_of}
 use Rattle.clap.specs.Kinds.{IsAmong, Kinds}
@@ -55,7 +55,7 @@ unread_run held names name rest a out err are (inr (inr none)) = let two : ◌�
 -- some input is always asked for
 some_given : (names : List (Bor (List ℕ))) → (name : List ℕ) × (rest : List (List ℕ)) × (given_names names ≡ name ∷ rest)
 some_given [] = (standard, [], refl)
-some_given (name ∷ names) = (name.now, _, refl)
+some_given (name ∷ names) = (name.now, map (λ (n : Bor (List ℕ)). n.now) names, refl)
 
 some_asked : (names : Option (Bor (List (Bor (List ℕ))))) → (name : List ℕ) × (rest : List (List ℕ)) × (asked_names names ≡ name ∷ rest)
 some_asked None = (standard, [], refl)
