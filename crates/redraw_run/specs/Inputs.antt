@@ -26,8 +26,8 @@ IsSourceOf name (Some source) = IsNamed name source
 
 -- what a file or standard input holds, where that is known
 abbrev pub held_by : {File Standard : Type 0} → (File → Option (List ℕ)) → (Standard → Option (List ℕ)) → File ⊎ Standard → Option (List ℕ)
-held_by file standard (inl source) = file source
-held_by file standard (inr source) = standard source
+held_by file input (inl source) = file source
+held_by file input (inr source) = input source
 
 -- what is held by what could be opened, if it could
 abbrev pub held_in : {B : Type 0} → (B → Option (List ℕ)) → Result B Error → Option (Option (List ℕ))
