@@ -1,5 +1,5 @@
 -- One thing that is done.
-use Rattle.std.proofs.Common.{◌≡◌, ◌&&◌, ◌||◌, ◌<◌, ◌==◌, ◌≤◌, ℕ, Bool, arith, not, suc, zero, true, false, List, [], ◌∷◌, ◌++◌, Option, Some, refl, ap, sym}
+use Rattle.std.proofs.Common.{◌≡◌, ◌||◌, ◌<◌, ◌==◌, ◌≤◌, ℕ, Bool, arith, suc, zero, true, false, List, [], ◌∷◌, ◌++◌, Option, Some, refl, ap, sym}
 use Rattle.std.proofs.Common.{◌∙◌, subst, inl, inr, append_assoc}
 use Rattle.std.proofs.Common.{ap₂, append-nil, drop, take, take-append-drop}
 use Rattle.std.specs.Prelude.{Result, Ok, Err, IfErr, IfOk, OnOk}
@@ -346,15 +346,3 @@ count_told (suc n) a b some t = subst (λ (is : Bool). TellsUnless is a b) (sym 
 pub count_untold : (n : ℕ) (a b : Option (List ℕ)) → n ≤ 0 → b ≡ a → TellsUnless (n == 0) a b
 count_untold zero a b none same = same
 count_untold (suc n) a b none same = absurd (omega (arith, none))
-
--- lines of an unknown form are told, if there are some and no object is
-pub unknown_told : (others objects : Bool) (a b : Option (List ℕ)) → (others && not objects) ≡ true → Tells a b → TellsUnless (objects || not others) a b
-unknown_told true true a b is t = cc is
-unknown_told true false a b is t = t
-unknown_told false objects a b is t = cc is
-
-pub unknown_untold : (others objects : Bool) (a b : Option (List ℕ)) → (others && not objects) ≡ false → b ≡ a → TellsUnless (objects || not others) a b
-unknown_untold true true a b is same = same
-unknown_untold true false a b is same = cc is
-unknown_untold false true a b is same = same
-unknown_untold false false a b is same = same

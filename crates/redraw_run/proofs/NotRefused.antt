@@ -68,8 +68,8 @@ bare_finding_refused r files d why graphics long spans children h =
 -- ---- an input in UTF-16
 
 -- a line stops an input as one in UTF-16, by itself
-pub line_of_utf16 : {T : Type 0} (line : List ℕ) (old new : Option (List ℕ)) (a b : State) → Advances {T = T} (Err Utf16) line old new a b → ⊥
-line_of_utf16 line old new a b h = h
+pub line_of_utf16 : (T : Type 0) (line : List ℕ) (old new : Option (List ℕ)) (a b : State) → Advances {T = T} (Err Utf16) line old new a b → ⊥
+line_of_utf16 T line old new a b h = h
 
 -- an input whose first line is `a` stops so
 pub utf8_refused : (a b : State) → Halts Utf16 ((97 ∷ 10 ∷ []) ∷ []) a b → ⊥

@@ -1,12 +1,11 @@
 -- Why there is no text of a finding.
-use Rattle.std.proofs.Common.{◌≡◌, ◌≢◌, ◌⊎◌, ◌∙◌, ◌++◌, List, [], ◌∷◌, Option, None, Some, ap, inl, inr, refl, subst, sym, ℕ}
+use Rattle.std.proofs.Common.{◌≡◌, ◌≢◌, ◌++◌, List, [], ◌∷◌, Option, ap, inl, inr, refl, subst, sym, ℕ}
 use Rattle.std.specs.Global.{Global}
-use Rattle.std.specs.Prelude.{IfErr, IfOk, IfSome, OnOk, Result, Ok, Err, String, alloc_error, map, string_bytes}
+use Rattle.std.specs.Prelude.{IfErr, IfOk, OnOk, Result, Ok, Err, String, alloc_error, map, string_bytes}
 use Rattle.std.specs.Io.KnownBytes.{Appends}
 use Rattle.redraw_command.specs.declared.choice.Form.TheVariants.{Report}
 use Rattle.redraw_command.specs.declared.stop.Stop.{Stop}
 use Rattle.redraw_command.specs.declared.tally.Tally.{Tally}
-use Rattle.annotate_snippets.specs.Fault.{IsWithinBounds, first_refusal}
 use Rattle.annotate_snippets.specs.declared.renderer.Renderer.{Renderer}
 use Rattle.annotate_snippets.specs.declared.renderer.error.RenderError.{RenderError}
 use Rattle.annotate_snippets.specs.declared.renderer.error.RenderError.TheVariants.{Memory}
@@ -26,22 +25,6 @@ use Rattle.redraw_run.specs.Fates.{IsShown}
 use Rattle.redraw_run.specs.declared.draw.Drawing.{Drawing}
 use Rattle.redraw_run.proofs.Doing.{does_as, does_then}
 use Rattle.redraw_run.proofs.Done.{does_refused, does_told, shown_refused}
-use Rattle.snippet_model.specs.Fits.{ReportFits}
-
-by_first : {T : Type 0} (r : Renderer) (groups : List Group) (e : RenderError) → ReportFits groups → (o : Option RenderError) → first_refusal r groups ≡ o
-    → IfSome o (λ refusal. ◌≡◌ {A = Result T RenderError} (Err e) (Err refusal)) → (IsWithinBounds r groups → e ≡ Memory alloc_error)
-    → IsRefusalOf r groups e
-by_first r groups e fits None is same renders = inr (renders record { faultless = is; fits = fits })
-by_first r groups e fits (Some refusal) is same renders =
-    let one : refusal ≡ e = cc same in
-    inl (is ∙ ap (λ (x : RenderError). Some x) one)
-
--- a report that fits is refused for the first reason, or for memory
-pub refusal_by : {T : Type 0} (r : Renderer) (groups : List Group) (result : Result T RenderError) → ReportFits groups
-    → IfSome (first_refusal r groups) (λ refusal. result ≡ Err refusal) → (IsWithinBounds r groups → IfErr result (λ e. e ≡ Memory alloc_error))
-    → IfErr result (IsRefusalOf r groups)
-refusal_by r groups (Ok text) fits refused renders = tt
-refusal_by r groups (Err e) fits refused renders = by_first r groups e fits (first_refusal r groups) refl refused renders
 
 undrawn_by : (r : Renderer) (files : List File) (d : Diagnostic) (finding : Finding) (groups : List Group) (why : RenderError)
     → IsFindingOf record { files = files; home = home_of d.homes.items; is_short = r.short_message } d finding
@@ -50,7 +33,7 @@ undrawn_by r files d finding groups why is told (inl refused) =
     inl record { finding = finding; is = is; groups = groups; told = told; refused = refused }
 undrawn_by r files d finding groups why is told (inr memory) = inr memory
 
--- so is the finding that it reports
+-- where a report is refused, so is the finding that it reports
 pub undrawn_of : {T : Type 0} (r : Renderer) (files : List File) (d : Diagnostic) (finding : Finding) (groups : List Group) (result : Result T RenderError)
     → IsFindingOf record { files = files; home = home_of d.homes.items; is_short = r.short_message } d finding
     → map section_view groups ≡ report_of finding → IfErr result (IsRefusalOf r groups) → IfErr result (IsUndrawn r files d)

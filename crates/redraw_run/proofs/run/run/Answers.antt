@@ -1,4 +1,4 @@
-use Rattle.std.proofs.Common.{List, inl, inr, subst}
+use Rattle.std.proofs.Common.{List, ap, inl, inr, subst}
 use Rattle.clap.specs.Walk.{Row}
 use Rattle.clap.specs.Words.{kind_of}
 use Rattle.redraw_command.specs.Words.{IsRequestOf, words_at}
@@ -27,6 +27,12 @@ returns-in-Err-clause-answers g c =
       is,
       answers_error (held_by g.R.File.Read.remaining g.R.Reader.Read.remaining) app (words_at c.args.words.now) c.args.around (kind_of c.in-Err.error)
           _ _ _ _ c.answer_error.result
-          record { usage_error = ends.usage_error; told = ends.told; memory = ends.memory; asked = ends.asked; printed = ends.printed }
+          record {
+            usage_error = λ help version. let failed = ends.usage_error help version in (failed.0, ap g.W.Write.contents failed.1);
+            told = ends.told;
+            memory = ends.memory;
+            asked = λ shown. ap g.V.Write.contents (ends.asked shown);
+            printed = ends.printed;
+          }
           fails,
     )
