@@ -4,4 +4,5 @@ pub mod Look
 pub mod Seen
 pub mod Tally
 pub mod Told
+pub mod Words
 pub mod Workflow

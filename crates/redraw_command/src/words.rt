@@ -1,5 +1,15 @@
 //! The words of the command line, without the program's name.
 
+ghost use Rattle.std.specs.Prelude.{◌≡◌, codes, false, IfOk};
+ghost use Rattle.clap.specs.Words.{FailsBy, app_of, fault_of, found_of, rows_of, rule_of};
+ghost use Rattle.clap.specs.Walk.{all_of, first_of};
+ghost use Rattle.clap.specs.Simple.{matches_of as rows_for};
+ghost use Rattle.std.specs.Option.{option_and_then};
+ghost use Rattle.redraw_command.specs.Words as spec;
+ghost use Rattle.redraw_command.specs.Words.{IsChoiceOf, IsRedraw, IsRequestOf, flag_rule};
+ghost use Rattle.redraw_command.specs.Words.{flag_rules, inputs_rule, names_at, valued_rule, valued_rules};
+ghost use Rattle.redraw_command.specs.Words.{was_given, when_of, with_rules, word_at, words_at};
+
 use crate::choice::{Choice, Form, Least};
 use crate::terminal::{Look, When};
 use clap::builder::ValueParser;
@@ -29,86 +39,142 @@ const INPUTS: &str =
     "Lines of rustc --error-format=json or of cargo build --message-format=json, or a SARIF 2.1.0 log; \
     - is standard input, which is read where no file is named";
 
-/// The options that stand alone: the name, and what it is for.
-const FLAGS: [(&str, &str); 9] = [
-    ("unicode", "Draw strokes with line-drawing characters"),
-    (
-        "text",
-        "Write reports without graphics, as they are read aloud",
-    ),
-    ("short", "Write each report on one line"),
-    (
-        "github",
-        "Write each finding as a workflow command of GitHub, on one line",
-    ),
-    ("styled", "The same as --color always"),
-    (
-        "links",
-        "Link to the pages that explain errors, where colors are written",
-    ),
-    (
-        "duplicates",
-        "Draw a diagnostic again that cargo reports again",
-    ),
-    ("quiet", "Leave out the line that sums up"),
-    (
-        "confined",
-        "Show no files but those below the folder: for logs from strangers",
-    ),
-];
+/// The words that may stand after `--color`.
+fn color_words() -> &'static [&'static str]
+    ensures words { words_at result.now ≡ spec.color_words }
+{
+    &["auto", "always", "never"]
+}
 
-/// The options that have a value after them: the name, the name of the value, what it has to be, and what it is for.
-const VALUED: [(&str, &str, ValueParser<'static>, &str); 5] = [
-    (
-        "color",
-        "WHEN",
-        ValueParser::Names(&["auto", "always", "never"]),
-        "When colors are written: auto is on a terminal",
-    ),
-    (
-        "width",
-        "COLUMNS",
-        ValueParser::Unsigned(0, u64::MAX),
-        "The width that lines are cut to; else that of COLUMNS, else 140",
-    ),
-    (
-        "root",
-        "DIR",
-        ValueParser::NonEmptyString,
-        "The folder that files are read below, and that paths are shown from",
-    ),
-    (
-        "level",
-        "LEVEL",
-        ValueParser::Names(&["error", "warning", "note"]),
-        "Draw only what is of this level or above",
-    ),
-    (
-        "path",
-        "TEXT",
-        ValueParser::NonEmptyString,
-        "Draw only what lies in files whose paths hold this text",
-    ),
-];
+/// The words that may stand after `--level`.
+fn level_words() -> &'static [&'static str]
+    ensures words { words_at result.now ≡ spec.level_words }
+{
+    &["error", "warning", "note"]
+}
 
 /// The command, with a line of help for each option.
-fn command<'a>(alloc: Global) -> Result<Command<'a>, AllocError> {
-    let mut command = Command::new(alloc, "redraw")
+fn command<'a>(alloc: Global) -> Result<Command<'a>, AllocError>
+    ensures app { IfOk result (λ command. IsRedraw (app_of command)) }
+{
+    let command = Command::new(alloc, "redraw")
         .about(ABOUT)
         .version("1.0.0")
         .no_binary_name(true)
         .args_override_self(true);
-    for (name, help) in FLAGS {
-        command = command.arg(flag(alloc, name, help))?;
-    }
-    for (name, value, parser, help) in VALUED {
-        command = command.arg(valued(alloc, name, value, parser, help))?;
-    }
-    command.arg(inputs(alloc))
+    let flagged = with_flags(alloc, command)?;
+    let valued = with_values(alloc, flagged)?;
+    let whole = valued.arg(inputs(alloc))?;
+    Ok(whole)
+}
+
+/// A command with the options that stand alone.
+fn with_flags<'a>(alloc: Global, command: Command<'a>) -> Result<Command<'a>, AllocError>
+    ensures app { IfOk result (λ added. app_of added ≡ with_rules (app_of command.entry) flag_rules) }
+{
+    let unicode = flag(
+        alloc,
+        "unicode",
+        "Draw strokes with line-drawing characters",
+    );
+    let text = flag(
+        alloc,
+        "text",
+        "Write reports without graphics, as they are read aloud",
+    );
+    let short = flag(alloc, "short", "Write each report on one line");
+    let github = flag(
+        alloc,
+        "github",
+        "Write each finding as a workflow command of GitHub, on one line",
+    );
+    let styled = flag(alloc, "styled", "The same as --color always");
+    let links = flag(
+        alloc,
+        "links",
+        "Link to the pages that explain errors, where colors are written",
+    );
+    let duplicates = flag(
+        alloc,
+        "duplicates",
+        "Draw a diagnostic again that cargo reports again",
+    );
+    let quiet = flag(alloc, "quiet", "Leave out the line that sums up");
+    let confined = flag(
+        alloc,
+        "confined",
+        "Show no files but those below the folder: for logs from strangers",
+    );
+    let flagged = command
+        .arg(unicode)?
+        .arg(text)?
+        .arg(short)?
+        .arg(github)?
+        .arg(styled)?
+        .arg(links)?
+        .arg(duplicates)?
+        .arg(quiet)?
+        .arg(confined)?;
+    Ok(flagged)
+}
+
+/// A command with the options that have a value after them.
+fn with_values<'a>(alloc: Global, command: Command<'a>) -> Result<Command<'a>, AllocError>
+    ensures app { IfOk result (λ added. (colors levels : _) × (words_at colors.now ≡ spec.color_words)
+        × (words_at levels.now ≡ spec.level_words)
+        × (app_of added ≡ with_rules (app_of command.entry) (valued_rules colors levels))) }
+{
+    let colors = color_words();
+    let levels = level_words();
+    let color = valued(
+        alloc,
+        "color",
+        "WHEN",
+        ValueParser::Names(colors),
+        "When colors are written: auto is on a terminal",
+    );
+    let width = valued(
+        alloc,
+        "width",
+        "COLUMNS",
+        ValueParser::Unsigned(0, u64::MAX),
+        "The width that lines are cut to; else that of COLUMNS, else 140",
+    );
+    let root = valued(
+        alloc,
+        "root",
+        "DIR",
+        ValueParser::NonEmptyString,
+        "The folder that files are read below, and that paths are shown from",
+    );
+    let level = valued(
+        alloc,
+        "level",
+        "LEVEL",
+        ValueParser::Names(levels),
+        "Draw only what is of this level or above",
+    );
+    let path = valued(
+        alloc,
+        "path",
+        "TEXT",
+        ValueParser::NonEmptyString,
+        "Draw only what lies in files whose paths hold this text",
+    );
+    let valued = command
+        .arg(color)?
+        .arg(width)?
+        .arg(root)?
+        .arg(level)?
+        .arg(path)?;
+    Ok(valued)
 }
 
 /// An option that stands alone.
-fn flag<'a>(alloc: Global, name: &'a str, help: &'a str) -> Arg<'a> {
+fn flag<'a>(alloc: Global, name: &'a str, help: &'a str) -> Arg<'a>
+    ensures rule { rule_of result ≡ flag_rule name.entry.now }
+    ensures local { result.global ≡ false }
+{
     Arg::new(alloc, name)
         .long(name)
         .help(help)
@@ -122,7 +188,10 @@ fn valued<'a>(
     value: &'a str,
     parser: ValueParser<'a>,
     help: &'a str,
-) -> Arg<'a> {
+) -> Arg<'a>
+    ensures rule { rule_of result ≡ valued_rule name.entry.now parser.entry }
+    ensures local { result.global ≡ false }
+{
     Arg::new(alloc, name)
         .long(name)
         .value_name(value)
@@ -132,7 +201,10 @@ fn valued<'a>(
 }
 
 /// The files.
-fn inputs<'a>(alloc: Global) -> Arg<'a> {
+fn inputs<'a>(alloc: Global) -> Arg<'a>
+    ensures rule { rule_of result ≡ inputs_rule }
+    ensures local { result.global ≡ false }
+{
     Arg::new(alloc, "inputs")
         .value_name("FILE")
         .help(INPUTS)
@@ -142,67 +214,121 @@ fn inputs<'a>(alloc: Global) -> Arg<'a> {
 
 /// What the words are matched with, or what is to be told in place of that: what is wrong with them, the help or the
 /// version.
-pub fn matches_of<'a>(alloc: Global, words: &'a [&'a str]) -> Result<ArgMatches<'a>, Error> {
+pub fn matches_of<'a>(alloc: Global, words: &'a [&'a str]) -> Result<ArgMatches<'a>, Error>
+    ensures matches { (app : _) × IsRedraw app × FailsBy (fault_of app (words_at words.now)) result
+        × IfOk result (λ matches. rows_of (found_of matches) ≡ rows_for app (words_at words.now)) }
+{
     let command = command(alloc)?;
     command.try_get_matches_from(words)
 }
 
 /// What the words that are matched ask for.
-pub fn request_of<'w, 'a>(matches: &'w ArgMatches<'a>) -> Request<'w, 'a> {
+pub fn request_of<'w, 'a>(matches: &'w ArgMatches<'a>) -> Request<'w, 'a>
+    ensures asked { IsRequestOf (rows_of (found_of matches.now)) result }
+{
     Request {
         look: look_of(matches),
-        root: matches.get_str("root"),
-        is_confined: matches.get_flag("confined"),
+        root: word_after(matches, "root"),
+        is_confined: has(matches, "confined"),
         choice: choice_of(matches),
-        inputs: matches.get_strs("inputs"),
+        inputs: inputs_of(matches),
     }
+}
+
+/// Whether an option that stands alone was given.
+fn has(matches: &ArgMatches<'_>, name: &str) -> bool
+    ensures value { result ≡ was_given name.now (rows_of (found_of matches.now)) }
+{
+    match matches.get_str(name) {
+        Some(value) => value == "true",
+        None => false,
+    }
+}
+
+/// The word after an option, if that was given.
+fn word_after<'a>(matches: &ArgMatches<'a>, name: &str) -> Option<&'a str>
+    ensures value { word_at result ≡ first_of name.now (rows_of (found_of matches.now)) }
+{
+    matches.get_str(name)
+}
+
+/// The files that were named, if some were.
+fn inputs_of<'w, 'a>(matches: &'w ArgMatches<'a>) -> Option<&'w [&'a str]>
+    ensures value { names_at result ≡ all_of (codes "inputs") (rows_of (found_of matches.now)) }
+{
+    matches.get_strs("inputs")
 }
 
 /// How reports are to look.
-fn look_of(matches: &ArgMatches<'_>) -> Look {
+fn look_of(matches: &ArgMatches<'_>) -> Look
+    ensures value { result ≡ spec.look_of (rows_of (found_of matches.now)) }
+{
+    let color = word_after(matches, "color");
+    let width = word_after(matches, "width");
     Look {
-        unicode: matches.get_flag("unicode"),
-        text: matches.get_flag("text"),
-        short: matches.get_flag("short"),
-        colors: colors_of(matches),
-        links: matches.get_flag("links"),
-        width: matches.get_one::<usize>("width"),
+        unicode: has(matches, "unicode"),
+        text: has(matches, "text"),
+        short: has(matches, "short"),
+        colors: colors_of(color, has(matches, "styled")),
+        links: has(matches, "links"),
+        width: width_of(width),
     }
 }
 
-/// When colors are to be written.
-fn colors_of(matches: &ArgMatches<'_>) -> When {
-    match matches.get_str("color") {
+/// When colors are to be written, by the word that says when, and whether they always are where none does.
+fn colors_of(word: Option<&str>, is_styled: bool) -> When
+    ensures value { result ≡ when_of (word_at word.entry) is_styled }
+{
+    match word {
         Some("always") => When::Always,
         Some("never") => When::Never,
-        _ => {
-            if matches.get_flag("styled") {
-                When::Always
-            } else {
-                When::Auto
-            }
-        }
+        _ => { if is_styled { When::Always } else { When::Auto } }
     }
+}
+
+/// The width that lines are cut to, if one is given.
+fn width_of(word: Option<&str>) -> Option<usize>
+    ensures value { result ≡ option_and_then spec.number_of (word_at word.entry) }
+{
+    number_of(word?)
+}
+
+/// The number that a word of decimal digits writes; `None` for another word, and where the number doesn't fit.
+fn number_of(word: &str) -> Option<usize>
+    ensures value { result ≡ spec.number_of word.now }
+{
+    word.parse().ok()
 }
 
 /// Which findings are to be drawn, and in which form.
-fn choice_of<'a>(matches: &ArgMatches<'a>) -> Choice<'a> {
+fn choice_of<'a>(matches: &ArgMatches<'a>) -> Choice<'a>
+    ensures asked { IsChoiceOf (rows_of (found_of matches.now)) result }
+{
     Choice {
-        form: if matches.get_flag("github") {
-            Form::Workflow
-        } else {
-            Form::Report
-        },
-        least: least_of(matches),
-        path: matches.get_str("path"),
-        has_duplicates: matches.get_flag("duplicates"),
-        is_quiet: matches.get_flag("quiet"),
+        form: form_of(has(matches, "github")),
+        least: least_of(word_after(matches, "level")),
+        path: word_after(matches, "path"),
+        has_duplicates: has(matches, "duplicates"),
+        is_quiet: has(matches, "quiet"),
     }
 }
 
-/// The least level that is to be drawn.
-fn least_of(matches: &ArgMatches<'_>) -> Least {
-    match matches.get_str("level") {
+/// The form of what is drawn.
+fn form_of(is_github: bool) -> Form
+    ensures value { result ≡ spec.form_of is_github }
+{
+    if is_github {
+        Form::Workflow
+    } else {
+        Form::Report
+    }
+}
+
+/// The least level that is to be drawn, by the word that names it.
+fn least_of(word: Option<&str>) -> Least
+    ensures value { result ≡ spec.least_of (word_at word.entry) }
+{
+    match word {
         Some("error") => Least::Error,
         Some("warning") => Least::Warning,
         _ => Least::Any,

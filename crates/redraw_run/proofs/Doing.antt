@@ -14,7 +14,7 @@ use Rattle.redraw_command.specs.declared.stop.Stop.TheVariants.{Memory, Unwritab
 use Rattle.redraw_command.specs.declared.tally.Tally.{Tally}
 use Rattle.redraw_report.specs.declared.diagnostic.Severity.{Severity}
 use Rattle.redraw_report.specs.declared.diagnostic.Severity.TheVariants.{Error, Warning, Info, Note, Help, Plain}
-use Rattle.redraw_run.specs.Deeds.{State, Deed, Drawn, Commanded, HandedOn, Told, LeftOut, Repeated, BuildFailed, AreDeeds, printed, told}
+use Rattle.redraw_run.specs.Deeds.{State, Deed, Drawn, Commanded, HandedOn, Told, Refused, LeftOut, Repeated, BuildFailed, AreDeeds, printed, told}
 use Rattle.redraw_run.specs.Deeds.{tally_after, tally_by, with_files, Does, AppendsFirst, IsCutShort, IsPart, Stops, Goes}
 use Rattle.redraw_run.specs.Fates.{AreNone, Then}
 
@@ -37,6 +37,7 @@ files_after (Drawn d text) t f = files_tallied d.severity (is_sum d) t f
 files_after (Commanded d line) t f = files_tallied d.severity (is_sum d) t f
 files_after (HandedOn line) t f = refl
 files_after (Told part) t f = refl
+files_after (Refused d why) t f = refl
 files_after LeftOut t f = refl
 files_after Repeated t f = refl
 files_after BuildFailed t f = refl
@@ -191,27 +192,24 @@ cut_then {P} {Q} {a} {b} {c} p q =
       err = added_then told a.err b.err c.err p.deeds q.deeds p.err q.err;
     }
 
--- what is done may be all that is done before it stops
-pub stops_any : {P : Choice → List Deed → Type 0} {a b : State} (s : Stop) → Does P a b → Stops s P a b
-stops_any Memory p = p
-stops_any (Unwritable error) p = cut_all p
-stops_any (Unreadable error) p = p
-stops_any Utf16 p = p
+-- what is done may be all that is done before there is no memory
+pub stops_any : {P : Choice → List Deed → Type 0} {a b : State} (s : Stop) → s ≡ Memory → Does P a b → Stops s P a b
+stops_any {P} {a} {b} s is p = subst (λ (t : Stop). Stops t P a b) (sym is) p
 
 -- the same by a wider kind
 pub stops_as : (P Q : Choice → List Deed → Type 0) (a b : State) (s : Stop) → ((ds : List Deed) → P a.choice ds → Q a.choice ds) → Stops s P a b
     → Stops s Q a b
 stops_as P Q a b Memory f p = does_as f p
 stops_as P Q a b (Unwritable error) f p = cut_as f p
-stops_as P Q a b (Unreadable error) f p = does_as f p
-stops_as P Q a b Utf16 f p = does_as f p
+stops_as P Q a b (Unreadable error) f p = absurd p
+stops_as P Q a b Utf16 f p = absurd p
 
 -- what is done, and then what is done up to where it stops
 pub stops_then : (P Q : Choice → List Deed → Type 0) (a b c : State) (s : Stop) → Does P a b → Stops s Q b c → Stops s (Then P Q) a c
 stops_then P Q a b c Memory p q = does_then p q
 stops_then P Q a b c (Unwritable error) p q = cut_then p q
-stops_then P Q a b c (Unreadable error) p q = does_then p q
-stops_then P Q a b c Utf16 p q = does_then p q
+stops_then P Q a b c (Unreadable error) p q = absurd q
+stops_then P Q a b c Utf16 p q = absurd q
 
 -- the same, be it to the end or up to where it stops
 pub goes_as : {T : Type 0} (P Q : Choice → List Deed → Type 0) (a b : State) (r : Result T Stop) → ((ds : List Deed) → P a.choice ds → Q a.choice ds)
@@ -226,12 +224,12 @@ goes_then P Q a b c (Err s) q p g =
     stops_as (Then P (IsPart Q)) (IsPart (Then P Q)) a c s (λ ds h. part_then a.choice ds (q a.choice) h) (stops_then P (IsPart Q) a b c s p g)
 
 -- nothing is done before it stops
-pub stops_none : (P : Choice → List Deed → Type 0) {a b : State} (s : Stop) → Does AreNone a b → Stops s (IsPart P) a b
-stops_none P s p = stops_any s (does_as (λ ds none. record { is = inl none }) p)
+pub stops_none : (P : Choice → List Deed → Type 0) {a b : State} (s : Stop) → s ≡ Memory → Does AreNone a b → Stops s (IsPart P) a b
+stops_none P s is p = stops_any s is (does_as (λ ds none. record { is = inl none }) p)
 
 -- all of some things are done before it stops
-pub stops_all : {P : Choice → List Deed → Type 0} {a b : State} (s : Stop) → Does P a b → Stops s (IsPart P) a b
-stops_all {P} {a} {b} s p = stops_any s (does_as (part_all a.choice) p)
+pub stops_all : {P : Choice → List Deed → Type 0} {a b : State} (s : Stop) → s ≡ Memory → Does P a b → Stops s (IsPart P) a b
+stops_all {P} {a} {b} s is p = stops_any s is (does_as (part_all a.choice) p)
 
 -- what is an error goes as it stops
 pub goes_err : {T : Type 0} {Q : Stop → Type 0} (P : Choice → List Deed → Type 0) (a b : State) (r : Result T Stop) → IsErrAnd r Q

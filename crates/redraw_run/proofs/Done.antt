@@ -1,11 +1,14 @@
 -- One thing that is done.
-use Rattle.std.proofs.Common.{◌≡◌, ◌||◌, ℕ, Bool, true, false, List, [], ◌∷◌, ◌++◌, Option, Some, refl, ap, sym, ◌∙◌, subst, inl, inr, append_assoc}
+use Rattle.std.proofs.Common.{◌≡◌, ◌||◌, ◌<◌, ◌==◌, ◌≤◌, ℕ, Bool, arith, suc, zero, true, false, List, [], ◌∷◌, ◌++◌, Option, Some, refl, ap, sym}
+use Rattle.std.proofs.Common.{◌∙◌, subst, inl, inr, append_assoc}
 use Rattle.std.proofs.Common.{ap₂, append-nil, drop, take, take-append-drop}
-use Rattle.std.specs.Prelude.{Result, Ok, Err, IfOk, OnOk}
+use Rattle.std.specs.Prelude.{Result, Ok, Err, IfErr, IfOk, OnOk}
 use Rattle.std.specs.Io.KnownBytes.{Appends, Keeps}
 use Rattle.std.specs.List.{concat, flat_map}
+use Rattle.std.proofs.Math.Dec.{eqb-suc-zero}
 use Rattle.std.proofs.KnownBytes.{Appends-kept, Appends-nil, Appends-trans}
 use Rattle.annotate_snippets.specs.declared.renderer.Renderer.{Renderer}
+use Rattle.annotate_snippets.specs.declared.renderer.error.RenderError.{RenderError}
 use Rattle.program.specs.Stream.{AppendsPart}
 use Rattle.redraw_command.specs.Tally.{is_empty, one_more}
 use Rattle.redraw_command.specs.Told.{Tells}
@@ -17,11 +20,11 @@ use Rattle.redraw_command.specs.declared.stop.Stop.TheVariants.{Memory, Unwritab
 use Rattle.redraw_command.specs.declared.tally.Tally.{Tally}
 use Rattle.redraw_read.specs.declared.sources.File.{File}
 use Rattle.redraw_report.specs.declared.diagnostic.Diagnostic.{Diagnostic}
-use Rattle.redraw_run.specs.Deeds.{State, Deed, Drawn, Commanded, HandedOn, Told, LeftOut, Repeated, BuildFailed, AreDeeds, AreTold, TellsAll, printed}
+use Rattle.redraw_run.specs.Deeds.{State, Deed, Drawn, Commanded, HandedOn, Told, Refused, LeftOut, Repeated, BuildFailed, AreDeeds, AreTold, TellsAll, printed}
 use Rattle.redraw_run.specs.Deeds.{told}
-use Rattle.redraw_run.specs.Deeds.{tally_by, with_files, repeated, Does, AppendsFirst, IsCutShort, IsUnwritable, Writes, Stops}
+use Rattle.redraw_run.specs.Deeds.{left_out, tally_by, with_files, repeated, Does, AppendsFirst, IsCutShort, IsUnwritable, Writes, Stops}
 use Rattle.redraw_run.specs.Deeds.{Goes}
-use Rattle.redraw_run.specs.DrawnFinding.{IsCounted, ShowsFinding, ending_after}
+use Rattle.redraw_run.specs.DrawnFinding.{IsCounted, RefusesFinding, ShowsFinding, ending_after}
 use Rattle.redraw_run.specs.ReadLines.{SumsUp, TellsUnless}
 use Rattle.redraw_run.specs.Fates.{AreMessages, AreNone, IsFailed, IsHandedOn, LeavesOut, IsRepeated, IsShown, IsTelling, IsWritten, IsWrong, Then}
 use Rattle.redraw_run.proofs.Doing.{does_as, does_then, first_more, first_then}
@@ -129,6 +132,29 @@ tells_then {a} {b} {c} p q =
       told = are_told_both p.parts q.parts p.told q.told;
       added = subst (Appends a c) (sym (concat_both p.parts q.parts)) (Appends-trans a b c (concat p.parts) (concat q.parts) p.added q.added);
     }
+
+-- the report of a finding is refused
+abbrev pub IsRefused : Diagnostic → RenderError → Choice → List Deed → Type 0
+IsRefused d why c deeds = deeds ≡ Refused d why ∷ []
+
+pub does_refused : {a b : State} (d : Diagnostic) (why : RenderError) (files : List File) → a.choice.form ≡ Report → RefusesFinding a.renderer files d why
+    → b.out ≡ a.out → b.err ≡ a.err → b.tally ≡ left_out a.tally → b.renderer ≡ a.renderer → b.choice ≡ a.choice → Does (IsRefused d why) a b
+does_refused {a} {b} d why files form refuses out err tally renderer choice =
+    record {
+      deeds = Refused d why ∷ [];
+      are = ((form, files, refuses), tt);
+      fit = refl;
+      out = same_appends a.out b.out out;
+      err = same_appends a.err b.err err;
+      tally = tally_is b.tally (left_out a.tally) tally;
+      renderer = renderer;
+      choice = choice;
+    }
+
+-- and that is told
+pub shown_refused : (d : Diagnostic) (why : RenderError) (c : Choice) (ds : List Deed) → Then (IsRefused d why) IsTelling c ds → IsShown d c ds
+shown_refused d why c ds h =
+    subst (IsShown d c) (sym (h.split ∙ ap₂ (λ (x y : List Deed). x ++ y) h.first h.next.1)) (refl, (h.next.0, refl))
 
 -- a part of the input is left out
 pub does_left_out : {a b : State} → b.out ≡ a.out → b.err ≡ a.err → b.tally ≡ record a.tally { wrong = one_more a.tally.wrong }
@@ -293,6 +319,9 @@ writes_cut a b bs cs whole is p = subst (AppendsFirst a b) (sym is) (first_more 
 pub at_ok : {T E : Type 0} (r : Result T E) (t : T) (P : T → Type 0) → r ≡ Ok t → IfOk r P → P t
 at_ok r t P is h = subst (λ m. IfOk m P) is h
 
+pub at_err : {T E : Type 0} (r : Result T E) (e : E) (P : E → Type 0) → r ≡ Err e → IfErr r P → P e
+at_err r e P is h = subst (λ m. IfErr m P) is h
+
 -- the bytes of a text with what stands after it
 pub ended : (t u e f : List ℕ) → t ≡ u → e ≡ f → t ++ (e ++ 10 ∷ []) ≡ u ++ (f ++ 10 ∷ [])
 ended t u e f is end = ap (λ (l : List ℕ). l ++ (e ++ 10 ∷ [])) is ∙ ap (λ (l : List ℕ). u ++ (l ++ 10 ∷ [])) end
@@ -308,3 +337,12 @@ sums_nothing is_quiet t a is = subst (λ (b : Bool). TellsUnless b a a) (sym is)
 
 pub sums_by_one : (is_quiet : Bool) (t : Tally) (a b : Option (List ℕ)) → (is_quiet || is_empty t) ≡ false → Tells a b → SumsUp is_quiet t a b
 sums_by_one is_quiet t a b is told = subst (λ (none : Bool). TellsUnless none a b) (sym is) told
+
+-- a count is told, unless it is nothing
+pub count_told : (n : ℕ) (a b : Option (List ℕ)) → 0 < n → Tells a b → TellsUnless (n == 0) a b
+count_told zero a b some t = absurd (omega (arith, some))
+count_told (suc n) a b some t = subst (λ (is : Bool). TellsUnless is a b) (sym (eqb-suc-zero n)) t
+
+pub count_untold : (n : ℕ) (a b : Option (List ℕ)) → n ≤ 0 → b ≡ a → TellsUnless (n == 0) a b
+count_untold zero a b none same = same
+count_untold (suc n) a b none same = absurd (omega (arith, none))

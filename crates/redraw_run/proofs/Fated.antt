@@ -3,7 +3,7 @@ use Rattle.std.proofs.Common.{◌≡◌, ◌++◌, ◌∙◌, ℕ, List, [], ◌
 use Rattle.serde_json.specs.Data.{Data, null}
 use Rattle.redraw_command.specs.declared.choice.Choice.{Choice}
 use Rattle.redraw_report.specs.declared.diagnostic.Diagnostic.{Diagnostic}
-use Rattle.redraw_run.specs.Deeds.{Deed, Drawn, Commanded, HandedOn, Told, LeftOut, Repeated, BuildFailed, IsPart}
+use Rattle.redraw_run.specs.Deeds.{Deed, Drawn, Commanded, HandedOn, Told, Refused, LeftOut, Repeated, BuildFailed, IsPart}
 use Rattle.redraw_run.specs.Fates.{AreMessages, AreNone, AreResults, AreRuns, Each, IsChosen, IsFound, IsHandedOn, IsKnown, IsRepeated}
 use Rattle.redraw_run.specs.Fates.{IsResult, IsRun, IsShown}
 use Rattle.redraw_run.specs.Fates.{IsUnknown, IsWrong, Then}
@@ -52,6 +52,7 @@ shown_after d c (Told part ∷ ds) es m h = shown_after d c ds es m h
 shown_after d c (Drawn f t ∷ ds) es m h = absurd m
 shown_after d c (Commanded f l ∷ ds) es m h = absurd m
 shown_after d c (HandedOn l ∷ ds) es m h = absurd m
+shown_after d c (Refused f w ∷ ds) es m h = absurd m
 shown_after d c (LeftOut ∷ ds) es m h = absurd m
 shown_after d c (Repeated ∷ ds) es m h = absurd m
 shown_after d c (BuildFailed ∷ ds) es m h = absurd m
@@ -59,12 +60,8 @@ shown_after d c (BuildFailed ∷ ds) es m h = absurd m
 pub shown_then : (d : Diagnostic) (c : Choice) (ds : List Deed) → Then AreMessages (IsShown d) c ds → IsShown d c ds
 shown_then d c ds h = subst (IsShown d c) (sym h.split) (shown_after d c h.before h.after h.first h.next)
 
--- one that is left out as wrong is shown so
-pub shown_wrong : (d : Diagnostic) (c : Choice) (ds : List Deed) → IsWrong c ds → IsShown d c ds
-shown_wrong d c ds h = subst (IsShown d c) (sym h.1) (h.0, refl)
-
 pub shown_some : (d : Diagnostic) (c : Choice) → (es : List Deed) × IsShown d c es
-shown_some d c = (LeftOut ∷ Told [] ∷ [], ([], refl))
+shown_some d c = (Drawn d [] ∷ [], (refl, refl))
 
 -- messages before a finding is shown are a part of that
 pub shown_part : (d : Diagnostic) (c : Choice) (ds : List Deed) → AreMessages c ds → IsPart (IsShown d) c ds
@@ -77,6 +74,7 @@ messages_after c (Told part ∷ ds) es m h = messages_after c ds es m h
 messages_after c (Drawn f t ∷ ds) es m h = absurd m
 messages_after c (Commanded f l ∷ ds) es m h = absurd m
 messages_after c (HandedOn l ∷ ds) es m h = absurd m
+messages_after c (Refused f w ∷ ds) es m h = absurd m
 messages_after c (LeftOut ∷ ds) es m h = absurd m
 messages_after c (Repeated ∷ ds) es m h = absurd m
 messages_after c (BuildFailed ∷ ds) es m h = absurd m

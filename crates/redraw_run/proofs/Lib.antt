@@ -1,8 +1,12 @@
-pub mod NotDrawn
-pub mod NotRun
+pub mod Asking
 pub mod Doing
 pub mod Done
 pub mod Fated
-pub mod Lined
 pub mod Gone
+pub mod Lined
 pub mod Named
+pub mod NotDrawn
+pub mod NotRead
+pub mod NotRefused
+pub mod NotRun
+pub mod Refusing

@@ -12,6 +12,7 @@ use Rattle.serde_json.specs.Data.{Data}
 use Rattle.redraw_command.specs.Line.{IsUnmarked, begins_object, first_of}
 use Rattle.redraw_command.specs.declared.choice.Choice.{Choice}
 use Rattle.redraw_command.specs.declared.stop.Stop.{Stop}
+use Rattle.redraw_command.specs.declared.stop.Stop.TheVariants.{Memory}
 use Rattle.redraw_run.specs.Deeds.{State, Deed, Does, Goes, IsPart, Stops}
 use Rattle.redraw_run.specs.Fates.{Advances, AreNone, Each, IsDocumentLine, IsHandedOn, IsInput, IsLast, IsLine, IsNext, IsNextIn}
 use Rattle.redraw_run.specs.Fates.{IsNoValue, IsObject, IsOpen, IsSoFar, IsValue, Reads, document_of, IsTelling, IsTextOf, IsWhole, IsWithoutEnd, IsWrong}
@@ -134,38 +135,40 @@ advances_alone (Err s) line old new a b was is g =
 
 -- a line of a document is taken
 pub advances_document : {T : Type 0} (r : Result T Stop) (line document : List ℕ) (old new : Option (List ℕ)) (a b : State) → old ≡ Some document
-    → OnOk r (new ≡ Some (document ++ line)) → Does (IsDocumentLine line) a b → Advances r line old new a b
-advances_document (Ok x) line document old new a b was is d =
+    → OnOk r (new ≡ Some (document ++ line)) → IfErr r (λ s. s ≡ Memory) → Does (IsDocumentLine line) a b → Advances r line old new a b
+advances_document (Ok x) line document old new a b was is for d =
     subst (λ (o : Option (List ℕ)). Does (IsNext line o new) a b) (sym was)
     (subst (λ (o : Option (List ℕ)). Does (IsNext line (Some document) o) a b) (sym is) (does_as (λ ds h. (refl, h)) d))
-advances_document (Err s) line document old new a b was is d =
-    subst (λ (o : Option (List ℕ)). Stops s (IsPart (IsNextIn line o)) a b) (sym was) (stops_all s d)
+advances_document (Err s) line document old new a b was is for d =
+    subst (λ (o : Option (List ℕ)). Stops s (IsPart (IsNextIn line o)) a b) (sym was) (stops_all s for d)
 
 -- a line with this text, by what becomes of that
 pub line_as : (line text : List ℕ) (c : Choice) (ds : List Deed) → IsTextOf line text → begins_object text ≡ true → IsObject line text c ds → IsLine line c ds
 line_as line text c ds is begins h = (text, is, inr (begins, h))
 
 goes_wrong : {T : Type 0} (r : Result T Stop) (line text : List ℕ) (a b : State) → IsTextOf line text → begins_object text ≡ true → IsNoValue text
-    → Does IsWrong a b → Goes r (IsLine line) a b
-goes_wrong (Ok x) line text a b is begins none d = does_as (λ ds h. line_as line text a.choice ds is begins (inl (none, inl h))) d
-goes_wrong (Err s) line text a b is begins none d = stops_all s (does_as (λ ds h. line_as line text a.choice ds is begins (inl (none, inl h))) d)
+    → IfErr r (λ s. s ≡ Memory) → Does IsWrong a b → Goes r (IsLine line) a b
+goes_wrong (Ok x) line text a b is begins none for d = does_as (λ ds h. line_as line text a.choice ds is begins (inl (none, inl h))) d
+goes_wrong (Err s) line text a b is begins none for d =
+    stops_all s for (does_as (λ ds h. line_as line text a.choice ds is begins (inl (none, inl h))) d)
 
 -- a line that is no value
 pub advances_open : {T : Type 0} (r : Result T Stop) (line text : List ℕ) (old new : Option (List ℕ)) (a b : State) → IsTextOf line text
-    → begins_object text ≡ true → IsNoValue text → old ≡ None → LeavesOpen r text old new a b → Advances r line old new a b
-advances_open r line text old new a b is begins none was (inl h) =
-    advances_alone r line old new a b was (h.0 ∙ was) (goes_wrong r line text a b is begins none h.1)
-advances_open (Ok x) line text old new a b is begins none was (inr h) =
+    → begins_object text ≡ true → IsNoValue text → old ≡ None → IfErr r (λ s. s ≡ Memory) → LeavesOpen r text old new a b
+    → Advances r line old new a b
+advances_open r line text old new a b is begins none was for (inl h) =
+    advances_alone r line old new a b was (h.0 ∙ was) (goes_wrong r line text a b is begins none for h.1)
+advances_open (Ok x) line text old new a b is begins none was for (inr h) =
     subst (λ (o : Option (List ℕ)). Does (IsNext line o new) a b) (sym was)
     (subst (λ (o : Option (List ℕ)). Does (IsNext line None o) a b) (sym h.0)
     (does_as (λ ds empty. (record { is = is; begins = begins; ends_later = none }, empty)) h.1))
-advances_open (Err s) line text old new a b is begins none was (inr h) = stops_none (IsNextIn line old) s h.1
+advances_open (Err s) line text old new a b is begins none was for (inr h) = stops_none (IsNextIn line old) s for h.1
 
 -- it stops before anything is done
-pub advances_err : {T : Type 0} (r : Result T Stop) (line : List ℕ) (old new : Option (List ℕ)) (a b : State) → IsErr r
-    → Does AreNone a b → Advances r line old new a b
-advances_err (Ok x) line old new a b is d = cc is
-advances_err (Err s) line old new a b is d = stops_none (IsNextIn line old) s d
+pub advances_err : {T : Type 0} (r : Result T Stop) (line : List ℕ) (old new : Option (List ℕ)) (a b : State)
+    → IsErrAnd r (λ s. s ≡ Memory) → Does AreNone a b → Advances r line old new a b
+advances_err (Ok x) line old new a b is d = absurd is
+advances_err (Err s) line old new a b is d = stops_none (IsNextIn line old) s is d
 
 -- nothing is said of what isn't there at an error
 pub on_ok_err : {T E : Type 0} (P : Type 0) (r : Result T E) → IsErr r → OnOk r P
@@ -284,6 +287,11 @@ takes_none false old new line none h = h
 pub if_err_on : {T : Type 0} (K : Stop → Type 0) (x : Stop) (r : Result T Stop) → IsErrAnd r (λ s. s ≡ x) → K x → IfErr r K
 if_err_on K x (Ok done) is k = tt
 if_err_on K x (Err s) is k = subst K (sym is) k
+
+-- where it stops for want of memory
+pub for_memory : {T : Type 0} (r : Result T Stop) → IsErrAnd r (λ s. s ≡ Memory) → IfErr r (λ s. s ≡ Memory)
+for_memory (Ok done) is = tt
+for_memory (Err s) is = is
 
 -- a text without a line feed, and then without a carriage return
 pub end_cut : (text middle rest : List ℕ) → (text ≡ middle) ⊎ (text ≡ middle ++ 10 ∷ []) → (middle ≡ rest) ⊎ (middle ≡ rest ++ 13 ∷ [])

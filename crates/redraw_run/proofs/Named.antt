@@ -1,9 +1,9 @@
 -- The names of inputs, up to one of them.
 use Rattle.std.proofs.Common.{◌≡◌, ◌+◌, ◌<◌, ◌++◌, ◌==◌, false, true, ℕ, zero, suc, Bor, List, [], ◌∷◌, ap, arith, length, map, refl}
-use Rattle.std.proofs.Common.{slice_index_or, take}
+use Rattle.std.proofs.Common.{bytes_eq, slice_index_or, subst, take}
 use Rattle.std.proofs.Math.Dec.{eqb-suc-zero}
 use Rattle.std.proofs.lemmas.List.{map_more, take_all}
-use Rattle.redraw_run.specs.Run.{given_names, standard}
+use Rattle.redraw_run.specs.Inputs.{given_names, standard}
 
 -- the texts of names
 abbrev pub texts : List (Bor (List ℕ)) → List (List ℕ)
@@ -28,10 +28,16 @@ given_none [] h = refl
 given_none (n ∷ names) h = let e = eqb-suc-zero (length names) in cc (h, e)
 
 -- the names before a place, the one there, and those after it
-pub texts_split : (names : List (Bor (List ℕ))) (i : ℕ) → i < length names
-    → (name : List ℕ) × (after : List (List ℕ)) × (texts names ≡ texts (take i names) ++ name ∷ after)
-texts_split [] i within = absurd (omega (arith, within))
-texts_split (n ∷ names) zero within = (n.now, texts names, refl)
-texts_split (n ∷ names) (suc i) within =
-    let (name, after, split) = texts_split names i (omega (arith, within)) in
-    (name, after, ap (λ (l : List (List ℕ)). n.now ∷ l) split)
+pub texts_split : (names : List (Bor (List ℕ))) (i : ℕ) (d : Bor (List ℕ)) → i < length names
+    → (after : List (List ℕ)) × (texts names ≡ texts (take i names) ++ (slice_index_or names i d).now ∷ after)
+texts_split [] i d within = absurd (omega (arith, within))
+texts_split (n ∷ names) zero d within = (texts names, refl)
+texts_split (n ∷ names) (suc i) d within =
+    let (after, split) = texts_split names i d (omega (arith, within)) in
+    (after, ap (λ (l : List (List ℕ)). n.now ∷ l) split)
+
+-- a name that isn't that of standard input
+pub not_standard : (name : List ℕ) → bytes_eq name standard ≡ false → name ≡ standard → ⊥
+not_standard name differ same =
+    let none : bytes_eq standard standard ≡ false = subst (λ (n : List ℕ). bytes_eq n standard ≡ false) same differ in
+    cc none

@@ -44,7 +44,7 @@ before_last (x ∷ xs) (y ∷ ys) a b c d same = before_last xs ys a b c d (ap (
 -- no empty line after a report: it ends with a line feed alone, here `error: e`
 pub no_line_after : (r : Renderer) (files : List File) (d : Diagnostic) (before after : Tally) → r.short_message ≡ false → d.severity ≡ Error
     → Draws Report r files d (Some []) (Some (codes "error: " ++ 101 ∷ 10 ∷ [])) (Some (codes "error: " ++ 101 ∷ 10 ∷ []) ≡ Some []) before after → ⊥
-no_line_after r files d before after long severity (inr same) = let never = same.0 in cc
+no_line_after r files d before after long severity (inr same) = let never = same.1 in cc
 no_line_after r files d before after long severity (inl drawn) =
     let ends : codes "error: " ++ 101 ∷ 10 ∷ [] ≡ drawn.text ++ 10 ∷ 10 ∷ [] = drawn.written
     ∙ ap₂ (λ short s. drawn.text ++ (ending_after short s ++ 10 ∷ [])) long severity in

@@ -1,5 +1,5 @@
 -- What no run does: what wrong bodies do about small inputs contradicts what becomes of lines and of runs.
-use Rattle.std.proofs.Common.{◌≡◌, ◌++◌, ◌∙◌, ◌||◌, ℕ, Bool, List, [], ◌∷◌, Option, None, Some, ap, false, if◌then◌else◌, inl, inr, refl, subst, sym, true}
+use Rattle.std.proofs.Common.{◌≡◌, ◌⊎◌, ◌++◌, ◌∙◌, ◌||◌, ℕ, Bool, List, [], ◌∷◌, Option, None, Some, ap, false, if◌then◌else◌, inl, inr, refl, subst, sym, true}
 use Rattle.serde_json.specs.Data.{Data}
 use Rattle.redraw_command.specs.Choice.{is_sum}
 use Rattle.redraw_command.specs.Line.{begins_object}
@@ -12,7 +12,7 @@ use Rattle.redraw_report.specs.declared.diagnostic.Severity.TheVariants.{Error}
 use Rattle.annotate_snippets.specs.declared.renderer.Renderer.{Renderer}
 use Rattle.redraw_run.specs.declared.input.Kind.{Kind}
 use Rattle.redraw_run.specs.declared.input.Kind.TheVariants as kind
-use Rattle.redraw_run.specs.Deeds.{Deed, Drawn, Commanded, HandedOn, Told, LeftOut, Repeated, BuildFailed, tally_by, with_files}
+use Rattle.redraw_run.specs.Deeds.{Deed, Drawn, Commanded, HandedOn, Told, Refused, LeftOut, Repeated, BuildFailed, tally_by, with_files}
 use Rattle.redraw_run.specs.Fates.{AreMessages, Each, IsFound, IsKnown, IsLine, IsLog, IsReported, IsResult, IsRun, IsShown, IsTaking}
 use Rattle.redraw_run.specs.Run.{Finishes, begun}
 
@@ -23,6 +23,7 @@ Unhanded (Drawn d t ∷ ds) = Unhanded ds
 Unhanded (Commanded d l ∷ ds) = Unhanded ds
 Unhanded (HandedOn l ∷ ds) = ⊥
 Unhanded (Told p ∷ ds) = Unhanded ds
+Unhanded (Refused f w ∷ ds) = Unhanded ds
 Unhanded (LeftOut ∷ ds) = Unhanded ds
 Unhanded (Repeated ∷ ds) = Unhanded ds
 Unhanded (BuildFailed ∷ ds) = Unhanded ds
@@ -34,6 +35,7 @@ unhanded_both (Drawn d t ∷ ds) es p q = unhanded_both ds es p q
 unhanded_both (Commanded d l ∷ ds) es p q = unhanded_both ds es p q
 unhanded_both (HandedOn l ∷ ds) es p q = absurd p
 unhanded_both (Told t ∷ ds) es p q = unhanded_both ds es p q
+unhanded_both (Refused f w ∷ ds) es p q = unhanded_both ds es p q
 unhanded_both (LeftOut ∷ ds) es p q = unhanded_both ds es p q
 unhanded_both (Repeated ∷ ds) es p q = unhanded_both ds es p q
 unhanded_both (BuildFailed ∷ ds) es p q = unhanded_both ds es p q
@@ -45,6 +47,7 @@ messages_unhanded c (Told part ∷ ds) h = messages_unhanded c ds h
 messages_unhanded c (Drawn d t ∷ ds) h = absurd h
 messages_unhanded c (Commanded d l ∷ ds) h = absurd h
 messages_unhanded c (HandedOn l ∷ ds) h = absurd h
+messages_unhanded c (Refused f w ∷ ds) h = absurd h
 messages_unhanded c (LeftOut ∷ ds) h = absurd h
 messages_unhanded c (Repeated ∷ ds) h = absurd h
 messages_unhanded c (BuildFailed ∷ ds) h = absurd h
@@ -54,7 +57,8 @@ unfolding Unhanded
 shown_unhanded d c [] h = absurd h
 shown_unhanded d c (Told part ∷ ds) h = shown_unhanded d c ds h
 shown_unhanded d c (Drawn f t ∷ ds) h = subst Unhanded (sym h.1) tt
-shown_unhanded d c (LeftOut ∷ ds) h = subst Unhanded (sym h.1) tt
+shown_unhanded d c (Refused f w ∷ ds) h = subst Unhanded (sym h.1.1) tt
+shown_unhanded d c (LeftOut ∷ ds) h = absurd h
 shown_unhanded d c (Commanded f l ∷ ds) h = absurd h
 shown_unhanded d c (HandedOn l ∷ ds) h = absurd h
 shown_unhanded d c (Repeated ∷ ds) h = absurd h
@@ -150,9 +154,10 @@ has_one t true = or_true t.has_error
 has_one t false = or_true t.has_error
 
 -- status 0 after an error was drawn
-pub clean_after_an_error : (names : List (List ℕ)) (r : Renderer) (c : Choice) (old_out old_err out err : Option (List ℕ)) (d : Diagnostic) (text : List ℕ)
-    → d.severity ≡ Error → (run : Finishes names (begun r c old_out old_err) out err 0) → run.drawn.does.deeds ≡ Drawn d text ∷ [] → ⊥
-clean_after_an_error names r c old_out old_err out err d text error run is =
+pub clean_after_an_error : {File Standard : Type 0} (held : File ⊎ Standard → Option (List ℕ)) (names : List (List ℕ)) (r : Renderer) (c : Choice)
+    (old_out old_err out err : Option (List ℕ)) (d : Diagnostic) (text : List ℕ) → d.severity ≡ Error
+    → (run : Finishes File Standard held names (begun r c old_out old_err) out err 0) → run.drawn.does.deeds ≡ Drawn d text ∷ [] → ⊥
+clean_after_an_error held names r c old_out old_err out err d text error run is =
     let counted : run.end.tally ≡ with_files (tally_by no_tally (Drawn d text ∷ [])) run.end.tally.files
     = run.drawn.does.tally ∙ ap (λ ds. with_files (tally_by no_tally ds) run.end.tally.files) is in
     no_clean run.end.tally run.is_whole

@@ -3,6 +3,7 @@ use Rattle.std.specs.Prelude.{◌≡◌, ℕ, ◌⊎◌, true, List, [], ◌∷�
 use Rattle.std.specs.Io.KnownBytes.{Appends}
 use Rattle.std.specs.List.{concat, flat_map}
 use Rattle.annotate_snippets.specs.declared.renderer.Renderer.{Renderer}
+use Rattle.annotate_snippets.specs.declared.renderer.error.RenderError.{RenderError}
 use Rattle.redraw_command.specs.Choice.{is_sum}
 use Rattle.redraw_command.specs.Tally.{one_more, tallied}
 use Rattle.redraw_command.specs.Told.{IsFirstPart, IsTold}
@@ -14,7 +15,7 @@ use Rattle.redraw_command.specs.declared.stop.Stop.TheVariants.{Memory, Unwritab
 use Rattle.redraw_command.specs.declared.tally.Tally.{Tally}
 use Rattle.redraw_read.specs.declared.sources.File.{File}
 use Rattle.redraw_report.specs.declared.diagnostic.Diagnostic.{Diagnostic}
-use Rattle.redraw_run.specs.DrawnFinding.{ShowsFinding, ending_after}
+use Rattle.redraw_run.specs.DrawnFinding.{RefusesFinding, ShowsFinding, ending_after}
 use Rattle.redraw_run.specs.declared.draw.Drawing.{Drawing}
 
 -- what is known of a run at a time: how reports look and which are drawn, what was counted, and what both streams hold
@@ -30,23 +31,26 @@ abbrev pub standing : {S : Type 0} → Drawing S → Option (List ℕ) → Optio
 standing d out err = record { renderer = d.renderer; choice = d.choice; tally = d.tally; out = out; err = err }
 
 -- one thing that is done: a finding is drawn as a report, or written as a command; a line is handed on; something is told, of which
--- this stands there; a part of the input is left out; one that was drawn before isn't again; or cargo says that the build failed
+-- this stands there; the report of a finding is refused; a part of the input is left out; a finding that was drawn before isn't again; or
+-- cargo says that the build failed
 pub data Deed : Type 0 where
   Drawn : (finding : Diagnostic) (text : List ℕ) → Deed
   Commanded : (finding : Diagnostic) (line : List ℕ) → Deed
   HandedOn : (line : List ℕ) → Deed
   Told : (part : List ℕ) → Deed
+  Refused : (finding : Diagnostic) (why : RenderError) → Deed
   LeftOut : Deed
   Repeated : Deed
   BuildFailed : Deed
 
--- when that is done: a report shows the finding in the renderer's settings, its places looked for in some files, and a command is that
--- of the finding, each where it is asked for; and what is told stands there of one message
+-- when that is done: a report shows the finding in the renderer's settings, its places looked for in some files, or is refused for this
+-- reason; a command is that of the finding; each where it is asked for; and what is told stands there of one message
 abbrev pub IsDeed : Renderer → Choice → Deed → Type 0
 IsDeed r c (Drawn d text) = (c.form ≡ Report) × (files : List File) × ShowsFinding r files d text
 IsDeed r c (Commanded d line) = (c.form ≡ Workflow) × (command d ≡ Some line)
 IsDeed r c (HandedOn line) = Unit {0}
 IsDeed r c (Told part) = IsTold part
+IsDeed r c (Refused d why) = (c.form ≡ Report) × (files : List File) × RefusesFinding r files d why
 IsDeed r c LeftOut = Unit {0}
 IsDeed r c Repeated = Unit {0}
 IsDeed r c BuildFailed = Unit {0}
@@ -61,6 +65,7 @@ printed r (Drawn d text) = text ++ (ending_after r.short_message d.severity ++ 1
 printed r (Commanded d line) = line ++ 10 ∷ []
 printed r (HandedOn line) = line
 printed r (Told part) = []
+printed r (Refused d why) = []
 printed r LeftOut = []
 printed r Repeated = []
 printed r BuildFailed = []
@@ -71,9 +76,14 @@ told (Drawn d text) = []
 told (Commanded d line) = []
 told (HandedOn line) = []
 told (Told part) = part
+told (Refused d why) = []
 told LeftOut = []
 told Repeated = []
 told BuildFailed = []
+
+-- the tally with one more that is left out
+abbrev pub left_out : Tally → Tally
+left_out t = record t { wrong = one_more t.wrong }
 
 -- the tally with one more that was drawn before
 abbrev pub repeated : Tally → Tally
@@ -85,7 +95,8 @@ tally_after t (Drawn d text) = tallied t d.severity (is_sum d)
 tally_after t (Commanded d line) = tallied t d.severity (is_sum d)
 tally_after t (HandedOn line) = t
 tally_after t (Told part) = t
-tally_after t LeftOut = record t { wrong = one_more t.wrong }
+tally_after t (Refused d why) = left_out t
+tally_after t LeftOut = left_out t
 tally_after t Repeated = repeated t
 tally_after t BuildFailed = record t { has_failed = true }
 
@@ -158,12 +169,12 @@ pub record IsCutShort (Are : Choice → List Deed → Type 0) (a b : State) : Ty
   pub out : AppendsFirst a.out b.out (flat_map (printed a.renderer) deeds)
   pub err : Appends a.err b.err (flat_map told deeds)
 
--- things of a kind are done up to where it stops for this reason
+-- things of a kind are done up to where it stops for this reason: no memory, or output that can't be written
 abbrev pub Stops : Stop → (Choice → List Deed → Type 0) → State → State → Type 0
 Stops Memory Are a b = Does Are a b
 Stops (Unwritable error) Are a b = IsCutShort Are a b
-Stops (Unreadable error) Are a b = Does Are a b
-Stops Utf16 Are a b = Does Are a b
+Stops (Unreadable error) Are a b = ⊥
+Stops Utf16 Are a b = ⊥
 
 -- things of a kind are done, be it to the end or up to where it stops
 abbrev pub Goes : {T : Type 0} → Result T Stop → (Choice → List Deed → Type 0) → State → State → Type 0

@@ -1,9 +1,12 @@
 -- What is drawn of a finding, and what is written of it.
-use Rattle.std.specs.Prelude.{◌≡◌, ◌⊎◌, ℕ, Bool, List, [], ◌∷◌, ◌++◌, Option, Some, None, map, if◌then◌else◌}
+use Rattle.std.specs.Prelude.{◌≡◌, ◌⊎◌, ℕ, Bool, List, [], ◌∷◌, ◌++◌, Option, Some, None, alloc_error, map, if◌then◌else◌}
 use Rattle.std.specs.Io.KnownBytes.{Appends}
 use Rattle.annotate_snippets.specs.FormLaws.{HasLaws}
 use Rattle.annotate_snippets.specs.Forms.{ShowsReport}
+use Rattle.annotate_snippets.specs.Fault.{first_refusal}
 use Rattle.annotate_snippets.specs.declared.renderer.Renderer.{Renderer}
+use Rattle.annotate_snippets.specs.declared.renderer.error.RenderError.{RenderError}
+use Rattle.annotate_snippets.specs.declared.renderer.error.RenderError.TheVariants.{Memory}
 use Rattle.annotate_snippets.specs.declared.snippet.Group.{Group}
 use Rattle.redraw_command.specs.Choice.{is_sum}
 use Rattle.redraw_command.specs.Tally.{one_more, tallied}
@@ -29,6 +32,27 @@ pub record ShowsFinding (r : Renderer) (files : List File) (d : Diagnostic) (tex
   pub told : map section_view groups ≡ report_of finding
   pub shows : ShowsReport r groups r.stylesheet text
   pub laws : HasLaws r groups r.stylesheet text
+
+-- the library refuses for this reason, the first in order, the report of the finding that the diagnostic reports, in the renderer's
+-- settings, its places looked for in these files
+pub record RefusesFinding (r : Renderer) (files : List File) (d : Diagnostic) (why : RenderError) : Type 0 where
+  pub finding : Finding
+  pub is : IsFindingOf record { files = files; home = home_of d.homes.items; is_short = r.short_message } d finding
+  pub groups : List Group
+  pub told : map section_view groups ≡ report_of finding
+  pub refused : first_refusal r groups ≡ Some why
+
+-- for some reason
+abbrev pub Refuses : Renderer → List File → Diagnostic → Type 0
+Refuses r files d = (why : RenderError) × RefusesFinding r files d why
+
+-- there is no text of the finding: its report is refused for this reason, or memory was
+abbrev pub IsUndrawn : Renderer → List File → Diagnostic → RenderError → Type 0
+IsUndrawn r files d why = RefusesFinding r files d why ⊎ (why ≡ Memory alloc_error)
+
+-- the same of a report
+abbrev pub IsRefusalOf : Renderer → List Group → RenderError → Type 0
+IsRefusalOf r groups why = (first_refusal r groups ≡ Some why) ⊎ (why ≡ Memory alloc_error)
 
 -- what stands after a report: an empty line, but nothing in the short form, and nothing after a text without a level
 abbrev pub ending_after : Bool → Severity → List ℕ
@@ -61,8 +85,8 @@ pub record IsCommanded (d : Diagnostic) (old new : Option (List ℕ)) (before af
   pub written : Appends old new (line ++ 10 ∷ [])
   pub counted : IsCounted d before after
 
--- what becomes of a finding, by the form that is asked for. As a report it is drawn, or left out: then nothing is written (Same), and
+-- what becomes of a finding, by the form that is asked for. As a report it is drawn, or refused: then nothing is written (Same), and
 -- it is counted as left out. As a command it is written, or it has none: then nothing is written, and nothing counted
 abbrev pub Draws : Form → Renderer → List File → Diagnostic → Option (List ℕ) → Option (List ℕ) → Type 0 → Tally → Tally → Type 0
-Draws Report r files d old new Same before after = IsDrawn r files d old new before after ⊎ (Same × IsLeftOut before after)
+Draws Report r files d old new Same before after = IsDrawn r files d old new before after ⊎ (Refuses r files d × Same × IsLeftOut before after)
 Draws Workflow r files d old new Same before after = IsCommanded d old new before after ⊎ ((command d ≡ None) × Same × (after ≡ before))

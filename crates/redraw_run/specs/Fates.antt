@@ -9,13 +9,15 @@ use Rattle.serde_json.specs.Data.{Data}
 use Rattle.serde_json.specs.Find.{get}
 use Rattle.serde_json.specs.Read.{read}
 use Rattle.redraw_command.specs.Choice.{IsTaken}
-use Rattle.redraw_command.specs.Line.{begins_object, mark}
+use Rattle.redraw_command.specs.Line.{begins_object, begins_utf16, mark}
 use Rattle.redraw_command.specs.Workflow.{command}
 use Rattle.redraw_command.specs.declared.choice.Choice.{Choice}
 use Rattle.redraw_command.specs.declared.choice.Form.TheVariants.{Report, Workflow}
 use Rattle.redraw_command.specs.declared.stop.Stop.{Stop}
+use Rattle.redraw_command.specs.declared.stop.Stop.TheVariants.{Memory, Unwritable, Unreadable, Utf16}
 use Rattle.redraw_report.specs.declared.diagnostic.Diagnostic.{Diagnostic}
-use Rattle.redraw_run.specs.Deeds.{State, Deed, Drawn, Commanded, HandedOn, Told, LeftOut, Repeated, BuildFailed, Does, IsPart, Stops}
+use Rattle.redraw_run.specs.Deeds.{State, Deed, Drawn, Commanded, HandedOn, Told, Refused, LeftOut, Repeated, BuildFailed, Does, IsCutShort}
+use Rattle.redraw_run.specs.Deeds.{IsPart, Stops}
 use Rattle.redraw_run.specs.declared.input.Kind.{Kind}
 use Rattle.redraw_run.specs.declared.input.Kind.TheVariants as kind
 
@@ -66,13 +68,13 @@ IsRepeated c deeds = (c.has_duplicates ≡ false) × (deeds ≡ Repeated ∷ [])
 abbrev pub IsFailed : Choice → List Deed → Type 0
 IsFailed c deeds = deeds ≡ BuildFailed ∷ []
 
--- a finding is shown as a report: after messages on its files and its places it is drawn, once; or it is left out, and one message says
--- why it can't be drawn
+-- a finding is shown as a report: after messages on its files and its places it is drawn, once; or its report is refused, and one message
+-- says why
 abbrev pub IsShown : Diagnostic → Choice → List Deed → Type 0
 IsShown d c [] = ⊥
 IsShown d c (Told part ∷ deeds) = IsShown d c deeds
 IsShown d c (Drawn finding text ∷ deeds) = (finding ≡ d) × (deeds ≡ [])
-IsShown d c (LeftOut ∷ deeds) = (part : List ℕ) × (deeds ≡ Told part ∷ [])
+IsShown d c (Refused finding why ∷ deeds) = (finding ≡ d) × ((part : List ℕ) × (deeds ≡ Told part ∷ []))
 IsShown d c (_ ∷ deeds) = ⊥
 
 -- a finding is written as its command, once; or it has none, and nothing is done
@@ -300,7 +302,7 @@ abbrev pub Advances : {T : Type 0} → Result T Stop → List ℕ → (old new :
 Advances (Ok done) line old new a b = Does (IsNext line old new) a b
 Advances (Err stop) line old new a b = Stops stop (IsPart (IsNextIn line old)) a b
 
--- a line that is no value is left out as wrong, or begins a document with this text where there was none
+-- a line that is no value is left out as wrong, or begins a document with this text where there was none, if there is memory for that
 abbrev pub LeavesOpen : {T : Type 0} → Result T Stop → List ℕ → (old new : Option (List ℕ)) → State → State → Type 0
 LeavesOpen result text old new a b = ((new ≡ old) × Does IsWrong a b) ⊎ (OnOk result (new ≡ Some text) × Does AreNone a b)
 
@@ -316,3 +318,15 @@ IsHalted lines c deeds =
     ((document : Option (List ℕ)) × Then (IsSoFar lines document) (IsPart (IsLast document)) c deeds)
     ⊎ ((before : List (List ℕ)) × (line : List ℕ) × (document : Option (List ℕ)) × (lines ≡ before ++ line ∷ [])
     × Then (IsSoFar before document) (IsPart (IsNextIn line document)) c deeds)
+
+-- an input is written in UTF-16, as the first bytes of its first line tell, and no other line was read
+abbrev pub IsOfUtf16 : List (List ℕ) → Type 0
+IsOfUtf16 lines = (line : List ℕ) × (lines ≡ line ∷ []) × (begins_utf16 line ≡ true)
+
+-- what becomes of an input that stops for this reason, of which these lines were read: where no more of it could be read, of all of them;
+-- and nothing where it is written in UTF-16
+abbrev pub Halts : Stop → List (List ℕ) → State → State → Type 0
+Halts Memory lines a b = Does (IsHalted lines) a b
+Halts (Unwritable error) lines a b = IsCutShort (IsHalted lines) a b
+Halts (Unreadable error) lines a b = (document : Option (List ℕ)) × Does (IsSoFar lines document) a b
+Halts Utf16 lines a b = IsOfUtf16 lines × Does AreNone a b

@@ -1,6 +1,6 @@
 //! Findings, drawn one after another as they are read.
 ghost use Rattle.std.specs.Prelude.{◌≡◌, ℕ, Bool, List, Option, option_map, ◌++◌, [], ◌∷◌, if◌then◌else◌, false, true};
-ghost use Rattle.std.specs.Prelude.{OnErr, OnOk, IfOk, IfErr};
+ghost use Rattle.std.specs.Prelude.{◌==◌, ◌≢◌, OnErr, OnOk, IfOk, IfErr, alloc_error};
 ghost use Rattle.std.specs.Prelude.{string_bytes};
 ghost use Rattle.std.specs.Io.KnownBytes.{Appends};
 ghost use Rattle.redraw_command.specs.Seen.{IsSeen, digests_of};
@@ -9,7 +9,8 @@ ghost use Rattle.redraw_command.specs.Told.{Tells};
 ghost use Rattle.redraw_run.specs.Deeds.{Does, Goes, TellsAll, repeated, standing};
 ghost use Rattle.redraw_run.specs.Fates.{AreMessages, IsChosen, IsDrawing, IsTaking, LeavesOut, IsReported, IsShown};
 ghost use Rattle.redraw_run.specs.Fates.{IsWritten, IsWrong};
-ghost use Rattle.redraw_run.specs.DrawnFinding.{Draws, IsCounted, IsLeftOut, ShowsFinding, ending_after};
+ghost use Rattle.redraw_run.specs.DrawnFinding.{Draws, IsCounted, IsLeftOut, IsUndrawn, ShowsFinding, ending_after};
+ghost use Rattle.redraw_run.specs.ReadLines.{TellsUnless};
 ghost use Rattle.serde_json.specs.View.{view};
 ghost use Rattle.redraw_read.specs.declared.sources.File.{File};
 ghost use Rattle.redraw_command.specs.declared.choice.Form.TheVariants.{Report, Workflow};
@@ -293,6 +294,8 @@ impl<S: SourceFiles + Drop> Drawing<'_, S> {
         ensures does { (out : Option (List ℕ)) → Does AreMessages (standing self.now out (V.contents err.old))
             (standing self.now out (V.contents err.new)) }
         ensures exact { clamped ≡ 0 → undrawn ≡ 0 → err.new ≡ err.old }
+        ensures each { (middle : Option (List ℕ)) × TellsUnless (clamped == 0) (V.contents err.old) middle
+            × TellsUnless (undrawn == 0) middle (V.contents err.new) }
     {
         let clamped_places = "places that aren't in their source, drawn at the nearest one";
         self.tell_count(clamped, clamped_places, err);
@@ -304,6 +307,7 @@ impl<S: SourceFiles + Drop> Drawing<'_, S> {
     fn tell_count<V: Write>(&self, count: u64, what: &str, err: &mut V)
         ensures told { TellsAll (V.contents err.old) (V.contents err.new) }
         ensures none { count ≡ 0 → err.new ≡ err.old }
+        ensures one { TellsUnless (count == 0) (V.contents err.old) (V.contents err.new) }
     {
         if count > 0 {
             self.tell(format_args!("{what}: {count}"), err);
@@ -322,12 +326,13 @@ impl<S: SourceFiles + Drop> Drawing<'_, S> {
             (string_bytes t ++ (ending_after self.old.renderer.short_message diagnostic.now.severity ++ 10 ∷ [])))) }
         ensures counted { OnOk result (IfOk text (λ t. IsCounted diagnostic.now self.old.tally self.new.tally)) }
         ensures untold { OnOk result (IfOk text (λ t. err.new ≡ err.old)) }
-        ensures left_out { OnOk result (IfErr text (λ e. (out.new ≡ out.old)
-            × IsLeftOut self.old.tally self.new.tally)) }
+        ensures left_out { OnOk result (IfErr text (λ e. (e ≢ RenderError.Memory alloc_error)
+            × (out.new ≡ out.old) × IsLeftOut self.old.tally self.new.tally)) }
         ensures kept { (self.new.renderer ≡ self.old.renderer) × (self.new.choice ≡ self.old.choice) }
         ensures does { self.old.choice.form ≡ Report
             → (files : List File)
             → IfOk text (λ t. ShowsFinding self.old.renderer files diagnostic.now (string_bytes t))
+            → IfErr text (IsUndrawn self.old.renderer files diagnostic.now)
             → Goes result (IsShown diagnostic.now) (standing self.old (W.contents out.old) (V.contents err.old))
             (standing self.new (W.contents out.new) (V.contents err.new)) }
         ensures files { self.new.sources.files ≡ self.old.sources.files }
@@ -337,9 +342,31 @@ impl<S: SourceFiles + Drop> Drawing<'_, S> {
                 self.count(diagnostic)?;
                 print(text.as_str(), self.ending_of(diagnostic.severity), out)
             }
-            Err(RenderError::Memory(_)) => Err(Stop::Memory),
-            Err(error) => {
-                self.wrong(format_args!("{error}"), err);
+            Err(error) => self.refuse(&error, diagnostic, err),
+        }
+    }
+
+    /// Leaves a finding out whose report is refused, and tells why.
+    fn refuse<V: Write>(
+        &mut self,
+        error: &RenderError,
+        diagnostic: &Diagnostic,
+        err: &mut V,
+    ) -> Result<(), Stop>
+        ensures left_out { OnOk result ((error.now ≢ RenderError.Memory alloc_error)
+            × IsLeftOut self.old.tally self.new.tally) }
+        ensures kept { (self.new.renderer ≡ self.old.renderer) × (self.new.choice ≡ self.old.choice) }
+        ensures does { self.old.choice.form ≡ Report
+            → (files : List File) → IsUndrawn self.old.renderer files diagnostic.now error.now
+            → (out : Option (List ℕ)) → Goes result (IsShown diagnostic.now)
+            (standing self.old out (V.contents err.old)) (standing self.new out (V.contents err.new)) }
+        ensures files { self.new.sources.files ≡ self.old.sources.files }
+    {
+        match error {
+            RenderError::Memory(_) => Err(Stop::Memory),
+            _ => {
+                self.leave_out();
+                self.tell(format_args!("{error}"), err);
                 Ok(())
             }
         }

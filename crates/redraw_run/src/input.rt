@@ -1,14 +1,14 @@
 //! An input, read line by line. Nothing of a line is kept when the next is read, save of a log that is one document.
-ghost use Rattle.std.specs.Prelude.{◌≡◌, ◌++◌, ℕ, List, Option, None, Some, true, false, ◌↔◌};
-ghost use Rattle.std.specs.Prelude.{IfErr, IfOk, OnOk, IsTrue, codes, option_map};
+ghost use Rattle.std.specs.Prelude.{◌≡◌, ◌||◌, ◌++◌, not, ℕ, List, Option, None, Some, true, false, ◌↔◌};
+ghost use Rattle.std.specs.Prelude.{IfErr, IfOk, OnErr, OnOk, IsTrue, codes, option_map};
 ghost use Rattle.json_node.specs.Field.{flag_at};
 ghost use Rattle.serde_json.specs.View.{view};
-ghost use Rattle.redraw_command.specs.Line.{begins_object};
-ghost use Rattle.redraw_run.specs.Deeds.{Does, Goes, IsUnreadable, Stops, standing};
-ghost use Rattle.redraw_run.specs.Fates.{Advances, IsCargoKind, IsDocumentLine, IsHalted, IsInput, IsKnown};
+ghost use Rattle.redraw_command.specs.Line.{begins_object, begins_utf16};
+ghost use Rattle.redraw_run.specs.Deeds.{Does, Goes, IsUnreadable, standing};
+ghost use Rattle.redraw_run.specs.Fates.{Advances, Halts, IsCargoKind, IsDocumentLine, IsInput, IsKnown};
 ghost use Rattle.redraw_run.specs.Fates.{IsLast, IsOfKind, IsSoFar, IsTextOf, IsUnknown, IsValue, IsWhole};
 ghost use Rattle.redraw_run.specs.Fates.{LeavesOpen, Reads, document_of};
-ghost use Rattle.redraw_run.specs.ReadLines.{AreAllOf, AreFirstOf, TakesNext};
+ghost use Rattle.redraw_run.specs.ReadLines.{AreAllOf, AreFirstOf, TakesNext, TellsUnless};
 
 use crate::draw::Drawing;
 use crate::json::json_of;
@@ -31,8 +31,6 @@ pub struct Reading {
     alloc: Global,
     /// Whether something in it was of a form that is known.
     pub is_known: bool,
-    /// Whether anything was read.
-    has_begun: bool,
     /// Whether there was a line that begins as an object does.
     has_objects: bool,
     /// Whether there was another line that isn't blank.
@@ -106,7 +104,6 @@ impl Reading {
         Reading {
             alloc,
             is_known: false,
-            has_begun: false,
             has_objects: false,
             has_others: false,
             document: None,
@@ -114,10 +111,11 @@ impl Reading {
         }
     }
 
-    /// Takes a line, with its end.
+    /// Takes a line, with its end: the first of the input or another.
     pub fn line<S: SourceFiles + Drop, W: Write, V: Write>(
         &mut self,
         bytes: &[u8],
+        is_first: bool,
         drawing: &mut Drawing<'_, S>,
         out: &mut W,
         err: &mut V,
@@ -127,12 +125,6 @@ impl Reading {
             (standing drawing.old (W.contents out.old) (V.contents err.old))
             (standing drawing.new (W.contents out.new) (V.contents err.new)) }
     {
-        let is_first = !self.has_begun;
-        self.has_begun = true;
-        let is_refused = is_first && is_utf16(bytes);
-        if is_refused {
-            return Err(Stop::Utf16);
-        }
         if self.document.is_some() {
             self.document_line(bytes, drawing, err)
         } else {
@@ -227,6 +219,7 @@ impl Reading {
         ensures leaves { (out : Option (List ℕ)) → LeavesOpen result line.now
             (document_of self.old.document) (document_of self.new.document)
             (standing drawing.old out (V.contents err.old)) (standing drawing.new out (V.contents err.new)) }
+        ensures memory { IfErr result (λ stop. stop ≡ Stop.Memory) }
     {
         let at = drawing.line;
         if self.has_objects {
@@ -250,6 +243,7 @@ impl Reading {
             (standing drawing.old out (V.contents err.old)) (standing drawing.new out (V.contents err.new)) }
         ensures grows { (document : List ℕ) → document_of self.old.document ≡ Some document
             → OnOk result (document_of self.new.document ≡ Some (document ++ bytes.now)) }
+        ensures memory { IfErr result (λ stop. stop ≡ Stop.Memory) }
     {
         check_text(bytes, drawing, err);
         if let Some(document) = &mut self.document {
@@ -283,6 +277,8 @@ impl Reading {
     fn end_lines<S: SourceFiles + Drop, V: Write>(&self, drawing: &mut Drawing<'_, S>, err: &mut V)
         ensures does { (out : Option (List ℕ)) → Does (IsLast None)
             (standing drawing.old out (V.contents err.old)) (standing drawing.new out (V.contents err.new)) }
+        ensures one { TellsUnless (self.now.has_objects || not self.now.has_others) (V.contents err.old)
+            (V.contents err.new) }
     {
         let is_unknown = self.has_others && !self.has_objects;
         if is_unknown {
@@ -437,7 +433,7 @@ pub fn draw_input<B: BufRead + Drop, S: SourceFiles + Drop, W: Write, V: Write>(
         (standing drawing.old (W.contents out.old) (V.contents err.old))
         (standing drawing.new (W.contents out.new) (V.contents err.new))) }
     ensures halts { IfErr result (λ stop. (lines : List (List ℕ)) × AreFirstOf (B.remaining input) lines
-        × Stops stop (IsHalted lines) (standing drawing.old (W.contents out.old) (V.contents err.old))
+        × Halts stop lines (standing drawing.old (W.contents out.old) (V.contents err.old))
         (standing drawing.new (W.contents out.new) (V.contents err.new))) }
 {
     let mut reading = Reading::new(drawing.alloc);
@@ -462,7 +458,7 @@ fn draw_lines<B: BufRead + Drop, S: SourceFiles + Drop, W: Write, V: Write>(
         (standing drawing.new (W.contents out.new) (V.contents err.new))) }
     ensures halts { reading.old.document ≡ None → IfErr result (λ stop. (lines : List (List ℕ))
         × AreFirstOf (B.remaining input) lines
-        × Stops stop (IsHalted lines) (standing drawing.old (W.contents out.old) (V.contents err.old))
+        × Halts stop lines (standing drawing.old (W.contents out.old) (V.contents err.old))
         (standing drawing.new (W.contents out.new) (V.contents err.new))) }
 {
     let mut line = Vec::new(drawing.alloc);
@@ -470,12 +466,28 @@ fn draw_lines<B: BufRead + Drop, S: SourceFiles + Drop, W: Write, V: Write>(
         let is_more = next_line(&mut input, &mut line)?;
         if is_more {
             drawing.line = number;
-            reading.line(&line, drawing, out, err)?;
+            let bytes = line.as_slice();
+            refuse_utf16(bytes, number == 1)?;
+            reading.line(bytes, number == 1, drawing, out, err)?;
         } else {
             return Ok(());
         }
     }
     Ok(())
+}
+
+/// Refuses a first line that is written in UTF-16.
+fn refuse_utf16(bytes: &[u8], is_first: bool) -> Result<(), Stop>
+    ensures taken { OnOk result (is_first ≡ true → begins_utf16 bytes.now ≡ false) }
+    ensures first { OnErr result (is_first ≡ true) }
+    ensures refused { OnErr result (begins_utf16 bytes.now ≡ true) }
+    ensures stop { IfErr result (λ stop. stop ≡ Stop.Utf16) }
+{
+    if is_first && is_utf16(bytes) {
+        Err(Stop::Utf16)
+    } else {
+        Ok(())
+    }
 }
 
 /// Takes the next line with its end, and says whether there is one.

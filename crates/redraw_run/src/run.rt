@@ -5,11 +5,14 @@ ghost use Rattle.clap.specs.declared.error.kind.ErrorKind.TheVariants as kind;
 ghost use Rattle.std.specs.IoError.{error_kind};
 ghost use Rattle.std.specs.declared.io.ErrorKind.TheVariants.{BrokenPipe};
 ghost use Rattle.redraw_command.specs.Tally.{is_empty, status_of};
-ghost use Rattle.redraw_command.specs.Told.{Tells, TellsOfWords};
-ghost use Rattle.redraw_run.specs.Deeds.{Does, standing};
+ghost use Rattle.redraw_command.specs.Told.{Tells, TellsMemory, TellsOfWords};
+ghost use Rattle.redraw_command.specs.Words.{words_at};
+ghost use Rattle.redraw_run.specs.Deeds.{standing};
+ghost use Rattle.redraw_run.specs.Inputs.{AreCut, AreDrawn, IsCutFrom, IsCutIn, IsCutOf, IsDrawnFrom, IsDrawnIn};
+ghost use Rattle.redraw_run.specs.Inputs.{IsDrawnOf, asked_names, given_names, held_by, held_in};
 ghost use Rattle.redraw_run.specs.ReadLines.{IsPrinted, SumsUp};
-ghost use Rattle.redraw_run.specs.Run.{Answers, AnswersWords, AreCut, AreDrawn, Draws, EndsInput, IsCutOf};
-ghost use Rattle.redraw_run.specs.Run.{IsDrawnOf, asked_names, given_names, standard};
+ghost use Rattle.redraw_run.specs.Run.{Answers, Draws, EndsInput};
+ghost use Rattle.std.specs.Io.Buffered.{reader_inner, reader_remaining};
 
 use crate::draw::Drawing;
 use crate::files::FilesUnder;
@@ -20,7 +23,7 @@ use redraw_command::relative::folder_of;
 use redraw_command::seen::{Names, Seen};
 use redraw_command::stop::Stop;
 use redraw_command::tally::{CLEAN, FAILED, Tally};
-use redraw_command::tell::{tell, tell_error};
+use redraw_command::tell::{tell, tell_error, tell_memory};
 use redraw_command::terminal::Surroundings;
 use redraw_command::words::{Request, matches_of, request_of};
 use redraw_read::sources::{SourceFiles, Sources};
@@ -38,8 +41,8 @@ pub fn run<'w, R: Files + Input + AllocGlobal, W: Write, V: Write>(
     err: &mut V,
 ) -> u8
     ensures status { result ≤ 2 }
-    ensures answers { Answers around.entry (W.contents out.old) (V.contents err.old) (W.contents out.new)
-        (V.contents err.new) result }
+    ensures answers { Answers (held_by R.File.remaining R.Reader.remaining) (words_at words.now) around.entry
+        (W.contents out.old) (V.contents err.old) (W.contents out.new) (V.contents err.new) result }
 {
     match matches_of(rt.alloc(), words) {
         Ok(matches) => draw_all(rt, request_of(&matches), around, out, err),
@@ -58,9 +61,8 @@ fn answer_error<W: Write, V: Write>(
         → (result ≡ 2) × (out.new ≡ out.old) }
     ensures told { kind_of error.now ≢ kind.DisplayHelp → kind_of error.now ≢ kind.DisplayVersion
         → TellsOfWords (V.contents err.old) (V.contents err.new) }
+    ensures memory { kind_of error.now ≡ kind.OutOfMemory → TellsMemory (V.contents err.old) (V.contents err.new) }
     ensures status { result ≤ 2 }
-    ensures answers { AnswersWords (W.contents out.old) (V.contents err.old) (W.contents out.new) (V.contents err.new)
-        result }
     ensures asked { (kind_of error.now ≡ kind.DisplayHelp) ⊎ (kind_of error.now ≡ kind.DisplayVersion) → err.new
         ≡ err.old }
     ensures printed { (kind_of error.now ≡ kind.DisplayHelp) ⊎ (kind_of error.now ≡ kind.DisplayVersion)
@@ -104,12 +106,12 @@ fn draw_all<'w, R: Files + Input + AllocGlobal, W: Write, V: Write>(
     err: &mut V,
 ) -> u8
     ensures status { result ≤ 2 }
-    ensures draws { Draws request.entry around.entry (W.contents out.old) (V.contents err.old) (W.contents out.new)
-        (V.contents err.new) result }
+    ensures draws { Draws (held_by R.File.remaining R.Reader.remaining) request.entry around.entry
+        (W.contents out.old) (V.contents err.old) (W.contents out.new) (V.contents err.new) result }
 {
     let alloc = rt.alloc();
     let Ok(folder) = folder_of(alloc, request.root, around) else {
-        tell(alloc, Stop::Memory, err);
+        tell_memory(err);
         return FAILED;
     };
     let source_files = FilesUnder {
@@ -155,10 +157,12 @@ fn draw_inputs<'r, R: Files + Input + AllocGlobal, S: SourceFiles + Drop, W: Wri
     out: &mut W,
     err: &mut V,
 ) -> io::Result<bool>
-    ensures drawn { IfOk result (λ is_whole. AreDrawn (asked_names names.entry) is_whole
+    ensures drawn { IfOk result (λ is_whole. AreDrawn R.File R.Reader (held_by R.File.remaining R.Reader.remaining)
+        (asked_names names.entry) is_whole
         (standing drawing.old (W.contents out.old) (V.contents err.old))
         (standing drawing.new (W.contents out.new) (V.contents err.new))) }
-    ensures cut { IfErr result (λ error. AreCut (asked_names names.entry)
+    ensures cut { IfErr result (λ error. AreCut R.File R.Reader (held_by R.File.remaining R.Reader.remaining)
+        (asked_names names.entry)
         (standing drawing.old (W.contents out.old) (V.contents err.old))
         (standing drawing.new (W.contents out.new) (V.contents err.new))) }
 {
@@ -176,10 +180,12 @@ fn draw_given<'r, R: Files + Input + AllocGlobal, S: SourceFiles + Drop, W: Writ
     out: &mut W,
     err: &mut V,
 ) -> io::Result<bool>
-    ensures drawn { IfOk result (λ is_whole. AreDrawn (given_names names.now) is_whole
+    ensures drawn { IfOk result (λ is_whole. AreDrawn R.File R.Reader (held_by R.File.remaining R.Reader.remaining)
+        (given_names names.now) is_whole
         (standing drawing.old (W.contents out.old) (V.contents err.old))
         (standing drawing.new (W.contents out.new) (V.contents err.new))) }
-    ensures cut { IfErr result (λ error. AreCut (given_names names.now)
+    ensures cut { IfErr result (λ error. AreCut R.File R.Reader (held_by R.File.remaining R.Reader.remaining)
+        (given_names names.now)
         (standing drawing.old (W.contents out.old) (V.contents err.old))
         (standing drawing.new (W.contents out.new) (V.contents err.new))) }
 {
@@ -198,10 +204,12 @@ fn draw_each<'r, R: Files + Input + AllocGlobal, S: SourceFiles + Drop, W: Write
     out: &mut W,
     err: &mut V,
 ) -> io::Result<bool>
-    ensures drawn { IfOk result (λ is_whole. AreDrawn (map (λ name. name.now) names.now) is_whole
+    ensures drawn { IfOk result (λ is_whole. AreDrawn R.File R.Reader (held_by R.File.remaining R.Reader.remaining)
+        (map (λ name. name.now) names.now) is_whole
         (standing drawing.old (W.contents out.old) (V.contents err.old))
         (standing drawing.new (W.contents out.new) (V.contents err.new))) }
-    ensures cut { IfErr result (λ error. AreCut (map (λ name. name.now) names.now)
+    ensures cut { IfErr result (λ error. AreCut R.File R.Reader (held_by R.File.remaining R.Reader.remaining)
+        (map (λ name. name.now) names.now)
         (standing drawing.old (W.contents out.old) (V.contents err.old))
         (standing drawing.new (W.contents out.new) (V.contents err.new))) }
 {
@@ -228,10 +236,12 @@ fn draw_named<'r, R: Files + Input + AllocGlobal, S: SourceFiles + Drop, W: Writ
     out: &mut W,
     err: &mut V,
 ) -> io::Result<bool>
-    ensures drawn { IfOk result (λ is_whole. IsDrawnOf name.now is_whole
+    ensures drawn { IfOk result (λ is_whole. IsDrawnOf
+        (held_by R.File.remaining R.Reader.remaining) name.now is_whole
         (standing drawing.old (W.contents out.old) (V.contents err.old))
         (standing drawing.new (W.contents out.new) (V.contents err.new))) }
     ensures cut { IfErr result (λ error. IsCutOf
+        (held_by R.File.remaining R.Reader.remaining) name.now
         (standing drawing.old (W.contents out.old) (V.contents err.old))
         (standing drawing.new (W.contents out.new) (V.contents err.new))) }
 {
@@ -250,16 +260,15 @@ fn draw_standard<R: Files + Input + AllocGlobal, S: SourceFiles + Drop, W: Write
     out: &mut W,
     err: &mut V,
 ) -> io::Result<bool>
-    ensures drawn { IfOk result (λ is_whole. IsDrawnOf standard is_whole
+    ensures drawn { IfOk result (λ is_whole. IsDrawnIn R.Reader.remaining is_whole
         (standing drawing.old (W.contents out.old) (V.contents err.old))
         (standing drawing.new (W.contents out.new) (V.contents err.new))) }
-    ensures cut { IfErr result (λ error. IsCutOf
+    ensures cut { IfErr result (λ error. IsCutIn R.Reader.remaining
         (standing drawing.old (W.contents out.old) (V.contents err.old))
         (standing drawing.new (W.contents out.new) (V.contents err.new))) }
 {
     drawing.input = INPUT;
-    let input = BufReader::new(rt.alloc(), rt.reader());
-    draw_opened(input, drawing, out, err)
+    draw_opened(opened_standard(rt), drawing, out, err)
 }
 
 /// The same of one file.
@@ -270,18 +279,33 @@ fn draw_file<R: Files + AllocGlobal, S: SourceFiles + Drop, W: Write, V: Write>(
     out: &mut W,
     err: &mut V,
 ) -> io::Result<bool>
-    ensures drawn { IfOk result (λ is_whole. IsDrawnOf name.now is_whole
+    ensures drawn { IfOk result (λ is_whole. IsDrawnIn R.File.remaining is_whole
         (standing drawing.old (W.contents out.old) (V.contents err.old))
         (standing drawing.new (W.contents out.new) (V.contents err.new))) }
-    ensures cut { IfErr result (λ error. IsCutOf
+    ensures cut { IfErr result (λ error. IsCutIn R.File.remaining
         (standing drawing.old (W.contents out.old) (V.contents err.old))
         (standing drawing.new (W.contents out.new) (V.contents err.new))) }
 {
-    let input = match fs::File::open(rt, name) {
+    draw_opened(opened(rt, name), drawing, out, err)
+}
+
+/// A file, to be read.
+fn opened<R: Files + AllocGlobal>(rt: &R, name: &str) -> io::Result<BufReader<R::File>>
+    ensures bytes { IfOk result (λ reader.
+        reader_remaining R.File.remaining reader ≡ R.File.remaining (reader_inner reader)) }
+{
+    match fs::File::open(rt, name) {
         Ok(file) => BufReader::new(rt.alloc(), file),
         Err(error) => Err(error),
-    };
-    draw_opened(input, drawing, out, err)
+    }
+}
+
+/// Standard input, to be read.
+fn opened_standard<R: Input + AllocGlobal>(rt: &R) -> io::Result<BufReader<R::Reader>>
+    ensures bytes { IfOk result (λ reader.
+        reader_remaining R.Reader.remaining reader ≡ R.Reader.remaining (reader_inner reader)) }
+{
+    BufReader::new(rt.alloc(), rt.reader())
 }
 
 /// The same of an input that could be opened or not.
@@ -291,10 +315,10 @@ pub fn draw_opened<B: BufRead + Drop, S: SourceFiles + Drop, W: Write, V: Write>
     out: &mut W,
     err: &mut V,
 ) -> io::Result<bool>
-    ensures drawn { (name : List ℕ) → IfOk result (λ is_whole. IsDrawnOf name is_whole
+    ensures drawn { IfOk result (λ is_whole. IsDrawnFrom (held_in B.remaining input) is_whole
         (standing drawing.old (W.contents out.old) (V.contents err.old))
         (standing drawing.new (W.contents out.new) (V.contents err.new))) }
-    ensures cut { IfErr result (λ error. IsCutOf
+    ensures cut { IfErr result (λ error. IsCutFrom (held_in B.remaining input)
         (standing drawing.old (W.contents out.old) (V.contents err.old))
         (standing drawing.new (W.contents out.new) (V.contents err.new))) }
 {

@@ -1,4 +1,5 @@
 //! A SARIF log, whose results are drawn one after another.
+ghost use Rattle.std.specs.Prelude.{◌≡◌, IfErr};
 ghost use Rattle.redraw_run.specs.Deeds.{Goes, TellsAll, standing};
 ghost use Rattle.redraw_run.specs.Fates.{AreRuns, IsResult, IsRun};
 
@@ -82,6 +83,7 @@ fn tell_all<S: SourceFiles + Drop, V: Write>(
     err: &mut V,
 ) -> Result<(), Stop>
     ensures told { TellsAll (V.contents err.old) (V.contents err.new) }
+    ensures memory { IfErr result (λ stop. stop ≡ Stop.Memory) }
 {
     for line in &problems.lines {
         drawing.tell(line.as_str(), err);

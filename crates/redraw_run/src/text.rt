@@ -1,8 +1,8 @@
 //! The text that is drawn of a diagnostic.
-ghost use Rattle.std.specs.Prelude.{IfOk, string_bytes};
+ghost use Rattle.std.specs.Prelude.{IfErr, IfOk, string_bytes};
 ghost use Rattle.annotate_snippets.specs.FormLaws.{HasLaws};
 ghost use Rattle.annotate_snippets.specs.Forms.{ShowsReport};
-ghost use Rattle.redraw_run.specs.DrawnFinding.{ShowsFinding};
+ghost use Rattle.redraw_run.specs.DrawnFinding.{IsRefusalOf, IsUndrawn, ShowsFinding};
 
 use annotate_snippets::renderer::RenderError;
 use annotate_snippets::snippet::report_fits;
@@ -33,6 +33,8 @@ pub fn drawn_of<S: SourceFiles + Drop>(
 ) -> Result<Drawn, AllocError>
     ensures shows { IfOk result (λ drawn. IfOk drawn.text (λ text.
         ShowsFinding renderer.now sources.now.files.items diagnostic.now (string_bytes text))) }
+    ensures refused { IfOk result (λ drawn. IfErr drawn.text
+        (IsUndrawn renderer.now sources.now.files.items diagnostic.now)) }
 {
     let mut placing = Placing::new(alloc);
     let finding = placing.finding(sources, diagnostic, renderer.short_message)?;
@@ -54,6 +56,7 @@ fn render_fitting(
         ShowsReport renderer.now groups.now.items renderer.now.stylesheet (string_bytes text)) }
     ensures laws { IfOk result (λ text.
         HasLaws renderer.now groups.now.items renderer.now.stylesheet (string_bytes text)) }
+    ensures refused { IfErr result (IsRefusalOf renderer.now groups.now.items) }
 {
     if report_fits(groups) {
         renderer.render(alloc, groups)

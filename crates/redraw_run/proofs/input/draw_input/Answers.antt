@@ -1,4 +1,4 @@
-use Rattle.redraw_run.proofs.Gone.{halts_end, reads_input}
+use Rattle.redraw_run.proofs.Gone.{halts_end, halts_stops, reads_input}
 use Rattle.redraw_run.proofs.Lined.{all_first, if_err_on, on_ok_err}
 use Rattle.redraw_run.proofs.input.draw_input.Goals as goal
 
@@ -16,7 +16,7 @@ pub returns-in_err-end-clause-halts : goal.returns-in_err-end-clause-halts
 returns-in_err-end-clause-halts g c =
     let all = c.in_ok-draw_lines.ensures.reads c.new-reading.ensures.empty in
     if_err_on _ _ c.from_residual-in_err-end.result c.from_residual-in_err-end.ensures.1
-    (all.0, all_first _ all.0 all.1, halts_end all.0 _ _ _ _ _ all.2 c.in_err-end.ensures.does)
+    (all.0, all_first _ all.0 all.1, halts_stops all.0 _ _ _ (halts_end all.0 _ _ _ _ _ all.2 c.in_err-end.ensures.does))
 
 pub returns-clause-reads : goal.returns-clause-reads
 returns-clause-reads g c =

@@ -1,8 +1,9 @@
-use Rattle.std.proofs.Common.{inl, inr, refl}
+use Rattle.std.proofs.Common.{sym, ◌∙◌}
+use Rattle.std.proofs.lemmas.Bool.{false≢true}
+use Rattle.clap.specs.Words.{kind_of}
+use Rattle.redraw_run.proofs.Asking.{memory_mistake}
 use Rattle.redraw_run.proofs.run.answer_error.Goals as goal
 
-pub returns-then-use_stderr-clause-answers : goal.returns-then-use_stderr-clause-answers
-returns-then-use_stderr-clause-answers g c = inr (refl, refl, c.tell_error.ensures.told)
-
-pub returns-clause-answers : goal.returns-clause-answers
-returns-clause-answers g c = inl (c.print_error.ensures.printed, refl)
+pub returns-clause-memory : goal.returns-clause-memory
+returns-clause-memory g c = λ memory.
+    absurd (false≢true (sym c.if-use_stderr.false ∙ c.use_stderr.ensures.1 (memory_mistake (kind_of c.args.error.now) memory)))

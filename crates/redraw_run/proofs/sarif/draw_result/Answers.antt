@@ -1,4 +1,4 @@
-use Rattle.std.proofs.Common.{inl, inr, refl}
+use Rattle.std.proofs.Common.{◌∙◌, inl, inr, refl}
 use Rattle.redraw_run.specs.Fates.{AreMessages, IsFound, IsReported, IsResult}
 use Rattle.redraw_run.proofs.Doing.{does_as, does_then, goes_as, goes_err, goes_then, stops_any, stops_none}
 use Rattle.redraw_run.proofs.Done.{does_same, does_tell_all}
@@ -9,14 +9,14 @@ pub returns-in_err-found : goal.returns-in_err-found
 returns-in_err-found g c =
     record {
       does = goes_err IsResult _ _ c.from_residual.result c.from_residual.ensures.1
-          (λ s q. stops_none IsResult s (does_same refl refl refl refl refl));
+          (λ s q. stops_none IsResult s q (does_same refl refl refl refl refl));
     }
 
 pub returns-in_err-tell_all : goal.returns-in_err-tell_all
 returns-in_err-tell_all g c =
     record {
       does = goes_err IsResult _ _ c.from_residual-in_err-tell_all.result c.from_residual-in_err-tell_all.ensures.1
-          (λ s q. stops_any s
+          (λ s q. stops_any s (q ∙ c.in_err-tell_all.ensures.memory)
           (does_as (result_part c.args.drawing.now.choice) (does_tell_all c.in_err-tell_all.ensures.told refl refl refl refl)));
     }
 

@@ -1,4 +1,4 @@
-use Rattle.std.proofs.Common.{refl}
+use Rattle.std.proofs.Common.{◌∙◌, refl}
 use Rattle.redraw_run.specs.Deeds.{IsPart}
 use Rattle.redraw_run.specs.Fates.{AreMessages, IsResult, IsRun, Then}
 use Rattle.redraw_run.proofs.Doing.{does_as, does_then, goes_err, goes_on, part_all, stops_any, stops_as, stops_then}
@@ -11,7 +11,7 @@ returns-in_err-tell_all g c =
     let choice = c.args.drawing.now.choice in
     record {
       does = goes_err IsRun _ _ c.from_residual.result c.from_residual.ensures.1
-          (λ s q. stops_any s
+          (λ s q. stops_any s (q ∙ c.in_err-tell_all.ensures.memory)
           (does_as {P = IsRun} (part_all {P = IsRun} choice)
           (does_as {P = AreMessages} (run_begins choice) (does_tell_all c.in_err-tell_all.ensures.told refl refl refl refl))));
     }

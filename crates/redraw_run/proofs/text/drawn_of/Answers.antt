@@ -5,6 +5,7 @@ use Rattle.annotate_snippets.specs.FormLaws.{HasLaws}
 use Rattle.annotate_snippets.specs.Forms.{ShowsReport}
 use Rattle.annotate_snippets.specs.declared.snippet.Group.{Group}
 use Rattle.redraw_run.specs.DrawnFinding.{ShowsFinding}
+use Rattle.redraw_run.proofs.Refusing.{undrawn_of}
 use Rattle.redraw_run.proofs.text.drawn_of.Goals as goal
 
 pub returns : goal.returns
@@ -27,4 +28,7 @@ returns g c =
           })
           (IfOk-both (λ text. Shows (string_bytes text)) (λ text. Laws (string_bytes text)) c.render_fitting.result
           c.render_fitting.ensures.shows c.render_fitting.ensures.laws);
+      refused =
+          undrawn_of r c.args.sources.now.files.items c.args.diagnostic.now c.in_ok-finding.finding groups c.render_fitting.result
+          c.in_ok-finding.ensures.is c.in_ok-groups.ensures.told c.render_fitting.ensures.refused;
     }

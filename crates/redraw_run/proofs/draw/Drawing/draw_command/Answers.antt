@@ -36,7 +36,7 @@ pub returns-in_err-count-in-Some-clause-does : goal.returns-in_err-count-in-Some
 returns-in_err-count-in-Some-clause-does g c = λ form err.
     let kept = c.in_err-count-in-Some.ensures.kept in
     goes_err (IsWritten c.args.diagnostic.now) _ _ c.from_residual-in_err-count-in-Some.result c.from_residual-in_err-count-in-Some.ensures.1
-    (λ s q. stops_none (IsWritten c.args.diagnostic.now) s (does_same refl refl c.in_err-count-in-Some.ensures.uncounted kept.0 kept.1))
+    (λ s q. stops_none (IsWritten c.args.diagnostic.now) s q (does_same refl refl c.in_err-count-in-Some.ensures.uncounted kept.0 kept.1))
 
 pub returns-in-None-clause-does : goal.returns-in-None-clause-does
 returns-in-None-clause-does g c = λ form err.

@@ -17,7 +17,7 @@ pub returns-in_err-is_seen-clause-does : goal.returns-in_err-is_seen-clause-does
 returns-in_err-is_seen-clause-does g c =
     let kept = c.in_err-is_seen.ensures.kept in
     goes_err (IsChosen c.args.diagnostic.now) _ _ c.from_residual.result c.from_residual.ensures.1
-    (λ s q. stops_none (IsChosen c.args.diagnostic.now) s (does_same refl refl c.in_err-is_seen.ensures.uncounted kept.0 kept.1))
+    (λ s q. stops_none (IsChosen c.args.diagnostic.now) s q (does_same refl refl c.in_err-is_seen.ensures.uncounted kept.0 kept.1))
 
 pub returns-then-is_seen-clause-once : goal.returns-then-is_seen-clause-once
 returns-then-is_seen-clause-once g c =

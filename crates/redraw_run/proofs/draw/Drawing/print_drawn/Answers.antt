@@ -1,20 +1,20 @@
 use Rattle.std.proofs.Common.{ap, refl, string_bytes, ◌∙◌}
 use Rattle.annotate_snippets.specs.declared.renderer.Renderer.{Renderer}
-use Rattle.redraw_run.specs.DrawnFinding.{ShowsFinding, ending_after}
+use Rattle.redraw_run.specs.DrawnFinding.{IsUndrawn, ShowsFinding, ending_after}
 use Rattle.redraw_run.specs.Fates.{IsShown}
-use Rattle.redraw_run.proofs.Doing.{does_as, goes_err, stops_none}
-use Rattle.redraw_run.proofs.Done.{at_ok, does_same, ended, goes_drawn}
-use Rattle.redraw_run.proofs.Fated.{shown_wrong}
+use Rattle.redraw_run.proofs.Doing.{goes_err, stops_none}
+use Rattle.redraw_run.proofs.Done.{at_err, at_ok, does_same, ended, goes_drawn}
+use Rattle.redraw_run.proofs.Refusing.{left_by}
 use Rattle.redraw_run.proofs.draw.Drawing.print_drawn.Goals as goal
 
 pub returns-in_err-count-in-Ok-clause-does : goal.returns-in_err-count-in-Ok-clause-does
-returns-in_err-count-in-Ok-clause-does g c = λ form files shows.
+returns-in_err-count-in-Ok-clause-does g c = λ form files shows undrawn.
     let kept = c.in_err-count-in-Ok.ensures.kept in
     goes_err (IsShown c.args.diagnostic.now) _ _ c.from_residual.result c.from_residual.ensures.1
-    (λ s q. stops_none (IsShown c.args.diagnostic.now) s (does_same refl refl c.in_err-count-in-Ok.ensures.uncounted kept.0 kept.1))
+    (λ s q. stops_none (IsShown c.args.diagnostic.now) s q (does_same refl refl c.in_err-count-in-Ok.ensures.uncounted kept.0 kept.1))
 
 pub returns-in_ok-count-in-Ok-clause-does : goal.returns-in_ok-count-in-Ok-clause-does
-returns-in_ok-count-in-Ok-clause-does g c = λ form files shows.
+returns-in_ok-count-in-Ok-clause-does g c = λ form files shows undrawn.
     let kept = c.in_ok-count-in-Ok.ensures.kept in
     let r = c.args.self.now.renderer in
     let d = c.args.diagnostic.now in
@@ -24,4 +24,9 @@ returns-in_ok-count-in-Ok-clause-does g c = λ form files shows.
     c.print.ensures.writes
 
 pub returns-in-Err-clause-does : goal.returns-in-Err-clause-does
-returns-in-Err-clause-does g c = λ form files shows. does_as (shown_wrong c.args.diagnostic.now c.args.self.now.choice) (c.wrong.ensures.does _)
+returns-in-Err-clause-does g c = λ form files shows undrawn.
+    let r = c.args.self.now.renderer in
+    c.refuse.ensures.does form files (at_err c.args.text c.in-Err.error (IsUndrawn r files c.args.diagnostic.now) c.in-Err.is undrawn) _
+
+pub returns-in-Err-clause-left_out : goal.returns-in-Err-clause-left_out
+returns-in-Err-clause-left_out g c = left_by c.refuse.result c.args.text c.in-Err.error _ _ _ c.in-Err.is refl c.refuse.ensures.left_out

@@ -8,7 +8,7 @@ pub returns-in_err-make_relative : goal.returns-in_err-make_relative
 returns-in_err-make_relative g c =
     record {
       does = goes_err IsReported _ _ c.from_residual.result c.from_residual.ensures.1
-          (λ s q. stops_none IsReported s (does_same refl refl refl refl refl));
+          (λ s q. stops_none IsReported s q (does_same refl refl refl refl refl));
     }
 
 pub returns : goal.returns

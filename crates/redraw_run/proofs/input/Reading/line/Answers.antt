@@ -1,14 +1,7 @@
-use Rattle.std.proofs.Common.{ap, refl, sym, ◌∙◌}
-use Rattle.redraw_command.specs.declared.stop.Stop.TheVariants.{Utf16}
-use Rattle.redraw_run.specs.Fates.{IsNextIn, document_of}
-use Rattle.redraw_run.proofs.Doing.{stops_none}
-use Rattle.redraw_run.proofs.Done.{does_same}
+use Rattle.std.proofs.Common.{ap, sym, ◌∙◌}
+use Rattle.redraw_run.specs.Fates.{document_of}
 use Rattle.redraw_run.proofs.Lined.{advances_document, none_of, some_of}
 use Rattle.redraw_run.proofs.input.Reading.line.Goals as goal
-
-pub returns-then-is_refused : goal.returns-then-is_refused
-returns-then-is_refused g c =
-    record { advances = stops_none (IsNextIn c.args.bytes.now (document_of c.args.self.now.document)) Utf16 (does_same refl refl refl refl refl) }
 
 pub returns-then-is_some : goal.returns-then-is_some
 returns-then-is_some g c =
@@ -17,7 +10,7 @@ returns-then-is_some g c =
     record {
       advances =
           advances_document c.document_line.result c.args.bytes.now there.0.items _ _ _ _ was (c.document_line.ensures.grows there.0.items was)
-          (c.document_line.ensures.does (g.W.Write.contents c.args.out.now));
+          c.document_line.ensures.memory (c.document_line.ensures.does (g.W.Write.contents c.args.out.now));
     }
 
 pub returns-else-is_some : goal.returns-else-is_some

@@ -10,7 +10,7 @@ returns-then-starts_with g c =
     record {
       advances = λ is begins reads was.
           advances_open c.no_value.result c.args.bytes.now c.args.line.now _ _ _ _ is begins (inr reads) (no_document _ was)
-          (c.no_value.ensures.leaves (g.W.Write.contents c.args.out.now));
+          c.no_value.ensures.memory (c.no_value.ensures.leaves (g.W.Write.contents c.args.out.now));
     }
 
 pub returns-else-starts_with : goal.returns-else-starts_with

@@ -10,7 +10,7 @@ pub returns-in_err-read : goal.returns-in_err-read
 returns-in_err-read g c =
     record {
       advances = λ is begins was.
-          advances_err c.from_residual.result c.args.bytes.now _ _ _ _ c.from_residual.ensures.0 (does_same refl refl refl refl refl);
+          advances_err c.from_residual.result c.args.bytes.now _ _ _ _ c.from_residual.ensures.1 (does_same refl refl refl refl refl);
     }
 
 pub returns-in-Ok : goal.returns-in-Ok

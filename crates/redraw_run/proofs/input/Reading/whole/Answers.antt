@@ -10,7 +10,7 @@ pub returns-in_err-read : goal.returns-in_err-read
 returns-in_err-read g c =
     record {
       does = goes_err (IsWhole c.args.text.now) _ _ c.from_residual.result c.from_residual.ensures.1
-          (λ s q. stops_none (IsWhole c.args.text.now) s (does_same refl refl refl refl refl));
+          (λ s q. stops_none (IsWhole c.args.text.now) s q (does_same refl refl refl refl refl));
     }
 
 pub returns-in-Ok : goal.returns-in-Ok

@@ -1,0 +1,31 @@
+use Rattle.std.proofs.Common.{ap, ap₂, true, ◌∙◌}
+use Rattle.clap.specs.Simple.{App, app_of_fields, on_top, with_rule}
+use Rattle.redraw_command.specs.Words.{flag_rules, valued_rules, with_rules}
+use Rattle.redraw_command.proofs.words.command.Goals as goal
+
+abbrev versioned : App → App
+versioned = on_top (λ s. record s { has_version = true })
+
+abbrev unnamed : App → App
+unnamed = on_top (λ s. record s { no_binary_name = true })
+
+abbrev overriding : App → App
+overriding = on_top (λ s. record s { args_override_self = true })
+
+pub returns : goal.returns
+returns c =
+    let base = ap app_of_fields c.args_override_self-command.ensures ∙ ap overriding (ap app_of_fields c.no_binary_name.ensures
+    ∙ ap unnamed (ap app_of_fields c.version.ensures
+    ∙ ap versioned (ap app_of_fields c.about.ensures ∙ c.new.ensures.app))) in
+    let (colors, levels, color_words, level_words, valued) = c.in_ok-valued.ensures.app in
+    let flagged = c.in_ok-flagged.ensures.app ∙ ap (λ (app : App). with_rules app flag_rules) base in
+    record {
+      app = record {
+        colors = colors;
+        levels = levels;
+        color_words = color_words;
+        level_words = level_words;
+        is = c.in_ok-whole.ensures.shape c.inputs.ensures.local
+            ∙ ap₂ with_rule (valued ∙ ap (λ (app : App). with_rules app (valued_rules colors levels)) flagged) c.inputs.ensures.rule;
+      };
+    }

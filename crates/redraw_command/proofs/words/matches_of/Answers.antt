@@ -1,0 +1,30 @@
+use Rattle.std.proofs.Common.{refl}
+use Rattle.clap.specs.Words.{app_of}
+use Rattle.redraw_command.specs.Words.{color_words, level_words, redraw_app, words_at}
+use Rattle.redraw_command.proofs.CommandLines.{simple}
+use Rattle.redraw_command.proofs.Wording.{fails_for_memory, lent_words, matched_rows, none_matched}
+use Rattle.redraw_command.proofs.words.matches_of.Goals as goal
+
+pub returns-in_err-command : goal.returns-in_err-command
+returns-in_err-command c =
+    record {
+      matches = (
+        redraw_app (lent_words color_words) (lent_words level_words),
+        record { colors = lent_words color_words; levels = lent_words level_words; color_words = refl; level_words = refl; is = refl },
+        fails_for_memory c.from_residual.result _ c.from_residual.ensures.1,
+        none_matched _ _ c.from_residual.result c.from_residual.ensures.1,
+      );
+    }
+
+pub returns : goal.returns
+returns c =
+    let app = app_of c.in_ok-command.command in
+    let is = c.in_ok-command.ensures.app in
+    record {
+      matches = (
+        app,
+        is,
+        c.try_get_matches_from.ensures.kinds (simple app is),
+        matched_rows app (words_at c.args.words.now) c.try_get_matches_from.result (simple app is) c.try_get_matches_from.ensures.matches,
+      );
+    }

@@ -1,0 +1,19 @@
+use Rattle.std.proofs.Common.{ap₂, refl, ◌∙◌}
+use Rattle.clap.specs.Simple.{with_rule}
+use Rattle.redraw_command.proofs.words.with_values.Goals as goal
+
+pub returns : goal.returns
+returns c =
+    let color = c.in_ok-arg.ensures.shape c.valued-color.ensures.local ∙ ap₂ with_rule refl c.valued-color.ensures.rule in
+    let width = c.in_ok-arg-2.ensures.shape c.valued-width.ensures.local ∙ ap₂ with_rule color c.valued-width.ensures.rule in
+    let root = c.in_ok-arg-3.ensures.shape c.valued-root.ensures.local ∙ ap₂ with_rule width c.valued-root.ensures.rule in
+    let level = c.in_ok-arg-4.ensures.shape c.valued-level.ensures.local ∙ ap₂ with_rule root c.valued-level.ensures.rule in
+    record {
+      app = (
+        c.color_words-colors.result,
+        c.level_words-levels.result,
+        c.color_words-colors.ensures.words,
+        c.level_words-levels.ensures.words,
+        c.in_ok-valued.ensures.shape c.valued-path.ensures.local ∙ ap₂ with_rule level c.valued-path.ensures.rule,
+      );
+    }

@@ -1,0 +1,183 @@
+-- What the words of a command line ask for.
+use Rattle.std.specs.Prelude.{◌≡◌, ◌≢◌, ◌⊎◌, ℕ, ◌^◌, Bool, true, false, ◌&&◌, List, [], ◌∷◌, Option, Some, None, codes, map}
+use Rattle.std.specs.Prelude.{if◌then◌else◌, bytes_eq, nat_lt, option_map}
+use Rattle.std.specs.Borrow.{Bor}
+use Rattle.std.specs.Option.{option_and_then, option_map_or}
+use Rattle.std.specs.Str.Parse.{digits_value, without_leading_plus}
+use Rattle.clap.specs.Faults.{fault_of}
+use Rattle.clap.specs.Kinds.{IsAmong}
+use Rattle.clap.specs.Lexer.{usize_max}
+use Rattle.clap.specs.Simple.{App, matches_of, new_app, new_rule, on_top, with_rule}
+use Rattle.clap.specs.ValueTests.{is_numeral}
+use Rattle.clap.specs.Walk.{Row, Rule, all_of, first_of}
+use Rattle.clap.specs.declared.builder.action.ArgAction.TheVariants.{Append, Set, SetTrue}
+use Rattle.clap.specs.declared.builder.value_parser.ValueParser.{ValueParser}
+use Rattle.clap.specs.declared.builder.value_parser.ValueParser.TheVariants.{Names, NonEmptyString, Unsigned}
+use Rattle.clap.specs.declared.error.kind.ErrorKind.{ErrorKind}
+use Rattle.clap.specs.declared.error.kind.ErrorKind.TheVariants.{DisplayHelp, DisplayVersion}
+use Rattle.redraw_command.specs.declared.choice.Choice.{Choice}
+use Rattle.redraw_command.specs.declared.choice.Form.{Form}
+use Rattle.redraw_command.specs.declared.choice.Form.TheVariants.{Report, Workflow}
+use Rattle.redraw_command.specs.declared.choice.Least.{Least}
+use Rattle.redraw_command.specs.declared.choice.Least.TheVariants as least
+use Rattle.redraw_command.specs.declared.terminal.Look.{Look}
+use Rattle.redraw_command.specs.declared.terminal.When.{When}
+use Rattle.redraw_command.specs.declared.terminal.When.TheVariants.{Auto, Always, Never}
+use Rattle.redraw_command.specs.declared.words.Request.{Request}
+
+-- a word, by its bytes
+abbrev pub Word : Type 0
+Word = List ℕ
+
+-- the words that a list of references leads to
+abbrev pub words_at : List (Bor Word) → List Word
+words_at refs = map (λ (w : Bor Word). w.now) refs
+
+-- ---- what may be written, as clap reads it
+
+-- an option that stands alone: two hyphens and this name
+abbrev pub flag_rule : Word → Rule
+flag_rule name = record (new_rule name) { long = Some name; action = Some SetTrue }
+
+-- an option that has a value after it, which has to be such a one
+abbrev pub valued_rule : Word → ValueParser → Rule
+valued_rule name parser = record (new_rule name) {
+  long = Some name;
+  action = Some Set;
+  value_names = 1;
+  parser = Some parser;
+}
+
+-- the files: as many as there are
+abbrev pub inputs_rule : Rule
+inputs_rule = record (new_rule (codes "inputs")) {
+  action = Some Append;
+  range = Some (record { start_inclusive = 0; end_inclusive = usize_max });
+  value_names = 1;
+}
+
+-- the options that stand alone
+abbrev pub flag_rules : List Rule
+flag_rules =
+    flag_rule (codes "unicode") ∷ flag_rule (codes "text") ∷ flag_rule (codes "short") ∷ flag_rule (codes "github")
+    ∷ flag_rule (codes "styled") ∷ flag_rule (codes "links") ∷ flag_rule (codes "duplicates") ∷ flag_rule (codes "quiet")
+    ∷ flag_rule (codes "confined") ∷ []
+
+-- the words that may stand after `--color`, and after `--level`
+abbrev pub color_words : List Word
+color_words = codes "auto" ∷ codes "always" ∷ codes "never" ∷ []
+
+abbrev pub level_words : List Word
+level_words = codes "error" ∷ codes "warning" ∷ codes "note" ∷ []
+
+-- the options that have a value after them, where these are the words for two of them
+abbrev pub valued_rules : (colors levels : Bor (List (Bor Word))) → List Rule
+valued_rules colors levels =
+    valued_rule (codes "color") (Names colors) ∷ valued_rule (codes "width") (Unsigned 0 18446744073709551615)
+    ∷ valued_rule (codes "root") NonEmptyString ∷ valued_rule (codes "level") (Names levels)
+    ∷ valued_rule (codes "path") NonEmptyString ∷ []
+
+-- a command with more options
+abbrev pub with_rules : App → List Rule → App
+with_rules app [] = app
+with_rules app (rule ∷ rules) = with_rules (with_rule app rule) rules
+
+-- the command before its options, beside help and a version. The program's name isn't among its words, and an option that is given
+-- again counts as it is given last
+abbrev pub bare_app : App
+bare_app = on_top (λ s. record s { no_binary_name = true; has_version = true; args_override_self = true }) (new_app (codes "redraw"))
+
+-- the command, where these are the words for two of its options
+abbrev pub redraw_app : (colors levels : Bor (List (Bor Word))) → App
+redraw_app colors levels = with_rule (with_rules (with_rules bare_app flag_rules) (valued_rules colors levels)) inputs_rule
+
+-- that command. Where in memory the words for two of its options stand is left open
+pub record IsRedraw (app : App) : Type 0 where
+  pub colors : Bor (List (Bor Word))
+  pub levels : Bor (List (Bor Word))
+  pub color_words : words_at colors.now ≡ color_words
+  pub level_words : words_at levels.now ≡ level_words
+  pub is : app ≡ redraw_app colors levels
+
+-- ---- what is asked for, by what clap finds
+
+-- an option that stands alone was given
+abbrev pub was_given : Word → List Row → Bool
+was_given name found = option_map_or (λ value. bytes_eq value (codes "true")) (first_of name found) false
+
+-- when colours are written where `--color` isn't given: always with `--styled`, else on a terminal that shows them
+abbrev pub otherwise : Bool → When
+otherwise is_styled = if is_styled then Always else Auto
+
+-- when colours are written, by the word after `--color`, if that is given
+abbrev pub when_of : Option Word → Bool → When
+when_of None is_styled = otherwise is_styled
+when_of (Some word) is_styled =
+    if bytes_eq word (codes "always") then Always else (if bytes_eq word (codes "never") then Never else otherwise is_styled)
+
+-- the number that decimal digits write, after a plus or without, where it fits in 64 bits
+abbrev pub number_of : Word → Option ℕ
+number_of word =
+    let digits = without_leading_plus word in
+    if is_numeral digits && nat_lt (digits_value 10 digits) (2 ^ 64) then Some (digits_value 10 digits) else None
+
+-- the least level that is drawn, by the word after `--level`, if that is given
+abbrev pub least_of : Option Word → Least
+least_of None = least.Any
+least_of (Some word) =
+    if bytes_eq word (codes "error") then least.Error else (if bytes_eq word (codes "warning") then least.Warning else least.Any)
+
+-- the form of what is drawn
+abbrev pub form_of : Bool → Form
+form_of is_github = if is_github then Workflow else Report
+
+-- the word that a reference leads to, if there is one
+abbrev pub word_at : Option (Bor Word) → Option Word
+word_at word = option_map (λ (w : Bor Word). w.now) word
+
+-- how reports are to look, by what is found
+abbrev pub look_of : List Row → Look
+look_of found = record {
+  unicode = was_given (codes "unicode") found;
+  text = was_given (codes "text") found;
+  short = was_given (codes "short") found;
+  colors = when_of (first_of (codes "color") found) (was_given (codes "styled") found);
+  links = was_given (codes "links") found;
+  width = option_and_then number_of (first_of (codes "width") found);
+}
+
+-- which findings are drawn, and in which form, by what is found
+pub record IsChoiceOf (found : List Row) (c : Choice) : Type 0 where
+  pub form : c.form ≡ form_of (was_given (codes "github") found)
+  pub least : c.least ≡ least_of (first_of (codes "level") found)
+  pub path : word_at c.path ≡ first_of (codes "path") found
+  pub duplicates : c.has_duplicates ≡ was_given (codes "duplicates") found
+  pub quiet : c.is_quiet ≡ was_given (codes "quiet") found
+
+-- the names of files, if there are some
+abbrev pub names_at : Option (Bor (List (Bor Word))) → Option (List Word)
+names_at names = option_map (λ (ns : Bor (List (Bor Word))). words_at ns.now) names
+
+-- what is asked for, by what is found
+pub record IsRequestOf (found : List Row) (r : Request) : Type 0 where
+  pub look : r.look ≡ look_of found
+  pub root : word_at r.root ≡ first_of (codes "root") found
+  pub confined : r.is_confined ≡ was_given (codes "confined") found
+  pub choice : IsChoiceOf found r.choice
+  pub inputs : names_at r.inputs ≡ all_of (codes "inputs") found
+
+-- the words ask for this: clap finds nothing wrong with them, and what it finds asks for it
+pub record AsksFor (app : App) (words : List Word) (r : Request) : Type 0 where
+  pub clean : fault_of app words ≡ []
+  pub is : IsRequestOf (matches_of app words) r
+
+-- the words ask for the help or the version: that is what ends clap's reading
+abbrev pub AsksToShow : App → List Word → Type 0
+AsksToShow app words = IsAmong DisplayHelp (fault_of app words) ⊎ IsAmong DisplayVersion (fault_of app words)
+
+-- the words are wrong: something other than these ends clap's reading
+pub record AreWrong (app : App) (words : List Word) : Type 0 where
+  pub kind : ErrorKind
+  pub found : IsAmong kind (fault_of app words)
+  pub no_help : kind ≢ DisplayHelp
+  pub no_version : kind ≢ DisplayVersion
