@@ -4,8 +4,6 @@
 #![tactic(auto)]
 
 #[cfg(test)]
-mod context;
-#[cfg(test)]
 mod grid;
 #[cfg(test)]
 mod line;
@@ -23,5 +21,3 @@ mod snip;
 mod tidy;
 #[cfg(test)]
 mod to_writer;
-#[cfg(test)]
-mod wrap;
