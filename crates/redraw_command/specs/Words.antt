@@ -1,6 +1,6 @@
 -- What the words of a command line ask for.
 use Rattle.std.specs.Prelude.{◌≡◌, ◌≢◌, ◌⊎◌, ℕ, ◌^◌, Bool, true, false, ◌&&◌, List, [], ◌∷◌, Option, Some, None, codes, map}
-use Rattle.std.specs.Prelude.{if◌then◌else◌, bytes_eq, nat_lt, option_map}
+use Rattle.std.specs.Prelude.{if◌then◌else◌, bytes_eq, nat_lt, not, option_map}
 use Rattle.std.specs.Borrow.{Bor}
 use Rattle.std.specs.Option.{option_and_then, option_map_or}
 use Rattle.std.specs.Str.Parse.{digits_value, without_leading_plus}
@@ -60,7 +60,7 @@ inputs_rule = record (new_rule (codes "inputs")) {
 abbrev pub flag_rules : List Rule
 flag_rules =
     flag_rule (codes "unicode") ∷ flag_rule (codes "text") ∷ flag_rule (codes "short") ∷ flag_rule (codes "github")
-    ∷ flag_rule (codes "styled") ∷ flag_rule (codes "links") ∷ flag_rule (codes "duplicates") ∷ flag_rule (codes "quiet")
+    ∷ flag_rule (codes "html") ∷ flag_rule (codes "styled") ∷ flag_rule (codes "links") ∷ flag_rule (codes "duplicates") ∷ flag_rule (codes "quiet")
     ∷ flag_rule (codes "confined") ∷ []
 
 -- the words that may stand after `--color`, and after `--level`
@@ -141,6 +141,7 @@ look_of found = record {
   unicode = was_given (codes "unicode") found;
   text = was_given (codes "text") found;
   short = was_given (codes "short") found;
+  html = was_given (codes "html") found && not (was_given (codes "github") found);
   colors = when_of (first_of (codes "color") found) (was_given (codes "styled") found);
   links = was_given (codes "links") found;
   width = option_and_then number_of (first_of (codes "width") found);

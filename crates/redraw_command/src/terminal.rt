@@ -20,6 +20,8 @@ pub struct Look {
     pub text: bool,
     /// Whether reports are written on one line each.
     pub short: bool,
+    /// Whether reports are written as HTML, in the graphic form, and all that is printed is one document.
+    pub html: bool,
     /// When reports are written with style codes.
     pub colors: When,
     /// Whether the names of errors link to pages that explain them, where style codes are written.

@@ -1,6 +1,6 @@
 //! The words of the command line, without the program's name.
 
-ghost use Rattle.std.specs.Prelude.{◌≡◌, codes, false, IfOk};
+ghost use Rattle.std.specs.Prelude.{◌≡◌, ◌&&◌, codes, false, not, IfOk};
 ghost use Rattle.clap.specs.Words.{FailsBy, app_of, fault_of, found_of, rows_of, rule_of};
 ghost use Rattle.clap.specs.Walk.{all_of, first_of};
 ghost use Rattle.clap.specs.Simple.{matches_of as rows_for};
@@ -88,6 +88,7 @@ fn with_flags<'a>(alloc: Global, command: Command<'a>) -> Result<Command<'a>, Al
         "github",
         "Write each finding as a workflow command of GitHub, on one line",
     );
+    let html = flag(alloc, "html", "Write one HTML document of all reports");
     let styled = flag(alloc, "styled", "The same as --color always");
     let links = flag(
         alloc,
@@ -110,6 +111,7 @@ fn with_flags<'a>(alloc: Global, command: Command<'a>) -> Result<Command<'a>, Al
         .arg(text)?
         .arg(short)?
         .arg(github)?
+        .arg(html)?
         .arg(styled)?
         .arg(links)?
         .arg(duplicates)?
@@ -269,10 +271,18 @@ fn look_of(matches: &ArgMatches<'_>) -> Look
         unicode: has(matches, "unicode"),
         text: has(matches, "text"),
         short: has(matches, "short"),
+        html: is_html(has(matches, "html"), has(matches, "github")),
         colors: colors_of(color, has(matches, "styled")),
         links: has(matches, "links"),
         width: width_of(width),
     }
+}
+
+/// Whether reports are to be written as HTML: where that is asked for, and workflow commands aren't.
+fn is_html(is_asked: bool, is_github: bool) -> bool
+    ensures value { result ≡ is_asked && not is_github }
+{
+    is_asked && !is_github
 }
 
 /// When colors are to be written, by the word that says when, and whether they always are where none does.

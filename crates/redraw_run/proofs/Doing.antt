@@ -5,7 +5,7 @@ use Rattle.std.specs.Io.KnownBytes.{Appends}
 use Rattle.std.specs.List.{flat_map}
 use Rattle.std.proofs.KnownBytes.{Appends-nil, Appends-trans}
 use Rattle.std.proofs.lemmas.List.Concat.{flat_map-append}
-use Rattle.annotate_snippets.specs.declared.renderer.Renderer.{Renderer}
+use Rattle.redraw_run.specs.declared.look.ReportRenderer.{ReportRenderer}
 use Rattle.redraw_command.specs.Tally.{tallied}
 use Rattle.redraw_command.specs.Choice.{is_sum}
 use Rattle.redraw_command.specs.declared.choice.Choice.{Choice}
@@ -18,7 +18,7 @@ use Rattle.redraw_run.specs.Deeds.{State, Deed, Drawn, Commanded, HandedOn, Told
 use Rattle.redraw_run.specs.Deeds.{tally_after, tally_by, with_files, Does, AppendsFirst, IsCutShort, IsPart, Stops, Goes}
 use Rattle.redraw_run.specs.Fates.{AreNone, Then}
 
-deeds_both : (r : Renderer) (c : Choice) (ds es : List Deed) → AreDeeds r c ds → AreDeeds r c es → AreDeeds r c (ds ++ es)
+deeds_both : (r : ReportRenderer) (c : Choice) (ds es : List Deed) → AreDeeds r c ds → AreDeeds r c es → AreDeeds r c (ds ++ es)
 deeds_both r c [] es p q = q
 deeds_both r c (d ∷ ds) es p q = (p.0, deeds_both r c ds es p.1 q)
 

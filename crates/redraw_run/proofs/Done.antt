@@ -7,7 +7,7 @@ use Rattle.std.specs.Io.KnownBytes.{Appends, Keeps}
 use Rattle.std.specs.List.{concat, flat_map}
 use Rattle.std.proofs.Math.Dec.{eqb-suc-zero}
 use Rattle.std.proofs.KnownBytes.{Appends-kept, Appends-nil, Appends-trans}
-use Rattle.annotate_snippets.specs.declared.renderer.Renderer.{Renderer}
+use Rattle.redraw_run.specs.declared.look.ReportRenderer.{ReportRenderer}
 use Rattle.annotate_snippets.specs.declared.renderer.error.RenderError.{RenderError}
 use Rattle.program.specs.Stream.{AppendsPart}
 use Rattle.redraw_command.specs.Tally.{is_empty, one_more}
@@ -25,7 +25,8 @@ use Rattle.redraw_run.specs.Deeds.{told}
 use Rattle.redraw_run.specs.Deeds.{left_out, tally_by, with_files, repeated, Does, AppendsFirst, IsCutShort, IsUnwritable, Writes, Stops}
 use Rattle.redraw_run.specs.Deeds.{Goes}
 use Rattle.redraw_run.specs.DrawnFinding.{IsCounted, RefusesFinding, ShowsFinding, ending_after}
-use Rattle.redraw_run.specs.ReadLines.{SumsUp, TellsUnless}
+use Rattle.redraw_run.specs.HtmlDocument.{handed}
+use Rattle.redraw_run.specs.ReadLines.{Prints, SumsUp, TellsUnless}
 use Rattle.redraw_run.specs.Fates.{AreMessages, AreNone, IsFailed, IsHandedOn, LeavesOut, IsRepeated, IsShown, IsTelling, IsWritten, IsWrong, Then}
 use Rattle.redraw_run.proofs.Doing.{does_as, does_then, first_more, first_then}
 
@@ -72,7 +73,7 @@ tellings : List (List ℕ) → List Deed
 tellings [] = []
 tellings (part ∷ parts) = Told part ∷ tellings parts
 
-tellings_are : (r : Renderer) (c : Choice) (parts : List (List ℕ)) → AreTold parts → AreDeeds r c (tellings parts)
+tellings_are : (r : ReportRenderer) (c : Choice) (parts : List (List ℕ)) → AreTold parts → AreDeeds r c (tellings parts)
 unfolding tellings
 tellings_are r c [] h = tt
 tellings_are r c (part ∷ parts) h = (h.0, tellings_are r c parts h.1)
@@ -82,7 +83,7 @@ unfolding tellings
 tellings_told [] = refl
 tellings_told (part ∷ parts) = ap (λ l. part ++ l) (tellings_told parts)
 
-tellings_printed : (r : Renderer) (parts : List (List ℕ)) → [] ≡ flat_map (printed r) (tellings parts)
+tellings_printed : (r : ReportRenderer) (parts : List (List ℕ)) → [] ≡ flat_map (printed r) (tellings parts)
 unfolding tellings
 tellings_printed r [] = refl
 tellings_printed r (part ∷ parts) = tellings_printed r parts
@@ -214,13 +215,13 @@ stops_cut (Unwritable error) is h = h
 stops_cut (Unreadable error) is h = absurd is
 stops_cut Utf16 is h = absurd is
 
-all_printed : (r : Renderer) (deed : Deed) (text : List ℕ) → text ≡ printed r deed → text ≡ flat_map (printed r) (deed ∷ [])
+all_printed : (r : ReportRenderer) (deed : Deed) (text : List ℕ) → text ≡ printed r deed → text ≡ flat_map (printed r) (deed ∷ [])
 all_printed r deed text is = is ∙ sym (append-nil (printed r deed))
 
 -- a finding is drawn, and what it gives is written
 pub goes_drawn : {T : Type 0} (a b : State) (r : Result T Stop) (d : Diagnostic) (text bytes : List ℕ) (files : List File) → a.choice.form ≡ Report
     → ShowsFinding a.renderer files d text → IsCounted d a.tally b.tally → b.renderer ≡ a.renderer → b.choice ≡ a.choice → b.err ≡ a.err
-    → bytes ≡ text ++ (ending_after a.renderer.short_message d.severity ++ 10 ∷ []) → Writes r a.out b.out bytes → Goes r (IsShown d) a b
+    → bytes ≡ text ++ (ending_after a.renderer.settings.short_message d.severity ++ 10 ∷ []) → Writes r a.out b.out bytes → Goes r (IsShown d) a b
 goes_drawn a b (Ok x) d text bytes files form shows counted renderer choice err is writes =
     record {
       deeds = Drawn d text ∷ [];
@@ -268,26 +269,26 @@ goes_commanded a b (Err s) d line bytes form made counted renderer choice err is
     }
 
 -- a line is handed on
-pub goes_handed : {T : Type 0} (a b : State) (r : Result T Stop) (line : List ℕ) → b.tally ≡ a.tally → b.renderer ≡ a.renderer
-    → b.choice ≡ a.choice → b.err ≡ a.err → Writes r a.out b.out line → Goes r (IsHandedOn line) a b
-goes_handed a b (Ok x) line tally renderer choice err writes =
+pub goes_handed : {T : Type 0} (a b : State) (r : Result T Stop) (line bytes : List ℕ) → b.tally ≡ a.tally → b.renderer ≡ a.renderer
+    → b.choice ≡ a.choice → b.err ≡ a.err → bytes ≡ handed a.renderer.is_html line → Writes r a.out b.out bytes → Goes r (IsHandedOn line) a b
+goes_handed a b (Ok x) line bytes tally renderer choice err is writes =
     record {
       deeds = HandedOn line ∷ [];
       are = (tt, tt);
       fit = refl;
-      out = subst (Appends a.out b.out) (all_printed a.renderer (HandedOn line) line refl) writes;
+      out = subst (Appends a.out b.out) (all_printed a.renderer (HandedOn line) bytes is) writes;
       err = same_appends a.err b.err err;
       tally = tally_is b.tally a.tally tally;
       renderer = renderer;
       choice = choice;
     }
-goes_handed a b (Err s) line tally renderer choice err writes =
+goes_handed a b (Err s) line bytes tally renderer choice err is writes =
     stops_cut s writes.0
     record {
       deeds = HandedOn line ∷ [];
       are = (tt, tt);
       fit = record { is = inr ([], refl) };
-      out = subst (AppendsFirst a.out b.out) (all_printed a.renderer (HandedOn line) line refl) writes.1;
+      out = subst (AppendsFirst a.out b.out) (all_printed a.renderer (HandedOn line) bytes is) writes.1;
       err = same_appends a.err b.err err;
     }
 
@@ -296,6 +297,12 @@ pub writes_then : {T : Type 0} (a b c : Option (List ℕ)) (r : Result T Stop) (
     → Writes r a c whole
 writes_then a b c (Ok x) bs cs whole is p q = subst (Appends a c) (sym is) (Appends-trans a b c bs cs p q)
 writes_then a b c (Err s) bs cs whole is p q = (q.0, subst (AppendsFirst a c) (sym is) (first_then a b c bs cs p q.1))
+
+-- the same where it is only printed
+pub prints_then : {T E : Type 0} (a b c : Option (List ℕ)) (r : Result T E) (bs cs whole : List ℕ) → whole ≡ bs ++ cs → Appends a b bs → Prints r b c cs
+    → Prints r a c whole
+prints_then a b c (Ok x) bs cs whole is p q = subst (Appends a c) (sym is) (Appends-trans a b c bs cs p q)
+prints_then a b c (Err e) bs cs whole is p q = subst (AppendsFirst a c) (sym is) (first_then a b c bs cs p q)
 
 -- a flush adds nothing
 pub writes_none : (a b : Option (List ℕ)) → Keeps a b → Appends a b []

@@ -7,7 +7,7 @@ use Rattle.redraw_run.specs.Deeds.{Deed, Drawn, Commanded, HandedOn, Told, Refus
 use Rattle.redraw_run.specs.Fates.{AreMessages, AreNone, AreResults, AreRuns, Each, IsChosen, IsFound, IsHandedOn, IsKnown, IsRepeated}
 use Rattle.redraw_run.specs.Fates.{IsResult, IsRun, IsShown}
 use Rattle.redraw_run.specs.Fates.{IsUnknown, IsWrong, Then}
-use Rattle.redraw_run.specs.declared.input.Kind.{Kind}
+use Rattle.redraw_run.specs.declared.kind.Kind.{Kind}
 use Rattle.redraw_run.proofs.Doing.{part_as, part_then}
 
 -- one after the other, of three

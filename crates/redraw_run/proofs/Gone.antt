@@ -3,7 +3,7 @@ use Rattle.std.proofs.Common.{◌≡◌, ◌⊎◌, ◌++◌, ◌∙◌, ◌&&�
 use Rattle.std.proofs.Common.{length, length-append, refl, subst, sym, true}
 use Rattle.std.specs.Prelude.{IfErr, IfOk, OnOk, Result, Ok, Err}
 use Rattle.std.specs.declared.io.Error.{Error}
-use Rattle.annotate_snippets.specs.declared.renderer.Renderer.{Renderer}
+use Rattle.redraw_run.specs.declared.look.ReportRenderer.{ReportRenderer}
 use Rattle.redraw_command.specs.Tally.{no_tally, status_of}
 use Rattle.redraw_command.specs.declared.tally.Tally.{Tally}
 use Rattle.redraw_command.specs.Told.{Tells, TellsMemory}
@@ -16,7 +16,7 @@ use Rattle.redraw_run.specs.Fates.{AreNone, Each, Halts, IsHalted, IsOfUtf16, Is
 use Rattle.redraw_run.specs.Inputs.{AreAllIn, AreCut, AreDrawn, AreFirstIn, Input, IsCutFrom, IsCutIn, IsCutOf, IsDrawnFrom, IsDrawnIn, IsDrawnOf}
 use Rattle.redraw_run.specs.Inputs.{IsOf, are_whole, held_by, held_in, names_of, standard}
 use Rattle.redraw_run.specs.ReadLines.{AreAllOf, AreFirstOf, SumsUp}
-use Rattle.redraw_run.specs.Run.{EndsInput, Runs, begun}
+use Rattle.redraw_run.specs.Run.{ArePartlyPrinted, ArePrinted, EndsInput, Runs, begun}
 use Rattle.redraw_run.proofs.Doing.{cut_then, does_as, does_nothing, does_then, stops_as, stops_then}
 use Rattle.redraw_run.proofs.Done.{does_told}
 use Rattle.redraw_run.proofs.Fated.{each_more}
@@ -288,13 +288,13 @@ input_cut file input name (Err e) a b same (Some source, h) = (Some (inr source)
 
 -- it ends as it was summed up
 pub finishes : {File Standard : Type 0} (held : File ⊎ Standard → Option (List ℕ)) (names : List (List ℕ)) (a b : State) (is_whole : Bool)
-    (err : Option (List ℕ)) (status : ℕ) → AreDrawn File Standard held names is_whole a b
+    (err : Option (List ℕ)) (status : ℕ) → ArePrinted File Standard held names is_whole a b
     → SumsUp a.choice.is_quiet b.tally b.err err → status ≡ status_of b.tally is_whole → Runs held names a b.out err status
 finishes held names a b is_whole err status drawn sum ends =
     inl record { is_whole = is_whole; end = b; drawn = drawn; printed = refl; sum = sum; ends = ends }
 
 pub cut_run : {File Standard : Type 0} (held : File ⊎ Standard → Option (List ℕ)) (names : List (List ℕ)) (a b : State) (err : Option (List ℕ)) (status : ℕ)
-    → AreCut File Standard held names a b → (err ≡ b.err) ⊎ Tells b.err err → status ≡ 2 → Runs held names a b.out err status
+    → ArePartlyPrinted held names a b → (err ≡ b.err) ⊎ Tells b.err err → status ≡ 2 → Runs held names a b.out err status
 cut_run held names a b err status drawn told ends = inr (inl record { end = b; drawn = drawn; printed = refl; told = told; ends = ends })
 
 pub unbegun : {File Standard : Type 0} (held : File ⊎ Standard → Option (List ℕ)) (names : List (List ℕ)) (a : State) (err : Option (List ℕ)) (status : ℕ)
@@ -302,17 +302,18 @@ pub unbegun : {File Standard : Type 0} (held : File ⊎ Standard → Option (Lis
 unbegun held names a err status told ends = inr (inr record { unprinted = refl; told = told; ends = ends })
 
 -- what a run begins with
-pub run_from : (P : State → Type 0) (r looked : Renderer) (c : Choice) (t : Tally) (out err : Option (List ℕ)) → r ≡ looked → t ≡ no_tally
+pub run_from : (P : State → Type 0) (r looked : ReportRenderer) (c : Choice) (t : Tally) (out err : Option (List ℕ)) → r ≡ looked → t ≡ no_tally
     → P record { renderer = r; choice = c; tally = t; out = out; err = err } → P (begun looked c out err)
 run_from P r looked c t out err is none h =
-    subst P (ap₂ (λ (x : Renderer) (y : Tally). record { renderer = x; choice = c; tally = y; out = out; err = err }) is none) h
+    subst P (ap₂ (λ (x : ReportRenderer) (y : Tally). record { renderer = x; choice = c; tally = y; out = out; err = err }) is none) h
 
 -- what sums up a run by what is asked for at its end
 pub finishes_by : {File Standard : Type 0} (held : File ⊎ Standard → Option (List ℕ)) (names : List (List ℕ)) (a b : State) (is_whole : Bool)
-    (err : Option (List ℕ)) (status : ℕ) → AreDrawn File Standard held names is_whole a b
+    (err : Option (List ℕ)) (status : ℕ) → ArePrinted File Standard held names is_whole a b
     → SumsUp b.choice.is_quiet b.tally b.err err → status ≡ status_of b.tally is_whole → Runs held names a b.out err status
 finishes_by held names a b is_whole err status drawn sum ends =
-    finishes held names a b is_whole err status drawn (subst (λ (c : Choice). SumsUp c.is_quiet b.tally b.err err) drawn.does.choice sum) ends
+    let same : b.choice ≡ a.choice = ap (λ (s : State). s.choice) drawn.is ∙ drawn.drawn.does.choice in
+    finishes held names a b is_whole err status drawn (subst (λ (c : Choice). SumsUp c.is_quiet b.tally b.err err) same sum) ends
 
 -- a closed pipe isn't told, and anything else is
 pub unwritten : {K : Type 0} (old new : Option (List ℕ)) → (K → new ≡ old) → K ⊎ Tells old new → (new ≡ old) ⊎ Tells old new

@@ -33,6 +33,8 @@ use Rattle.redraw_report.specs.declared.finding.Finding.{Finding}
 use Rattle.redraw_report.specs.declared.finding.Remark.{Remark}
 use Rattle.redraw_run.specs.Deeds.{Commanded, IsDeed}
 use Rattle.redraw_run.specs.DrawnFinding.{Draws, ShowsFinding, ending_after}
+use Rattle.redraw_run.specs.HtmlDocument.{handed}
+use Rattle.redraw_run.specs.declared.look.ReportRenderer.{ReportRenderer}
 
 -- the byte before the last is the same at the end of equal texts
 before_last : (xs ys : List ℕ) (a b c d : ℕ) → xs ++ a ∷ b ∷ [] ≡ ys ++ c ∷ d ∷ [] → a ≡ c
@@ -42,7 +44,7 @@ before_last (x ∷ xs) [] a b c d same = absurd (omega (arith, ap length same, l
 before_last (x ∷ xs) (y ∷ ys) a b c d same = before_last xs ys a b c d (ap (drop 1) same)
 
 -- no empty line after a report: it ends with a line feed alone, here `error: e`
-pub no_line_after : (r : Renderer) (files : List File) (d : Diagnostic) (before after : Tally) → r.short_message ≡ false → d.severity ≡ Error
+pub no_line_after : (r : ReportRenderer) (files : List File) (d : Diagnostic) (before after : Tally) → r.settings.short_message ≡ false → d.severity ≡ Error
     → Draws Report r files d (Some []) (Some (codes "error: " ++ 101 ∷ 10 ∷ [])) (Some (codes "error: " ++ 101 ∷ 10 ∷ []) ≡ Some []) before after → ⊥
 no_line_after r files d before after long severity (inr same) = let never = same.1 in cc
 no_line_after r files d before after long severity (inl drawn) =
@@ -116,7 +118,7 @@ by_groups f (g ∷ gs) first rest shown titled error none =
     by_title g gs f g.title refl (ap (λ (s : Section). s.title) same ∙ titled) error none
 
 -- no text at all for an error that is drawn, here in the text form
-pub nothing_drawn : (files : List File) (d : Diagnostic) → d.severity ≡ Error → ShowsFinding speaking files d [] → ⊥
+pub nothing_drawn : (files : List File) (d : Diagnostic) → d.severity ≡ Error → ShowsFinding record { settings = speaking; is_html = false } files d [] → ⊥
 nothing_drawn files d error shown =
     let f : Finding = shown.finding in
     let (first, rest, split, titled) = begins_titled (headed_of f) (section_of (headed_of f) (marked_parts f.marks.items)) f.remarks.items refl in
@@ -126,10 +128,16 @@ nothing_drawn files d error shown =
 -- ---- another command
 
 -- the command of another finding, or any other line than the finding's own command
-pub other_command : (r : Renderer) (c : Choice) (d : Diagnostic) (line other : List ℕ) → command d ≡ Some line → (line ≡ other → ⊥)
+pub other_command : (r : ReportRenderer) (c : Choice) (d : Diagnostic) (line other : List ℕ) → command d ≡ Some line → (line ≡ other → ⊥)
     → IsDeed r c (Commanded d other) → ⊥
 other_command r c d line other is differ deed = differ (cc (is, deed.1))
 
 -- a command for a finding that has none, as one without a level
-pub needless_command : (r : Renderer) (c : Choice) (d : Diagnostic) (line : List ℕ) → command d ≡ None → IsDeed r c (Commanded d line) → ⊥
+pub needless_command : (r : ReportRenderer) (c : Choice) (d : Diagnostic) (line : List ℕ) → command d ≡ None → IsDeed r c (Commanded d line) → ⊥
 needless_command r c d line none deed = absurd (cc (none, deed.1))
+
+-- ---- a tag of another tool
+
+-- a line that is handed on into HTML as it is, here `<`
+pub tag_handed_on : handed true (60 ∷ []) ≡ 60 ∷ [] → ⊥
+tag_handed_on is = cc is

@@ -1,5 +1,5 @@
 -- What isn't refused: why wrong bodies give no text for small findings and inputs contradicts what a reason is.
-use Rattle.std.proofs.Common.{◌≡◌, ◌∙◌, ◌++◌, ℕ, false, true, List, [], ◌∷◌, Option, None, Some, ap, ap₂, map, refl, sym}
+use Rattle.std.proofs.Common.{◌≡◌, ◌∙◌, ◌++◌, ℕ, Bool, false, true, List, [], ◌∷◌, Option, None, Some, ap, ap₂, map, refl, sym}
 use Rattle.std.specs.List.{AllZip}
 use Rattle.std.specs.Option.{option_or}
 use Rattle.std.specs.Prelude.{Err, if◌then◌else◌}
@@ -20,8 +20,9 @@ use Rattle.redraw_report.specs.declared.finding.Finding.{Finding}
 use Rattle.redraw_report.specs.declared.finding.Mark.{Mark}
 use Rattle.redraw_report.specs.declared.finding.Remark.{Remark}
 use Rattle.redraw_run.specs.Deeds.{State}
-use Rattle.redraw_run.specs.DrawnFinding.{RefusesFinding}
+use Rattle.redraw_run.specs.DrawnFinding.{RefusesFinding, refusal_of}
 use Rattle.redraw_run.specs.Fates.{Advances, Halts}
+use Rattle.redraw_run.specs.declared.look.ReportRenderer.{ReportRenderer}
 
 -- ---- a finding without places and children
 
@@ -39,13 +40,20 @@ faultless : (g : Group) → g.elements.items ≡ [] → first_fault (g ∷ []) �
 unfolding first_fault
 faultless g none = ap (λ (es : List Element). first_of (faults_from (element_faults 0) 0 es ++ [])) none
 
-unrefused : (r : Renderer) (groups : List Group) (why : RenderError) → form_of r ≡ Graphic → first_fault groups ≡ None → first_refusal r groups ≡ Some why → ⊥
+-- the graphic form's refusals are those of HTML
+refusal_as : (is_html : Bool) (r : Renderer) (groups : List Group) → form_of r ≡ Graphic
+    → (if is_html then refusal_in Graphic groups else first_refusal r groups) ≡ refusal_in Graphic groups
+refusal_as true r groups graphic = refl
+refusal_as false r groups graphic = ap (λ (form : Form). refusal_in form groups) graphic
+
+unrefused : (r : ReportRenderer) (groups : List Group) (why : RenderError) → form_of r.settings ≡ Graphic → first_fault groups ≡ None
+    → refusal_of r groups ≡ Some why → ⊥
 unrefused r groups why graphic none refused =
-    let never : first_refusal r groups ≡ None = ap (λ (form : Form). refusal_in form groups) graphic ∙ ap (λ (o : Option RenderError). option_or None o) none in
+    let never : refusal_of r groups ≡ None = refusal_as r.is_html r.settings groups graphic ∙ ap (λ (o : Option RenderError). option_or None o) none in
     cc (never, refused)
 
-by_groups : (r : Renderer) (groups : List Group) (section : Section) (why : RenderError) → form_of r ≡ Graphic → map section_view groups ≡ section ∷ []
-    → section.parts ≡ [] → first_refusal r groups ≡ Some why → ⊥
+by_groups : (r : ReportRenderer) (groups : List Group) (section : Section) (why : RenderError) → form_of r.settings ≡ Graphic → map section_view groups ≡ section ∷ []
+    → section.parts ≡ [] → refusal_of r groups ≡ Some why → ⊥
 by_groups r [] section why graphic told none refused = cc told
 by_groups r (g ∷ []) section why graphic told none refused =
     let same : section_view g ≡ section = cc told in
@@ -54,13 +62,13 @@ by_groups r (g ∷ []) section why graphic told none refused =
 by_groups r (g ∷ h ∷ gs) section why graphic told none refused = cc told
 
 -- a diagnostic without places and children is refused in the graphic form, as for want of a group
-pub bare_finding_refused : (r : Renderer) (files : List File) (d : Diagnostic) (why : RenderError) → r.no_graphics ≡ false → r.short_message ≡ false
-    → d.spans.items ≡ [] → d.children.items ≡ [] → RefusesFinding r files d why → ⊥
+pub bare_finding_refused : (r : ReportRenderer) (files : List File) (d : Diagnostic) (why : RenderError) → r.settings.no_graphics ≡ false
+    → r.settings.short_message ≡ false → d.spans.items ≡ [] → d.children.items ≡ [] → RefusesFinding r files d why → ⊥
 bare_finding_refused r files d why graphics long spans children h =
     let f : Finding = h.finding in
     let marks : f.marks.items ≡ [] = none_zipped _ d.spans.items f.marks.items spans h.is.marks in
     let remarks : f.remarks.items ≡ [] = none_zipped _ d.children.items f.remarks.items children h.is.remarks in
-    let graphic : form_of r ≡ Graphic = rw (graphics, long) refl in
+    let graphic : form_of r.settings ≡ Graphic = rw (graphics, long) refl in
     let told : map section_view h.groups ≡ section_of (headed_of f) [] ∷ [] = h.told
     ∙ ap₂ (λ (ms : List Mark) (rs : List Remark). sections_from (section_of (headed_of f) (marked_parts ms)) rs) marks remarks in
     by_groups r h.groups (section_of (headed_of f) []) why graphic told refl h.refused

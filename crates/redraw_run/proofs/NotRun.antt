@@ -9,10 +9,10 @@ use Rattle.redraw_command.specs.declared.tally.Tally.{Tally}
 use Rattle.redraw_report.specs.declared.diagnostic.Diagnostic.{Diagnostic}
 use Rattle.redraw_report.specs.declared.diagnostic.Severity.{Severity}
 use Rattle.redraw_report.specs.declared.diagnostic.Severity.TheVariants.{Error}
-use Rattle.annotate_snippets.specs.declared.renderer.Renderer.{Renderer}
-use Rattle.redraw_run.specs.declared.input.Kind.{Kind}
-use Rattle.redraw_run.specs.declared.input.Kind.TheVariants as kind
-use Rattle.redraw_run.specs.Deeds.{Deed, Drawn, Commanded, HandedOn, Told, Refused, LeftOut, Repeated, BuildFailed, tally_by, with_files}
+use Rattle.redraw_run.specs.declared.look.ReportRenderer.{ReportRenderer}
+use Rattle.redraw_run.specs.declared.kind.Kind.{Kind}
+use Rattle.redraw_run.specs.declared.kind.Kind.TheVariants as kind
+use Rattle.redraw_run.specs.Deeds.{State, Deed, Drawn, Commanded, HandedOn, Told, Refused, LeftOut, Repeated, BuildFailed, tally_by, with_files}
 use Rattle.redraw_run.specs.Fates.{AreMessages, Each, IsFound, IsKnown, IsLine, IsLog, IsReported, IsResult, IsRun, IsShown, IsTaking}
 use Rattle.redraw_run.specs.Run.{Finishes, begun}
 
@@ -154,11 +154,12 @@ has_one t true = or_true t.has_error
 has_one t false = or_true t.has_error
 
 -- status 0 after an error was drawn
-pub clean_after_an_error : {File Standard : Type 0} (held : File ⊎ Standard → Option (List ℕ)) (names : List (List ℕ)) (r : Renderer) (c : Choice)
+pub clean_after_an_error : {File Standard : Type 0} (held : File ⊎ Standard → Option (List ℕ)) (names : List (List ℕ)) (r : ReportRenderer) (c : Choice)
     (old_out old_err out err : Option (List ℕ)) (d : Diagnostic) (text : List ℕ) → d.severity ≡ Error
-    → (run : Finishes File Standard held names (begun r c old_out old_err) out err 0) → run.drawn.does.deeds ≡ Drawn d text ∷ [] → ⊥
+    → (run : Finishes File Standard held names (begun r c old_out old_err) out err 0) → run.drawn.drawn.does.deeds ≡ Drawn d text ∷ [] → ⊥
 clean_after_an_error held names r c old_out old_err out err d text error run is =
-    let counted : run.end.tally ≡ with_files (tally_by no_tally (Drawn d text ∷ [])) run.end.tally.files
-    = run.drawn.does.tally ∙ ap (λ ds. with_files (tally_by no_tally ds) run.end.tally.files) is in
+    let last : Tally = run.drawn.last.tally in
+    let counted : run.end.tally ≡ with_files (tally_by no_tally (Drawn d text ∷ [])) last.files
+    = ap (λ (s : State). s.tally) run.drawn.is ∙ run.drawn.drawn.does.tally ∙ ap (λ ds. with_files (tally_by no_tally ds) last.files) is in
     no_clean run.end.tally run.is_whole
     (ap (λ (t : Tally). t.has_error) counted ∙ ap (λ (s : Severity). (tallied no_tally s (is_sum d)).has_error) error ∙ has_one no_tally (is_sum d)) run.ends

@@ -6,7 +6,7 @@ use Rattle.std.specs.Io.KnownBytes.{Appends}
 use Rattle.redraw_command.specs.declared.choice.Form.TheVariants.{Report}
 use Rattle.redraw_command.specs.declared.stop.Stop.{Stop}
 use Rattle.redraw_command.specs.declared.tally.Tally.{Tally}
-use Rattle.annotate_snippets.specs.declared.renderer.Renderer.{Renderer}
+use Rattle.redraw_run.specs.declared.look.ReportRenderer.{ReportRenderer}
 use Rattle.annotate_snippets.specs.declared.renderer.error.RenderError.{RenderError}
 use Rattle.annotate_snippets.specs.declared.renderer.error.RenderError.TheVariants.{Memory}
 use Rattle.annotate_snippets.specs.declared.snippet.Group.{Group}
@@ -26,32 +26,32 @@ use Rattle.redraw_run.specs.declared.draw.Drawing.{Drawing}
 use Rattle.redraw_run.proofs.Doing.{does_as, does_then}
 use Rattle.redraw_run.proofs.Done.{does_refused, does_told, shown_refused}
 
-undrawn_by : (r : Renderer) (files : List File) (d : Diagnostic) (finding : Finding) (groups : List Group) (why : RenderError)
-    → IsFindingOf record { files = files; home = home_of d.homes.items; is_short = r.short_message } d finding
+undrawn_by : (r : ReportRenderer) (files : List File) (d : Diagnostic) (finding : Finding) (groups : List Group) (why : RenderError)
+    → IsFindingOf record { files = files; home = home_of d.homes.items; is_short = r.settings.short_message } d finding
     → map section_view groups ≡ report_of finding → IsRefusalOf r groups why → IsUndrawn r files d why
 undrawn_by r files d finding groups why is told (inl refused) =
     inl record { finding = finding; is = is; groups = groups; told = told; refused = refused }
 undrawn_by r files d finding groups why is told (inr memory) = inr memory
 
 -- where a report is refused, so is the finding that it reports
-pub undrawn_of : {T : Type 0} (r : Renderer) (files : List File) (d : Diagnostic) (finding : Finding) (groups : List Group) (result : Result T RenderError)
-    → IsFindingOf record { files = files; home = home_of d.homes.items; is_short = r.short_message } d finding
+pub undrawn_of : {T : Type 0} (r : ReportRenderer) (files : List File) (d : Diagnostic) (finding : Finding) (groups : List Group) (result : Result T RenderError)
+    → IsFindingOf record { files = files; home = home_of d.homes.items; is_short = r.settings.short_message } d finding
     → map section_view groups ≡ report_of finding → IfErr result (IsRefusalOf r groups) → IfErr result (IsUndrawn r files d)
 undrawn_of r files d finding groups (Ok text) is told h = tt
 undrawn_of r files d finding groups (Err why) is told h = undrawn_by r files d finding groups why is told h
 
 -- ---- what is written of a finding
 
-refused_by : (r : Renderer) (files : List File) (d : Diagnostic) (why : RenderError) → (why ≡ Memory alloc_error → ⊥) → IsUndrawn r files d why
+refused_by : (r : ReportRenderer) (files : List File) (d : Diagnostic) (why : RenderError) → (why ≡ Memory alloc_error → ⊥) → IsUndrawn r files d why
     → Refuses r files d
 refused_by r files d why other (inl refuses) = (why, refuses)
 refused_by r files d why other (inr memory) = absurd (other memory)
 
 -- its text is, or nothing where its report is refused
-pub draws_report : {T : Type 0} (result : Result T Stop) (text : Result (String Global) RenderError) (r : Renderer) (files : List File) (d : Diagnostic)
+pub draws_report : {T : Type 0} (result : Result T Stop) (text : Result (String Global) RenderError) (r : ReportRenderer) (files : List File) (d : Diagnostic)
     (old new : Option (List ℕ)) (Same : Type 0) (before after : Tally) → IfOk text (λ t. ShowsFinding r files d (string_bytes t))
     → IfErr text (IsUndrawn r files d)
-    → OnOk result (IfOk text (λ t. Appends old new (string_bytes t ++ (ending_after r.short_message d.severity ++ 10 ∷ []))))
+    → OnOk result (IfOk text (λ t. Appends old new (string_bytes t ++ (ending_after r.settings.short_message d.severity ++ 10 ∷ []))))
     → OnOk result (IfOk text (λ t. IsCounted d before after))
     → OnOk result (IfErr text (λ e. (e ≡ Memory alloc_error → ⊥) × Same × IsLeftOut before after))
     → OnOk result (Draws Report r files d old new Same before after)
@@ -62,12 +62,12 @@ draws_report (Ok done) (Err e) r files d old new Same before after shows undrawn
     inr (refused_by r files d e left.0 undrawn, left.1, left.2)
 
 -- the same in the same settings, of the same files, from the same tally
-pub draws_as : {T : Type 0} (result : Result T Stop) {r s : Renderer} {files these : List File} (d : Diagnostic) (old new : Option (List ℕ)) (Same : Type 0)
+pub draws_as : {T : Type 0} (result : Result T Stop) {r s : ReportRenderer} {files these : List File} (d : Diagnostic) (old new : Option (List ℕ)) (Same : Type 0)
     {before first : Tally} (after : Tally) → r ≡ s → files ≡ these → before ≡ first → OnOk result (Draws Report r files d old new Same before after)
     → OnOk result (Draws Report s these d old new Same first after)
 draws_as (Err stop) d old new Same after p q w h = tt
 draws_as (Ok done) {r} {s} {files} {these} d old new Same {before} {first} after p q w h =
-    subst (λ (x : Renderer). Draws Report x these d old new Same first after) p
+    subst (λ (x : ReportRenderer). Draws Report x these d old new Same first after) p
     (subst (λ (x : List File). Draws Report r x d old new Same first after) q
     (subst (λ (x : Tally). Draws Report r files d old new Same x after) w h))
 

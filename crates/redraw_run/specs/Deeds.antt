@@ -2,7 +2,6 @@
 use Rattle.std.specs.Prelude.{◌≡◌, ℕ, ◌⊎◌, true, List, [], ◌∷◌, ◌++◌, Option, Some, Result, Ok, Err}
 use Rattle.std.specs.Io.KnownBytes.{Appends}
 use Rattle.std.specs.List.{concat, flat_map}
-use Rattle.annotate_snippets.specs.declared.renderer.Renderer.{Renderer}
 use Rattle.annotate_snippets.specs.declared.renderer.error.RenderError.{RenderError}
 use Rattle.redraw_command.specs.Choice.{is_sum}
 use Rattle.redraw_command.specs.Tally.{one_more, tallied}
@@ -16,11 +15,13 @@ use Rattle.redraw_command.specs.declared.tally.Tally.{Tally}
 use Rattle.redraw_read.specs.declared.sources.File.{File}
 use Rattle.redraw_report.specs.declared.diagnostic.Diagnostic.{Diagnostic}
 use Rattle.redraw_run.specs.DrawnFinding.{RefusesFinding, ShowsFinding, ending_after}
+use Rattle.redraw_run.specs.HtmlDocument.{handed}
 use Rattle.redraw_run.specs.declared.draw.Drawing.{Drawing}
+use Rattle.redraw_run.specs.declared.look.ReportRenderer.{ReportRenderer}
 
 -- what is known of a run at a time: how reports look and which are drawn, what was counted, and what both streams hold
 pub record State : Type 0 where
-  pub renderer : Renderer
+  pub renderer : ReportRenderer
   pub choice : Choice
   pub tally : Tally
   pub out : Option (List ℕ)
@@ -45,7 +46,7 @@ pub data Deed : Type 0 where
 
 -- when that is done: a report shows the finding in the renderer's settings, its places looked for in some files, or is refused for this
 -- reason; a command is that of the finding; each where it is asked for; and what is told stands there of one message
-abbrev pub IsDeed : Renderer → Choice → Deed → Type 0
+abbrev pub IsDeed : ReportRenderer → Choice → Deed → Type 0
 IsDeed r c (Drawn d text) = (c.form ≡ Report) × (files : List File) × ShowsFinding r files d text
 IsDeed r c (Commanded d line) = (c.form ≡ Workflow) × (command d ≡ Some line)
 IsDeed r c (HandedOn line) = Unit {0}
@@ -55,15 +56,15 @@ IsDeed r c LeftOut = Unit {0}
 IsDeed r c Repeated = Unit {0}
 IsDeed r c BuildFailed = Unit {0}
 
-abbrev pub AreDeeds : Renderer → Choice → List Deed → Type 0
+abbrev pub AreDeeds : ReportRenderer → Choice → List Deed → Type 0
 AreDeeds r c [] = Unit {0}
 AreDeeds r c (deed ∷ deeds) = IsDeed r c deed × AreDeeds r c deeds
 
--- what standard output is given by it
-abbrev pub printed : Renderer → Deed → List ℕ
-printed r (Drawn d text) = text ++ (ending_after r.short_message d.severity ++ 10 ∷ [])
+-- what standard output is given by it. In HTML a line that is handed on has escapes
+abbrev pub printed : ReportRenderer → Deed → List ℕ
+printed r (Drawn d text) = text ++ (ending_after r.settings.short_message d.severity ++ 10 ∷ [])
 printed r (Commanded d line) = line ++ 10 ∷ []
-printed r (HandedOn line) = line
+printed r (HandedOn line) = handed r.is_html line
 printed r (Told part) = []
 printed r (Refused d why) = []
 printed r LeftOut = []

@@ -1,12 +1,14 @@
 -- What is drawn of a finding, and what is written of it.
-use Rattle.std.specs.Prelude.{◌≡◌, ◌⊎◌, ℕ, Bool, List, [], ◌∷◌, ◌++◌, Option, Some, None, alloc_error, map, if◌then◌else◌}
+use Rattle.std.specs.Prelude.{◌≡◌, ◌⊎◌, ℕ, Bool, true, false, List, [], ◌∷◌, ◌++◌, Option, Some, None, alloc_error, map, if◌then◌else◌}
 use Rattle.std.specs.Io.KnownBytes.{Appends}
 use Rattle.annotate_snippets.specs.FormLaws.{HasLaws}
 use Rattle.annotate_snippets.specs.Forms.{ShowsReport}
-use Rattle.annotate_snippets.specs.Fault.{first_refusal}
+use Rattle.annotate_snippets.specs.Fault.{first_refusal, refusal_in}
+use Rattle.annotate_snippets.specs.Html.{HasHtmlLaws, IsReportHtml}
 use Rattle.annotate_snippets.specs.declared.renderer.Renderer.{Renderer}
 use Rattle.annotate_snippets.specs.declared.renderer.error.RenderError.{RenderError}
 use Rattle.annotate_snippets.specs.declared.renderer.error.RenderError.TheVariants.{Memory}
+use Rattle.annotate_snippets.specs.declared.renderer.form.Form.TheVariants.{Graphic}
 use Rattle.annotate_snippets.specs.declared.snippet.Group.{Group}
 use Rattle.redraw_command.specs.Choice.{is_sum}
 use Rattle.redraw_command.specs.Tally.{one_more, tallied}
@@ -22,37 +24,52 @@ use Rattle.redraw_report.specs.declared.diagnostic.Diagnostic.{Diagnostic}
 use Rattle.redraw_report.specs.declared.diagnostic.Severity.{Severity}
 use Rattle.redraw_report.specs.declared.diagnostic.Severity.TheVariants.{Error, Warning, Info, Note, Help, Plain}
 use Rattle.redraw_report.specs.declared.finding.Finding.{Finding}
+use Rattle.redraw_run.specs.declared.look.ReportRenderer.{ReportRenderer}
 
--- the text shows, in the renderer's settings and under its sheet, the report of the finding that the diagnostic reports, its places
--- looked for in these files; and it has the laws of that report's text
-pub record ShowsFinding (r : Renderer) (files : List File) (d : Diagnostic) (text : List ℕ) : Type 0 where
+-- a text shows a report in a renderer's settings: as HTML, or under the renderer's sheet
+abbrev pub ShowsAs : Bool → Renderer → List Group → List ℕ → Type 0
+ShowsAs true r groups text = IsReportHtml r groups text
+ShowsAs false r groups text = ShowsReport r groups r.stylesheet text
+
+-- and has the laws of that
+abbrev pub HasLawsAs : Bool → Renderer → List Group → List ℕ → Type 0
+HasLawsAs true r groups text = HasHtmlLaws r groups text
+HasLawsAs false r groups text = HasLaws r groups r.stylesheet text
+
+-- why a report gives no text: the first reason in order
+abbrev pub refusal_of : ReportRenderer → List Group → Option RenderError
+refusal_of r groups = if r.is_html then refusal_in Graphic groups else first_refusal r.settings groups
+
+-- the text shows the report of the finding that the diagnostic reports, its places looked for in these files; and it has the laws of
+-- that report's text
+pub record ShowsFinding (r : ReportRenderer) (files : List File) (d : Diagnostic) (text : List ℕ) : Type 0 where
   pub finding : Finding
-  pub is : IsFindingOf record { files = files; home = home_of d.homes.items; is_short = r.short_message } d finding
+  pub is : IsFindingOf record { files = files; home = home_of d.homes.items; is_short = r.settings.short_message } d finding
   pub groups : List Group
   pub told : map section_view groups ≡ report_of finding
-  pub shows : ShowsReport r groups r.stylesheet text
-  pub laws : HasLaws r groups r.stylesheet text
+  pub shows : ShowsAs r.is_html r.settings groups text
+  pub laws : HasLawsAs r.is_html r.settings groups text
 
--- the library refuses for this reason, the first in order, the report of the finding that the diagnostic reports, in the renderer's
--- settings, its places looked for in these files
-pub record RefusesFinding (r : Renderer) (files : List File) (d : Diagnostic) (why : RenderError) : Type 0 where
+-- the library refuses for this reason, the first in order, the report of the finding that the diagnostic reports, its places looked for
+-- in these files
+pub record RefusesFinding (r : ReportRenderer) (files : List File) (d : Diagnostic) (why : RenderError) : Type 0 where
   pub finding : Finding
-  pub is : IsFindingOf record { files = files; home = home_of d.homes.items; is_short = r.short_message } d finding
+  pub is : IsFindingOf record { files = files; home = home_of d.homes.items; is_short = r.settings.short_message } d finding
   pub groups : List Group
   pub told : map section_view groups ≡ report_of finding
-  pub refused : first_refusal r groups ≡ Some why
+  pub refused : refusal_of r groups ≡ Some why
 
 -- for some reason
-abbrev pub Refuses : Renderer → List File → Diagnostic → Type 0
+abbrev pub Refuses : ReportRenderer → List File → Diagnostic → Type 0
 Refuses r files d = (why : RenderError) × RefusesFinding r files d why
 
 -- there is no text of the finding: its report is refused for this reason, or memory was
-abbrev pub IsUndrawn : Renderer → List File → Diagnostic → RenderError → Type 0
+abbrev pub IsUndrawn : ReportRenderer → List File → Diagnostic → RenderError → Type 0
 IsUndrawn r files d why = RefusesFinding r files d why ⊎ (why ≡ Memory alloc_error)
 
 -- the same of a report
-abbrev pub IsRefusalOf : Renderer → List Group → RenderError → Type 0
-IsRefusalOf r groups why = (first_refusal r groups ≡ Some why) ⊎ (why ≡ Memory alloc_error)
+abbrev pub IsRefusalOf : ReportRenderer → List Group → RenderError → Type 0
+IsRefusalOf r groups why = (refusal_of r groups ≡ Some why) ⊎ (why ≡ Memory alloc_error)
 
 -- what stands after a report: an empty line, but nothing in the short form, and nothing after a text without a level
 abbrev pub ending_after : Bool → Severity → List ℕ
@@ -72,10 +89,10 @@ abbrev pub IsLeftOut : Tally → Tally → Type 0
 IsLeftOut old new = new ≡ record old { wrong = one_more old.wrong }
 
 -- a finding is drawn as a report: to what a writer held, a text that shows it is added, and what stands after it; and it is counted
-pub record IsDrawn (r : Renderer) (files : List File) (d : Diagnostic) (old new : Option (List ℕ)) (before after : Tally) : Type 0 where
+pub record IsDrawn (r : ReportRenderer) (files : List File) (d : Diagnostic) (old new : Option (List ℕ)) (before after : Tally) : Type 0 where
   pub text : List ℕ
   pub shows : ShowsFinding r files d text
-  pub written : Appends old new (text ++ (ending_after r.short_message d.severity ++ 10 ∷ []))
+  pub written : Appends old new (text ++ (ending_after r.settings.short_message d.severity ++ 10 ∷ []))
   pub counted : IsCounted d before after
 
 -- a finding is written as a command: to what a writer held, its command is added, as a line, and the finding is counted
@@ -87,6 +104,6 @@ pub record IsCommanded (d : Diagnostic) (old new : Option (List ℕ)) (before af
 
 -- what becomes of a finding, by the form that is asked for. As a report it is drawn, or refused: then nothing is written (Same), and
 -- it is counted as left out. As a command it is written, or it has none: then nothing is written, and nothing counted
-abbrev pub Draws : Form → Renderer → List File → Diagnostic → Option (List ℕ) → Option (List ℕ) → Type 0 → Tally → Tally → Type 0
+abbrev pub Draws : Form → ReportRenderer → List File → Diagnostic → Option (List ℕ) → Option (List ℕ) → Type 0 → Tally → Tally → Type 0
 Draws Report r files d old new Same before after = IsDrawn r files d old new before after ⊎ (Refuses r files d × Same × IsLeftOut before after)
 Draws Workflow r files d old new Same before after = IsCommanded d old new before after ⊎ ((command d ≡ None) × Same × (after ≡ before))

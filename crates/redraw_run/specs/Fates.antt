@@ -18,8 +18,8 @@ use Rattle.redraw_command.specs.declared.stop.Stop.TheVariants.{Memory, Unwritab
 use Rattle.redraw_report.specs.declared.diagnostic.Diagnostic.{Diagnostic}
 use Rattle.redraw_run.specs.Deeds.{State, Deed, Drawn, Commanded, HandedOn, Told, Refused, LeftOut, Repeated, BuildFailed, Does, IsCutShort}
 use Rattle.redraw_run.specs.Deeds.{IsPart, Stops}
-use Rattle.redraw_run.specs.declared.input.Kind.{Kind}
-use Rattle.redraw_run.specs.declared.input.Kind.TheVariants as kind
+use Rattle.redraw_run.specs.declared.kind.Kind.{Kind}
+use Rattle.redraw_run.specs.declared.kind.Kind.TheVariants as kind
 
 -- two kinds of things are done, one after the other
 pub record Then (First Next : Choice → List Deed → Type 0) (c : Choice) (deeds : List Deed) : Type 0 where

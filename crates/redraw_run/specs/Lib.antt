@@ -1,6 +1,7 @@
 pub mod Deeds
 pub mod DrawnFinding
 pub mod Fates
+pub mod HtmlDocument
 pub mod Inputs
 pub mod ReadLines
 pub mod ReportLook

@@ -1,5 +1,5 @@
--- Lines that are read, the last line that is told, and a text that is printed.
-use Rattle.std.specs.Prelude.{◌≡◌, ℕ, ◌<◌, ◌≤◌, ◌-◌, ◌^◌, ◌⊎◌, ◌||◌, Bool, true, false, List, [], ◌∷◌, Option, Some, IfSome, length}
+-- Lines that are read, the last line that is told, and texts that are printed.
+use Rattle.std.specs.Prelude.{◌≡◌, ℕ, ◌<◌, ◌≤◌, ◌-◌, ◌^◌, ◌⊎◌, ◌||◌, Bool, true, false, List, [], ◌∷◌, Option, Some, IfSome, Result, Ok, Err, length}
 use Rattle.std.specs.Io.BufRead.{drop_through, take_through}
 use Rattle.std.specs.Io.KnownBytes.{Appends, IsAtEnd}
 use Rattle.redraw_command.specs.Tally.{is_empty}
@@ -50,3 +50,8 @@ SumsUp is_quiet t old new = TellsUnless (is_quiet || is_empty t) old new
 -- a text is printed, with status 0; or a first part of it where it couldn't be, with status 2
 abbrev pub IsPrinted : Option (List ℕ) → Option (List ℕ) → ℕ → Type 0
 IsPrinted old new status = (text : List ℕ) × ((Appends old new text × (status ≡ 0)) ⊎ (AppendsFirst old new text × (status ≡ 2)))
+
+-- some bytes are printed: all of them, or a first part where output couldn't be written
+abbrev pub Prints : {T E : Type 0} → Result T E → (old new : Option (List ℕ)) → List ℕ → Type 0
+Prints (Ok done) old new bytes = Appends old new bytes
+Prints (Err error) old new bytes = AppendsFirst old new bytes

@@ -1,7 +1,6 @@
 -- What a run does about its inputs, and how it ends.
 use Rattle.std.specs.Prelude.{◌≡◌, ◌⊎◌, ℕ, Bool, false, List, [], Option, Result, Ok, Err}
 use Rattle.std.specs.declared.io.Error.{Error}
-use Rattle.annotate_snippets.specs.declared.renderer.Renderer.{Renderer}
 use Rattle.clap.specs.Simple.{App}
 use Rattle.redraw_command.specs.Tally.{no_tally, status_of}
 use Rattle.redraw_command.specs.Told.{Tells, TellsMemory, TellsOfWords}
@@ -11,10 +10,12 @@ use Rattle.redraw_command.specs.declared.stop.Stop.{Stop}
 use Rattle.redraw_command.specs.declared.stop.Stop.TheVariants.{Memory, Unwritable, Unreadable, Utf16}
 use Rattle.redraw_command.specs.declared.terminal.Surroundings.{Surroundings}
 use Rattle.redraw_command.specs.declared.words.Request.{Request}
-use Rattle.redraw_run.specs.Deeds.{State}
+use Rattle.redraw_run.specs.Deeds.{AppendsFirst, State}
+use Rattle.redraw_run.specs.HtmlDocument.{closing, opening}
 use Rattle.redraw_run.specs.Inputs.{AreCut, AreDrawn, asked_names}
 use Rattle.redraw_run.specs.ReadLines.{IsPrinted, SumsUp}
 use Rattle.redraw_run.specs.ReportLook.{looks}
+use Rattle.redraw_run.specs.declared.look.ReportRenderer.{ReportRenderer}
 
 -- how an input ends, by what came of its lines: it is known, or not; or output couldn't be written, and nothing is told; or one message
 -- tells why it couldn't be read
@@ -25,13 +26,53 @@ EndsInput (Err (Unwritable error)) result old new = (result ≡ Err error) × (n
 EndsInput (Err (Unreadable error)) result old new = (result ≡ Ok false) × Tells old new
 EndsInput (Err Utf16) result old new = (result ≡ Ok false) × Tells old new
 
+-- the same is known, but standard output holds this
+abbrev pub with_out : State → Option (List ℕ) → State
+with_out a out = record a { out = out }
+
+-- inputs are gone through: in HTML after what a document begins with, and before what it ends with
+pub record ArePrinted (File Standard : Type 0) (held : File ⊎ Standard → Option (List ℕ)) (names : List (List ℕ)) (is_whole : Bool) (a b : State)
+    : Type 0 where
+  pub opened : Option (List ℕ)
+  pub opens : Appends a.out opened (opening a.renderer.is_html)
+  pub last : State
+  pub drawn : AreDrawn File Standard held names is_whole (with_out a opened) last
+  pub closes : Appends last.out b.out (closing a.renderer.is_html)
+  pub is : b ≡ with_out last b.out
+
+-- output couldn't be written where a document begins
+pub record IsCutAtFirst (a b : State) : Type 0 where
+  pub opens : AppendsFirst a.out b.out (opening a.renderer.is_html)
+  pub is : b ≡ with_out a b.out
+
+-- or where inputs were gone through
+pub record IsCutWithin (File Standard : Type 0) (held : File ⊎ Standard → Option (List ℕ)) (names : List (List ℕ)) (a b : State) : Type 0 where
+  pub opened : Option (List ℕ)
+  pub opens : Appends a.out opened (opening a.renderer.is_html)
+  pub drawn : AreCut File Standard held names (with_out a opened) b
+
+-- or where a document ends
+pub record IsCutAtLast (File Standard : Type 0) (held : File ⊎ Standard → Option (List ℕ)) (names : List (List ℕ)) (a b : State) : Type 0 where
+  pub opened : Option (List ℕ)
+  pub opens : Appends a.out opened (opening a.renderer.is_html)
+  pub is_whole : Bool
+  pub last : State
+  pub drawn : AreDrawn File Standard held names is_whole (with_out a opened) last
+  pub closes : AppendsFirst last.out b.out (closing a.renderer.is_html)
+  pub is : b ≡ with_out last b.out
+
+-- inputs are gone through up to where output couldn't be written
+abbrev pub ArePartlyPrinted : {File Standard : Type 0} → (File ⊎ Standard → Option (List ℕ)) → List (List ℕ) → State → State → Type 0
+ArePartlyPrinted {File} {Standard} held names a b =
+    IsCutAtFirst a b ⊎ IsCutWithin File Standard held names a b ⊎ IsCutAtLast File Standard held names a b
+
 -- a run goes through all of its inputs; then one message sums up what was done, unless that isn't wanted or there is nothing to tell; and
 -- the status is the one of what was counted
 pub record Finishes (File Standard : Type 0) (held : File ⊎ Standard → Option (List ℕ)) (names : List (List ℕ)) (a : State)
     (out err : Option (List ℕ)) (status : ℕ) : Type 0 where
   pub is_whole : Bool
   pub end : State
-  pub drawn : AreDrawn File Standard held names is_whole a end
+  pub drawn : ArePrinted File Standard held names is_whole a end
   pub printed : out ≡ end.out
   pub sum : SumsUp a.choice.is_quiet end.tally end.err err
   pub ends : status ≡ status_of end.tally is_whole
@@ -40,7 +81,7 @@ pub record Finishes (File Standard : Type 0) (held : File ⊎ Standard → Optio
 pub record IsCut (File Standard : Type 0) (held : File ⊎ Standard → Option (List ℕ)) (names : List (List ℕ)) (a : State)
     (out err : Option (List ℕ)) (status : ℕ) : Type 0 where
   pub end : State
-  pub drawn : AreCut File Standard held names a end
+  pub drawn : ArePartlyPrinted {File} {Standard} held names a end
   pub printed : out ≡ end.out
   pub told : (err ≡ end.err) ⊎ Tells end.err err
   pub ends : status ≡ 2
@@ -57,7 +98,7 @@ Runs {File} {Standard} held names a out err status =
     Finishes File Standard held names a out err status ⊎ IsCut File Standard held names a out err status ⊎ IsUnbegun a.out a.err out err status
 
 -- nothing is done yet, where reports look so, these are drawn, and both streams hold this
-abbrev pub begun : Renderer → Choice → Option (List ℕ) → Option (List ℕ) → State
+abbrev pub begun : ReportRenderer → Choice → Option (List ℕ) → Option (List ℕ) → State
 begun r c out err = record { renderer = r; choice = c; tally = no_tally; out = out; err = err }
 
 -- a run draws what is asked for

@@ -8,16 +8,17 @@ ghost use Rattle.redraw_command.specs.Tally.{one_more};
 ghost use Rattle.redraw_command.specs.Told.{Tells};
 ghost use Rattle.redraw_run.specs.Deeds.{Does, Goes, TellsAll, repeated, standing};
 ghost use Rattle.redraw_run.specs.Fates.{AreMessages, IsChosen, IsDrawing, IsTaking, LeavesOut, IsReported, IsShown};
-ghost use Rattle.redraw_run.specs.Fates.{IsWritten, IsWrong};
+ghost use Rattle.redraw_run.specs.Fates.{IsHandedOn, IsWritten, IsWrong};
 ghost use Rattle.redraw_run.specs.DrawnFinding.{Draws, IsCounted, IsLeftOut, IsUndrawn, ShowsFinding, ending_after};
 ghost use Rattle.redraw_run.specs.ReadLines.{TellsUnless};
 ghost use Rattle.serde_json.specs.View.{view};
 ghost use Rattle.redraw_read.specs.declared.sources.File.{File};
 ghost use Rattle.redraw_command.specs.declared.choice.Form.TheVariants.{Report, Workflow};
 
+use crate::html::escaped;
+use crate::look::ReportRenderer;
 use crate::text::drawn_of;
-use crate::write::print;
-use annotate_snippets::Renderer;
+use crate::write::{pass, print};
 use annotate_snippets::renderer::RenderError;
 use json_node::fault::Fault;
 use redraw_command::choice::{Choice, Form, is_sum};
@@ -39,7 +40,7 @@ use std::io::Write;
 #[derive(Drop)]
 pub struct Drawing<'w, S: Drop> {
     pub alloc: Global,
-    pub renderer: Renderer,
+    pub renderer: ReportRenderer,
     /// Which findings are drawn, and in which form.
     pub choice: Choice<'w>,
     pub sources: Sources<S>,
@@ -129,6 +130,19 @@ impl<S: SourceFiles + Drop> Drawing<'_, S> {
         };
         let told = format_args!("{input}:{line}:{column}: not valid JSON{ending}");
         tell(self.alloc, told, err);
+    }
+
+    /// Hands on a line of the input as it is; in HTML with escapes.
+    pub fn hand_on<W: Write>(&self, line: &[u8], out: &mut W) -> Result<(), Stop>
+        ensures does { (err : Option (List ℕ)) → Goes result (IsHandedOn line.now)
+            (standing self.now (W.contents out.old) err) (standing self.now (W.contents out.new) err) }
+    {
+        if self.renderer.is_html {
+            let escaped = escaped(self.alloc, line)?;
+            pass(&escaped, out)
+        } else {
+            pass(line, out)
+        }
     }
 
     /// Draws a finding, if it is one of those that are asked for and cargo hasn't reported it before.
@@ -323,7 +337,7 @@ impl<S: SourceFiles + Drop> Drawing<'_, S> {
         err: &mut V,
     ) -> Result<(), Stop>
         ensures drawn { OnOk result (IfOk text (λ t. Appends (W.contents out.old) (W.contents out.new)
-            (string_bytes t ++ (ending_after self.old.renderer.short_message diagnostic.now.severity ++ 10 ∷ [])))) }
+            (string_bytes t ++ (ending_after self.old.renderer.settings.short_message diagnostic.now.severity ++ 10 ∷ [])))) }
         ensures counted { OnOk result (IfOk text (λ t. IsCounted diagnostic.now self.old.tally self.new.tally)) }
         ensures untold { OnOk result (IfOk text (λ t. err.new ≡ err.old)) }
         ensures left_out { OnOk result (IfErr text (λ e. (e ≢ RenderError.Memory alloc_error)
@@ -374,9 +388,9 @@ impl<S: SourceFiles + Drop> Drawing<'_, S> {
 
     /// What stands after a report: an empty line, but none after one line or a text without a level.
     fn ending_of(&self, severity: Severity) -> &'static str
-        ensures value { result.now ≡ ending_after self.now.renderer.short_message severity }
+        ensures value { result.now ≡ ending_after self.now.renderer.settings.short_message severity }
     {
-        if self.renderer.short_message || severity == Severity::Plain {
+        if self.renderer.settings.short_message || severity == Severity::Plain {
             ""
         } else {
             "\n"

@@ -1,19 +1,18 @@
 //! An input, read line by line. Nothing of a line is kept when the next is read, save of a log that is one document.
-ghost use Rattle.std.specs.Prelude.{◌≡◌, ◌||◌, ◌++◌, not, ℕ, List, Option, None, Some, true, false, ◌↔◌};
-ghost use Rattle.std.specs.Prelude.{IfErr, IfOk, OnErr, OnOk, IsTrue, codes, option_map};
-ghost use Rattle.json_node.specs.Field.{flag_at};
+ghost use Rattle.std.specs.Prelude.{◌≡◌, ◌||◌, ◌++◌, not, ℕ, List, Option, None, Some, true, false};
+ghost use Rattle.std.specs.Prelude.{IfErr, IfOk, OnErr, OnOk, option_map};
 ghost use Rattle.serde_json.specs.View.{view};
 ghost use Rattle.redraw_command.specs.Line.{begins_object, begins_utf16};
 ghost use Rattle.redraw_run.specs.Deeds.{Does, Goes, IsUnreadable, standing};
-ghost use Rattle.redraw_run.specs.Fates.{Advances, Halts, IsCargoKind, IsDocumentLine, IsInput, IsKnown};
-ghost use Rattle.redraw_run.specs.Fates.{IsLast, IsOfKind, IsSoFar, IsTextOf, IsUnknown, IsValue, IsWhole};
+ghost use Rattle.redraw_run.specs.Fates.{Advances, Halts, IsDocumentLine, IsInput, IsKnown};
+ghost use Rattle.redraw_run.specs.Fates.{IsLast, IsSoFar, IsTextOf, IsUnknown, IsValue, IsWhole};
 ghost use Rattle.redraw_run.specs.Fates.{LeavesOpen, Reads, document_of};
 ghost use Rattle.redraw_run.specs.ReadLines.{AreAllOf, AreFirstOf, TakesNext, TellsUnless};
 
 use crate::draw::Drawing;
 use crate::json::json_of;
+use crate::kind::{Kind, kind_of};
 use crate::report::{cargo_message, sarif_log};
-use crate::write::pass;
 use json_node::node::Node;
 use json_node::place::Place;
 use redraw_command::line::{Line, is_utf16, line_of};
@@ -39,61 +38,6 @@ pub struct Reading {
     document: Option<Vec<u8>>,
     /// The number of the line that the document begins on.
     begins: u64,
-}
-
-/// What a value of JSON is.
-#[derive(Clone, Copy)]
-enum Kind {
-    /// A diagnostic of rustc.
-    Rustc,
-    /// A message of cargo that has a diagnostic of rustc in it.
-    Cargo,
-    /// The last message of cargo, where the build failed.
-    Failed,
-    /// A message of rustc or cargo that has none.
-    Other,
-    /// A SARIF log.
-    Sarif,
-}
-
-/// What this value is; `None` where it is none of them.
-fn kind_of(value: &Value) -> Option<Kind>
-    ensures kind { IsOfKind (view value.now) result }
-{
-    if value.get("runs").is_some() {
-        return Some(Kind::Sarif);
-    }
-    if let Some(reason) = value.get("reason").and_then(Value::as_str) {
-        return Some(cargo_kind(reason, value));
-    }
-    if value.get("message").is_some() && value.get("spans").is_some() {
-        return Some(Kind::Rustc);
-    }
-    if value.get("$message_type").is_some() {
-        Some(Kind::Other)
-    } else {
-        None
-    }
-}
-
-/// What a message of cargo is, by its reason.
-fn cargo_kind(reason: &str, value: &Value) -> Kind
-    ensures kind { IsCargoKind reason.now (view value.now) result }
-{
-    if reason == "compiler-message" {
-        Kind::Cargo
-    } else if reason == "build-finished" && is_failed(value) {
-        Kind::Failed
-    } else {
-        Kind::Other
-    }
-}
-
-/// Whether cargo's last message says that the build failed.
-fn is_failed(value: &Value) -> bool
-    ensures failed { IsTrue result ↔ (flag_at (codes "success") (view value.now) ≡ Some false) }
-{
-    value.get("success").and_then(Value::as_bool) == Some(false)
 }
 
 impl Reading {
@@ -153,10 +97,10 @@ impl Reading {
                 drawing.wrong("not valid UTF-8", err);
                 Ok(())
             }
-            Line::Blank => pass(bytes, out),
+            Line::Blank => drawing.hand_on(bytes, out),
             Line::Other => {
                 self.has_others = true;
-                pass(bytes, out)
+                drawing.hand_on(bytes, out)
             }
         }
     }
@@ -203,7 +147,7 @@ impl Reading {
             self.no_value(line, error, drawing, err)
         } else {
             self.has_others = true;
-            pass(bytes, out)
+            drawing.hand_on(bytes, out)
         }
     }
 
@@ -367,7 +311,7 @@ impl Reading {
             (standing drawing.new (W.contents out.new) (V.contents err.new)) }
     {
         match line {
-            Some(line) if self.is_known => pass(line, out),
+            Some(line) if self.is_known => drawing.hand_on(line, out),
             _ => {
                 drawing.wrong("neither a message of rustc or cargo nor a SARIF log", err);
                 Ok(())

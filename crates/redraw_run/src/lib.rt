@@ -3,8 +3,10 @@
 
 pub mod draw;
 pub mod files;
+pub mod html;
 pub mod input;
 pub mod json;
+pub mod kind;
 pub mod look;
 pub mod report;
 pub mod run;

@@ -6,19 +6,31 @@ use annotate_snippets::Renderer;
 use redraw_command::terminal::{Look, Surroundings};
 use report_options::options::{Options, renderer_of};
 
-/// The renderer that draws reports as they are to look there.
-pub fn renderer_for(look: &Look, around: Surroundings<'_>) -> Renderer
+/// What draws reports: the library's renderer, and whether it gives HTML.
+#[derive(Drop)]
+pub struct ReportRenderer {
+    pub settings: Renderer,
+    /// Whether reports are drawn as HTML.
+    pub is_html: bool,
+}
+
+/// What draws reports as they are to look there. In HTML they are in the graphic form, and link.
+pub fn renderer_for(look: &Look, around: Surroundings<'_>) -> ReportRenderer
     ensures settings { result ≡ looks look.now around.entry }
 {
     let has_colors = look.has_colors(around);
     let options = Options {
         unicode: look.unicode,
         text: look.text,
-        short: look.short,
+        short: look.short && !look.html,
         styled: has_colors,
         width: look.width.or(around.columns),
     };
-    renderer_of(options)
-        .hyperlink(has_colors && look.has_links())
-        .show_line_feeds(true)
+    let settings = renderer_of(options)
+        .hyperlink(look.html || has_colors && look.has_links())
+        .show_line_feeds(true);
+    ReportRenderer {
+        settings,
+        is_html: look.html,
+    }
 }

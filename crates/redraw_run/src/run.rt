@@ -11,11 +11,12 @@ ghost use Rattle.redraw_run.specs.Deeds.{standing};
 ghost use Rattle.redraw_run.specs.Inputs.{AreCut, AreDrawn, IsCutFrom, IsCutIn, IsCutOf, IsDrawnFrom, IsDrawnIn};
 ghost use Rattle.redraw_run.specs.Inputs.{IsDrawnOf, asked_names, given_names, held_by, held_in};
 ghost use Rattle.redraw_run.specs.ReadLines.{IsPrinted, SumsUp};
-ghost use Rattle.redraw_run.specs.Run.{Answers, Draws, EndsInput};
+ghost use Rattle.redraw_run.specs.Run.{Answers, ArePartlyPrinted, ArePrinted, Draws, EndsInput};
 ghost use Rattle.std.specs.Io.Buffered.{reader_inner, reader_remaining};
 
 use crate::draw::Drawing;
 use crate::files::FilesUnder;
+use crate::html;
 use crate::input::draw_input;
 use crate::look::renderer_for;
 use crate::write::pass;
@@ -133,7 +134,7 @@ fn draw_all<'w, R: Files + Input + AllocGlobal, W: Write, V: Write>(
         input: INPUT,
         line: 0,
     };
-    match draw_inputs(rt, request.inputs, &mut drawing, out, err) {
+    match draw_document(rt, request.inputs, &mut drawing, out, err) {
         Ok(is_whole) => finish(
             alloc,
             &drawing.tally,
@@ -143,6 +144,31 @@ fn draw_all<'w, R: Files + Input + AllocGlobal, W: Write, V: Write>(
         ),
         Err(error) => end_unwritten(alloc, error, err),
     }
+}
+
+/// Draws what each input holds, in HTML between what a document begins and ends with, and answers whether all of it
+/// could be read and is of a form that is known. It stops where nothing can be written.
+fn draw_document<'r, R: Files + Input + AllocGlobal, S: SourceFiles + Drop, W: Write, V: Write>(
+    rt: &R,
+    names: Option<&[&'r str]>,
+    drawing: &mut Drawing<'r, S>,
+    out: &mut W,
+    err: &mut V,
+) -> io::Result<bool>
+    ensures drawn { IfOk result (λ is_whole. ArePrinted R.File R.Reader (held_by R.File.remaining R.Reader.remaining)
+        (asked_names names.entry) is_whole
+        (standing drawing.old (W.contents out.old) (V.contents err.old))
+        (standing drawing.new (W.contents out.new) (V.contents err.new))) }
+    ensures cut { IfErr result (λ error. ArePartlyPrinted (held_by R.File.remaining R.Reader.remaining)
+        (asked_names names.entry)
+        (standing drawing.old (W.contents out.old) (V.contents err.old))
+        (standing drawing.new (W.contents out.new) (V.contents err.new))) }
+{
+    let is_html = drawing.renderer.is_html;
+    html::begin(is_html, out)?;
+    let is_whole = draw_inputs(rt, names, drawing, out, err)?;
+    html::end(is_html, out)?;
+    Ok(is_whole)
 }
 
 /// The name that is shown for standard input.

@@ -1,12 +1,11 @@
 //! The text that is drawn of a diagnostic.
 ghost use Rattle.std.specs.Prelude.{IfErr, IfOk, string_bytes};
-ghost use Rattle.annotate_snippets.specs.FormLaws.{HasLaws};
-ghost use Rattle.annotate_snippets.specs.Forms.{ShowsReport};
-ghost use Rattle.redraw_run.specs.DrawnFinding.{IsRefusalOf, IsUndrawn, ShowsFinding};
+ghost use Rattle.redraw_run.specs.DrawnFinding.{HasLawsAs, IsRefusalOf, IsUndrawn, ShowsAs, ShowsFinding};
 
+use crate::look::ReportRenderer;
+use annotate_snippets::Group;
 use annotate_snippets::renderer::RenderError;
 use annotate_snippets::snippet::report_fits;
-use annotate_snippets::{Group, Renderer};
 use redraw_read::place::Placing;
 use redraw_read::sources::{SourceFiles, Sources};
 use redraw_report::diagnostic::Diagnostic;
@@ -27,7 +26,7 @@ pub struct Drawn {
 /// What is drawn of a diagnostic, whose files were read.
 pub fn drawn_of<S: SourceFiles + Drop>(
     alloc: Global,
-    renderer: &Renderer,
+    renderer: &ReportRenderer,
     sources: &Sources<S>,
     diagnostic: &Diagnostic,
 ) -> Result<Drawn, AllocError>
@@ -37,7 +36,7 @@ pub fn drawn_of<S: SourceFiles + Drop>(
         (IsUndrawn renderer.now sources.now.files.items diagnostic.now)) }
 {
     let mut placing = Placing::new(alloc);
-    let finding = placing.finding(sources, diagnostic, renderer.short_message)?;
+    let finding = placing.finding(sources, diagnostic, renderer.settings.short_message)?;
     let groups = report(alloc, &finding)?;
     Ok(Drawn {
         text: render_fitting(alloc, renderer, &groups),
@@ -49,18 +48,20 @@ pub fn drawn_of<S: SourceFiles + Drop>(
 /// The text of a report; refused as if for memory where one of its texts is longer than memory is.
 fn render_fitting(
     alloc: Global,
-    renderer: &Renderer,
+    renderer: &ReportRenderer,
     groups: &Vec<Group<'_>>,
 ) -> Result<String, RenderError>
     ensures shows { IfOk result (λ text.
-        ShowsReport renderer.now groups.now.items renderer.now.stylesheet (string_bytes text)) }
+        ShowsAs renderer.now.is_html renderer.now.settings groups.now.items (string_bytes text)) }
     ensures laws { IfOk result (λ text.
-        HasLaws renderer.now groups.now.items renderer.now.stylesheet (string_bytes text)) }
+        HasLawsAs renderer.now.is_html renderer.now.settings groups.now.items (string_bytes text)) }
     ensures refused { IfErr result (IsRefusalOf renderer.now groups.now.items) }
 {
-    if report_fits(groups) {
-        renderer.render(alloc, groups)
-    } else {
+    if !report_fits(groups) {
         Err(RenderError::Memory(AllocError))
+    } else if renderer.is_html {
+        renderer.settings.render_html(alloc, groups)
+    } else {
+        renderer.settings.render(alloc, groups)
     }
 }

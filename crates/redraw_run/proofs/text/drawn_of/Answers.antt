@@ -1,10 +1,8 @@
 use Rattle.std.proofs.Common.{ℕ, List, string_bytes}
 use Rattle.std.proofs.lemmas.Result.{IfOk-weaker}
 use Rattle.annotate_snippets.proofs.ReportLemmas.{IfOk-both}
-use Rattle.annotate_snippets.specs.FormLaws.{HasLaws}
-use Rattle.annotate_snippets.specs.Forms.{ShowsReport}
 use Rattle.annotate_snippets.specs.declared.snippet.Group.{Group}
-use Rattle.redraw_run.specs.DrawnFinding.{ShowsFinding}
+use Rattle.redraw_run.specs.DrawnFinding.{HasLawsAs, ShowsAs, ShowsFinding}
 use Rattle.redraw_run.proofs.Refusing.{undrawn_of}
 use Rattle.redraw_run.proofs.text.drawn_of.Goals as goal
 
@@ -12,8 +10,8 @@ pub returns : goal.returns
 returns g c =
     let r = c.args.renderer.now in
     let groups : List Group = c.in_ok-groups.groups.items in
-    let Shows : List ℕ → Type 0 = ShowsReport r groups r.stylesheet in
-    let Laws : List ℕ → Type 0 = HasLaws r groups r.stylesheet in
+    let Shows : List ℕ → Type 0 = ShowsAs r.is_html r.settings groups in
+    let Laws : List ℕ → Type 0 = HasLawsAs r.is_html r.settings groups in
     record {
       shows =
           IfOk-weaker c.render_fitting.result (λ text. Shows (string_bytes text) × Laws (string_bytes text))

@@ -1,6 +1,6 @@
 use Rattle.std.proofs.Common.{◌≡◌, ℕ, List, Option, inr, ap, if◌then◌else◌, refl, subst, ◌∙◌, Bool}
 use Rattle.std.proofs.lemmas.Result.{on_ok_weaker}
-use Rattle.annotate_snippets.specs.declared.renderer.Renderer.{Renderer}
+use Rattle.redraw_run.specs.declared.look.ReportRenderer.{ReportRenderer}
 use Rattle.redraw_command.specs.declared.choice.Choice.{Choice}
 use Rattle.redraw_command.specs.declared.tally.Tally.{Tally}
 use Rattle.redraw_read.specs.declared.sources.File.{File}
@@ -38,11 +38,11 @@ returns-then-is_seen-clause-does g c =
     (c.in_ok-is_seen.ensures.counted ∙ ap (λ (b : Bool). if b then repeated t else t) c.if-is_seen.true) kept.0 kept.1)
 
 -- what is drawn is drawn for the same choice, in the same settings, from the same tally
-drawn_for : {a b : Choice} {r s : Renderer} {t u : Tally} (files : List File) (d : Diagnostic) (o n : Option (List ℕ)) (Same : Type 0) (after : Tally)
+drawn_for : {a b : Choice} {r s : ReportRenderer} {t u : Tally} (files : List File) (d : Diagnostic) (o n : Option (List ℕ)) (Same : Type 0) (after : Tally)
     → a ≡ b → r ≡ s → t ≡ u → Draws a.form r files d o n Same t after → Draws b.form s files d o n Same u after
 drawn_for {a} {b} {r} {s} {t} {u} files d o n Same after p q w h =
     subst (λ (x : Choice). Draws x.form s files d o n Same u after) p
-    (subst (λ (y : Renderer). Draws a.form y files d o n Same u after) q
+    (subst (λ (y : ReportRenderer). Draws a.form y files d o n Same u after) q
     (subst (λ (z : Tally). Draws a.form r files d o n Same z after) w h))
 
 pub returns-clause-once : goal.returns-clause-once

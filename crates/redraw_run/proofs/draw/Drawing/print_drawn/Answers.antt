@@ -1,5 +1,5 @@
 use Rattle.std.proofs.Common.{ap, refl, string_bytes, ◌∙◌}
-use Rattle.annotate_snippets.specs.declared.renderer.Renderer.{Renderer}
+use Rattle.redraw_run.specs.declared.look.ReportRenderer.{ReportRenderer}
 use Rattle.redraw_run.specs.DrawnFinding.{IsUndrawn, ShowsFinding, ending_after}
 use Rattle.redraw_run.specs.Fates.{IsShown}
 use Rattle.redraw_run.proofs.Doing.{goes_err, stops_none}
@@ -20,7 +20,7 @@ returns-in_ok-count-in-Ok-clause-does g c = λ form files shows undrawn.
     let d = c.args.diagnostic.now in
     goes_drawn _ _ c.print.result d (string_bytes c.in-Ok.text) _ files form
     (at_ok c.args.text c.in-Ok.text (λ t. ShowsFinding r files d (string_bytes t)) c.in-Ok.is shows) c.in_ok-count-in-Ok.ensures.counted kept.0 kept.1 refl
-    (ended _ _ _ _ c.as_str.ensures.value (c.ending_of.ensures.value ∙ ap (λ (x : Renderer). ending_after x.short_message d.severity) kept.0))
+    (ended _ _ _ _ c.as_str.ensures.value (c.ending_of.ensures.value ∙ ap (λ (x : ReportRenderer). ending_after x.settings.short_message d.severity) kept.0))
     c.print.ensures.writes
 
 pub returns-in-Err-clause-does : goal.returns-in-Err-clause-does

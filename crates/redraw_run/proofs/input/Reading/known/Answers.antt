@@ -1,6 +1,6 @@
 use Rattle.std.proofs.Common.{refl}
 use Rattle.redraw_run.specs.Fates.{IsKnown}
-use Rattle.redraw_run.specs.declared.input.Kind.TheVariants as kind
+use Rattle.redraw_run.specs.declared.kind.Kind.TheVariants as kind
 use Rattle.redraw_run.proofs.Doing.{does_as, goes_as}
 use Rattle.redraw_run.proofs.Done.{does_failed, does_same}
 use Rattle.redraw_run.proofs.Fated.{as_known}

@@ -1,7 +1,6 @@
 use Rattle.std.proofs.Common.{inr, refl}
 use Rattle.redraw_run.specs.Fates.{IsHandedOn, IsLine}
 use Rattle.redraw_run.proofs.Doing.{goes_as}
-use Rattle.redraw_run.proofs.Done.{goes_handed}
 use Rattle.redraw_run.proofs.Lined.{advances_alone, advances_open, line_handed, no_document}
 use Rattle.redraw_run.proofs.input.Reading.not_json.Goals as goal
 
@@ -17,8 +16,8 @@ pub returns-else-starts_with : goal.returns-else-starts_with
 returns-else-starts_with g c =
     record {
       advances = λ is begins reads was.
-          advances_alone c.pass.result c.args.bytes.now _ _ _ _ (no_document _ was) (no_document _ was)
-          (goes_as (IsHandedOn c.args.bytes.now) (IsLine c.args.bytes.now) _ _ c.pass.result
+          advances_alone c.hand_on.result c.args.bytes.now _ _ _ _ (no_document _ was) (no_document _ was)
+          (goes_as (IsHandedOn c.args.bytes.now) (IsLine c.args.bytes.now) _ _ c.hand_on.result
           (λ ds h. line_handed c.args.bytes.now c.args.line.now _ ds is begins (inr reads) h)
-          (goes_handed _ _ c.pass.result c.args.bytes.now refl refl refl refl c.pass.ensures.writes));
+          (c.hand_on.ensures.does _));
     }

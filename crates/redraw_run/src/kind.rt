@@ -1,0 +1,62 @@
+//! What a value of JSON is, by its fields.
+ghost use Rattle.std.specs.Prelude.{◌≡◌, ◌↔◌, Some, false, IsTrue, codes};
+ghost use Rattle.json_node.specs.Field.{flag_at};
+ghost use Rattle.serde_json.specs.View.{view};
+ghost use Rattle.redraw_run.specs.Fates.{IsCargoKind, IsOfKind};
+
+use serde_json::Value;
+
+/// What a value of JSON is.
+#[derive(Clone, Copy)]
+pub enum Kind {
+    /// A diagnostic of rustc.
+    Rustc,
+    /// A message of cargo that has a diagnostic of rustc in it.
+    Cargo,
+    /// The last message of cargo, where the build failed.
+    Failed,
+    /// A message of rustc or cargo that has none.
+    Other,
+    /// A SARIF log.
+    Sarif,
+}
+
+/// What this value is; `None` where it is none of them.
+pub fn kind_of(value: &Value) -> Option<Kind>
+    ensures kind { IsOfKind (view value.now) result }
+{
+    if value.get("runs").is_some() {
+        return Some(Kind::Sarif);
+    }
+    if let Some(reason) = value.get("reason").and_then(Value::as_str) {
+        return Some(cargo_kind(reason, value));
+    }
+    if value.get("message").is_some() && value.get("spans").is_some() {
+        return Some(Kind::Rustc);
+    }
+    if value.get("$message_type").is_some() {
+        Some(Kind::Other)
+    } else {
+        None
+    }
+}
+
+/// What a message of cargo is, by its reason.
+fn cargo_kind(reason: &str, value: &Value) -> Kind
+    ensures kind { IsCargoKind reason.now (view value.now) result }
+{
+    if reason == "compiler-message" {
+        Kind::Cargo
+    } else if reason == "build-finished" && is_failed(value) {
+        Kind::Failed
+    } else {
+        Kind::Other
+    }
+}
+
+/// Whether cargo's last message says that the build failed.
+fn is_failed(value: &Value) -> bool
+    ensures failed { IsTrue result ↔ (flag_at (codes "success") (view value.now) ≡ Some false) }
+{
+    value.get("success").and_then(Value::as_bool) == Some(false)
+}
