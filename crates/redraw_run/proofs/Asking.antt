@@ -1,12 +1,12 @@
 -- What a run answers, by why its words can't be read.
 use Rattle.std.proofs.Common.{◌≡◌, ◌≢◌, ◌⊎◌, ℕ, List, Option, inl, inr, refl, subst}
-use Rattle.clap.specs.Kinds.{IsAmong, Kinds}
+use Rattle.clap.specs.Kinds.{IsAmong}
 use Rattle.clap.specs.Faults.{fault_of}
 use Rattle.clap.specs.Simple.{App}
 use Rattle.clap.specs.declared.error.kind.ErrorKind.{ErrorKind}
 use Rattle.clap.specs.declared.error.kind.ErrorKind.TheVariants.{DisplayHelp, DisplayVersion, OutOfMemory}
 use Rattle.redraw_command.specs.Told.{TellsMemory, TellsOfWords}
-use Rattle.redraw_command.specs.Words.{AreWrong, AsksToShow, Word}
+use Rattle.redraw_command.specs.Words.{AsksToShow, Word}
 use Rattle.redraw_command.specs.declared.terminal.Surroundings.{Surroundings}
 use Rattle.redraw_run.specs.ReadLines.{IsPrinted}
 use Rattle.redraw_run.specs.Run.{AnswersBy}

@@ -5,6 +5,7 @@ pub mod Fated
 pub mod Gone
 pub mod Lined
 pub mod Named
+pub mod NotDocument
 pub mod NotDrawn
 pub mod NotRead
 pub mod NotRefused

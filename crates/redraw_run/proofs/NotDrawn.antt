@@ -33,7 +33,6 @@ use Rattle.redraw_report.specs.declared.finding.Finding.{Finding}
 use Rattle.redraw_report.specs.declared.finding.Remark.{Remark}
 use Rattle.redraw_run.specs.Deeds.{Commanded, IsDeed}
 use Rattle.redraw_run.specs.DrawnFinding.{Draws, ShowsFinding, ending_after}
-use Rattle.redraw_run.specs.HtmlDocument.{handed}
 use Rattle.redraw_run.specs.declared.look.ReportRenderer.{ReportRenderer}
 
 -- the byte before the last is the same at the end of equal texts
@@ -135,9 +134,3 @@ other_command r c d line other is differ deed = differ (cc (is, deed.1))
 -- a command for a finding that has none, as one without a level
 pub needless_command : (r : ReportRenderer) (c : Choice) (d : Diagnostic) (line : List ℕ) → command d ≡ None → IsDeed r c (Commanded d line) → ⊥
 needless_command r c d line none deed = absurd (cc (none, deed.1))
-
--- ---- a tag of another tool
-
--- a line that is handed on into HTML as it is, here `<`
-pub tag_handed_on : handed true (60 ∷ []) ≡ 60 ∷ [] → ⊥
-tag_handed_on is = cc is

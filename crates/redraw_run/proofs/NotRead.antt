@@ -39,9 +39,9 @@ unread_all held (input ∷ inputs) name names c ds named each =
 pub unread_and_clean : (held : Nothing → Option (List ℕ)) (name : List ℕ) (names : List (List ℕ)) (a : State) (out err : Option (List ℕ))
     → Finishes ⊥ ⊥ held (name ∷ names) a out err 0 → ⊥
 unread_and_clean held name names a out err run =
-    let inputs = run.drawn.inputs in
-    let partial : run.is_whole ≡ false = sym run.drawn.whole
-    ∙ unread_all held inputs name names a.choice run.drawn.does.deeds run.drawn.named run.drawn.does.fit in
+    let drawn = run.drawn.drawn in
+    let partial : run.is_whole ≡ false = sym drawn.whole
+    ∙ unread_all held drawn.inputs name names a.choice drawn.does.deeds drawn.named drawn.does.fit in
     let two : ◌≡◌ {A = ℕ} 0 2 = run.ends ∙ ap (λ (whole : Bool). status_of run.end.tally whole) partial in
     cc two
 

@@ -14,7 +14,7 @@ use Rattle.redraw_command.specs.Line.{begins_utf16}
 use Rattle.redraw_command.specs.declared.stop.Stop.TheVariants.{Utf16}
 use Rattle.redraw_read.specs.declared.sources.File.{File}
 use Rattle.redraw_report.specs.Report.{headed_of, marked_parts, section_of, sections_from}
-use Rattle.redraw_report.specs.View.{Part, Section, part_view, section_view}
+use Rattle.redraw_report.specs.View.{Section, part_view, section_view}
 use Rattle.redraw_report.specs.declared.diagnostic.Diagnostic.{Diagnostic}
 use Rattle.redraw_report.specs.declared.finding.Finding.{Finding}
 use Rattle.redraw_report.specs.declared.finding.Mark.{Mark}

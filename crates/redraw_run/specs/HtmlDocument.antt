@@ -4,11 +4,11 @@ use Rattle.annotate_snippets.specs.declared.renderer.html_stylesheet.TheConstant
 use Rattle.snippet_grid.specs.Html.{escaped}
 
 -- the stylesheet of reports, and the tags up to what is drawn
-pub styles : List ℕ
+unfoldable pub styles : List ℕ
 styles = HTML_STYLESHEET.now ++ codes "</style>\n</head>\n<body>\n<pre>\n"
 
 -- all that stands before what is drawn: the page is light or dark as its reader prefers
-pub head : List ℕ
+unfoldable pub head : List ℕ
 head =
     codes "<!DOCTYPE html>\n<html lang=\"en\">\n<head>\n<meta charset=\"utf-8\">\n<title>redraw</title>\n<style>\n:root { color-scheme: light dark; }\n"
     ++ styles

@@ -1,5 +1,6 @@
 -- What a run does about its inputs, and how it ends.
-use Rattle.std.specs.Prelude.{◌≡◌, ◌⊎◌, ℕ, Bool, false, List, [], Option, Result, Ok, Err}
+use Rattle.std.specs.Prelude.{◌≡◌, ◌⊎◌, ℕ, Bool, false, List, Option, Result, Ok, Err}
+use Rattle.std.specs.Io.KnownBytes.{Appends}
 use Rattle.std.specs.declared.io.Error.{Error}
 use Rattle.clap.specs.Simple.{App}
 use Rattle.redraw_command.specs.Tally.{no_tally, status_of}
@@ -81,7 +82,7 @@ pub record Finishes (File Standard : Type 0) (held : File ⊎ Standard → Optio
 pub record IsCut (File Standard : Type 0) (held : File ⊎ Standard → Option (List ℕ)) (names : List (List ℕ)) (a : State)
     (out err : Option (List ℕ)) (status : ℕ) : Type 0 where
   pub end : State
-  pub drawn : ArePartlyPrinted {File} {Standard} held names a end
+  pub drawn : ArePartlyPrinted held names a end
   pub printed : out ≡ end.out
   pub told : (err ≡ end.err) ⊎ Tells end.err err
   pub ends : status ≡ 2

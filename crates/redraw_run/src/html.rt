@@ -102,11 +102,12 @@ fn add_escaped(text: &mut Vec<u8>, byte: u8) -> Result<(), AllocError>
     ensures added { OnOk result (text.new.items ≡ text.old.items ++ html.escape byte) }
 {
     match byte {
-        b'&' => text.extend_from_slice(b"&amp;"),
-        b'<' => text.extend_from_slice(b"&lt;"),
-        b'>' => text.extend_from_slice(b"&gt;"),
-        b'"' => text.extend_from_slice(b"&quot;"),
-        b'\'' => text.extend_from_slice(b"&#39;"),
-        _ => text.push(byte),
+        b'&' => text.extend_from_slice(b"&amp;")?,
+        b'<' => text.extend_from_slice(b"&lt;")?,
+        b'>' => text.extend_from_slice(b"&gt;")?,
+        b'"' => text.extend_from_slice(b"&quot;")?,
+        b'\'' => text.extend_from_slice(b"&#39;")?,
+        _ => text.push(byte)?,
     }
+    Ok(())
 }

@@ -6,6 +6,7 @@ use redraw_command::tally::Tally;
 use redraw_command::terminal::Surroundings;
 use redraw_read::sources::{SourceFiles, Sources};
 use redraw_run::draw::Drawing;
+use redraw_run::look::ReportRenderer;
 use redraw_run::run::{draw_opened, run};
 use std::alloc::{AllocError, Global};
 use std::test::Fail;
@@ -63,7 +64,10 @@ fn draw_into(
     };
     let mut drawing = Drawing {
         alloc,
-        renderer: Renderer::plain(),
+        renderer: ReportRenderer {
+            settings: Renderer::plain(),
+            is_html: false,
+        },
         choice,
         sources: Sources::new(alloc, room),
         folder: None,

@@ -1,4 +1,4 @@
-use Rattle.std.proofs.Common.{[], ◌∷◌, ◌++◌, ap, sym}
+use Rattle.std.proofs.Common.{◌++◌, ap, sym}
 use Rattle.redraw_run.specs.HtmlDocument.{head, styles}
 use Rattle.redraw_run.proofs.Done.{part_first, prints_then, writes_cut}
 use Rattle.redraw_run.proofs.html.print_head.Goals as goal
@@ -6,8 +6,10 @@ use Rattle.redraw_run.proofs.html.print_head.Goals as goal
 pub returns-in-Ok : goal.returns-in-Ok
 unfolding head
 returns-in-Ok g c =
-    record { prints = prints_then _ _ _ c.print_styles.result _ styles _ (ap (λ l. l ++ styles) (sym c.as_bytes.ensures.value)) c.in-Ok.ensures.whole
-        c.print_styles.ensures.prints }
+    record {
+      prints = prints_then _ _ _ c.print_styles.result _ styles _ (ap (λ l. l ++ styles) (sym c.as_bytes.ensures.value)) c.in-Ok.ensures.whole
+          c.print_styles.ensures.prints;
+    }
 
 pub returns-in-Err : goal.returns-in-Err
 unfolding head

@@ -1,4 +1,4 @@
-use Rattle.std.proofs.Common.{ap, refl, subst, sym, ◌∙◌}
+use Rattle.std.proofs.Common.{ap, subst, sym, ◌∙◌}
 use Rattle.redraw_command.specs.Line.{begins_object}
 use Rattle.redraw_run.specs.Fates.{IsHandedOn, IsLine, IsTextOf}
 use Rattle.redraw_run.proofs.Doing.{does_as, goes_as}

@@ -1,4 +1,4 @@
-use Rattle.std.proofs.Common.{inr, refl}
+use Rattle.std.proofs.Common.{inr}
 use Rattle.redraw_run.specs.Fates.{IsHandedOn, IsLine}
 use Rattle.redraw_run.proofs.Doing.{goes_as}
 use Rattle.redraw_run.proofs.Lined.{advances_alone, advances_open, line_handed, no_document}

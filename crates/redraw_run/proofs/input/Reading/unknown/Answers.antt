@@ -1,4 +1,4 @@
-use Rattle.std.proofs.Common.{Bor, List, ap, refl, ℕ}
+use Rattle.std.proofs.Common.{Bor, List, ap, ℕ}
 use Rattle.std.specs.Prelude.{option_map}
 use Rattle.redraw_run.specs.Fates.{IsHandedOn, IsUnknown}
 use Rattle.redraw_run.proofs.Doing.{does_as, goes_as}
