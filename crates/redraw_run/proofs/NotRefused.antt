@@ -52,7 +52,8 @@ unrefused r groups why graphic none refused =
     let never : refusal_of r groups ≡ None = refusal_as r.is_html r.settings groups graphic ∙ ap (λ (o : Option RenderError). option_or None o) none in
     cc (never, refused)
 
-by_groups : (r : ReportRenderer) (groups : List Group) (section : Section) (why : RenderError) → form_of r.settings ≡ Graphic → map section_view groups ≡ section ∷ []
+by_groups : (r : ReportRenderer) (groups : List Group) (section : Section) (why : RenderError) → form_of r.settings ≡ Graphic
+    → map section_view groups ≡ section ∷ []
     → section.parts ≡ [] → refusal_of r groups ≡ Some why → ⊥
 by_groups r [] section why graphic told none refused = cc told
 by_groups r (g ∷ []) section why graphic told none refused =

@@ -34,7 +34,8 @@ undrawn_by r files d finding groups why is told (inl refused) =
 undrawn_by r files d finding groups why is told (inr memory) = inr memory
 
 -- where a report is refused, so is the finding that it reports
-pub undrawn_of : {T : Type 0} (r : ReportRenderer) (files : List File) (d : Diagnostic) (finding : Finding) (groups : List Group) (result : Result T RenderError)
+pub undrawn_of : {T : Type 0} (r : ReportRenderer) (files : List File) (d : Diagnostic) (finding : Finding) (groups : List Group)
+    (result : Result T RenderError)
     → IsFindingOf record { files = files; home = home_of d.homes.items; is_short = r.settings.short_message } d finding
     → map section_view groups ≡ report_of finding → IfErr result (IsRefusalOf r groups) → IfErr result (IsUndrawn r files d)
 undrawn_of r files d finding groups (Ok text) is told h = tt
@@ -62,7 +63,8 @@ draws_report (Ok done) (Err e) r files d old new Same before after shows undrawn
     inr (refused_by r files d e left.0 undrawn, left.1, left.2)
 
 -- the same in the same settings, of the same files, from the same tally
-pub draws_as : {T : Type 0} (result : Result T Stop) {r s : ReportRenderer} {files these : List File} (d : Diagnostic) (old new : Option (List ℕ)) (Same : Type 0)
+pub draws_as : {T : Type 0} (result : Result T Stop) {r s : ReportRenderer} {files these : List File} (d : Diagnostic) (old new : Option (List ℕ))
+    (Same : Type 0)
     {before first : Tally} (after : Tally) → r ≡ s → files ≡ these → before ≡ first → OnOk result (Draws Report r files d old new Same before after)
     → OnOk result (Draws Report s these d old new Same first after)
 draws_as (Err stop) d old new Same after p q w h = tt

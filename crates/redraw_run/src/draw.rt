@@ -337,7 +337,8 @@ impl<S: SourceFiles + Drop> Drawing<'_, S> {
         err: &mut V,
     ) -> Result<(), Stop>
         ensures drawn { OnOk result (IfOk text (λ t. Appends (W.contents out.old) (W.contents out.new)
-            (string_bytes t ++ (ending_after self.old.renderer.settings.short_message diagnostic.now.severity ++ 10 ∷ [])))) }
+            (string_bytes t
+            ++ (ending_after self.old.renderer.settings.short_message diagnostic.now.severity ++ 10 ∷ [])))) }
         ensures counted { OnOk result (IfOk text (λ t. IsCounted diagnostic.now self.old.tally self.new.tally)) }
         ensures untold { OnOk result (IfOk text (λ t. err.new ≡ err.old)) }
         ensures left_out { OnOk result (IfErr text (λ e. (e ≢ RenderError.Memory alloc_error)

@@ -7,7 +7,10 @@ pub returns-in-Ok : goal.returns-in-Ok
 unfolding styles
 returns-in-Ok g c =
     let body = codes "</style>\n</head>\n<body>\n<pre>\n" in
-    record { prints = prints_then _ _ _ c.print.result _ body _ (ap (λ l. l ++ body) (sym c.as_bytes.ensures.value)) c.in-Ok.ensures.whole c.print.ensures.prints }
+    record {
+      prints = prints_then _ _ _ c.print.result _ body _ (ap (λ l. l ++ body) (sym c.as_bytes.ensures.value)) c.in-Ok.ensures.whole
+          c.print.ensures.prints;
+    }
 
 pub returns-in-Err : goal.returns-in-Err
 unfolding styles
