@@ -85,35 +85,35 @@ flat-zip P Q f each (x ∷ xs) (y ∷ ys) pairs =
 abbrev IsTextOf : List ℕ → List ℕ → Type 0
 IsTextOf a b = All (IsAmong (chars a)) (chars b)
 
-own-text : (a : List ℕ) → IsTextOf a a
-own-text a = All-weaker (Contains (chars a)) (IsAmong (chars a)) (λ c own. inr own) (chars a) (All-contains_itself (chars a))
+IsTextOf-refl : (a : List ℕ) → IsTextOf a a
+IsTextOf-refl a = All-weaker (Contains (chars a)) (IsAmong (chars a)) (λ c own. inr own) (chars a) (All-contains_itself (chars a))
 
 zip-own : (texts : List (List ℕ)) → AllZip IsTextOf texts texts
 zip-own [] = tt
-zip-own (text ∷ texts) = (own-text text, zip-own texts)
+zip-own (text ∷ texts) = (IsTextOf-refl text, zip-own texts)
 
 rewrapped : (room : ℕ) (a b : CowStr Global) → IsTextWrapped room a b → IsTextRewrapped room a b
 rewrapped room a b is =
     subst (λ (cs : List ℕ). IsRewrapped room (chars (cow_str_bytes a)) cs) (sym is) (wrapped-laws room (chars (cow_str_bytes a)))
 
-text-of : (room : ℕ) (a b : CowStr Global) → IsTextWrapped room a b → IsTextOf (cow_str_bytes a) (cow_str_bytes b)
-text-of room a b is =
+IsTextOf-wrapped : (room : ℕ) (a b : CowStr Global) → IsTextWrapped room a b → IsTextOf (cow_str_bytes a) (cow_str_bytes b)
+IsTextOf-wrapped room a b is =
     let laws = rewrapped room a b is in
     laws.among
 
 -- so is each of texts
-texts-of : (given shown : List (List ℕ)) → AllZip IsTextOf given shown → (c : ℕ) → Contains (flat_map chars shown) c
+Contains-texts : (given shown : List (List ℕ)) → AllZip IsTextOf given shown → (c : ℕ) → Contains (flat_map chars shown) c
     → (c ≡ 10) ⊎ Contains (flat_map chars given) c
-texts-of [] [] pairs c own = inr own
-texts-of [] (y ∷ ys) pairs c own = absurd pairs
-texts-of (x ∷ xs) [] pairs c own = absurd pairs
-texts-of (x ∷ xs) (y ∷ ys) pairs c own =
+Contains-texts [] [] pairs c own = inr own
+Contains-texts [] (y ∷ ys) pairs c own = absurd pairs
+Contains-texts (x ∷ xs) [] pairs c own = absurd pairs
+Contains-texts (x ∷ xs) (y ∷ ys) pairs c own =
     elim (Contains-append_cases (chars y) (flat_map chars ys) c own) [
       | inl first ↦ elim (All-contains (IsAmong (chars x)) (chars y) c pairs.0 first) [
         | inl feed ↦ inl feed
         | inr here ↦ inr (Contains-append_left (chars x) (flat_map chars xs) c here)
       ]
-      | inr later ↦ elim (texts-of xs ys pairs.1 c later) [
+      | inr later ↦ elim (Contains-texts xs ys pairs.1 c later) [
         | inl feed ↦ inl feed
         | inr here ↦ inr (Contains-append_right (chars x) (flat_map chars xs) c here)
       ]
@@ -256,7 +256,7 @@ module _ (term_width gutter : ℕ) where
 
   title-trusted : (a b : Title) → IsTitleWrapped term_width a b → AllZip IsTextOf (trusted_of_title a) (trusted_of_title b)
   title-trusted a b is =
-      let own : AllZip IsTextOf (cow_str_bytes a.text ∷ []) (cow_str_bytes b.text ∷ []) = (text-of (room_of_title term_width a) a.text b.text is.2, tt) in
+      let own : AllZip IsTextOf (cow_str_bytes a.text ∷ []) (cow_str_bytes b.text ∷ []) = (IsTextOf-wrapped (room_of_title term_width a) a.text b.text is.2, tt) in
       by a.allows_styling b.allows_styling is.3 own
     where
       by : (s t : Bool) → t ≡ s → AllZip IsTextOf (cow_str_bytes a.text ∷ []) (cow_str_bytes b.text ∷ [])
@@ -275,7 +275,7 @@ module _ (term_width gutter : ℕ) where
       zip-append IsTextOf (trusted_of_title a) (trusted_of_title b) [] [] (title-trusted a b is) tt
 
   element-trusted : (a b : Element) → Wraps a b → AllZip IsTextOf (trusted_of_element a) (trusted_of_element b)
-  element-trusted (Message a) (Message b) is = (text-of (room_of_message term_width gutter a) a.text b.text is.1, tt)
+  element-trusted (Message a) (Message b) is = (IsTextOf-wrapped (room_of_message term_width gutter a) a.text b.text is.1, tt)
   element-trusted a b is =
       subst (λ (e : Element). AllZip IsTextOf (trusted_of_element a) (trusted_of_element e)) (sym is) (zip-own (trusted_of_element a))
 
@@ -293,7 +293,7 @@ module _ (term_width gutter : ℕ) where
       All-weaker (λ c. is_listed c ≡ true → Contains (flat_map chars (trusted_texts shown)) c)
       (λ c. is_listed c ≡ true → Contains (flat_map chars (trusted_texts groups)) c)
       (λ c own listed. listed-own c (flat_map chars (trusted_texts groups)) listed
-      (texts-of (trusted_texts groups) (trusted_texts shown) (all-trusted groups shown pairs) c (own listed))) text free
+      (Contains-texts (trusted_texts groups) (trusted_texts shown) (all-trusted groups shown pairs) c (own listed))) text free
 
   -- ---- what follows of the texts
 

@@ -41,18 +41,19 @@ none_given source (p ∷ ps) [] same none = absurd (some-edits source (p ∷ ps)
 none_given source (p ∷ ps) (t ∷ ts) same none = absurd (cc)
 
 -- where nothing was given nothing is left
-pub some-given : (source : List ℕ) (ps : List Patch) (ts : List TrimmedPatch) (t : TrimmedPatch)
+pub trimmed-given : (source : List ℕ) (ps : List Patch) (ts : List TrimmedPatch) (t : TrimmedPatch)
     → map trimmed_edit_of ts ≡ trimmed_edits source (map edit_of ps) → slice_get ts 0 ≡ Some t → ps ≢ []
-some-given source [] [] t same some = λ _. cc
-some-given source [] (s ∷ ts) t same some = λ _. cc
-some-given source (p ∷ ps) ts t same some = λ e. cc
+trimmed-given source [] [] t same some = λ _. cc
+trimmed-given source [] (s ∷ ts) t same some = λ _. cc
+trimmed-given source (p ∷ ps) ts t same some = λ e. cc
 
 -- the first trimmed patch was the first in order
-pub first-given : (ts : List TrimmedPatch) (os : List Edit) (t : TrimmedPatch) → map original_bounds_of ts ≡ map edit_bounds os → slice_get ts 0 ≡ Some t
+pub first_start-trimmed : (ts : List TrimmedPatch) (os : List Edit) (t : TrimmedPatch) → map original_bounds_of ts ≡ map edit_bounds os
+    → slice_get ts 0 ≡ Some t
     → t.original_span.start ≡ first_start os
-first-given [] os t same some = absurd (cc)
-first-given (s ∷ ts) [] t same some = absurd (cc)
-first-given (s ∷ ts) (o ∷ os) t same some =
+first_start-trimmed [] os t same some = absurd (cc)
+first_start-trimmed (s ∷ ts) [] t same some = absurd (cc)
+first_start-trimmed (s ∷ ts) (o ∷ os) t same some =
     let pair : ◌≡◌ {A = ℕ × ℕ} (original_bounds_of s) (edit_bounds o) = cc in
     let one : s ≡ t = cc in
     ap (λ u. u.original_span.start) (sym one) ∙ ap (λ p. p.0) pair

@@ -125,18 +125,18 @@ first_text : (b : ℕ) (ls : List Line) → b ≢ 13 → text_at (with_first_byt
 first_text b [] other = refl
 first_text b (l ∷ ls) other = line_with_byte-other b l.0 l.1 other
 
-first-line-of : (xs : List ℕ) → HasNoCr xs → text_at (lines_of xs) 0 ≡ before_first is_lf xs
-first-line-of [] none = refl
-first-line-of (b ∷ bs) none =
+text_at-first-of : (xs : List ℕ) → HasNoCr xs → text_at (lines_of xs) 0 ≡ before_first is_lf xs
+text_at-first-of [] none = refl
+text_at-first-of (b ∷ bs) none =
     ⊎_elim (λ t. ap (λ (ls : List Line). text_at ls 0) (cond-true {A = List Line} (eqb b 10) (([], Lf) ∷ lines_of bs) (with_first_byte b (lines_of bs)) t)
     ∙ sym (prefix-none b bs t))
     (λ f. ap (λ (ls : List Line). text_at ls 0) (cond-false {A = List Line} (eqb b 10) (([], Lf) ∷ lines_of bs) (with_first_byte b (lines_of bs)) f)
-    ∙ first_text b (lines_of bs) (none 0 0 (omega arith)) ∙ ap (λ l. b ∷ l) (first-line-of bs (All-tail (λ c. c ≢ 13) b bs none))
+    ∙ first_text b (lines_of bs) (none 0 0 (omega arith)) ∙ ap (λ l. b ∷ l) (text_at-first-of bs (All-tail (λ c. c ≢ 13) b bs none))
     ∙ sym (prefix-first b bs f)) (cases_Bool (eqb b 10))
 
-pub first-line : (xs : List ℕ) → HasNoCr xs → text_at (source_lines xs) 0 ≡ before_first is_lf xs
-first-line [] none = refl
-first-line (b ∷ bs) none = first-line-of (b ∷ bs) none
+pub text_at-first : (xs : List ℕ) → HasNoCr xs → text_at (source_lines xs) 0 ≡ before_first is_lf xs
+text_at-first [] none = refl
+text_at-first (b ∷ bs) none = text_at-first-of (b ∷ bs) none
 
 -- ---- the part of the patched source that is shown
 
@@ -304,7 +304,7 @@ IsShownPart-plain true source es none before apart some =
       stops = inl (first_stops r);
       closes = inl (first_stops r);
       ends = omega (arith, length-append w l);
-      text = ap (λ x. without_final_line_feeds (w ++ x)) (cond-false (closes_line ts) [] (text_at (source_lines r) 0) t ∙ first-line r clean);
+      text = ap (λ x. without_final_line_feeds (w ++ x)) (cond-false (closes_line ts) [] (text_at (source_lines r) 0) t ∙ text_at-first r clean);
       spliced = ap without_final_line_feeds (ap (slice_range (patched source es) s) end ∙ ap (λ d. slice_range d s (s + length w + length l)) whole
           ∙ cut-part f w r s (length l) size ∙ ap (λ x. w ++ x) front_of);
     })

@@ -119,19 +119,19 @@ stands-within source at now (t ∷ ts) =
 abbrev pub EndsBefore : ℕ → Stand → Type 0
 EndsBefore high s = s.from ≡ s.to → s.to < high
 
-stands-before : (source : List ℕ) (at now : ℕ) (ts : List Edit) → 0 < length (last_text ts)
+EndsBefore-stands_from : (source : List ℕ) (at now : ℕ) (ts : List Edit) → 0 < length (last_text ts)
     → All (EndsBefore (last_end now (stands_from source at now ts))) (stands_from source at now ts)
-stands-before source at now [] some = absurd (omega arith)
-stands-before source at now (t ∷ []) some =
+EndsBefore-stands_from source at now [] some = absurd (omega arith)
+EndsBefore-stands_from source at now (t ∷ []) some =
     let from : ℕ = now + length (slice_range source at t.start) in
     All-cons (EndsBefore (from + length t.text)) (record { from = from; to = from + length t.text }) [] (λ e.
     absurd (omega (arith, some, e))) (All-nil (EndsBefore (from + length t.text)))
-stands-before source at now (t ∷ u ∷ ts) some =
+EndsBefore-stands_from source at now (t ∷ u ∷ ts) some =
     let from : ℕ = now + length (slice_range source at t.start) in
     let to : ℕ = from + length t.text in
     let high : ℕ = last_end to (stands_from source t.end to (u ∷ ts)) in
     All-cons (EndsBefore high) (record { from = from; to = to }) (stands_from source t.end to (u ∷ ts)) (λ e.
-    last_end-lt source t.end to (u ∷ ts) some) (stands-before source t.end to (u ∷ ts) some)
+    last_end-lt source t.end to (u ∷ ts) some) (EndsBefore-stands_from source t.end to (u ∷ ts) some)
 
 -- ---- the lines that are touched
 
@@ -252,7 +252,7 @@ shown-touched fold source es none before apart h j touched some =
           All-contains (IsWithin first (first + length (written source first (t ∷ ts)))) (stands_from source first first (t ∷ ts)) s
               (subst (λ n. All (IsWithin first n) (stands_from source first first (t ∷ ts))) end (stands-within source first first (t ∷ ts))) there,
           λ more. All-contains (EndsBefore (first + length (written source first (t ∷ ts)))) (stands_from source first first (t ∷ ts)) s
-              (subst (λ n. All (EndsBefore n) (stands_from source first first (t ∷ ts))) end (stands-before source first first (t ∷ ts) more)) there,
+              (subst (λ n. All (EndsBefore n) (stands_from source first first (t ∷ ts))) end (EndsBefore-stands_from source first first (t ∷ ts) more)) there,
         )
 
 -- ---- touched lines by ranges, for what is drawn of them

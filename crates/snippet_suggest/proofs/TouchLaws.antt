@@ -18,7 +18,7 @@ use Rattle.snippet_splice.specs.Edits.{Edit, edit_of, patched, trimmed_edits}
 use Rattle.snippet_splice.specs.Overlap.{AreDisjoint}
 use Rattle.snippet_splice.specs.ShownText.{without_final_line_feeds}
 use Rattle.snippet_splice.specs.Spliced.{IsTouched, line_ranges, ranges_from, spliced_text, stands, texts_of}
-use Rattle.snippet_splice.proofs.RangeLemmas.{written-ranges}
+use Rattle.snippet_splice.proofs.RangeLemmas.{ranges_from-written_ranges}
 use Rattle.snippet_splice.proofs.SpliceLemmas.{IsShownPart}
 use Rattle.snippet_splice.proofs.TouchLemmas.{IsHeld, shown-touched, touched-held}
 use Rattle.snippet_suggest.specs.declared.kind.DisplaySuggestion.{DisplaySuggestion}
@@ -140,7 +140,7 @@ touched-offered s spans disjoint offerable j touched filled =
     ∙ (given-is-patched s spans disjoint some offerable k low).1 ∙ ap (text_at ls) is_j in
     absurd (true≢false (sym blank ∙ ap is_blank at ∙ filled)))
     (λ as_it_was. inl as_it_was) why.1)
-    (λ shown. let ranges : ranges_from base (given_ranges s) ≡ line_ranges source es = written-ranges s.fold source es offerable.no_cr offerable.before
+    (λ shown. let ranges : ranges_from base (given_ranges s) ≡ line_ranges source es = ranges_from-written_ranges s.fold source es offerable.no_cr offerable.before
     (edits-apart s spans disjoint) in
     let held : is_held (given_ranges s) k ≡ true = held-later base j (given_ranges s)
     (subst (λ rs. IsHeld rs j) (sym ranges) (touched-held source es j touched)) in

@@ -126,27 +126,27 @@ shown-other c plain =
     (choice (c == 0x7F) _ _ (alone 0x2421 refl)
     (choice (c == 0x200D) _ _ (All-nil IsOther) (choice (is_bidirectional_control c) _ _ (alone 0xFFFD refl) (alone c plain)))))
 
-norm_onto : (c : ℕ) (cs rest : List ℕ) (parts : List (List ℕ)) → (c == 10) ≡ false → lines_of cs ≡ parts → lines_of rest ≡ map norm parts
+lines_of-norm_onto : (c : ℕ) (cs rest : List ℕ) (parts : List (List ℕ)) → (c == 10) ≡ false → lines_of cs ≡ parts → lines_of rest ≡ map norm parts
     → lines_of (shown c ++ rest) ≡ map norm (lines_of (c ∷ cs))
 unfolding norm
-norm_onto c cs rest [] other is below = absurd (omega (arith, length-slice_split (λ d. d == 10) cs, ap (λ (ps : List (List ℕ)). length ps) is))
-norm_onto c cs rest (part ∷ parts) other is below =
+lines_of-norm_onto c cs rest [] other is below = absurd (omega (arith, length-slice_split (λ d. d == 10) cs, ap (λ (ps : List (List ℕ)). length ps) is))
+lines_of-norm_onto c cs rest (part ∷ parts) other is below =
     lines_at-after (shown c) rest (norm part) (map norm parts) (shown-other c other) below
     ∙ ap (map norm) (sym (slice_split-cons_no (λ d. d == 10) c cs other ∙ ap (onto_first c) is))
 
-norm_step : (c : ℕ) (cs : List ℕ) (feed : Bool) → (c == 10) ≡ feed → lines_of (norm cs) ≡ map norm (lines_of cs)
+lines_of-norm_step : (c : ℕ) (cs : List ℕ) (feed : Bool) → (c == 10) ≡ feed → lines_of (norm cs) ≡ map norm (lines_of cs)
     → lines_of (norm (c ∷ cs)) ≡ map norm (lines_of (c ∷ cs))
 unfolding norm
-norm_step c cs true is below =
+lines_of-norm_step c cs true is below =
     let ten : c ≡ 10 = grind (arith, nat_tests, is) in
     ap (λ d. lines_of (norm (d ∷ cs))) ten ∙ slice_split-cons_yes (λ d. d == 10) 10 (norm cs) refl ∙ ap (λ ls. [] ∷ ls) below
     ∙ ap (map norm) (sym (slice_split-cons_yes (λ d. d == 10) c cs is))
-norm_step c cs false is below = norm_onto c cs (norm cs) (lines_of cs) is refl below
+lines_of-norm_step c cs false is below = lines_of-norm_onto c cs (norm cs) (lines_of cs) is refl below
 
 lines-norm : (cs : List ℕ) → lines_of (norm cs) ≡ map norm (lines_of cs)
 unfolding norm
 lines-norm [] = refl
-lines-norm (c ∷ cs) = norm_step c cs (c == 10) refl (lines-norm cs)
+lines-norm (c ∷ cs) = lines_of-norm_step c cs (c == 10) refl (lines-norm cs)
 
 -- so the lines of a text as it is drawn have the room that its own have
 norm-within : (room : ℕ) (cs : List ℕ) → AreWithin room (lines_of cs) → AreWithin room (lines_of (norm cs))

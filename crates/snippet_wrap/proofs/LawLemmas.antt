@@ -15,7 +15,7 @@ use Rattle.snippet_wrap.specs.Wrapped.{break_before, first_break, fitting, gap_a
 use Rattle.snippet_wrap.specs.WrapLaws.{AreWithin, IsAmong, IsRewrapped, is_gap, is_inside, lines_of, words_of}
 use Rattle.snippet_wrap.specs.declared.row.Break.{Break}
 use Rattle.snippet_wrap.proofs.EndLemmas.{Ends, IsOther, at_gap, at_seam, break_found, break_missing, break_within, ends, fitting_all, fitting_line}
-use Rattle.snippet_wrap.proofs.EndLemmas.{and_one, at_suc, fits, fitting_stops, fitting_width, width_cons}
+use Rattle.snippet_wrap.proofs.EndLemmas.{and_one, at_suc, fits, fitting_stops, fitting_width, width-cons}
 use Rattle.snippet_wrap.proofs.FitLemmas.{lines_fit-feed, lines_fit-next, lines_fit-wide, no_feed, unlike}
 use Rattle.snippet_wrap.proofs.JoinLemmas.{joined}
 
@@ -180,9 +180,9 @@ fewer_fit room n zero cs fewer other narrow = (All-nil IsOther, omega arith)
 fewer_fit room n (suc k) [] fewer other narrow = (All-nil IsOther, omega arith)
 fewer_fit room zero (suc k) (c ∷ cs) fewer other narrow = absurd (omega (arith, fewer))
 fewer_fit room (suc n) (suc k) (c ∷ cs) fewer other narrow =
-    let wide = width_cons c (take n cs) in
+    let wide = width-cons c (take n cs) in
     let rest = fewer_fit (room - char_width c) n k cs (omega (arith, fewer)) (All-tail IsOther c (take n cs) other) (omega (arith, narrow, wide)) in
-    (All-cons IsOther c (take k cs) (All-head IsOther c (take n cs) other) rest.0, omega (arith, rest.1, width_cons c (take k cs), narrow, wide))
+    (All-cons IsOther c (take k cs) (All-head IsOther c (take n cs) other) rest.0, omega (arith, rest.1, width-cons c (take k cs), narrow, wide))
 
 -- a row ends at the first character that has no room, or before
 ends_by : (cs : List ℕ) (n : ℕ) (at : Break) → Ends cs n at → at.end ≤ n
@@ -280,7 +280,7 @@ fit_other room left c cs line lines first others plain is below_is narrow within
     let parts : line ∷ lines ≡ (c ∷ first) ∷ others = sym is ∙ slice_split-cons_no (λ d. d == 10) c cs plain ∙ ap (onto_first c) below_is in
     let line_is : line ≡ c ∷ first = ap (λ (ps : List (List ℕ)). get_or ps 0 []) parts in
     let lines_are : lines ≡ others = ap (λ (ps : List (List ℕ)). drop 1 ps) parts in
-    let wide = ap width_of line_is ∙ width_cons c first in
+    let wide = ap width_of line_is ∙ width-cons c first in
     lines_fit-next room left c (char_width c) cs other refl (omega (arith, wide, narrow))
     ∙ below (omega (arith, wide, narrow)) (subst (AreWithin room) lines_are within)
 
@@ -303,11 +303,11 @@ fit_either room left c cs line lines [] false feed is below_is narrow within bel
 fit_either room left c cs line lines (first ∷ others) false feed is below_is narrow within below =
     fit_other room left c cs line lines first others feed is below_is narrow within (λ small rest. below (left - char_width c) first others below_is small rest)
 
-lines-fit : (room : ℕ) (cs : List ℕ) (left : ℕ) (line : List ℕ) (lines : List (List ℕ)) → lines_of cs ≡ line ∷ lines → width_of line ≤ left
+AreWithin-lines_fit : (room : ℕ) (cs : List ℕ) (left : ℕ) (line : List ℕ) (lines : List (List ℕ)) → lines_of cs ≡ line ∷ lines → width_of line ≤ left
     → AreWithin room lines → lines_fit room left cs ≡ true
-lines-fit room [] left line lines is narrow within = refl
-lines-fit room (c ∷ cs) left line lines is narrow within =
-    fit_either room left c cs line lines (lines_of cs) (c == 10) refl is refl narrow within (lines-fit room cs)
+AreWithin-lines_fit room [] left line lines is narrow within = refl
+AreWithin-lines_fit room (c ∷ cs) left line lines is narrow within =
+    fit_either room left c cs line lines (lines_of cs) (c == 10) refl is refl narrow within (AreWithin-lines_fit room cs)
 
 -- ---- no other character
 
@@ -345,7 +345,7 @@ either_room room cs false is =
       kept = rows-kept (length cs) room cs;
       words = rows-words (length cs) room cs;
       rows = λ enough. rows-fit (length cs) room cs enough (omega arith);
-      same = λ within. rows-same (length cs) room cs (lines-fit-all room cs (lines_of cs) refl within (lines-fit room cs room));
+      same = λ within. rows-same (length cs) room cs (lines-fit-all room cs (lines_of cs) refl within (AreWithin-lines_fit room cs room));
       among = rows-all (IsAmong cs) (inl refl) room (length cs) cs (among_own cs);
     }
 

@@ -22,14 +22,14 @@ first-next begins source at within none =
     ap (λ n. first_of (begins source) n at) more
     ∙ ap (λ o. option_or o (first_of (begins source) (length source + 1 - (at + 1)) (at + 1))) none
 
-none-of : (begins : ℕ → Option Finding) → (n from : ℕ) → ((i : ℕ) → from ≤ i → begins i ≡ None) → first_of begins n from ≡ None
-none-of begins zero from none = refl
-none-of begins (suc n) from none =
+first_finding-none : (begins : ℕ → Option Finding) → (n from : ℕ) → ((i : ℕ) → from ≤ i → begins i ≡ None) → first_of begins n from ≡ None
+first_finding-none begins zero from none = refl
+first_finding-none begins (suc n) from none =
     ap (λ o. option_or o (first_of begins n (from + 1))) (none from (omega arith))
-    ∙ none-of begins n (from + 1) (λ i after. none i (omega (arith, after)))
+    ∙ first_finding-none begins n (from + 1) (λ i after. none i (omega (arith, after)))
 
 -- where nothing begins at the byte or after it, there is none
 pub first-none : (begins : List ℕ → ℕ → Option Finding) → (source : List ℕ) → (from : ℕ)
     → ((i : ℕ) → from ≤ i → begins source i ≡ None) → first_from begins source from ≡ None
 unfolding first_from
-first-none begins source from none = none-of (begins source) (length source + 1 - from) from none
+first-none begins source from none = first_finding-none (begins source) (length source + 1 - from) from none

@@ -50,10 +50,10 @@ clear-spans source at (f ∷ fs) are =
     (span-faultless source f.start f.end are.0.ordered are.0.starts are.0.ends) (clear-spans source f.end fs are.1)
 
 -- and its text is short
-short-texts : (source : List ℕ) → (at : ℕ) → (fs : List Finding) → AreInside source at fs → All (λ f. length f.text ≤ 64) fs
-short-texts source at [] are = All-nil (λ (f : Finding). length f.text ≤ 64)
-short-texts source at (f ∷ fs) are =
-    All-cons (λ (g : Finding). length g.text ≤ 64) f fs are.0.short (short-texts source f.end fs are.1)
+texts-short : (source : List ℕ) → (at : ℕ) → (fs : List Finding) → AreInside source at fs → All (λ f. length f.text ≤ 64) fs
+texts-short source at [] are = All-nil (λ (f : Finding). length f.text ≤ 64)
+texts-short source at (f ∷ fs) are =
+    All-cons (λ (g : Finding). length g.text ≤ 64) f fs are.0.short (texts-short source f.end fs are.1)
 
 -- what holds of each thing that is made of some holds of what is made of each
 of-each : {A B : Type 0} (P : B → Type 0) (f : A → B) (xs : List A) → All P (map f xs) → All (λ x. P (f x)) xs
@@ -134,7 +134,7 @@ help-within path source found g is of =
     subst (λ text. All (Clear text) ps) (sym is.of_file.source_is)
     (of-each (λ (f : Finding). span_fault source f.start f.end ≡ None) mended_by ps (clear-spans source 0 (map mended_by ps) inside)) in
     let short : All (λ (p : Patch). length (cow_str_bytes p.replacement) ≤ 64) ps =
-    of-each (λ (f : Finding). length f.text ≤ 64) mended_by ps (short-texts source 0 (map mended_by ps) inside) in
+    of-each (λ (f : Finding). length f.text ≤ 64) mended_by ps (texts-short source 0 (map mended_by ps) inside) in
     let all : sum_by (λ (p : Patch). length (cow_str_bytes p.replacement)) ps ≤ length ps * 64 =
     sum_by-le (λ (p : Patch). length (cow_str_bytes p.replacement)) 64 ps short in
     let many : length ps ≡ length found = sym (length-map ps mended_by) ∙ ap length is.patches in
