@@ -25,7 +25,7 @@ use Rattle.snippet_splice.specs.ShownText.{shown_line, shown_text}
 use Rattle.snippet_splice.specs.Spliced.{HasNoCr, IsTouched, spliced_text, texts_of}
 use Rattle.snippet_splice.specs.Trim.{kept_before, sandwich}
 use Rattle.snippet_suggest.specs.Given.{IsAsItWas, IsOfferable, edits_of, first_given, given_lines, last_reached}
-use Rattle.snippet_suggest.specs.Kind.{is_blank}
+use Rattle.snippet_suggest.specs.Kind.{is_blank_text}
 use Rattle.snippet_suggest.specs.RowOrder.{Begins, Ends, Offers, Removes, SuggestionRow, removed_number, rows_of_suggestion}
 use Rattle.snippet_suggest.specs.SuggestionRows.{IsBareRow}
 use Rattle.snippet_suggest.specs.declared.SuggestionStart.TheVariants.{Opening}
@@ -235,7 +235,7 @@ second_touched =
     }
 
 -- it isn't blank
-second_visible : is_blank (text_at (source_lines (patched two_lines two_edits)) 1) ≡ false
+second_visible : is_blank_text (text_at (source_lines (patched two_lines two_edits)) 1) ≡ false
 unfolding chars
 second_visible = refl
 
@@ -256,9 +256,9 @@ touched_left_out s is layout around rows out shown =
     let same : shown.after ≡ rows = append_cancel_left (others (suggestion_head plain_settings layout around s)) shown.after rows (sym shown.rows_are) in
     let touched : IsTouched (cow_str_bytes s.source) (edits_of s) 1 = subst (λ text.
     IsTouched text (edits_of s) 1) (sym is.source_is) (subst (λ es. IsTouched two_lines es 1) (sym is.edits_are) second_touched) in
-    let visible : is_blank (text_at (source_lines (patched (cow_str_bytes s.source) (edits_of s))) 1) ≡ false =
-    ap (λ text. is_blank (text_at (source_lines (patched text (edits_of s))) 1)) is.source_is
-    ∙ ap (λ es. is_blank (text_at (source_lines (patched two_lines es)) 1)) is.edits_are ∙ second_visible in
+    let visible : is_blank_text (text_at (source_lines (patched (cow_str_bytes s.source) (edits_of s))) 1) ≡ false =
+    ap (λ text. is_blank_text (text_at (source_lines (patched text (edits_of s))) 1)) is.source_is
+    ∙ ap (λ es. is_blank_text (text_at (source_lines (patched two_lines es)) 1)) is.edits_are ∙ second_visible in
     elim (shown.offered (offerable s is) 1 touched visible) [
       | inl as_it_was ↦ changed as_it_was
       | inr among ↦ out
@@ -306,7 +306,7 @@ rest_touched =
       };
     }
 
-rest_visible : is_blank (text_at (source_lines (patched lines_of_three put_in_and_deleted)) 1) ≡ false
+rest_visible : is_blank_text (text_at (source_lines (patched lines_of_three put_in_and_deleted)) 1) ≡ false
 unfolding chars
 rest_visible = refl
 
@@ -326,9 +326,9 @@ cut_at_any_line_feed s is layout around rows out shown =
     let same : shown.after ≡ rows = append_cancel_left (others (suggestion_head plain_settings layout around s)) shown.after rows (sym shown.rows_are) in
     let touched : IsTouched (cow_str_bytes s.source) (edits_of s) 1 = subst (λ text.
     IsTouched text (edits_of s) 1) (sym is.source_is) (subst (λ es. IsTouched lines_of_three es 1) (sym is.edits_are) rest_touched) in
-    let visible : is_blank (text_at (source_lines (patched (cow_str_bytes s.source) (edits_of s))) 1) ≡ false =
-    ap (λ text. is_blank (text_at (source_lines (patched text (edits_of s))) 1)) is.source_is
-    ∙ ap (λ es. is_blank (text_at (source_lines (patched lines_of_three es)) 1)) is.edits_are ∙ rest_visible in
+    let visible : is_blank_text (text_at (source_lines (patched (cow_str_bytes s.source) (edits_of s))) 1) ≡ false =
+    ap (λ text. is_blank_text (text_at (source_lines (patched text (edits_of s))) 1)) is.source_is
+    ∙ ap (λ es. is_blank_text (text_at (source_lines (patched lines_of_three es)) 1)) is.edits_are ∙ rest_visible in
     elim (shown.offered (deleted_offerable s is) 1 touched visible) [
       | inl as_it_was ↦ changed as_it_was
       | inr among ↦ out

@@ -28,7 +28,7 @@ use Rattle.snippet_titles.specs.declared.style.MessageContext.{MessageContext}
 use Rattle.snippet_titles.specs.declared.style.TitleStyle.TheVariants as style
 use Rattle.snippet_titles.specs.Title.{id_links}
 use Rattle.snippet_wrap.specs.AsWrapped.{AreGroupsWrapped, IsElementWrapped, IsGroupWrapped, IsTextWrapped, IsTitleWrapped, room_of_message, room_of_title}
-use Rattle.snippet_wrap.specs.WrapLaws.{AreWithin, IsAmong, IsRewrapped, lines_of}
+use Rattle.snippet_wrap.specs.WrapLaws.{AreWithin, IsAmong, IsRewrapped, lines_in}
 use Rattle.snippet_wrap.proofs.DrawnLemmas.{message-within, title-within}
 use Rattle.snippet_wrap.proofs.LawLemmas.{wrapped-laws}
 use Rattle.annotate_snippets.specs.Fault.{element_faults, faults_from, first_fault, first_of, group_faults, missing_title, refusal_in}
@@ -297,7 +297,7 @@ module _ (term_width gutter : ℕ) where
 
   -- ---- what follows of the texts
 
-  title-rows : (b : Title) → 4 ≤ room_of_title term_width b → AreWithin (room_of_title term_width b) (lines_of (chars (cow_str_bytes b.text)))
+  title-rows : (b : Title) → 4 ≤ room_of_title term_width b → AreWithin (room_of_title term_width b) (lines_in (chars (cow_str_bytes b.text)))
       → AreWithin term_width (heading_texts style.Title (heading_of_title b))
   title-rows b enough within =
       let here : 4 ≤ term_width - label_width (heading_of_title b) = enough in
@@ -315,13 +315,13 @@ module _ (term_width gutter : ℕ) where
       (text, λ enough. title-rows b enough (text.rows enough))
 
   message-rows : (n : ℕ) (b : message.Message) (place : MessageContext) → place.layout.gutter ≡ n → 4 ≤ room_of_message term_width n b
-      → AreWithin (room_of_message term_width n b) (lines_of (chars (cow_str_bytes b.text)))
+      → AreWithin (room_of_message term_width n b) (lines_in (chars (cow_str_bytes b.text)))
       → AreWithin term_width (heading_texts (style.Message place) (heading_of_message b))
   message-rows n b place beside enough within =
       let width = label_width (heading_of_message b) in
       let here : 4 ≤ term_width - (place.layout.gutter + 3 + width) = subst (λ (g : ℕ). 4 ≤ term_width - (g + 3 + width)) (sym beside) enough in
       message-within term_width place (heading_of_message b) (omega (arith, here))
-      (subst (λ (g : ℕ). AreWithin (term_width - (g + 3 + width)) (lines_of (chars (cow_str_bytes b.text)))) (sym beside) within)
+      (subst (λ (g : ℕ). AreWithin (term_width - (g + 3 + width)) (lines_in (chars (cow_str_bytes b.text)))) (sym beside) within)
 
   element-rewrapped : (n : ℕ) → n ≡ gutter → (a b : Element) → Wraps a b → IsElementRewrapped term_width n a b
   element-rewrapped n same (Message a) (Message b) is =

@@ -8,7 +8,7 @@ use Rattle.std.specs.declared.alloc.Global.{Global}
 use Rattle.std.specs.List.{concat, flat_map}
 use Rattle.serde_json.specs.Data.{Data}
 use Rattle.serde_json.specs.Read.{read}
-use Rattle.replay_run.specs.WrittenAnswer.{AreFirstLines, AreLines, AnswersLine, AnswersLines, Numbered, first_after, number_after}
+use Rattle.replay_run.specs.WrittenAnswer.{AreFirstLines, AreNumberedLines, AnswersLine, AnswersLines, Numbered, first_after, following_number}
 use Rattle.replay_run.specs.Problem.{IsFinal, IsRead, IsProblemWith, IsWrite}
 use Rattle.replay_command.specs.Words.{Word}
 use Rattle.replay_run.specs.Inputs.{NamedInput, shown_name}
@@ -20,7 +20,7 @@ use Rattle.replay_run.specs.declared.problem.Problem.TheVariants.{NotText, NotJs
 
 -- the lines that were read of what a reader holds: all its lines, where it is known what it holds
 abbrev pub AreRead : Option (List ℕ) → List Numbered → Type 0
-AreRead held lines = IfSome held (λ text. AreLines 0 text lines)
+AreRead held lines = IfSome held (λ text. AreNumberedLines 0 text lines)
 
 -- a reader's lines are answered: to what a writer held, the texts that answer them are added, and nothing else; `told` says whether one
 -- of them tells that its line is no case. Before, is_first told whether nothing was written yet; afterwards, still_first does
@@ -67,17 +67,17 @@ StopsLine way is_first number line old new problem =
     ⊎ (Keeps old new × IsProblemWith (Case number) line problem × StopsFor way problem)
 
 -- the line after these, by its number, as far as can be counted
-abbrev pub line_after : List Numbered → Line
-line_after lines = Case (number_after (length lines))
+abbrev pub following_line : List Numbered → Line
+following_line lines = Case (following_number (length lines))
 
 -- it stops at the line after these, which is no case: it is no text, or no JSON, or JSON that describes none; or what the reader holds
 -- couldn't be read any further, or there was no memory
 abbrev pub StopsAfter : Option (List ℕ) → List Numbered → Problem → Type 0
-StopsAfter held lines (NotText place) = place ≡ line_after lines
+StopsAfter held lines (NotText place) = place ≡ following_line lines
 StopsAfter held lines (NotJson place column ends_early) =
-    (place ≡ line_after lines) × (line : List ℕ) × AreFirstRead held (lines ++ (number_after (length lines), line) ∷ []) × (read line ≡ None)
+    (place ≡ following_line lines) × (line : List ℕ) × AreFirstRead held (lines ++ (following_number (length lines), line) ∷ []) × (read line ≡ None)
 StopsAfter held lines (Wrong place words) =
-    (place ≡ line_after lines) × (line : List ℕ) × AreFirstRead held (lines ++ (number_after (length lines), line) ∷ [])
+    (place ≡ following_line lines) × (line : List ℕ) × AreFirstRead held (lines ++ (following_number (length lines), line) ∷ [])
     × (d : Data) × (read line ≡ Some d)
 StopsAfter held lines (Unpaired number) = ⊥
 StopsAfter held lines TooManyLines = ⊥

@@ -15,12 +15,12 @@ abbrev pub are_texts : Form → Bool
 are_texts Json = false
 are_texts Texts = true
 
-abbrev pub form_of : Bool → Form
-form_of texts = if texts then Texts else Json
+abbrev pub form_asked : Bool → Form
+form_asked texts = if texts then Texts else Json
 
 -- how lines are answered as texts or not, and past lines that are no cases or not
 abbrev pub way_of : Bool → Bool → Way
-way_of texts keep_going = record { form = form_of texts; keep_going = keep_going }
+way_of texts keep_going = record { form = form_asked texts; keep_going = keep_going }
 
 -- answers of this kind to the cases of these inputs
 abbrev pub answers : Way → List Word → Task

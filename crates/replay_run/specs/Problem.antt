@@ -7,7 +7,7 @@ use Rattle.annotate_snippets.specs.Normalized.{norm}
 use Rattle.program.specs.Stream.{Output, Told, line_of}
 use Rattle.serde_json.specs.Data.{Data}
 use Rattle.serde_json.specs.Read.{read}
-use Rattle.replay_answer.specs.Answer.{column_text}
+use Rattle.replay_answer.specs.Answer.{not_json_text}
 use Rattle.replay_run.specs.declared.problem.Line.{Line}
 use Rattle.replay_run.specs.declared.problem.Line.TheVariants.{Case, Expected}
 use Rattle.replay_run.specs.declared.problem.Problem.{Problem}
@@ -16,14 +16,14 @@ use Rattle.replay_command.specs.Words.{Word}
 use Rattle.replay_run.specs.Growth.{AppendsOrPart}
 
 -- a line, by its number
-abbrev pub line_text : Line → List ℕ
-line_text (Case number) = codes "line " ++ decimal number
-line_text (Expected number) = codes "line " ++ (decimal number ++ codes " of what is expected")
+abbrev pub line_label : Line → List ℕ
+line_label (Case number) = codes "line " ++ decimal number
+line_label (Expected number) = codes "line " ++ (decimal number ++ codes " of what is expected")
 
 -- what is told of a line that isn't JSON from a column on, or that ends before it is
 abbrev pub json_text : Line → ℕ → Bool → List ℕ
 json_text line column ends_early =
-    line_text line ++ (codes ", column " ++ (decimal column ++ (if ends_early then codes ": not valid JSON: it ends too early" else codes ": not valid JSON")))
+    line_label line ++ (codes ", column " ++ (decimal column ++ (if ends_early then codes ": not valid JSON: it ends too early" else codes ": not valid JSON")))
 
 -- what is told where there is a case at a line or an answer, and not both
 abbrev pub unpaired_text : ℕ → List ℕ
@@ -32,9 +32,9 @@ unpaired_text number =
 
 -- what is told of problem, where this is what the system says of it
 abbrev pub problem_text : Problem → List ℕ → List ℕ
-problem_text (NotText line) said = line_text line ++ codes ": not valid UTF-8"
+problem_text (NotText line) said = line_label line ++ codes ": not valid UTF-8"
 problem_text (NotJson line column ends_early) said = json_text line column ends_early
-problem_text (Wrong line words) said = line_text line ++ (codes ": " ++ string_bytes words)
+problem_text (Wrong line words) said = line_label line ++ (codes ": " ++ string_bytes words)
 problem_text (Unpaired number) said = unpaired_text number
 problem_text TooManyLines said = codes "too many lines"
 problem_text NotCases said = codes "not each line was a case"
@@ -90,7 +90,7 @@ IsProblemWith at line Memory = Unit {0}
 -- the problem is told by these words without the line that it is with, which isn't JSON, or JSON that describes none
 abbrev pub IsFault : Problem → List ℕ → Type 0
 IsFault (NotText place) told = ⊥
-IsFault (NotJson place column ends_early) told = told ≡ column_text column ends_early
+IsFault (NotJson place column ends_early) told = told ≡ not_json_text column ends_early
 IsFault (Wrong place words) told = told ≡ string_bytes words
 IsFault (Unpaired number) told = ⊥
 IsFault TooManyLines told = ⊥

@@ -45,7 +45,7 @@ pub record AnswersValue (form : Form) (is_first : Bool) (d : Data) (text : List 
   pub text_is : text ≡ answer_text form is_first case.id.now outcome
 
 -- the text answers the line: it says what became of the case that the line describes
-pub record AnswersCase (form : Form) (is_first : Bool) (line text : List ℕ) : Type 0 where
+pub record AnswersCaseAs (form : Form) (is_first : Bool) (line text : List ℕ) : Type 0 where
   pub case : Case
   pub outcome : Outcome
   pub became : Becomes line case outcome
@@ -68,25 +68,25 @@ pub record TellsLine (form : Form) (is_first : Bool) (line : Numbered) (text : L
 
 -- the text answers the line, and `told` says whether it tells that the line is no case, which it does only where that is asked for
 abbrev pub AnswersLine : Way → Bool → Bool → Numbered → List ℕ → Type 0
-AnswersLine way false is_first line text = AnswersCase way.form is_first line.1 text
+AnswersLine way false is_first line text = AnswersCaseAs way.form is_first line.1 text
 AnswersLine way true is_first line text = IsTrue way.keep_going × TellsLine way.form is_first line text
 
 -- the number of the line that comes after so many, as far as can be counted
-abbrev pub number_after : ℕ → ℕ
-number_after before = min (before + 1) most
+abbrev pub following_number : ℕ → ℕ
+following_number before = min (before + 1) most
 
 -- the lines of a text that come after so many, in order, each with its number and without its end (a line feed, or a carriage return and
 -- a line feed)
-abbrev pub AreLines : ℕ → List ℕ → List Numbered → Type 0
-AreLines before text [] = text ≡ []
-AreLines before text (line ∷ lines) =
-    (0 < length text) × (line ≡ (number_after before, first_line text)) × AreLines (before + 1) (drop_through 10 text) lines
+abbrev pub AreNumberedLines : ℕ → List ℕ → List Numbered → Type 0
+AreNumberedLines before text [] = text ≡ []
+AreNumberedLines before text (line ∷ lines) =
+    (0 < length text) × (line ≡ (following_number before, first_line text)) × AreNumberedLines (before + 1) (drop_through 10 text) lines
 
 -- the first of these lines
 abbrev pub AreFirstLines : ℕ → List ℕ → List Numbered → Type 0
 AreFirstLines before text [] = Unit {0}
 AreFirstLines before text (line ∷ lines) =
-    (0 < length text) × (line ≡ (number_after before, first_line text)) × AreFirstLines (before + 1) (drop_through 10 text) lines
+    (0 < length text) × (line ≡ (following_number before, first_line text)) × AreFirstLines (before + 1) (drop_through 10 text) lines
 
 -- texts answer lines, one each, in order, and `told` says whether one of them tells that its line is no case; is_first tells whether
 -- nothing was written before the first of them

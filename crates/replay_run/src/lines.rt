@@ -9,7 +9,7 @@ ghost use Rattle.serde_json.specs.Read.{read};
 ghost use Rattle.serde_json.specs.View.{view};
 ghost use Rattle.serde_json.specs.Written.{compact_text};
 ghost use Rattle.replay_answer.specs.Answer.{answer_of, told_of};
-ghost use Rattle.replay_run.specs.WrittenAnswer.{AnswersCase, AnswersLine, AnswersValue, answer_text, gap, line_of};
+ghost use Rattle.replay_run.specs.WrittenAnswer.{AnswersCaseAs, AnswersLine, AnswersValue, answer_text, gap, line_of};
 ghost use Rattle.replay_run.specs.WrittenAnswer.{outcome_text};
 ghost use Rattle.replay_run.specs.WrittenAnswer.{told_text};
 ghost use Rattle.replay_run.specs.Answered.{AnswersReader, StopsFor, StopsLine, StopsReader};
@@ -246,7 +246,7 @@ fn text_for(
     is_first: bool,
 ) -> Result<Vec<u8>, Problem>
     ensures answers { IfOk result (λ text. IsOkAnd line (λ line.
-        AnswersCase form is_first (string_bytes line) text.items)) }
+        AnswersCaseAs form is_first (string_bytes line) text.items)) }
     ensures stops { IfErr result (IsProblemWith (Line.Case number) line) }
 {
     match value_of(alloc, Line::Case(number), line) {

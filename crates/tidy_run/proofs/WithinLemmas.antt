@@ -22,7 +22,7 @@ use Rattle.annotate_snippets.specs.Levels.{help_level, warning_level}
 use Rattle.annotate_snippets.specs.Span.{span_fault}
 use Rattle.annotate_snippets.proofs.BoundsLaws.{cause-clear, span-faultless, suggestion-clear}
 use Rattle.tidy_run.specs.Findings.{AreInside, Finding, IsTitle, findings_from, findings_of, with_rest}
-use Rattle.tidy_run.specs.Report.{IsGroupOf, IsHelp, IsOfFile, IsReportOf, IsWarning, mark_of, mended_by, told_of}
+use Rattle.tidy_run.specs.Report.{IsGroupOf, IsHelp, IsOfFile, IsReportOf, IsWarning, annotation_of, mended_by, told_of}
 
 -- a rule finds at most one more than there are bytes
 few-rest : (t : Bool) (l : List Finding) (f : Finding) (n : ℕ) → length l ≤ n → length (f ∷ (if t then l else [])) ≤ suc n
@@ -112,13 +112,13 @@ warning-within path source title found g is titled of =
     let Clear : List ℕ → Annotation → Type 0 = λ text a. span_fault text a.span.start a.span.end ≡ None in
     let spans : All (Clear (cow_str_bytes s.source)) s.markers.items =
     subst (λ text. All (Clear text) s.markers.items) (sym is.of_file.source_is)
-    (subst (All (Clear source)) (sym is.marks) (All-map (Clear source) mark_of found (clear-spans source 0 found of.inside))) in
+    (subst (All (Clear source)) (sym is.marks) (All-map (Clear source) annotation_of found (clear-spans source 0 found of.inside))) in
     let size : length (cow_str_bytes s.source) ≡ length source = ap length is.of_file.source_is in
     let fits = of.source_fits in
     let first = is.of_file.line_start in
     let numbers : s.line_start + (length (cow_str_bytes s.source) + 1) < 2 ^ 64 = omega (arith, size, fits, first) in
     let unlabelled : All AnnotationFits s.markers.items =
-    subst (All AnnotationFits) (sym is.marks) (All-map AnnotationFits mark_of found (λ k d within. tt)) in
+    subst (All AnnotationFits) (sym is.marks) (All-map AnnotationFits annotation_of found (λ k d within. tt)) in
     group-within warning_level title false (Cause s) g is.is (lit< tt) (omega (arith, titled.short))
     (source_text_fits path source s is.of_file of.source_fits, path_text_fits path source s is.of_file of.path_fits, unlabelled)
     (λ n. cause-clear n 0 s spans numbers)
