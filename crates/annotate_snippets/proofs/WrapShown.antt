@@ -20,6 +20,7 @@ use Rattle.snippet_model.specs.declared.snippet.Group.{Group}
 use Rattle.snippet_model.specs.declared.snippet.Id.{Id}
 use Rattle.snippet_model.specs.declared.snippet.Message as message
 use Rattle.snippet_model.specs.declared.snippet.Title.{Title}
+use Rattle.snippet_suggest.proofs.BodyLaws.{zip_append}
 use Rattle.snippet_text.specs.Normalized.{is_listed}
 use Rattle.snippet_text.specs.Width.{width_of}
 use Rattle.snippet_titles.specs.HeadingRows.{heading_label_text, label_width}
@@ -63,13 +64,6 @@ folds-same P same n m start (x ∷ xs) [] pairs = absurd pairs
 folds-same P same n m start (x ∷ xs) (y ∷ ys) pairs =
     folds-same P same (max (width_wanted x) n) (max (width_wanted y) m) (ap₂ (λ (p q : ℕ). max p q) (same x y pairs.0) start) xs ys pairs.1
 
--- lists one after the other
-zip-append : {A : Type 0} (P : A → A → Type 0) (xs ys xs' ys' : List A) → AllZip P xs ys → AllZip P xs' ys' → AllZip P (xs ++ xs') (ys ++ ys')
-zip-append P [] [] xs' ys' first later = later
-zip-append P [] (y ∷ ys) xs' ys' first later = absurd first
-zip-append P (x ∷ xs) [] xs' ys' first later = absurd first
-zip-append P (x ∷ xs) (y ∷ ys) xs' ys' first later = (first.0, zip-append P xs ys xs' ys' first.1 later)
-
 -- a list made of each
 flat-zip : {A B : Type 0} (P : A → A → Type 0) (Q : B → B → Type 0) (f : A → List B) → ((x y : A) → P x y → AllZip Q (f x) (f y)) → (xs ys : List A)
     → AllZip P xs ys → AllZip Q (flat_map f xs) (flat_map f ys)
@@ -77,7 +71,7 @@ flat-zip P Q f each [] [] pairs = tt
 flat-zip P Q f each [] (y ∷ ys) pairs = absurd pairs
 flat-zip P Q f each (x ∷ xs) [] pairs = absurd pairs
 flat-zip P Q f each (x ∷ xs) (y ∷ ys) pairs =
-    zip-append Q (f x) (f y) (flat_map f xs) (flat_map f ys) (each x y pairs.0) (flat-zip P Q f each xs ys pairs.1)
+    zip_append Q (f x) (flat_map f xs) (f y) (flat_map f ys) (each x y pairs.0) (flat-zip P Q f each xs ys pairs.1)
 
 -- ---- texts
 
@@ -220,7 +214,7 @@ module _ (term_width gutter : ℕ) where
   all-elements [] (y ∷ ys) pairs = absurd pairs
   all-elements (x ∷ xs) [] pairs = absurd pairs
   all-elements (x ∷ xs) (y ∷ ys) pairs =
-      zip-append Wraps x.elements.items y.elements.items (flat_map (λ (g : Group). g.elements.items) xs)
+      zip_append Wraps x.elements.items (flat_map (λ (g : Group). g.elements.items) xs) y.elements.items
       (flat_map (λ (g : Group). g.elements.items) ys)
       pairs.0.2 (all-elements xs ys pairs.1)
 
@@ -256,7 +250,8 @@ module _ (term_width gutter : ℕ) where
 
   title-trusted : (a b : Title) → IsTitleWrapped term_width a b → AllZip IsTextOf (trusted_of_title a) (trusted_of_title b)
   title-trusted a b is =
-      let own : AllZip IsTextOf (cow_str_bytes a.text ∷ []) (cow_str_bytes b.text ∷ []) = (IsTextOf-wrapped (room_of_title term_width a) a.text b.text is.2, tt) in
+      let own : AllZip IsTextOf (cow_str_bytes a.text ∷ []) (cow_str_bytes b.text ∷ []) =
+      (IsTextOf-wrapped (room_of_title term_width a) a.text b.text is.2, tt) in
       by a.allows_styling b.allows_styling is.3 own
     where
       by : (s t : Bool) → t ≡ s → AllZip IsTextOf (cow_str_bytes a.text ∷ []) (cow_str_bytes b.text ∷ [])
@@ -272,7 +267,7 @@ module _ (term_width gutter : ℕ) where
   titles-trusted None (Some b) is = cc
   titles-trusted (Some a) None is = absurd is
   titles-trusted (Some a) (Some b) is =
-      zip-append IsTextOf (trusted_of_title a) (trusted_of_title b) [] [] (title-trusted a b is) tt
+      zip_append IsTextOf (trusted_of_title a) [] (trusted_of_title b) [] (title-trusted a b is) tt
 
   element-trusted : (a b : Element) → Wraps a b → AllZip IsTextOf (trusted_of_element a) (trusted_of_element b)
   element-trusted (Message a) (Message b) is = (IsTextOf-wrapped (room_of_message term_width gutter a) a.text b.text is.1, tt)
@@ -282,8 +277,8 @@ module _ (term_width gutter : ℕ) where
   all-trusted : (groups shown : List Group) → AllZip GroupWraps groups shown → AllZip IsTextOf (trusted_texts groups) (trusted_texts shown)
   all-trusted groups shown pairs =
       flat-zip GroupWraps IsTextOf (λ g. flat_map trusted_of_title (option_to_list g.title) ++ flat_map trusted_of_element g.elements.items)
-      (λ x y pair. zip-append IsTextOf (flat_map trusted_of_title (option_to_list x.title)) (flat_map trusted_of_title (option_to_list y.title))
-      (flat_map trusted_of_element x.elements.items) (flat_map trusted_of_element y.elements.items) (titles-trusted x.title y.title pair.1)
+      (λ x y pair. zip_append IsTextOf (flat_map trusted_of_title (option_to_list x.title)) (flat_map trusted_of_element x.elements.items)
+      (flat_map trusted_of_title (option_to_list y.title)) (flat_map trusted_of_element y.elements.items) (titles-trusted x.title y.title pair.1)
       (flat-zip Wraps IsTextOf trusted_of_element element-trusted x.elements.items y.elements.items pair.2)) groups shown pairs
 
   -- what is free but for the trusted texts that are shown is so but for those that are given
