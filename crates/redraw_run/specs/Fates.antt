@@ -4,7 +4,7 @@ use Rattle.std.specs.Prelude.{◌≡◌, ◌≢◌, ◌⊎◌, ℕ, true, false,
 use Rattle.std.specs.Global.{Vec}
 use Rattle.std.specs.List.{concat}
 use Rattle.std.specs.Str.{IsUtf8}
-use Rattle.json_node.specs.Field.{flag_field, text_field}
+use Rattle.json_node.specs.Field.{flag_at, text_at}
 use Rattle.serde_json.specs.Data.{Data}
 use Rattle.serde_json.specs.Find.{get}
 use Rattle.serde_json.specs.Read.{read}
@@ -133,7 +133,7 @@ IsRustc d = Has (codes "message") d × Has (codes "spans") d
 
 -- cargo says in a message that the build failed
 abbrev pub IsFailure : List ℕ → Data → Type 0
-IsFailure reason d = (reason ≡ codes "build-finished") × (flag_field (codes "success") d ≡ Some false)
+IsFailure reason d = (reason ≡ codes "build-finished") × (flag_at (codes "success") d ≡ Some false)
 
 -- what a message with a reason is, as cargo writes them: one with a diagnostic of rustc, the last one of a build that failed, or another
 abbrev pub IsCargoKind : List ℕ → Data → Kind → Type 0
@@ -162,7 +162,7 @@ IsMessageKind (Some reason) d (Some known) = IsCargoKind reason d known
 abbrev pub IsOfKind : Data → Option Kind → Type 0
 IsOfKind d found =
     (Has (codes "runs") d × (found ≡ Some kind.Sarif))
-    ⊎ (Lacks (codes "runs") d × IsMessageKind (text_field (codes "reason") d) d found)
+    ⊎ (Lacks (codes "runs") d × IsMessageKind (text_at (codes "reason") d) d found)
 
 -- what becomes of a value of a kind that is known: a diagnostic, alone or in a message of cargo, reports a finding; the last message of
 -- cargo says that the build failed; any other message says nothing; and a log has runs

@@ -1,7 +1,7 @@
 //! An input, read line by line. Nothing of a line is kept when the next is read, save of a log that is one document.
 ghost use Rattle.std.specs.Prelude.{◌≡◌, ◌||◌, ◌++◌, not, ℕ, List, Option, None, Some, true, false, ◌↔◌};
 ghost use Rattle.std.specs.Prelude.{IfErr, IfOk, OnErr, OnOk, IsTrue, codes, option_map};
-ghost use Rattle.json_node.specs.Field.{flag_field};
+ghost use Rattle.json_node.specs.Field.{flag_at};
 ghost use Rattle.serde_json.specs.View.{view};
 ghost use Rattle.redraw_command.specs.Line.{begins_object, begins_utf16};
 ghost use Rattle.redraw_run.specs.Deeds.{Does, Goes, IsUnreadable, standing};
@@ -91,7 +91,7 @@ fn cargo_kind(reason: &str, value: &Value) -> Kind
 
 /// Whether cargo's last message says that the build failed.
 fn is_failed(value: &Value) -> bool
-    ensures failed { IsTrue result ↔ (flag_field (codes "success") (view value.now) ≡ Some false) }
+    ensures failed { IsTrue result ↔ (flag_at (codes "success") (view value.now) ≡ Some false) }
 {
     value.get("success").and_then(Value::as_bool) == Some(false)
 }

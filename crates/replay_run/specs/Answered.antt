@@ -10,8 +10,8 @@ use Rattle.serde_json.specs.Data.{Data}
 use Rattle.serde_json.specs.Read.{read}
 use Rattle.replay_run.specs.WrittenAnswer.{AreFirstLines, AreNumberedLines, AnswersLine, AnswersLines, Numbered, first_after, following_number}
 use Rattle.replay_run.specs.Problem.{IsFinal, IsRead, IsProblemWith, IsWrite}
-use Rattle.replay_command.specs.Words.{Word}
-use Rattle.replay_run.specs.Inputs.{NamedInput, shown_name}
+use Rattle.replay_command.specs.Arguments.{Argument}
+use Rattle.replay_run.specs.Inputs.{NamedInput, input_name}
 use Rattle.replay_run.specs.declared.lines.Way.{Way}
 use Rattle.replay_run.specs.declared.problem.Line.{Line}
 use Rattle.replay_run.specs.declared.problem.Line.TheVariants.{Case}
@@ -34,7 +34,7 @@ pub record AnswersReader (way : Way) (told : Bool) (is_first still_first : Bool)
 
 -- the inputs of these names are answered, by what each of them holds: to what a writer held, the texts that answer their lines are added, of
 -- one input after another, and nothing else. The first text is the first that is written
-pub record AnswersInputs (File Standard : Type 0) (held : NamedInput File Standard → Option (List ℕ)) (way : Way) (told : Bool) (names : List Word)
+pub record AnswersInputs (File Standard : Type 0) (held : NamedInput File Standard → Option (List ℕ)) (way : Way) (told : Bool) (names : List Argument)
     (old new : Option (List ℕ)) : Type 0 where
   pub inputs : List (NamedInput File Standard × List Numbered)
   pub named : map (λ input. input.0.name) inputs ≡ names
@@ -104,7 +104,7 @@ StopsAt Reader bytes way is_first old new problem =
     (Keeps old new × IsRead problem) ⊎ ((reader : Reader) × StopsReader way is_first (bytes reader) old new problem)
 
 -- answering stops at the input of this name, which can't be had, or within it
-abbrev pub StopsAtInput : (File Standard : Type 0) → (NamedInput File Standard → Option (List ℕ)) → Word → Way → Bool → Option (List ℕ) → Option (List ℕ)
+abbrev pub StopsAtInput : (File Standard : Type 0) → (NamedInput File Standard → Option (List ℕ)) → Argument → Way → Bool → Option (List ℕ) → Option (List ℕ)
     → Problem → Type 0
 StopsAtInput File Standard held name way is_first old new problem =
     (Keeps old new × IsRead problem)
@@ -116,12 +116,12 @@ IsEndProblem told problem = IsWrite problem ⊎ (IsTrue told × (problem ≡ Not
 
 -- answering the inputs of these names stops with what is called so: those of the first names are answered, each to its end, and it stops at
 -- the next; or all are answered, and there is problem with that
-pub record StopsInputs (File Standard : Type 0) (held : NamedInput File Standard → Option (List ℕ)) (way : Way) (names : List Word) (old new : Option (List ℕ))
-    (called : Word) (problem : Problem) : Type 0 where
-  pub before : List Word
+pub record StopsInputs (File Standard : Type 0) (held : NamedInput File Standard → Option (List ℕ)) (way : Way) (names : List Argument)
+    (old new : Option (List ℕ)) (called : Argument) (problem : Problem) : Type 0 where
+  pub before : List Argument
   pub mid : Option (List ℕ)
   pub told : Bool
   pub answered : AnswersInputs File Standard held way told before old mid
-  pub stops : ((name : Word) × (after : List Word) × (names ≡ before ++ name ∷ after) × (called ≡ shown_name name)
+  pub stops : ((name : Argument) × (after : List Argument) × (names ≡ before ++ name ∷ after) × (called ≡ input_name name)
       × StopsAtInput File Standard held name way (first_after true (flat_map (λ input. input.1) answered.inputs)) mid new problem)
       ⊎ ((names ≡ before) × (called ≡ codes "standard output") × IsEndProblem told problem × Keeps mid new)

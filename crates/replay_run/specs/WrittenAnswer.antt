@@ -4,6 +4,7 @@ use Rattle.std.specs.Prelude.{if◌then◌else◌}
 use Rattle.std.specs.Prelude.{string_bytes}
 use Rattle.std.specs.Io.BufRead.{first_line, drop_through}
 use Rattle.std.specs.List.{flat_map}
+pub use Rattle.program.specs.Stream.{ended_line}
 use Rattle.serde_json.specs.Data.{Data}
 use Rattle.serde_json.specs.Written.{compact_text}
 use Rattle.replay_answer.specs.Answer.{IsNoCase, answer_of, told_of}
@@ -17,23 +18,19 @@ use Rattle.replay_run.specs.declared.lines.Way.{Way}
 use Rattle.replay_answer.specs.declared.outcome.Outcome.{Outcome}
 use Rattle.replay_answer.specs.declared.outcome.Outcome.TheVariants.{Texts, Refused}
 
--- a text and the end of its line
-abbrev pub line_of : List ℕ → List ℕ
-line_of text = text ++ 10 ∷ []
-
 -- what stands before a text of a report: an empty line, but for the first one
 abbrev pub gap : Bool → List ℕ
-gap is_first = if is_first then [] else line_of []
+gap is_first = if is_first then [] else ended_line []
 
 -- each text, or what the refusal prints, and after it the span that it is about
 abbrev pub outcome_text : Outcome → List ℕ
-outcome_text (Texts texts) = flat_map (λ text. line_of (string_bytes text)) texts.items
+outcome_text (Texts texts) = flat_map (λ text. ended_line (string_bytes text)) texts.items
 outcome_text (Refused refusal words span) =
-    line_of (codes "refused: " ++ string_bytes words ++ string_bytes span)
+    ended_line (codes "refused: " ++ string_bytes words ++ string_bytes span)
 
 -- the answer to the case of this name, in this form
 abbrev pub answer_text : Form → Bool → List ℕ → Outcome → List ℕ
-answer_text form.Json is_first id outcome = line_of (compact_text (answer_of id outcome))
+answer_text form.Json is_first id outcome = ended_line (compact_text (answer_of id outcome))
 answer_text form.Texts is_first id outcome = gap is_first ++ outcome_text outcome
 
 -- the text answers a line that holds this value: it says what became of the case that the value describes
@@ -53,8 +50,8 @@ pub record AnswersCaseAs (form : Form) (is_first : Bool) (line text : List ℕ) 
 
 -- what is said of the line of a number that is no case, in this form
 abbrev pub told_text : Form → Bool → ℕ → List ℕ → List ℕ
-told_text form.Json is_first n words = line_of (compact_text (told_of n words))
-told_text form.Texts is_first n words = gap is_first ++ line_of (codes "line " ++ (decimal n ++ (codes ": no case: " ++ words)))
+told_text form.Json is_first n words = ended_line (compact_text (told_of n words))
+told_text form.Texts is_first n words = gap is_first ++ ended_line (codes "line " ++ (decimal n ++ (codes ": no case: " ++ words)))
 
 -- a line, and its number in what holds it
 abbrev pub Numbered : Type 0

@@ -16,7 +16,12 @@ last-from s a at is = ap (λ (l : Loc × Loc). l.1.line) is ∙ end-line s a.spa
 
 pub overflow_sub-first : goal.overflow_sub-first
 overflow_sub-first c =
-    omega (arith, c.line_start.ensures.value, first_line-from c.args.source.now c.args.annotation.now c.span_to_locations.result c.span_to_locations.ensures.value)
+    omega (
+      arith,
+      c.line_start.ensures.value,
+      first_line-from c.args.source.now c.args.annotation.now c.span_to_locations.result
+          c.span_to_locations.ensures.value,
+    )
 
 pub overflow_sub-last : goal.overflow_sub-last
 overflow_sub-last c =
