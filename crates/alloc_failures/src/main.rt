@@ -5,8 +5,8 @@
 //! takes memory` no call takes any but those that build reports; `scripts/alloc-failures` runs the program with each
 //! request refused in turn, and with all refused after the first line.
 //!
-//! Given a word, it then makes each call of the library that no case of `replay` makes, and whose answer isn't compared
-//! above, and prints what it answers. No memory is refused then.
+//! Given an argument, it then makes each call of the library that no case of `replay` makes, and whose answer isn't
+//! compared above, and prints what it answers. No memory is refused then.
 #![tactic(auto)]
 
 mod calls;
@@ -60,16 +60,16 @@ fn print_taking(rt: &(impl Print + AllocGlobal)) -> io::Result<()> {
     grid::print(rt)
 }
 
-/// Whether the program is given a word.
-fn has_word(rt: &(impl Env + AllocGlobal)) -> io::Result<bool> {
+/// Whether the program is given an argument.
+fn has_argument(rt: &(impl Env + AllocGlobal)) -> io::Result<bool> {
     Ok(env::args(rt)?.nth(1).is_some())
 }
 
-/// Prints what the calls answer whose answers aren't compared, where the program is given a word.
+/// Prints what the calls answer whose answers aren't compared, where the program is given an argument.
 fn print_calls(rt: &(impl Print + Env + AllocGlobal)) -> io::Result<()> {
-    let asked = match has_word(rt) {
+    let asked = match has_argument(rt) {
         Ok(asked) => asked,
-        Err(_) => has_word(rt)?,
+        Err(_) => has_argument(rt)?,
     };
     if asked {
         calls::print(rt)?;

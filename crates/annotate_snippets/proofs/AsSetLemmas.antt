@@ -133,10 +133,10 @@ free-set form r groups shown set text free =
 -- ---- what stays: links
 
 -- whether a text shows anything doesn't depend on whether its line feeds are shown
-links-after : (address : Option (List ℕ)) (front xs ys : List ℕ) → text_links address ys ≡ text_links address xs
+text_links-after : (address : Option (List ℕ)) (front xs ys : List ℕ) → text_links address ys ≡ text_links address xs
     → text_links address (front ++ ys) ≡ text_links address (front ++ xs)
-links-after address [] xs ys same = same
-links-after address (c ∷ front) xs ys same = refl
+text_links-after address [] xs ys same = same
+text_links-after address (c ∷ front) xs ys same = refl
 
 links-picture : (address : Option (List ℕ)) (c : ℕ) (feed : Bool) (xs ys : List ℕ) → (c == 10) ≡ feed → text_links address ys ≡ text_links address xs
     → text_links address (shown (picture_of c) ++ ys) ≡ text_links address (shown c ++ xs)
@@ -144,7 +144,7 @@ links-picture address c true xs ys is same =
     let feed : c ≡ 10 = eqb-true c 10 is in
     ap (λ (d : ℕ). text_links address (shown (picture_of d) ++ ys)) feed ∙ sym (ap (λ (d : ℕ). text_links address (shown d ++ xs)) feed)
 links-picture address c false xs ys is same =
-    ap (λ (t : Bool). text_links address (shown (if t then 0x240A else c) ++ ys)) is ∙ links-after address (shown c) xs ys same
+    ap (λ (t : Bool). text_links address (shown (if t then 0x240A else c) ++ ys)) is ∙ text_links-after address (shown c) xs ys same
 
 links-fed : (address : Option (List ℕ)) (cs : List ℕ) → text_links address (norm (with_line_feeds_shown cs)) ≡ text_links address (norm cs)
 unfolding norm
@@ -187,23 +187,23 @@ group-links : (feeds : Bool) (a b : Group) → IsGroupAsSet feeds a b
 group-links feeds a b is =
     option-same (IsTitleAsSet feeds) (λ (t : Title). id_links true t.id) (λ x y pair. links-id feeds x.id y.id pair.1) a.title b.title is.1
 
-report-links : (r : Renderer) (feeds : Bool) (groups shown : List Group) → AllZip (IsGroupAsSet feeds) groups shown
+report_links-as_set : (r : Renderer) (feeds : Bool) (groups shown : List Group) → AllZip (IsGroupAsSet feeds) groups shown
     → report_links r shown ≡ report_links r groups
-report-links r feeds groups shown pairs =
+report_links-as_set r feeds groups shown pairs =
     ap (λ (links : List (List ℕ)). if r.hyperlink then links else [])
     (flat-same (IsGroupAsSet feeds) (λ g. flat_map (λ (t : Title). id_links true t.id) (option_to_list g.title)) (group-links feeds) groups shown pairs)
 
-form-links : (form : Form) (r : Renderer) (feeds : Bool) (groups shown : List Group) → AllZip (IsGroupAsSet feeds) groups shown
+links_in-as_set : (form : Form) (r : Renderer) (feeds : Bool) (groups shown : List Group) → AllZip (IsGroupAsSet feeds) groups shown
     → links_in form r shown ≡ links_in form r groups
-form-links Graphic r feeds groups shown pairs = report-links r feeds groups shown pairs
-form-links Text r feeds groups shown pairs = report-links r feeds groups shown pairs
-form-links Short r feeds groups shown pairs =
-    report-links r feeds (take 1 groups) (take 1 shown) (first-pair (IsGroupAsSet feeds) groups shown pairs)
+links_in-as_set Graphic r feeds groups shown pairs = report_links-as_set r feeds groups shown pairs
+links_in-as_set Text r feeds groups shown pairs = report_links-as_set r feeds groups shown pairs
+links_in-as_set Short r feeds groups shown pairs =
+    report_links-as_set r feeds (take 1 groups) (take 1 shown) (first-pair (IsGroupAsSet feeds) groups shown pairs)
 
 -- what is shown links to what the report links to
 pub links-same : (form : Form) (r : Renderer) (groups shown : List Group) → IsAsSet form r groups shown → links_in form r shown ≡ links_in form r groups
 links-same form r groups shown set =
-    set-same (links_in form r) (λ feeds xs ys pairs. form-links form r feeds xs ys pairs)
+    set-same (links_in form r) (λ feeds xs ys pairs. links_in-as_set form r feeds xs ys pairs)
     (λ before after xs ys pairs. links-around before after form r xs ys pairs)
     (λ term_width gutter xs ys pairs. wrapped-links term_width gutter form r xs ys pairs) form r groups shown set
 

@@ -6,11 +6,12 @@ use Rattle.std.specs.List.{count_by, position_from, sum_by}
 use Rattle.std.specs.Option.{option_map, option_or, option_to_list}
 use Rattle.std.specs.Str.{IsCharBoundary}
 use Rattle.std.specs.declared.ops.Range.{Range}
-use Rattle.std.proofs.lemmas.Bool.{cases_lt, le-ltb, lt-ltb}
+use Rattle.std.proofs.lemmas.Bool.{cases_lt, le-leb, le-ltb}
 use Rattle.std.proofs.lemmas.Bool.Decides.{nat_tests}
 use Rattle.std.proofs.lemmas.List.{get_or_past}
 use Rattle.std.proofs.lemmas.List.Elements.{All-head, All-tail, All-weaker}
 use Rattle.std.proofs.lemmas.List.Sums.{count_by-le-length, sum_by-le-sum_by}
+use Rattle.snippet_style.specs.Bounds.{max_usize}
 use Rattle.snippet_lines.specs.declared.lines.EndLine.TheVariants.{Lf}
 use Rattle.snippet_lines.specs.declared.span.SpanFault.TheVariants.{Reversed, PastEnd, OffBoundary}
 use Rattle.snippet_lines.specs.Lines.{Line, lines_of, source_lines, with_first_byte}
@@ -125,7 +126,7 @@ spans-clear span_of group element source marks all =
     (λ x none m. ap (λ f. option_to_list (option_map (refusal_of group element m) f)) none) marks all)
 
 number-clear : (group element number : ℕ) → number < 2 ^ 64 → number_faults group element number ≡ []
-number-clear group element number fits = ap (λ t. if t then [] else LineNumberTooLarge group element ∷ []) (lt-ltb number (2 ^ 64) fits)
+number-clear group element number fits = ap (λ t. if t then [] else LineNumberTooLarge group element ∷ []) (le-leb number max_usize (omega (arith, fits)))
 
 -- an annotated snippet without a fault: none of its spans has one, and the numbers of so many lines as it has bytes fit
 pub cause-clear : (group element : ℕ) (s : Snippet Annotation)

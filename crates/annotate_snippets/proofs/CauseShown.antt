@@ -21,7 +21,7 @@ use Rattle.snippet_parts.specs.Location.{IsLocation, primary_place}
 use Rattle.snippet_model.specs.FreeRows.{IsFree}
 use Rattle.snippet_parts.specs.declared.entries.AnnotatedLineInfo.{AnnotatedLineInfo}
 use Rattle.snippet_parts.specs.declared.location.Location.{Location}
-use Rattle.snippet_parts.proofs.LocationLaws.{place-named}
+use Rattle.snippet_parts.proofs.LocationLaws.{primary_place-location}
 use Rattle.snippet_strokes.proofs.SnippetLemmas.{free_from_AreLinesShown}
 use Rattle.snippet_titles.specs.Origin.{origin_row, origin_text, primary_start, snippet_head}
 use Rattle.snippet_titles.specs.declared.origin.OriginLayout.{OriginLayout}
@@ -102,7 +102,7 @@ module _ (r : Renderer) (layout : Layout) (around : ElementContext) (s : Snippet
   names_place spans more primary path has some none =
       let lines : List KeptLine = annotated_lines s.fold (numbered_source s) s.markers.items in
       let found = place_known (primary_place lines) (IsLocation (numbered_source s) s.markers.items)
-      (place-named s.fold (numbered_source s) s.markers.items lines spans refl some none) in
+      (primary_place-location s.fold (numbered_source s) s.markers.items lines spans refl some none) in
       let named : place_named around.primary lines ≡ place_found (Some found.0) = place_of_primary around.primary lines primary ∙ ap place_found found.1 in
       let first = path_first (origin_layout r layout) around.primary around.first (path_bytes s.path)
       (place_named around.primary lines) more path primary has in

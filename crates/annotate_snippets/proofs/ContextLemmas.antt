@@ -15,7 +15,7 @@ use Rattle.annotate_snippets.specs.declared.renderer.preprocess.PreparedElement.
 use Rattle.annotate_snippets.specs.declared.renderer.element_context.GroupPosition.{GroupPosition}
 use Rattle.annotate_snippets.specs.declared.renderer.element_context.Next.{Next}
 use Rattle.annotate_snippets.specs.declared.renderer.element_context.ElementContext.{ElementContext}
-use Rattle.annotate_snippets.specs.Around.{first_two_share, has_file, next_of, start_of, context_at}
+use Rattle.annotate_snippets.specs.Around.{first_two_share, has_file, next_of, suggestion_start, context_at}
 use Rattle.annotate_snippets.specs.PreparedReport.{AreAround, element_of}
 
 -- whether no element before this one is of a file, and whether the one before it and it are suggestions for one file
@@ -40,11 +40,11 @@ none_around place file es =
 
 -- what stands around the next one
 around_next : (place : GroupPosition) (file : Option (List ℕ)) (es : List Element) (i : ℕ) (e : Element) (primary shares shared : Bool)
-    (start : SuggestionStart) (next : Next) → primary ≡ primary_before es i → shares ≡ shares_before es i → start ≡ start_of file shares e
+    (start : SuggestionStart) (next : Next) → primary ≡ primary_before es i → shares ≡ shares_before es i → start ≡ suggestion_start file shares e
     → shared ≡ first_two_share (drop i es) → next ≡ next_of (drop (i + 1) es)
     → record { place = place; first = nat_eq i 0; primary = primary; start = start; shared = shared; next = next } ≡ context_at place file es i e
 around_next place file es i e primary shares shared start next p s starts pairs follows =
-    let begins : start ≡ start_of file (shares_before es i) e = starts ∙ ap (λ b. start_of file b e) s in
+    let begins : start ≡ suggestion_start file (shares_before es i) e = starts ∙ ap (λ b. suggestion_start file b e) s in
     rw p (rw begins (rw pairs (rw follows refl)))
 
 primary_next : (es : List Element) (i : ℕ) (e : Element) (primary : Bool) → slice_get es i ≡ Some e → primary ≡ primary_before es i
@@ -73,7 +73,7 @@ shares_next es i =
 -- one more of them
 pub around_more : (place : GroupPosition) (file : Option (List ℕ)) (es : List Element) (i : ℕ) (e : Element) (primary shares shared : Bool)
     (start : SuggestionStart) (next : Next) (around new : List ElementContext) → AreAroundBefore place file es i primary shares around
-    → slice_get es i ≡ Some e → start ≡ start_of file shares e → shared ≡ first_two_share (drop i es) → next ≡ next_of (drop (i + 1) es)
+    → slice_get es i ≡ Some e → start ≡ suggestion_start file shares e → shared ≡ first_two_share (drop i es) → next ≡ next_of (drop (i + 1) es)
     → new ≡ around ++ record { place = place; first = nat_eq i 0; primary = primary; start = start; shared = shared; next = next } ∷ []
     → AreAroundBefore place file es (i + 1) (primary && not (has_file e)) shared new
 around_more place file es i e primary shares shared start next around new before at starts pairs follows pushed =

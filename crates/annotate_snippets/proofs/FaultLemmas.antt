@@ -1,5 +1,6 @@
 -- What a report without faults is.
-use Rattle.std.proofs.Common.{◌≡◌, ℕ, ◌+◌, ◌<◌, ◌≤◌, ◌&&◌, count_by, get_or, take, ◌==◌, nat_lt, Bool, true, false, List, [], ◌∷◌, ◌++◌, Option, Some, None}
+use Rattle.std.proofs.Common.{◌≡◌, ℕ, ◌+◌, ◌<◌, ◌≤◌, ◌&&◌, count_by, get_or, take, ◌==◌, nat_le, nat_lt, Bool, true, false, List, [], ◌∷◌, ◌++◌, Option, Some}
+use Rattle.std.proofs.Common.{None}
 use Rattle.std.proofs.Common.{All, length, map, refl, sym, ap, ◌∙◌, arith, inl, inr, cond, ◌^◌}
 use Rattle.std.specs.List.{slice_get}
 use Rattle.std.specs.Option.{option_map, option_or, option_to_list}
@@ -16,6 +17,7 @@ use Rattle.std.specs.Cow.{cow_str_bytes}
 use Rattle.snippet_model.specs.declared.snippet.Snippet.{Snippet}
 use Rattle.snippet_model.specs.declared.snippet.Element.{Element}
 use Rattle.snippet_model.specs.declared.snippet.Element.TheVariants.{Message, Cause, Suggestion, Origin, Padding}
+use Rattle.snippet_style.specs.Bounds.{max_usize}
 use Rattle.snippet_lines.specs.declared.span.SpanFault.{SpanFault}
 use Rattle.snippet_lines.specs.declared.span.SpanFault.TheVariants.{Reversed, PastEnd, OffBoundary}
 use Rattle.snippet_lines.specs.Span.{IsSpan, IsSpanBorder, is_span_border, is_character_border, span_fault}
@@ -138,9 +140,9 @@ overlap-first spans after group element patches m n none pair =
 
 -- a number without a fault fits
 number-faultless : (group element number : ℕ) → number_faults group element number ≡ [] → number < 2 ^ 64
-number-faultless group element number none = by_cases (nat_lt number (2 ^ 64)) refl none
+number-faultless group element number none = by_cases (nat_le number max_usize) refl none
   where
-    by_cases : (low : Bool) → nat_lt number (2 ^ 64) ≡ low → cond low [] (LineNumberTooLarge group element ∷ []) ≡ [] → number < 2 ^ 64
+    by_cases : (low : Bool) → nat_le number max_usize ≡ low → cond low [] (LineNumberTooLarge group element ∷ []) ≡ [] → number < 2 ^ 64
     by_cases true is h = grind (arith, nat_tests)
     by_cases false is h = cc
 

@@ -37,9 +37,11 @@ pub mod NotAround
 pub mod NotBarred
 pub mod NotDrawn
 pub mod NotHtml
+pub mod NotKept
 pub mod NotLabelled
 pub mod NotOffered
 pub mod NotOneLine
+pub mod NotPlaced
 pub mod NotPrinted
 pub mod NotReturned
 pub mod NotShort

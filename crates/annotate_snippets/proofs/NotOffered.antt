@@ -1,18 +1,18 @@
 -- What is not offered: rows of suggestions that are wrong, each on a small report, contradict the definitions of what rows
 -- show.
-use Rattle.std.proofs.Common.{◌≡◌, ◌≢◌, ℕ, ◌-◌, ◌≤◌, ◌==◌, not, Bool, true, false, if◌then◌else◌, List, [], ◌∷◌, ◌++◌, Vec, codes, get_or, length, map, take}
+use Rattle.std.proofs.Common.{◌≡◌, ◌≢◌, ℕ, ◌-◌, ◌==◌, not, Bool, true, false, List, [], ◌∷◌, ◌++◌, codes, get_or, length}
 use Rattle.std.proofs.Common.{refl, sym, ap, subst, ◌∙◌, arith, inl, inr}
 use Rattle.std.specs.Cow.{cow_str_bytes}
-use Rattle.std.specs.List.{All, AllZip, Contains, list_all}
+use Rattle.std.specs.List.{All, Contains, list_all}
 use Rattle.std.specs.Str.{chars}
 use Rattle.std.proofs.lemmas.Bool.{eq-eqb}
 use Rattle.std.proofs.lemmas.List.{append_cancel_left}
 use Rattle.std.proofs.lemmas.List.Elements.{All-nil, All-cons, All-head, All-tail, All-weaker, filter_map-append}
 use Rattle.std.proofs.lemmas.List.Sums.{AllPass-from_list_all}
-use Rattle.snippet_style.specs.Glyphs.{added_mark_of, char_of, placeholder_of, removed_sign_of, separator_of}
+use Rattle.snippet_style.specs.Glyphs.{added_mark_of, char_of, removed_sign_of}
 use Rattle.snippet_style.specs.Cell.{Cell, SPACE, text_cells}
-use Rattle.snippet_style.specs.declared.glyphs.DecorStyle.TheVariants.{Ascii, Unicode}
-use Rattle.snippet_style.specs.declared.role.ElementStyle.TheVariants.{Addition, LineNumber, Quotation, Removal}
+use Rattle.snippet_style.specs.declared.glyphs.DecorStyle.TheVariants.{Ascii}
+use Rattle.snippet_style.specs.declared.role.ElementStyle.TheVariants.{Addition, LineNumber, Quotation}
 use Rattle.snippet_text.specs.Normalized.{norm}
 use Rattle.snippet_text.specs.Width.{char_width}
 use Rattle.snippet_text.proofs.WidthLemmas.{unicode_width}
@@ -25,31 +25,20 @@ use Rattle.snippet_splice.specs.ShownText.{shown_line, shown_text}
 use Rattle.snippet_splice.specs.Spliced.{HasNoCr, IsTouched, spliced_text, texts_of}
 use Rattle.snippet_splice.specs.Trim.{kept_before, sandwich}
 use Rattle.snippet_suggest.specs.Given.{IsAsItWas, IsOfferable, edits_of, first_given, given_lines, last_reached}
-use Rattle.snippet_suggest.specs.Kind.{is_blank}
-use Rattle.snippet_suggest.specs.RowOrder.{Begins, Ends, Offers, Removes, SuggestionRow, removed_number, rows_of_suggestion}
+use Rattle.snippet_suggest.specs.Kind.{is_blank_text}
 use Rattle.snippet_suggest.specs.SuggestionRows.{IsBareRow}
-use Rattle.snippet_suggest.specs.declared.SuggestionStart.TheVariants.{Opening}
-use Rattle.snippet_suggest.proofs.Examples.{one_word, one_word_gives}
-use Rattle.std.specs.declared.alloc.Global.{Global}
-use Rattle.std.proofs.lemmas.Fmt.{decimal_digit}
-use Rattle.snippet_grid.specs.Print.{row_text}
-use Rattle.snippet_lines.specs.Number.{set_right}
-use Rattle.snippet_style.specs.declared.glyphs.DecorStyle.{DecorStyle}
-use Rattle.annotate_snippets.specs.Around.{is_end, suggestion_rows}
-use Rattle.annotate_snippets.specs.Gutter.{number_text}
-use Rattle.annotate_snippets.specs.declared.renderer.Renderer.{Renderer}
-use Rattle.annotate_snippets.specs.Page.{Elision, NamedRow, OfferedLine, RemovedLine, Other, RowName, IsAscending, SourceRow, cells_of, lines_offered, others}
+use Rattle.annotate_snippets.specs.Page.{Elision, NamedRow, OfferedLine, RemovedLine, Other, RowName, IsAscending, SourceRow, lines_offered, others}
 use Rattle.annotate_snippets.specs.RowsWithoutSource.{suggestion_head}
 use Rattle.annotate_snippets.specs.Settings.{plain_settings}
 use Rattle.snippet_grid.specs.Layout.{Layout}
 use Rattle.annotate_snippets.specs.declared.renderer.element_context.ElementContext.{ElementContext}
-use Rattle.annotate_snippets.specs.ShownPage.{HasStrokes, IsOfferedRow, IsSuggestionRow, ShowsSuggestion, name_of_row}
+use Rattle.annotate_snippets.specs.ShownPage.{IsOfferedRow, IsSuggestionRow, ShowsSuggestion}
 use Rattle.annotate_snippets.proofs.NotShown.{two_of_one}
 
 -- ---- small suggestions, and their rows
 
 -- a row that offers the first line of a source, with this code, as in `1 + code`
-abbrev offering_row : List ℕ → List Cell
+abbrev pub offering_row : List ℕ → List Cell
 offering_row code = text_cells LineNumber (codes "1") ++ SPACE ∷ text_cells Addition (codes "+") ++ SPACE ∷ text_cells Quotation code
 
 -- the bytes from one to another are replaced by a text
@@ -235,7 +224,7 @@ second_touched =
     }
 
 -- it isn't blank
-second_visible : is_blank (text_at (source_lines (patched two_lines two_edits)) 1) ≡ false
+second_visible : is_blank_text (text_at (source_lines (patched two_lines two_edits)) 1) ≡ false
 unfolding chars
 second_visible = refl
 
@@ -256,9 +245,9 @@ touched_left_out s is layout around rows out shown =
     let same : shown.after ≡ rows = append_cancel_left (others (suggestion_head plain_settings layout around s)) shown.after rows (sym shown.rows_are) in
     let touched : IsTouched (cow_str_bytes s.source) (edits_of s) 1 = subst (λ text.
     IsTouched text (edits_of s) 1) (sym is.source_is) (subst (λ es. IsTouched two_lines es 1) (sym is.edits_are) second_touched) in
-    let visible : is_blank (text_at (source_lines (patched (cow_str_bytes s.source) (edits_of s))) 1) ≡ false =
-    ap (λ text. is_blank (text_at (source_lines (patched text (edits_of s))) 1)) is.source_is
-    ∙ ap (λ es. is_blank (text_at (source_lines (patched two_lines es)) 1)) is.edits_are ∙ second_visible in
+    let visible : is_blank_text (text_at (source_lines (patched (cow_str_bytes s.source) (edits_of s))) 1) ≡ false =
+    ap (λ text. is_blank_text (text_at (source_lines (patched text (edits_of s))) 1)) is.source_is
+    ∙ ap (λ es. is_blank_text (text_at (source_lines (patched two_lines es)) 1)) is.edits_are ∙ second_visible in
     elim (shown.offered (offerable s is) 1 touched visible) [
       | inl as_it_was ↦ changed as_it_was
       | inr among ↦ out
@@ -306,7 +295,7 @@ rest_touched =
       };
     }
 
-rest_visible : is_blank (text_at (source_lines (patched lines_of_three put_in_and_deleted)) 1) ≡ false
+rest_visible : is_blank_text (text_at (source_lines (patched lines_of_three put_in_and_deleted)) 1) ≡ false
 unfolding chars
 rest_visible = refl
 
@@ -326,9 +315,9 @@ cut_at_any_line_feed s is layout around rows out shown =
     let same : shown.after ≡ rows = append_cancel_left (others (suggestion_head plain_settings layout around s)) shown.after rows (sym shown.rows_are) in
     let touched : IsTouched (cow_str_bytes s.source) (edits_of s) 1 = subst (λ text.
     IsTouched text (edits_of s) 1) (sym is.source_is) (subst (λ es. IsTouched lines_of_three es 1) (sym is.edits_are) rest_touched) in
-    let visible : is_blank (text_at (source_lines (patched (cow_str_bytes s.source) (edits_of s))) 1) ≡ false =
-    ap (λ text. is_blank (text_at (source_lines (patched text (edits_of s))) 1)) is.source_is
-    ∙ ap (λ es. is_blank (text_at (source_lines (patched lines_of_three es)) 1)) is.edits_are ∙ rest_visible in
+    let visible : is_blank_text (text_at (source_lines (patched (cow_str_bytes s.source) (edits_of s))) 1) ≡ false =
+    ap (λ text. is_blank_text (text_at (source_lines (patched text (edits_of s))) 1)) is.source_is
+    ∙ ap (λ es. is_blank_text (text_at (source_lines (patched lines_of_three es)) 1)) is.edits_are ∙ rest_visible in
     elim (shown.offered (deleted_offerable s is) 1 touched visible) [
       | inl as_it_was ↦ changed as_it_was
       | inr among ↦ out
@@ -391,121 +380,3 @@ patches_at_old_offsets s is j offers =
     ∙ ap (λ lines. norm (chars (get_or lines 0 []))) given in
     let letter : ◌≡◌ {A = ℕ} 113 122 = ap (λ (cs : List ℕ). get_or cs 2 0) text in
     absurd (omega (arith, letter))
-
--- ---- rows in another order, with another number, or of another kind
-
--- the number of the removed line `foo`
-foo_number : (v : Vec Patch Global) → removed_number (one_word v) 0 ≡ 1
-unfolding shown_text trimmed_edit sandwich kept_before start_of line_of chars
-foo_number v = refl
-
--- `foo` with `bar` in its place, in a suggestion that begins in a row of its own and whose gutter has one cell:
---
---       |
---     1 - foo
---     1 + bar
---       |
-module _ (v : Vec Patch Global) (layout : Layout) (narrow : layout.gutter ≡ 1) (around : ElementContext) (opens : around.start ≡ Opening) where
-  abbrev foo : Snippet Patch
-  foo = one_word v
-
-  -- so it has these rows
-  abbrev foo_rows : List SuggestionRow
-  foo_rows =
-      Begins Opening ∷ Removes 0 1 (codes "foo") ∷ Offers 0 ∷ (if around.shared then [] else Ends (not (is_end around.next)) ∷ [])
-
-  foo_rows_are : suggestion_rows around foo ≡ foo_rows
-  foo_rows_are =
-      ap (λ rows. rows ++ (if around.shared then [] else Ends (not (is_end around.next)) ∷ []))
-      (ap (λ at. rows_of_suggestion at foo) opens ∙ (one_word_gives v).rows_are)
-
-  -- rows that show it, after the row of its path: the second is that of the removed line, whatever it holds
-  second_removed : {found : List Cell} → layout.decor ≡ Ascii → (first row : NamedRow) (rest : List NamedRow)
-      → ShowsSuggestion plain_settings layout around found foo (others (suggestion_head plain_settings layout around foo) ++ (first ∷ row ∷ rest))
-      → IsSuggestionRow plain_settings Ascii 1 foo (RemovedLine 0) row.cells
-  second_removed ascii first row rest shown =
-      let rows : List NamedRow = first ∷ row ∷ rest in
-      let same : shown.after ≡ rows = append_cancel_left (others (suggestion_head plain_settings layout around foo)) shown.after rows (sym shown.rows_are) in
-      let Named : DecorStyle → ℕ → NamedRow → Type 0 = λ decor gutter r. IsSuggestionRow plain_settings decor gutter foo r.name r.cells in
-      let named : All (Named Ascii 1) rows = subst (λ gutter. All (Named Ascii gutter) rows) narrow
-      (subst (λ decor. All (Named decor layout.gutter) rows) ascii (subst (All (Named layout.decor layout.gutter)) same shown.named)) in
-      let names : map (λ (r : NamedRow). r.name) rows ≡ map (name_of_row foo) foo_rows = ap (map (λ (r : NamedRow). r.name)) (sym same) ∙ shown.order
-      ∙ ap (map (name_of_row foo)) foo_rows_are in
-      let name : row.name ≡ RemovedLine 0 = ap (λ (ns : List RowName). get_or ns 1 Other) names in
-      subst (λ n. IsSuggestionRow plain_settings Ascii 1 foo n row.cells) name
-      (All-head (Named Ascii 1) row rest (All-tail (Named Ascii 1) first (row ∷ rest) named))
-
-  -- so no rows show it in which the new line stands above the removed one:
-  --
-  --       |
-  --     1 + bar
-  --     1 - foo
-  --       |
-  new_line_above_removed : {found : List Cell} → layout.decor ≡ Ascii → (first row : NamedRow) (rest : List NamedRow) → row.cells ≡ offering_row (codes "bar")
-      → ShowsSuggestion plain_settings layout around found foo (others (suggestion_head plain_settings layout around foo) ++ (first ∷ row ∷ rest)) → ⊥
-  new_line_above_removed ascii first row rest is shown =
-      let P : List Cell → Type 0 = λ cells. (get_or cells 2 SPACE).ch ≡ char_of (removed_sign_of Ascii) in
-      let minus : added_mark_of Ascii ≡ char_of (removed_sign_of Ascii) = subst P is (second_removed ascii first row rest shown).minus in
-      let same_sign : false ≡ true = ap (λ c. c == char_of (removed_sign_of Ascii)) minus in
-      cc
-
-  -- nor in which the removed line has another number:
-  --
-  --       |
-  --     2 - foo
-  --     1 + bar
-  --       |
-  removed_number_wrong : {found : List Cell} → layout.decor ≡ Ascii → (first row : NamedRow) (rest : List NamedRow)
-      → row.cells ≡ text_cells LineNumber (codes "2") ++ SPACE ∷ text_cells Removal (codes "- ") ++ text_cells Quotation (codes "foo")
-      → ShowsSuggestion plain_settings layout around found foo (others (suggestion_head plain_settings layout around foo) ++ (first ∷ row ∷ rest)) → ⊥
-  removed_number_wrong ascii first row rest is shown =
-      let one : number_text plain_settings true 1 1 ≡ codes "1" = ap (set_right 1) (decimal_digit 1 (omega arith)) in
-      let number : number_text plain_settings true 1 (removed_number foo 0) ≡ codes "1" = ap (number_text plain_settings true 1) (foo_number v) ∙ one in
-      let Begins_with : List ℕ → Type 0 = λ n. length n ≤ 2 → row_text (take (length n) row.cells) ≡ n in
-      let begins : row_text (take 1 row.cells) ≡ codes "1" = subst Begins_with number (second_removed ascii first row rest shown).numbered (omega arith) in
-      let digit : ◌≡◌ {A = ℕ} 50 49 = ap (λ (cs : List ℕ). get_or cs 0 0) (sym (ap (λ cells. row_text (take 1 cells)) is) ∙ begins) in
-      absurd (omega (arith, digit))
-
-  -- the first is that which it begins with
-  first_begins : {found : List Cell} (r : Renderer) (first : NamedRow) (rest : List NamedRow)
-      → ShowsSuggestion r layout around found foo (others (suggestion_head r layout around foo) ++ (first ∷ rest))
-      → HasStrokes layout.decor 1 (Begins Opening) first.cells
-  first_begins r first rest shown =
-      let same : shown.after ≡ first ∷ rest = append_cancel_left (others (suggestion_head r layout around foo)) shown.after (first ∷ rest)
-      (sym shown.rows_are) in
-      let Strokes : ℕ → SuggestionRow → List Cell → Type 0 = HasStrokes layout.decor in
-      let strokes : AllZip (Strokes layout.gutter) foo_rows (cells_of (first ∷ rest)) = subst (λ rows.
-      AllZip (Strokes layout.gutter) rows (cells_of (first ∷ rest))) foo_rows_are
-      (subst (λ rows. AllZip (Strokes layout.gutter) (suggestion_rows around foo) (cells_of rows)) same shown.strokes) in
-      subst (λ gutter. Strokes gutter (Begins Opening) first.cells) narrow strokes.0
-
-  -- so nothing stands over it, as what stands for lines that are left out:
-  --
-  --     ...
-  --     1 - foo
-  --     1 + bar
-  --       |
-  gap_row_over_separator : {found : List Cell} → layout.decor ≡ Ascii → (first : NamedRow) (rest : List NamedRow)
-      → first.cells ≡ text_cells LineNumber (codes "...")
-      → ShowsSuggestion plain_settings layout around found foo (others (suggestion_head plain_settings layout around foo) ++ (first ∷ rest)) → ⊥
-  gap_row_over_separator ascii first rest is shown =
-      let P : List Cell → Type 0 = λ cells. (get_or cells 2 SPACE).ch ≡ separator_of Ascii in
-      let dot : char_of (placeholder_of Ascii) ≡ separator_of Ascii = subst P is (subst (λ d. HasStrokes d 1 (Begins Opening) first.cells) ascii
-      (first_begins plain_settings first rest shown) 2 (omega arith)) in
-      let same_sign : false ≡ true = ap (λ c. c == separator_of Ascii) dot in
-      cc
-
-  -- nor does it close there:
-  --
-  --       ╰╴
-  --     1 - foo
-  --     1 + bar
-  --       ╰╴
-  suggestion_closes_the_wrong_way : {found : List Cell} (r : Renderer) → layout.decor ≡ Unicode → (first : NamedRow) (rest : List NamedRow)
-      → first.cells ≡ SPACE ∷ SPACE ∷ text_cells LineNumber (codes "╰╴")
-      → ShowsSuggestion r layout around found foo (others (suggestion_head r layout around foo) ++ (first ∷ rest)) → ⊥
-  suggestion_closes_the_wrong_way r decor first rest is shown =
-      let Begun : DecorStyle → Type 0 = λ d. HasStrokes d 1 (Begins Opening) first.cells in
-      let P : List Cell → Type 0 = λ cells. (get_or cells 2 SPACE).ch ≡ char_of (codes "╭") in
-      let corner : char_of (codes "╰") ≡ char_of (codes "╭") = subst P is (subst Begun decor (first_begins r first rest shown) 2 (omega arith)) in
-      absurd (omega (arith, corner))

@@ -11,7 +11,7 @@ use Rattle.snippet_model.specs.declared.snippet.Title.{Title}
 use Rattle.snippet_style.specs.declared.stylesheet.Stylesheet.{Stylesheet}
 use Rattle.snippet_text.proofs.WidthLemmas.{unicode_width}
 use Rattle.snippet_text.specs.Width.{char_width, width_of}
-use Rattle.snippet_wrap.specs.WrapLaws.{AreWithin, IsRewrapped, lines_of, words_of}
+use Rattle.snippet_wrap.specs.WrapLaws.{AreWithin, IsRewrapped, lines_in, words_of}
 use Rattle.annotate_snippets.specs.AsSet.{wraps}
 use Rattle.annotate_snippets.specs.Fault.{form_of}
 use Rattle.annotate_snippets.specs.FormLaws.{HasLaws}
@@ -50,7 +50,7 @@ wide : width_of (chars given) ≡ 18
 unfolding chars char_width unicode_width
 wide = refl
 
-one_line : lines_of (chars given) ≡ chars given ∷ []
+one_line : lines_in (chars given) ≡ chars given ∷ []
 unfolding chars
 one_line = refl
 

@@ -26,7 +26,7 @@ use Rattle.snippet_parts.specs.Entries.{Ascends, HasDepthWithin, HasColumnRoom}
 use Rattle.snippet_parts.proofs.EntryFacts.{depths-fit, each-line, labels-fit, places-fit, texts-fit, untouched-parts, wide-count}
 use Rattle.snippet_window.proofs.MarginLaws.{margin_of_kept}
 use Rattle.snippet_window.proofs.UncutLaws.{margin_whole}
-use Rattle.snippet_parts.proofs.ShownFacts.{first-shown, last-shown, shown-ascends, shown-within}
+use Rattle.snippet_parts.proofs.ShownFacts.{shown_lines-first_line, last-shown, shown-ascends, shown-within}
 use Rattle.snippet_parts.specs.Depths.{places_of}
 use Rattle.snippet_parts.specs.Annotated.{KeptLine, PartEntry, seen_part, annotated_lines, deepest, is_long, kept_line, long_entry, long_place, long_places}
 use Rattle.snippet_parts.specs.Annotated.{long_spans, parts_on, seen_kept, single_part, stands_before}
@@ -81,7 +81,7 @@ module _ (s : Source) (marks : List Annotation) (spans : All (λ a. IsSpan s.tex
       → All (λ a. Contains (shown_lines fold s.text marks) (first_line s.text a) × Contains (shown_lines fold s.text marks) (last_line s.text a)) marks
   ends_shown fold = λ k d within.
       let a : Annotation = get_or marks k d in (
-        first-shown fold s.text marks a (Contains-get_or marks k d within) (spans k d within),
+        shown_lines-first_line fold s.text marks a (Contains-get_or marks k d within) (spans k d within),
         last-shown fold s.text marks a (Contains-get_or marks k d within)
             (spans k d within),
       )

@@ -22,7 +22,7 @@ use Rattle.snippet_suggest.specs.declared.SuggestionStart.TheVariants.{Opening, 
 use Rattle.snippet_suggest.specs.Given.{given_text}
 use Rattle.snippet_suggest.specs.RowOrder.{Ends}
 use Rattle.snippet_suggest.specs.SuggestionRows.{rows_shared}
-use Rattle.snippet_suggest.specs.Suggested.{body_cells, cells_of as row_cells, suggestion_cells}
+use Rattle.snippet_suggest.specs.Suggested.{body_cells, suggested_cells as row_cells, suggestion_cells}
 use Rattle.annotate_snippets.specs.Around.{HasPathFor, begins_in_row_above, is_end, is_next_start, path_bytes}
 use Rattle.annotate_snippets.specs.DrawnReport.{AddsElement, shared_row, suggestion_layout, suggestion_lines, under_of}
 use Rattle.annotate_snippets.specs.Gutter.{line_numbers}

@@ -59,10 +59,10 @@ abbrev place_from : Loc → OriginLocation
 place_from at = record { line = Some at.line; column = Some (at.char + 1) }
 
 -- the place of a suggestion is where its first trimmed patch starts
-pub first-place : (p : PreparedSuggestion) (t : TrimmedPatch) (at : Loc × Loc) → IsPrepared p → slice_get p.splice.patches.items 0 ≡ Some t
+pub patch_place-first : (p : PreparedSuggestion) (t : TrimmedPatch) (at : Loc × Loc) → IsPrepared p → slice_get p.splice.patches.items 0 ≡ Some t
     → at ≡ locations_of p.map t.span.start t.span.end
     → ◌≡◌ {A = OriginLocation} (record { line = Some at.0.line; column = Some (at.0.char + 1) }) (patch_place p.snippet.now)
-first-place p t at h is located =
+patch_place-first p t at h is located =
     let first : t.span.start ≡ first_start (trimmed_of p.snippet.now) = first_start-of p.splice.patches.items t is ∙ ap first_start h.edits in
     ap (λ (l : Loc × Loc). place_from l.0) located ∙ ap place_from (locations_of-start p.map t.span.start t.span.end)
     ∙ ap (λ m. place_from (start_location m t.span.start)) h.lines ∙ ap (λ b. place_from (start_location (numbered_source p.snippet.now) b)) first

@@ -156,10 +156,10 @@ place-short anonymized path place new short fits is =
     omega (arith, short, ap length is, length-append (origin_text anonymized path place) (58 ∷ 32 ∷ []), origin_text-short anonymized path place fits)
 
 -- it is the place of its snippet
-pub place-of_path : (r : Renderer) (s : Snippet Annotation) (path : List ℕ) (place : OriginLocation) → path_bytes s.path ≡ Some path
+pub origin_text-place_of_cause : (r : Renderer) (s : Snippet Annotation) (path : List ℕ) (place : OriginLocation) → path_bytes s.path ≡ Some path
     → place ≡ place_named true (annotated_lines s.fold (numbered_source s) s.markers.items)
     → origin_text r.anonymized_origin_line_numbers path place ++ 58 ∷ 32 ∷ [] ≡ place_of_cause r (Some s)
-place-of_path r s path place has is =
+origin_text-place_of_cause r s path place has is =
     ap (λ p. origin_text r.anonymized_origin_line_numbers path p ++ 58 ∷ 32 ∷ []) is ∙ sym (ap (place_of_path r s) has)
 
 -- a snippet without a path has none

@@ -20,7 +20,7 @@ use Rattle.snippet_model.specs.declared.snippet.Title.{Title}
 use Rattle.snippet_parts.specs.Annotated.{KeptLine, annotated_lines, is_long}
 use Rattle.snippet_parts.specs.Mark.{is_marking}
 use Rattle.snippet_parts.specs.Location.{IsLocation, primary_place}
-use Rattle.snippet_parts.proofs.LocationLaws.{place-named}
+use Rattle.snippet_parts.proofs.LocationLaws.{primary_place-location}
 use Rattle.snippet_grid.specs.Grid.{row_at}
 use Rattle.snippet_style.specs.Cell.{Cell}
 use Rattle.snippet_grid.specs.Print.{plain_text, row_text}
@@ -178,7 +178,7 @@ begins r g title rows are drawable s first path has some none =
     let lines : List KeptLine = annotated_lines s.fold (numbered_source s) s.markers.items in
     let can : IsDrawable s = subst (λ cause. IfSome cause IsDrawable) first (first_cause-drawable g drawable) in
     let found = place_known (primary_place lines) (IsLocation (numbered_source s) s.markers.items)
-    (place-named s.fold (numbered_source s) s.markers.items lines can.spans refl some none) in
+    (primary_place-location s.fold (numbered_source s) s.markers.items lines can.spans refl some none) in
     let heading : Heading = heading_of_title title in
     let before : List ℕ = before_title r g in
     let text = first_text before (heading_label_text heading) (row_text (indent_cells style.Short (label_width heading))) (after_title g)

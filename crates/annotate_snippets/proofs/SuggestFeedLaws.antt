@@ -29,7 +29,7 @@ use Rattle.snippet_suggest.specs.Given.{first_given, given_lines, given_text, sh
 use Rattle.snippet_style.specs.Glyphs.{suggestion_glyph_of, suggestion_role_of}
 use Rattle.snippet_suggest.specs.RowOrder.{Begins, Empty, Ends, Offers, Removes, Skips, SuggestionRow, number_after, rows_of_suggestion}
 use Rattle.snippet_suggest.specs.SuggestionRows.{IsBareRow, IsBeforeSign, IsLeftOver, IsMarkOrSpace, IsRemovedRow, Shows, is_stroke}
-use Rattle.snippet_suggest.specs.Suggested.{body_cells, cells_of as row_cells, new_on}
+use Rattle.snippet_suggest.specs.Suggested.{body_cells, suggested_cells as row_cells, new_on}
 use Rattle.snippet_suggest.specs.declared.SuggestionLayout.{SuggestionLayout}
 use Rattle.snippet_suggest.specs.declared.SuggestionStart.{SuggestionStart}
 use Rattle.snippet_suggest.specs.declared.SuggestionStart.TheVariants as start

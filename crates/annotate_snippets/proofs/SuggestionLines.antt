@@ -24,7 +24,7 @@ use Rattle.snippet_suggest.specs.declared.SuggestionStart.TheVariants.{Opening, 
 use Rattle.snippet_suggest.specs.Given.{counted_line, first_given, given_lines}
 use Rattle.snippet_suggest.specs.PreparedSuggestion.{IsSuggestible}
 use Rattle.snippet_suggest.specs.RowOrder.{Ends, SuggestionRow, rows_of_suggestion}
-use Rattle.snippet_suggest.specs.Suggested.{body_cells, cells_of as row_cells}
+use Rattle.snippet_suggest.specs.Suggested.{body_cells, suggested_cells as row_cells}
 use Rattle.snippet_suggest.specs.SuggestionRows.{HasGutter, IsEdgeRow, IsUnder, Shows, begin_glyph, beside_gutter, end_glyph, is_stroke}
 use Rattle.snippet_suggest.proofs.BareLemmas.{stroke_led}
 use Rattle.snippet_suggest.proofs.BodyLaws.{body_shows, last_shows, zip_append}

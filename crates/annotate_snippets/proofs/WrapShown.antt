@@ -20,6 +20,7 @@ use Rattle.snippet_model.specs.declared.snippet.Group.{Group}
 use Rattle.snippet_model.specs.declared.snippet.Id.{Id}
 use Rattle.snippet_model.specs.declared.snippet.Message as message
 use Rattle.snippet_model.specs.declared.snippet.Title.{Title}
+use Rattle.snippet_suggest.proofs.BodyLaws.{zip_append}
 use Rattle.snippet_text.specs.Normalized.{is_listed}
 use Rattle.snippet_text.specs.Width.{width_of}
 use Rattle.snippet_titles.specs.HeadingRows.{heading_label_text, label_width}
@@ -28,7 +29,7 @@ use Rattle.snippet_titles.specs.declared.style.MessageContext.{MessageContext}
 use Rattle.snippet_titles.specs.declared.style.TitleStyle.TheVariants as style
 use Rattle.snippet_titles.specs.Title.{id_links}
 use Rattle.snippet_wrap.specs.AsWrapped.{AreGroupsWrapped, IsElementWrapped, IsGroupWrapped, IsTextWrapped, IsTitleWrapped, room_of_message, room_of_title}
-use Rattle.snippet_wrap.specs.WrapLaws.{AreWithin, IsAmong, IsRewrapped, lines_of}
+use Rattle.snippet_wrap.specs.WrapLaws.{AreWithin, IsAmong, IsRewrapped, lines_in}
 use Rattle.snippet_wrap.proofs.DrawnLemmas.{message-within, title-within}
 use Rattle.snippet_wrap.proofs.LawLemmas.{wrapped-laws}
 use Rattle.annotate_snippets.specs.Fault.{element_faults, faults_from, first_fault, first_of, group_faults, missing_title, refusal_in}
@@ -63,13 +64,6 @@ folds-same P same n m start (x ∷ xs) [] pairs = absurd pairs
 folds-same P same n m start (x ∷ xs) (y ∷ ys) pairs =
     folds-same P same (max (width_wanted x) n) (max (width_wanted y) m) (ap₂ (λ (p q : ℕ). max p q) (same x y pairs.0) start) xs ys pairs.1
 
--- lists one after the other
-zip-append : {A : Type 0} (P : A → A → Type 0) (xs ys xs' ys' : List A) → AllZip P xs ys → AllZip P xs' ys' → AllZip P (xs ++ xs') (ys ++ ys')
-zip-append P [] [] xs' ys' first later = later
-zip-append P [] (y ∷ ys) xs' ys' first later = absurd first
-zip-append P (x ∷ xs) [] xs' ys' first later = absurd first
-zip-append P (x ∷ xs) (y ∷ ys) xs' ys' first later = (first.0, zip-append P xs ys xs' ys' first.1 later)
-
 -- a list made of each
 flat-zip : {A B : Type 0} (P : A → A → Type 0) (Q : B → B → Type 0) (f : A → List B) → ((x y : A) → P x y → AllZip Q (f x) (f y)) → (xs ys : List A)
     → AllZip P xs ys → AllZip Q (flat_map f xs) (flat_map f ys)
@@ -77,7 +71,7 @@ flat-zip P Q f each [] [] pairs = tt
 flat-zip P Q f each [] (y ∷ ys) pairs = absurd pairs
 flat-zip P Q f each (x ∷ xs) [] pairs = absurd pairs
 flat-zip P Q f each (x ∷ xs) (y ∷ ys) pairs =
-    zip-append Q (f x) (f y) (flat_map f xs) (flat_map f ys) (each x y pairs.0) (flat-zip P Q f each xs ys pairs.1)
+    zip_append Q (f x) (flat_map f xs) (f y) (flat_map f ys) (each x y pairs.0) (flat-zip P Q f each xs ys pairs.1)
 
 -- ---- texts
 
@@ -85,35 +79,35 @@ flat-zip P Q f each (x ∷ xs) (y ∷ ys) pairs =
 abbrev IsTextOf : List ℕ → List ℕ → Type 0
 IsTextOf a b = All (IsAmong (chars a)) (chars b)
 
-own-text : (a : List ℕ) → IsTextOf a a
-own-text a = All-weaker (Contains (chars a)) (IsAmong (chars a)) (λ c own. inr own) (chars a) (All-contains_itself (chars a))
+IsTextOf-refl : (a : List ℕ) → IsTextOf a a
+IsTextOf-refl a = All-weaker (Contains (chars a)) (IsAmong (chars a)) (λ c own. inr own) (chars a) (All-contains_itself (chars a))
 
 zip-own : (texts : List (List ℕ)) → AllZip IsTextOf texts texts
 zip-own [] = tt
-zip-own (text ∷ texts) = (own-text text, zip-own texts)
+zip-own (text ∷ texts) = (IsTextOf-refl text, zip-own texts)
 
 rewrapped : (room : ℕ) (a b : CowStr Global) → IsTextWrapped room a b → IsTextRewrapped room a b
 rewrapped room a b is =
     subst (λ (cs : List ℕ). IsRewrapped room (chars (cow_str_bytes a)) cs) (sym is) (wrapped-laws room (chars (cow_str_bytes a)))
 
-text-of : (room : ℕ) (a b : CowStr Global) → IsTextWrapped room a b → IsTextOf (cow_str_bytes a) (cow_str_bytes b)
-text-of room a b is =
+IsTextOf-wrapped : (room : ℕ) (a b : CowStr Global) → IsTextWrapped room a b → IsTextOf (cow_str_bytes a) (cow_str_bytes b)
+IsTextOf-wrapped room a b is =
     let laws = rewrapped room a b is in
     laws.among
 
 -- so is each of texts
-texts-of : (given shown : List (List ℕ)) → AllZip IsTextOf given shown → (c : ℕ) → Contains (flat_map chars shown) c
+Contains-texts : (given shown : List (List ℕ)) → AllZip IsTextOf given shown → (c : ℕ) → Contains (flat_map chars shown) c
     → (c ≡ 10) ⊎ Contains (flat_map chars given) c
-texts-of [] [] pairs c own = inr own
-texts-of [] (y ∷ ys) pairs c own = absurd pairs
-texts-of (x ∷ xs) [] pairs c own = absurd pairs
-texts-of (x ∷ xs) (y ∷ ys) pairs c own =
+Contains-texts [] [] pairs c own = inr own
+Contains-texts [] (y ∷ ys) pairs c own = absurd pairs
+Contains-texts (x ∷ xs) [] pairs c own = absurd pairs
+Contains-texts (x ∷ xs) (y ∷ ys) pairs c own =
     elim (Contains-append_cases (chars y) (flat_map chars ys) c own) [
       | inl first ↦ elim (All-contains (IsAmong (chars x)) (chars y) c pairs.0 first) [
         | inl feed ↦ inl feed
         | inr here ↦ inr (Contains-append_left (chars x) (flat_map chars xs) c here)
       ]
-      | inr later ↦ elim (texts-of xs ys pairs.1 c later) [
+      | inr later ↦ elim (Contains-texts xs ys pairs.1 c later) [
         | inl feed ↦ inl feed
         | inr here ↦ inr (Contains-append_right (chars x) (flat_map chars xs) c here)
       ]
@@ -220,7 +214,7 @@ module _ (term_width gutter : ℕ) where
   all-elements [] (y ∷ ys) pairs = absurd pairs
   all-elements (x ∷ xs) [] pairs = absurd pairs
   all-elements (x ∷ xs) (y ∷ ys) pairs =
-      zip-append Wraps x.elements.items y.elements.items (flat_map (λ (g : Group). g.elements.items) xs)
+      zip_append Wraps x.elements.items (flat_map (λ (g : Group). g.elements.items) xs) y.elements.items
       (flat_map (λ (g : Group). g.elements.items) ys)
       pairs.0.2 (all-elements xs ys pairs.1)
 
@@ -256,7 +250,8 @@ module _ (term_width gutter : ℕ) where
 
   title-trusted : (a b : Title) → IsTitleWrapped term_width a b → AllZip IsTextOf (trusted_of_title a) (trusted_of_title b)
   title-trusted a b is =
-      let own : AllZip IsTextOf (cow_str_bytes a.text ∷ []) (cow_str_bytes b.text ∷ []) = (text-of (room_of_title term_width a) a.text b.text is.2, tt) in
+      let own : AllZip IsTextOf (cow_str_bytes a.text ∷ []) (cow_str_bytes b.text ∷ []) =
+      (IsTextOf-wrapped (room_of_title term_width a) a.text b.text is.2, tt) in
       by a.allows_styling b.allows_styling is.3 own
     where
       by : (s t : Bool) → t ≡ s → AllZip IsTextOf (cow_str_bytes a.text ∷ []) (cow_str_bytes b.text ∷ [])
@@ -272,18 +267,18 @@ module _ (term_width gutter : ℕ) where
   titles-trusted None (Some b) is = cc
   titles-trusted (Some a) None is = absurd is
   titles-trusted (Some a) (Some b) is =
-      zip-append IsTextOf (trusted_of_title a) (trusted_of_title b) [] [] (title-trusted a b is) tt
+      zip_append IsTextOf (trusted_of_title a) [] (trusted_of_title b) [] (title-trusted a b is) tt
 
   element-trusted : (a b : Element) → Wraps a b → AllZip IsTextOf (trusted_of_element a) (trusted_of_element b)
-  element-trusted (Message a) (Message b) is = (text-of (room_of_message term_width gutter a) a.text b.text is.1, tt)
+  element-trusted (Message a) (Message b) is = (IsTextOf-wrapped (room_of_message term_width gutter a) a.text b.text is.1, tt)
   element-trusted a b is =
       subst (λ (e : Element). AllZip IsTextOf (trusted_of_element a) (trusted_of_element e)) (sym is) (zip-own (trusted_of_element a))
 
   all-trusted : (groups shown : List Group) → AllZip GroupWraps groups shown → AllZip IsTextOf (trusted_texts groups) (trusted_texts shown)
   all-trusted groups shown pairs =
       flat-zip GroupWraps IsTextOf (λ g. flat_map trusted_of_title (option_to_list g.title) ++ flat_map trusted_of_element g.elements.items)
-      (λ x y pair. zip-append IsTextOf (flat_map trusted_of_title (option_to_list x.title)) (flat_map trusted_of_title (option_to_list y.title))
-      (flat_map trusted_of_element x.elements.items) (flat_map trusted_of_element y.elements.items) (titles-trusted x.title y.title pair.1)
+      (λ x y pair. zip_append IsTextOf (flat_map trusted_of_title (option_to_list x.title)) (flat_map trusted_of_element x.elements.items)
+      (flat_map trusted_of_title (option_to_list y.title)) (flat_map trusted_of_element y.elements.items) (titles-trusted x.title y.title pair.1)
       (flat-zip Wraps IsTextOf trusted_of_element element-trusted x.elements.items y.elements.items pair.2)) groups shown pairs
 
   -- what is free but for the trusted texts that are shown is so but for those that are given
@@ -293,11 +288,11 @@ module _ (term_width gutter : ℕ) where
       All-weaker (λ c. is_listed c ≡ true → Contains (flat_map chars (trusted_texts shown)) c)
       (λ c. is_listed c ≡ true → Contains (flat_map chars (trusted_texts groups)) c)
       (λ c own listed. listed-own c (flat_map chars (trusted_texts groups)) listed
-      (texts-of (trusted_texts groups) (trusted_texts shown) (all-trusted groups shown pairs) c (own listed))) text free
+      (Contains-texts (trusted_texts groups) (trusted_texts shown) (all-trusted groups shown pairs) c (own listed))) text free
 
   -- ---- what follows of the texts
 
-  title-rows : (b : Title) → 4 ≤ room_of_title term_width b → AreWithin (room_of_title term_width b) (lines_of (chars (cow_str_bytes b.text)))
+  title-rows : (b : Title) → 4 ≤ room_of_title term_width b → AreWithin (room_of_title term_width b) (lines_in (chars (cow_str_bytes b.text)))
       → AreWithin term_width (heading_texts style.Title (heading_of_title b))
   title-rows b enough within =
       let here : 4 ≤ term_width - label_width (heading_of_title b) = enough in
@@ -315,13 +310,13 @@ module _ (term_width gutter : ℕ) where
       (text, λ enough. title-rows b enough (text.rows enough))
 
   message-rows : (n : ℕ) (b : message.Message) (place : MessageContext) → place.layout.gutter ≡ n → 4 ≤ room_of_message term_width n b
-      → AreWithin (room_of_message term_width n b) (lines_of (chars (cow_str_bytes b.text)))
+      → AreWithin (room_of_message term_width n b) (lines_in (chars (cow_str_bytes b.text)))
       → AreWithin term_width (heading_texts (style.Message place) (heading_of_message b))
   message-rows n b place beside enough within =
       let width = label_width (heading_of_message b) in
       let here : 4 ≤ term_width - (place.layout.gutter + 3 + width) = subst (λ (g : ℕ). 4 ≤ term_width - (g + 3 + width)) (sym beside) enough in
       message-within term_width place (heading_of_message b) (omega (arith, here))
-      (subst (λ (g : ℕ). AreWithin (term_width - (g + 3 + width)) (lines_of (chars (cow_str_bytes b.text)))) (sym beside) within)
+      (subst (λ (g : ℕ). AreWithin (term_width - (g + 3 + width)) (lines_in (chars (cow_str_bytes b.text)))) (sym beside) within)
 
   element-rewrapped : (n : ℕ) → n ≡ gutter → (a b : Element) → Wraps a b → IsElementRewrapped term_width n a b
   element-rewrapped n same (Message a) (Message b) is =

@@ -99,10 +99,10 @@ is_other_file file (Some path) = not (is_same_file file (Some path))
 
 -- how a suggestion begins: in the last row of a suggestion for the same file right before it, or below its path where that is
 -- another than the group's file, or else in a row of its own, as any other element
-abbrev pub start_of : Option (List ℕ) → Bool → Element → SuggestionStart
-start_of file shares (Suggestion s) =
+abbrev pub suggestion_start : Option (List ℕ) → Bool → Element → SuggestionStart
+suggestion_start file shares (Suggestion s) =
     if shares then start.Next else (if is_other_file file (path_bytes s.path) then start.Path else start.Opening)
-start_of file shares other = start.Opening
+suggestion_start file shares other = start.Opening
 
 -- what follows, given the elements after it: nothing, a message, or another element
 abbrev pub next_of : List Element → Next
@@ -116,7 +116,7 @@ context_at place file es i e =
       place = place;
       first = i == 0;
       primary = not (list_any has_file (take i es));
-      start = start_of file (not (i == 0) && first_two_share (drop (i - 1) es)) e;
+      start = suggestion_start file (not (i == 0) && first_two_share (drop (i - 1) es)) e;
       shared = first_two_share (drop i es);
       next = next_of (drop (i + 1) es);
     }

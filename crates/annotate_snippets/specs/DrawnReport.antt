@@ -20,7 +20,7 @@ use Rattle.snippet_strokes.specs.Snippet.{AreLinesShown}
 use Rattle.snippet_suggest.specs.declared.SuggestionLayout.{SuggestionLayout}
 use Rattle.snippet_suggest.specs.Given.{given_text}
 use Rattle.snippet_suggest.specs.RowOrder.{Ends}
-use Rattle.snippet_suggest.specs.Suggested.{body_cells, cells_of as row_cells}
+use Rattle.snippet_suggest.specs.Suggested.{body_cells, suggested_cells as row_cells}
 use Rattle.snippet_suggest.specs.declared.SuggestionStart.{SuggestionStart}
 use Rattle.snippet_suggest.specs.declared.SuggestionStart.TheVariants as start
 use Rattle.snippet_style.specs.Separators.{separator_row}

@@ -1,9 +1,10 @@
 -- The faults of a report, in the order in which they are looked for.
-use Rattle.std.specs.Prelude.{◌≡◌, ℕ, ◌+◌, ◌^◌, List, [], ◌∷◌, ◌++◌, Option, Some, None, is_none, is_some, length, map, nat_lt, if◌then◌else◌}
+use Rattle.std.specs.Prelude.{◌≡◌, ℕ, ◌+◌, List, [], ◌∷◌, ◌++◌, Option, Some, None, is_none, is_some, length, map, nat_le, if◌then◌else◌}
 use Rattle.std.specs.Option.{option_map, option_or, option_to_list}
 use Rattle.std.specs.Cow.{cow_str_bytes}
 use Rattle.std.specs.declared.ops.Range.{Range}
 pub use Rattle.snippet_suggest.specs.Given.{added_lines}
+use Rattle.snippet_style.specs.Bounds.{max_usize}
 use Rattle.snippet_model.specs.declared.snippet.Group.{Group}
 use Rattle.snippet_model.specs.declared.snippet.Patch.{Patch}
 use Rattle.snippet_model.specs.declared.snippet.Element.{Element}
@@ -41,7 +42,7 @@ faults_from f n (x ∷ xs) = f n x ++ faults_from f (n + 1) xs
 -- the refusal of a snippet for which this number has to fit: one, or none
 abbrev pub number_faults : ℕ → ℕ → ℕ → List RenderError
 number_faults group element number =
-    if nat_lt number (2 ^ 64) then [] else LineNumberTooLarge group element ∷ []
+    if nat_le number max_usize then [] else LineNumberTooLarge group element ∷ []
 
 -- the same where the number is missing if it doesn't fit
 abbrev pub end_faults : ℕ → ℕ → Option ℕ → List RenderError

@@ -31,7 +31,7 @@ use Rattle.snippet_lines.specs.Lines.{source_lines, text_at}
 use Rattle.snippet_splice.specs.Edits.{patched}
 use Rattle.snippet_splice.specs.Spliced.{IsTouched}
 use Rattle.snippet_suggest.specs.Given.{IsAsItWas, IsOfferable, edits_of, first_given, given_lines, offered_lines, removed_lines}
-use Rattle.snippet_suggest.specs.Kind.{is_blank}
+use Rattle.snippet_suggest.specs.Kind.{is_blank_text}
 use Rattle.snippet_suggest.specs.RowOrder.{Begins, Empty, Ends, Offers, Removes, Skips, SuggestionRow, removed_number}
 use Rattle.snippet_suggest.specs.SuggestionRows.{HasLeft, IsBareRow, IsRemovedRow, IsSign, begin_glyph, beside_gutter, end_glyph, gap_left}
 use Rattle.snippet_suggest.specs.Suggested.{HasSign}
@@ -346,7 +346,7 @@ pub record ShowsSuggestion (r : Renderer) (layout : Layout) (around : ElementCon
   pub after : List NamedRow
   pub rows_are : rows ≡ others (suggestion_head r layout around s) ++ after
   pub offered : IsOfferable s → (j : ℕ) → IsTouched (cow_str_bytes s.source) (edits_of s) j
-      → is_blank (text_at (source_lines (patched (cow_str_bytes s.source) (edits_of s))) j) ≡ false → IsAsItWas s ⊎ Contains (lines_offered after) j
+      → is_blank_text (text_at (source_lines (patched (cow_str_bytes s.source) (edits_of s))) j) ≡ false → IsAsItWas s ⊎ Contains (lines_offered after) j
   pub order : map (λ row. row.name) after ≡ map (name_of_row s) (suggestion_rows around s)
   pub cells : cells_of after ≡ suggestion_lines r layout around found s
   pub signs : AllZip (HasSign (suggestion_layout r layout s) s) (suggestion_rows around s) (cells_of after)

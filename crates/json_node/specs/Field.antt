@@ -11,16 +11,16 @@ abbrev pub as_whole : Data → Option ℕ
 as_whole d = option_and_then as_u64 (as_number d)
 
 -- the text, the whole number or the truth value under a name; none where nothing or something else stands there
-abbrev pub text_at : List ℕ → Data → Option (List ℕ)
-text_at name d = option_and_then as_str (get name d)
+abbrev pub text_field : List ℕ → Data → Option (List ℕ)
+text_field name d = option_and_then as_str (get name d)
 
 -- the whole number under a name
-abbrev pub number_at : List ℕ → Data → Option ℕ
-number_at name d = option_and_then as_whole (get name d)
+abbrev pub number_field : List ℕ → Data → Option ℕ
+number_field name d = option_and_then as_whole (get name d)
 
 -- the truth value under a name
-abbrev pub flag_at : List ℕ → Data → Option Bool
-flag_at name d = option_and_then as_bool (get name d)
+abbrev pub flag_field : List ℕ → Data → Option Bool
+flag_field name d = option_and_then as_bool (get name d)
 
 -- what stands there, where `null` counts as nothing
 abbrev pub but_null : Option Data → Option Data

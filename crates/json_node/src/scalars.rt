@@ -5,7 +5,8 @@ ghost use Rattle.std.specs.Cow.{cow_str_bytes};
 ghost use Rattle.snippet_model.specs.Fits.{TextFits};
 ghost use Rattle.serde_json.specs.Find.{as_bool, as_str};
 ghost use Rattle.serde_json.specs.View.{view};
-ghost use Rattle.json_node.specs.Field.{as_whole, flag_at, given_or, lent_text, number_at, optional_at, text_at};
+ghost use Rattle.json_node.specs.Field.{as_whole, flag_field, given_or, lent_text, number_field, optional_at};
+ghost use Rattle.json_node.specs.Field.{text_field};
 
 use crate::expectation::Expectation;
 use crate::fault::Fault;
@@ -26,7 +27,7 @@ impl<'v> Node<'v, '_> {
 
     /// The text in the field of this name.
     pub fn text(&self, name: &str) -> Result<&'v str, Fault>
-        ensures value { IfOk result (λ text. text_at name.now (view self.now.value.now) ≡ Some text.now) }
+        ensures value { IfOk result (λ text. text_field name.now (view self.now.value.now) ≡ Some text.now) }
         ensures fits { IfOk result (λ text. TextFits text.now) }
     {
         self.needed(name, Expectation::Text)?.as_text()
@@ -56,7 +57,7 @@ impl<'v> Node<'v, '_> {
 
     /// The number in the field of this name.
     pub fn number(&self, name: &str) -> Result<usize, Fault>
-        ensures value { IfOk result (λ number. number_at name.now (view self.now.value.now) ≡ Some number) }
+        ensures value { IfOk result (λ number. number_field name.now (view self.now.value.now) ≡ Some number) }
     {
         self.needed(name, Expectation::Number)?.as_number()
     }
@@ -104,7 +105,7 @@ impl<'v> Node<'v, '_> {
 
     /// The truth value in the field of this name.
     pub fn flag(&self, name: &str) -> Result<bool, Fault>
-        ensures value { IfOk result (λ flag. flag_at name.now (view self.now.value.now) ≡ Some flag) }
+        ensures value { IfOk result (λ flag. flag_field name.now (view self.now.value.now) ≡ Some flag) }
     {
         self.needed(name, Expectation::Flag)?.as_flag()
     }

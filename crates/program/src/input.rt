@@ -1,22 +1,22 @@
-//! The words of the command line, and what files hold.
+//! The arguments of the command line, and what files hold.
 
 use std::alloc::AllocError;
 use std::rt::{Env, Files};
 use std::{env, fs, io};
 
-/// The words of the command line, without the program's name.
-pub fn given_words(rt: &(impl Env + AllocGlobal)) -> io::Result<Vec<String>> {
-    let mut words = Vec::new(rt.alloc());
-    for word in env::args(rt)?.skip(1) {
-        words.push(word)?;
+/// The arguments of the command line, without the program's name.
+pub fn given_arguments(rt: &(impl Env + AllocGlobal)) -> io::Result<Vec<String>> {
+    let mut args = Vec::new(rt.alloc());
+    for argument in env::args(rt)?.skip(1) {
+        args.push(argument)?;
     }
-    Ok(words)
+    Ok(args)
 }
 
-/// The same for a program whose words are UTF-8: there are none where one of them isn't.
+/// The same for a program whose arguments are UTF-8: there are none where one of them isn't.
 pub fn given_texts(rt: &(impl Env + AllocGlobal)) -> Result<Vec<String>, AllocError> {
-    match given_words(rt) {
-        Ok(words) => Ok(words),
+    match given_arguments(rt) {
+        Ok(args) => Ok(args),
         Err(error) if error.kind() == io::ErrorKind::InvalidData => Ok(Vec::new(rt.alloc())),
         Err(_) => Err(AllocError),
     }

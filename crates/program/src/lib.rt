@@ -1,4 +1,4 @@
-//! What the programs share: the words of the command line, what a file holds, lines that are written whole or cut
+//! What the programs share: the arguments of the command line, what a file holds, lines that are written whole or cut
 //! short, and the status.
 #![tactic(auto)]
 

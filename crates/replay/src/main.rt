@@ -5,7 +5,7 @@
 #![tactic(auto)]
 
 use program::exit::exit_code;
-use program::input::given_words;
+use program::input::given_arguments;
 use replay_run::run::run;
 use std::io::{self, BufWriter};
 use std::process::ExitCode;
@@ -16,10 +16,13 @@ const STOPPED: u8 = 2;
 /// Runs the program, and answers the status to end with.
 fn answer(rt: &HostRuntime) -> io::Result<u8> {
     let alloc = rt.alloc();
-    let given = given_words(rt)?;
-    let words: Vec<&str> = given.iter().map(|word| word.as_str()).collect(alloc)?;
+    let given = given_arguments(rt)?;
+    let args: Vec<&str> = given
+        .iter()
+        .map(|argument| argument.as_str())
+        .collect(alloc)?;
     let mut out = BufWriter::new(alloc, rt.stdout())?;
-    Ok(run(rt, &words, &mut out, &mut rt.stderr()))
+    Ok(run(rt, &args, &mut out, &mut rt.stderr()))
 }
 
 fn main(rt: HostRuntime) -> ExitCode {

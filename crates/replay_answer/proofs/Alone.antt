@@ -5,7 +5,7 @@ use Rattle.std.specs.Prelude.{codes}
 use Rattle.serde_json.specs.Data.{Data}
 use Rattle.serde_json.specs.Read.{read}
 use Rattle.serde_json.specs.Written.{compact_text}
-use Rattle.replay_answer.specs.Answer.{answer_of, column_text, told_of}
+use Rattle.replay_answer.specs.Answer.{answer_of, not_json_text, told_of}
 use Rattle.replay_answer.specs.Case.{IsCaseOf}
 use Rattle.replay_answer.specs.Line.{AnswersAlone, AnswersAs, TellsAs}
 use Rattle.replay_answer.specs.Outcome.{IsOutcomeOf}
@@ -42,10 +42,10 @@ of_value line text d reads (inr tells) =
 
 -- the answer to a line that holds no value
 pub of_error : (line text : List ℕ) (column : ℕ) (ends_early : Bool) → read line ≡ None
-    → text ≡ compact_text (told_of 1 (column_text column ends_early)) → AnswersAlone line text
+    → text ≡ compact_text (told_of 1 (not_json_text column ends_early)) → AnswersAlone line text
 of_error line text column ends_early reads is =
     inr record {
-      words = column_text column ends_early;
+      words = not_json_text column ends_early;
       is = inr (inl (column, ends_early, refl, reads));
       text_is = is;
     }

@@ -59,14 +59,14 @@ answer_of id (Texts texts) =
 answer_of id (Refused refusal words span) = refusal_answer id refusal (string_bytes words)
 
 -- what is told of a line that isn't JSON from a column on, or that ends before it is
-abbrev pub column_text : ℕ → Bool → List ℕ
-column_text column ends_early =
+abbrev pub not_json_text : ℕ → Bool → List ℕ
+not_json_text column ends_early =
     codes "column " ++ (decimal column ++ (if ends_early then codes ": not valid JSON: it ends too early" else codes ": not valid JSON"))
 
 -- a line is no case, and these words say so: it is no JSON from a column on, or JSON that describes none
 abbrev pub IsNoCase : List ℕ → List ℕ → Type 0
 IsNoCase line words =
-    ((column : ℕ) × (ends_early : Bool) × (words ≡ column_text column ends_early) × (read line ≡ None)) ⊎ ((d : Data) × (read line ≡ Some d))
+    ((column : ℕ) × (ends_early : Bool) × (words ≡ not_json_text column ends_early) × (read line ≡ None)) ⊎ ((d : Data) × (read line ≡ Some d))
 
 -- what is said of the line of a number that is no case, as JSON
 abbrev pub told_of : ℕ → List ℕ → Data

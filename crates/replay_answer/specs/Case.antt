@@ -6,7 +6,7 @@ use Rattle.annotate_snippets.specs.declared.renderer.DecorStyle.TheVariants.{Asc
 use Rattle.annotate_snippets.specs.declared.renderer.Renderer.{Renderer}
 use Rattle.serde_json.specs.Data.{Data}
 use Rattle.serde_json.specs.Find.{as_bool}
-use Rattle.json_node.specs.Field.{SaysAt, ListSays, as_whole, given, given_or, text_at}
+use Rattle.json_node.specs.Field.{SaysAt, ListSays, as_whole, given, given_or, text_field}
 use Rattle.replay_read.specs.Report.{AreSourcesOf, IsGroupOf}
 use Rattle.replay_read.specs.Sheet.{AreSheetsOf}
 use Rattle.replay_read.specs.Shape.{HasShape}
@@ -41,7 +41,7 @@ MayHaveSettings (Some d) renderer = HasSettingsOf d renderer
 -- the case that is described
 pub record IsCaseOf (d : Data) (case : Case) : Type 0 where
   pub only : HasShape shape.Case d
-  pub id : text_at (codes "id") d ≡ Some case.id.now
+  pub id : text_field (codes "id") d ≡ Some case.id.now
   pub renderer : MayHaveSettings (given (codes "settings") d) case.renderer
   pub sheets : AreSheetsOf (given (codes "sheets") d) case.sheets.items
   pub html : given_or as_bool false (codes "html") d ≡ Some case.html

@@ -26,8 +26,8 @@ refusal_name (LineNumberTooLarge group element) = codes "LineNumberTooLarge"
 refusal_name (Memory refused) = codes "Memory"
 
 -- the refusal of a case, where there is one: the first of its report in the form that is set, or, as HTML, in the graphic form
-abbrev pub refusal_of : Case → Option RenderError
-refusal_of case = if case.html then refusal_in Graphic case.groups.items else first_refusal case.renderer case.groups.items
+abbrev pub refusal_of_case : Case → Option RenderError
+refusal_of_case case = if case.html then refusal_in Graphic case.groups.items else first_refusal case.renderer case.groups.items
 
 -- one text, the report of a case as HTML in its settings, with its laws
 abbrev pub IsHtmlOf : Case → List (List ℕ) → Type 0
@@ -46,7 +46,7 @@ AreTextsOf case texts = AreTextsAs case.html case texts
 -- a case becomes its texts, or the first refusal of its report
 abbrev pub IsOutcomeOf : Case → Outcome → Type 0
 IsOutcomeOf case (Texts texts) = AreTextsOf case (map string_bytes texts.items)
-IsOutcomeOf case (Refused refusal words span) = refusal_of case ≡ Some refusal
+IsOutcomeOf case (Refused refusal words span) = refusal_of_case case ≡ Some refusal
 
 -- a line describes this case, and this became of it
 pub record Becomes (line : List ℕ) (case : Case) (outcome : Outcome) : Type 0 where

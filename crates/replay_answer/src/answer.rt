@@ -4,7 +4,7 @@ ghost use Rattle.std.specs.Prelude.{◌≡◌, IfOk, map, string_bytes};
 ghost use Rattle.serde_json.specs.View.{view, items_view};
 ghost use Rattle.serde_json.specs.Written.{compact_text};
 ghost use Rattle.replay_answer.specs.Answer as spec;
-ghost use Rattle.replay_answer.specs.Answer.{column_text, told_of};
+ghost use Rattle.replay_answer.specs.Answer.{not_json_text, told_of};
 
 use crate::outcome::{Outcome, name_of};
 use annotate_snippets::renderer::RenderError;
@@ -173,7 +173,7 @@ fn told_value(alloc: Global, words: &str, number: u64) -> Result<Value, AllocErr
 
 /// What is told of a line that isn't JSON from a column on, or that ends before it is.
 pub fn column_words(alloc: Global, column: usize, ends_early: bool) -> Result<String, AllocError>
-    ensures words { IfOk result (λ text. string_bytes text ≡ column_text column ends_early) }
+    ensures words { IfOk result (λ text. string_bytes text ≡ not_json_text column ends_early) }
 {
     if ends_early {
         format!(in alloc; "column {column}: not valid JSON: it ends too early")

@@ -5,7 +5,7 @@ ghost use Rattle.annotate_snippets.specs.Fits.{ReportFits};
 ghost use Rattle.serde_json.specs.Errors.{IsMemory};
 ghost use Rattle.serde_json.specs.Written.{compact_text};
 ghost use Rattle.serde_json.specs.View.{view};
-ghost use Rattle.replay_answer.specs.Answer.{answer_of, column_text, told_of};
+ghost use Rattle.replay_answer.specs.Answer.{answer_of, not_json_text, told_of};
 ghost use Rattle.replay_answer.specs.Line.{AnswersAlone, AnswersAs, TellsAs};
 ghost use Rattle.replay_answer.specs.Outcome.{IsOutcomeOf};
 ghost use Rattle.replay_answer.specs.declared.outcome.Outcome.{Outcome};
@@ -41,7 +41,7 @@ fn text_answer(alloc: Global, line: &str) -> Result<String, AllocError>
 /// The answer to a line at which reading JSON met this.
 fn error_answer(alloc: Global, error: Error) -> Result<String, AllocError>
     ensures told { IfOk result (λ text. (IsMemory error → ⊥) × (column : ℕ) × (ends_early : Bool)
-        × (string_bytes text ≡ compact_text (told_of 1 (column_text column ends_early)))) }
+        × (string_bytes text ≡ compact_text (told_of 1 (not_json_text column ends_early)))) }
 {
     if error.is_memory() {
         return Err(AllocError);

@@ -4,7 +4,7 @@ ghost use Rattle.std.specs.Prelude.{◌≡◌, [], ◌∷◌, None, Err, IfOk, I
 ghost use Rattle.annotate_snippets.specs.Fault.{refusal_in};
 ghost use Rattle.annotate_snippets.specs.declared.renderer.form.Form.TheVariants as form;
 ghost use Rattle.annotate_snippets.specs.Fits.{ReportFits};
-ghost use Rattle.replay_answer.specs.Outcome.{AreTextsOf, IsHtmlOf, IsOutcomeOf, refusal_name, refusal_of};
+ghost use Rattle.replay_answer.specs.Outcome.{AreTextsOf, IsHtmlOf, IsOutcomeOf, refusal_name, refusal_of_case};
 
 use crate::case::Case;
 use crate::spans::span_of;
@@ -43,8 +43,8 @@ pub fn outcome_of(alloc: Global, case: &Case<'_>) -> Result<Outcome, AllocError>
 /// Why the report is refused, as HTML as in the graphic form; and `Memory` where there is no memory for the texts.
 pub fn texts_of(alloc: Global, case: &Case<'_>) -> Result<Vec<String>, RenderError>
     requires fits { ReportFits case.now.groups.items }
-    ensures refused { IfSome (refusal_of case.now) (λ refusal. result ≡ Err refusal) }
-    ensures renders { refusal_of case.now ≡ None → IsOkUnless result (RenderError.Memory alloc_error) }
+    ensures refused { IfSome (refusal_of_case case.now) (λ refusal. result ≡ Err refusal) }
+    ensures renders { refusal_of_case case.now ≡ None → IsOkUnless result (RenderError.Memory alloc_error) }
     ensures texts { IfOk result (λ texts. AreTextsOf case.now (map string_bytes texts.items)) }
 {
     if case.html {

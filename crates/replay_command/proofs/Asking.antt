@@ -9,7 +9,7 @@ use Rattle.std.proofs.lemmas.Bool.{lt-ltb, ltb-true}
 use Rattle.clap.proofs.WalkLemmas.{both}
 use Rattle.clap.specs.ValueTests.{is_numeral}
 use Rattle.clap.specs.Walk.{Row, first_of}
-use Rattle.replay_command.specs.Words.{Word, asked, asked_to_check, asked_to_draw, files_in, number_of, was_given, words_at}
+use Rattle.replay_command.specs.Arguments.{Argument, asked, asked_to_check, asked_to_draw, files_in, number_of, was_given, arguments_at}
 
 -- ---- numbers
 
@@ -23,41 +23,41 @@ digits_from (d ∷ ds) e =
     let parts = both _ _ e in
     (ltb-true _ _ parts.0, digits_from ds parts.1)
 
-abbrev is_number : Word → Bool
-is_number word = is_numeral word && nat_lt (digits_value 10 word) (2 ^ 64)
+abbrev is_number : Argument → Bool
+is_number argument = is_numeral argument && nat_lt (digits_value 10 argument) (2 ^ 64)
 
--- what is read of a word where its digits write a number that fits, and nothing else, is its number
-pub number_read : (word : Word) (r : Option ℕ) → SomeIff r (IsNumeral 10 word × (digits_value 10 word < 2 ^ 64)) (digits_value 10 word)
-    → r ≡ number_of word
-number_read word (Some n) h =
-    rw (lt-ltb 0 (length word) h.0.0.0, digits_pass word h.0.0.1, lt-ltb (digits_value 10 word) (2 ^ 64) h.0.1, h.1) refl
-number_read word None h = go (is_number word) refl
+-- what is read of an argument where its digits write a number that fits, and nothing else, is its number
+pub number_read : (argument : Argument) (r : Option ℕ) → SomeIff r (IsNumeral 10 argument × (digits_value 10 argument < 2 ^ 64)) (digits_value 10 argument)
+    → r ≡ number_of argument
+number_read argument (Some n) h =
+    rw (lt-ltb 0 (length argument) h.0.0.0, digits_pass argument h.0.0.1, lt-ltb (digits_value 10 argument) (2 ^ 64) h.0.1, h.1) refl
+number_read argument None h = go (is_number argument) refl
   where
-    go : (b : Bool) → is_number word ≡ b → None ≡ number_of word
+    go : (b : Bool) → is_number argument ≡ b → None ≡ number_of argument
     go false t = rw t refl
     go true t =
         let outer = both _ _ t in
         let inner = both _ _ outer.0 in
-        absurd (h ((ltb-true _ _ inner.0, digits_from word inner.1), ltb-true _ _ outer.1))
+        absurd (h ((ltb-true _ _ inner.0, digits_from argument inner.1), ltb-true _ _ outer.1))
 
 -- ---- files
 
--- a list of references or none, and the words that it leads to
-pub words_or_none : (o : Option (Bor (List (Bor Word)))) (P : Bor (List (Bor Word)) → Type 0) (r : Bor (List (Bor Word)))
-    → ((x : Bor (List (Bor Word))) → P x → x.now ≡ []) → UnwrapsOrElse o P r → words_at r.now ≡ unwrap_or (option_map (λ s. words_at s.now) o) []
-words_or_none None P r none h = rw (none r h) refl
-words_or_none (Some x) P r none h = rw h refl
+-- a list of references or none, and the arguments that it leads to
+pub arguments_or_none : (o : Option (Bor (List (Bor Argument)))) (P : Bor (List (Bor Argument)) → Type 0) (r : Bor (List (Bor Argument)))
+    → ((x : Bor (List (Bor Argument))) → P x → x.now ≡ []) → UnwrapsOrElse o P r → arguments_at r.now ≡ unwrap_or (option_map (λ s. arguments_at s.now) o) []
+arguments_or_none None P r none h = rw (none r h) refl
+arguments_or_none (Some x) P r none h = rw h refl
 
 -- ---- the whole
 
 -- what is asked for with `--check`, and without
-pub asked_with_check : (found : List Row) (texts keep_going : Bool) (repeat : Option Word) (files : List Word)
+pub asked_with_check : (found : List Row) (texts keep_going : Bool) (repeat : Option Argument) (files : List Argument)
     → texts ≡ was_given (codes "text") found → keep_going ≡ was_given (codes "keep-going") found → repeat ≡ first_of (codes "repeat") found
     → files ≡ files_in found → true ≡ was_given (codes "check") found → asked_to_check texts keep_going repeat files ≡ asked found
 asked_with_check found texts keep_going repeat files text keep times file checks =
     rw (text, keep, times, file, ← checks) refl
 
-pub asked_without : (found : List Row) (texts keep_going : Bool) (repeat : Option Word) (files : List Word)
+pub asked_without : (found : List Row) (texts keep_going : Bool) (repeat : Option Argument) (files : List Argument)
     → texts ≡ was_given (codes "text") found → keep_going ≡ was_given (codes "keep-going") found → repeat ≡ first_of (codes "repeat") found
     → files ≡ files_in found → false ≡ was_given (codes "check") found → asked_to_draw texts keep_going repeat files ≡ asked found
 asked_without found texts keep_going repeat files text keep times file checks =

@@ -7,17 +7,17 @@ use Rattle.clap.specs.Faults.{fault_of, is_simple_and_free}
 use Rattle.clap.specs.Kinds.{Kinds}
 use Rattle.clap.specs.Simple.{matches_of}
 use Rattle.clap.specs.Walk.{is_empty}
-use Rattle.replay_command.specs.Words.{Answers, AsksFor, AsksToShow, Checks, Repeats, Task, Word, asked, hyphen, replay_app}
+use Rattle.replay_command.specs.Arguments.{Answers, AsksFor, AsksToShow, Checks, Repeats, Task, Argument, asked, hyphen, replay_app}
 
--- what clap says of words it says of the words of this command
+-- what clap says of arguments it says of the arguments of this command
 pub simple : is_simple_and_free replay_app ≡ true
 unfolding clap_on_literals
 simple = refl
 
--- no word at all: standard input is answered
-pub no_words : AsksFor [] (Answers false false (hyphen ∷ []))
+-- no argument at all: standard input is answered
+pub no_arguments : AsksFor [] (Answers false false (hyphen ∷ []))
 unfolding clap_on_literals
-no_words = (refl, refl)
+no_arguments = (refl, refl)
 
 -- `--text a` and `a --text`
 pub option_first : AsksFor (codes "--text" ∷ codes "a" ∷ []) (Answers true false (codes "a" ∷ []))
@@ -70,15 +70,15 @@ pub version : AsksToShow (codes "--version" ∷ [])
 unfolding clap_on_literals
 version = inr (inl refl)
 
--- ---- words that ask for nothing
+-- ---- arguments that ask for nothing
 
 -- with which clap finds something wrong
-faulty : (words : List Word) (task : Task) → is_empty (fault_of replay_app words) ≡ false → AsksFor words task → ⊥
-faulty words task wrong asks = false≢true (sym wrong ∙ ap (λ (kinds : Kinds). is_empty kinds) asks.0)
+faulty : (args : List Argument) (task : Task) → is_empty (fault_of replay_app args) ≡ false → AsksFor args task → ⊥
+faulty args task wrong asks = false≢true (sym wrong ∙ ap (λ (kinds : Kinds). is_empty kinds) asks.0)
 
 -- in which it finds nothing that is asked for
-unasked : (words : List Word) (task : Task) → asked (matches_of replay_app words) ≡ None → AsksFor words task → ⊥
-unasked words task none asks = false≢true (ap (λ (o : Option Task). is_some o) (sym none ∙ asks.1))
+unasked : (args : List Argument) (task : Task) → asked (matches_of replay_app args) ≡ None → AsksFor args task → ⊥
+unasked args task none asks = false≢true (ap (λ (o : Option Task). is_some o) (sym none ∙ asks.1))
 
 -- `--texts`, which is no option
 pub no_option : (task : Task) → AsksFor (codes "--texts" ∷ []) task → ⊥

@@ -1,10 +1,10 @@
-//! What matched words ask for.
+//! What matched arguments ask for.
 
 ghost use Rattle.std.specs.Prelude.{◌≡◌, ◌≢◌, ◌⊎◌, Some, None, IfErr, IfOk, option_map};
 ghost use Rattle.clap.specs.Words.{found_of, kind_of, rows_of};
 ghost use Rattle.clap.specs.declared.error.kind.ErrorKind.TheVariants as kind;
-ghost use Rattle.replay_command.specs.Words as spec;
-ghost use Rattle.replay_command.specs.Words.{files_in, task_in, task_of, was_given, words_at};
+ghost use Rattle.replay_command.specs.Arguments as spec;
+ghost use Rattle.replay_command.specs.Arguments.{files_in, task_in, task_of, was_given, arguments_at};
 
 use crate::usage_error::{UsageError, error_of};
 use clap::{ArgMatches, Error};
@@ -32,7 +32,7 @@ pub enum Command<'w, 'a> {
     },
 }
 
-/// The command that matched words ask for, or what is wrong with it.
+/// The command that matched arguments ask for, or what is wrong with it.
 pub fn command_of<'w, 'a>(
     alloc: Global,
     matches: &'w ArgMatches<'a>,
@@ -76,7 +76,7 @@ fn has(matches: &ArgMatches<'_>, name: &str) -> bool
 
 /// The files that were named, or else standard input.
 fn files_of<'w, 'a>(matches: &'w ArgMatches<'a>) -> &'w [&'a str]
-    ensures value { words_at result.now ≡ files_in (rows_of (found_of matches.now)) }
+    ensures value { arguments_at result.now ≡ files_in (rows_of (found_of matches.now)) }
 {
     matches.get_strs("files").unwrap_or_default()
 }
@@ -88,8 +88,8 @@ fn check_of<'w, 'a>(
     repeat: Option<&'a str>,
     files: &'w [&'a str],
 ) -> Result<Command<'w, 'a>, UsageError<'a>>
-    ensures value { task_in result ≡ spec.asked_to_check texts keep_going (option_map (λ word. word.now) repeat.entry)
-        (words_at files.now) }
+    ensures value { task_in result ≡ spec.asked_to_check texts keep_going (option_map (λ n. n.now) repeat.entry)
+        (arguments_at files.now) }
 {
     if texts {
         Err(UsageError::Together("--check", "--text"))
@@ -106,7 +106,7 @@ fn check_of<'w, 'a>(
 
 /// Whether there is one pair or more.
 fn are_pairs(files: &[&str]) -> bool
-    ensures value { result ≡ spec.are_pairs (words_at files.now) }
+    ensures value { result ≡ spec.are_pairs (arguments_at files.now) }
 {
     !files.is_empty() && files.len() % 2 == 0
 }
@@ -118,11 +118,11 @@ fn draw_of<'w, 'a>(
     repeat: Option<&'a str>,
     inputs: &'w [&'a str],
 ) -> Result<Command<'w, 'a>, UsageError<'a>>
-    ensures value { task_in result ≡ spec.asked_to_draw texts keep_going (option_map (λ word. word.now) repeat.entry)
-        (words_at inputs.now) }
+    ensures value { task_in result ≡ spec.asked_to_draw texts keep_going (option_map (λ n. n.now) repeat.entry)
+        (arguments_at inputs.now) }
 {
     match repeat {
-        Some(word) => repeat_of(texts, keep_going, word, inputs),
+        Some(argument) => repeat_of(texts, keep_going, argument, inputs),
         None => Ok(Command::Answer {
             texts,
             keep_going,
@@ -131,14 +131,14 @@ fn draw_of<'w, 'a>(
     }
 }
 
-/// The command that draws each case as often as this word says.
+/// The command that draws each case as often as this argument says.
 fn repeat_of<'w, 'a>(
     texts: bool,
     keep_going: bool,
-    word: &'a str,
+    argument: &'a str,
     inputs: &'w [&'a str],
 ) -> Result<Command<'w, 'a>, UsageError<'a>>
-    ensures value { task_in result ≡ spec.asked_to_repeat texts keep_going word.now (words_at inputs.now) }
+    ensures value { task_in result ≡ spec.asked_to_repeat texts keep_going argument.now (arguments_at inputs.now) }
 {
     if texts {
         return Err(UsageError::Together("--repeat <N>", "--text"));
@@ -146,18 +146,19 @@ fn repeat_of<'w, 'a>(
     if keep_going {
         return Err(UsageError::Together("--repeat <N>", "--keep-going"));
     }
-    match number_of(word) {
+    match number_of(argument) {
         Some(times) => Ok(Command::Repeat { times, inputs }),
-        None => Err(UsageError::NotNumber(word)),
+        None => Err(UsageError::NotNumber(argument)),
     }
 }
 
-/// The number that a word of decimal digits alone writes; `None` for another word, and where the number doesn't fit.
-fn number_of(word: &str) -> Option<u64>
-    ensures value { result ≡ spec.number_of word.now }
+/// The number that an argument of decimal digits alone writes; `None` for another one, and where the number doesn't
+/// fit.
+fn number_of(argument: &str) -> Option<u64>
+    ensures value { result ≡ spec.number_of argument.now }
 {
-    match word.as_bytes() {
+    match argument.as_bytes() {
         [b'+', ..] => None,
-        _ => word.parse().ok(),
+        _ => argument.parse().ok(),
     }
 }

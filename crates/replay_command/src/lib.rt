@@ -1,6 +1,6 @@
-//! What the words of `replay` ask for.
+//! What the arguments of `replay` ask for.
 #![tactic(auto)]
 
+pub mod arguments;
 pub mod command;
 pub mod usage_error;
-pub mod words;

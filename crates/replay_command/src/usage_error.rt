@@ -1,22 +1,22 @@
-//! What is wrong with words whose options and files are known.
+//! What is wrong with arguments whose options and files are known.
 
 ghost use Rattle.std.specs.Prelude.{◌≡◌, ◌≢◌, IfOk};
 ghost use Rattle.clap.specs.Words.{kind_of};
 
-use crate::words::parser;
+use crate::arguments::parser;
 use clap::Error;
 use clap::error::ErrorKind;
 use std::alloc::{AllocError, Global};
 use std::fmt;
 
-/// What is wrong with words whose options and files are known.
+/// What is wrong with arguments whose options and files are known.
 #[derive(Drop)]
 pub enum UsageError<'a> {
     /// Two options that exclude one another.
     Together(&'static str, &'static str),
     /// `--check` has no files, or a last one that isn't one of a pair.
     NoPair,
-    /// `--repeat` has this word after it in place of a number.
+    /// `--repeat` has this argument after it in place of a number.
     NotNumber(&'a str),
 }
 
@@ -40,10 +40,10 @@ impl fmt::Display for UsageError<'_> {
                 write!(f, "the argument '{option}' cannot be used with '{other}'")
             }
             UsageError::NoPair => write!(f, "'--check' needs pairs of EXPECTED and FILE"),
-            UsageError::NotNumber(word) => {
+            UsageError::NotNumber(argument) => {
                 write!(
                     f,
-                    "invalid value '{word}' for '--repeat <N>': expected a whole number from 0 to {}",
+                    "invalid value '{argument}' for '--repeat <N>': expected a whole number from 0 to {}",
                     u64::MAX
                 )
             }

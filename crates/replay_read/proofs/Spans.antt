@@ -1,7 +1,7 @@
 -- Where the numbers and places of small sources lie, and the readings that these rule out.
 use Rattle.std.proofs.Common.{◌≡◌, ℕ, List, [], ◌∷◌, Some, None, refl}
 use Rattle.std.specs.Str.{chars}
-use Rattle.replay_read.specs.MarkerSpan.{between, counted, placed}
+use Rattle.replay_read.specs.MarkerSpan.{span_between, counted, placed}
 use Rattle.snippet_places.specs.declared.columns.Position.{Position}
 use Rattle.replay_read.specs.declared.span.SpanUnit.TheVariants.{Byte, Char, Utf16}
 
@@ -80,6 +80,6 @@ unfolding chars
 column_of_units = refl
 
 -- a span of which one end is no place lies past the source's end as a whole, so that it is refused as one
-pub half_a_place : between text (placed text None (at 1 1)) (placed text None (at 1 9)) ≡ record { start = 11; end = 11 }
+pub half_a_place : span_between text (placed text None (at 1 1)) (placed text None (at 1 9)) ≡ record { start = 11; end = 11 }
 unfolding chars
 half_a_place = refl

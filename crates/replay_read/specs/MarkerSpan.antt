@@ -5,7 +5,7 @@ use Rattle.std.specs.Prelude.{option_and_then, option_map, if◌then◌else◌}
 use Rattle.std.specs.declared.ops.Range.{Range}
 use Rattle.serde_json.specs.Data.{Data}
 use Rattle.serde_json.specs.Find.{as_str}
-use Rattle.json_node.specs.Field.{SaysAt, given, number_at}
+use Rattle.json_node.specs.Field.{SaysAt, given, number_field}
 use Rattle.snippet_places.specs.Places.{place_from}
 use Rattle.snippet_places.specs.TextLines.{line_starts}
 use Rattle.snippet_places.specs.declared.clamp.Place.{Place}
@@ -72,16 +72,16 @@ abbrev pub past_end : List ℕ → Range ℕ
 past_end source = record { start = length source + 2; end = length source + 2 }
 
 -- the span between two bytes, and one past the end where the source has one of them not
-abbrev pub between : List ℕ → Option ℕ → Option ℕ → Range ℕ
-between source (Some start) (Some end) = record { start = start; end = end }
-between source (Some start) None = past_end source
-between source None end = past_end source
+abbrev pub span_between : List ℕ → Option ℕ → Option ℕ → Range ℕ
+span_between source (Some start) (Some end) = record { start = start; end = end }
+span_between source (Some start) None = past_end source
+span_between source None end = past_end source
 
 -- a place: its line and its column
 pub record IsPlaceOf (d : Data) (place : Position) : Type 0 where
   pub only : HasShape shape.Place d
-  pub line : number_at (codes "line") d ≡ Some place.line
-  pub column : number_at (codes "column") d ≡ Some place.column
+  pub line : number_field (codes "line") d ≡ Some place.line
+  pub column : number_field (codes "column") d ≡ Some place.column
 
 -- a span by numbers: neither `from` nor `to` is given beside them
 pub record IsCountedSpan (source : List ℕ) (unit : Option SpanUnit) (d : Data) (span : Range ℕ) : Type 0 where
@@ -89,9 +89,9 @@ pub record IsCountedSpan (source : List ℕ) (unit : Option SpanUnit) (d : Data)
   pub no_to : given (codes "to") d ≡ None
   pub start : ℕ
   pub end : ℕ
-  pub start_is : number_at (codes "start") d ≡ Some start
-  pub end_is : number_at (codes "end") d ≡ Some end
-  pub span_is : span ≡ between source (counted source unit start) (counted source unit end)
+  pub start_is : number_field (codes "start") d ≡ Some start
+  pub end_is : number_field (codes "end") d ≡ Some end
+  pub span_is : span ≡ span_between source (counted source unit start) (counted source unit end)
 
 -- a span by places: neither `start` nor `end` is given beside them
 pub record IsPlacedSpan (source : List ℕ) (unit : Option SpanUnit) (d : Data) (span : Range ℕ) : Type 0 where
@@ -101,7 +101,7 @@ pub record IsPlacedSpan (source : List ℕ) (unit : Option SpanUnit) (d : Data) 
   pub to : Position
   pub from_is : SaysAt IsPlaceOf (codes "from") d from
   pub to_is : SaysAt IsPlaceOf (codes "to") d to
-  pub span_is : span ≡ between source (placed source unit from) (placed source unit to)
+  pub span_is : span ≡ span_between source (placed source unit from) (placed source unit to)
 
 -- the span of a marker
 abbrev pub IsSpanOf : List ℕ → Option SpanUnit → Data → Range ℕ → Type 0

@@ -19,7 +19,7 @@ use Rattle.snippet_model.specs.declared.snippet.Snippet.{Snippet}
 use Rattle.snippet_model.specs.declared.snippet.Title.{Title}
 use Rattle.serde_json.specs.Data.{Data}
 use Rattle.serde_json.specs.Find.{as_bool, as_null, as_str, get}
-use Rattle.json_node.specs.Field.{SaysAt, MaySayAt, OnlySays, OrNull, ListSays, as_whole, flag_at, given_or, optional_at, text_at}
+use Rattle.json_node.specs.Field.{SaysAt, MaySayAt, OnlySays, OrNull, ListSays, as_whole, flag_field, given_or, optional_at, text_field}
 use Rattle.replay_read.specs.Kinds.{kind_name, mark_name}
 use Rattle.replay_read.specs.Shape.{HasShape}
 use Rattle.replay_read.specs.MarkerSpan.{IsSpanOf, IsUnit}
@@ -41,15 +41,15 @@ IsNameOf (Some d) name = IsGivenName d name
 -- a level: its kind, and its name
 pub record IsLevelOf (d : Data) (level : Level) : Type 0 where
   pub only : HasShape shape.Level d
-  pub kind : text_at (codes "kind") d ≡ Some (kind_name level.kind)
+  pub kind : text_field (codes "kind") d ≡ Some (kind_name level.kind)
   pub name : IsNameOf (get (codes "name") d) level.name
 
 -- a title: `primary` tells that its text isn't trusted; its identifier and address may be missing
 pub record IsTitleOf (d : Data) (title : Title) : Type 0 where
   pub only : HasShape shape.Title d
   pub level : SaysAt IsLevelOf (codes "level") d title.level
-  pub text : text_at (codes "text") d ≡ Some (cow_str_bytes title.text)
-  pub primary : flag_at (codes "primary") d ≡ Some (not title.allows_styling)
+  pub text : text_field (codes "text") d ≡ Some (cow_str_bytes title.text)
+  pub primary : flag_field (codes "primary") d ≡ Some (not title.allows_styling)
   pub id : optional_at as_str (codes "id") d ≡ Some (option_map cow_str_bytes (option_and_then (λ id. id.id) title.id))
   pub url : optional_at as_str (codes "url") d ≡ Some (option_map cow_str_bytes (option_and_then (λ id. id.url) title.id))
 
@@ -57,7 +57,7 @@ pub record IsTitleOf (d : Data) (title : Title) : Type 0 where
 pub record IsMessageOf (d : Data) (message : Message) : Type 0 where
   pub only : HasShape shape.Message d
   pub level : SaysAt IsLevelOf (codes "level") d message.level
-  pub text : text_at (codes "text") d ≡ Some (cow_str_bytes message.text)
+  pub text : text_field (codes "text") d ≡ Some (cow_str_bytes message.text)
 
 -- the markers of a snippet of this source, which stand under this name and say what Says tells of the source, in the unit that is said
 pub record AreMarkersOf {T : Type 0} (Says : List ℕ → Option SpanUnit → Data → T → Type 0) (source name : List ℕ) (d : Data) (markers : List T) : Type 0 where
@@ -89,7 +89,7 @@ pub record IsSnippetOf {T : Type 0} (Says : List ℕ → Option SpanUnit → Dat
 -- an annotation: its kind, its span, its label, and whether it colours the source
 pub record IsAnnotationOf (source : List ℕ) (unit : Option SpanUnit) (d : Data) (annotation : Annotation) : Type 0 where
   pub only : HasShape shape.Annotation d
-  pub kind : text_at (codes "kind") d ≡ Some (mark_name annotation.kind)
+  pub kind : text_field (codes "kind") d ≡ Some (mark_name annotation.kind)
   pub span : IsSpanOf source unit d annotation.span
   pub label : optional_at as_str (codes "label") d ≡ Some (option_map cow_str_bytes annotation.label)
   pub highlight_source : given_or as_bool false (codes "highlight_source") d ≡ Some annotation.highlight_source
@@ -98,12 +98,12 @@ pub record IsAnnotationOf (source : List ℕ) (unit : Option SpanUnit) (d : Data
 pub record IsPatchOf (source : List ℕ) (unit : Option SpanUnit) (d : Data) (patch : Patch) : Type 0 where
   pub only : HasShape shape.Patch d
   pub span : IsSpanOf source unit d patch.span
-  pub text : text_at (codes "text") d ≡ Some (cow_str_bytes patch.replacement)
+  pub text : text_field (codes "text") d ≡ Some (cow_str_bytes patch.replacement)
 
 -- an origin: its path, and its line and column where they are given
 pub record IsOriginOf (d : Data) (origin : Origin) : Type 0 where
   pub only : HasShape shape.Origin d
-  pub path : text_at (codes "path") d ≡ Some (cow_str_bytes origin.path)
+  pub path : text_field (codes "path") d ≡ Some (cow_str_bytes origin.path)
   pub line : optional_at as_whole (codes "line") d ≡ Some origin.line
   pub column : optional_at as_whole (codes "column") d ≡ Some origin.char_column
 

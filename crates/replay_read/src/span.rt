@@ -127,7 +127,7 @@ fn place_of(node: &Node<'_, '_>) -> Result<Position, Fault>
 /// The span between two bytes. Where the source has one of them not, it is one past the end, and past the one byte
 /// after it that may be marked.
 fn between(source: &str, start: Option<usize>, end: Option<usize>) -> Range<usize>
-    ensures value { result ≡ spec.between source.now start end }
+    ensures value { result ≡ spec.span_between source.now start end }
 {
     match (start, end) {
         (Some(start), Some(end)) => start..end,

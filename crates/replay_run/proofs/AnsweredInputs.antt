@@ -14,8 +14,8 @@ use Rattle.replay_run.specs.WrittenAnswer.{AnswersLines, Numbered, first_after}
 use Rattle.replay_run.specs.Answered.{AnswersInputs, AnswersReader, AppendsFirst, AreRead, IsEndProblem, StopsAfter, StopsAt, StopsAtInput, StopsFor}
 use Rattle.replay_run.specs.Answered.{StopsInputs, StopsReader}
 use Rattle.replay_run.specs.Problem.{IsWrite}
-use Rattle.replay_command.specs.Words.{Word, hyphen, words_at}
-use Rattle.replay_run.specs.Inputs.{NamedInput, held_by, shown_name}
+use Rattle.replay_command.specs.Arguments.{Argument, hyphen, arguments_at}
+use Rattle.replay_run.specs.Inputs.{NamedInput, held_by, input_name}
 use Rattle.replay_run.specs.declared.problem.Problem.{Problem}
 use Rattle.replay_run.specs.declared.lines.Way.{Way}
 use Rattle.replay_run.proofs.AnsweredLines.{answered_twice, first_twice, written_twice}
@@ -31,7 +31,7 @@ lines_push inputs input lines =
     flat_map-append (λ r. r.1) inputs ((input, lines) ∷ []) ∙ ap (λ (l : List Numbered). lines_of inputs ++ l) (append-nil lines)
 
 -- the inputs of these names are answered, and still_first tells whether still nothing is written
-pub record HaveAnswered (File Standard : Type 0) (held : NamedInput File Standard → Option (List ℕ)) (way : Way) (told : Bool) (names : List Word)
+pub record HaveAnswered (File Standard : Type 0) (held : NamedInput File Standard → Option (List ℕ)) (way : Way) (told : Bool) (names : List Argument)
     (still_first : Bool) (old new : Option (List ℕ)) : Type 0 where
   pub all : AnswersInputs File Standard held way told names old new
   pub still : still_first ≡ first_after true (lines_of all.inputs)
@@ -53,7 +53,7 @@ none_answered held way old =
     }
 
 -- with one more input that is answered the inputs so far are answered
-pub one_more_answered : {File Standard : Type 0} (held : NamedInput File Standard → Option (List ℕ)) (way : Way) (told here both : Bool) (names : List Word)
+pub one_more_answered : {File Standard : Type 0} (held : NamedInput File Standard → Option (List ℕ)) (way : Way) (told here both : Bool) (names : List Argument)
     (is_first still_first : Bool) (old mid new : Option (List ℕ)) (input : NamedInput File Standard)
     → HaveAnswered File Standard held way told names is_first old mid
     → AnswersReader way here is_first still_first (held input) mid new → both ≡ told || here
@@ -70,7 +70,7 @@ one_more_answered held way told here both names is_first still_first old mid new
     record {
       all = record {
         inputs = h.all.inputs ++ (input, one.lines) ∷ [];
-        named = map-append (λ i. i.0.name) h.all.inputs ((input, one.lines) ∷ []) ∙ ap (λ (l : List Word). l ++ input.name ∷ []) h.all.named;
+        named = map-append (λ i. i.0.name) h.all.inputs ((input, one.lines) ∷ []) ∙ ap (λ (l : List Argument). l ++ input.name ∷ []) h.all.named;
         read = All-push (λ r. AreRead (held r.0) r.1) h.all.inputs (input, one.lines) h.all.read one.read;
         texts = h.all.texts ++ one.texts;
         answered = subst (λ l. AnswersLines way both true l (h.all.texts ++ one.texts)) (sym pushed) all;
@@ -80,7 +80,7 @@ one_more_answered held way told here both names is_first still_first old mid new
     }
 
 -- a flush afterwards changes nothing
-pub answers_kept : {File Standard : Type 0} (held : NamedInput File Standard → Option (List ℕ)) (way : Way) (told : Bool) (names : List Word)
+pub answers_kept : {File Standard : Type 0} (held : NamedInput File Standard → Option (List ℕ)) (way : Way) (told : Bool) (names : List Argument)
     (old mid new : Option (List ℕ)) → AnswersInputs File Standard held way told names old mid → Keeps mid new
     → AnswersInputs File Standard held way told names old new
 answers_kept held way told names old mid new h kept =
@@ -152,7 +152,7 @@ stopped_kept way is_first held old mid new problem h kept =
       written = part_kept way held old mid new h.lines (concat h.texts) problem h.written kept;
     }
 
-at_kept : {File Standard : Type 0} (held : NamedInput File Standard → Option (List ℕ)) (name : Word) (way : Way) (is_first : Bool)
+at_kept : {File Standard : Type 0} (held : NamedInput File Standard → Option (List ℕ)) (name : Argument) (way : Way) (is_first : Bool)
     (old mid new : Option (List ℕ)) (problem : Problem) → StopsAtInput File Standard held name way is_first old mid problem → Keeps mid new
     → StopsAtInput File Standard held name way is_first old new problem
 at_kept held name way is_first old mid new problem (inl h) kept = inl (Keeps-trans old mid new h.0 kept, h.1)
@@ -160,27 +160,27 @@ at_kept held name way is_first old mid new problem (inr h) kept =
     inr (h.0, h.1, stopped_kept way is_first (held h.0) old mid new problem h.2 kept)
 
 -- the names before a place, the one there, and those after it
-pub names_at : (refs : List (Bor Word)) (i : ℕ) (d : Bor Word) → i < length refs
-    → (after : List Word) × (words_at refs ≡ words_at (take i refs) ++ (slice_index_or refs i d).now ∷ after)
+pub names_at : (refs : List (Bor Argument)) (i : ℕ) (d : Bor Argument) → i < length refs
+    → (after : List Argument) × (arguments_at refs ≡ arguments_at (take i refs) ++ (slice_index_or refs i d).now ∷ after)
 names_at [] i d within = absurd (omega (arith, within))
-names_at (r ∷ refs) zero d within = (words_at refs, refl)
+names_at (r ∷ refs) zero d within = (arguments_at refs, refl)
 names_at (r ∷ refs) (suc i) d within =
     let (after, split) = names_at refs i d (omega (arith, within)) in
-    (after, ap (λ (l : List Word). r.now ∷ l) split)
+    (after, ap (λ (l : List Argument). r.now ∷ l) split)
 
 -- the names up to a place, and the one there
-pub names_more : (refs : List (Bor Word)) (i : ℕ) (d : Bor Word) → i < length refs
-    → words_at (take (i + 1) refs) ≡ words_at (take i refs) ++ (slice_index_or refs i d).now ∷ []
-names_more refs i d within = map_more (λ (w : Bor Word). w.now) refs i d within
+pub names_more : (refs : List (Bor Argument)) (i : ℕ) (d : Bor Argument) → i < length refs
+    → arguments_at (take (i + 1) refs) ≡ arguments_at (take i refs) ++ (slice_index_or refs i d).now ∷ []
+names_more refs i d within = map_more (λ (w : Bor Argument). w.now) refs i d within
 
 -- all names
-pub names_all : (refs : List (Bor Word)) (i : ℕ) → i ≡ length refs → words_at (take i refs) ≡ words_at refs
-names_all refs i all = ap words_at (take_all i refs (omega (arith, all)))
+pub names_all : (refs : List (Bor Argument)) (i : ℕ) → i ≡ length refs → arguments_at (take i refs) ≡ arguments_at refs
+names_all refs i all = ap arguments_at (take_all i refs (omega (arith, all)))
 
 -- with the inputs of the first names answered it stops at the next
-pub stops_next : {File Standard : Type 0} (held : NamedInput File Standard → Option (List ℕ)) (way : Way) (told : Bool) (names before after : List Word)
-    (name called : Word) (is_first : Bool) (old mid new : Option (List ℕ)) (problem : Problem)
-    → HaveAnswered File Standard held way told before is_first old mid → names ≡ before ++ name ∷ after → called ≡ shown_name name
+pub stops_next : {File Standard : Type 0} (held : NamedInput File Standard → Option (List ℕ)) (way : Way) (told : Bool) (names before after : List Argument)
+    (name called : Argument) (is_first : Bool) (old mid new : Option (List ℕ)) (problem : Problem)
+    → HaveAnswered File Standard held way told before is_first old mid → names ≡ before ++ name ∷ after → called ≡ input_name name
     → StopsAtInput File Standard held name way is_first mid new problem → StopsInputs File Standard held way names old new called problem
 stops_next {File} {Standard} held way told names before after name called is_first old mid new problem h split call stops =
     record {
@@ -192,7 +192,7 @@ stops_next {File} {Standard} held way told names before after name called is_fir
     }
 
 -- it stops where all inputs are answered: as the last flush fails, or as a line was no case
-pub all_stop : {File Standard : Type 0} (held : NamedInput File Standard → Option (List ℕ)) (way : Way) (told : Bool) (names : List Word)
+pub all_stop : {File Standard : Type 0} (held : NamedInput File Standard → Option (List ℕ)) (way : Way) (told : Bool) (names : List Argument)
     (old mid new : Option (List ℕ)) (problem : Problem) → AnswersInputs File Standard held way told names old mid
     → Keeps mid new → IsEndProblem told problem → StopsInputs File Standard held way names old new (codes "standard output") problem
 all_stop held way told names old mid new problem h kept end =
@@ -204,12 +204,12 @@ all_stop held way told names old mid new problem h kept end =
       stops = inr (refl, refl, end, kept);
     }
 
-pub stops_kept : {File Standard : Type 0} (held : NamedInput File Standard → Option (List ℕ)) (way : Way) (names : List Word)
-    (old mid new : Option (List ℕ)) (called : Word) (problem : Problem) → StopsInputs File Standard held way names old mid called problem → Keeps mid new
+pub stops_kept : {File Standard : Type 0} (held : NamedInput File Standard → Option (List ℕ)) (way : Way) (names : List Argument)
+    (old mid new : Option (List ℕ)) (called : Argument) (problem : Problem) → StopsInputs File Standard held way names old mid called problem → Keeps mid new
     → StopsInputs File Standard held way names old new called problem
 stops_kept {File} {Standard} held way names old mid new called problem h kept = kept_at h.stops
   where
-    kept_at : ((name : Word) × (after : List Word) × (names ≡ h.before ++ name ∷ after) × (called ≡ shown_name name)
+    kept_at : ((name : Argument) × (after : List Argument) × (names ≡ h.before ++ name ∷ after) × (called ≡ input_name name)
         × StopsAtInput File Standard held name way (first_after true (lines_of h.answered.inputs)) h.mid mid problem)
         ⊎ ((names ≡ h.before) × (called ≡ codes "standard output") × IsEndProblem h.told problem × Keeps h.mid mid)
         → StopsInputs File Standard held way names old new called problem
@@ -232,12 +232,12 @@ stops_kept {File} {Standard} held way names old mid new called problem h kept = 
 
 -- ---- of an input that is a file, or standard input
 
--- a word that a test tells from a hyphen is none
-pub no_hyphen : (name : Word) → bytes_eq name hyphen ≡ false → name ≡ hyphen → ⊥
-no_hyphen name differs is = false≢true (sym differs ∙ ap (λ (word : Word). bytes_eq word hyphen) is)
+-- an argument that a test tells from a hyphen is none
+pub no_hyphen : (name : Argument) → bytes_eq name hyphen ≡ false → name ≡ hyphen → ⊥
+no_hyphen name differs is = false≢true (sym differs ∙ ap (λ (argument : Argument). bytes_eq argument hyphen) is)
 
 -- what is answered of a file is answered of the input of its name, which is no hyphen
-pub file_answered : {File Standard : Type 0} (file : File → Option (List ℕ)) (standard : Standard → Option (List ℕ)) (name : Word) (way : Way)
+pub file_answered : {File Standard : Type 0} (file : File → Option (List ℕ)) (standard : Standard → Option (List ℕ)) (name : Argument) (way : Way)
     (told is_first still_first : Bool) (old new : Option (List ℕ)) → (name ≡ hyphen → ⊥)
     → (source : File) × AnswersReader way told is_first still_first (file source) old new
     → (input : NamedInput File Standard) × (input.name ≡ name) × AnswersReader way told is_first still_first (held_by file standard input) old new
@@ -245,7 +245,7 @@ file_answered file standard name way told is_first still_first old new other (so
     (record { name = name; source = inl source; is = other }, refl, answered)
 
 -- the same of standard input, whose name is one
-pub standard_answered : {File Standard : Type 0} (file : File → Option (List ℕ)) (standard : Standard → Option (List ℕ)) (name : Word) (way : Way)
+pub standard_answered : {File Standard : Type 0} (file : File → Option (List ℕ)) (standard : Standard → Option (List ℕ)) (name : Argument) (way : Way)
     (told is_first still_first : Bool) (old new : Option (List ℕ)) → name ≡ hyphen
     → (source : Standard) × AnswersReader way told is_first still_first (standard source) old new
     → (input : NamedInput File Standard) × (input.name ≡ name) × AnswersReader way told is_first still_first (held_by file standard input) old new
@@ -253,14 +253,14 @@ standard_answered file standard name way told is_first still_first old new is (s
     (record { name = name; source = inr source; is = is }, refl, answered)
 
 -- where it stops at a file it stops at the input of its name
-pub file_stops : {File Standard : Type 0} (file : File → Option (List ℕ)) (standard : Standard → Option (List ℕ)) (name : Word) (way : Way)
+pub file_stops : {File Standard : Type 0} (file : File → Option (List ℕ)) (standard : Standard → Option (List ℕ)) (name : Argument) (way : Way)
     (is_first : Bool) (old new : Option (List ℕ)) (problem : Problem) → (name ≡ hyphen → ⊥) → StopsAt File file way is_first old new problem
     → StopsAtInput File Standard (held_by file standard) name way is_first old new problem
 file_stops file standard name way is_first old new problem other (inl h) = inl h
 file_stops file standard name way is_first old new problem other (inr h) =
     inr (record { name = name; source = inl h.0; is = other }, refl, h.1)
 
-pub standard_stops : {File Standard : Type 0} (file : File → Option (List ℕ)) (standard : Standard → Option (List ℕ)) (name : Word) (way : Way)
+pub standard_stops : {File Standard : Type 0} (file : File → Option (List ℕ)) (standard : Standard → Option (List ℕ)) (name : Argument) (way : Way)
     (is_first : Bool) (old new : Option (List ℕ)) (problem : Problem) → name ≡ hyphen → StopsAt Standard standard way is_first old new problem
     → StopsAtInput File Standard (held_by file standard) name way is_first old new problem
 standard_stops file standard name way is_first old new problem is (inl h) = inl h

@@ -10,8 +10,8 @@ use Rattle.std.specs.List.{concat}
 use Rattle.std.specs.declared.alloc.Global.{Global}
 use Rattle.std.proofs.lemmas.List.{append-nil, length_push}
 use Rattle.std.proofs.lemmas.List.Folds.{concat-append}
-use Rattle.replay_run.specs.WrittenAnswer.{AnswersLine, AnswersLines, AreFirstLines, AreLines, Numbered, first_after, number_after}
-use Rattle.replay_run.specs.Answered.{AnswersReader, AppendsFirst, AreFirstRead, AreRead, StopsAfter, StopsFor, StopsLine, StopsReader, line_after}
+use Rattle.replay_run.specs.WrittenAnswer.{AnswersLine, AnswersLines, AreFirstLines, AreNumberedLines, Numbered, first_after, following_number}
+use Rattle.replay_run.specs.Answered.{AnswersReader, AppendsFirst, AreFirstRead, AreRead, StopsAfter, StopsFor, StopsLine, StopsReader, following_line}
 use Rattle.replay_run.specs.Checked.{most}
 use Rattle.replay_run.specs.Problem.{IsProblemWith, IsWrite}
 use Rattle.replay_run.specs.declared.lines.Way.{Way}
@@ -69,7 +69,7 @@ written_twice a b c texts more one two =
 abbrev pub LeavesAfter : (held left : Option (List ℕ)) (lines : List Numbered) → Type 0
 LeavesAfter held left lines =
     IfSome held (λ text. (rest : List ℕ) × (left ≡ Some rest)
-    × ((more : List Numbered) → AreLines (length lines) rest more → AreLines 0 text (lines ++ more))
+    × ((more : List Numbered) → AreNumberedLines (length lines) rest more → AreNumberedLines 0 text (lines ++ more))
     × ((more : List Numbered) → AreFirstLines (length lines) rest more → AreFirstLines 0 text (lines ++ more)))
 
 left_none : (held left : Option (List ℕ)) → left ≡ held → LeavesAfter held left []
@@ -78,7 +78,7 @@ left_none (Some text) left is = (text, is, λ more are. are, λ more are. are)
 
 -- the line after these, with its number
 abbrev next_line : List Numbered → List ℕ → Numbered
-next_line lines line = (number_after (length lines), line)
+next_line lines line = (following_number (length lines), line)
 
 left_more : (held left next : Option (List ℕ)) (lines : List Numbered) (line : List ℕ) → LeavesAfter held left lines → GivesLine left next line
     → LeavesAfter held next (lines ++ next_line lines line ∷ [])
@@ -92,8 +92,8 @@ left_more (Some text) left next lines line h gives =
       rest,
       from.1,
       λ more are.
-          let all = h.2 (here ∷ more) (from.0.0, is, subst (λ n. AreLines n rest more) many are) in
-          subst (AreLines 0 text) (sym (append_assoc lines (here ∷ []) more)) all,
+          let all = h.2 (here ∷ more) (from.0.0, is, subst (λ n. AreNumberedLines n rest more) many are) in
+          subst (AreNumberedLines 0 text) (sym (append_assoc lines (here ∷ []) more)) all,
       λ more are.
           let all = h.3 (here ∷ more) (from.0.0, is, subst (λ n. AreFirstLines n rest more) many are) in
           subst (AreFirstLines 0 text) (sym (append_assoc lines (here ∷ []) more)) all,
@@ -103,7 +103,7 @@ left_all : (held left : Option (List ℕ)) (lines : List Numbered) → LeavesAft
 left_all None left lines h end = tt
 left_all (Some text) left lines h end =
     let at_end : IsAtEnd (Some h.0) = subst IsAtEnd h.1 end in
-    subst (AreLines 0 text) (append-nil lines) (h.2 [] at_end)
+    subst (AreNumberedLines 0 text) (append-nil lines) (h.2 [] at_end)
 
 left_first : (held left : Option (List ℕ)) (lines : List Numbered) → LeavesAfter held left lines → AreFirstRead held lines
 left_first None left lines h = tt
@@ -143,7 +143,7 @@ answer_after : (way : Way) (here is_first still_first : Bool) (number more : ℕ
     → more ≡ min (number + 1) most → still_first ≡ first_after is_first lines → AnswersLine way here still_first (more, line) text
     → AnswersLines way here (first_after is_first lines) (next_line lines line ∷ []) (text ∷ [])
 answer_after way here is_first still_first number more lines line text counted step still answers =
-    let same : more ≡ number_after (length lines) = next_number (length lines) number more counted step in
+    let same : more ≡ following_number (length lines) = next_number (length lines) number more counted step in
     let first : AnswersLine way here (first_after is_first lines) (more, line) text = subst (λ f. AnswersLine way here f (more, line) text) still answers in
     (here, false, or_false here, subst (λ n. AnswersLine way here (first_after is_first lines) (n, line) text) same first, refl)
 
@@ -244,7 +244,8 @@ stops_in way told here is_first still_first number more held left next old mid n
 -- a line that is no case stands after the lines so far
 problem_after : {E : Type 0} (held left next : Option (List ℕ)) (lines : List Numbered) (at : Line) (line : Result (String Global) E) (problem : Problem)
     → LeavesAfter held left lines
-    → YieldsKnownPiece string_bytes first_line 10 left (Some line) next → at ≡ line_after lines → IsProblemWith at line problem → StopsAfter held lines problem
+    → YieldsKnownPiece string_bytes first_line 10 left (Some line) next → at ≡ following_line lines → IsProblemWith at line problem
+    → StopsAfter held lines problem
 problem_after held left next lines at line (NotText place) h gives at_is with = with ∙ at_is
 problem_after held left next lines at (Ok x) (NotJson place column ends_early) h gives at_is with = (
   with.0 ∙ at_is,

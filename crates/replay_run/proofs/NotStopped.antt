@@ -6,7 +6,7 @@ use Rattle.serde_json.specs.Written.{compact_text}
 use Rattle.replay_run.specs.WrittenAnswer.{AnswersLine, AnswersLines, AreFirstLines, Numbered}
 use Rattle.replay_answer.specs.Answer.{answer_of, told_of}
 use Rattle.replay_run.specs.Answered.{AppendsFirst, StopsAfter, StopsFor, StopsReader}
-use Rattle.replay_answer.specs.Answer.{column_text}
+use Rattle.replay_answer.specs.Answer.{not_json_text}
 use Rattle.replay_run.specs.Problem.{IsWrite}
 use Rattle.replay_run.specs.declared.lines.Form.TheVariants.{Json}
 use Rattle.replay_run.specs.declared.lines.Way.{Way}
@@ -96,7 +96,7 @@ stopped_all_the_same is_first held old new at h = written h.written
     written : (IsWrite (NotJson at 1 false) × AppendsFirst old new (concat h.texts))
         ⊎ (Appends old new (concat h.texts) × StopsAfter held h.lines (NotJson at 1 false) × StopsFor (json true) (NotJson at 1 false)) → ⊥
     written (inl w) = let never = w.0.1 in cc
-    written (inr w) = w.2 refl (column_text 1 false) refl
+    written (inr w) = w.2 refl (not_json_text 1 false) refl
 
 -- a line that is no case is answered by its own number: the first line of a reader isn't told as line 2
 pub told_by_another_number : (way : Way) (told is_first : Bool) (text : List ℕ) (line : List ℕ) (texts : List (List ℕ))

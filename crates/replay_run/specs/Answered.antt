@@ -8,10 +8,10 @@ use Rattle.std.specs.declared.alloc.Global.{Global}
 use Rattle.std.specs.List.{concat, flat_map}
 use Rattle.serde_json.specs.Data.{Data}
 use Rattle.serde_json.specs.Read.{read}
-use Rattle.replay_run.specs.WrittenAnswer.{AreFirstLines, AreLines, AnswersLine, AnswersLines, Numbered, first_after, number_after}
+use Rattle.replay_run.specs.WrittenAnswer.{AreFirstLines, AreNumberedLines, AnswersLine, AnswersLines, Numbered, first_after, following_number}
 use Rattle.replay_run.specs.Problem.{IsFinal, IsRead, IsProblemWith, IsWrite}
-use Rattle.replay_command.specs.Words.{Word}
-use Rattle.replay_run.specs.Inputs.{NamedInput, shown_name}
+use Rattle.replay_command.specs.Arguments.{Argument}
+use Rattle.replay_run.specs.Inputs.{NamedInput, input_name}
 use Rattle.replay_run.specs.declared.lines.Way.{Way}
 use Rattle.replay_run.specs.declared.problem.Line.{Line}
 use Rattle.replay_run.specs.declared.problem.Line.TheVariants.{Case}
@@ -20,7 +20,7 @@ use Rattle.replay_run.specs.declared.problem.Problem.TheVariants.{NotText, NotJs
 
 -- the lines that were read of what a reader holds: all its lines, where it is known what it holds
 abbrev pub AreRead : Option (List ℕ) → List Numbered → Type 0
-AreRead held lines = IfSome held (λ text. AreLines 0 text lines)
+AreRead held lines = IfSome held (λ text. AreNumberedLines 0 text lines)
 
 -- a reader's lines are answered: to what a writer held, the texts that answer them are added, and nothing else; `told` says whether one
 -- of them tells that its line is no case. Before, is_first told whether nothing was written yet; afterwards, still_first does
@@ -34,7 +34,7 @@ pub record AnswersReader (way : Way) (told : Bool) (is_first still_first : Bool)
 
 -- the inputs of these names are answered, by what each of them holds: to what a writer held, the texts that answer their lines are added, of
 -- one input after another, and nothing else. The first text is the first that is written
-pub record AnswersInputs (File Standard : Type 0) (held : NamedInput File Standard → Option (List ℕ)) (way : Way) (told : Bool) (names : List Word)
+pub record AnswersInputs (File Standard : Type 0) (held : NamedInput File Standard → Option (List ℕ)) (way : Way) (told : Bool) (names : List Argument)
     (old new : Option (List ℕ)) : Type 0 where
   pub inputs : List (NamedInput File Standard × List Numbered)
   pub named : map (λ input. input.0.name) inputs ≡ names
@@ -67,17 +67,17 @@ StopsLine way is_first number line old new problem =
     ⊎ (Keeps old new × IsProblemWith (Case number) line problem × StopsFor way problem)
 
 -- the line after these, by its number, as far as can be counted
-abbrev pub line_after : List Numbered → Line
-line_after lines = Case (number_after (length lines))
+abbrev pub following_line : List Numbered → Line
+following_line lines = Case (following_number (length lines))
 
 -- it stops at the line after these, which is no case: it is no text, or no JSON, or JSON that describes none; or what the reader holds
 -- couldn't be read any further, or there was no memory
 abbrev pub StopsAfter : Option (List ℕ) → List Numbered → Problem → Type 0
-StopsAfter held lines (NotText place) = place ≡ line_after lines
+StopsAfter held lines (NotText place) = place ≡ following_line lines
 StopsAfter held lines (NotJson place column ends_early) =
-    (place ≡ line_after lines) × (line : List ℕ) × AreFirstRead held (lines ++ (number_after (length lines), line) ∷ []) × (read line ≡ None)
+    (place ≡ following_line lines) × (line : List ℕ) × AreFirstRead held (lines ++ (following_number (length lines), line) ∷ []) × (read line ≡ None)
 StopsAfter held lines (Wrong place words) =
-    (place ≡ line_after lines) × (line : List ℕ) × AreFirstRead held (lines ++ (number_after (length lines), line) ∷ [])
+    (place ≡ following_line lines) × (line : List ℕ) × AreFirstRead held (lines ++ (following_number (length lines), line) ∷ [])
     × (d : Data) × (read line ≡ Some d)
 StopsAfter held lines (Unpaired number) = ⊥
 StopsAfter held lines TooManyLines = ⊥
@@ -104,7 +104,7 @@ StopsAt Reader bytes way is_first old new problem =
     (Keeps old new × IsRead problem) ⊎ ((reader : Reader) × StopsReader way is_first (bytes reader) old new problem)
 
 -- answering stops at the input of this name, which can't be had, or within it
-abbrev pub StopsAtInput : (File Standard : Type 0) → (NamedInput File Standard → Option (List ℕ)) → Word → Way → Bool → Option (List ℕ) → Option (List ℕ)
+abbrev pub StopsAtInput : (File Standard : Type 0) → (NamedInput File Standard → Option (List ℕ)) → Argument → Way → Bool → Option (List ℕ) → Option (List ℕ)
     → Problem → Type 0
 StopsAtInput File Standard held name way is_first old new problem =
     (Keeps old new × IsRead problem)
@@ -116,12 +116,12 @@ IsEndProblem told problem = IsWrite problem ⊎ (IsTrue told × (problem ≡ Not
 
 -- answering the inputs of these names stops with what is called so: those of the first names are answered, each to its end, and it stops at
 -- the next; or all are answered, and there is problem with that
-pub record StopsInputs (File Standard : Type 0) (held : NamedInput File Standard → Option (List ℕ)) (way : Way) (names : List Word) (old new : Option (List ℕ))
-    (called : Word) (problem : Problem) : Type 0 where
-  pub before : List Word
+pub record StopsInputs (File Standard : Type 0) (held : NamedInput File Standard → Option (List ℕ)) (way : Way) (names : List Argument)
+    (old new : Option (List ℕ)) (called : Argument) (problem : Problem) : Type 0 where
+  pub before : List Argument
   pub mid : Option (List ℕ)
   pub told : Bool
   pub answered : AnswersInputs File Standard held way told before old mid
-  pub stops : ((name : Word) × (after : List Word) × (names ≡ before ++ name ∷ after) × (called ≡ shown_name name)
+  pub stops : ((name : Argument) × (after : List Argument) × (names ≡ before ++ name ∷ after) × (called ≡ input_name name)
       × StopsAtInput File Standard held name way (first_after true (flat_map (λ input. input.1) answered.inputs)) mid new problem)
       ⊎ ((names ≡ before) × (called ≡ codes "standard output") × IsEndProblem told problem × Keeps mid new)

@@ -1,14 +1,14 @@
 -- What a comparison of files ends with.
 use Rattle.std.specs.Prelude.{◌≡◌, ◌↔◌, ℕ, ◌/◌, List, [], ◌++◌, Option, codes, decimal}
 use Rattle.std.specs.Io.KnownBytes.{Appends}
-use Rattle.replay_run.specs.WrittenAnswer.{line_of}
+use Rattle.replay_run.specs.WrittenAnswer.{ended_line}
 use Rattle.replay_run.specs.Checked.{CountsFiles}
 use Rattle.replay_run.specs.declared.check.Counts.{Counts}
 
 -- the line that tells counts
 abbrev pub count_line : Counts → List ℕ
 count_line counts =
-    line_of (decimal counts.passed ++ codes " passed, " ++ decimal counts.failed ++ codes " failed")
+    ended_line (decimal counts.passed ++ codes " passed, " ++ decimal counts.failed ++ codes " failed")
 
 -- the end of a comparison of this many files, two by two: what a writer held before and holds then, and the status. The last line that
 -- is written tells the counts, and nothing else is written where no case failed; that is where the status is 0

@@ -1,7 +1,7 @@
 -- What a command line has replay do, and what is read for it.
 use Rattle.std.specs.Prelude.{◌≡◌, ◌⊎◌, ℕ, Bool, true, false, List, Option, codes, if◌then◌else◌, bytes_eq}
 use Rattle.std.proofs.Common.{inl, inr}
-use Rattle.replay_command.specs.Words.{Answers, AsksFor, Checks, Task, Word, hyphen, words_at}
+use Rattle.replay_command.specs.Arguments.{Answers, AsksFor, Checks, Task, Argument, hyphen, arguments_at}
 use Rattle.replay_command.specs.declared.command.Command.{Command}
 use Rattle.replay_command.specs.declared.command.Command.TheVariants.{Answer, Check, Repeat}
 use Rattle.replay_run.specs.declared.lines.Form.{Form}
@@ -15,32 +15,32 @@ abbrev pub are_texts : Form → Bool
 are_texts Json = false
 are_texts Texts = true
 
-abbrev pub form_of : Bool → Form
-form_of texts = if texts then Texts else Json
+abbrev pub form_asked : Bool → Form
+form_asked texts = if texts then Texts else Json
 
 -- how lines are answered as texts or not, and past lines that are no cases or not
 abbrev pub way_of : Bool → Bool → Way
-way_of texts keep_going = record { form = form_of texts; keep_going = keep_going }
+way_of texts keep_going = record { form = form_asked texts; keep_going = keep_going }
 
 -- answers of this kind to the cases of these inputs
-abbrev pub answers : Way → List Word → Task
+abbrev pub answers : Way → List Argument → Task
 answers way names = Answers (are_texts way.form) way.keep_going names
 
--- the words ask for that
-abbrev pub AsksAnswers : List Word → Way → List Word → Type 0
-AsksAnswers words way names = AsksFor words (answers way names)
+-- the arguments ask for that
+abbrev pub AsksAnswers : List Argument → Way → List Argument → Type 0
+AsksAnswers args way names = AsksFor args (answers way names)
 
--- the words ask for a comparison of these files
-abbrev pub AsksComparison : List Word → List Word → Type 0
-AsksComparison words files = AsksFor words (Checks files)
+-- the arguments ask for a comparison of these files
+abbrev pub AsksComparison : List Argument → List Argument → Type 0
+AsksComparison args files = AsksFor args (Checks files)
 
-abbrev pub Compares : List Word → Type 0
-Compares words = (files : List Word) × AsksComparison words files
+abbrev pub Compares : List Argument → Type 0
+Compares args = (files : List Argument) × AsksComparison args files
 
 -- P holds of the files that the command compares, if it does
-abbrev pub IfComparison : Command → (List Word → Type 0) → Type 0
+abbrev pub IfComparison : Command → (List Argument → Type 0) → Type 0
 IfComparison (Answer texts keep_going inputs) P = Unit {0}
-IfComparison (Check files) P = P (words_at files.now)
+IfComparison (Check files) P = P (arguments_at files.now)
 IfComparison (Repeat times inputs) P = Unit {0}
 
 -- the command compares files
@@ -50,21 +50,21 @@ IsComparison (Check files) = Unit {0}
 IsComparison (Repeat times inputs) = ⊥
 
 -- P holds of the kind of the answers and of the inputs whose cases the command answers, if it does
-abbrev pub IfAnswers : Command → (Way → List Word → Type 0) → Type 0
-IfAnswers (Answer texts keep_going inputs) P = P (way_of texts keep_going) (words_at inputs.now)
+abbrev pub IfAnswers : Command → (Way → List Argument → Type 0) → Type 0
+IfAnswers (Answer texts keep_going inputs) P = P (way_of texts keep_going) (arguments_at inputs.now)
 IfAnswers (Check files) P = Unit {0}
 IfAnswers (Repeat times inputs) P = Unit {0}
 
 -- ---- what is read
 
--- what a word names: standard input where it is a hyphen, and a file where it isn't
-abbrev pub IsNamed : {File Standard : Type 0} → Word → File ⊎ Standard → Type 0
-IsNamed word (inl file) = word ≡ hyphen → ⊥
-IsNamed word (inr standard) = word ≡ hyphen
+-- what an argument names: standard input where it is a hyphen, and a file where it isn't
+abbrev pub IsNamed : {File Standard : Type 0} → Argument → File ⊎ Standard → Type 0
+IsNamed argument (inl file) = argument ≡ hyphen → ⊥
+IsNamed argument (inr standard) = argument ≡ hyphen
 
--- an input, by the word that names it
+-- an input, by the argument that names it
 pub record NamedInput (File Standard : Type 0) : Type 0 where
-  pub name : Word
+  pub name : Argument
   pub source : File ⊎ Standard
   pub is : IsNamed name source
 
@@ -78,5 +78,5 @@ abbrev pub held_by : {File Standard : Type 0} → (File → Option (List ℕ)) �
 held_by file standard input = source_held file standard input.source
 
 -- how an input is called where something is told of it
-abbrev pub shown_name : Word → Word
-shown_name word = if bytes_eq word hyphen then codes "standard input" else word
+abbrev pub input_name : Argument → Argument
+input_name argument = if bytes_eq argument hyphen then codes "standard input" else argument

@@ -1,29 +1,29 @@
 -- What stops a run, and what is told of it.
-use Rattle.std.specs.Prelude.{◌≡◌, ◌⊎◌, ℕ, Bool, List, ◌++◌, Option, Some, None, Result, String, IsOkAnd, chars, codes, decimal, encode_utf8_all, if◌then◌else◌}
+use Rattle.std.specs.Prelude.{◌≡◌, ◌⊎◌, ℕ, Bool, List, ◌++◌, Option, Some, None, Result, String, IsOkAnd, codes, decimal, if◌then◌else◌}
 use Rattle.std.specs.Prelude.{string_bytes}
 use Rattle.std.specs.declared.alloc.Global.{Global}
 use Rattle.std.specs.declared.io.Error.{Error}
-use Rattle.annotate_snippets.specs.Normalized.{norm}
-use Rattle.program.specs.Stream.{Output, Told, line_of}
+pub use Rattle.program.specs.Stream.{normalized_text}
+use Rattle.program.specs.Stream.{Output, Told, ended_line}
 use Rattle.serde_json.specs.Data.{Data}
 use Rattle.serde_json.specs.Read.{read}
-use Rattle.replay_answer.specs.Answer.{column_text}
+use Rattle.replay_answer.specs.Answer.{not_json_text}
 use Rattle.replay_run.specs.declared.problem.Line.{Line}
 use Rattle.replay_run.specs.declared.problem.Line.TheVariants.{Case, Expected}
 use Rattle.replay_run.specs.declared.problem.Problem.{Problem}
 use Rattle.replay_run.specs.declared.problem.Problem.TheVariants.{NotText, NotJson, Wrong, Unpaired, TooManyLines, NotCases, Read, Clock, Write, Memory}
-use Rattle.replay_command.specs.Words.{Word}
+use Rattle.replay_command.specs.Arguments.{Argument}
 use Rattle.replay_run.specs.Growth.{AppendsOrPart}
 
 -- a line, by its number
-abbrev pub line_text : Line → List ℕ
-line_text (Case number) = codes "line " ++ decimal number
-line_text (Expected number) = codes "line " ++ (decimal number ++ codes " of what is expected")
+abbrev pub line_label : Line → List ℕ
+line_label (Case number) = codes "line " ++ decimal number
+line_label (Expected number) = codes "line " ++ (decimal number ++ codes " of what is expected")
 
 -- what is told of a line that isn't JSON from a column on, or that ends before it is
 abbrev pub json_text : Line → ℕ → Bool → List ℕ
 json_text line column ends_early =
-    line_text line ++ (codes ", column " ++ (decimal column ++ (if ends_early then codes ": not valid JSON: it ends too early" else codes ": not valid JSON")))
+    line_label line ++ (codes ", column " ++ (decimal column ++ (if ends_early then codes ": not valid JSON: it ends too early" else codes ": not valid JSON")))
 
 -- what is told where there is a case at a line or an answer, and not both
 abbrev pub unpaired_text : ℕ → List ℕ
@@ -32,9 +32,9 @@ unpaired_text number =
 
 -- what is told of problem, where this is what the system says of it
 abbrev pub problem_text : Problem → List ℕ → List ℕ
-problem_text (NotText line) said = line_text line ++ codes ": not valid UTF-8"
+problem_text (NotText line) said = line_label line ++ codes ": not valid UTF-8"
 problem_text (NotJson line column ends_early) said = json_text line column ends_early
-problem_text (Wrong line words) said = line_text line ++ (codes ": " ++ string_bytes words)
+problem_text (Wrong line words) said = line_label line ++ (codes ": " ++ string_bytes words)
 problem_text (Unpaired number) said = unpaired_text number
 problem_text TooManyLines said = codes "too many lines"
 problem_text NotCases said = codes "not each line was a case"
@@ -44,25 +44,21 @@ problem_text (Write error) said = codes "cannot write: " ++ said
 problem_text Memory said = codes "out of memory"
 
 -- what is told where problem with what has this name stops a run
-abbrev pub stop_text : Word → Problem → List ℕ → List ℕ
+abbrev pub stop_text : Argument → Problem → List ℕ → List ℕ
 stop_text name problem said = codes "replay: " ++ (name ++ (codes ": " ++ problem_text problem said))
 
--- a text as a message shows it: what is listed in it is replaced
-abbrev pub shown : List ℕ → List ℕ
-shown text = encode_utf8_all (norm (chars text))
-
 -- that is told; or that there was no memory for it
-abbrev pub TellsStop : Word → Problem → (Output → Type 0) → Type 0
+abbrev pub TellsStop : Argument → Problem → (Output → Type 0) → Type 0
 TellsStop name problem Err =
-    ((said : List ℕ) × Err (Told (shown (stop_text name problem said)))) ⊎ Err (Told (codes "replay: out of memory"))
+    ((said : List ℕ) × Err (Told (normalized_text (stop_text name problem said)))) ⊎ Err (Told (codes "replay: out of memory"))
 
 -- that there was no memory is told
 abbrev pub TellsMemory : Option (List ℕ) → Option (List ℕ) → Type 0
-TellsMemory old new = AppendsOrPart old new (line_of (codes "replay: out of memory"))
+TellsMemory old new = AppendsOrPart old new (ended_line (codes "replay: out of memory"))
 
--- what is wrong with words is told, by a text as it may be shown; or that there was no memory for it
+-- what is wrong with arguments is told, by a text as it may be shown; or that there was no memory for it
 abbrev pub TellsUsageError : Option (List ℕ) → Option (List ℕ) → Type 0
-TellsUsageError old new = ((text : List ℕ) × AppendsOrPart old new (shown text)) ⊎ TellsMemory old new
+TellsUsageError old new = ((text : List ℕ) × AppendsOrPart old new (normalized_text text)) ⊎ TellsMemory old new
 
 -- the problem is a write that failed
 abbrev pub IsWrite : Problem → Type 0
@@ -90,7 +86,7 @@ IsProblemWith at line Memory = Unit {0}
 -- the problem is told by these words without the line that it is with, which isn't JSON, or JSON that describes none
 abbrev pub IsFault : Problem → List ℕ → Type 0
 IsFault (NotText place) told = ⊥
-IsFault (NotJson place column ends_early) told = told ≡ column_text column ends_early
+IsFault (NotJson place column ends_early) told = told ≡ not_json_text column ends_early
 IsFault (Wrong place words) told = told ≡ string_bytes words
 IsFault (Unpaired number) told = ⊥
 IsFault TooManyLines told = ⊥

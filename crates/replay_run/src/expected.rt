@@ -2,7 +2,7 @@
 
 ghost use Rattle.std.specs.Prelude.{◌≡◌, ◌↔◌, IsTrue, IfOk, OnOk, map, string_bytes};
 ghost use Rattle.serde_json.specs.View.{view};
-ghost use Rattle.replay_run.specs.Expected.{IsExpectedOf, IsMet, IsWanted, IsWantedOf, texts_at};
+ghost use Rattle.replay_run.specs.Expected.{IsExpectedOf, IsMet, IsWanted, IsWantedOf, texts_lent};
 ghost use Rattle.replay_run.specs.Growth.{Grows};
 
 use crate::lines::write_line;
@@ -91,7 +91,7 @@ fn is_wanted(wanted: &Wanted<'_>, outcome: &Outcome) -> bool
 
 /// Whether the texts are equal, one by one.
 fn are_equal(wanted: &[&str], texts: &[String]) -> bool
-    ensures equal { IsTrue result ↔ (texts_at wanted.now ≡ map string_bytes texts.now) }
+    ensures equal { IsTrue result ↔ (texts_lent wanted.now ≡ map string_bytes texts.now) }
 {
     if wanted.len() != texts.len() {
         return false;

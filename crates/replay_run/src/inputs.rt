@@ -2,7 +2,7 @@
 
 ghost use Rattle.std.specs.Prelude.{◌≡◌, ◌⊎◌, OnOk, IfErr, IfOk};
 ghost use Rattle.std.specs.Io.Buffered.{reader_inner, reader_remaining};
-ghost use Rattle.replay_command.specs.Words.{words_at};
+ghost use Rattle.replay_command.specs.Arguments.{arguments_at};
 ghost use Rattle.replay_run.specs.Answered.{AnswersInputs, AnswersReader, StopsAt, StopsAtInput, StopsInputs};
 ghost use Rattle.replay_run.specs.Checked.{CountsLines};
 ghost use Rattle.replay_run.specs.Growth.{Grows};
@@ -24,7 +24,7 @@ const INPUT: &str = "standard input";
 
 /// How an input is called where something is told of it.
 pub fn shown_name<'a>(name: &'a str) -> &'a str
-    ensures value { result.now ≡ spec.shown_name name.now }
+    ensures value { result.now ≡ spec.input_name name.now }
 {
     if name == "-" { INPUT } else { name }
 }
@@ -37,9 +37,9 @@ pub fn answer_inputs<'a, R: Files + Input + AllocGlobal, W: Write>(
     out: &mut W,
 ) -> Result<bool, Stop<'a>>
     ensures answers { IfOk result (λ told. AnswersInputs R.File R.Reader (held_by R.File.remaining R.Reader.remaining)
-        way told (words_at names.now) (W.contents out.old) (W.contents out.new)) }
+        way told (arguments_at names.now) (W.contents out.old) (W.contents out.new)) }
     ensures stops { IfErr result (λ stop. StopsInputs R.File R.Reader (held_by R.File.remaining R.Reader.remaining)
-        way (words_at names.now) (W.contents out.old) (W.contents out.new) stop.file.now stop.problem) }
+        way (arguments_at names.now) (W.contents out.old) (W.contents out.new) stop.file.now stop.problem) }
 {
     let mut is_first = true;
     let mut told = false;

@@ -1,4 +1,4 @@
-//! What the program `replay` does, over words, files and writers: reports as JSON lines, drawn, compared and timed.
+//! What the program `replay` does, over arguments, files and writers: reports as JSON lines, drawn, compared and timed.
 #![tactic(auto)]
 
 pub mod check;

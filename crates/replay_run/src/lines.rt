@@ -9,7 +9,8 @@ ghost use Rattle.serde_json.specs.Read.{read};
 ghost use Rattle.serde_json.specs.View.{view};
 ghost use Rattle.serde_json.specs.Written.{compact_text};
 ghost use Rattle.replay_answer.specs.Answer.{answer_of, told_of};
-ghost use Rattle.replay_run.specs.WrittenAnswer.{AnswersCase, AnswersLine, AnswersValue, answer_text, gap, line_of};
+ghost use Rattle.replay_run.specs.WrittenAnswer.{AnswersCaseAs, AnswersLine, AnswersValue, answer_text, gap};
+ghost use Rattle.replay_run.specs.WrittenAnswer.{ended_line};
 ghost use Rattle.replay_run.specs.WrittenAnswer.{outcome_text};
 ghost use Rattle.replay_run.specs.WrittenAnswer.{told_text};
 ghost use Rattle.replay_run.specs.Answered.{AnswersReader, StopsFor, StopsLine, StopsReader};
@@ -246,7 +247,7 @@ fn text_for(
     is_first: bool,
 ) -> Result<Vec<u8>, Problem>
     ensures answers { IfOk result (λ text. IsOkAnd line (λ line.
-        AnswersCase form is_first (string_bytes line) text.items)) }
+        AnswersCaseAs form is_first (string_bytes line) text.items)) }
     ensures stops { IfErr result (IsProblemWith (Line.Case number) line) }
 {
     match value_of(alloc, Line::Case(number), line) {
@@ -384,7 +385,7 @@ fn write_json<W: Write>(
     out: &mut W,
 ) -> Result<(), Problem>
     ensures line { OnOk result (Appends (W.contents out.old) (W.contents out.new)
-        (line_of (compact_text (answer_of id.now outcome)))) }
+        (ended_line (compact_text (answer_of id.now outcome)))) }
 {
     let line = answer_json(alloc, id, outcome)?;
     write_line(line.as_str(), out).map_err(Problem::Write)
@@ -421,7 +422,7 @@ fn write_gap<W: Write>(is_first: bool, out: &mut W) -> io::Result<()>
 
 /// Writes a line.
 pub fn write_line<W: Write>(line: &str, out: &mut W) -> io::Result<()>
-    ensures line { OnOk result (Appends (W.contents out.old) (W.contents out.new) (line_of line.now)) }
+    ensures line { OnOk result (Appends (W.contents out.old) (W.contents out.new) (ended_line line.now)) }
 {
     out.writeln(line)
 }

@@ -1,7 +1,7 @@
 //! What stops a run, and what is told of it.
 
 ghost use Rattle.std.specs.Prelude.{◌≡◌, ◌⊎◌, ℕ, List, Some, IfErr, IfOk, string_bytes};
-ghost use Rattle.replay_run.specs.Problem.{IsFault, IsFinal, IsMisread, json_text, line_text, problem_text};
+ghost use Rattle.replay_run.specs.Problem.{IsFault, IsFinal, IsMisread, json_text, line_label, problem_text};
 ghost use Rattle.replay_run.specs.Problem.{unpaired_text};
 
 use json_node::fault::Fault;
@@ -56,7 +56,7 @@ impl<T: Drop> From<AllocFailed<T>> for Problem {
 }
 
 impl fmt::Display for Line {
-    ghost output = { λ line. Some (line_text line) };
+    ghost output = { λ line. Some (line_label line) };
 
     fn fmt<W: fmt::Write>(&self, f: &mut fmt::Formatter<W>) -> fmt::Result {
         match self {

@@ -1,4 +1,4 @@
-//! A run of the program: what its words ask for is done, and the status tells how it went.
+//! A run of the program: what its arguments ask for is done, and the status tells how it went.
 
 ghost use Rattle.std.specs.Prelude.{◌≡◌, ◌≢◌, ◌⊎◌, ℕ, ◌≤◌, false, true, Some, None, List, codes, length, IfErr, IfOk};
 ghost use Rattle.std.specs.Prelude.{OnOk};
@@ -6,7 +6,7 @@ ghost use Rattle.std.specs.Io.KnownBytes.{Appends};
 ghost use Rattle.clap.specs.Words.{found_of, kind_of, rows_of};
 ghost use Rattle.clap.specs.declared.error.kind.ErrorKind.TheVariants as kind;
 ghost use Rattle.program.specs.Stream.{Receives};
-ghost use Rattle.replay_command.specs.Words.{AsksToShow, Checks, IsCommandLine, Word, asked, words_at};
+ghost use Rattle.replay_command.specs.Arguments.{AsksToShow, Checks, IsCommandLine, Argument, asked, arguments_at};
 ghost use Rattle.replay_run.specs.Answered.{AnswersInputs, StopsInputs};
 ghost use Rattle.replay_run.specs.Compared.{EndsComparison, count_line};
 ghost use Rattle.replay_run.specs.Growth.{Grows};
@@ -25,8 +25,8 @@ use crate::repeat::{Tally, write_tally};
 use crate::stop::{Stop, or_stop, tell_stop, tell_usage_error};
 use clap::ArgMatches;
 use program::line::write_whole;
+use replay_command::arguments::matches_of;
 use replay_command::command::{Command, command_of};
-use replay_command::words::matches_of;
 use std::alloc::Global;
 use std::io;
 use std::io::Write;
@@ -36,45 +36,45 @@ use std::rt::{Clock, Files};
 const DONE: u8 = 0;
 /// The status of a run that found cases that differ.
 const DIFFERS: u8 = 1;
-/// The status of a run that was stopped, or whose words aren't of the form.
+/// The status of a run that was stopped, or whose arguments aren't of the form.
 const STOPPED: u8 = 2;
 
 /// How standard output is called where something is told of it.
 const OUTPUT: &str = "standard output";
 
-/// Runs what the words ask for, and answers the status to end with.
+/// Runs what the arguments ask for, and answers the status to end with.
 pub fn run<'w, R: Files + Input + Clock + AllocGlobal, W: Write, V: Write>(
     rt: &R,
-    words: &'w [&'w str],
+    args: &'w [&'w str],
     out: &mut W,
     err: &mut V,
 ) -> u8
     ensures status { result ≤ 2 }
     ensures silent { result ≤ 1 → err.new ≡ err.old }
     ensures told { result ≡ 2 → TellsUsageError (V.contents err.old) (V.contents err.new)
-        ⊎ ((name : Word) × (problem : Problem) × TellsStop name problem (Receives V.contents err.old err.new)) }
-    ensures usage { (IsCommandLine (words_at words.now) → ⊥) → result ≡ 2 }
-    ensures no_answer { (IsCommandLine (words_at words.now) → ⊥) → out.new ≡ out.old }
-    ensures differs { result ≡ 1 → Compares (words_at words.now) }
-    ensures compares { result ≤ 1 → (files : List Word) → AsksComparison (words_at words.now) files
+        ⊎ ((name : Argument) × (problem : Problem) × TellsStop name problem (Receives V.contents err.old err.new)) }
+    ensures usage { (IsCommandLine (arguments_at args.now) → ⊥) → result ≡ 2 }
+    ensures no_answer { (IsCommandLine (arguments_at args.now) → ⊥) → out.new ≡ out.old }
+    ensures differs { result ≡ 1 → Compares (arguments_at args.now) }
+    ensures compares { result ≤ 1 → (files : List Argument) → AsksComparison (arguments_at args.now) files
         → EndsComparison R.File R.File.remaining (length files) (W.contents out.old) (W.contents out.new) result }
-    ensures answers { result ≡ 0 → (way : Way) → (names : List Word) → AsksAnswers (words_at words.now) way names
+    ensures answers { result ≡ 0 → (way : Way) → (names : List Argument) → AsksAnswers (arguments_at args.now) way names
         → AnswersInputs R.File R.Reader (held_by R.File.remaining R.Reader.remaining) way false names
         (W.contents out.old) (W.contents out.new) }
-    ensures stops { result ≡ 2 → (way : Way) → (names : List Word) → AsksAnswers (words_at words.now) way names
+    ensures stops { result ≡ 2 → (way : Way) → (names : List Argument) → AsksAnswers (arguments_at args.now) way names
         → ((out.new ≡ out.old) × TellsMemory (V.contents err.old) (V.contents err.new))
-        ⊎ ((name : Word) × (problem : Problem) × TellsStop name problem (Receives V.contents err.old err.new)
+        ⊎ ((name : Argument) × (problem : Problem) × TellsStop name problem (Receives V.contents err.old err.new)
         × StopsInputs R.File R.Reader (held_by R.File.remaining R.Reader.remaining) way names
         (W.contents out.old) (W.contents out.new) name problem) }
-    ensures help { result ≡ 0 → AsksToShow (words_at words.now) → Grows (W.contents out.old) (W.contents out.new) }
+    ensures help { result ≡ 0 → AsksToShow (arguments_at args.now) → Grows (W.contents out.old) (W.contents out.new) }
 {
-    match matches_of(rt.alloc(), words) {
+    match matches_of(rt.alloc(), args) {
         Ok(matches) => run_matched(rt, &matches, out, err),
         Err(error) => answer_error(rt.alloc(), &error, out, err),
     }
 }
 
-/// The same, by what the words are matched with.
+/// The same, by what the arguments are matched with.
 fn run_matched<R: Files + Input + Clock + AllocGlobal, W: Write, V: Write>(
     rt: &R,
     matches: &ArgMatches<'_>,
@@ -84,20 +84,21 @@ fn run_matched<R: Files + Input + Clock + AllocGlobal, W: Write, V: Write>(
     ensures status { result ≤ 2 }
     ensures silent { result ≤ 1 → err.new ≡ err.old }
     ensures told { result ≡ 2 → TellsUsageError (V.contents err.old) (V.contents err.new)
-        ⊎ ((name : Word) × (problem : Problem) × TellsStop name problem (Receives V.contents err.old err.new)) }
+        ⊎ ((name : Argument) × (problem : Problem) × TellsStop name problem (Receives V.contents err.old err.new)) }
     ensures usage { asked (rows_of (found_of matches.now)) ≡ None → (result ≡ 2) × (out.new ≡ out.old) }
-    ensures differs { result ≡ 1 → (files : List Word)
+    ensures differs { result ≡ 1 → (files : List Argument)
         × (asked (rows_of (found_of matches.now)) ≡ Some (Checks files)) }
-    ensures compares { result ≤ 1 → (files : List Word) → asked (rows_of (found_of matches.now)) ≡ Some (Checks files)
+    ensures compares { result ≤ 1 → (files : List Argument)
+        → asked (rows_of (found_of matches.now)) ≡ Some (Checks files)
         → EndsComparison R.File R.File.remaining (length files) (W.contents out.old) (W.contents out.new) result }
-    ensures answers { result ≡ 0 → (way : Way) → (names : List Word)
+    ensures answers { result ≡ 0 → (way : Way) → (names : List Argument)
         → asked (rows_of (found_of matches.now)) ≡ Some (answers way names)
         → AnswersInputs R.File R.Reader (held_by R.File.remaining R.Reader.remaining) way false names
         (W.contents out.old) (W.contents out.new) }
-    ensures stops { result ≡ 2 → (way : Way) → (names : List Word)
+    ensures stops { result ≡ 2 → (way : Way) → (names : List Argument)
         → asked (rows_of (found_of matches.now)) ≡ Some (answers way names)
         → ((out.new ≡ out.old) × TellsMemory (V.contents err.old) (V.contents err.new))
-        ⊎ ((name : Word) × (problem : Problem) × TellsStop name problem (Receives V.contents err.old err.new)
+        ⊎ ((name : Argument) × (problem : Problem) × TellsStop name problem (Receives V.contents err.old err.new)
         × StopsInputs R.File R.Reader (held_by R.File.remaining R.Reader.remaining) way names
         (W.contents out.old) (W.contents out.new) name problem) }
 {
@@ -116,7 +117,7 @@ fn run_matched<R: Files + Input + Clock + AllocGlobal, W: Write, V: Write>(
     }
 }
 
-/// Writes the help or the version, or what is wrong with the words.
+/// Writes the help or the version, or what is wrong with the arguments.
 fn answer_error<W: Write, V: Write>(
     alloc: Global,
     error: &clap::Error,
@@ -126,7 +127,7 @@ fn answer_error<W: Write, V: Write>(
     ensures status { (result ≡ 0) ⊎ (result ≡ 2) }
     ensures silent { result ≡ 0 → err.new ≡ err.old }
     ensures told { result ≡ 2 → TellsUsageError (V.contents err.old) (V.contents err.new)
-        ⊎ ((name : Word) × (problem : Problem) × TellsStop name problem (Receives V.contents err.old err.new)) }
+        ⊎ ((name : Argument) × (problem : Problem) × TellsStop name problem (Receives V.contents err.old err.new)) }
     ensures usage { kind_of error.now ≢ kind.DisplayHelp → kind_of error.now ≢ kind.DisplayVersion
         → (result ≡ 2) × (out.new ≡ out.old) }
     ensures memory { kind_of error.now ≡ kind.OutOfMemory → TellsMemory (V.contents err.old) (V.contents err.new) }
@@ -241,9 +242,9 @@ fn answer<'a, R: Files + Input + AllocGlobal, W: Write>(
 ) -> Result<u8, Stop<'a>>
     ensures status { IfOk result (λ status. status ≡ 0) }
     ensures answers { OnOk result (AnswersInputs R.File R.Reader (held_by R.File.remaining R.Reader.remaining)
-        way false (words_at names.now) (W.contents out.old) (W.contents out.new)) }
+        way false (arguments_at names.now) (W.contents out.old) (W.contents out.new)) }
     ensures stops { IfErr result (λ stop. StopsInputs R.File R.Reader (held_by R.File.remaining R.Reader.remaining)
-        way (words_at names.now) (W.contents out.old) (W.contents out.new) stop.file.now stop.problem) }
+        way (arguments_at names.now) (W.contents out.old) (W.contents out.new) stop.file.now stop.problem) }
 {
     match answer_inputs(rt, way, names, out) {
         Ok(told) => ended(told),

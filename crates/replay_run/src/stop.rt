@@ -1,4 +1,4 @@
-//! What stops a run, and what is told of it and of wrong words.
+//! What stops a run, and what is told of it and of wrong arguments.
 
 ghost use Rattle.std.specs.Prelude.{◌≡◌, ℕ, List, IfOk, IsErr, string_bytes};
 ghost use Rattle.clap.specs.Words.{kind_of};
@@ -46,7 +46,7 @@ pub fn tell_stop<V: Write>(alloc: Global, stop: &Stop<'_>, err: &mut V)
 /// What is told of what stopped a run.
 fn stop_message(alloc: Global, stop: &Stop<'_>) -> Result<String, AllocError>
     ensures message { IfOk result (λ text. (said : List ℕ)
-        × (string_bytes text ≡ spec.shown (stop_text stop.now.file.now stop.now.problem said))) }
+        × (string_bytes text ≡ spec.normalized_text (stop_text stop.now.file.now stop.now.problem said))) }
 {
     let file = stop.file;
     let words = words_of(alloc, &stop.problem)?;
@@ -54,7 +54,7 @@ fn stop_message(alloc: Global, stop: &Stop<'_>) -> Result<String, AllocError>
     normalize_untrusted_str(alloc, message.as_str())
 }
 
-/// Tells what is wrong with the words, or that there was no memory for that.
+/// Tells what is wrong with the arguments, or that there was no memory for that.
 pub fn tell_usage_error<V: Write>(alloc: Global, error: &clap::Error, err: &mut V)
     ensures told { TellsUsageError (V.contents err.old) (V.contents err.new) }
     ensures memory { kind_of error.now ≡ ErrorKind.OutOfMemory
@@ -70,9 +70,9 @@ pub fn tell_usage_error<V: Write>(alloc: Global, error: &clap::Error, err: &mut 
     }
 }
 
-/// What is wrong with the words, as it may be shown, unless that is that there was no memory to match them.
+/// What is wrong with the arguments, as it may be shown, unless that is that there was no memory to match them.
 fn shown_error(alloc: Global, error: &clap::Error) -> Result<String, AllocError>
-    ensures shown { IfOk result (λ text. (said : List ℕ) × (string_bytes text ≡ spec.shown said)) }
+    ensures shown { IfOk result (λ text. (said : List ℕ) × (string_bytes text ≡ spec.normalized_text said)) }
     ensures memory { kind_of error.now ≡ ErrorKind.OutOfMemory → IsErr result }
 {
     if let ErrorKind::OutOfMemory = error.kind() {

@@ -18,7 +18,7 @@ use Rattle.snippet_style.specs.declared.style.Color.TheVariants.{Ansi, Ansi256, 
 use Rattle.report_fields.specs.Bytes.{number_then, flag_then, text_then, option_then, members_then, list_then, severity_number, mark_number, decor_number}
 use Rattle.report_fields.specs.Bytes.{ansi_number, settings_then, color_then, effects_then, style_then, sheet_then, name_then, level_then, id_then}
 use Rattle.report_fields.specs.Bytes.{title_then, message_then, span_then, annotation_then, patch_then, snippet_then, origin_then, element_then, group_then}
-use Rattle.report_fields.specs.Reading.{◌>>=◌, fault_at, number_at, after_number, after_flag, after_kind, after_text, after_option, after_members, after_list}
+use Rattle.report_fields.specs.Reading.{◌>>=◌, fault_at, read_number, after_number, after_flag, after_kind, after_text, after_option, after_members, after_list}
 use Rattle.report_fields.specs.Reading.{after_settings, after_color, after_effects, after_style, after_levels, after_parts, after_sheet, after_name}
 use Rattle.report_fields.specs.Reading.{after_level, after_id, after_title, after_message, after_span, after_annotation, after_patch, after_snippet}
 use Rattle.report_fields.specs.Reading.{after_origin, after_element, after_group}
@@ -49,7 +49,7 @@ Any x = Unit {0}
 abbrev pair : ℕ → List ℕ → Result (ℕ × List ℕ) Fault
 pair n rest = Ok (n, rest)
 
-pub number_read : (n : ℕ) (rest : List ℕ) → n < 2 ^ 64 → number_at (number_then n rest) ≡ Ok (n, rest)
+pub number_read : (n : ℕ) (rest : List ℕ) → n < 2 ^ 64 → read_number (number_then n rest) ≡ Ok (n, rest)
 number_read n rest lt =
     let bytes = to_le_bytes w64 n ++ rest in
     let long : ltb (length bytes) 8 ≡ false = le-ltb _ _ (omega (arith, length-append (to_le_bytes w64 n) rest)) in

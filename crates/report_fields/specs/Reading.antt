@@ -30,52 +30,52 @@ Gives view (Err e) read = Fails e read
 
 -- ---- numbers, texts, what may be missing, lists. Those that give something give it with the bytes that are left
 
-abbrev pub number_at : List ℕ → Result (ℕ × List ℕ) Fault
-number_at bytes =
+abbrev pub read_number : List ℕ → Result (ℕ × List ℕ) Fault
+read_number bytes =
     if nat_lt (length bytes) 8 then Err (fault_at Short bytes) else Ok (from_le_bytes w64 (take 8 bytes), drop 8 bytes)
 
 abbrev pub after_number : List ℕ → Result (List ℕ) Fault
-after_number bytes = number_at bytes >>= λ n. Ok n.1
+after_number bytes = read_number bytes >>= λ n. Ok n.1
 
 -- one byte, which is below a bound
-abbrev pub kind_at : ℕ → List ℕ → Result (ℕ × List ℕ) Fault
-kind_at bound [] = Err (fault_at Short [])
-kind_at bound (byte ∷ rest) = if nat_lt byte bound then Ok (byte, rest) else Err (fault_at Kind (byte ∷ rest))
+abbrev pub read_kind : ℕ → List ℕ → Result (ℕ × List ℕ) Fault
+read_kind bound [] = Err (fault_at Short [])
+read_kind bound (byte ∷ rest) = if nat_lt byte bound then Ok (byte, rest) else Err (fault_at Kind (byte ∷ rest))
 
 abbrev pub after_kind : ℕ → List ℕ → Result (List ℕ) Fault
-after_kind bound bytes = kind_at bound bytes >>= λ k. Ok k.1
+after_kind bound bytes = read_kind bound bytes >>= λ k. Ok k.1
 
-abbrev pub flag_at : List ℕ → Result (Bool × List ℕ) Fault
-flag_at [] = Err (fault_at Short [])
-flag_at (zero ∷ rest) = Ok (false, rest)
-flag_at (suc zero ∷ rest) = Ok (true, rest)
-flag_at (suc (suc byte) ∷ rest) = Err (fault_at Flag (suc (suc byte) ∷ rest))
+abbrev pub read_flag : List ℕ → Result (Bool × List ℕ) Fault
+read_flag [] = Err (fault_at Short [])
+read_flag (zero ∷ rest) = Ok (false, rest)
+read_flag (suc zero ∷ rest) = Ok (true, rest)
+read_flag (suc (suc byte) ∷ rest) = Err (fault_at Flag (suc (suc byte) ∷ rest))
 
 abbrev pub after_flag : List ℕ → Result (List ℕ) Fault
-after_flag bytes = flag_at bytes >>= λ f. Ok f.1
+after_flag bytes = read_flag bytes >>= λ f. Ok f.1
 
 -- the bytes of a text of this length, and what is left after it
-abbrev pub text_of : ℕ → List ℕ → Result (List ℕ × List ℕ) Fault
-text_of count bytes =
+abbrev pub read_text_of : ℕ → List ℕ → Result (List ℕ × List ℕ) Fault
+read_text_of count bytes =
     if nat_lt (length bytes) count then Err (fault_at Short bytes)
     else if nat_lt count (2 ^ 56) then (if is_utf8 (take count bytes) then Ok (take count bytes, drop count bytes) else Err (fault_at NotText bytes))
     else Err (fault_at Long bytes)
 
-abbrev pub text_at : List ℕ → Result (List ℕ × List ℕ) Fault
-text_at bytes = number_at bytes >>= λ n. text_of n.0 n.1
+abbrev pub read_text : List ℕ → Result (List ℕ × List ℕ) Fault
+read_text bytes = read_number bytes >>= λ n. read_text_of n.0 n.1
 
 unfoldable pub after_text : List ℕ → Result (List ℕ) Fault
-after_text bytes = text_at bytes >>= λ t. Ok t.1
+after_text bytes = read_text bytes >>= λ t. Ok t.1
 
 unfoldable pub after_option : (List ℕ → Result (List ℕ) Fault) → List ℕ → Result (List ℕ) Fault
-after_option after bytes = flag_at bytes >>= λ f. if f.0 then after f.1 else Ok f.1
+after_option after bytes = read_flag bytes >>= λ f. if f.0 then after f.1 else Ok f.1
 
 unfoldable pub after_members : (List ℕ → Result (List ℕ) Fault) → ℕ → List ℕ → Result (List ℕ) Fault
 after_members after zero bytes = Ok bytes
 after_members after (suc n) bytes = after bytes >>= λ rest. after_members after n rest
 
 unfoldable pub after_list : (List ℕ → Result (List ℕ) Fault) → List ℕ → Result (List ℕ) Fault
-after_list after bytes = number_at bytes >>= λ n. after_members after n.0 n.1
+after_list after bytes = read_number bytes >>= λ n. after_members after n.0 n.1
 
 -- ---- settings and sheets
 
@@ -104,7 +104,7 @@ after_color_of (suc zero) bytes = after_byte bytes
 after_color_of (suc (suc kind)) bytes = after_byte bytes >>= λ rest. after_byte rest >>= after_byte
 
 unfoldable pub after_color : List ℕ → Result (List ℕ) Fault
-after_color bytes = kind_at 3 bytes >>= λ k. after_color_of k.0 k.1
+after_color bytes = read_kind 3 bytes >>= λ k. after_color_of k.0 k.1
 
 unfoldable pub after_effects : List ℕ → Result (List ℕ) Fault
 after_effects bytes = do
@@ -155,7 +155,7 @@ after_name_of (suc zero) bytes = Ok bytes
 after_name_of (suc (suc kind)) bytes = after_text bytes
 
 unfoldable pub after_name : List ℕ → Result (List ℕ) Fault
-after_name bytes = kind_at 3 bytes >>= λ k. after_name_of k.0 k.1
+after_name bytes = read_kind 3 bytes >>= λ k. after_name_of k.0 k.1
 
 unfoldable pub after_level : List ℕ → Result (List ℕ) Fault
 after_level bytes = do
@@ -220,7 +220,7 @@ after_element_of (suc (suc (suc zero))) bytes = after_origin bytes
 after_element_of (suc (suc (suc (suc kind)))) bytes = Ok bytes
 
 unfoldable pub after_element : List ℕ → Result (List ℕ) Fault
-after_element bytes = kind_at 5 bytes >>= λ k. after_element_of k.0 k.1
+after_element bytes = read_kind 5 bytes >>= λ k. after_element_of k.0 k.1
 
 unfoldable pub after_group : List ℕ → Result (List ℕ) Fault
 after_group bytes = do

@@ -4,14 +4,14 @@ ghost use Rattle.std.specs.Prelude.{◌≡◌, ◌<◌, ◌∷◌, ◌++◌, IfO
 ghost use Rattle.std.specs.Cow.{cow_str_bytes};
 ghost use Rattle.snippet_model.specs.Fits.{TextFits};
 ghost use Rattle.report_fields.specs.Bytes.{flag_then, number_then, text_then};
-ghost use Rattle.report_fields.specs.Reading.{Gives, after_text, flag_at, kind_at, number_at, text_of};
+ghost use Rattle.report_fields.specs.Reading.{Gives, after_text, read_flag, read_kind, read_number, read_text_of};
 
 use crate::fault::{ReadError, Wrong};
 use snippet_text::CowStr;
 
 /// The number at the front.
 pub fn number(bytes: &[u8]) -> Result<(usize, &[u8]), ReadError>
-    ensures reads { Gives (λ x. (x.0, x.1.now)) result (number_at bytes.now) }
+    ensures reads { Gives (λ x. (x.0, x.1.now)) result (read_number bytes.now) }
     ensures spelled { IfOk result (λ x. bytes.now ≡ number_then x.0 x.1.now) }
 {
     if bytes.len() < 8 {
@@ -26,7 +26,7 @@ pub fn number(bytes: &[u8]) -> Result<(usize, &[u8]), ReadError>
 
 /// The yes or no at the front.
 pub fn flag(bytes: &[u8]) -> Result<(bool, &[u8]), ReadError>
-    ensures reads { Gives (λ x. (x.0, x.1.now)) result (flag_at bytes.now) }
+    ensures reads { Gives (λ x. (x.0, x.1.now)) result (read_flag bytes.now) }
     ensures spelled { IfOk result (λ x. bytes.now ≡ flag_then x.0 x.1.now) }
 {
     match bytes {
@@ -39,7 +39,7 @@ pub fn flag(bytes: &[u8]) -> Result<(bool, &[u8]), ReadError>
 
 /// The byte at the front, which has to be below a bound.
 pub fn kind(bound: u8, bytes: &[u8]) -> Result<(u8, &[u8]), ReadError>
-    ensures reads { Gives (λ x. (x.0, x.1.now)) result (kind_at bound bytes.now) }
+    ensures reads { Gives (λ x. (x.0, x.1.now)) result (read_kind bound bytes.now) }
     ensures spelled { IfOk result (λ x. bytes.now ≡ x.0 ∷ x.1.now) }
     ensures below { IfOk result (λ x. x.0 < bound) }
 {
@@ -58,7 +58,7 @@ pub fn kind(bound: u8, bytes: &[u8]) -> Result<(u8, &[u8]), ReadError>
 /// The text of so many bytes at the front.
 #[tactic(auto, using(crate::proofs::Texts::no_text, crate::proofs::Texts::a_text))]
 fn text_of_size(count: usize, bytes: &[u8]) -> Result<(&str, &[u8]), ReadError>
-    ensures reads { Gives (λ x. (x.0.now, x.1.now)) result (text_of count bytes.now) }
+    ensures reads { Gives (λ x. (x.0.now, x.1.now)) result (read_text_of count bytes.now) }
     ensures spelled { IfOk result (λ x. bytes.now ≡ x.0.now ++ x.1.now) }
     ensures count { IfOk result (λ x. length x.0.now ≡ count) }
     ensures fits { IfOk result (λ x. TextFits x.0.now) }

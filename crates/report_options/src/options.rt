@@ -1,4 +1,4 @@
-//! How a report is drawn, as the words of a command line say it.
+//! How a report is drawn, as the arguments of a command line say it.
 ghost use Rattle.std.specs.Prelude.{◌≡◌};
 ghost use Rattle.report_options.specs.OptionSettings.{settings_of};
 

@@ -7,13 +7,13 @@ use Rattle.std.specs.Option.{option_copied}
 use Rattle.annotate_snippets.specs.declared.renderer.RenderError.{RenderError}
 use Rattle.annotate_snippets.specs.declared.renderer.RenderError.TheVariants.{Memory}
 use Rattle.program.specs.Stream.{Output, Silent, Whole, CutShort, Told}
-use Rattle.snip_run.specs.declared.words.Command.{Command}
+use Rattle.snip_run.specs.declared.arguments.Command.{Command}
 use Rattle.snip_run.specs.declared.run.Failure.{Failure}
 use Rattle.snip_run.specs.declared.run.Failure.TheVariants.{Refused}
 use Rattle.snip_run.specs.Report.{RefusesCommand}
-use Rattle.snip_run.specs.Run.{Ends, Failed, Fails, IsReadable, BadUsage, Printed, ShowsFile, Unprinted, message, shown_name, usage}
+use Rattle.snip_run.specs.Run.{Ends, Failed, Fails, IsReadable, BadUsage, Printed, ShowsFile, Unprinted, message, normalized_text, usage}
 use Rattle.snip_run.specs.Text.{IsShownText}
-use Rattle.snip_run.specs.Words.{AreLine, Line, Word, IsCommandLine, IsCommandOf}
+use Rattle.snip_run.specs.Arguments.{AreLine, CommandLine, Argument, IsCommandLine, IsCommandOf}
 
 -- where FILE gives no text to be shown, it holds none
 pub no_text : (file : Option (List ℕ)) (given : Option (Bor (List ℕ)))
@@ -37,18 +37,18 @@ of_text P None source value holds = tt
 of_text P (Some bytes) source value holds = subst P value.1 holds
 
 -- a report of that one that is refused is one of what FILE holds
-pub refused_file : (words : List Word) (file : Option (List ℕ)) (command : Command) (source : Bor (List ℕ)) (refusal : RenderError) → IsReadable words file
+pub refused_file : (args : List Argument) (file : Option (List ℕ)) (command : Command) (source : Bor (List ℕ)) (refusal : RenderError) → IsReadable args file
     → MatchOption file (IsNone (Some source)) (λ bytes. SomeIff (option_copied (Some source)) (IsShownText bytes) bytes)
-    → (refusal ≡ Memory alloc_error) ⊎ RefusesCommand command source.now refusal → Fails words file command (Refused refusal)
-refused_file words file command source refusal readable value (inl want) = inl want
-refused_file words file command source refusal readable value (inr refused) =
+    → (refusal ≡ Memory alloc_error) ⊎ RefusesCommand command source.now refusal → Fails args file command (Refused refusal)
+refused_file args file command source refusal readable value (inl want) = inl want
+refused_file args file command source refusal readable value (inr refused) =
     inr record { readable = readable; refused = of_text (λ s. RefusesCommand command s refusal) file source value refused }
 
 -- a run that tells why there is no report, or that there was no memory for that
-pub ends_failed : (words : List Word) (file : Option (List ℕ)) (command : Command) (failure : Failure) (Out Err : Output → Type 0)
-    → IsCommandOf words command → Fails words file command failure → Out Silent
-    → Err (Told (message command.file.now failure)) ⊎ Err (Told (codes "snip: out of memory")) → Ends words file 1 Out Err
-ends_failed words file command failure Out Err of fails silent (inl told) =
+pub ends_failed : (args : List Argument) (file : Option (List ℕ)) (command : Command) (failure : Failure) (Out Err : Output → Type 0)
+    → IsCommandOf args command → Fails args file command failure → Out Silent
+    → Err (Told (message command.file.now failure)) ⊎ Err (Told (codes "snip: out of memory")) → Ends args file 1 Out Err
+ends_failed args file command failure Out Err of fails silent (inl told) =
     record {
       end = Failed command.file.now failure;
       may = (command, of, refl, fails);
@@ -56,7 +56,7 @@ ends_failed words file command failure Out Err of fails silent (inl told) =
       out = silent;
       err = told;
     }
-ends_failed words file command failure Out Err of fails silent (inr told) =
+ends_failed args file command failure Out Err of fails silent (inr told) =
     record {
       end = Failed command.file.now (Refused (Memory alloc_error));
       may = (command, of, refl, inl refl);
@@ -66,25 +66,25 @@ ends_failed words file command failure Out Err of fails silent (inr told) =
     }
 
 -- a name that is shown is spelled by the characters that are shown for it
-pub shown_text : (shown : String Global) (name : List ℕ) → chars (string_bytes shown) ≡ norm (chars name) → string_bytes shown ≡ shown_name name
+pub shown_text : (shown : String Global) (name : List ℕ) → chars (string_bytes shown) ≡ norm (chars name) → string_bytes shown ≡ normalized_text name
 shown_text shown name value = sym (encodes-chars (string_bytes shown) (IsUtf8-string_bytes shown)) ∙ ap encode_utf8_all value
 
 -- a run whose report is printed, and one whose report couldn't be
-pub ends_printed : (words : List Word) (file : Option (List ℕ)) (command : Command) (text : List ℕ) (Out Err : Output → Type 0)
-    → IsCommandOf words command → ShowsFile words file command text → Out (Whole text) → Err Silent → Ends words file 0 Out Err
-ends_printed words file command text Out Err of shows out err =
+pub ends_printed : (args : List Argument) (file : Option (List ℕ)) (command : Command) (text : List ℕ) (Out Err : Output → Type 0)
+    → IsCommandOf args command → ShowsFile args file command text → Out (Whole text) → Err Silent → Ends args file 0 Out Err
+ends_printed args file command text Out Err of shows out err =
     record { end = Printed text; may = (command, of, shows); status_is = refl; out = out; err = err }
 
-pub ends_unprinted : (words : List Word) (file : Option (List ℕ)) (command : Command) (text : List ℕ) (Out Err : Output → Type 0)
-    → IsCommandOf words command → ShowsFile words file command text → Out (CutShort text) → Err Silent → Ends words file 1 Out Err
-ends_unprinted words file command text Out Err of shows out err =
+pub ends_unprinted : (args : List Argument) (file : Option (List ℕ)) (command : Command) (text : List ℕ) (Out Err : Output → Type 0)
+    → IsCommandOf args command → ShowsFile args file command text → Out (CutShort text) → Err Silent → Ends args file 1 Out Err
+ends_unprinted args file command text Out Err of shows out err =
     record { end = Unprinted text; may = (command, of, shows); status_is = refl; out = out; err = err }
 
--- a run for words that aren't of the form
-pub ends_bad_usage : (words : List Word) (file : Option (List ℕ)) (Out Err : Output → Type 0) → (IsCommandLine words → ⊥) → Out Silent → Err (Told usage)
-    → Ends words file 2 Out Err
-ends_bad_usage words file Out Err none out err = record { end = BadUsage; may = none; status_is = refl; out = out; err = err }
+-- a run for arguments that aren't of the form
+pub ends_bad_usage : (args : List Argument) (file : Option (List ℕ)) (Out Err : Output → Type 0) → (IsCommandLine args → ⊥) → Out Silent → Err (Told usage)
+    → Ends args file 2 Out Err
+ends_bad_usage args file Out Err none out err = record { end = BadUsage; may = none; status_is = refl; out = out; err = err }
 
--- words that no line is are of no form
-pub no_command : (words : List Word) → ((line : Line) → AreLine words line → ⊥) → IsCommandLine words → ⊥
-no_command words none is = none is.0 is.1
+-- arguments that no line is are of no form
+pub no_command : (args : List Argument) → ((line : CommandLine) → AreLine args line → ⊥) → IsCommandLine args → ⊥
+no_command args none is = none is.0 is.1

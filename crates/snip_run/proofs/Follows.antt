@@ -1,42 +1,42 @@
 -- What the end of a run says of its status, of FILE and of the two streams: each of these follows from it.
 use Rattle.std.proofs.Common.{◌≡◌, ◌⊎◌, ℕ, List, Option, Some, None, IsSomeAnd, IfSome, inl, inr, sym, ◌∙◌}
 use Rattle.program.specs.Stream.{Output, Silent, Whole}
-use Rattle.snip_run.specs.declared.words.Command.{Command}
+use Rattle.snip_run.specs.declared.arguments.Command.{Command}
 use Rattle.snip_run.specs.Report.{ShowsCommand}
 use Rattle.snip_run.specs.Run.{End, Ends, Failed, MayEnd, BadUsage, Printed, Unprinted, err_of, out_of, status_of}
 use Rattle.snip_run.specs.Text.{IsShownText}
-use Rattle.snip_run.specs.Words.{Word, IsCommandOf}
+use Rattle.snip_run.specs.Arguments.{Argument, IsCommandOf}
 
 -- what holds of a text that FILE may hold tells more of it
 if_some : (file : Option (List ℕ)) (P Q : List ℕ → Type 0) → ((source : List ℕ) → P source → Q source) → IfSome file P → IfSome file Q
 if_some None P Q tells known = tt
 if_some (Some source) P Q tells known = tells source known
 
-module _ (words : List Word) (file : Option (List ℕ)) (Out Err : Output → Type 0) where
-  read_at : (end : End) → MayEnd words file end → status_of end ≡ 0 → IsSomeAnd file IsShownText
+module _ (args : List Argument) (file : Option (List ℕ)) (Out Err : Output → Type 0) where
+  read_at : (end : End) → MayEnd args file end → status_of end ≡ 0 → IsSomeAnd file IsShownText
   read_at (Printed text) may is = may.2.readable.text
   read_at (Unprinted text) may is = cc
   read_at (Failed name failure) may is = cc
   read_at BadUsage may is = cc
 
   -- with status 0 FILE holds a text that can be shown
-  pub read : (status : ℕ) → Ends words file status Out Err → status ≡ 0 → IsSomeAnd file IsShownText
+  pub read : (status : ℕ) → Ends args file status Out Err → status ≡ 0 → IsSomeAnd file IsShownText
   read status ends is = read_at ends.end ends.may (sym ends.status_is ∙ is)
 
-  -- a line is written that shows the report of the words over a source
+  -- a line is written that shows the report of the arguments over a source
   abbrev Prints : List ℕ → Type 0
   Prints source =
-      (text : List ℕ) × Out (Whole text) × (command : Command) × IsCommandOf words command × ShowsCommand command source text
+      (text : List ℕ) × Out (Whole text) × (command : Command) × IsCommandOf args command × ShowsCommand command source text
 
-  printed_at : (end : End) → MayEnd words file end → Out (out_of end) → status_of end ≡ 0 → IfSome file Prints
+  printed_at : (end : End) → MayEnd args file end → Out (out_of end) → status_of end ≡ 0 → IfSome file Prints
   printed_at (Printed text) may out is =
       if_some file (λ source. ShowsCommand may.0 source text) Prints (λ source shows. (text, out, may.0, may.1, shows)) may.2.shows
   printed_at (Unprinted text) may out is = cc
   printed_at (Failed name failure) may out is = cc
   printed_at BadUsage may out is = cc
 
-  -- with status 0 standard output is given the report that the words ask for, over what FILE holds
-  pub printed : (status : ℕ) → Ends words file status Out Err → status ≡ 0 → IfSome file Prints
+  -- with status 0 standard output is given the report that the arguments ask for, over what FILE holds
+  pub printed : (status : ℕ) → Ends args file status Out Err → status ≡ 0 → IfSome file Prints
   printed status ends is = printed_at ends.end ends.may ends.out (sym ends.status_is ∙ is)
 
   no_fault_at : (end : End) → Err (err_of end) → status_of end ≡ 0 → Err Silent
@@ -46,10 +46,10 @@ module _ (words : List Word) (file : Option (List ℕ)) (Out Err : Output → Ty
   no_fault_at BadUsage err is = cc
 
   -- with status 0 standard error is given nothing
-  pub no_fault : (status : ℕ) → Ends words file status Out Err → status ≡ 0 → Err Silent
+  pub no_fault : (status : ℕ) → Ends args file status Out Err → status ≡ 0 → Err Silent
   no_fault status ends is = no_fault_at ends.end ends.err (sym ends.status_is ∙ is)
 
-  failed_at : (end : End) → MayEnd words file end → Out (out_of end) → Err (err_of end) → status_of end ≡ 1
+  failed_at : (end : End) → MayEnd args file end → Out (out_of end) → Err (err_of end) → status_of end ≡ 1
       → Out Silent ⊎ (Err Silent × IsSomeAnd file IsShownText)
   failed_at (Printed text) may out err is = cc
   failed_at (Unprinted text) may out err is = inr (err, may.2.readable.text)
@@ -57,7 +57,7 @@ module _ (words : List Word) (file : Option (List ℕ)) (Out Err : Output → Ty
   failed_at BadUsage may out err is = cc
 
   -- with status 1 either standard output is given nothing; or there was a report, and standard error is given nothing
-  pub failed : (status : ℕ) → Ends words file status Out Err → status ≡ 1 → Out Silent ⊎ (Err Silent × IsSomeAnd file IsShownText)
+  pub failed : (status : ℕ) → Ends args file status Out Err → status ≡ 1 → Out Silent ⊎ (Err Silent × IsSomeAnd file IsShownText)
   failed status ends is = failed_at ends.end ends.may ends.out ends.err (sym ends.status_is ∙ is)
 
   no_report_at : (end : End) → Out (out_of end) → status_of end ≡ 2 → Out Silent
@@ -67,5 +67,5 @@ module _ (words : List Word) (file : Option (List ℕ)) (Out Err : Output → Ty
   no_report_at BadUsage out is = out
 
   -- with status 2 standard output is given nothing
-  pub no_report : (status : ℕ) → Ends words file status Out Err → status ≡ 2 → Out Silent
+  pub no_report : (status : ℕ) → Ends args file status Out Err → status ≡ 2 → Out Silent
   no_report status ends is = no_report_at ends.end ends.out (sym ends.status_is ∙ is)

@@ -1,60 +1,62 @@
--- How the words of a command line are read, one option after another.
+-- How the arguments of a command line are read, one option after another.
 use Rattle.std.proofs.Common.{◌≡◌, cond, List, [], ◌∷◌, ◌++◌, Option, Some, None, All, Contains, fold, refl, sym, ap, ◌∙◌, subst, append_assoc, arith}
 use Rattle.std.specs.Prelude.{codes, bytes_eq}
 use Rattle.std.specs.List.{flat_map}
 use Rattle.std.specs.Option.{option_to_list}
 use Rattle.std.proofs.lemmas.List.Elements.{All-head, All-tail, All-cons}
 use Rattle.report_options.specs.declared.options.Options.{Options}
-use Rattle.snip_run.specs.declared.words.Command.{Command}
-use Rattle.snip_run.specs.Words.{Word, Setting, Unicode, Text, Short, Styled, Width, words_of, option_names, IsSound, no_options, options_with, Line}
-use Rattle.snip_run.specs.Words.{operands_of, HasOperands, AreLine, Says}
+use Rattle.snip_run.specs.declared.arguments.Command.{Command}
+use Rattle.snip_run.specs.Arguments.{Argument, Setting, Unicode, Text, Short, Styled, Width, arguments_of, option_names, IsSound, no_options, options_with}
+use Rattle.snip_run.specs.Arguments.{CommandLine}
+use Rattle.snip_run.specs.Arguments.{operands_of, HasOperands, AreLine, Says}
 
--- the option that words begin with, and the words after it
-abbrev width_front : List Word → Option (Setting × List Word)
+-- the option that arguments begin with, and the arguments after it
+abbrev width_front : List Argument → Option (Setting × List Argument)
 width_front [] = None
 width_front (digits ∷ ws) = Some (Width digits, ws)
 
-abbrev front : List Word → Option (Setting × List Word)
+abbrev front : List Argument → Option (Setting × List Argument)
 front [] = None
 front (w ∷ ws) =
     cond (bytes_eq w (codes "--unicode")) (Some (Unicode, ws)) (cond (bytes_eq w (codes "--text")) (Some (Text, ws))
     (cond (bytes_eq w (codes "--short")) (Some (Short, ws)) (cond (bytes_eq w (codes "--styled")) (Some (Styled, ws))
     (cond (bytes_eq w (codes "--width")) (width_front ws) None))))
 
-front-words_of : (s : Setting) (xs : List Word) → front (words_of s ++ xs) ≡ Some (s, xs)
-front-words_of Unicode xs = refl
-front-words_of Text xs = refl
-front-words_of Short xs = refl
-front-words_of Styled xs = refl
-front-words_of (Width digits) xs = refl
+front-arguments_of : (s : Setting) (xs : List Argument) → front (arguments_of s ++ xs) ≡ Some (s, xs)
+front-arguments_of Unicode xs = refl
+front-arguments_of Text xs = refl
+front-arguments_of Short xs = refl
+front-arguments_of Styled xs = refl
+front-arguments_of (Width digits) xs = refl
 
--- words begin with one option at most
-same_setting : (s t : Setting) (xs ys : List Word) → words_of s ++ xs ≡ words_of t ++ ys → (s ≡ t) × (xs ≡ ys)
+-- arguments begin with one option at most
+same_setting : (s t : Setting) (xs ys : List Argument) → arguments_of s ++ xs ≡ arguments_of t ++ ys → (s ≡ t) × (xs ≡ ys)
 same_setting s t xs ys e =
-    let given = sym (front-words_of s xs) ∙ ap front e ∙ front-words_of t ys in
+    let given = sym (front-arguments_of s xs) ∙ ap front e ∙ front-arguments_of t ys in
     let same : (s, xs) ≡ (t, ys) = cc in
-    (ap (λ (p : Setting × List Word). p.0) same, ap (λ (p : Setting × List Word). p.1) same)
+    (ap (λ (p : Setting × List Argument). p.0) same, ap (λ (p : Setting × List Argument). p.1) same)
 
 -- what an option begins with is an option's name
-name_begins : (s : Setting) (xs : List Word) (w : Word) (ws : List Word) → w ∷ ws ≡ words_of s ++ xs → Contains option_names w
+name_begins : (s : Setting) (xs : List Argument) (w : Argument) (ws : List Argument) → w ∷ ws ≡ arguments_of s ++ xs → Contains option_names w
 name_begins Unicode xs w ws e = (0, omega arith, cc)
 name_begins Text xs w ws e = (1, omega arith, cc)
 name_begins Short xs w ws e = (2, omega arith, cc)
 name_begins Styled xs w ws e = (3, omega arith, cc)
 name_begins (Width digits) xs w ws e = (4, omega arith, cc)
 
--- where words begin with an option, a line's first option is that one
-first_setting : (s : Setting) (rest : List Word) (settings : List Setting) (file : Word) (more : List Word)
-    → words_of s ++ rest ≡ flat_map words_of settings ++ file ∷ more → (Contains option_names file → ⊥)
-    → (later : List Setting) × (settings ≡ s ∷ later) × (rest ≡ flat_map words_of later ++ file ∷ more)
+-- where arguments begin with an option, a line's first option is that one
+first_setting : (s : Setting) (rest : List Argument) (settings : List Setting) (file : Argument) (more : List Argument)
+    → arguments_of s ++ rest ≡ flat_map arguments_of settings ++ file ∷ more → (Contains option_names file → ⊥)
+    → (later : List Setting) × (settings ≡ s ∷ later) × (rest ≡ flat_map arguments_of later ++ file ∷ more)
 first_setting s rest [] file more e free = absurd (free (name_begins s rest file more (sym e)))
 first_setting s rest (t ∷ later) file more e free =
-    let same = same_setting s t rest (flat_map words_of later ++ file ∷ more) (e ∙ append_assoc (words_of t) (flat_map words_of later) (file ∷ more)) in
+    let same = same_setting s t rest (flat_map arguments_of later ++ file ∷ more)
+    (e ∙ append_assoc (arguments_of t) (flat_map arguments_of later) (file ∷ more)) in
     (later, ap (λ (x : Setting). x ∷ later) (sym same.0), same.1)
 
--- and the words after the option are the rest of the line
-pub after_option : (s : Setting) (rest : List Word) (first : Options) (line : Line) → AreLine (words_of s ++ rest) line
-    → (next : Line) × AreLine rest next × ((c : Command) → Says (options_with first s) next c → Says first line c)
+-- and the arguments after the option are the rest of the line
+pub after_option : (s : Setting) (rest : List Argument) (first : Options) (line : CommandLine) → AreLine (arguments_of s ++ rest) line
+    → (next : CommandLine) × AreLine rest next × ((c : Command) → Says (options_with first s) next c → Says first line c)
 after_option s rest first line h =
     let (later, same, after) = first_setting s rest line.settings line.file
     (line.start ∷ line.end ∷ line.title ∷ option_to_list line.label) h.whole h.operands.file in (
@@ -75,12 +77,13 @@ after_option s rest first line h =
     )
 
 -- an option before a line makes a line
-pub before_option : (s : Setting) (rest : List Word) (first : Options) → IsSound s → (next : Line) → AreLine rest next
-    → (line : Line) × AreLine (words_of s ++ rest) line × ((c : Command) → Says (options_with first s) next c → Says first line c)
+pub before_option : (s : Setting) (rest : List Argument) (first : Options) → IsSound s → (next : CommandLine) → AreLine rest next
+    → (line : CommandLine) × AreLine (arguments_of s ++ rest) line × ((c : Command) → Says (options_with first s) next c → Says first line c)
 before_option s rest first sound next h = (
   record next { settings = s ∷ next.settings },
   record {
-    whole = ap (λ (ws : List Word). words_of s ++ ws) h.whole ∙ sym (append_assoc (words_of s) (flat_map words_of next.settings) (operands_of next));
+    whole = ap (λ (ws : List Argument). arguments_of s ++ ws) h.whole
+        ∙ sym (append_assoc (arguments_of s) (flat_map arguments_of next.settings) (operands_of next));
     settings = All-cons IsSound s next.settings sound h.settings;
     operands = record { file = h.operands.file; start = h.operands.start; end = h.operands.end };
   },
@@ -94,36 +97,37 @@ before_option s rest first sound next h = (
   },
 )
 
--- no option is what the words begin with
-abbrev pub BeginsNone : List Word → Type 0
-BeginsNone words = (s : Setting) (rest : List Word) → IsSound s → words ≡ words_of s ++ rest → ⊥
+-- no option is what the arguments begin with
+abbrev pub BeginsNone : List Argument → Type 0
+BeginsNone args = (s : Setting) (rest : List Argument) → IsSound s → args ≡ arguments_of s ++ rest → ⊥
 
-none_given : (words : List Word) → BeginsNone words → (settings : List Setting) (operands : List Word) → All IsSound settings
-    → words ≡ flat_map words_of settings ++ operands → settings ≡ []
-none_given words none [] operands sound e = refl
-none_given words none (s ∷ later) operands sound e =
-    absurd (none s (flat_map words_of later ++ operands) (All-head IsSound s later sound) (e ∙ append_assoc (words_of s) (flat_map words_of later) operands))
+none_given : (args : List Argument) → BeginsNone args → (settings : List Setting) (operands : List Argument) → All IsSound settings
+    → args ≡ flat_map arguments_of settings ++ operands → settings ≡ []
+none_given args none [] operands sound e = refl
+none_given args none (s ∷ later) operands sound e =
+    absurd (none s (flat_map arguments_of later ++ operands) (All-head IsSound s later sound)
+    (e ∙ append_assoc (arguments_of s) (flat_map arguments_of later) operands))
 
--- the words of a line that gives no option are its operands
-pub only_operands : (words : List Word) → BeginsNone words → (line : Line) → AreLine words line → (line.settings ≡ []) × (words ≡ operands_of line)
-only_operands words none line h =
-    let empty = none_given words none line.settings (operands_of line) h.settings h.whole in
-    (empty, h.whole ∙ ap (λ (s : List Setting). flat_map words_of s ++ operands_of line) empty)
+-- the arguments of a line that gives no option are its operands
+pub only_operands : (args : List Argument) → BeginsNone args → (line : CommandLine) → AreLine args line → (line.settings ≡ []) × (args ≡ operands_of line)
+only_operands args none line h =
+    let empty = none_given args none line.settings (operands_of line) h.settings h.whole in
+    (empty, h.whole ∙ ap (λ (s : List Setting). flat_map arguments_of s ++ operands_of line) empty)
 
-same_option : (a b : Option Word) → option_to_list a ≡ option_to_list b → a ≡ b
+same_option : (a b : Option Argument) → option_to_list a ≡ option_to_list b → a ≡ b
 same_option None None e = refl
 same_option None (Some b) e = absurd cc
 same_option (Some a) None e = absurd cc
 same_option (Some a) (Some b) e = cc
 
-pub record SameOperands (a b : Line) : Type 0 where
+pub record SameOperands (a b : CommandLine) : Type 0 where
   pub file : a.file ≡ b.file
   pub start : a.start ≡ b.start
   pub end : a.end ≡ b.end
   pub title : a.title ≡ b.title
   pub label : a.label ≡ b.label
 
-pub same_operands : (a b : Line) → operands_of a ≡ operands_of b → SameOperands a b
+pub same_operands : (a b : CommandLine) → operands_of a ≡ operands_of b → SameOperands a b
 same_operands a b e =
     record {
       file = cc;
@@ -133,38 +137,40 @@ same_operands a b e =
       label = same_option a.label b.label cc;
     }
 
--- the words read so far: each line that all words are goes on in the rest, and a line in the rest makes one of all words
-pub record Continues (words rest : List Word) (options : Options) : Type 0 where
-  pub reads : (line : Line) → AreLine words line → (next : Line) × AreLine rest next × ((c : Command) → Says options next c → Says no_options line c)
-  pub form : (next : Line) → AreLine rest next → (line : Line) × AreLine words line × ((c : Command) → Says options next c → Says no_options line c)
+-- the arguments read so far: each line that all arguments are goes on in the rest, and a line in the rest makes one of all arguments
+pub record Continues (args rest : List Argument) (options : Options) : Type 0 where
+  pub reads : (line : CommandLine) → AreLine args line
+      → (next : CommandLine) × AreLine rest next × ((c : Command) → Says options next c → Says no_options line c)
+  pub form : (next : CommandLine) → AreLine rest next
+      → (line : CommandLine) × AreLine args line × ((c : Command) → Says options next c → Says no_options line c)
 
-pub continues_none : (words : List Word) → Continues words words no_options
-continues_none words = record { reads = λ line h. (line, h, λ c says. says); form = λ next h. (next, h, λ c says. says) }
+pub continues_none : (args : List Argument) → Continues args args no_options
+continues_none args = record { reads = λ line h. (line, h, λ c says. says); form = λ next h. (next, h, λ c says. says) }
 
 -- the options are read on after one more sound setting
-pub continues_more : (words rest after : List Word) (old new : Options) (s : Setting) → Continues words rest old → IsSound s → rest ≡ words_of s ++ after
-    → new ≡ options_with old s → Continues words after new
-continues_more words rest after old new s so_far sound begins set =
+pub continues_more : (args rest after : List Argument) (old new : Options) (s : Setting) → Continues args rest old → IsSound s → rest ≡ arguments_of s ++ after
+    → new ≡ options_with old s → Continues args after new
+continues_more args rest after old new s so_far sound begins set =
     record {
       reads = λ line h.
           let (next, here, from_next) = so_far.reads line h in
-          let (last, there, from_last) = after_option s after old next (subst (λ (ws : List Word). AreLine ws next) begins here) in
+          let (last, there, from_last) = after_option s after old next (subst (λ (ws : List Argument). AreLine ws next) begins here) in
           (last, there, λ c says. from_next c (from_last c (subst (λ (o : Options). Says o last c) set says)));
       form = λ last there.
           let (next, here, to_next) = before_option s after old sound last there in
-          let (line, h, to_line) = so_far.form next (subst (λ (ws : List Word). AreLine ws next) (sym begins) here) in
+          let (line, h, to_line) = so_far.form next (subst (λ (ws : List Argument). AreLine ws next) (sym begins) here) in
           (line, h, λ c says. to_line c (to_next c (subst (λ (o : Options). Says o last c) set says)));
     }
 
--- at the operands: what is said of them is said of each line that all words are
-pub continues_all : (words rest : List Word) (options : Options) → Continues words rest options → BeginsNone rest → (line : Line) → AreLine words line
-    → (o : Line) → o.settings ≡ [] → rest ≡ operands_of o → HasOperands o × ((c : Command) → Says options o c → Says no_options line c)
-continues_all words rest options so_far none line h o empty whole =
+-- at the operands: what is said of them is said of each line that all arguments are
+pub continues_all : (args rest : List Argument) (options : Options) → Continues args rest options → BeginsNone rest → (line : CommandLine) → AreLine args line
+    → (o : CommandLine) → o.settings ≡ [] → rest ≡ operands_of o → HasOperands o × ((c : Command) → Says options o c → Says no_options line c)
+continues_all args rest options so_far none line h o empty whole =
     let (next, here, from_next) = so_far.reads line h in
     let (bare, is) = only_operands rest none next here in
     let same = same_operands next o (sym is ∙ whole) in (
       record {
-        file = subst (λ (w : Word). Contains option_names w → ⊥) same.file here.operands.file;
+        file = subst (λ (w : Argument). Contains option_names w → ⊥) same.file here.operands.file;
         start = rw (sym same.start) here.operands.start;
         end = rw (sym same.end) here.operands.end;
       },

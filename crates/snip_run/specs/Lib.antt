@@ -1,4 +1,4 @@
+pub mod Arguments
 pub mod Report
 pub mod Run
 pub mod Text
-pub mod Words

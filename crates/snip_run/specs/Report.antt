@@ -15,7 +15,7 @@ use Rattle.annotate_snippets.specs.Fault.{first_refusal}
 use Rattle.annotate_snippets.specs.FormLaws.{HasLaws}
 use Rattle.annotate_snippets.specs.Forms.{ShowsReport}
 use Rattle.report_options.specs.OptionSettings.{settings_of}
-use Rattle.snip_run.specs.declared.words.Command.{Command}
+use Rattle.snip_run.specs.declared.arguments.Command.{Command}
 
 -- the title of a command's report: an error with the text that the command gives
 pub record IsTitleFor (command : Command) (title : Title) : Type 0 where

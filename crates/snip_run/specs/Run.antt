@@ -1,64 +1,60 @@
 -- How a run ends, and what it writes.
-use Rattle.std.specs.Prelude.{◌≡◌, ℕ, ◌⊎◌, List, ◌++◌, Option, IsSomeAnd, IfSome, All, alloc_error, chars, codes, encode_utf8_all}
-use Rattle.annotate_snippets.specs.Normalized.{norm}
+use Rattle.std.specs.Prelude.{◌≡◌, ℕ, ◌⊎◌, List, ◌++◌, Option, IsSomeAnd, IfSome, All, alloc_error, codes}
+pub use Rattle.program.specs.Stream.{normalized_text}
 use Rattle.annotate_snippets.specs.Refusal.{refusal_text}
 use Rattle.annotate_snippets.specs.declared.renderer.RenderError.{RenderError}
 use Rattle.annotate_snippets.specs.declared.renderer.RenderError.TheVariants.{Memory}
 use Rattle.program.specs.Stream.{Output, Silent, Whole, CutShort, Told}
 use Rattle.snip_run.specs.Report.{RefusesCommand, ShowsCommand}
 use Rattle.snip_run.specs.Text.{IsShownText, TextFits}
-use Rattle.snip_run.specs.Words.{Word, IsCommandLine, IsCommandOf}
-use Rattle.snip_run.specs.declared.words.Command.{Command}
+use Rattle.snip_run.specs.Arguments.{Argument, IsCommandLine, IsCommandOf}
+use Rattle.snip_run.specs.declared.arguments.Command.{Command}
 use Rattle.snip_run.specs.declared.run.Failure.{Failure}
 use Rattle.snip_run.specs.declared.run.Failure.TheVariants.{Unreadable, Refused}
 
--- FILE holds a text that can be shown, and each word can be shown
-pub record IsReadable (words : List Word) (file : Option (List ℕ)) : Type 0 where
+-- FILE holds a text that can be shown, and each argument can be shown
+pub record IsReadable (args : List Argument) (file : Option (List ℕ)) : Type 0 where
   pub text : IsSomeAnd file IsShownText
-  pub words_fit : All TextFits words
+  pub arguments_fit : All TextFits args
 
 -- a text shows the command's report over what FILE holds
-pub record ShowsFile (words : List Word) (file : Option (List ℕ)) (command : Command) (text : List ℕ) : Type 0 where
-  pub readable : IsReadable words file
+pub record ShowsFile (args : List Argument) (file : Option (List ℕ)) (command : Command) (text : List ℕ) : Type 0 where
+  pub readable : IsReadable args file
   pub shows : IfSome file (λ source. ShowsCommand command source text)
 
 -- the command's report over what FILE holds is refused for this reason
-pub record RefusesFile (words : List Word) (file : Option (List ℕ)) (command : Command) (refusal : RenderError) : Type 0 where
-  pub readable : IsReadable words file
+pub record RefusesFile (args : List Argument) (file : Option (List ℕ)) (command : Command) (refusal : RenderError) : Type 0 where
+  pub readable : IsReadable args file
   pub refused : IfSome file (λ source. RefusesCommand command source refusal)
 
--- a command gives no report, for this reason: FILE or a word can't be shown; or its report is refused, or memory was
-abbrev pub Fails : List Word → Option (List ℕ) → Command → Failure → Type 0
-Fails words file command Unreadable = IsReadable words file → ⊥
-Fails words file command (Refused refusal) = (refusal ≡ Memory alloc_error) ⊎ RefusesFile words file command refusal
+-- a command gives no report, for this reason: FILE or an argument can't be shown; or its report is refused, or memory was
+abbrev pub Fails : List Argument → Option (List ℕ) → Command → Failure → Type 0
+Fails args file command Unreadable = IsReadable args file → ⊥
+Fails args file command (Refused refusal) = (refusal ≡ Memory alloc_error) ⊎ RefusesFile args file command refusal
 
--- a name as a message shows it: what is listed in it is replaced
-abbrev pub shown_name : Word → List ℕ
-shown_name name = encode_utf8_all (norm (chars name))
-
--- how the words are to be written
+-- how the arguments are to be written
 abbrev pub usage : List ℕ
 usage = codes "usage: snip [--unicode] [--text] [--short] [--styled] [--width N] FILE START END TITLE [LABEL]"
 
 -- what is told where FILE of this name gives no report
-abbrev pub message : Word → Failure → List ℕ
-message name Unreadable = codes "snip: cannot read " ++ shown_name name
+abbrev pub message : Argument → Failure → List ℕ
+message name Unreadable = codes "snip: cannot read " ++ normalized_text name
 message name (Refused refusal) = codes "snip: " ++ refusal_text refusal
 
--- how a run ends: its text is printed; or that couldn't be written; or FILE of this name gives no report; or the words aren't of the form
+-- how a run ends: its text is printed; or that couldn't be written; or FILE of this name gives no report; or the arguments aren't of the form
 pub data End : Type 0 where
   Printed : (text : List ℕ) → End
   Unprinted : (text : List ℕ) → End
-  Failed : (name : Word) (failure : Failure) → End
+  Failed : (name : Argument) (failure : Failure) → End
   BadUsage : End
 
--- whether a run of these words over what FILE holds may end so
-abbrev pub MayEnd : List Word → Option (List ℕ) → End → Type 0
-MayEnd words file (Printed text) = (command : Command) × IsCommandOf words command × ShowsFile words file command text
-MayEnd words file (Unprinted text) = (command : Command) × IsCommandOf words command × ShowsFile words file command text
-MayEnd words file (Failed name failure) =
-    (command : Command) × IsCommandOf words command × (command.file.now ≡ name) × Fails words file command failure
-MayEnd words file BadUsage = IsCommandLine words → ⊥
+-- whether a run of these arguments over what FILE holds may end so
+abbrev pub MayEnd : List Argument → Option (List ℕ) → End → Type 0
+MayEnd args file (Printed text) = (command : Command) × IsCommandOf args command × ShowsFile args file command text
+MayEnd args file (Unprinted text) = (command : Command) × IsCommandOf args command × ShowsFile args file command text
+MayEnd args file (Failed name failure) =
+    (command : Command) × IsCommandOf args command × (command.file.now ≡ name) × Fails args file command failure
+MayEnd args file BadUsage = IsCommandLine args → ⊥
 
 -- the status that it ends with
 abbrev pub status_of : End → ℕ
@@ -81,10 +77,10 @@ err_of (Unprinted text) = Silent
 err_of (Failed name failure) = Told (message name failure)
 err_of BadUsage = Told usage
 
--- a run of these words over what FILE holds ends with this status, and gives the two streams what they are given
-pub record Ends (words : List Word) (file : Option (List ℕ)) (status : ℕ) (Out Err : Output → Type 0) : Type 0 where
+-- a run of these arguments over what FILE holds ends with this status, and gives the two streams what they are given
+pub record Ends (args : List Argument) (file : Option (List ℕ)) (status : ℕ) (Out Err : Output → Type 0) : Type 0 where
   pub end : End
-  pub may : MayEnd words file end
+  pub may : MayEnd args file end
   pub status_is : status ≡ status_of end
   pub out : Out (out_of end)
   pub err : Err (err_of end)

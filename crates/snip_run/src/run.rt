@@ -6,10 +6,10 @@ ghost use Rattle.annotate_snippets.specs.Fits.{ReportFits};
 ghost use Rattle.program.specs.Stream.{Receives, Told};
 ghost use Rattle.snip_run.specs.Report.{IsReportFor, RefusesCommand, ShowsCommand};
 ghost use Rattle.snip_run.specs.Run.{Ends, Fails, ShowsFile, message};
-ghost use Rattle.snip_run.specs.Words.{words_at, IsCommandLine, IsCommandOf};
+ghost use Rattle.snip_run.specs.Arguments.{arguments_at, IsCommandLine, IsCommandOf};
 ghost use Rattle.snip_run.specs.Text.{TextFits, IsShownText};
 
-use crate::words::{Command, command_of};
+use crate::arguments::{Command, command_of};
 use annotate_snippets::level::ERROR;
 use annotate_snippets::renderer::RenderError;
 use annotate_snippets::text::{normalize_untrusted_str, text_fits};
@@ -20,7 +20,7 @@ use std::alloc::{AllocError, Global};
 use std::io::Write;
 use std::str;
 
-/// How the words are to be written.
+/// How the arguments are to be written.
 const USAGE: &str =
     "usage: snip [--unicode] [--text] [--short] [--styled] [--width N] FILE START END TITLE [LABEL]";
 
@@ -29,15 +29,15 @@ const OUT_OF_MEMORY: &str = "snip: out of memory";
 
 /// The status of a run that printed a report.
 const PRINTED: u8 = 0;
-/// The status of a run that printed no report, though the words are of the form.
+/// The status of a run that printed no report, though the arguments are of the form.
 const FAILED: u8 = 1;
-/// The status of a run whose words aren't of the form.
+/// The status of a run whose arguments aren't of the form.
 const MISUSED: u8 = 2;
 
 /// Why a command gives no report.
 #[derive(Debug, Drop)]
 enum Failure {
-    /// The file holds no text that can be drawn, or a word is too long.
+    /// The file holds no text that can be drawn, or an argument is too long.
     Unreadable,
     /// The report is refused, or a growth of memory was.
     Refused(RenderError),
@@ -52,11 +52,11 @@ fn source_of(file: Option<&[u8]>) -> Option<&str>
     text_fits(source).then_some(source)
 }
 
-/// Whether each word is within the library's limit.
-fn words_fit(words: &[&str]) -> bool
-    ensures value { IsTrue result ↔ All TextFits (words_at words.now) }
+/// Whether each argument is within the library's limit.
+fn arguments_fit(args: &[&str]) -> bool
+    ensures value { IsTrue result ↔ All TextFits (arguments_at args.now) }
 {
-    words.iter().all(|word| text_fits(word))
+    args.iter().all(|argument| text_fits(argument))
 }
 
 /// The report that the command asks for over this source: its one group.
@@ -98,22 +98,22 @@ fn rendered<'a>(
     renderer_of(command.options).render(alloc, &[group])
 }
 
-/// The text of the report that the command asks for; it is the command of these words.
+/// The text of the report that the command asks for; it is the command of these arguments.
 fn report_text<'a>(
     alloc: Global,
-    words: &[&str],
+    args: &[&str],
     command: &Command<'a>,
     file: Option<&'a [u8]>,
 ) -> Result<String, Failure>
-    requires command { IsCommandOf (words_at words.now) command.now }
+    requires command { IsCommandOf (arguments_at args.now) command.now }
     ensures shows { IfOk result (λ text.
-        ShowsFile (words_at words.now) (option_copied file.entry) command.now (string_bytes text)) }
-    ensures fails { IfErr result (Fails (words_at words.now) (option_copied file.entry) command.now) }
+        ShowsFile (arguments_at args.now) (option_copied file.entry) command.now (string_bytes text)) }
+    ensures fails { IfErr result (Fails (arguments_at args.now) (option_copied file.entry) command.now) }
 {
     let Some(source) = source_of(file) else {
         return Err(Failure::Unreadable);
     };
-    if !words_fit(words) {
+    if !arguments_fit(args) {
         return Err(Failure::Unreadable);
     }
     match rendered(alloc, command, source) {
@@ -146,39 +146,39 @@ fn tell<V: Write>(alloc: Global, failure: &Failure, name: &str, err: &mut V)
     };
 }
 
-/// Prints the report that the words ask for, and answers the status to end with.
+/// Prints the report that the arguments ask for, and answers the status to end with.
 ///
 /// `file` is what FILE holds, or `None` where it can't be read. The status is 0 where the report was printed, 2 for
-/// words that aren't of the form, and else 1. The report goes to `out`, and what is in its way to `err`; a report that
-/// couldn't be written is told by the status alone. Neither writer is flushed.
+/// arguments that aren't of the form, and else 1. The report goes to `out`, and what is in its way to `err`; a report
+/// that couldn't be written is told by the status alone. Neither writer is flushed.
 ///
 /// | Status | `out` | `err` |
 /// |---|---|---|
 /// | 0 | the report and a line feed more | as it was |
 /// | 1, what was in the report's way | as it was | a message and a line feed more |
 /// | 1, the report couldn't be written | a first part of it more | as it was |
-/// | 2 | as it was | how the words are to be written, and a line feed more |
+/// | 2 | as it was | how the arguments are to be written, and a line feed more |
 ///
 /// A message that couldn't be written stands there by a first part of it.
 pub fn run<W: Write, V: Write>(
     alloc: Global,
-    words: &[&str],
+    args: &[&str],
     file: Option<&[u8]>,
     out: &mut W,
     err: &mut V,
 ) -> u8
     ensures status { result ≤ 2 }
-    ensures usage { (result ≡ 2) ↔ (IsCommandLine (words_at words.now) → ⊥) }
+    ensures usage { (result ≡ 2) ↔ (IsCommandLine (arguments_at args.now) → ⊥) }
 
     // By cases: which status, what each stream is given, and when that is so.
-    ensures ends { Ends (words_at words.now) (option_copied file.entry) result
+    ensures ends { Ends (arguments_at args.now) (option_copied file.entry) result
         (Receives W.contents out.old out.new) (Receives V.contents err.old err.new) }
 {
-    let Some(command) = command_of(words) else {
+    let Some(command) = command_of(args) else {
         write_line(USAGE, err);
         return MISUSED;
     };
-    match report_text(alloc, words, &command, file) {
+    match report_text(alloc, args, &command, file) {
         Ok(text) => {
             if write_line(text.as_str(), out) {
                 PRINTED

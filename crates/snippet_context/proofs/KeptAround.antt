@@ -116,9 +116,9 @@ module _ (before after : ℕ) (source : List ℕ) (marks : List Annotation) wher
       absorbed false b later = refl
 
 -- where lines aren't folded all are kept, and each is near itself
-all-around : (before after : ℕ) (source : List ℕ) (marks more : List Annotation)
+unfolded-around : (before after : ℕ) (source : List ℕ) (marks more : List Annotation)
     → kept_lines false source more ≡ lines_around before after (length (source_lines source)) (kept_lines false source marks)
-all-around before after source marks more =
+unfolded-around before after source marks more =
     range-same (λ k. true) (λ k. list_any (is_near before after k) (kept_lines false source marks)) 0 (length (source_lines source))
     (λ k from to. sym (any-later (λ j. eqb j k) (is_near before after k)
     (λ j same. let at : j ≡ k = eqb-true j k same in ap₂ (λ a b. a && b) (le-leb j (k + before) (omega arith)) (le-leb k (j + after) (omega arith)))
@@ -128,21 +128,21 @@ kept-around : (before after : ℕ) (fold : Bool) (source : List ℕ) (marks : Li
     → kept_lines fold source (marks ++ map visible_mark (cond fold (map (span_around before after source) (kept_lines true source marks)) []))
     ≡ lines_around before after (length (source_lines source)) (kept_lines fold source marks)
 kept-around before after true source marks = folded-around before after source marks
-kept-around before after false source marks = all-around before after source marks (marks ++ [])
+kept-around before after false source marks = unfolded-around before after source marks (marks ++ [])
 
 -- ---- what stands on lines
 
-none-marked : (test : Annotation → Bool) → ((span : Range ℕ) → test (visible_mark span) ≡ false) → (spans : List (Range ℕ))
+filter-visible_mark : (test : Annotation → Bool) → ((span : Range ℕ) → test (visible_mark span) ≡ false) → (spans : List (Range ℕ))
     → filter test (map visible_mark spans) ≡ []
-none-marked test none [] = refl
-none-marked test none (span ∷ spans) =
+filter-visible_mark test none [] = refl
+filter-visible_mark test none (span ∷ spans) =
     ap (λ b. cond b (visible_mark span ∷ filter test (map visible_mark spans)) (filter test (map visible_mark spans))) (none span)
-    ∙ none-marked test none spans
+    ∙ filter-visible_mark test none spans
 
 still-marked : (test : Annotation → Bool) → ((span : Range ℕ) → test (visible_mark span) ≡ false) → (marks : List Annotation) (spans : List (Range ℕ))
     → filter test (marks ++ map visible_mark spans) ≡ filter test marks
 still-marked test none marks spans =
-    filter-append test marks (map visible_mark spans) ∙ ap (λ more. filter test marks ++ more) (none-marked test none spans)
+    filter-append test marks (map visible_mark spans) ∙ ap (λ more. filter test marks ++ more) (filter-visible_mark test none spans)
     ∙ append-nil (filter test marks)
 
 -- annotations that mark nothing have no entries

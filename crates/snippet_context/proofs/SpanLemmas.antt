@@ -159,8 +159,9 @@ pub starts-length : (source starts : List ℕ) → starts ≡ line_starts source
 starts-length source starts is = ap length is ∙ length-starts_from 0 (source_lines source)
 
 -- each where its line starts
-pub starts-at : (source starts : List ℕ) (k : ℕ) → starts ≡ line_starts source → k < length starts → get_or starts k 0 ≡ start_of (source_lines source) k
-starts-at source starts k is within =
+pub line_starts-start_of : (source starts : List ℕ) (k : ℕ) → starts ≡ line_starts source → k < length starts
+    → get_or starts k 0 ≡ start_of (source_lines source) k
+line_starts-start_of source starts k is within =
     let at : get_or starts k 0 ≡ 0 + start_of (source_lines source) k = ap (λ (ss : List ℕ). get_or ss k 0) is
     ∙ starts_from-at 0 (source_lines source) k 0 (omega (arith, starts-length source starts is)) in
     omega (arith, at)
@@ -168,12 +169,12 @@ starts-at source starts k is within =
 -- the start of a line that isn't the first has a byte before it
 pub start-some : (source starts : List ℕ) (k : ℕ) → starts ≡ line_starts source → k + 1 < length starts → 1 ≤ get_or starts (k + 1) 0
 start-some source starts k is more =
-    omega (arith, starts-at source starts (k + 1) is more, later-start source k (omega (arith, starts-length source starts is)))
+    omega (arith, line_starts-start_of source starts (k + 1) is more, later-start source k (omega (arith, starts-length source starts is)))
 
 -- so the line before it closes there, and the last where the source does
 pub closes-inner : (source starts : List ℕ) (k : ℕ) → starts ≡ line_starts source → k + 1 < length starts → get_or starts (k + 1) 0 - 1 ≡ close_of source k
 closes-inner source starts k is more =
-    ap (λ (n : ℕ). n - 1) (starts-at source starts (k + 1) is more) ∙ sym (close-inner source k (omega (arith, starts-length source starts is)))
+    ap (λ (n : ℕ). n - 1) (line_starts-start_of source starts (k + 1) is more) ∙ sym (close-inner source k (omega (arith, starts-length source starts is)))
 
 pub closes-last : (source starts : List ℕ) (k : ℕ) → starts ≡ line_starts source → length starts ≤ k + 1 → length source ≡ close_of source k
 closes-last source starts k is last = sym (close-last source k (omega (arith, starts-length source starts is)))

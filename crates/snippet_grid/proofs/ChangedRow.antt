@@ -2,7 +2,7 @@
 use Rattle.std.proofs.Common.{◌≡◌, ◌≢◌, ℕ, ◌*◌, ◌+◌, ◌-◌, ◌<◌, ◌≤◌, List, length, get_or, refl, sym, ap, ◌∙◌, arith, inl, inr, All}
 use Rattle.std.proofs.lemmas.Bool.{cases_lt, cases_eq}
 use Rattle.snippet_grid.proofs.CopyLemmas.{piece_cell}
-use Rattle.snippet_grid.proofs.RowWoven.{painted_unheld, shown-in}
+use Rattle.snippet_grid.proofs.RowWoven.{painted_unheld, shown_cell-run}
 use Rattle.snippet_grid.proofs.ShownLemmas.{pick, painted-grown, holds_inside, holds_elsewhere, holds_before, holds-after}
 use Rattle.snippet_grid.proofs.SpanLemmas.{within_yes, within_before, within_after, span_joined}
 use Rattle.snippet_grid.proofs.StretchLemmas.{BeginsWith-same, BeginsWith-trans}
@@ -27,7 +27,7 @@ part_held text runs part d row from to end n are within low some below high cut 
           let place : from + (c - from) ≡ c = omega arith in
           piece_cell text text run part part from from from end c (BeginsWith-same text) (are.are_runs n d within) cut low (omega arith)
           (omega (arith, cut.cell)) refl refl refl refl (omega (arith, cut.cell)) (omega (arith, cut.cell, cut.count))
-          ∙ ap (λ i. run_cell text run i) place ∙ sym (shown-in text row c n runs d are within (omega arith) (omega (arith, cut.count)));
+          ∙ ap (λ i. run_cell text run i) place ∙ sym (shown_cell-run text row c n runs d are within (omega arith) (omega (arith, cut.count)));
     }
 
 -- no run holds a cell between those that end before it and those that begin after it

@@ -11,7 +11,8 @@ use lib.Pointwise.{pointwise}
 use Rattle.snippet_grid.proofs.HtmlLemmas.{look_is}
 use Rattle.snippet_grid.proofs.HtmlReads.{html_says_pieces, is_made, lacks, piece_says, tags_are}
 use Rattle.snippet_grid.specs.Html.{HtmlLook, HtmlPiece, Text, anchor_ended, anchor_started, between, cells_html, class_of, ended}
-use Rattle.snippet_grid.specs.Html.{further_html, html_text, level_class, look_of, plain_look, row_html, rows_html, same_look, span_ended, span_started}
+use Rattle.snippet_grid.specs.Html.{further_html, html_text, level_class, html_look_of, plain_look, row_html, rows_html, same_html_look, span_ended}
+use Rattle.snippet_grid.specs.Html.{span_started}
 use Rattle.snippet_grid.specs.Html.{started}
 use Rattle.snippet_grid.specs.HtmlRead.{ReadChar, chars_of_cells, chars_of_rows, chars_read, feed_read, html_says, piece_tag, tags_of}
 use Rattle.snippet_grid.specs.Print.{further_text, plain_text, row_text}
@@ -53,7 +54,7 @@ says_started : (look : HtmlLook) → flat_map piece_says (started look) ≡ []
 says_started look = says_both (span_started look.class) (anchor_started look.address) (says_span_started look.class) (says_anchor_started look.address)
 
 says_between : (last next : HtmlLook) → flat_map piece_says (between last next) ≡ []
-says_between last next = elim (cases_Bool (same_look last next)) [
+says_between last next = elim (cases_Bool (same_html_look last next)) [
   | inl same ↦ ap (λ (b : Bool). flat_map piece_says (if b then [] else (ended last ++ started next))) same
   | inr other ↦ ap (λ (b : Bool). flat_map piece_says (if b then [] else (ended last ++ started next))) other
       ∙ says_both (ended last) (started next) (says_ended last) (says_started next)
@@ -62,7 +63,7 @@ says_between last next = elim (cases_Bool (same_look last next)) [
 says_cells : (level : LevelInner) (last : HtmlLook) (cells : List Cell) → flat_map piece_says (cells_html level last cells) ≡ row_text cells
 says_cells level last [] = says_ended last
 says_cells level last (cell ∷ cells) =
-    let look = look_of level cell in
+    let look = html_look_of level cell in
     let rest : List HtmlPiece = Text cell.ch ∷ cells_html level look cells in
     flat_map-append piece_says (between last look) rest ∙ ap (λ (t : List ℕ). t ++ flat_map piece_says rest) (says_between last look)
     ∙ ap (λ (t : List ℕ). cell.ch ∷ t) (says_cells level look cells)
@@ -134,16 +135,16 @@ made_anchor_ended (c ∷ cs) = refl
 made_ended : (look : HtmlLook) → list_all is_made (ended look) ≡ true
 made_ended look = made-append (anchor_ended look.address) (span_ended look.class) (made_anchor_ended look.address) (made_span_ended look.class)
 
-made_started : (level : LevelInner) (cell : Cell) → list_all is_made (started (look_of level cell)) ≡ true
+made_started : (level : LevelInner) (cell : Cell) → list_all is_made (started (html_look_of level cell)) ≡ true
 made_started level cell =
-    let look = look_of level cell in
+    let look = html_look_of level cell in
     made-append (span_started look.class) (anchor_started look.address) (made_span_started look.class (class_lacks level cell.role))
     (made_anchor_started look.address)
 
-made_between : (level : LevelInner) (last : HtmlLook) (cell : Cell) → list_all is_made (between last (look_of level cell)) ≡ true
+made_between : (level : LevelInner) (last : HtmlLook) (cell : Cell) → list_all is_made (between last (html_look_of level cell)) ≡ true
 made_between level last cell =
-    let next = look_of level cell in
-    elim (cases_Bool (same_look last next)) [
+    let next = html_look_of level cell in
+    elim (cases_Bool (same_html_look last next)) [
       | inl same ↦ ap (λ (b : Bool). list_all is_made (if b then [] else (ended last ++ started next))) same
       | inr other ↦ ap (λ (b : Bool). list_all is_made (if b then [] else (ended last ++ started next))) other
           ∙ made-append (ended last) (started next) (made_ended last) (made_started level cell)
@@ -152,7 +153,7 @@ made_between level last cell =
 made_cells : (level : LevelInner) (last : HtmlLook) (cells : List Cell) → list_all is_made (cells_html level last cells) ≡ true
 made_cells level last [] = made_ended last
 made_cells level last (cell ∷ cells) =
-    let look = look_of level cell in
+    let look = html_look_of level cell in
     made-append (between last look) (Text cell.ch ∷ cells_html level look cells) (made_between level last cell) (made_cells level look cells)
 
 made_further : (level : LevelInner) (rows : List (List Cell)) → list_all is_made (further_html level rows) ≡ true
@@ -206,13 +207,13 @@ read_ended look ps =
     ∙ read_anchor_end look.class look.address (span_ended look.class ++ ps) ∙ read_span_end look.class ps
 
 -- what stands in the same is the same
-same_is : (a b : HtmlLook) → same_look a b ≡ true → a ≡ b
+same_is : (a b : HtmlLook) → same_html_look a b ≡ true → a ≡ b
 same_is a b same =
     let parts = and_parts (pointwise nat_eq a.class b.class) (pointwise nat_eq a.address b.address) same in
     look_is a b.class b.address (same_text a.class b.class (sym parts.0)) (same_text a.address b.address (sym parts.1))
 
 read_between : (last next : HtmlLook) (ps : List HtmlPiece) → chars_read last (between last next ++ ps) ≡ chars_read next ps
-read_between last next ps = elim (cases_Bool (same_look last next)) [
+read_between last next ps = elim (cases_Bool (same_html_look last next)) [
   | inl same ↦ ap (λ (b : Bool). chars_read last ((if b then [] else (ended last ++ started next)) ++ ps)) same
       ∙ ap (λ (l : HtmlLook). chars_read l ps) (same_is last next same)
   | inr other ↦ ap (λ (b : Bool). chars_read last ((if b then [] else (ended last ++ started next)) ++ ps)) other
@@ -223,7 +224,7 @@ read_cells : (level : LevelInner) (last : HtmlLook) (cells : List Cell) (ps : Li
     → chars_read last (cells_html level last cells ++ ps) ≡ chars_of_cells level cells ++ chars_read plain_look ps
 read_cells level last [] ps = read_ended last ps
 read_cells level last (cell ∷ cells) ps =
-    let look = look_of level cell in
+    let look = html_look_of level cell in
     let read : ReadChar = record { ch = cell.ch; look = look } in
     ap (chars_read last) (append_assoc (between last look) (Text cell.ch ∷ cells_html level look cells) ps)
     ∙ read_between last look (Text cell.ch ∷ (cells_html level look cells ++ ps)) ∙ ap (λ (rs : List ReadChar). read ∷ rs) (read_cells level look cells ps)

@@ -12,7 +12,7 @@ use Rattle.snippet_grid.proofs.StretchPrinted.{alike, space_bytes}
 use Rattle.snippet_grid.proofs.WeaveLemmas.{Url}
 use Rattle.snippet_grid.specs.Html.{AddsHtml, AnchorStart, HtmlLook, HtmlPiece, SpanStart, Text, anchor_started, between, cells_html, ended}
 use Rattle.snippet_grid.specs.Html.{escape, escaped, further_html, html_bytes, span_started}
-use Rattle.snippet_grid.specs.Html.{html_text, look_at, piece_html, row_html, rows_html, same_look, started}
+use Rattle.snippet_grid.specs.Html.{html_text, look_at, piece_html, row_html, rows_html, same_html_look, started}
 use Rattle.snippet_style.specs.Cell.{Cell}
 use Rattle.snippet_style.specs.declared.role.ElementStyle.{ElementStyle}
 use Rattle.snippet_style.specs.declared.role.LevelInner.{LevelInner}
@@ -87,7 +87,7 @@ adds_anchor (c ∷ cs) old one two new some first second third =
 
 -- ---- what cells stand in
 
-pub same_is_same : (look : HtmlLook) → same_look look look ≡ true
+pub same_is_same : (look : HtmlLook) → same_html_look look look ≡ true
 same_is_same look =
     ap (λ (b : Bool). b && pointwise nat_eq look.address look.address) (nat_list_eq_equiv.refl look.class) ∙ nat_list_eq_equiv.refl look.address
 

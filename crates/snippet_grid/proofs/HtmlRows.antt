@@ -6,7 +6,7 @@ use Rattle.std.proofs.lemmas.Bool.{cases_lt}
 use Rattle.std.specs.Option.{option_copied}
 use Rattle.snippet_grid.proofs.GridShown.{count_shown}
 use Rattle.snippet_grid.proofs.HtmlLemmas.{HtmlGoes, adds_both, adds_line_feed, html_stretch, rows_html-more}
-use Rattle.snippet_grid.proofs.RowWoven.{cells_more, shown-in, shown_gap}
+use Rattle.snippet_grid.proofs.RowWoven.{cells_more, shown_cell-run, shown_gap}
 use Rattle.snippet_grid.proofs.RowsWoven.{cells_of_row}
 use Rattle.snippet_grid.proofs.StretchLemmas.{stretch}
 use Rattle.snippet_grid.proofs.StretchPrinted.{alike}
@@ -89,7 +89,7 @@ html_run level text runs row n col d last old now new is_row within =
     ++ more = cells_more text runs row col (run.cell + run.count) more (omega (arith, is_run.counted)) (λ k inside.
     let index : (col + k) - run.cell ≡ k = omega arith in
     get_or-map as_cell word k 32 SPACE (omega arith) ∙ ap (λ i. as_cell (get_or word i 32)) (sym index)
-    ∙ sym (shown-in text row (col + k) n runs d is_row within (omega arith) (omega (arith, is_run.counted)))) in
+    ∙ sym (shown_cell-run text row (col + k) n runs d is_row within (omega arith) (omega (arith, is_run.counted)))) in
     record {
       goes = subst (λ (cs : List Cell). HtmlGoes level (look_at level run.role (option_copied run.link)) cs old new) (sym cells)
           (html_stretch level last run.role (option_copied run.link) word (cells_to text runs row col) old now new

@@ -27,9 +27,9 @@ painted_unheld text r c d (run ∷ runs) none =
     ∙ painted_unheld text r c d runs (All-tail (λ x. holds x r c ≡ false) run runs none)
 
 -- a run shows its own cells, whatever stands after it
-pub shown-in : (text : List ℕ) (row c n : ℕ) (runs : List Run) (d : Run) → IsRow text row runs → n < length runs
+pub shown_cell-run : (text : List ℕ) (row c n : ℕ) (runs : List Run) (d : Run) → IsRow text row runs → n < length runs
     → (let run = get_or runs n d in run.cell ≤ c → c < run.cell + run.count → shown_cell text runs row c ≡ run_cell text run c)
-shown-in text row c n runs d is within =
+shown_cell-run text row c n runs d is within =
     λ low high.
     let run : Run = get_or runs n d in
     let front = take n runs in
@@ -133,7 +133,7 @@ woven_run sheet level text runs row n col d style next link old now new is_row w
     ++ more = cells_more text runs row col (run.cell + run.count) more (omega (arith, is_run.counted)) (λ k inside.
     let index : (col + k) - run.cell ≡ k = omega arith in
     get_or-map as_cell word k 32 SPACE (omega arith) ∙ ap (λ i. as_cell (get_or word i 32)) (sym index)
-    ∙ sym (shown-in text row (col + k) n runs d is_row within (omega arith) (omega (arith, is_run.counted)))) in
+    ∙ sym (shown_cell-run text row (col + k) n runs d is_row within (omega arith) (omega (arith, is_run.counted)))) in
     record {
       goes = subst (λ (cs : List Cell). Goes sheet level (Some next) (option_copied run.link) cs old new) (sym cells)
           (stretch_printed sheet level style next run.role link (option_copied run.link) word (cells_to text runs row col)

@@ -88,11 +88,11 @@ plain_look = record { class = []; address = [] }
 abbrev pub look_at : LevelInner → ElementStyle → Option (List ℕ) → HtmlLook
 look_at level role link = record { class = class_of level role; address = link_address link }
 
-abbrev pub look_of : LevelInner → Cell → HtmlLook
-look_of level cell = look_at level cell.role cell.link
+abbrev pub html_look_of : LevelInner → Cell → HtmlLook
+html_look_of level cell = look_at level cell.role cell.link
 
-abbrev pub same_look : HtmlLook → HtmlLook → Bool
-same_look a b = pointwise nat_eq a.class b.class && pointwise nat_eq a.address b.address
+abbrev pub same_html_look : HtmlLook → HtmlLook → Bool
+same_html_look a b = pointwise nat_eq a.class b.class && pointwise nat_eq a.address b.address
 
 -- one piece of a text in HTML
 pub data HtmlPiece : Type 0 where
@@ -138,12 +138,12 @@ ended look = anchor_ended look.address ++ span_ended look.class
 
 -- the tags between two neighbours: none where they stand in the same
 abbrev pub between : HtmlLook → HtmlLook → List HtmlPiece
-between last next = if same_look last next then [] else ended last ++ started next
+between last next = if same_html_look last next then [] else ended last ++ started next
 
 -- cells after one that stands in this
 abbrev pub cells_html : LevelInner → HtmlLook → List Cell → List HtmlPiece
 cells_html level last [] = ended last
-cells_html level last (cell ∷ cells) = between last (look_of level cell) ++ (Text cell.ch ∷ cells_html level (look_of level cell) cells)
+cells_html level last (cell ∷ cells) = between last (html_look_of level cell) ++ (Text cell.ch ∷ cells_html level (html_look_of level cell) cells)
 
 -- a row
 abbrev pub row_html : LevelInner → List Cell → List HtmlPiece

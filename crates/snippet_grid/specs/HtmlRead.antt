@@ -4,7 +4,7 @@ use Rattle.std.specs.Prelude.{ℕ, nat_eq, Bool, true, false, not, if◌then◌e
 use Rattle.std.specs.List.{flat_map}
 use Rattle.std.specs.Str.{chars}
 use lib.Pointwise.{pointwise}
-use Rattle.snippet_grid.specs.Html.{HtmlLook, HtmlPiece, Text, SpanStart, SpanEnd, AnchorStart, AnchorEnd, escaped, look_of, plain_look}
+use Rattle.snippet_grid.specs.Html.{HtmlLook, HtmlPiece, Text, SpanStart, SpanEnd, AnchorStart, AnchorEnd, escaped, html_look_of, plain_look}
 use Rattle.snippet_style.specs.Cell.{Cell}
 use Rattle.snippet_style.specs.declared.role.LevelInner.{LevelInner}
 
@@ -65,7 +65,7 @@ chars_read look (AnchorEnd ∷ ps) = chars_read (record look { address = [] }) p
 
 -- the characters of some cells, each with what the cell stands in
 abbrev pub chars_of_cells : LevelInner → List Cell → List ReadChar
-chars_of_cells level cells = map (λ cell. (let read : ReadChar = record { ch = cell.ch; look = look_of level cell } in read)) cells
+chars_of_cells level cells = map (λ cell. (let read : ReadChar = record { ch = cell.ch; look = html_look_of level cell } in read)) cells
 
 -- a line feed between rows, which stands in nothing
 abbrev pub feed_read : ReadChar

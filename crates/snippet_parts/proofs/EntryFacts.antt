@@ -32,7 +32,7 @@ use Rattle.snippet_parts.proofs.RawDepthLemmas.{same-true}
 use Rattle.snippet_parts.proofs.KeptPartLemmas.{lines_ordered}
 use Rattle.snippet_lines.proofs.LinesLemmas.{length-text_at-source}
 use Rattle.snippet_parts.proofs.MarkLemmas.{start-line, end-line, start_column-from, end_column-from, entry_of-line, eqb-shift}
-use Rattle.snippet_parts.proofs.PartLemmas.{HoldsOfSpan, IsBarLine, All-unmapped, bar-lines, filter-none, longs-all, made-all}
+use Rattle.snippet_parts.proofs.PartLemmas.{HoldsOfSpan, IsBarLine, All-unmapped, bar_lines-stand, filter-none, longs-all, made-all}
 use Rattle.snippet_parts.proofs.PlaceBounds.{start-column-bound, end-column-bound, start-character-bound, end-character-bound}
 use Rattle.snippet_parts.proofs.ShownLemmas.{filter-map, place-among}
 
@@ -57,9 +57,9 @@ each-line Q s marks (k ∷ ks) (info ∷ infos) same all =
     tail_same x y xs ys same = cc
 
 -- the entries of a line that is seen as line k
-pub entries-on : (s : Source) (marks : List Annotation) (k : ℕ) (info : AnnotatedLineInfo) → seen_kept info ≡ kept_line s marks k
+pub seen_part-parts_on : (s : Source) (marks : List Annotation) (k : ℕ) (info : AnnotatedLineInfo) → seen_kept info ≡ kept_line s marks k
     → map seen_part info.annotations.items ≡ parts_on s marks k
-entries-on s marks k info seen = ap (λ (l : KeptLine). l.parts) seen
+seen_part-parts_on s marks k info seen = ap (λ (l : KeptLine). l.parts) seen
 
 -- what holds of each entry that is made holds of those of these lines
 pub each-entry : (P : PartEntry → Type 0) (s : Source) (marks : List Annotation) (ks : List ℕ) (infos : List AnnotatedLineInfo)
@@ -68,7 +68,7 @@ each-entry P s marks ks infos same all =
     each-line (λ info. All (λ e. P (seen_part e)) info.annotations.items) s marks ks infos same (λ i d within info seen. let k : ℕ = get_or ks i d in
     let on : All P (parts_on s marks k) = All-filter (λ (p : PartEntry). eqb p.entry.start.line (s.first + k)) P (made_parts s marks) all in
     All-unmapped P seen_part info.annotations.items (All-same P (map seen_part info.annotations.items) (parts_on s marks k)
-    (entries-on s marks k info seen) on))
+    (seen_part-parts_on s marks k info seen) on))
 
 -- ---- places
 
@@ -256,7 +256,8 @@ longs-off s marks k spans untouched =
         record {
           start = off a among is (long_entry s a).start.line (first_line s.text a) first (omega arith) up;
           bars = All-weaker (IsBarLine s.text from to) (λ m. eqb (s.first + m) (s.first + k) ≡ false) (λ m bar.
-              off a among is (s.first + m) m refl (omega (arith, bar.from)) (omega (arith, bar.to))) (bar_lines s.text from to) (bar-lines s.text from to);
+              off a among is (s.first + m) m refl (omega (arith, bar.from)) (omega (arith, bar.to)))
+              (bar_lines s.text from to) (bar_lines-stand s.text from to);
           end = end;
           again = end;
         }
@@ -275,7 +276,7 @@ untouched-parts s marks k spans untouched =
 pub untouched-entries : (s : Source) (marks : List Annotation) (k : ℕ) (info : AnnotatedLineInfo)
     → All (λ a. IsSpan s.text a.span.start a.span.end) marks → is_untouched s.text marks k ≡ true → seen_kept info ≡ kept_line s marks k
     → map seen_part info.annotations.items ≡ map (single_part s) (filter (is_marked_on s.text k) marks)
-untouched-entries s marks k info spans untouched seen = entries-on s marks k info seen ∙ untouched-parts s marks k spans untouched
+untouched-entries s marks k info spans untouched seen = seen_part-parts_on s marks k info seen ∙ untouched-parts s marks k spans untouched
 
 -- ---- wide spans
 
@@ -361,7 +362,7 @@ wide-count room placeholder_width s marks k info seen =
     let on = λ (p : PartEntry). eqb p.entry.start.line (s.first + k) in
     let singles : List PartEntry = map (single_part s) (filter (is_short s.text) marks) in
     let longs : List PartEntry = long_parts s (long_places s marks) [] (long_spans s marks) in
-    sym (count-map wide seen_part info.annotations.items) ∙ ap (count_by wide) (entries-on s marks k info seen ∙ filter-append on singles longs)
+    sym (count-map wide seen_part info.annotations.items) ∙ ap (count_by wide) (seen_part-parts_on s marks k info seen ∙ filter-append on singles longs)
     ∙ sum_by-append (λ p. cond (wide p) 1 0) (filter on singles) (filter on longs)
     ∙ ap (λ n. count_by wide (filter on singles) + n) (count-none wide (filter on longs)
     (All-filter on (λ p. wide p ≡ false) longs (wide-long room placeholder_width s marks)))

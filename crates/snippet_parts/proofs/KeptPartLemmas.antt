@@ -13,7 +13,7 @@ use Rattle.snippet_parts.specs.Mark.{is_marking, touches}
 use Rattle.snippet_parts.specs.Marked.{first_line, last_line}
 use Rattle.snippet_lines.specs.Span.{IsSpan}
 use Rattle.snippet_parts.proofs.MarkLemmas.{start-line, end-line, entry_of-line}
-use Rattle.snippet_parts.proofs.PartLemmas.{HoldsOfSpan, IsBarLine, bar-lines, filter-none, made-all}
+use Rattle.snippet_parts.proofs.PartLemmas.{HoldsOfSpan, IsBarLine, bar_lines-stand, filter-none, made-all}
 use Rattle.snippet_lines.proofs.PlaceLemmas.{line_of-mono, line_of-within}
 
 -- a test that one of some passes
@@ -128,7 +128,7 @@ made-kept s marks spans = made-all (StandsOnKept s marks) s marks short long
       bars = All-weaker (IsBarLine s.text ((long_entry s a).start.line - s.first) ((long_entry s a).end.line - s.first))
           (λ k. (n : ℕ) → s.first + k ≡ s.first + n → list_any (keeps s.text n) marks ≡ true) (λ k is n at. bar a among k n is at)
           (bar_lines s.text ((long_entry s a).start.line - s.first) ((long_entry s a).end.line - s.first))
-          (bar-lines s.text ((long_entry s a).start.line - s.first) ((long_entry s a).end.line - s.first));
+          (bar_lines-stand s.text ((long_entry s a).start.line - s.first) ((long_entry s a).end.line - s.first));
       end = λ k at. at-last a among k at;
       again = λ k at. at-last a among k at;
     }

@@ -187,10 +187,10 @@ unfolding locations_of
 start_at-single s spans = map-map (λ (p : PartEntry). p.entry.start.char + 1) (single_part s) spans
 
 -- the place on a line is that of the least column at which such a span starts there
-place-on : (choice : List PartEntry → List PartEntry) (test : Annotation → Bool) (s : Source) (marks : List Annotation) (k : ℕ)
+least_place-on : (choice : List PartEntry → List PartEntry) (test : Annotation → Bool) (s : Source) (marks : List Annotation) (k : ℕ)
     → Chooses choice test s marks → least_place choice (kept_line s marks k)
     ≡ option_map (λ column. record { line = s.first + k; column = Some column }) (least (map (start_at s) (starting test s marks k)))
-place-on choice test s marks k chooses =
+least_place-on choice test s marks k chooses =
     ap (λ ns. option_map (λ column. record { line = s.first + k; column = Some column }) (least ns))
     (ap start_columns (chooses.parts k) ∙ start_at-single s (starting test s marks k))
 
@@ -217,7 +217,7 @@ has-place : (choice : List PartEntry → List PartEntry) (test : Annotation → 
 unfolding at-column
 has-place choice test s marks k a chooses there =
     let lowest = least-among (start_at s) (starting test s marks k) a there in
-    ap is_some (place-on choice test s marks k chooses) ∙ ap (λ o. is_some (option_map (at-column s k) o)) lowest.1.is
+    ap is_some (least_place-on choice test s marks k chooses) ∙ ap (λ o. is_some (option_map (at-column s k) o)) lowest.1.is
 
 -- and the place of a line is that of a span of least column
 place_found : (choice : List PartEntry → List PartEntry) (test : Annotation → Bool) (s : Source) (marks : List Annotation) (k : ℕ) (place : Location)
@@ -225,7 +225,7 @@ place_found : (choice : List PartEntry → List PartEntry) (test : Annotation �
     → (a : Annotation) × IsLeast (start_at s) (starting test s marks k) a × (place ≡ at-column s k (start_at s a))
 unfolding at-column
 place_found choice test s marks k place chooses has =
-    by (starting test s marks k) refl (sym has ∙ place-on choice test s marks k chooses)
+    by (starting test s marks k) refl (sym has ∙ least_place-on choice test s marks k chooses)
   where
     by : (spans : List Annotation) → starting test s marks k ≡ spans
         → Some place ≡ option_map (at-column s k) (least (map (start_at s) (starting test s marks k)))
@@ -387,17 +387,17 @@ no-primary : (s : Source) (marks : List Annotation) (fold : Bool) → All (λ a.
 unfolding starting
 no-primary s marks fold spans none other =
     first-none (least_place primary_parts) (kept_line s marks) (kept_lines fold s.text marks)
-    (λ k. place-on primary_parts (λ a. is_primary a.kind) s marks k (chooses-primary s marks spans none)
+    (λ k. least_place-on primary_parts (λ a. is_primary a.kind) s marks k (chooses-primary s marks spans none)
     ∙ ap (λ spans. option_map (λ column. record { line = s.first + k; column = Some column }) (least (map (start_at s) spans)))
     (filter-none (λ (a : Annotation). is_primary a.kind && eqb (first_line s.text a)
     k) marks (λ i d within. and_left (is_primary (get_or marks i d).kind) (eqb (first_line s.text (get_or marks i d)) k)
     (none-member (λ a. is_primary a.kind) marks (get_or marks i d) (Contains-get_or marks i d within) other))))
 
 -- what the head of a primary snippet names, where a span is marked and none of several lines is
-pub place-named : (fold : Bool) (s : Source) (marks : List Annotation) (lines : List KeptLine)
+pub primary_place-location : (fold : Bool) (s : Source) (marks : List Annotation) (lines : List KeptLine)
     → All (λ a. IsSpan s.text a.span.start a.span.end) marks → lines ≡ annotated_lines fold s marks → list_any (λ a. is_marking a.kind) marks ≡ true
     → All (λ a. is_long s.text a ≡ false) marks → IsSomeAnd (primary_place lines) (IsLocation s marks)
-place-named fold s marks lines spans are some none =
+primary_place-location fold s marks lines spans are some none =
     subst (λ lines. IsSomeAnd (primary_place lines) (IsLocation s marks)) (sym are) (elim (cases_Bool (list_any (λ a. is_primary a.kind) marks)) [
       | inl primary ↦
           let a = member-passing (λ a. is_primary a.kind) marks primary in

@@ -16,7 +16,7 @@ use Rattle.snippet_parts.specs.Annotated.{bar_lines}
 use Rattle.snippet_parts.specs.Depths.{depth_among, same_place}
 use Rattle.snippet_parts.specs.Marked.{Entry}
 use Rattle.snippet_parts.proofs.AmongLemmas.{Among, among_left, among_right, any_among, any_cases, append_cases}
-use Rattle.snippet_parts.proofs.PartLemmas.{HoldsOfSpan, IsBarLine, bar-lines, span-all}
+use Rattle.snippet_parts.proofs.PartLemmas.{HoldsOfSpan, IsBarLine, bar_lines-stand, span-all}
 use Rattle.snippet_parts.proofs.RawDepthLemmas.{same-refl, same-true}
 
 -- ---- places
@@ -232,7 +232,7 @@ span-reached t choice s depth before e later seen here =
           (λ k bar passes. reach passes (bar_part (promoted before e) depth (s.first + k))
           (λ from. by-above from.span.start (bar_part (promoted before e) depth (s.first + k)).entry.start (omega (arith, bar.from, line from))))
           (bar_lines s.text ((promoted before e).start.line - s.first) ((promoted before e).end.line - s.first))
-          (bar-lines s.text ((promoted before e).start.line - s.first) ((promoted before e).end.line - s.first));
+          (bar_lines-stand s.text ((promoted before e).start.line - s.first) ((promoted before e).end.line - s.first));
       end = λ passes. reach passes (end_part (promoted before e) (MultilineEnd depth)) (λ from.
           by-above from.span.start (end_part (promoted before e) (MultilineEnd depth)).entry.start (omega (arith, line from, below)));
       again = λ passes. reach passes (end_part (promoted before e) Singleline) (λ from.

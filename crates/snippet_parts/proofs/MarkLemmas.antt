@@ -20,10 +20,10 @@ end-line s start end =
     (λ _. end_location-line s start end)
 
 -- on one line it ends at the column of its end's place
-end-column : (s : Source) (start end : ℕ) → line_of (source_lines s.text) start ≡ line_of (source_lines s.text) end
+display-end : (s : Source) (start end : ℕ) → line_of (source_lines s.text) start ≡ line_of (source_lines s.text) end
     → (locations_of s start end).1.display ≡ (place_of s.text end).column
 unfolding locations_of
-end-column s start end one =
+display-end s start end one =
     cond_both (eqb start end) (start_location s start) (end_location s start end) (λ (l : Loc). l.display ≡ (place_of s.text end).column)
     (λ same. start_location-column s start ∙ ap (λ b. (place_of s.text b).column) (eqb-true start end same))
     (λ _. end_location_column s start end one)
@@ -40,8 +40,8 @@ unfolding locations_of
 start_column-from s a at is = ap (λ (l : Loc × Loc). l.0.display) is ∙ start_location-column s a.span.start
 
 -- the lines of an annotation, by its locations
-pub first-from : (s : Source) (a : Annotation) (at : Loc × Loc) → at ≡ locations_of s a.span.start a.span.end → at.0.line ≡ s.first + first_line s.text a
-first-from s a at is = ap (λ (l : Loc × Loc). l.0.line) is ∙ start-line s a.span.start a.span.end
+pub first_line-from : (s : Source) (a : Annotation) (at : Loc × Loc) → at ≡ locations_of s a.span.start a.span.end → at.0.line ≡ s.first + first_line s.text a
+first_line-from s a at is = ap (λ (l : Loc × Loc). l.0.line) is ∙ start-line s a.span.start a.span.end
 
 last-from : (s : Source) (a : Annotation) (at : Loc × Loc) → at ≡ locations_of s a.span.start a.span.end → at.1.line ≡ s.first + last_line s.text a
 last-from s a at is = ap (λ (l : Loc × Loc). l.1.line) is ∙ end-line s a.span.start a.span.end
@@ -50,7 +50,7 @@ last-from s a at is = ap (λ (l : Loc × Loc). l.1.line) is ∙ end-line s a.spa
 pub end_column-from : (s : Source) (a : Annotation) (at : Loc × Loc) (line : ℕ) → at ≡ locations_of s a.span.start a.span.end → at.0.line ≡ line
     → at.1.line ≡ line → at.1.display ≡ (place_of s.text a.span.end).column
 end_column-from s a at line is first last =
-    ap (λ (l : Loc × Loc). l.1.display) is ∙ end-column s a.span.start a.span.end (omega (arith, first, last, first-from s a at is, last-from s a at is))
+    ap (λ (l : Loc × Loc). l.1.display) is ∙ display-end s a.span.start a.span.end (omega (arith, first, last, first_line-from s a at is, last-from s a at is))
 
 -- an annotation's entry starts on the annotation's line
 pub entry_of-line : (s : Source) (a : Annotation) → (entry_of s a).start.line ≡ s.first + first_line s.text a
@@ -80,8 +80,8 @@ pub record IsOnLine (s : Source) (a : Annotation) (at : Loc × Loc) (line : ℕ)
 pub marked-from : (s : Source) (a : Annotation) (at : Loc × Loc) (line k : ℕ) → at ≡ locations_of s a.span.start a.span.end → line ≡ s.first + k
     → IsOnLine s a at line → is_marked_on s.text k a ≡ true
 marked-from s a at line k is here on =
-    let single = eq-eqb (last_line s.text a) (first_line s.text a) (omega (arith, on.first, on.last, first-from s a at is, last-from s a at is)) in
-    let there = eq-eqb (first_line s.text a) k (omega (arith, on.first, first-from s a at is)) in
+    let single = eq-eqb (last_line s.text a) (first_line s.text a) (omega (arith, on.first, on.last, first_line-from s a at is, last-from s a at is)) in
+    let there = eq-eqb (first_line s.text a) k (omega (arith, on.first, first_line-from s a at is)) in
     and_from (is_marking a.kind && eqb (last_line s.text a) (first_line s.text a)) (eqb (first_line s.text a) k)
     (and_from (is_marking a.kind) (eqb (last_line s.text a) (first_line s.text a)) on.marking single) there
 
@@ -96,7 +96,7 @@ unmarked-from s a at line k is here off =
     let there = eqb-true (first_line s.text a) k parts.1 in
     off (record {
       marking = front.0;
-      first = omega (arith, here, there, first-from s a at is);
+      first = omega (arith, here, there, first_line-from s a at is);
       last = omega
           (arith, here, single, there, last-from s a at is);
     }))

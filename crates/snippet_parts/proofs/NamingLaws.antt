@@ -343,10 +343,10 @@ least-there t choice s marks spans a least-start =
         omega (arith, p.2, after.by.1 beside, before.1 level)
 
 -- the first line with an entry of the choice is that of the span, and the least column there its column
-first-start : (t : AnnotationKind → Bool) → IsChoice t → (fold : Bool) (s : Source) (marks : List Annotation)
+first_place-start : (t : AnnotationKind → Bool) → IsChoice t → (fold : Bool) (s : Source) (marks : List Annotation)
     → ((a : Annotation) → Among marks a → IsSpan s.text a.span.start a.span.end) → (a : Annotation) → IsFirstStart t s marks a
     → first_place (least_place (chosen t)) (annotated_lines fold s marks) ≡ Some (place_at s a.span.start)
-first-start t choice fold s marks spans a first =
+first_place-start t choice fold s marks spans a first =
     first_is (least_place (chosen t)) (kept_line s marks) (kept_lines fold s.text marks) (first_line s.text a) (place_at s a.span.start)
     (kept-ascends fold s.text marks) (first_kept fold s.text marks a (among_contains marks a first.among) (spans a first.among))
     (ap (option_map (λ column. record { line = s.first + first_line s.text a; column = Some column })) (least-there t choice s marks spans a first)
@@ -399,7 +399,7 @@ start-named test t is choice fold s marks utf8 spans = by (filter test marks) re
           first = λ b among marked passes. place-by s low.0.span.start b.span.start utf8 (spans low.0 given.0).from
               (low.1.lowest b (among_contains (a ∷ others) b (subst (λ xs. Among xs b) are (among_filter test marks b among (is.all b marked passes)))));
         } in
-        first-start t choice fold s marks spans low.0 first
+        first_place-start t choice fold s marks spans low.0 first
         ∙ sym (ap (λ xs. option_map (place_at s) (least (map (λ (a : Annotation). a.span.start) xs))) are ∙ ap (option_map (place_at s)) low.1.is)
 
     by : (xs : List Annotation) → filter test marks ≡ xs

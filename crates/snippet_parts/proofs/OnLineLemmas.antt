@@ -28,7 +28,7 @@ use Rattle.snippet_lines.specs.Place.{locations_of, start_location, end_location
 use Rattle.snippet_lines.specs.Span.{IsSpan}
 use Rattle.snippet_parts.specs.LineStretches.{is_seen}
 use Rattle.snippet_parts.proofs.RawDepthLemmas.{same-true, same-refl}
-use Rattle.snippet_parts.proofs.EntryFacts.{each-line, entries-on, longs-off, singles-on}
+use Rattle.snippet_parts.proofs.EntryFacts.{each-line, seen_part-parts_on, longs-off, singles-on}
 use Rattle.snippet_parts.proofs.KeptPartLemmas.{any-member, keeps-unmarked}
 use Rattle.snippet_parts.proofs.MarkLemmas.{start-line, end-line}
 use Rattle.snippet_parts.proofs.PartLemmas.{All-order}
@@ -369,4 +369,4 @@ module _ (fold : Bool) (s : Source) (marks : List Annotation) (infos : List Anno
             let at : info.line_index ≡ s.first + k = ap (λ (l : KeptLine). l.number) seen in
             let is : k ≡ info.line_index - s.first = omega arith in
             subst (λ n. AreEntriesOn s marks n (map seen_part info.annotations.items)) is
-            (subst (AreEntriesOn s marks k) (sym (entries-on s marks k info seen)) (parts-on-line s marks k spans))
+            (subst (AreEntriesOn s marks k) (sym (seen_part-parts_on s marks k info seen)) (parts-on-line s marks k spans))

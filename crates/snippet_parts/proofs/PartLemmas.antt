@@ -55,8 +55,8 @@ pub record IsBarLine (source : List ℕ) (first last k : ℕ) : Type 0 where
       ⊎ ((k + 1 ≡ last) × (ltb (min (first + 4) last) k ≡ true) × (not (is_trivial_line source k) ≡ true))
 
 -- each line of a bar lies where the span's bars may stand
-pub bar-lines : (source : List ℕ) (first last : ℕ) → All (IsBarLine source first last) (bar_lines source first last)
-bar-lines source first last =
+pub bar_lines-stand : (source : List ℕ) (first last : ℕ) → All (IsBarLine source first last) (bar_lines source first last)
+bar_lines-stand source first last =
     let beginning : ℕ = min (first + 4) last in
     let test = λ (k : ℕ). list_any (λ j. not (is_trivial_line source j)) (range_with_len k (beginning - k)) in
     let closing : Bool = ltb beginning (last - 1) && not (is_trivial_line source (last - 1)) in

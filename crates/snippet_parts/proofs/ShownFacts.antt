@@ -165,9 +165,10 @@ last_kept fold source marks a among span =
     span-kept fold source marks a (last_line source a) among (line_of-within source a.span.end) (keeps-last source a (last_line source a) span refl)
 
 -- so they are shown
-pub first-shown : (fold : Bool) (source : List ℕ) (marks : List Annotation) (a : Annotation) → Contains marks a → IsSpan source a.span.start a.span.end
+pub shown_lines-first_line : (fold : Bool) (source : List ℕ) (marks : List Annotation) (a : Annotation) → Contains marks a
+    → IsSpan source a.span.start a.span.end
     → Contains (shown_lines fold source marks) (first_line source a)
-first-shown fold source marks a among span = kept-shown fold source marks (first_line source a) (first_kept fold source marks a among span)
+shown_lines-first_line fold source marks a among span = kept-shown fold source marks (first_line source a) (first_kept fold source marks a among span)
 
 -- the line on which a span ends is shown
 pub last-shown : (fold : Bool) (source : List ℕ) (marks : List Annotation) (a : Annotation) → Contains marks a → IsSpan source a.span.start a.span.end

@@ -99,10 +99,10 @@ pub range-more : (i : ℕ) → range_with_len 0 (i + 1) ≡ range_with_len 0 i +
 range-more i = sym (map-id (range_with_len 0 (i + 1))) ∙ map-range_with_len_more (λ (k : ℕ). k) 0 i i (omega arith)
     ∙ ap (λ ks. ks ++ i ∷ []) (map-id (range_with_len 0 i))
 
-pub lines-shown : (p : ℕ → Bool) (f : ℕ → KeptLine) (i : ℕ) (now new : List AnnotatedLineInfo) (info : AnnotatedLineInfo) → p i ≡ true
+pub seen_kept-push : (p : ℕ → Bool) (f : ℕ → KeptLine) (i : ℕ) (now new : List AnnotatedLineInfo) (info : AnnotatedLineInfo) → p i ≡ true
     → new ≡ now ++ info ∷ [] → seen_kept info ≡ f i → map seen_kept now ≡ map f (filter p (range_with_len 0 i))
     → map seen_kept new ≡ map f (filter p (range_with_len 0 (i + 1)))
-lines-shown p f i now new info there pushed is before =
+seen_kept-push p f i now new info there pushed is before =
     ap (map seen_kept) pushed ∙ map_push seen_kept now info ∙ ap (λ ls. ls ++ seen_kept info ∷ []) before
     ∙ ap (λ l. map f (filter p (range_with_len 0 i)) ++ l ∷ []) is
     ∙ sym (ap (λ ks. map f (filter p ks)) (range-more i) ∙ ap (map f)

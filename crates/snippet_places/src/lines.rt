@@ -1,5 +1,6 @@
 //! Where the lines of a text start, and where they end.
-ghost use Rattle.std.specs.Prelude.{◌≡◌, ◌-◌, ◌^◌, ◌<◌, ◌≤◌, ◌++◌, IfOk, OnOk, length};
+ghost use Rattle.std.specs.Prelude.{◌≡◌, ◌<◌, ◌≤◌, ◌++◌, IfOk, OnOk, length};
+ghost use Rattle.snippet_style.specs.Bounds.{max_usize};
 ghost use Rattle.snippet_places.specs.TextLines as spec;
 
 use std::alloc::{AllocError, Global};
@@ -18,7 +19,7 @@ pub fn line_starts(alloc: Global, text: &str) -> Result<Vec<usize>, AllocError>
 
 /// Adds the byte after this one, if a line starts there.
 fn add_start(starts: &mut Vec<usize>, at: usize, byte: u8) -> Result<(), AllocError>
-    requires fits { at < 2 ^ 64 - 1 }
+    requires fits { at < max_usize }
     ensures added { OnOk result (starts.new.items ≡ starts.old.items ++ spec.start_at at byte) }
 {
     if byte == b'\n' {

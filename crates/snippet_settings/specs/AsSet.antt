@@ -1,5 +1,5 @@
 -- When a report is another as it is set: what of the two differs, part by part.
-use Rattle.std.specs.Prelude.{◌≡◌, Bool, true, false, List, ⊤}
+use Rattle.std.specs.Prelude.{◌≡◌, Bool, ⊤}
 use Rattle.std.specs.List.{AllZip}
 use Rattle.snippet_model.specs.declared.level.Level.{Level}
 use Rattle.snippet_model.specs.declared.level.LevelName.{LevelName}
@@ -69,8 +69,3 @@ IsElementAsSet feeds a b = ⊥
 abbrev pub IsGroupAsSet : Bool → Group → Group → Type 0
 IsGroupAsSet feeds a b =
     (b.level ≡ a.level) × SameOption (IsTitleAsSet feeds) a.title b.title × AllZip (IsElementAsSet feeds) a.elements.items b.elements.items
-
--- the report that is shown in place of one, where line feeds are shown or aren't: one with as many groups, each as it is set, or the same
-abbrev pub AreGroupsAsSet : Bool → List Group → List Group → Type 0
-AreGroupsAsSet true groups shown = AllZip (IsGroupAsSet true) groups shown
-AreGroupsAsSet false groups shown = shown ≡ groups

@@ -12,7 +12,7 @@ use Rattle.snippet_lines.specs.Place.{line_of}
 use Rattle.snippet_lines.proofs.BoundsLemmas.{IsLine-at}
 use Rattle.snippet_lines.proofs.LinesLemmas.{length-lines_of, length-source_lines, start_of-zero}
 use Rattle.snippet_lines.proofs.PlaceLemmas.{line_of-within, start_of-inside}
-use Rattle.snippet_splice.specs.Copied.{copied, end_from, in_text, is_inside_line_end, text_end, written}
+use Rattle.snippet_splice.specs.Copied.{copied, end_from, in_text, is_inside_line_end, text_end, written_from}
 use Rattle.snippet_splice.specs.Edits.{Edit, AreApart, in_order, precedes, trimmed_edit, trimmed_edits}
 use Rattle.snippet_splice.specs.ShownText.{closes_line, first_start, shown_line, shown_rest, shown_start, shown_text, without_final_line_feeds}
 use Rattle.snippet_splice.proofs.EditLemmas.{IsShrunk, trimmed_edit-shrunk}
@@ -120,10 +120,10 @@ text_feeds-in_order (e ∷ es) =
 -- ---- the LF of what is written
 
 written-feeds : (source : List ℕ) (at : ℕ) (ts : List Edit) → AreApart at ts
-    → feeds (take (in_text source at) source) + feeds (written source at ts) ≤ feeds (take (in_text source (end_from at ts)) source) + text_feeds ts
+    → feeds (take (in_text source at) source) + feeds (written_from source at ts) ≤ feeds (take (in_text source (end_from at ts)) source) + text_feeds ts
 written-feeds source at [] apart = omega arith
 written-feeds source at (t ∷ ts) apart =
-    let rest : List ℕ = written source t.end ts in
+    let rest : List ℕ = written_from source t.end ts in
     let between : feeds (copied source at t.start) ≡ feeds (slice_range source (in_text source at) (in_text source t.start)) = count-with_line_feeds
     (slice_range source (in_text source at) (in_text source t.start)) in
     let before = feeds-between source (in_text source at) (in_text source t.start) (in_text-mono source at t.start apart.0) in
@@ -162,7 +162,7 @@ shown-bound fold source es apart =
     let s : ℕ = shown_start fold source first in
     let ts : List Edit = trimmed_edits source es in
     let end : ℕ = end_from s ts in
-    let w : List ℕ = written source s ts in
+    let w : List ℕ = written_from source s ts in
     let rest : List ℕ = shown_rest fold (closes_line ts) (drop end source) in
     let zero_less : s - 0 ≡ s = omega arith in
     let before : feeds (take s source) ≡ shown_line fold source es = ap (λ n. feeds (take n source)) (sym zero_less) ∙ feeds-shown fold source es in

@@ -228,9 +228,9 @@ AreFrom-source [] k (s ∷ ss) h = absurd (omega (arith, h.within))
 AreFrom-source (b ∷ bs) k some h = h
 
 -- the lines of the shown part are those of the patched source, from the first that is shown on
-pub shown-lines : (fold : Bool) (source : List ℕ) (es : List Edit) → HasNoCr source → All (λ e. HasNoCr e.text) es → (h : IsShownPart fold source es)
+pub AreFrom-shown : (fold : Bool) (source : List ℕ) (es : List Edit) → HasNoCr source → All (λ e. HasNoCr e.text) es → (h : IsShownPart fold source es)
     → AreFrom (shown_line fold source es) (texts_of (lines_of (without_final_line_feeds h.part))) (texts_of (source_lines (patched source es)))
-shown-lines fold source es none texts_none h =
+AreFrom-shown fold source es none texts_none h =
     let d : List ℕ = patched source es in
     let ws : List ℕ = without_final_line_feeds h.part in
     let short : Shortens h.part ws = Shortens-final h.part in

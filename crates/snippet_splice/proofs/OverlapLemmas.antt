@@ -15,14 +15,14 @@ use Rattle.snippet_splice.proofs.EditLemmas.{trimmed-apart}
 use Rattle.snippet_splice.specs.Overlap.{overlap, overlap_at, no_edit, AreDisjoint, AreOverlapping, IsFirstOverlap, first_overlap_from, first_overlap}
 
 -- the edit at a place is that of the patch there
-pub edit-at : (ps : List Patch) (k : ℕ) (p : Patch) → k < length ps → p ≡ get_or ps k p → get_or (map edit_of ps) k no_edit ≡ edit_of p
-edit-at ps k p within is = get_or-map edit_of ps k p no_edit within ∙ ap edit_of (sym is)
+pub get_or-edit_of : (ps : List Patch) (k : ℕ) (p : Patch) → k < length ps → p ≡ get_or ps k p → get_or (map edit_of ps) k no_edit ≡ edit_of p
+get_or-edit_of ps k p within is = get_or-map edit_of ps k p no_edit within ∙ ap edit_of (sym is)
 
 -- two patches overlap where their edits do
 pub overlap-seen : (ps : List Patch) (m n : ℕ) (p q : Patch) → m < length ps → n < length ps → p ≡ get_or ps m p → q ≡ get_or ps n q
     → overlap_at (map edit_of ps) m n ≡ overlap (edit_of p) (edit_of q)
 overlap-seen ps m n p q low high first second =
-    ap (λ d. overlap d (get_or (map edit_of ps) n no_edit)) (edit-at ps m p low first) ∙ ap (overlap (edit_of p)) (edit-at ps n q high second)
+    ap (λ d. overlap d (get_or (map edit_of ps) n no_edit)) (get_or-edit_of ps m p low first) ∙ ap (overlap (edit_of p)) (get_or-edit_of ps n q high second)
 
 -- the edits of spans that are taken start before they end
 pub ordered-spans : (source : List ℕ) (ps : List Patch) → All (λ p. IsSpan source p.span.start p.span.end) ps → All (λ e. e.start ≤ e.end) (map edit_of ps)

@@ -127,10 +127,10 @@ ranges-shift source base n at (t ∷ ts) =
     (ranges-shift source base (n + c + feeds t.text) t.end ts ∙ ap (λ k. written_ranges source k t.end ts) e2)
 
 -- the ranges that are counted while the text is written are those of the texts in the patched source
-pub written-ranges : (fold : Bool) (source : List ℕ) (es : List Edit) → HasNoCr source → AreBeforeFinalLf source (trimmed_edits source es)
+pub ranges_from-written_ranges : (fold : Bool) (source : List ℕ) (es : List Edit) → HasNoCr source → AreBeforeFinalLf source (trimmed_edits source es)
     → AreApart 0 (in_order es) → ranges_from (shown_line fold source es)
     (written_ranges source 0 (shown_start fold source (first_start (in_order es))) (trimmed_edits source es)) ≡ line_ranges source es
-written-ranges fold source es none before apart =
+ranges_from-written_ranges fold source es none before apart =
     let s : ℕ = shown_start fold source (first_start (in_order es)) in
     let ts : List Edit = trimmed_edits source es in
     let f : List ℕ = slice_range source 0 s in

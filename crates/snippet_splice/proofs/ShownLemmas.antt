@@ -15,7 +15,7 @@ use Rattle.snippet_splice.specs.Edits.{Edit, edit_of, trimmed_edit_of, trimmed_e
 use Rattle.snippet_splice.specs.Edits.{AreApart}
 use Rattle.snippet_lines.specs.OrderedBy.{put_in}
 use Rattle.snippet_splice.specs.ShownText.{first_start, closes_line, shown_start, shown_rest, without_final_line_feeds, shown_text}
-use Rattle.snippet_splice.specs.Copied.{written, end_from}
+use Rattle.snippet_splice.specs.Copied.{written_from, end_from}
 use Rattle.snippet_splice.proofs.EditLemmas.{AreApart-earlier, trimmed-apart}
 
 put_in-some : {X : Type 0} (lt : X → X → Bool) (x : X) (ys : List X) → put_in lt x ys ≢ []
@@ -41,18 +41,19 @@ none_given source (p ∷ ps) [] same none = absurd (some-edits source (p ∷ ps)
 none_given source (p ∷ ps) (t ∷ ts) same none = absurd (cc)
 
 -- where nothing was given nothing is left
-pub some-given : (source : List ℕ) (ps : List Patch) (ts : List TrimmedPatch) (t : TrimmedPatch)
+pub trimmed-given : (source : List ℕ) (ps : List Patch) (ts : List TrimmedPatch) (t : TrimmedPatch)
     → map trimmed_edit_of ts ≡ trimmed_edits source (map edit_of ps) → slice_get ts 0 ≡ Some t → ps ≢ []
-some-given source [] [] t same some = λ _. cc
-some-given source [] (s ∷ ts) t same some = λ _. cc
-some-given source (p ∷ ps) ts t same some = λ e. cc
+trimmed-given source [] [] t same some = λ _. cc
+trimmed-given source [] (s ∷ ts) t same some = λ _. cc
+trimmed-given source (p ∷ ps) ts t same some = λ e. cc
 
 -- the first trimmed patch was the first in order
-pub first-given : (ts : List TrimmedPatch) (os : List Edit) (t : TrimmedPatch) → map original_bounds_of ts ≡ map edit_bounds os → slice_get ts 0 ≡ Some t
+pub first_start-trimmed : (ts : List TrimmedPatch) (os : List Edit) (t : TrimmedPatch) → map original_bounds_of ts ≡ map edit_bounds os
+    → slice_get ts 0 ≡ Some t
     → t.original_span.start ≡ first_start os
-first-given [] os t same some = absurd (cc)
-first-given (s ∷ ts) [] t same some = absurd (cc)
-first-given (s ∷ ts) (o ∷ os) t same some =
+first_start-trimmed [] os t same some = absurd (cc)
+first_start-trimmed (s ∷ ts) [] t same some = absurd (cc)
+first_start-trimmed (s ∷ ts) (o ∷ os) t same some =
     let pair : ◌≡◌ {A = ℕ × ℕ} (original_bounds_of s) (edit_bounds o) = cc in
     let one : s ≡ t = cc in
     ap (λ u. u.original_span.start) (sym one) ∙ ap (λ p. p.0) pair
@@ -82,7 +83,7 @@ shown-apart fold source es apart =
 
 -- what is written is the text that is shown
 pub shown-value : (fold : Bool) (source : List ℕ) (es ts : List Edit) (first start end : ℕ) (closed : Bool) (text rest : List ℕ)
-    → ts ≡ trimmed_edits source es → first ≡ first_start (in_order es) → start ≡ shown_start fold source first → text ≡ written source start ts
+    → ts ≡ trimmed_edits source es → first ≡ first_start (in_order es) → start ≡ shown_start fold source first → text ≡ written_from source start ts
     → end ≡ end_from start ts → closed ≡ closes_line ts → rest ≡ shown_rest fold closed (drop (min end (length source)) source)
     → without_final_line_feeds (text ++ rest) ≡ shown_text fold source es
 unfolding shown_text
@@ -90,13 +91,13 @@ shown-value fold source es ts first start end closed text rest of_ts of_first of
     let ts0 : List Edit = trimmed_edits source es in
     let s0 : ℕ = shown_start fold source (first_start (in_order es)) in
     let begin : start ≡ s0 = of_start ∙ ap (shown_start fold source) of_first in
-    let front : text ≡ written source s0 ts0 = of_text ∙ ap (λ n. written source n ts) begin ∙ ap (written source s0) of_ts in
+    let front : text ≡ written_from source s0 ts0 = of_text ∙ ap (λ n. written_from source n ts) begin ∙ ap (written_from source s0) of_ts in
     let after : end ≡ end_from s0 ts0 = of_end ∙ ap (λ n. end_from n ts) begin ∙ ap (end_from s0) of_ts in
     let left : drop (min end (length source)) source ≡ drop (end_from s0 ts0) source = drop_min end source ∙ ap (λ n. drop n source) after in
     let back : rest ≡ shown_rest fold (closes_line ts0) (drop (end_from s0 ts0) source) = of_rest
     ∙ ap (λ b. shown_rest fold b (drop (min end (length source)) source)) (of_closed ∙ ap closes_line of_ts)
     ∙ ap (shown_rest fold (closes_line ts0)) left in
-    ap (λ t. without_final_line_feeds (t ++ rest)) front ∙ ap (λ t. without_final_line_feeds (written source s0 ts0 ++ t)) back
+    ap (λ t. without_final_line_feeds (t ++ rest)) front ∙ ap (λ t. without_final_line_feeds (written_from source s0 ts0 ++ t)) back
 
 -- where a patch was given an edit is left
 pub some-trimmed : (ts : List TrimmedPatch) (es : List Edit) (t : TrimmedPatch) → map trimmed_edit_of ts ≡ es → slice_get ts 0 ≡ Some t → es ≢ []

@@ -2,7 +2,7 @@
 use Rattle.std.proofs.Common.{◌≡◌, ℕ, ◌+◌, Bool, List, [], ◌∷◌, ◌++◌, drop, map, max, min, length, refl, sym, ap, ◌∙◌, arith}
 use Rattle.std.proofs.lemmas.List.{drop_min}
 use Rattle.std.specs.List.{slice_range}
-use Rattle.snippet_splice.specs.Copied.{copied, end_from, in_text, written}
+use Rattle.snippet_splice.specs.Copied.{copied, end_from, in_text, written_from}
 use Rattle.snippet_splice.specs.Edits.{Edit, edit_bounds, in_order, trimmed_edits}
 use Rattle.snippet_splice.specs.ShownText.{closes_line, first_start, shown_rest, shown_start}
 use Rattle.snippet_splice.specs.EditStretches.{Extent, capped, extents_from, feeds_made, lines_over, num_replaced_lines, num_shown_lines, source_lines_shown}
@@ -10,10 +10,10 @@ use Rattle.snippet_splice.proofs.RangeLemmas.{feeds, feeds-append}
 use Rattle.snippet_splice.proofs.WriteLemmas.{count-with_line_feeds}
 
 -- what is written for edits has the line feeds between them and in their texts
-feeds-written : (source : List ℕ) (from at : ℕ) (es : List Edit) → feeds (written source at es) ≡ feeds_made (extents_from source from at es)
+feeds-written : (source : List ℕ) (from at : ℕ) (es : List Edit) → feeds (written_from source at es) ≡ feeds_made (extents_from source from at es)
 feeds-written source from at [] = refl
 feeds-written source from at (e ∷ es) =
-    let later = written source e.end es in
+    let later = written_from source e.end es in
     omega (
       arith,
       feeds-append (copied source at e.start) (e.text ++ later),
@@ -36,10 +36,10 @@ num_shown fold source es ts start end closed rest xs of_ts of_start of_xs of_end
     let back : rest ≡ shown_rest fold (closes_line ts0) (drop (end_from s0 ts0) source) =
     of_rest ∙ ap (λ b. shown_rest fold b (drop (min end (length source)) source)) (of_closed ∙ ap closes_line of_ts) ∙ ap
     (shown_rest fold (closes_line ts0)) left in
-    let made : feeds_made xs ≡ feeds (written source s0 ts0) =
+    let made : feeds_made xs ≡ feeds (written_from source s0 ts0) =
     ap feeds_made (of_xs ∙ ap (λ n. extents_from source n n ts) of_start ∙ ap (extents_from source s0 s0) of_ts) ∙ sym (feeds-written source s0 s0 ts0) in
-    let all : feeds_made xs + feeds rest ≡ feeds (written source s0 ts0 ++ shown_rest fold (closes_line ts0) (drop (end_from s0 ts0) source)) =
-    omega (arith, made, feeds-append (written source s0 ts0) (shown_rest fold (closes_line ts0) (drop (end_from s0 ts0) source)), ap feeds back) in
+    let all : feeds_made xs + feeds rest ≡ feeds (written_from source s0 ts0 ++ shown_rest fold (closes_line ts0) (drop (end_from s0 ts0) source)) =
+    omega (arith, made, feeds-append (written_from source s0 ts0) (shown_rest fold (closes_line ts0) (drop (end_from s0 ts0) source)), ap feeds back) in
     ap (λ n. capped (n + 1)) all
 
 -- and the source as many as are counted for it

@@ -13,7 +13,7 @@ use Rattle.snippet_lines.specs.Lines.{Line, lines_of, line_with_byte, with_first
 use Rattle.snippet_lines.specs.Place.{line_of}
 use Rattle.snippet_lines.proofs.PlaceLemmas.{line_of-within, text_at-end}
 use Rattle.snippet_splice.specs.Edits.{Edit, in_order, trimmed_edits, edited_from, patched, AreApart}
-use Rattle.snippet_splice.specs.Copied.{is_inside_line_end, text_end, in_text, with_line_feeds, copied, written, end_from}
+use Rattle.snippet_splice.specs.Copied.{is_inside_line_end, text_end, in_text, with_line_feeds, copied, written_from, end_from}
 use Rattle.snippet_splice.specs.ShownText.{first_start, last_text, closes_line, shown_start, without_final_line_feeds, shown_text}
 use Rattle.snippet_splice.specs.Spliced.{stands_from, stands, last_end, spliced_end, spliced_text, HasNoCr, IsBeforeFinalLf}
 use Rattle.snippet_splice.proofs.EditLemmas.{slice_split, edited_from-earlier, edited_from-trimmed}
@@ -60,22 +60,22 @@ AreBeforeFinalLf source ts = All (λ t. IsBeforeFinalLf source t.start) ts
 
 -- what is written is the patched source up to the last edit
 pub edited_from-written : (source : List ℕ) (at : ℕ) (ts : List Edit) → HasNoCr source → AreBeforeFinalLf source ts → AreApart at ts
-    → edited_from source at ts ≡ written source at ts ++ drop (end_from at ts) source
+    → edited_from source at ts ≡ written_from source at ts ++ drop (end_from at ts) source
 edited_from-written source at [] none before apart = refl
 edited_from-written source at (t ∷ ts) none before apart =
     let here : slice_range source at t.start ≡ copied source at t.start = sym
     (copied-same source at t.start none apart.0 (All-head (λ t. IsBeforeFinalLf source t.start) t ts before)) in
-    let rest : edited_from source t.end ts ≡ written source t.end ts
+    let rest : edited_from source t.end ts ≡ written_from source t.end ts
     ++ drop (end_from t.end ts) source = edited_from-written source t.end ts none (All-tail (λ t. IsBeforeFinalLf source t.start) t ts before) apart.2 in
     let after : List ℕ = drop (end_from t.end ts) source in
     ap (λ l. l ++ (t.text ++ edited_from source t.end ts)) here ∙ ap (λ l. copied source at t.start ++ (t.text ++ l)) rest
-    ∙ ap (λ l. copied source at t.start ++ l) (sym (append_assoc t.text (written source t.end ts) after))
-    ∙ sym (append_assoc (copied source at t.start) (t.text ++ written source t.end ts) after)
+    ∙ ap (λ l. copied source at t.start ++ l) (sym (append_assoc t.text (written_from source t.end ts) after))
+    ∙ sym (append_assoc (copied source at t.start) (t.text ++ written_from source t.end ts) after)
 
 -- ---- where the last text ends
 
 last_end-written : (source : List ℕ) (at now : ℕ) (ts : List Edit) → HasNoCr source → AreBeforeFinalLf source ts → AreApart at ts
-    → last_end now (stands_from source at now ts) ≡ now + length (written source at ts)
+    → last_end now (stands_from source at now ts) ≡ now + length (written_from source at ts)
 last_end-written source at now [] none before apart = omega arith
 last_end-written source at now (t ∷ ts) none before apart =
     let here : slice_range source at t.start ≡ copied source at t.start = sym
@@ -85,9 +85,9 @@ last_end-written source at now (t ∷ ts) none before apart =
     ∙ omega (
       arith,
       ap length here,
-      length-append (copied source at t.start) (t.text ++ written source t.end ts),
+      length-append (copied source at t.start) (t.text ++ written_from source t.end ts),
       length-append t.text
-          (written source t.end ts),
+          (written_from source t.end ts),
     )
 
 -- texts stand where they do when the source before them is given first
@@ -125,18 +125,18 @@ first_text : (b : ℕ) (ls : List Line) → b ≢ 13 → text_at (with_first_byt
 first_text b [] other = refl
 first_text b (l ∷ ls) other = line_with_byte-other b l.0 l.1 other
 
-first-line-of : (xs : List ℕ) → HasNoCr xs → text_at (lines_of xs) 0 ≡ before_first is_lf xs
-first-line-of [] none = refl
-first-line-of (b ∷ bs) none =
+text_at-first-of : (xs : List ℕ) → HasNoCr xs → text_at (lines_of xs) 0 ≡ before_first is_lf xs
+text_at-first-of [] none = refl
+text_at-first-of (b ∷ bs) none =
     ⊎_elim (λ t. ap (λ (ls : List Line). text_at ls 0) (cond-true {A = List Line} (eqb b 10) (([], Lf) ∷ lines_of bs) (with_first_byte b (lines_of bs)) t)
     ∙ sym (prefix-none b bs t))
     (λ f. ap (λ (ls : List Line). text_at ls 0) (cond-false {A = List Line} (eqb b 10) (([], Lf) ∷ lines_of bs) (with_first_byte b (lines_of bs)) f)
-    ∙ first_text b (lines_of bs) (none 0 0 (omega arith)) ∙ ap (λ l. b ∷ l) (first-line-of bs (All-tail (λ c. c ≢ 13) b bs none))
+    ∙ first_text b (lines_of bs) (none 0 0 (omega arith)) ∙ ap (λ l. b ∷ l) (text_at-first-of bs (All-tail (λ c. c ≢ 13) b bs none))
     ∙ sym (prefix-first b bs f)) (cases_Bool (eqb b 10))
 
-pub first-line : (xs : List ℕ) → HasNoCr xs → text_at (source_lines xs) 0 ≡ before_first is_lf xs
-first-line [] none = refl
-first-line (b ∷ bs) none = first-line-of (b ∷ bs) none
+pub text_at-first : (xs : List ℕ) → HasNoCr xs → text_at (source_lines xs) 0 ≡ before_first is_lf xs
+text_at-first [] none = refl
+text_at-first (b ∷ bs) none = text_at-first-of (b ∷ bs) none
 
 -- ---- the part of the patched source that is shown
 
@@ -154,7 +154,8 @@ pub record IsShownPart (fold : Bool) (source : List ℕ) (es : List Edit) : Type
   pub size : length front ≡ shown_start fold source (first_start (in_order es))
   pub stops : Stops rest ⊎ (last_byte part ≡ 10)
   pub closes : Stops rest ⊎ (0 < length (last_text (trimmed_edits source es)))
-  pub ends : length front + length (written source (shown_start fold source (first_start (in_order es))) (trimmed_edits source es)) ≤ length front + length part
+  pub ends : length front + length (written_from source (shown_start fold source (first_start (in_order es))) (trimmed_edits source es))
+      ≤ length front + length part
   pub text : shown_text fold source es ≡ without_final_line_feeds part
   pub spliced : spliced_text fold source es ≡ without_final_line_feeds part
 
@@ -165,7 +166,7 @@ start-within fold source first =
 
 pub shown-whole : (fold : Bool) (source : List ℕ) (es : List Edit) → HasNoCr source → AreBeforeFinalLf source (trimmed_edits source es)
     → AreApart 0 (in_order es) → let s = shown_start fold source (first_start (in_order es)) in let ts = trimmed_edits source es in
-    patched source es ≡ slice_range source 0 s ++ (written source s ts ++ drop (end_from s ts) source)
+    patched source es ≡ slice_range source 0 s ++ (written_from source s ts ++ drop (end_from s ts) source)
 shown-whole fold source es none before apart =
     let s : ℕ = shown_start fold source (first_start (in_order es)) in
     let ts : List Edit = trimmed_edits source es in
@@ -194,13 +195,13 @@ some_bytes : (xs : List ℕ) → last_byte xs ≡ 10 → 0 < length xs
 some_bytes [] e = absurd (cc)
 some_bytes (x ∷ xs) e = omega arith
 
-last-written : (source : List ℕ) (at : ℕ) (ts : List Edit) → last_byte (last_text ts) ≡ 10 → last_byte (written source at ts) ≡ 10
+last-written : (source : List ℕ) (at : ℕ) (ts : List Edit) → last_byte (last_text ts) ≡ 10 → last_byte (written_from source at ts) ≡ 10
 last-written source at [] e = absurd (cc)
 last-written source at (t ∷ []) e =
     last_byte-append (copied source at t.start) (t.text ++ []) (ap last_byte (append-nil t.text) ∙ e)
 last-written source at (t ∷ u ∷ ts) e =
-    last_byte-append (copied source at t.start) (t.text ++ written source t.end (u ∷ ts))
-    (last_byte-append t.text (written source t.end (u ∷ ts)) (last-written source t.end (u ∷ ts) e))
+    last_byte-append (copied source at t.start) (t.text ++ written_from source t.end (u ∷ ts))
+    (last_byte-append t.text (written_from source t.end (u ∷ ts)) (last-written source t.end (u ∷ ts) e))
 
 -- after the first line of a text stands its LF, or nothing
 first_stops : (xs : List ℕ) → Stops (drop (length (before_first is_lf xs)) xs)
@@ -219,7 +220,7 @@ first-split xs =
 
 -- where the last text ends
 pub last_end-stands : (source : List ℕ) (s : ℕ) (t : Edit) (ts : List Edit) → HasNoCr source → AreBeforeFinalLf source (t ∷ ts) → AreApart s (t ∷ ts)
-    → length (slice_range source 0 s) ≡ s → last_end 0 (stands source (t ∷ ts)) ≡ s + length (written source s (t ∷ ts))
+    → length (slice_range source 0 s) ≡ s → last_end 0 (stands source (t ∷ ts)) ≡ s + length (written_from source s (t ∷ ts))
 last_end-stands source s t ts none before apart size =
     ap (last_end 0) (stands_from-earlier source 0 s 0 t ts (omega arith) apart.0)
     ∙ last_end-written source s (0 + length (slice_range source 0 s)) (t ∷ ts) none before apart ∙ omega (arith, size)
@@ -239,7 +240,7 @@ pub IsShownPart-plain : (fold : Bool) (source : List ℕ) (es : List Edit) → H
 unfolding shown_text spliced_text
 IsShownPart-plain false source es none before apart some =
     let ts : List Edit = trimmed_edits source es in
-    let w : List ℕ = written source 0 ts in
+    let w : List ℕ = written_from source 0 ts in
     let r : List ℕ = drop (end_from 0 ts) source in
     let whole : patched source es ≡ w ++ r = shown-whole false source es none before apart in
     record {
@@ -259,7 +260,7 @@ IsShownPart-plain true source es none before apart some =
     let ts : List Edit = trimmed_edits source es in
     let s : ℕ = shown_start true source (first_start (in_order es)) in
     let f : List ℕ = slice_range source 0 s in
-    let w : List ℕ = written source s ts in
+    let w : List ℕ = written_from source s ts in
     let r : List ℕ = drop (end_from s ts) source in
     let after : AreApart s ts = shown-apart true source es apart in
     let size : length f ≡ s = front-size true source (first_start (in_order es)) in
@@ -304,7 +305,7 @@ IsShownPart-plain true source es none before apart some =
       stops = inl (first_stops r);
       closes = inl (first_stops r);
       ends = omega (arith, length-append w l);
-      text = ap (λ x. without_final_line_feeds (w ++ x)) (cond-false (closes_line ts) [] (text_at (source_lines r) 0) t ∙ first-line r clean);
+      text = ap (λ x. without_final_line_feeds (w ++ x)) (cond-false (closes_line ts) [] (text_at (source_lines r) 0) t ∙ text_at-first r clean);
       spliced = ap without_final_line_feeds (ap (slice_range (patched source es) s) end ∙ ap (λ d. slice_range d s (s + length w + length l)) whole
           ∙ cut-part f w r s (length l) size ∙ ap (λ x. w ++ x) front_of);
     })
@@ -313,7 +314,7 @@ IsShownPart-plain true source es none before apart some =
     last_of : (ts : List Edit) → ts ≢ [] → AreBeforeFinalLf source ts → AreApart (shown_start true source (first_start (in_order es))) ts
         → length (slice_range source 0 (shown_start true source (first_start (in_order es)))) ≡ shown_start true source (first_start (in_order es))
         → last_end 0 (stands source ts) ≡ shown_start true source (first_start (in_order es))
-        + length (written source (shown_start true source (first_start (in_order es))) ts)
+        + length (written_from source (shown_start true source (first_start (in_order es))) ts)
     last_of [] some before apart size = absurd (some refl)
     last_of (t ∷ ts) some before apart size =
         last_end-stands source (shown_start true source (first_start (in_order es))) t ts none before apart size

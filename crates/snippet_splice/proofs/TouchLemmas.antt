@@ -15,7 +15,7 @@ use Rattle.snippet_lines.proofs.LinesLemmas.{length-source_lines, source_lines-s
 use Rattle.snippet_lines.proofs.PlaceLemmas.{text_at-end}
 use Rattle.snippet_lines.proofs.BoundsLemmas.{line_bytes-slice, IsLine-at, IsOneLine-line}
 use Rattle.snippet_splice.specs.Edits.{Edit, in_order, trimmed_edits, patched, AreApart}
-use Rattle.snippet_splice.specs.Copied.{written}
+use Rattle.snippet_splice.specs.Copied.{written_from}
 use Rattle.snippet_splice.specs.ShownText.{first_start, last_text, shown_start, shown_line, without_final_line_feeds}
 use Rattle.snippet_splice.specs.declared.splice.LineRange.{LineRange}
 use Rattle.snippet_splice.specs.Spliced.{Stand, stands_from, stands, last_end, IsInLine, IsTouchedBy, IsTouched, HasNoCr, lines_of_stand, line_ranges}
@@ -119,19 +119,19 @@ stands-within source at now (t ∷ ts) =
 abbrev pub EndsBefore : ℕ → Stand → Type 0
 EndsBefore high s = s.from ≡ s.to → s.to < high
 
-stands-before : (source : List ℕ) (at now : ℕ) (ts : List Edit) → 0 < length (last_text ts)
+EndsBefore-stands_from : (source : List ℕ) (at now : ℕ) (ts : List Edit) → 0 < length (last_text ts)
     → All (EndsBefore (last_end now (stands_from source at now ts))) (stands_from source at now ts)
-stands-before source at now [] some = absurd (omega arith)
-stands-before source at now (t ∷ []) some =
+EndsBefore-stands_from source at now [] some = absurd (omega arith)
+EndsBefore-stands_from source at now (t ∷ []) some =
     let from : ℕ = now + length (slice_range source at t.start) in
     All-cons (EndsBefore (from + length t.text)) (record { from = from; to = from + length t.text }) [] (λ e.
     absurd (omega (arith, some, e))) (All-nil (EndsBefore (from + length t.text)))
-stands-before source at now (t ∷ u ∷ ts) some =
+EndsBefore-stands_from source at now (t ∷ u ∷ ts) some =
     let from : ℕ = now + length (slice_range source at t.start) in
     let to : ℕ = from + length t.text in
     let high : ℕ = last_end to (stands_from source t.end to (u ∷ ts)) in
     All-cons (EndsBefore high) (record { from = from; to = to }) (stands_from source t.end to (u ∷ ts)) (λ e.
-    last_end-lt source t.end to (u ∷ ts) some) (stands-before source t.end to (u ∷ ts) some)
+    last_end-lt source t.end to (u ∷ ts) some) (EndsBefore-stands_from source t.end to (u ∷ ts) some)
 
 -- ---- the lines that are touched
 
@@ -237,22 +237,22 @@ shown-touched fold source es none before apart h j touched some =
   where
     placed : (ts : List Edit) → AreApart (shown_start fold source (first_start (in_order es))) ts → AreBeforeFinalLf source ts → (s : Stand)
         → Contains (stands source ts) s → IsWithin (shown_start fold source (first_start (in_order es)))
-        (shown_start fold source (first_start (in_order es)) + length (written source (shown_start fold source (first_start (in_order es))) ts)) s
+        (shown_start fold source (first_start (in_order es)) + length (written_from source (shown_start fold source (first_start (in_order es))) ts)) s
         × (0 < length (last_text ts) → EndsBefore
-        (shown_start fold source (first_start (in_order es)) + length (written source (shown_start fold source (first_start (in_order es))) ts)) s)
+        (shown_start fold source (first_start (in_order es)) + length (written_from source (shown_start fold source (first_start (in_order es))) ts)) s)
     placed [] after before s among = absurd (omega (arith, among.1))
     placed (t ∷ ts) after before s among =
         let first : ℕ = shown_start fold source (first_start (in_order es)) in
         let size : length (slice_range source 0 first) ≡ first = front-size fold source (first_start (in_order es)) in
         let same : stands source (t ∷ ts) ≡ stands_from source first first (t ∷ ts) = stands_from-earlier source 0 first 0 t ts (omega arith) after.0
         ∙ (let e : 0 + length (slice_range source 0 first) ≡ first = omega (arith, size) in ap (λ n. stands_from source first n (t ∷ ts)) e) in
-        let end : last_end first (stands_from source first first (t ∷ ts)) ≡ first + length (written source first (t ∷ ts)) = sym (ap (last_end 0) same)
+        let end : last_end first (stands_from source first first (t ∷ ts)) ≡ first + length (written_from source first (t ∷ ts)) = sym (ap (last_end 0) same)
         ∙ last_end-stands source first t ts none before after size in
         let there : Contains (stands_from source first first (t ∷ ts)) s = subst (λ l. Contains l s) same among in (
-          All-contains (IsWithin first (first + length (written source first (t ∷ ts)))) (stands_from source first first (t ∷ ts)) s
+          All-contains (IsWithin first (first + length (written_from source first (t ∷ ts)))) (stands_from source first first (t ∷ ts)) s
               (subst (λ n. All (IsWithin first n) (stands_from source first first (t ∷ ts))) end (stands-within source first first (t ∷ ts))) there,
-          λ more. All-contains (EndsBefore (first + length (written source first (t ∷ ts)))) (stands_from source first first (t ∷ ts)) s
-              (subst (λ n. All (EndsBefore n) (stands_from source first first (t ∷ ts))) end (stands-before source first first (t ∷ ts) more)) there,
+          λ more. All-contains (EndsBefore (first + length (written_from source first (t ∷ ts)))) (stands_from source first first (t ∷ ts)) s
+              (subst (λ n. All (EndsBefore n) (stands_from source first first (t ∷ ts))) end (EndsBefore-stands_from source first first (t ∷ ts) more)) there,
         )
 
 -- ---- touched lines by ranges, for what is drawn of them

@@ -19,8 +19,8 @@ use Rattle.snippet_splice.specs.Trim.{IsSandwiched, IsSandwich, is_sandwiched, g
 regroup : (xs ys zs : List ℕ) → xs ++ ys ++ zs ≡ xs ++ (ys ++ zs)
 regroup xs ys zs = append_assoc xs ys zs
 
-begins-with : (o r : List ℕ) (m : List ℕ) (b : ℕ) → IsSandwiched o r (length o) m b → r ≡ o ++ m
-begins-with o r m b h =
+IsSandwiched-prefix : (o r : List ℕ) (m : List ℕ) (b : ℕ) → IsSandwiched o r (length o) m b → r ≡ o ++ m
+IsSandwiched-prefix o r m b h =
     h.whole ∙ rw (take_all (length o) o (le_refl (length o)), drop_all (length o) o (le_refl (length o)), append-nil) refl
 
 ends-with : (o r : List ℕ) (m : List ℕ) (b : ℕ) → IsSandwiched o r 0 m b → r ≡ m ++ o
@@ -75,7 +75,7 @@ pub IsSandwich-ends : (o r front : List ℕ) → IsUtf8 o → r ≡ front ++ o �
 IsSandwich-ends o r front utf8 e begins =
     record {
       is = record { border = IsCharBoundary-start o utf8; parts = omega arith; whole = e };
-      all_before = λ m h. absurd (begins m (begins-with o r m 0 h));
+      all_before = λ m h. absurd (begins m (IsSandwiched-prefix o r m 0 h));
       all_after = λ below m _. refl;
       longest = λ some a m b h. absurd (omega arith);
     }
@@ -98,7 +98,7 @@ IsSandwich-inside o r n m common begins ends e =
     ∙ sym (regroup (take n o) m (drop n o)) in
     record {
       is = record { border = common.border; parts = omega (arith, length-drop n o, common.border.0); whole = whole };
-      all_before = λ m h. absurd (begins m (begins-with o r m 0 h));
+      all_before = λ m h. absurd (begins m (IsSandwiched-prefix o r m 0 h));
       all_after = λ below m h. absurd (ends m (ends-with o r m (length o) h));
       longest = λ some a m b h. at_most_common o r n a m b common h;
     }

@@ -11,7 +11,7 @@ use Rattle.snippet_lines.specs.Span.{IsSpanBorder}
 use Rattle.snippet_splice.specs.declared.splice.LineRange.{LineRange}
 use Rattle.snippet_splice.specs.declared.patches.TrimmedPatch.{TrimmedPatch}
 use Rattle.snippet_splice.specs.Edits.{Edit, trimmed_edit_of, AreApart}
-use Rattle.snippet_splice.specs.Copied.{is_inside_line_end, text_end, in_text, with_line_feeds, copied, written, written_ranges, end_from}
+use Rattle.snippet_splice.specs.Copied.{is_inside_line_end, text_end, in_text, with_line_feeds, copied, written_from, written_ranges, end_from}
 use Rattle.snippet_splice.specs.ShownText.{last_text, unless_lone_line_feed, without_final_line_feeds}
 
 -- ---- an LF in place of each CR LF
@@ -97,7 +97,7 @@ in_text-mono source a b low =
 
 -- the edits so far are written: what is written and what is left make up all
 pub record Writes (source : List ℕ) (from : ℕ) (es : List Edit) (out : List ℕ) (ranges : List LineRange) (feeds end : ℕ) (left : List Edit) : Type 0 where
-  pub bytes : out ++ written source end left ≡ written source from es
+  pub bytes : out ++ written_from source end left ≡ written_from source from es
   pub lines : ranges ++ written_ranges source feeds end left ≡ written_ranges source 0 from es
   pub counted : feeds ≡ count_by is_lf out
   pub apart : AreApart end left
@@ -112,7 +112,7 @@ pub Writes-more : (source : List ℕ) (from : ℕ) (es : List Edit) (out : List 
     (feeds + between + count_by is_lf e.text) e.end left
 Writes-more source from es out ranges feeds end e left out2 out3 between h one n two border =
     let c : List ℕ = copied source end e.start in
-    let rest : List ℕ = written source e.end left in
+    let rest : List ℕ = written_from source e.end left in
     let all : out3 ≡ (out ++ c) ++ e.text = two ∙ ap (λ l. l ++ e.text) one in
     let last : ℕ = feeds + between + count_by is_lf e.text in
     let r : LineRange = record { first = feeds + between; last = last } in

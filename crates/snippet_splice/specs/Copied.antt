@@ -32,9 +32,9 @@ copied source from to =
     with_line_feeds (slice_range source (in_text source from) (in_text source to))
 
 -- what is written from a byte of the source on for some edits: before the text of each what is copied of the source
-abbrev pub written : List ℕ → ℕ → List Edit → List ℕ
-written source at [] = []
-written source at (e ∷ es) = copied source at e.start ++ (e.text ++ written source e.end es)
+abbrev pub written_from : List ℕ → ℕ → List Edit → List ℕ
+written_from source at [] = []
+written_from source at (e ∷ es) = copied source at e.start ++ (e.text ++ written_from source e.end es)
 
 -- on which lines the text of each of these edits stands, where so many line feeds were written before
 abbrev pub written_ranges : List ℕ → ℕ → ℕ → List Edit → List LineRange

@@ -7,7 +7,7 @@ use Rattle.std.specs.declared.alloc.Global.{Global}
 use Rattle.snippet_lines.specs.Lines.{is_lf, last_byte, source_lines}
 use Rattle.snippet_splice.specs.declared.stretches.PatchExtent.{PatchExtent}
 use Rattle.snippet_splice.specs.declared.stretches.SubstitutionHighlight.{SubstitutionHighlight}
-use Rattle.snippet_splice.specs.Copied.{in_text, written, end_from}
+use Rattle.snippet_splice.specs.Copied.{in_text, written_from, end_from}
 use Rattle.snippet_splice.specs.Edits.{Edit, edit_bounds, in_order, trimmed_edits}
 use Rattle.snippet_splice.specs.ShownText.{first_start, shown_start, shown_rest, closes_line}
 
@@ -117,7 +117,7 @@ unfoldable pub num_shown_lines : Bool → List ℕ → List Edit → ℕ
 num_shown_lines fold source es =
     let ts = trimmed_edits source es in
     let from = shown_start fold source (first_start (in_order es)) in
-    capped (count_by is_lf (written source from ts ++ shown_rest fold (closes_line ts) (drop (end_from from ts) source)) + 1)
+    capped (count_by is_lf (written_from source from ts ++ shown_rest fold (closes_line ts) (drop (end_from from ts) source)) + 1)
 
 -- ---- the stretches of the source that edits stand over
 

@@ -3,7 +3,7 @@ use Rattle.std.specs.Prelude.{ℕ, ◌==◌, Bool, List, [], ◌∷◌, ◌++◌
 use Rattle.snippet_lines.specs.Lines.{source_lines, start_of, text_at, last_byte, is_lf}
 use Rattle.snippet_lines.specs.Place.{line_of}
 use Rattle.snippet_splice.specs.Edits.{Edit, in_order, trimmed_edits}
-use Rattle.snippet_splice.specs.Copied.{written, end_from}
+use Rattle.snippet_splice.specs.Copied.{written_from, end_from}
 
 -- where the first of some edits starts
 abbrev pub first_start : List Edit → ℕ
@@ -47,4 +47,4 @@ unfoldable pub shown_text : Bool → List ℕ → List Edit → List ℕ
 shown_text fold source es =
     let ts = trimmed_edits source es in
     let start = shown_start fold source (first_start (in_order es)) in
-    without_final_line_feeds (written source start ts ++ shown_rest fold (closes_line ts) (drop (end_from start ts) source))
+    without_final_line_feeds (written_from source start ts ++ shown_rest fold (closes_line ts) (drop (end_from start ts) source))

@@ -5,7 +5,7 @@ ghost use Rattle.snippet_lines.specs.Lines.{source_lines, text_at};
 ghost use Rattle.snippet_lines.specs.Span.{IsSpan, IsSpanBorder};
 ghost use Rattle.snippet_splice.specs.Edits.{edit_of, original_bounds_of, trimmed_edit_of, AreApart};
 ghost use Rattle.snippet_splice.specs.Overlap.{AreDisjoint};
-ghost use Rattle.snippet_splice.specs.Copied.{written, written_ranges, end_from};
+ghost use Rattle.snippet_splice.specs.Copied.{written_from, written_ranges, end_from};
 ghost use Rattle.snippet_splice.specs.Splice.{IsSplice};
 ghost use Rattle.snippet_splice.specs.EditStretches.{source_lines_shown};
 ghost use Rattle.snippet_splice.specs.ShownText.{closes_line, shown_start, shown_rest, without_final_line_feeds};
@@ -190,7 +190,7 @@ fn write_patches(
     requires spans { All (λ t. IsSpan source.now t.span.start t.span.end) patches.now }
     requires apart { AreApart from (map trimmed_edit_of patches.now) }
     ensures text { IfOk result
-        (λ w. string_bytes w.text ≡ written source.now from (map trimmed_edit_of patches.now)) }
+        (λ w. string_bytes w.text ≡ written_from source.now from (map trimmed_edit_of patches.now)) }
     ensures ranges { IfOk result
         (λ w. w.ranges.items ≡ written_ranges source.now 0 from (map trimmed_edit_of patches.now)) }
     ensures end { IfOk result (λ w. w.end ≡ end_from from (map trimmed_edit_of patches.now)) }

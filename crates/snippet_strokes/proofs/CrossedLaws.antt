@@ -26,7 +26,8 @@ use Rattle.snippet_strokes.specs.LineRows.{AreLineRows, AreOwnRows}
 use Rattle.snippet_strokes.specs.Reach.{Reaches, cell_of_write}
 use Rattle.snippet_strokes.specs.Strokes.{StrokesPainted, begun_rows, connector_of, connectors_of, corner_of, corners_of, labels_of, stems_of, line_strokes}
 use Rattle.snippet_strokes.proofs.BarWrites.{All-connector_of, All-stretch_of}
-use Rattle.snippet_strokes.proofs.EndBarLaws.{is_at, labels_right, left_same, marks_right, part_leaves, passed_by, stems_right}
+use Rattle.snippet_strokes.proofs.EntryBarLaws.{is_at, labels_right, marks_right, part_leaves, stems_right}
+use Rattle.snippet_strokes.proofs.EndBarLaws.{left_same, passed_by}
 use Rattle.snippet_strokes.proofs.RowLemmas.{bare_row_right}
 use Rattle.snippet_strokes.proofs.SourceCellLaws.{none_has}
 use Rattle.snippet_strokes.proofs.WriteLaws.{All-flat_map, painted-cell}

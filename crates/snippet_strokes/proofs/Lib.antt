@@ -11,6 +11,7 @@ pub mod CutLemmas
 pub mod DrawLemmas
 pub mod ElisionLemmas
 pub mod EndBarLaws
+pub mod EntryBarLaws
 pub mod Examples
 pub mod HeldLemmas
 pub mod HeldStrokes
@@ -33,12 +34,14 @@ pub mod NumberLemmas
 pub mod OpenLemmas
 pub mod PaintLemmas
 pub mod PaintOrder
+pub mod PlacedRows
 pub mod PlainMarks
 pub mod PositionLemmas
 pub mod ReadyRows
 pub mod RowLemmas
 pub mod ShiftLemmas
 pub mod SnippetLemmas
+pub mod SourceBars
 pub mod SourceCellLaws
 pub mod SourceRowLemmas
 pub mod StemCells

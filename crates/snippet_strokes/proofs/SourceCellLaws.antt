@@ -31,8 +31,8 @@ use Rattle.snippet_strokes.specs.Strokes.{stems_of, line_strokes}
 use Rattle.snippet_strokes.proofs.AmongLaws.{all_from_among}
 use Rattle.snippet_strokes.proofs.BarWrites.{All-column_of, All-connector_of, All-stretch_of}
 use Rattle.snippet_strokes.proofs.ElisionLemmas.{bare_elision_short}
-use Rattle.snippet_strokes.proofs.EndBarLaws.{bar_begins, is_at, labels_right, left_same, marks_right, part_leaves, passed_by, past_apart, some_entries}
-use Rattle.snippet_strokes.proofs.EndBarLaws.{stems_right}
+use Rattle.snippet_strokes.proofs.EntryBarLaws.{is_at, labels_right, marks_right, part_leaves, stems_right}
+use Rattle.snippet_strokes.proofs.EndBarLaws.{bar_begins, left_same, passed_by, past_apart, some_entries}
 use Rattle.snippet_strokes.proofs.WriteLaws.{All-flat_map, painted-untouched}
 
 -- where no bar of a line has this depth no start and no end has it

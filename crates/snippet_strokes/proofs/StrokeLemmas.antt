@@ -1,19 +1,16 @@
 -- The rows of a line's strokes, once all are drawn.
-use Rattle.std.proofs.Common.{◌≡◌, ◌≢◌, ℕ, zero, suc, ◌+◌, ◌-◌, ◌<◌, ◌≤◌, ◌==◌, ◌&&◌, max, not, Bool, true, false, List, [], ◌∷◌, ◌++◌, length, map, take, drop}
+use Rattle.std.proofs.Common.{◌≡◌, ◌≢◌, ℕ, zero, suc, ◌+◌, ◌-◌, ◌<◌, ◌≤◌, ◌==◌, ◌&&◌, max, not, Bool, true, false, List, [], ◌∷◌, ◌++◌, length, map, drop}
 use Rattle.std.proofs.Common.{replicate, get_or, refl, sym, ap, ◌∙◌, subst, arith, inl, inr, All, chars}
 use Rattle.std.specs.List.{slice_index_or}
 use Rattle.std.specs.List.Sorted.{IsPermutation}
 use Rattle.std.specs.Cow.{cow_str_bytes}
 use Rattle.std.proofs.lemmas.Bool.{cases_lt}
 use Rattle.std.proofs.lemmas.Bool.Decides.{nat_tests}
-use Rattle.std.proofs.lemmas.List.{length-append, length-replicate, length-map, length-drop, get_or_append_left, get_or_past, get_or_push, length_push}
-use Rattle.std.proofs.lemmas.List.{get_or-drop, drop_more, take-take}
+use Rattle.std.proofs.lemmas.List.{length-append, length-replicate, length-drop, get_or_append_left, get_or_past, get_or_push, length_push}
+use Rattle.std.proofs.lemmas.List.{get_or-drop, drop_more}
 use Rattle.std.proofs.lemmas.List.Elements.{All-from_get_or, All-nil, All-cons}
 use Rattle.std.proofs.lemmas.List.Sorted.{IsPermutation-map, IsPermutation-trans, length_permutation}
 use Rattle.snippet_parts.specs.declared.entries.LineAnnotation.{LineAnnotation}
-use Rattle.snippet_window.specs.Window.{AreReplaced}
-use Rattle.snippet_style.specs.Glyphs.{placeholder_of}
-use Rattle.snippet_grid.specs.Print.{row_text}
 use Rattle.snippet_grid.specs.Grid.{cell_at, row_at, cells_written}
 use Rattle.snippet_style.specs.Cell.{Cell, SPACE, text_cells, written}
 use Rattle.snippet_grid.proofs.GridLemmas.{row_at-cells_written_same}
@@ -22,14 +19,14 @@ use Rattle.snippet_grid.specs.Layout.{Layout}
 use Rattle.snippet_labels.specs.declared.positions.PlacedEntry.{PlacedEntry}
 use Rattle.snippet_strokes.specs.EntryMarks.{EntryCovers, HasBarCell, IsBarCell, are_plain, is_single, has_mark_role, wide_entries}
 use Rattle.snippet_labels.specs.PlacedEntries.{HasPlace, label_text, label_role}
-use Rattle.snippet_model.specs.FreeRows.{IsFreeCell, IsFree}
+use Rattle.snippet_model.specs.FreeRows.{IsFreeCell}
 use Rattle.snippet_strokes.specs.Painting.{IsPaintedAt, AreMarked, mark_end, marks_of, painting_order, StandsWhole}
 use Rattle.snippet_strokes.specs.Writes.{painted}
 use Rattle.snippet_strokes.specs.Drawing.{DrawsFrom, DrawsBarCells, HasRows, KeepsBarCells, MarksStarts, StandsFrom, row_count}
-use Rattle.snippet_labels.specs.Positions.{HasItsLabel, has_label, has_stem, takes_space, positions, line_positions, ArePlaced}
+use Rattle.snippet_labels.specs.Positions.{HasItsLabel, has_label, has_stem, takes_space, ArePlaced}
 use Rattle.snippet_strokes.specs.SourceRows.{bare_row}
 use Rattle.snippet_strokes.specs.Cuts.{cut_rows, cuts_of}
-use Rattle.snippet_strokes.specs.StrokeRows.{CutsRows, IsBeside, IsCut, HasNoBars, IsStrokeRow, AddsStrokes, ShowsMarks}
+use Rattle.snippet_strokes.specs.StrokeRows.{CutsRows, IsCut, HasNoBars, IsStrokeRow, AddsStrokes, ShowsMarks}
 use Rattle.snippet_style.specs.Separators.{separator_row}
 use Rattle.snippet_strokes.proofs.DrawLemmas.{DrawsFrom-more, bar_space}
 use Rattle.snippet_strokes.specs.Labels.{IsStrokeCell}
@@ -47,11 +44,13 @@ use Rattle.snippet_strokes.proofs.StemWrites.{DrawsFrom-stems, stems_none, stems
 use Rattle.snippet_strokes.proofs.LabelWrites.{DrawsFrom-labels, label_lone, labels_none, labels_unmarked}
 use Rattle.snippet_strokes.proofs.LabelLaw.{labels_stand}
 use Rattle.snippet_strokes.proofs.StrokeWrites.{marks_painted, under_painted}
-use Rattle.snippet_strokes.proofs.PositionLemmas.{HasRows-row_count, line_positions_low, of_positions, positions-unlabelled, positions_sole, row_count_one}
+use Rattle.snippet_strokes.proofs.SourceBars.{source_beside}
+use Rattle.snippet_strokes.proofs.PlacedRows.{lone_placed, one_row, one_row_lone, unlabelled}
+use Rattle.snippet_strokes.proofs.PositionLemmas.{HasRows-row_count, positions-unlabelled}
 use Rattle.snippet_strokes.proofs.PositionLemmas.{row_count_some, stemless_bare, stemless_beside}
 use Rattle.snippet_strokes.proofs.RowLemmas.{bare_row_short, bare_row_right, free_bare_row}
-use Rattle.snippet_strokes.proofs.BegunLemmas.{kept_above, begun_row, written_far, same_after, free_cell, sole, plain_entries, plain_narrow, cut_left}
-use Rattle.snippet_strokes.proofs.BegunLemmas.{IsStrokeRow-cut, same_front, sole_same, wide_entries-order}
+use Rattle.snippet_strokes.proofs.BegunLemmas.{kept_above, begun_row, written_far, same_after, free_cell, sole, plain_entries, plain_narrow}
+use Rattle.snippet_strokes.proofs.BegunLemmas.{IsStrokeRow-cut, sole_same, wide_entries-order}
 use Rattle.snippet_strokes.proofs.CutLemmas.{CutsRows-cuts}
 
 module _ (layout : Layout) (room : ℕ) (closes : Bool) (es : List LineAnnotation) (placed : List PlacedEntry) (above_rows : List (List Cell))
@@ -213,46 +212,6 @@ module _ (layout : Layout) (room : ℕ) (closes : Bool) (es : List LineAnnotatio
   barred_source : source ≡ row_at barred (length above_rows)
   barred_source = above_new (length above_rows) (omega arith)
 
-  source_left : (c : ℕ) → c < layout.gutter + 3 → slice_index_or source c SPACE ≡ slice_index_or plain_row c SPACE
-  source_left c before =
-      ap (λ cells. slice_index_or cells c SPACE) barred_source ∙ bars.draws.left (length above_rows) c before
-      ∙ ap (λ cells. slice_index_or cells c SPACE) joined_source
-
-  source_bar_cells : (c : ℕ) → layout.gutter + 3 ≤ c → c < layout.code → IsBarCell layout.decor (slice_index_or source c SPACE)
-  source_bar_cells c right before =
-      let R : Cell → Type 0 = IsBarCell layout.decor in
-      let begun_here : R (cell_at joined (length above_rows) c) = subst (λ cells.
-      R (slice_index_or cells c SPACE)) (sym joined_source) (bare_bars.1 c right before) in
-      subst (λ cells. R (slice_index_or cells c SPACE)) (sym barred_source) (bars.bar_cells (length above_rows) c before begun_here)
-
-  source_code : drop layout.code source ≡ drop layout.code plain_row
-  source_code = ap (drop layout.code) barred_source ∙ bars.code (length above_rows) ∙ ap (drop layout.code) joined_source
-
-  source_long : length plain_row ≤ length source
-  source_long = omega (arith, ap length barred_source, bars.longer (length above_rows), ap length joined_source)
-
-  source_free : IsFree plain_row → IsFree source
-  source_free free =
-      let P : Cell → Type 0 = IsFreeCell in
-      let cells : (c : ℕ) → P (cell_at joined (length above_rows) c) = λ c.
-      subst (λ cells. P (slice_index_or cells c SPACE)) (sym joined_source) (free_cell plain_row free c) in
-      subst IsFree (sym barred_source) (All-from_get_or P (row_at barred (length above_rows)) SPACE (λ c _. bars.draws.free (length above_rows) cells c))
-
-  -- it stays beside its bars where it is cut
-  pub source_beside : (wide : ℕ) (row_now : List Cell) → IsCut layout wide source row_now → IsBeside layout wide plain_row row_now
-  source_beside wide row_now cut =
-      record {
-        front = sym (take-take (layout.gutter + 2) layout.code row_now (omega (arith, place))) ∙ ap (take (layout.gutter + 2)) cut.left
-            ∙ take-take (layout.gutter + 2) layout.code source (omega (arith, place))
-            ∙ same_front source plain_row (layout.gutter + 2) (omega (arith, source_long, bare_bars.0))
-            bare_bars.0 (λ c before. source_left c (omega (arith, before)));
-        gap = cut_left layout wide source row_now cut (layout.gutter + 2) (omega (arith, place)) ∙ source_left (layout.gutter + 2) (omega arith);
-        bar_cells = λ c right before. subst (IsBarCell layout.decor) (sym (cut_left layout wide source row_now cut c before)) (source_bar_cells c right before);
-        text = subst (λ cells. AreReplaced (placeholder_of layout.decor) wide (row_text cells) (row_text (drop layout.code row_now))) source_code cut.text;
-        uncut = λ none. ap (drop layout.code) (cut.uncut none) ∙ source_code;
-        free = λ free. cut.free (source_free free);
-      }
-
   begun_at : (k : ℕ) → k < row_count placed → row_at begun (row + k) ≡ bare k
   begun_at k within = ap (λ n. row_at begun (n + k)) last ∙ begun_row layout closes old begun (row_count placed) k begins within
 
@@ -336,16 +295,9 @@ module _ (layout : Layout) (room : ℕ) (closes : Bool) (es : List LineAnnotatio
         free = All-from_get_or P (row_at new (row + k)) SPACE (λ c _. free_at k within c);
       }
 
-  -- where no entry has a label to show, none has one placed
-  unlabelled : All (λ e. label_text e ≡ []) es → All (λ e. has_label e ≡ false) placed
-  unlabelled none =
-      λ k d within.
-      let own : label_text (get_or placed k d).entry ≡ [] = entries_all (λ e. label_text e ≡ []) es placed is.same none k d within in
-      ap (λ (cs : List ℕ). not (length cs == 0)) (is.labels k d within ∙ own)
-
   unhung : plain ≡ true → All (λ e. label_text e ≡ []) es → labelled ≡ begun
   unhung flat none =
-      let unmarked = unlabelled none in
+      let unmarked = unlabelled es placed is none in
       no_labels unmarked ∙ no_stems (λ k d within. stemless_bare (get_or placed k d) (unmarked k d within) (spaceless_all flat k d within)) ∙ barless flat
 
   space_at : (p : ℕ) → slice_index_or (bare 0) (layout.code + p) SPACE ≡ SPACE
@@ -354,24 +306,6 @@ module _ (layout : Layout) (room : ℕ) (closes : Bool) (es : List LineAnnotatio
 
   first_begun : row_at begun row ≡ bare 0
   first_begun = ap (row_at begun) (let same : row ≡ row + 0 = omega arith in same) ∙ begun_at 0 (row_count_some placed)
-
-  -- where positions are 0 in their order, so are those of the line
-  highest : All (λ q. q ≤ 0) (positions 0 placed) → All (λ (x : PlacedEntry). x.position ≤ 0) placed
-  highest all = of_positions (λ q. q ≤ 0) placed (line_positions placed) is.positions_are (line_positions_low 0 placed all)
-
-  -- the one entry of a line, as it is placed
-  lone_placed : (e : LineAnnotation) → es ≡ e ∷ [] → (q : PlacedEntry) × (placed ≡ q ∷ []) × (q.entry ≡ e) × (q.position ≡ 0)
-  lone_placed e one =
-      let long : length placed ≡ 1 = sym (length-map placed f) ∙ length_permutation es (map f placed) is.same ∙ ap length one in
-      let found = sole placed long in
-      let q : PlacedEntry = found.0 in
-      let entry : q.entry ≡ e = sole_same e q.entry (subst (λ xs. IsPermutation xs (q.entry ∷ [])) one
-      (subst (λ ps. IsPermutation es (map f ps)) found.1 is.same)) in
-      let at : All (λ (x : PlacedEntry). x.position ≤ 0) placed = highest
-      (subst (λ ps. All (λ q. q ≤ 0) (positions 0 ps)) (sym found.1)
-      (subst (All (λ q. q ≤ 0)) (sym (positions_sole q)) (All-cons (λ q. q ≤ 0) 0 [] (omega arith) (All-nil (λ q. q ≤ 0))))) in
-      let first : q.position ≤ 0 = subst (All (λ (x : PlacedEntry). x.position ≤ 0)) found.1 at 0 q (omega arith) in
-      (q, found.1, entry, omega (arith, first))
 
   lone_order : (q : PlacedEntry) → placed ≡ q ∷ [] → marked.order ≡ q ∷ []
   lone_order q one =
@@ -383,7 +317,7 @@ module _ (layout : Layout) (room : ℕ) (closes : Bool) (es : List LineAnnotatio
   lone : plain ≡ true → (e : LineAnnotation) → es ≡ e ∷ [] → e.start.display < e.end.display → 0 < length (label_text e)
       → drop (layout.code + e.end.display) (row_at new row) ≡ SPACE ∷ text_cells (label_role e.kind) (label_text e)
   lone flat e one some shown =
-      let found = lone_placed e one in
+      let found = lone_placed es placed is e one in
       let q : PlacedEntry = found.0 in
       let entry : q.entry ≡ e = found.2 in
       let at : ℕ = layout.code + e.end.display in
@@ -456,19 +390,9 @@ module _ (layout : Layout) (room : ℕ) (closes : Bool) (es : List LineAnnotatio
         lone = lone flat;
       }
 
-  one_row : All (λ q. q ≤ 0) (positions 0 placed) → row_count placed ≡ 1
-  one_row zeros = row_count_one placed (highest zeros)
-
-  one_row_lone : length es ≡ 1 → row_count placed ≡ 1
-  one_row_lone one =
-      let e = sole es one in
-      let found = lone_placed e.0 e.1 in
-      one_row (subst (λ ps. All (λ q. q ≤ 0) (positions 0 ps)) (sym found.1)
-      (subst (All (λ q. q ≤ 0)) (sym (positions_sole found.0)) (All-cons (λ q. q ≤ 0) 0 [] (omega arith) (All-nil (λ q. q ≤ 0)))))
-
   one_row_bare : plain ≡ true → All (λ e. label_text e ≡ []) es → row_count placed ≡ 1
   one_row_bare flat none =
-      one_row (λ k d within. omega (arith, positions-unlabelled 0 placed (unlabelled none) (spaceless_all flat) k d within))
+      one_row es placed is (λ k d within. omega (arith, positions-unlabelled 0 placed (unlabelled es placed is none) (spaceless_all flat) k d within))
 
   -- the rows below that of the marks
   abbrev lower : List (List Cell)
@@ -522,11 +446,12 @@ module _ (layout : Layout) (room : ℕ) (closes : Bool) (es : List LineAnnotatio
         source = cuts.source_now;
         rows = rows;
         added = cuts.new_is;
-        beside = source_beside wide cuts.source_now cuts.source_cut;
+        beside = source_beside layout (length above_rows) plain_row source joined barred place bare_bars bars joined_source barred_source wide
+            cuts.source_now cuts.source_cut;
         are = record {
           none = λ nothing. absurd (omega (arith, some, ap length nothing));
           some = λ flat _. omega (arith, long, row_count_some placed);
-          lone = λ flat one. long ∙ one_row_lone one;
+          lone = λ flat one. long ∙ one_row_lone es placed is one;
           bare = λ flat none. omega (arith, long, one_row_bare flat none);
           marks = λ flat. subst (ShowsMarks layout.decor layout.code es) (sym (cuts.marks_cut.uncut (narrow flat))) (shows_marks flat);
           labels = λ uncut _. LabelsStand-placed layout row es placed new rows is places stands beside_labels

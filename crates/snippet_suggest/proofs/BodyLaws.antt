@@ -31,7 +31,7 @@ use Rattle.snippet_suggest.specs.Given.{removed_lines, removed_of, replaced_line
 use Rattle.snippet_suggest.specs.PreparedSuggestion.{IsSuggestible}
 use Rattle.snippet_suggest.specs.RowOrder.{Begins, Empty, Ends, Offers, Removes, Skips, SuggestionRow, changed_rows, is_diff, number_after, number_beside}
 use Rattle.snippet_suggest.specs.RowOrder.{removed_number, removed_row, row_of_shown, rows_of_suggestion, rows_where}
-use Rattle.snippet_suggest.specs.Suggested.{body_cells, cells_of, cells_over, marked_edits, new_on, removed_in, suggested_stretches, with_left_out}
+use Rattle.snippet_suggest.specs.Suggested.{body_cells, suggested_cells, cells_over, marked_edits, new_on, removed_in, suggested_stretches, with_left_out}
 use Rattle.snippet_suggest.specs.SuggestedLines.{is_touched, lines_suggested}
 use Rattle.snippet_suggest.specs.SuggestionRows.{HasGutter, IsBareRow, IsRowOfRemoved, IsUnder, NumberFits, Shows}
 use Rattle.snippet_suggest.proofs.BareLemmas.{bare_none, stroke_none}
@@ -57,13 +57,13 @@ AreEach Q under (row ∷ rows) = Q under row × All (Q []) rows
 module _ (layout : SuggestionLayout) (s : Snippet Patch) (P : SuggestionRow → List Cell → Type 0)
     (kept : (shown : SuggestionRow) (now row : List Cell) → map without_role now ≡ map without_role row → P shown row → P shown now) where
   abbrev Holds : List Cell → SuggestionRow → Type 0
-  Holds under shown = P shown (cells_of layout s under shown)
+  Holds under shown = P shown (suggested_cells layout s under shown)
 
-  holds_later : (rows : List SuggestionRow) → All (Holds []) rows → AllZip P rows (map (cells_of layout s []) rows)
+  holds_later : (rows : List SuggestionRow) → All (Holds []) rows → AllZip P rows (map (suggested_cells layout s []) rows)
   holds_later [] all = tt
   holds_later (row ∷ rows) all = (All-head (Holds []) row rows all, holds_later rows (All-tail (Holds []) row rows all))
 
-  holds_over : (under : List Cell) (rows : List SuggestionRow) → AreEach Holds under rows → AllZip P rows (cells_over (cells_of layout s) under rows)
+  holds_over : (under : List Cell) (rows : List SuggestionRow) → AreEach Holds under rows → AllZip P rows (cells_over (suggested_cells layout s) under rows)
   holds_over under [] all = tt
   holds_over under (row ∷ rows) all = (all.0, holds_later rows all.1)
 
@@ -94,7 +94,7 @@ module _ (layout : SuggestionLayout) (s : Snippet Patch) (P : SuggestionRow → 
       → AllZip P (rows_of_suggestion start s) (body_cells layout start s under)
   unfolding body_cells
   body_each start under all =
-      holds_left_out (given_lines s) (rows_of_suggestion start s) (cells_over (cells_of layout s) under (rows_of_suggestion start s))
+      holds_left_out (given_lines s) (rows_of_suggestion start s) (cells_over (suggested_cells layout s) under (rows_of_suggestion start s))
       (holds_over under (rows_of_suggestion start s) all)
 
   -- also where it holds of each, whatever it is drawn over
@@ -159,8 +159,8 @@ module _ (layout : SuggestionLayout) (s : Snippet Patch) where
   removed_shown (line ∷ lines) ss number text under small bare = replaced_shows layout NoStyle Removal number text ss under small bare
 
   -- then it shows what it is to show
-  row_shows : (under : List Cell) (shown : SuggestionRow) → Fits under shown → IsShown shown (cells_of layout s under shown)
-  unfolding cells_of
+  row_shows : (under : List Cell) (shown : SuggestionRow) → Fits under shown → IsShown shown (suggested_cells layout s under shown)
+  unfolding suggested_cells
   row_shows under (Begins start) fits = begin_shows layout start under fits
   row_shows under (Offers k) fits = offered_shows layout (shown_kind s) (length (given_lines s)) (number_after (s.line_start + first_given s) k) _
       (new_on s k) (omega arith) fits
@@ -170,13 +170,14 @@ module _ (layout : SuggestionLayout) (s : Snippet Patch) where
   row_shows under (Ends follows) fits =
       marks_show layout (numbered_source s) [] (marked_edits (shown_kind s) (trimmed_of s)) _ (end_cells layout follows) (end_shows layout follows)
 
-  rows_show : (under : List Cell) (rows : List SuggestionRow) → AreEach Fits under rows → AreEach (λ u row. IsShown row (cells_of layout s u row)) under rows
+  rows_show : (under : List Cell) (rows : List SuggestionRow) → AreEach Fits under rows
+      → AreEach (λ u row. IsShown row (suggested_cells layout s u row)) under rows
   rows_show under [] fits = tt
   rows_show under (row ∷ rows) fits = (row_shows under row fits.0, later rows fits.1)
     where
-      later : (rows : List SuggestionRow) → All (Fits []) rows → All (λ row. IsShown row (cells_of layout s [] row)) rows
-      later [] fits = All-nil (λ row. IsShown row (cells_of layout s [] row))
-      later (row ∷ rows) fits = All-cons (λ row. IsShown row (cells_of layout s [] row)) row rows (row_shows [] row (All-head (Fits []) row rows fits))
+      later : (rows : List SuggestionRow) → All (Fits []) rows → All (λ row. IsShown row (suggested_cells layout s [] row)) rows
+      later [] fits = All-nil (λ row. IsShown row (suggested_cells layout s [] row))
+      later (row ∷ rows) fits = All-cons (λ row. IsShown row (suggested_cells layout s [] row)) row rows (row_shows [] row (All-head (Fits []) row rows fits))
           (later rows (All-tail (Fits []) row rows fits))
 
   abbrev NoCells : IsBareRow layout.base.decor layout.base.gutter []
@@ -234,5 +235,5 @@ module _ (layout : SuggestionLayout) (s : Snippet Patch) where
       (shown_fit (lines_suggested touched n) (rooms_shown layout (s.line_start + first_given s) n touched fits)) (fits 0)))
 
   -- and the last one what it ends with
-  pub last_shows : (follows : Bool) → IsShown (Ends follows) (cells_of layout s [] (Ends follows))
+  pub last_shows : (follows : Bool) → IsShown (Ends follows) (suggested_cells layout s [] (Ends follows))
   last_shows follows = row_shows [] (Ends follows) tt

@@ -23,7 +23,7 @@ use Rattle.snippet_suggest.specs.declared.layout.SuggestionLayout.{SuggestionLay
 use Rattle.snippet_suggest.specs.declared.layout.SuggestionStart.TheVariants.{Opening}
 use Rattle.snippet_suggest.specs.Cells.{begin_cells, end_cells, line_cells, offered_cells, on_last, put, removed_cells, sign_of, with_stretches}
 use Rattle.snippet_suggest.specs.Marks.{with_mark, with_marks}
-use Rattle.snippet_suggest.specs.Suggested.{body_cells, cells_of, suggestion_cells}
+use Rattle.snippet_suggest.specs.Suggested.{body_cells, suggested_cells, suggestion_cells}
 use Rattle.snippet_suggest.proofs.Examples.{deleted_line, first_line_deleted, one_word, text_put_in, third_unfolded, two_lines}
 
 -- suggestions in ASCII, with a gutter of one digit
@@ -44,7 +44,7 @@ pub put_in_cells : (code : ℕ) (v : Vec Patch Global) (follows : Bool)
     → suggestion_cells (ascii code) Opening follows (text_put_in v) []
     ≡ stroke ∷ (text_cells LineNumber (codes "1") ++ SPACE ∷ text_cells LineNumber (codes "| ") ++ text_cells NoStyle (codes "foo(")
     ++ text_cells Addition (codes "x") ++ text_cells NoStyle (codes ")")) ∷ (stroke ++ replicate 5 SPACE ++ text_cells Addition (codes "+")) ∷ []
-unfolding suggestion_cells body_cells cells_of begin_cells end_cells line_cells offered_cells put sign_of with_stretches with_mark with_marks
+unfolding suggestion_cells body_cells suggested_cells begin_cells end_cells line_cells offered_cells put sign_of with_stretches with_mark with_marks
     changed_within written new_stretches norm digits char_width unicode_width locations_of location_of start_location end_location place_of
     steps_after_text shown_text trimmed_edit sandwich kept_before start_of line_of chars last_line_reached newline_count trim_start trim_end
     lib.Utf8.encode
@@ -61,7 +61,7 @@ word_cells : (code : ℕ) (v : Vec Patch Global) (follows : Bool)
     → suggestion_cells (ascii code) Opening follows (one_word v) []
     ≡ stroke ∷ (text_cells LineNumber (codes "1") ++ SPACE ∷ text_cells Removal (codes "- foo"))
     ∷ (text_cells LineNumber (codes "1") ++ SPACE ∷ text_cells Addition (codes "+ bar")) ∷ stroke ∷ []
-unfolding suggestion_cells body_cells cells_of begin_cells end_cells line_cells offered_cells removed_cells on_last put sign_of with_stretches
+unfolding suggestion_cells body_cells suggested_cells begin_cells end_cells line_cells offered_cells removed_cells on_last put sign_of with_stretches
     with_mark with_marks changed_within written new_stretches replaced_stretches norm digits char_width unicode_width locations_of location_of
     start_location end_location place_of steps_after_text shown_text trimmed_edit sandwich kept_before start_of line_of chars last_line_reached
     newline_count trim_start trim_end lib.Utf8.encode
@@ -78,7 +78,7 @@ two_line_cells : (code : ℕ) (v : Vec Patch Global) (follows : Bool)
     → suggestion_cells (ascii code) Opening follows (two_lines v) []
     ≡ stroke ∷ (text_cells LineNumber (codes "1") ++ SPACE ∷ text_cells Addition (codes "~ x") ++ text_cells NoStyle (codes "a"))
     ∷ (text_cells LineNumber (codes "2") ++ SPACE ∷ text_cells LineNumber (codes "|") ++ SPACE ∷ text_cells NoStyle (codes "c")) ∷ stroke ∷ []
-unfolding suggestion_cells body_cells cells_of begin_cells end_cells line_cells offered_cells put sign_of with_stretches with_mark with_marks
+unfolding suggestion_cells body_cells suggested_cells begin_cells end_cells line_cells offered_cells put sign_of with_stretches with_mark with_marks
     changed_within written new_stretches norm digits char_width unicode_width locations_of location_of start_location end_location place_of
     steps_after_text shown_text trimmed_edit sandwich kept_before start_of line_of chars last_line_reached newline_count trim_start trim_end
     lib.Utf8.encode
@@ -98,7 +98,7 @@ pub unfolded_cells : (code : ℕ) (v : Vec Patch Global) (follows : Bool)
     ≡ stroke ∷ (text_cells LineNumber (codes "1") ++ SPACE ∷ text_cells LineNumber (codes "|") ++ SPACE ∷ text_cells NoStyle (codes "a"))
     ∷ (text_cells LineNumber (codes "2") ++ SPACE ∷ text_cells LineNumber (codes "|") ++ SPACE ∷ text_cells NoStyle (codes "b"))
     ∷ (text_cells LineNumber (codes "3") ++ SPACE ∷ text_cells Addition (codes "+ x")) ∷ stroke ∷ []
-unfolding suggestion_cells body_cells cells_of begin_cells end_cells line_cells offered_cells put sign_of with_stretches with_mark with_marks
+unfolding suggestion_cells body_cells suggested_cells begin_cells end_cells line_cells offered_cells put sign_of with_stretches with_mark with_marks
     changed_within written new_stretches norm digits char_width unicode_width locations_of location_of start_location end_location place_of
     steps_after_text shown_text trimmed_edit sandwich kept_before start_of line_of chars last_line_reached newline_count trim_start trim_end
     lib.Utf8.encode
@@ -113,7 +113,7 @@ unfolded_cells code v false = refl
 deleted_cells : (code : ℕ) (v : Vec Patch Global) (follows : Bool)
     → suggestion_cells (ascii code) Opening follows (deleted_line v) []
     ≡ stroke ∷ (text_cells LineNumber (codes "1") ++ SPACE ∷ text_cells Removal (codes "- a")) ∷ stroke ∷ []
-unfolding suggestion_cells body_cells cells_of begin_cells end_cells removed_cells on_last put sign_of with_stretches with_mark with_marks
+unfolding suggestion_cells body_cells suggested_cells begin_cells end_cells removed_cells on_last put sign_of with_stretches with_mark with_marks
     changed_within written new_stretches replaced_stretches norm digits char_width unicode_width locations_of location_of start_location end_location
     place_of steps_after_text shown_text trimmed_edit sandwich kept_before start_of line_of chars last_line_reached newline_count trim_start trim_end
     lib.Utf8.encode
@@ -129,7 +129,7 @@ deleted_cells code v false = refl
 left_out_row : (code : ℕ) (v : Vec Patch Global) (follows : Bool)
     → suggestion_cells (ascii code) Opening follows (first_line_deleted v) []
     ≡ stroke ∷ (text_cells LineNumber (codes "1") ++ SPACE ∷ text_cells Removal (codes "- a")) ∷ stroke ∷ []
-unfolding suggestion_cells body_cells cells_of begin_cells end_cells removed_cells on_last put sign_of with_stretches with_mark with_marks
+unfolding suggestion_cells body_cells suggested_cells begin_cells end_cells removed_cells on_last put sign_of with_stretches with_mark with_marks
     changed_within written new_stretches replaced_stretches norm digits char_width unicode_width locations_of location_of start_location end_location
     place_of steps_after_text shown_text trimmed_edit sandwich kept_before start_of line_of chars last_line_reached newline_count trim_start trim_end
     lib.Utf8.encode

@@ -19,7 +19,7 @@ use Rattle.snippet_suggest.specs.Given.{edits_of, first_end, first_given, first_
 use Rattle.snippet_suggest.proofs.ReachLemmas.{reached, touched_last}
 use Rattle.snippet_suggest.specs.PreparedSuggestion.{IsPrepared}
 use Rattle.snippet_suggest.proofs.SpanLemmas.{original_spans, trimmed_spans}
-use Rattle.snippet_suggest.proofs.PreparedLemmas.{first-original}
+use Rattle.snippet_suggest.proofs.PreparedLemmas.{first_original-start}
 
 -- the spans of its edits are taken
 edit_spans : (p : PreparedSuggestion) → IsPrepared p → All (λ e. IsSpan p.map.text e.start e.end) (edits_of p.snippet.now)
@@ -77,7 +77,7 @@ first_end-of (t ∷ ts) (e ∷ es) same =
 
 -- the first patch of a prepared suggestion starts where its first edit does
 pub known_first_start : (p : PreparedSuggestion) → IsPrepared p → first_original p.splice.patches.items ≡ first_start (in_order (edits_of p.snippet.now))
-known_first_start p is = first-original p.splice.patches.items (in_order (edits_of p.snippet.now)) is.originals
+known_first_start p is = first_original-start p.splice.patches.items (in_order (edits_of p.snippet.now)) is.originals
 
 -- the first patch of a prepared suggestion ends where its first edit does
 pub known_first_end : (p : PreparedSuggestion) → IsPrepared p → first_original_end p.splice.patches.items ≡ first_end (in_order (edits_of p.snippet.now))
@@ -93,4 +93,4 @@ known_first p is =
     let trimmed = p.splice.patches.items in
     ap (λ m. m.first + (if s.fold then line_of (source_lines m.text) (first_original trimmed) else 0)) is.lines
     ∙ ap (λ b. s.line_start + (if s.fold then line_of (source_lines (cow_str_bytes s.source)) b else 0))
-    (first-original trimmed (in_order (edits_of s)) is.originals)
+    (first_original-start trimmed (in_order (edits_of s)) is.originals)

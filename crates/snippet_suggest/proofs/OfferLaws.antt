@@ -14,7 +14,7 @@ use Rattle.snippet_splice.specs.Spliced.{AreFrom, texts_of}
 use Rattle.snippet_splice.proofs.OverlapLemmas.{apart-in_order, ordered-spans}
 use Rattle.snippet_splice.proofs.ShownLemmas.{some-edits}
 use Rattle.snippet_splice.proofs.SpliceLemmas.{IsShownPart, IsShownPart-plain}
-use Rattle.snippet_splice.proofs.LineLemmas.{AreFrom-at, shown-lines}
+use Rattle.snippet_splice.proofs.LineLemmas.{AreFrom-at, AreFrom-shown}
 use Rattle.snippet_suggest.specs.Given.{IsOfferable, edits_of, first_given, given_lines, given_ranges, is_left_out, last_reached, numbers_given, offered_lines}
 use Rattle.snippet_suggest.specs.Given.{shown_kind}
 use Rattle.snippet_suggest.specs.SuggestedLines.{AreRising, is_touched, numbers_shown, lines_suggested}
@@ -44,7 +44,7 @@ given-from s spans disjoint some offerable =
     let source : List ℕ = cow_str_bytes s.source in
     let part : IsShownPart s.fold source (edits_of s) = given-part s spans disjoint some offerable in
     subst (λ t. AreFrom (first_given s) (texts_of (lines_of t)) (texts_of (source_lines (patched source (edits_of s))))) (sym part.text)
-    (shown-lines s.fold source (edits_of s) offerable.no_cr offerable.no_cr_in part)
+    (AreFrom-shown s.fold source (edits_of s) offerable.no_cr offerable.no_cr_in part)
 
 -- a line that is given is the line of the patched source at the same place
 pub given-is-patched : (s : Snippet Patch) → HaveSpans s → AreDisjoint (edits_of s) → s.markers.items ≢ [] → IsOfferable s → (k : ℕ)

@@ -21,11 +21,11 @@ use Rattle.snippet_parts.specs.Numbered.{numbered_source}
 use Rattle.snippet_suggest.specs.PreparedSuggestion.{IsSuggestible}
 
 -- the first of the trimmed patches started where the first edit does
-pub first-original : (ts : List TrimmedPatch) (os : List Edit) → map original_bounds_of ts ≡ map edit_bounds os → first_original ts ≡ first_start os
-first-original [] [] same = refl
-first-original [] (o ∷ os) same = absurd (cc)
-first-original (t ∷ ts) [] same = absurd (cc)
-first-original (t ∷ ts) (o ∷ os) same =
+pub first_original-start : (ts : List TrimmedPatch) (os : List Edit) → map original_bounds_of ts ≡ map edit_bounds os → first_original ts ≡ first_start os
+first_original-start [] [] same = refl
+first_original-start [] (o ∷ os) same = absurd (cc)
+first_original-start (t ∷ ts) [] same = absurd (cc)
+first_original-start (t ∷ ts) (o ∷ os) same =
     let pair : ◌≡◌ {A = ℕ × ℕ} (original_bounds_of t) (edit_bounds o) = cc in
     ap (λ p. p.0) pair
 
@@ -81,7 +81,7 @@ pub counted-is : (s : Snippet Patch) (source : Source) (ps : List TrimmedPatch) 
 counted-is s source ps text kind count h of given edits originals shown counted =
     let start : ℕ = first_original ps in
     let end : ℕ = first_end (map trimmed_edit_of ps) in
-    let begin : start ≡ first_start (in_order (edits_of s)) = first-original ps (in_order (edits_of s)) originals in
+    let begin : start ≡ first_start (in_order (edits_of s)) = first_original-start ps (in_order (edits_of s)) originals in
     let first : source.first + (if s.fold then line_of (source_lines source.text) start else 0) ≡ s.line_start + first_given s =
     ap (λ (m : Source). m.first + (if s.fold then line_of (source_lines m.text) start else 0)) of
     ∙ ap (λ at. s.line_start + (if s.fold then line_of (source_lines (cow_str_bytes s.source)) at else 0)) begin in

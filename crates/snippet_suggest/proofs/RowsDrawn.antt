@@ -15,7 +15,7 @@ use Rattle.snippet_suggest.specs.Cells.{diff_cells, emptied_cells, gone_of, left
 use Rattle.snippet_splice.specs.declared.stretches.SubstitutionHighlight.{SubstitutionHighlight}
 use Rattle.snippet_suggest.specs.declared.kind.DisplaySuggestion.TheVariants.{Diff}
 use Rattle.snippet_suggest.specs.Given.{is_left_out, last_removed, unless_stays}
-use Rattle.snippet_suggest.specs.Kind.{is_blank}
+use Rattle.snippet_suggest.specs.Kind.{is_blank_text}
 use Rattle.snippet_suggest.specs.RowOrder.{number_after, numbered_at}
 use Rattle.std.proofs.lemmas.List.{append-nil, drop_all, drop_more, get_or-map as mapped, length-map, length-take, map-append, take_all, take_more}
 use Rattle.snippet_suggest.proofs.StretchRows.{with_none}
@@ -214,7 +214,7 @@ diff_shown layout first infos replaced line added last stays is shown =
 
 -- a line that is the last that is reached isn't shown
 pub stays_left : (line last : List ℕ) → bytes_eq line last ≡ true → is_left_out Diff (line ∷ []) last ≡ true
-stays_left line last same = ap (λ b. is_blank line || b) same ∙ or-true (is_blank line)
+stays_left line last same = ap (λ b. is_blank_text line || b) same ∙ or-true (is_blank_text line)
 
 -- the lines that are drawn, where the last may stay
 pub left_infos : (infos : List LineInfo) (count : ℕ) (stays : Bool) → count ≡ length infos - bool_byte stays → take count infos ≡ unless_stays stays infos

@@ -16,7 +16,7 @@ use Rattle.snippet_suggest.specs.Cells.{line_cells, offered_cells, put, sign_of,
 use Rattle.snippet_suggest.specs.Given.{given_lines, shown_kind}
 use Rattle.snippet_style.specs.Glyphs.{suggestion_glyph_of, suggestion_role_of}
 use Rattle.snippet_suggest.specs.RowOrder.{Begins, Empty, Ends, Offers, Removes, Skips, SuggestionRow, rows_of_suggestion}
-use Rattle.snippet_suggest.specs.Suggested.{HasSign, body_cells, cells_of, new_on}
+use Rattle.snippet_suggest.specs.Suggested.{HasSign, body_cells, suggested_cells, new_on}
 use Rattle.snippet_suggest.proofs.BodyLaws.{body_all}
 use Rattle.snippet_suggest.proofs.RepaintLemmas.{same_ch, without_role}
 use Rattle.snippet_suggest.proofs.PutRows.{put_after, put_alone, put_before}
@@ -50,8 +50,8 @@ offered_sign layout kind count number line ss fits =
 
 -- each row has its sign
 pub has_sign : (layout : SuggestionLayout) (s : Snippet Patch) (under : List Cell) (shown : SuggestionRow)
-    → HasSign layout s shown (cells_of layout s under shown)
-unfolding cells_of
+    → HasSign layout s shown (suggested_cells layout s under shown)
+unfolding suggested_cells
 has_sign layout s under (Begins start) = tt
 has_sign layout s under (Offers k) = λ fits. offered_sign layout (shown_kind s) (length (given_lines s)) _ (slice_index_or (given_lines s) k [])
     (new_on s k) fits

@@ -32,7 +32,7 @@ use Rattle.snippet_suggest.specs.RowOrder.{Begins, Empty, Ends, Offers, Removes,
 use Rattle.snippet_suggest.specs.RowOrder.{removed_from, row_of_shown, rows_of_suggestion}
 use Rattle.snippet_suggest.specs.SuggestionRows.{rows_shared}
 use Rattle.snippet_suggest.specs.SuggestedLines.{is_touched}
-use Rattle.snippet_suggest.specs.Suggested.{body_cells, cells_of, cells_over, marked_edits, new_on, removed_in, suggested_stretches, suggestion_cells}
+use Rattle.snippet_suggest.specs.Suggested.{body_cells, suggested_cells, cells_over, marked_edits, new_on, removed_in, suggested_stretches, suggestion_cells}
 use Rattle.snippet_suggest.specs.Suggested.{with_left_out}
 use Rattle.snippet_suggest.specs.Marks.{with_marks}
 use Rattle.snippet_suggest.proofs.KnownRemoved.{unless_range}
@@ -42,12 +42,12 @@ use Rattle.snippet_suggest.proofs.OrderLaws.{not_diff}
 -- ---- rows one by one
 
 pub begins_is : (layout : SuggestionLayout) (s : Snippet Patch) (under : List Cell) (start : SuggestionStart)
-    → cells_of layout s under (Begins start) ≡ begin_cells layout start under
-unfolding cells_of
+    → suggested_cells layout s under (Begins start) ≡ begin_cells layout start under
+unfolding suggested_cells
 begins_is layout s under start = refl
 
-pub empty_is : (layout : SuggestionLayout) (s : Snippet Patch) (under : List Cell) → cells_of layout s under Empty ≡ []
-unfolding cells_of
+pub empty_is : (layout : SuggestionLayout) (s : Snippet Patch) (under : List Cell) → suggested_cells layout s under Empty ≡ []
+unfolding suggested_cells
 empty_is layout s under = refl
 
 -- lines that are shown, which have the same stretches
@@ -63,9 +63,9 @@ rows_of_same_stretches layout kind first lines f g (Gap ∷ shown) same =
     ap (λ rows. suggestion_row layout kind first lines g Gap ∷ rows) (rows_of_same_stretches layout kind first lines f g shown same)
 
 pub shown_is : (layout : SuggestionLayout) (s : Snippet Patch) (shown : List SuggestionLine)
-    → map (cells_of layout s []) (map row_of_shown shown) ≡ map (suggestion_row layout (shown_kind s) (s.line_start + first_given s) (given_lines s)
+    → map (suggested_cells layout s []) (map row_of_shown shown) ≡ map (suggestion_row layout (shown_kind s) (s.line_start + first_given s) (given_lines s)
     (new_on s)) shown
-unfolding cells_of
+unfolding suggested_cells
 shown_is layout s [] = refl
 shown_is layout s (Line k ∷ shown) =
     ap (λ rows. suggestion_row layout (shown_kind s) (s.line_start + first_given s) (given_lines s) (new_on s) (Line k) ∷ rows) (shown_is layout s shown)
@@ -75,33 +75,33 @@ shown_is layout s (Gap ∷ shown) =
 -- ---- where no line is given
 
 removed_none : (layout : SuggestionLayout) (s : Snippet Patch) (under : List Cell) (i number : ℕ) (text : List ℕ) → given_lines s ≡ []
-    → cells_of layout s under (Removes i number text) ≡ removed_cells layout Removal number text under
-unfolding cells_of
+    → suggested_cells layout s under (Removes i number text) ≡ removed_cells layout Removal number text under
+unfolding suggested_cells
 removed_none layout s under i number text none =
     ap (λ (ls : List (List ℕ)). removed_in layout ls (suggested_stretches s (i - first_given s)) number text under) none
 
 emptied_later : (layout : SuggestionLayout) (s : Snippet Patch) (i : ℕ) (lines : List (ℕ × List ℕ)) → given_lines s ≡ []
-    → map (cells_of layout s []) (removed_from i lines) ≡ emptied_cells layout lines []
+    → map (suggested_cells layout s []) (removed_from i lines) ≡ emptied_cells layout lines []
 unfolding emptied_cells
 emptied_later layout s i [] none = refl
 emptied_later layout s i (line ∷ lines) none =
-    ap (λ row. row ∷ map (cells_of layout s []) (removed_from (i + 1) lines)) (removed_none layout s [] i line.0 line.1 none)
+    ap (λ row. row ∷ map (suggested_cells layout s []) (removed_from (i + 1) lines)) (removed_none layout s [] i line.0 line.1 none)
     ∙ ap (λ rows. removed_cells layout Removal line.0 line.1 [] ∷ rows) (emptied_later layout s (i + 1) lines none)
 
 emptied_over : (layout : SuggestionLayout) (s : Snippet Patch) (under : List Cell) (i : ℕ) (lines : List (ℕ × List ℕ)) → given_lines s ≡ []
-    → cells_over (cells_of layout s) under (removed_from i lines) ≡ emptied_cells layout lines under
+    → cells_over (suggested_cells layout s) under (removed_from i lines) ≡ emptied_cells layout lines under
 unfolding emptied_cells
 emptied_over layout s under i [] none = refl
 emptied_over layout s under i (line ∷ lines) none =
-    ap (λ row. row ∷ map (cells_of layout s []) (removed_from (i + 1) lines)) (removed_none layout s under i line.0 line.1 none)
+    ap (λ row. row ∷ map (suggested_cells layout s []) (removed_from (i + 1) lines)) (removed_none layout s under i line.0 line.1 none)
     ∙ ap (λ rows. removed_cells layout Removal line.0 line.1 under ∷ rows) (emptied_later layout s (i + 1) lines none)
 
 body_none : (layout : SuggestionLayout) (start : SuggestionStart) (s : Snippet Patch) (under : List Cell) (rows : List SuggestionRow) → given_lines s ≡ []
-    → rows_of_suggestion start s ≡ rows → body_cells layout start s under ≡ cells_over (cells_of layout s) under rows
+    → rows_of_suggestion start s ≡ rows → body_cells layout start s under ≡ cells_over (suggested_cells layout s) under rows
 unfolding body_cells
 body_none layout start s under rows none is =
-    ap (λ (ls : List (List ℕ)). with_left_out layout s ls (cells_over (cells_of layout s) under (rows_of_suggestion start s))) none
-    ∙ ap (cells_over (cells_of layout s) under) is
+    ap (λ (ls : List (List ℕ)). with_left_out layout s ls (cells_over (suggested_cells layout s) under (rows_of_suggestion start s))) none
+    ∙ ap (cells_over (suggested_cells layout s) under) is
 
 -- where no line is given, the rows of emptied lines are those of the suggestion
 pub body_emptied : (layout : SuggestionLayout) (start : SuggestionStart) (s : Snippet Patch) (under : List Cell) (i : ℕ) (lines : List (ℕ × List ℕ))
@@ -115,7 +115,7 @@ pub body_emptied_diff : (layout : SuggestionLayout) (start : SuggestionStart) (s
     → begin_cells layout start under ∷ emptied_cells layout lines [] ≡ body_cells layout start s under
 body_emptied_diff layout start s under i lines none is =
     sym (body_none layout start s under (Begins start ∷ removed_from i lines) none is
-    ∙ ap (λ row. row ∷ map (cells_of layout s []) (removed_from i lines)) (begins_is layout s under start)
+    ∙ ap (λ row. row ∷ map (suggested_cells layout s []) (removed_from i lines)) (begins_is layout s under start)
     ∙ ap (λ rows. begin_cells layout start under ∷ rows) (emptied_later layout s i lines none))
 
 -- ---- where lines are given, and aren't shown as a diff
@@ -124,13 +124,13 @@ body_emptied_diff layout start s under i lines none is =
 body_plain : (layout : SuggestionLayout) (start : SuggestionStart) (s : Snippet Patch) (under : List Cell) (line : List ℕ) (lines : List (List ℕ))
     (rows : List SuggestionRow) → given_lines s ≡ line ∷ lines
     → (is_diff (shown_kind s) && is_touched s.fold (given_ranges s) 0 && is_left_out (shown_kind s) (line ∷ lines) (last_reached s)) ≡ false
-    → rows_of_suggestion start s ≡ rows → body_cells layout start s under ≡ cells_over (cells_of layout s) under rows
+    → rows_of_suggestion start s ≡ rows → body_cells layout start s under ≡ cells_over (suggested_cells layout s) under rows
 unfolding body_cells
 body_plain layout start s under line lines rows some stays is =
-    let all : List (List Cell) = cells_over (cells_of layout s) under (rows_of_suggestion start s) in
+    let all : List (List Cell) = cells_over (suggested_cells layout s) under (rows_of_suggestion start s) in
     ap (λ (ls : List (List ℕ)). with_left_out layout s ls all) some
     ∙ cond-false (is_diff (shown_kind s) && is_touched s.fold (given_ranges s) 0 && is_left_out (shown_kind s) (line ∷ lines) (last_reached s)) _ all stays
-    ∙ ap (cells_over (cells_of layout s) under) is
+    ∙ ap (cells_over (suggested_cells layout s) under) is
 
 -- where lines are given, and no diff is shown, the beginning and the rows of the shown lines are the suggestion's
 pub body_shown : (layout : SuggestionLayout) (start : SuggestionStart) (s : Snippet Patch) (under : List Cell) (line : List ℕ) (lines : List (List ℕ))
@@ -142,7 +142,7 @@ body_shown layout start s under line lines shown some other is =
     let l : Bool = is_left_out (shown_kind s) (line ∷ lines) (last_reached s) in
     let stays : (is_diff (shown_kind s) && t && l) ≡ false = ap (λ (b : Bool). b && t && l) (not_diff (shown_kind s) other) in
     sym (body_plain layout start s under line lines (Begins start ∷ map row_of_shown shown) some stays is
-    ∙ ap (λ row. row ∷ map (cells_of layout s []) (map row_of_shown shown)) (begins_is layout s under start)
+    ∙ ap (λ row. row ∷ map (suggested_cells layout s []) (map row_of_shown shown)) (begins_is layout s under start)
     ∙ ap (λ rows. begin_cells layout start under ∷ rows) (shown_is layout s shown))
 
 -- ---- a diff
@@ -156,21 +156,21 @@ body_untouched layout start s under line one diff untouched is =
     let stays : (is_diff (shown_kind s) && is_touched s.fold (given_ranges s) 0 && l)
     ≡ false = ap (λ (b : Bool). b && is_touched s.fold (given_ranges s) 0 && l) (ap is_diff diff) ∙ ap (λ (b : Bool). b && l) untouched in
     sym (body_plain layout start s under line [] (Begins start ∷ Empty ∷ []) one stays is
-    ∙ ap (λ row. row ∷ cells_of layout s [] Empty ∷ []) (begins_is layout s under start)
+    ∙ ap (λ row. row ∷ suggested_cells layout s [] Empty ∷ []) (begins_is layout s under start)
     ∙ ap (λ (row : List Cell). begin_cells layout start under ∷ row ∷ []) (empty_is layout s []))
 
 -- the lines that are removed above one in their place
 removed_some : (layout : SuggestionLayout) (s : Snippet Patch) (under : List Cell) (line : List ℕ) (i number : ℕ) (text : List ℕ)
-    → given_lines s ≡ line ∷ [] → cells_of layout s under (Removes i number text) ≡ with_stretches Removal layout.base.gutter (chars text)
+    → given_lines s ≡ line ∷ [] → suggested_cells layout s under (Removes i number text) ≡ with_stretches Removal layout.base.gutter (chars text)
     (suggested_stretches s (i - first_given s)) (removed_cells layout NoStyle number text under)
-unfolding cells_of
+unfolding suggested_cells
 removed_some layout s under line i number text one =
     ap (λ (ls : List (List ℕ)). removed_in layout ls (suggested_stretches s (i - first_given s)) number text under) one
 
 pub taken_rows : (layout : SuggestionLayout) (s : Snippet Patch) (line : List ℕ) (replaced : ℕ → List SubstitutionHighlight) (infos : List LineInfo)
     (f : ℕ → List ℕ) (a m k : ℕ) → given_lines s ≡ line ∷ [] → ((j : ℕ) → replaced j ≡ suggested_stretches s j)
     → numbered_at infos ≡ map {B = ℕ × List ℕ} (λ j. (s.line_start + j, f j)) (range_with_len a m)
-    → taken_cells layout (s.line_start + first_given s) replaced k infos ≡ map (cells_of layout s [])
+    → taken_cells layout (s.line_start + first_given s) replaced k infos ≡ map (suggested_cells layout s [])
     (removed_from a (counted_from (s.line_start + first_given s) k (map f (range_with_len a m))))
 unfolding taken_cells
 taken_rows layout s line replaced [] f a zero k one same are = refl
@@ -190,7 +190,7 @@ taken_rows layout s line replaced (info ∷ infos) f a (suc m) k one same are =
     ∙ ap (Row (f a)) (ap replaced index ∙ same (a - first_given s)) in
     let is = removed_some layout s [] line a (number_after first k) (f a) one in
     ap (λ r. r ∷ taken_cells layout first replaced (k + 1) infos) (row ∙ sym is)
-    ∙ ap (λ rows. cells_of layout s [] (Removes a (number_after first k) (f a)) ∷ rows)
+    ∙ ap (λ rows. suggested_cells layout s [] (Removes a (number_after first k) (f a)) ∷ rows)
     (taken_rows layout s line replaced infos f (a + 1) m (k + 1) one same rest)
 
 -- a suggestion shares at most one row
@@ -264,7 +264,7 @@ module _ (layout : SuggestionLayout) (s : Snippet Patch) (line : List ℕ) (f : 
   removed = removed_from a (counted_from first 0 (map f (range_with_len a (shown_count s line n))))
 
   -- the rows of the lines that are removed
-  taken_are : taken_cells layout first replaced 0 (unless_stays stays infos) ≡ map (cells_of layout s []) removed
+  taken_are : taken_cells layout first replaced 0 (unless_stays stays infos) ≡ map (suggested_cells layout s []) removed
   taken_are =
       let g : ℕ → ℕ × List ℕ = λ j. (s.line_start + j, f j) in
       let numbered : numbered_at (unless_stays stays infos) ≡ map g (range_with_len a (shown_count s line n)) =
@@ -284,8 +284,8 @@ module _ (layout : SuggestionLayout) (s : Snippet Patch) (line : List ℕ) (f : 
       (same (last_line_reached (cow_str_bytes s.source) (edits_of s) - first_given s))
 
   -- the row of the line in their place
-  offered_is : cells_of layout s [] (Offers 0) ≡ offered_cells layout Diff 1 first line (new_on s 0)
-  unfolding cells_of
+  offered_is : suggested_cells layout s [] (Offers 0) ≡ offered_cells layout Diff 1 first line (new_on s 0)
+  unfolding suggested_cells
   offered_is =
       let number : number_after first 0 ≡ first = omega (arith, known.small) in
       ap (λ (ls : List (List ℕ)). offered_cells layout (shown_kind s) (length ls) (number_after first 0) (get_or ls 0 []) (new_on s 0)) known.one
@@ -298,7 +298,7 @@ module _ (layout : SuggestionLayout) (s : Snippet Patch) (line : List ℕ) (f : 
       (begin_cells layout start under ∷ taken_cells layout first replaced 0 (unless_stays stays infos)) ≡ body_cells layout start s under
   unfolding body_cells
   body_left start under leaves rows =
-      let all : List (List Cell) = cells_over (cells_of layout s) under (rows_of_suggestion start s) in
+      let all : List (List Cell) = cells_over (suggested_cells layout s) under (rows_of_suggestion start s) in
       let Painted : List SubstitutionHighlight → List (List Cell) → List (List Cell) = λ ss rs.
       on_last (left_out_cells layout.base.gutter line ss (new_on s 0)) rs in
       let test : (is_diff (shown_kind s) && is_touched s.fold (given_ranges s) 0 && is_left_out (shown_kind s) (line ∷ []) (last_reached s)) ≡ true =
@@ -307,9 +307,9 @@ module _ (layout : SuggestionLayout) (s : Snippet Patch) (line : List ℕ) (f : 
       let body : with_left_out layout s (given_lines s) all ≡ Painted gone all = ap (λ (ls : List (List ℕ)). with_left_out layout s ls all) known.one
       ∙ cond-true _ (Painted gone all) all test in
       let shown : all ≡ begin_cells layout start under ∷ taken_cells layout first replaced 0 (unless_stays stays infos) =
-      ap (cells_over (cells_of layout s) under)
+      ap (cells_over (suggested_cells layout s) under)
       (rows ∙ ap (λ l. Begins start ∷ changed_rows true l removed) leaves ∙ ap (λ rs. Begins start ∷ rs) (append-nil removed))
-      ∙ ap (λ row. row ∷ map (cells_of layout s []) removed) (begins_is layout s under start)
+      ∙ ap (λ row. row ∷ map (suggested_cells layout s []) removed) (begins_is layout s under start)
       ∙ ap (λ rs. begin_cells layout start under ∷ rs) (sym taken_are) in
       ap (λ ss. Painted ss (begin_cells layout start under ∷ taken_cells layout first replaced 0 (unless_stays stays infos))) gone_are
       ∙ sym (body ∙ ap (Painted gone) shown)
@@ -326,10 +326,10 @@ module _ (layout : SuggestionLayout) (s : Snippet Patch) (line : List ℕ) (f : 
       ∙ ap (λ (t : Bool). t && left) known.touched ∙ shown in
       let body = body_plain layout start s under line [] (Begins start ∷ (removed ++ Offers 0 ∷ [])) known.one test
       (rows ∙ ap (λ l. Begins start ∷ changed_rows true l removed) shown) in
-      let cells : map (cells_of layout s []) (removed ++ Offers 0 ∷ []) ≡ taken_cells layout first replaced 0 (unless_stays stays infos) ++ row ∷ [] =
-      map-append (cells_of layout s []) removed (Offers 0 ∷ []) ∙ ap (λ rs. rs ++ cells_of layout s [] (Offers 0) ∷ []) (sym taken_are)
+      let cells : map (suggested_cells layout s []) (removed ++ Offers 0 ∷ []) ≡ taken_cells layout first replaced 0 (unless_stays stays infos) ++ row ∷ [] =
+      map-append (suggested_cells layout s []) removed (Offers 0 ∷ []) ∙ ap (λ rs. rs ++ suggested_cells layout s [] (Offers 0) ∷ []) (sym taken_are)
       ∙ ap (λ (r : List Cell). taken_cells layout first replaced 0 (unless_stays stays infos) ++ r ∷ []) offered_is in
-      sym (body ∙ ap (λ r. r ∷ map (cells_of layout s []) (removed ++ Offers 0 ∷ [])) (begins_is layout s under start) ∙ ap (λ rs. begin ∷ rs) cells)
+      sym (body ∙ ap (λ r. r ∷ map (suggested_cells layout s []) (removed ++ Offers 0 ∷ [])) (begins_is layout s under start) ∙ ap (λ rs. begin ∷ rs) cells)
 
   -- the rows of a diff are those of the suggestion
   pub body_diff : (start : SuggestionStart) (under : List Cell) (added : List SubstitutionHighlight) → added ≡ new_on s 0
@@ -349,8 +349,8 @@ module _ (layout : SuggestionLayout) (s : Snippet Patch) (line : List ℕ) (f : 
 
 -- the last row of an underlined suggestion has its marks
 pub ends_marked : (layout : SuggestionLayout) (s : Snippet Patch) (follows : Bool) → shown_kind s ≡ Underline
-    → with_marks layout (numbered_source s) [] (trimmed_of s) (end_cells layout follows) ≡ cells_of layout s [] (Ends follows)
-unfolding cells_of
+    → with_marks layout (numbered_source s) [] (trimmed_of s) (end_cells layout follows) ≡ suggested_cells layout s [] (Ends follows)
+unfolding suggested_cells
 ends_marked layout s follows marks =
     ap (λ k. with_marks layout (numbered_source s) [] (marked_edits k (trimmed_of s)) (end_cells layout follows)) (sym marks)
 
@@ -362,16 +362,16 @@ none_marked Add es other = refl
 
 -- the last row of a suggestion that isn't underlined has no marks
 pub ends_plain : (layout : SuggestionLayout) (s : Snippet Patch) (follows : Bool) → shown_kind s ≢ Underline
-    → end_cells layout follows ≡ cells_of layout s [] (Ends follows)
-unfolding cells_of with_marks
+    → end_cells layout follows ≡ suggested_cells layout s [] (Ends follows)
+unfolding suggested_cells with_marks
 ends_plain layout s follows other =
     ap (λ es. with_marks layout (numbered_source s) [] es (end_cells layout follows)) (sym (none_marked (shown_kind s) (trimmed_of s) other))
 
 -- the body and the last row are all rows of a suggestion
 pub suggestion_is : (layout : SuggestionLayout) (start : SuggestionStart) (follows : Bool) (s : Snippet Patch) (under : List Cell)
     (above before new : List (List Cell)) → before ≡ above ++ body_cells layout start s under
-    → new ≡ before ++ cells_of layout s [] (Ends follows) ∷ [] → new ≡ above ++ suggestion_cells layout start follows s under
+    → new ≡ before ++ suggested_cells layout s [] (Ends follows) ∷ [] → new ≡ above ++ suggestion_cells layout start follows s under
 unfolding suggestion_cells
 suggestion_is layout start follows s under above before new body adds =
-    let end : List (List Cell) = cells_of layout s [] (Ends follows) ∷ [] in
+    let end : List (List Cell) = suggested_cells layout s [] (Ends follows) ∷ [] in
     adds ∙ ap (λ rs. rs ++ end) body ∙ append_assoc above (body_cells layout start s under) end

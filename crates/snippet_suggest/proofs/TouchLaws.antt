@@ -18,20 +18,20 @@ use Rattle.snippet_splice.specs.Edits.{Edit, edit_of, patched, trimmed_edits}
 use Rattle.snippet_splice.specs.Overlap.{AreDisjoint}
 use Rattle.snippet_splice.specs.ShownText.{without_final_line_feeds}
 use Rattle.snippet_splice.specs.Spliced.{IsTouched, line_ranges, ranges_from, spliced_text, stands, texts_of}
-use Rattle.snippet_splice.proofs.RangeLemmas.{written-ranges}
+use Rattle.snippet_splice.proofs.RangeLemmas.{ranges_from-written_ranges}
 use Rattle.snippet_splice.proofs.SpliceLemmas.{IsShownPart}
 use Rattle.snippet_splice.proofs.TouchLemmas.{IsHeld, shown-touched, touched-held}
 use Rattle.snippet_suggest.specs.declared.kind.DisplaySuggestion.{DisplaySuggestion}
 use Rattle.snippet_suggest.specs.declared.kind.DisplaySuggestion.TheVariants.{Underline, Diff, Plain, Add}
 use Rattle.snippet_suggest.specs.Given.{IsAsItWas, IsOfferable, edits_of, first_given, given_lines, given_ranges, given_text, is_left_out, last_reached}
 use Rattle.snippet_suggest.specs.Given.{numbers_given, numbers_of, offered_lines, shown_kind, trimmed_of}
-use Rattle.snippet_suggest.specs.Kind.{adds_lines, is_blank, is_only_replacement, kind_of, takes_away}
-use Rattle.snippet_suggest.specs.SuggestedLines.{is_held, is_touched, numbers_shown, lines_suggested}
+use Rattle.snippet_suggest.specs.Kind.{adds_lines, is_blank_text, is_only_replacement, kind_of, takes_away}
+use Rattle.snippet_suggest.specs.SuggestedLines.{is_in_ranges, is_touched, numbers_shown, lines_suggested}
 use Rattle.snippet_suggest.proofs.RisingLemmas.{touched_shown}
 use Rattle.snippet_suggest.proofs.OfferLaws.{HaveSpans, edits-apart, given-is-patched, given-part}
 
 -- a line in one of some ranges of the patched source is held by the same range counted from a later line on
-held-later : (base j : ℕ) (ranges : List LineRange) → IsHeld (ranges_from base ranges) j → is_held ranges (j - base) ≡ true
+held-later : (base j : ℕ) (ranges : List LineRange) → IsHeld (ranges_from base ranges) j → is_in_ranges ranges (j - base) ≡ true
 held-later base j ranges h =
     let shift : LineRange → LineRange = λ r. record { first = base + r.first; last = base + r.last } in
     let i : ℕ = h.among.0 in
@@ -45,11 +45,11 @@ held-later base j ranges h =
 
 -- a line is left out only of a diff: it is blank, or the same as the last that is removed
 left_out : (kind : DisplaySuggestion) (lines : List (List ℕ)) (last : List ℕ) → is_left_out kind lines last ≡ true
-    → (kind ≡ Diff) × ((is_blank (get_or lines 0 []) ≡ true) ⊎ (get_or lines 0 [] ≡ last))
+    → (kind ≡ Diff) × ((is_blank_text (get_or lines 0 []) ≡ true) ⊎ (get_or lines 0 [] ≡ last))
 left_out Diff lines last is = (
   refl,
   ⊎_elim (λ blank. inl blank) (λ same. inr ((bytes_eq-Decides (get_or lines 0 []) last).0 same))
-      (or_cases (is_blank (get_or lines 0 [])) (bytes_eq (get_or lines 0 []) last) is),
+      (or_cases (is_blank_text (get_or lines 0 [])) (bytes_eq (get_or lines 0 []) last) is),
 )
 left_out Underline lines last is = absurd (true≢false (sym is))
 left_out Plain lines last is = absurd (true≢false (sym is))
@@ -69,10 +69,10 @@ diff-one source ts text is =
     (adds_lines ts) is)
 
 -- a line that isn't blank isn't empty
-not-empty : (text : List ℕ) → is_blank text ≡ false → text ≢ []
+not-empty : (text : List ℕ) → is_blank_text text ≡ false → text ≢ []
 not-empty text filled none =
-    let blank : is_blank [] ≡ true = ap (list_all is_whitespace) chars-nil in
-    true≢false (sym (ap is_blank none ∙ blank) ∙ filled)
+    let blank : is_blank_text [] ≡ true = ap (list_all is_whitespace) chars-nil in
+    true≢false (sym (ap is_blank_text none ∙ blank) ∙ filled)
 
 -- a list of one element
 only : {X : Type 0} (xs : List X) (d : X) → 0 < length xs → length xs ≤ 1 → xs ≡ get_or xs 0 d ∷ []
@@ -95,7 +95,7 @@ none-left-out kind folds ranges lines last none =
 -- where the line of a text is left out, it is blank or the text is as it was
 one-left-out : (s : Snippet Patch) → HaveSpans s → AreDisjoint (edits_of s) → s.markers.items ≢ [] → IsOfferable s → 0 < length (given_lines s)
     → is_left_out (shown_kind s) (given_lines s) (last_reached s) ≡ true
-    → (length (given_lines s) ≤ 1) × ((is_blank (get_or (given_lines s) 0 []) ≡ true) ⊎ IsAsItWas s)
+    → (length (given_lines s) ≤ 1) × ((is_blank_text (get_or (given_lines s) 0 []) ≡ true) ⊎ IsAsItWas s)
 one-left-out s spans disjoint some offerable first is =
     let source : List ℕ = cow_str_bytes s.source in
     let why = left_out (shown_kind s) (given_lines s) (last_reached s) is in
@@ -117,7 +117,7 @@ touched_some s j touched none =
 
 -- each touched line that isn't blank is offered, unless the text is as it was
 pub touched-offered : (s : Snippet Patch) → HaveSpans s → AreDisjoint (edits_of s) → IsOfferable s → (j : ℕ) → IsTouched (cow_str_bytes s.source) (edits_of s) j
-    → is_blank (text_at (source_lines (patched (cow_str_bytes s.source) (edits_of s))) j) ≡ false → IsAsItWas s ⊎ Contains (offered_lines s) j
+    → is_blank_text (text_at (source_lines (patched (cow_str_bytes s.source) (edits_of s))) j) ≡ false → IsAsItWas s ⊎ Contains (offered_lines s) j
 touched-offered s spans disjoint offerable j touched filled =
     let some : s.markers.items ≢ [] = touched_some s j touched in
     let source : List ℕ = cow_str_bytes s.source in
@@ -138,14 +138,14 @@ touched-offered s spans disjoint offerable j touched filled =
     (λ blank. let zero_k : k ≡ 0 = omega (arith, low, why.0) in
     let at : get_or (given_lines s) 0 [] ≡ text_at ls j = ap (λ n. get_or (given_lines s) n []) (sym zero_k)
     ∙ (given-is-patched s spans disjoint some offerable k low).1 ∙ ap (text_at ls) is_j in
-    absurd (true≢false (sym blank ∙ ap is_blank at ∙ filled)))
+    absurd (true≢false (sym blank ∙ ap is_blank_text at ∙ filled)))
     (λ as_it_was. inl as_it_was) why.1)
-    (λ shown. let ranges : ranges_from base (given_ranges s) ≡ line_ranges source es = written-ranges s.fold source es offerable.no_cr offerable.before
-    (edits-apart s spans disjoint) in
-    let held : is_held (given_ranges s) k ≡ true = held-later base j (given_ranges s)
+    (λ shown. let ranges : ranges_from base (given_ranges s) ≡ line_ranges source es = ranges_from-written_ranges s.fold source es offerable.no_cr
+    offerable.before (edits-apart s spans disjoint) in
+    let held : is_in_ranges (given_ranges s) k ≡ true = held-later base j (given_ranges s)
     (subst (λ rs. IsHeld rs j) (sym ranges) (touched-held source es j touched)) in
     let among : Contains (numbers_shown (lines_suggested (is_touched s.fold (given_ranges s)) (length (given_lines s)))) k = touched_shown
-    (is_touched s.fold (given_ranges s)) (length (given_lines s)) k low (or_right (not s.fold) (is_held (given_ranges s) k) held) in
+    (is_touched s.fold (given_ranges s)) (length (given_lines s)) k low (or_right (not s.fold) (is_in_ranges (given_ranges s) k) held) in
     inr (contains-moved base k j (numbers_given s) is_j (subst (λ ks.
     Contains ks k) (sym (none-left-out (shown_kind s) s.fold (given_ranges s) (given_lines s) (last_reached s) shown)) among)))
     (cases_Bool (is_left_out (shown_kind s) (given_lines s) (last_reached s)))

@@ -17,7 +17,7 @@ use Rattle.snippet_splice.specs.ShownText.{first_start, shown_line, shown_start,
 use Rattle.snippet_splice.specs.Spliced.{HasNoCr, IsBeforeFinalLf, last_line_reached, spliced_text, texts_of}
 use Rattle.snippet_suggest.specs.declared.kind.DisplaySuggestion.{DisplaySuggestion}
 use Rattle.snippet_suggest.specs.declared.kind.DisplaySuggestion.TheVariants.{Underline, Diff, Plain, Add}
-use Rattle.snippet_suggest.specs.Kind.{is_blank, kind_of}
+use Rattle.snippet_suggest.specs.Kind.{is_blank_text, kind_of}
 use Rattle.snippet_suggest.specs.SuggestedLines.{is_touched, numbers_shown, lines_suggested}
 
 -- how many lines some patches may add: the line feeds of their replacements
@@ -59,7 +59,7 @@ last_reached s =
 -- whether one line, in place of the lines that are removed, isn't shown: it is blank, or the same as the last of them
 abbrev pub is_left_out : DisplaySuggestion → List (List ℕ) → List ℕ → Bool
 is_left_out Diff lines last =
-    is_blank (slice_index_or lines 0 []) || bytes_eq (slice_index_or lines 0 []) last
+    is_blank_text (slice_index_or lines 0 []) || bytes_eq (slice_index_or lines 0 []) last
 is_left_out Underline lines last = false
 is_left_out Plain lines last = false
 is_left_out Add lines last = false

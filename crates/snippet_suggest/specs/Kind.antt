@@ -11,8 +11,8 @@ use Rattle.snippet_suggest.specs.declared.kind.DisplaySuggestion.{DisplaySuggest
 use Rattle.snippet_suggest.specs.declared.kind.DisplaySuggestion.TheVariants.{Underline, Diff, Plain, Add}
 
 -- whether a text is nothing but whitespace
-abbrev pub is_blank : List ℕ → Bool
-is_blank text = list_all is_whitespace (chars text)
+abbrev pub is_blank_text : List ℕ → Bool
+is_blank_text text = list_all is_whitespace (chars text)
 
 -- the text of the source that an edit stands over, if its span is inside the source
 abbrev pub text_under : List ℕ → Edit → Option (List ℕ)
@@ -21,7 +21,7 @@ text_under source e = if nat_le e.end (length source) then Some (slice_range sou
 -- whether it stands over text that isn't blank. A span that isn't inside the source counts as such text, unless it is empty
 abbrev pub is_under_text : Edit → Option (List ℕ) → Bool
 is_under_text e None = not (e.start == e.end)
-is_under_text e (Some text) = not (is_blank text)
+is_under_text e (Some text) = not (is_blank_text text)
 
 -- whether its text keeps less than all of that text, whitespace around both apart
 abbrev pub loses_text : Edit → Option (List ℕ) → Bool
@@ -31,7 +31,7 @@ loses_text e (Some text) = is_none (sandwich (trim text) (trim e.text))
 -- whether a trimmed edit deletes or destroys text that isn't blank
 abbrev pub takes_away : List ℕ → Edit → Bool
 takes_away source e =
-    is_under_text e (text_under source e) && (is_blank e.text || loses_text e (text_under source e))
+    is_under_text e (text_under source e) && (is_blank_text e.text || loses_text e (text_under source e))
 
 -- whether a trimmed edit adds text, and stands over nothing but whitespace
 abbrev pub adds_text : List ℕ → Edit → Bool

@@ -14,7 +14,7 @@ use Rattle.snippet_suggest.specs.declared.layout.SuggestionLayout.{SuggestionLay
 use Rattle.snippet_suggest.specs.declared.marks.PatchColumns.{PatchColumns}
 use Rattle.snippet_suggest.specs.Cells.{put}
 use Rattle.snippet_style.specs.Glyphs.{added_mark_of, changed_mark_of}
-use Rattle.snippet_suggest.specs.Kind.{adds_text, is_blank}
+use Rattle.snippet_suggest.specs.Kind.{adds_text, is_blank_text}
 use Rattle.snippet_grid.specs.Layout.{inner_cell}
 use Rattle.snippet_style.specs.Bounds.{max_column}
 
@@ -46,10 +46,10 @@ moved start earlier column = capped (column + to_right (left_of start earlier)) 
 -- as the original does, in bytes: how much whitespace a text begins with, none if it is nothing else; and the columns of the text without
 -- the whitespace around it, or of all of it if it is nothing else
 abbrev pub lead_of : List ℕ → ℕ
-lead_of text = if is_blank text then 0 else length text - length (trim_start text)
+lead_of text = if is_blank_text text then 0 else length text - length (trim_start text)
 
 abbrev pub inner_width : PatchColumns → List ℕ → ℕ
-inner_width c text = if is_blank text then c.width else text_width (trim text)
+inner_width c text = if is_blank_text text then c.width else text_width (trim text)
 
 -- as the original does: the columns from which on and before which the marks of an edit stand, below its text in the line as it will be.
 -- The whitespace that the text begins with counts as many columns as it has bytes

@@ -48,15 +48,15 @@ marked_edits Plain es = []
 marked_edits Add es = []
 
 -- what a row of a suggestion holds, over one that is there or has no cells
-unfoldable pub cells_of : SuggestionLayout → Snippet Patch → List Cell → SuggestionRow → List Cell
-cells_of layout s under (Begins start) = begin_cells layout start under
-cells_of layout s under (Offers k) =
+unfoldable pub suggested_cells : SuggestionLayout → Snippet Patch → List Cell → SuggestionRow → List Cell
+suggested_cells layout s under (Begins start) = begin_cells layout start under
+suggested_cells layout s under (Offers k) =
     suggestion_row layout (shown_kind s) (s.line_start + first_given s) (given_lines s) (new_on s) (Line k)
-cells_of layout s under Skips = gap_cells layout
-cells_of layout s under (Removes i number text) =
+suggested_cells layout s under Skips = gap_cells layout
+suggested_cells layout s under (Removes i number text) =
     removed_in layout (given_lines s) (suggested_stretches s (i - first_given s)) number text under
-cells_of layout s under Empty = []
-cells_of layout s under (Ends follows) =
+suggested_cells layout s under Empty = []
+suggested_cells layout s under (Ends follows) =
     with_marks layout (numbered_source s) [] (marked_edits (shown_kind s) (trimmed_of s)) (end_cells layout follows)
 
 -- what rows hold one below the other, the first of them over a row that is there or has no cells
@@ -76,12 +76,12 @@ with_left_out layout s (line ∷ lines) rows =
 -- the rows of a suggestion but the last, the first of them over one that is there or has no cells
 unfoldable pub body_cells : SuggestionLayout → SuggestionStart → Snippet Patch → List Cell → List (List Cell)
 body_cells layout start s under =
-    with_left_out layout s (given_lines s) (cells_over (cells_of layout s) under (rows_of_suggestion start s))
+    with_left_out layout s (given_lines s) (cells_over (suggested_cells layout s) under (rows_of_suggestion start s))
 
 -- all its rows
 unfoldable pub suggestion_cells : SuggestionLayout → SuggestionStart → Bool → Snippet Patch → List Cell → List (List Cell)
 suggestion_cells layout start follows s under =
-    body_cells layout start s under ++ cells_of layout s [] (Ends follows) ∷ []
+    body_cells layout start s under ++ suggested_cells layout s [] (Ends follows) ∷ []
 
 -- the row of a line that is offered has its sign one cell after the gutter: the one that the kind, the number of lines and the line's
 -- new stretches ask for; where its number ends before that

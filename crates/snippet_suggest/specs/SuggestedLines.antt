@@ -6,12 +6,12 @@ use Rattle.snippet_suggest.specs.declared.shown.SuggestionLine.{SuggestionLine}
 use Rattle.snippet_suggest.specs.declared.shown.SuggestionLine.TheVariants.{Line, Gap}
 
 -- whether one of some ranges holds line k
-abbrev pub is_held : List LineRange → ℕ → Bool
-is_held ranges k = list_any (λ r. nat_le r.first k && nat_le k r.last) ranges
+abbrev pub is_in_ranges : List LineRange → ℕ → Bool
+is_in_ranges ranges k = list_any (λ r. nat_le r.first k && nat_le k r.last) ranges
 
 -- whether line k is shown by itself: it is held, or lines aren't folded
 abbrev pub is_touched : Bool → List LineRange → ℕ → Bool
-is_touched fold ranges k = not fold || is_held ranges k
+is_touched fold ranges k = not fold || is_in_ranges ranges k
 
 -- so many lines from line k on
 abbrev pub lines_from : ℕ → ℕ → List SuggestionLine

@@ -130,7 +130,7 @@ pub(crate) fn is_addition(source: &str, patch: &TrimmedPatch<'_>) -> bool
 
 /// Whether a text is nothing but whitespace.
 pub fn is_blank(text: &str) -> bool
-    ensures value { result ≡ spec.is_blank text.now }
+    ensures value { result ≡ spec.is_blank_text text.now }
 {
     text.chars().all(|c| c.is_whitespace())
 }

@@ -79,7 +79,7 @@ pub(crate) fn is_touched(fold: bool, ranges: &[LineRange], line: usize) -> bool
 
 /// Whether one of the ranges holds a line.
 fn is_held(ranges: &[LineRange], line: usize) -> bool
-    ensures value { result ≡ spec.is_held ranges.now line }
+    ensures value { result ≡ spec.is_in_ranges ranges.now line }
 {
     ranges
         .iter()

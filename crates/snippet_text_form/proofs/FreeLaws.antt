@@ -23,7 +23,7 @@ use Rattle.snippet_splice.specs.ShownText.{without_final_line_feeds}
 use Rattle.snippet_style.specs.declared.role.ElementStyle.{ElementStyle}
 use Rattle.snippet_style.specs.declared.role.ElementStyle.TheVariants.{Addition}
 use Rattle.snippet_suggest.specs.Given as given
-use Rattle.snippet_suggest.specs.Kind.{is_blank}
+use Rattle.snippet_suggest.specs.Kind.{is_blank_text}
 use Rattle.snippet_text.specs.Normalized.{is_listed, norm, normalized_chars}
 use Rattle.snippet_text.specs.Width.{width_of}
 use Rattle.snippet_titles.specs.HeadingRows.{address_of, shown_text, heading_lines, is_set}
@@ -262,7 +262,7 @@ sign-free true = each-fails is_listed (codes " replace with: ") refl
 sign-free false = each-fails is_listed (codes " add: ") refl
 
 added_free : (source : List ℕ) (e : Edit) → FormIsFree (added_form source e)
-added_free source e = of_blank (is_blank e.text)
+added_free source e = of_blank (is_blank_text e.text)
   where
     sign : List ℕ
     sign = if overwrites source e then codes " replace with: " else codes " add: "

@@ -24,7 +24,7 @@ use Rattle.snippet_splice.specs.ShownText.{without_final_line_feeds}
 use Rattle.snippet_style.specs.declared.role.ElementStyle.{ElementStyle}
 use Rattle.snippet_style.specs.declared.role.ElementStyle.TheVariants.{Addition}
 use Rattle.snippet_suggest.specs.Given as given
-use Rattle.snippet_suggest.specs.Kind.{is_blank}
+use Rattle.snippet_suggest.specs.Kind.{is_blank_text}
 use Rattle.snippet_text.specs.Normalized.{norm}
 use Rattle.snippet_text.specs.Width.{width_of}
 use Rattle.snippet_titles.specs.HeadingRows.{address_of, heading_lines, is_set}
@@ -151,12 +151,12 @@ option-links None = refl
 option-links (Some number) = bare-links (codes " option " ++ decimal number)
 
 added_links : (source : List ℕ) (e : Edit) → form_links (added_form source e) ≡ []
-added_links source e = of_blank (is_blank e.text) refl
+added_links source e = of_blank (is_blank_text e.text) refl
   where
     sign : List ℕ
     sign = if overwrites source e then codes " replace with: " else codes " add: "
 
-    of_blank : (blank : Bool) → is_blank e.text ≡ blank → form_links (added_form source e) ≡ []
+    of_blank : (blank : Bool) → is_blank_text e.text ≡ blank → form_links (added_form source e) ≡ []
     of_blank true is = rw is refl
     of_blank false is =
         rw is (links-before (bare sign) (styled Addition (norm (chars (without_final_line_feeds e.text)))) refl ∙ bare-links sign)

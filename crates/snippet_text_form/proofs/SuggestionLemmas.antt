@@ -14,7 +14,7 @@ use Rattle.snippet_splice.specs.Edits.{Edit, trimmed_edit_of}
 use Rattle.snippet_splice.specs.declared.patches.TrimmedPatch.{TrimmedPatch}
 use Rattle.snippet_suggest.specs.Given.{trimmed_of}
 use Rattle.snippet_parts.specs.Numbered.{numbered_source}
-use Rattle.snippet_suggest.specs.Kind.{is_blank}
+use Rattle.snippet_suggest.specs.Kind.{is_blank_text}
 use Rattle.snippet_suggest.specs.PreparedSuggestion.{IsPrepared}
 use Rattle.snippet_suggest.specs.declared.PreparedSuggestion.{PreparedSuggestion}
 use Rattle.snippet_text_form.specs.Cause.{column_unless}
@@ -37,12 +37,12 @@ seen_over text source e over same span asked =
 
 -- where an edit stands that replaces text, and where any other stands
 pub replaced_place : (anonymized : Bool) (source : Source) (path : Option (List ℕ)) (e : Edit) (start end : Loc) → overwrites source.text e ≡ true
-    → is_blank e.text ≡ false → edit_place anonymized source path e start end ≡ place anonymized path start.line (Some (start.char + 1))
+    → is_blank_text e.text ≡ false → edit_place anonymized source path e start end ≡ place anonymized path start.line (Some (start.char + 1))
     ++ replaced_to anonymized start end
 replaced_place anonymized source path e start end over given =
     cond-true (replaces source.text e) (place anonymized path start.line (Some (start.char + 1)) ++ replaced_to anonymized start end)
     (place anonymized path start.line (column_unless (replaces_whole_line source start end e) start))
-    (and_from (overwrites source.text e) (not (is_blank e.text)) over (ap not given))
+    (and_from (overwrites source.text e) (not (is_blank_text e.text)) over (ap not given))
 
 -- the place of an edit that doesn't replace text is where it starts
 pub other_place : (anonymized : Bool) (source : Source) (path : Option (List ℕ)) (e : Edit) (start end : Loc) → replaces source.text e ≡ false

@@ -17,7 +17,7 @@ use Rattle.snippet_splice.specs.ShownText.{without_final_line_feeds}
 use Rattle.snippet_style.specs.declared.role.ElementStyle.TheVariants.{Addition}
 use Rattle.snippet_suggest.specs.Given.{trimmed_of}
 use Rattle.snippet_parts.specs.Numbered.{numbered_source}
-use Rattle.snippet_suggest.specs.Kind.{is_blank, is_under_text, text_under}
+use Rattle.snippet_suggest.specs.Kind.{is_blank_text, is_under_text, text_under}
 use Rattle.snippet_text.specs.Normalized.{norm}
 use Rattle.snippet_text_form.specs.Cause.{column_unless}
 use Rattle.snippet_text_form.specs.Form.{FormPiece, Break, bare, styled}
@@ -30,7 +30,7 @@ overwrites source e = is_under_text e (text_under source e)
 
 -- whether it puts text that isn't blank in place of such text
 abbrev pub replaces : List ℕ → Edit → Bool
-replaces source e = overwrites source e && not (is_blank e.text)
+replaces source e = overwrites source e && not (is_blank_text e.text)
 
 -- where a replaced span ends, after the place at which it starts
 abbrev pub replaced_to : Bool → Loc → Loc → List ℕ
@@ -47,7 +47,7 @@ has_several_lines text = nat_lt 1 (length (lines_of text))
 abbrev pub is_alone : Option (List ℕ) → ℕ → ℕ → Bool → Bool
 is_alone None from to anything = false
 is_alone (Some line) from to anything =
-    is_character_border line from && is_character_border line to && is_blank (take from line) && (anything || is_blank (drop to line))
+    is_character_border line from && is_character_border line to && is_blank_text (take from line) && (anything || is_blank_text (drop to line))
 
 -- as the original does, by the bytes of the source: whether an edit is that of a whole line: its span is on one line, on which nothing
 -- else stands. The bytes at which the line is cut are those of the source, so it is mostly a first line
@@ -65,7 +65,7 @@ edit_place anonymized source path e start end =
 -- is blank
 abbrev pub added_form : List ℕ → Edit → List FormPiece
 added_form source e =
-    if is_blank e.text then []
+    if is_blank_text e.text then []
     else bare (if overwrites source e then codes " replace with: " else codes " add: ") ++ styled Addition (norm (chars (without_final_line_feeds e.text)))
 
 -- an edit, on a line of its own: after an indent the place where it stands, and what it puts there

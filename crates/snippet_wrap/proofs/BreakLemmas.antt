@@ -20,17 +20,17 @@ use Rattle.snippet_wrap.proofs.FitLemmas.{no_feed}
 abbrev pub onto : ℕ → Option ℕ → Option ℕ
 onto c found = if is_some found then option_map (λ n. n + 1) found else if is_blank c then Some 0 else None
 
-abbrev first_found : Bool → Option ℕ
-first_found b = if b then Some 0 else None
+abbrev blank_first : Bool → Option ℕ
+blank_first b = if b then Some 0 else None
 
 -- a blank more is the last one
 pub last_blank-yes : (cs : List ℕ) (c : ℕ) → is_blank c ≡ true → last_blank (cs ++ c ∷ []) ≡ Some (length cs)
-last_blank-yes [] c blank = ap (λ (b : Bool). first_found b) blank
+last_blank-yes [] c blank = ap (λ (b : Bool). blank_first b) blank
 last_blank-yes (d ∷ cs) c blank = ap (onto d) (last_blank-yes cs c blank) ∙ ap (λ (n : ℕ). Some n) (omega arith)
 
 -- any other character leaves it
 pub last_blank-no : (cs : List ℕ) (c : ℕ) → is_blank c ≡ false → last_blank (cs ++ c ∷ []) ≡ last_blank cs
-last_blank-no [] c other = ap (λ (b : Bool). first_found b) other
+last_blank-no [] c other = ap (λ (b : Bool). blank_first b) other
 last_blank-no (d ∷ cs) c other = ap (onto d) (last_blank-no cs c other)
 
 -- ---- how many characters fit
@@ -61,8 +61,8 @@ pub record FitsSoFar (room : ℕ) (cs : List ℕ) (n at left : ℕ) : Type 0 whe
   pub bytes : at ≡ bytes_of (take n cs)
   pub rest : fitting room cs ≡ n + fitting left (drop n cs)
 
-pub blank-none : (cs : List ℕ) → BlankSoFar cs 0 None
-blank-none cs = record { is = refl }
+pub BlankSoFar-none : (cs : List ℕ) → BlankSoFar cs 0 None
+BlankSoFar-none cs = record { is = refl }
 
 pub fits-none : (room : ℕ) (cs : List ℕ) → FitsSoFar room cs 0 0 room
 fits-none room cs = record { bytes = refl; rest = omega arith }
@@ -96,9 +96,10 @@ blank-no cs n c blank next other so_far =
     }
 
 -- the next character fits
-pub fits-next : (room : ℕ) (cs : List ℕ) (n at left c w len : ℕ) → IsNext cs n c → (c ≡ 10 → ⊥) → w ≡ char_width c → w ≤ left → len ≡ length (encode_utf8 c)
+pub FitsSoFar-next : (room : ℕ) (cs : List ℕ) (n at left c w len : ℕ) → IsNext cs n c → (c ≡ 10 → ⊥) → w ≡ char_width c → w ≤ left
+    → len ≡ length (encode_utf8 c)
     → FitsSoFar room cs n at left → FitsSoFar room cs (n + 1) (at + len) (left - w)
-fits-next room cs n at left c w len next other is fits is_len so_far =
+FitsSoFar-next room cs n at left c w len next other is fits is_len so_far =
     let goes : fitting left (drop n cs) ≡ fitting (left - w) (drop (n + 1) cs) + 1 =
     ap (fitting left) (drop-next cs n c next) ∙ fitting-next left c w (drop (n + 1) cs) other is fits in
     record {

@@ -27,7 +27,7 @@ use Rattle.snippet_titles.specs.ShownHeading.{heading_texts, texts_below}
 use Rattle.snippet_titles.specs.declared.style.MessageContext.{MessageContext}
 use Rattle.snippet_titles.specs.declared.style.TitleStyle.TheVariants.{Message, Title}
 use Rattle.snippet_wrap.proofs.EndLemmas.{IsOther}
-use Rattle.snippet_wrap.specs.WrapLaws.{AreWithin, lines_of}
+use Rattle.snippet_wrap.specs.WrapLaws.{AreWithin, lines_in}
 
 -- ---- what a row begins with
 
@@ -126,36 +126,36 @@ shown-other c plain =
     (choice (c == 0x7F) _ _ (alone 0x2421 refl)
     (choice (c == 0x200D) _ _ (All-nil IsOther) (choice (is_bidirectional_control c) _ _ (alone 0xFFFD refl) (alone c plain)))))
 
-norm_onto : (c : ℕ) (cs rest : List ℕ) (parts : List (List ℕ)) → (c == 10) ≡ false → lines_of cs ≡ parts → lines_of rest ≡ map norm parts
-    → lines_of (shown c ++ rest) ≡ map norm (lines_of (c ∷ cs))
+lines_in-norm_onto : (c : ℕ) (cs rest : List ℕ) (parts : List (List ℕ)) → (c == 10) ≡ false → lines_in cs ≡ parts → lines_in rest ≡ map norm parts
+    → lines_in (shown c ++ rest) ≡ map norm (lines_in (c ∷ cs))
 unfolding norm
-norm_onto c cs rest [] other is below = absurd (omega (arith, length-slice_split (λ d. d == 10) cs, ap (λ (ps : List (List ℕ)). length ps) is))
-norm_onto c cs rest (part ∷ parts) other is below =
+lines_in-norm_onto c cs rest [] other is below = absurd (omega (arith, length-slice_split (λ d. d == 10) cs, ap (λ (ps : List (List ℕ)). length ps) is))
+lines_in-norm_onto c cs rest (part ∷ parts) other is below =
     lines_at-after (shown c) rest (norm part) (map norm parts) (shown-other c other) below
     ∙ ap (map norm) (sym (slice_split-cons_no (λ d. d == 10) c cs other ∙ ap (onto_first c) is))
 
-norm_step : (c : ℕ) (cs : List ℕ) (feed : Bool) → (c == 10) ≡ feed → lines_of (norm cs) ≡ map norm (lines_of cs)
-    → lines_of (norm (c ∷ cs)) ≡ map norm (lines_of (c ∷ cs))
+lines_in-norm_step : (c : ℕ) (cs : List ℕ) (feed : Bool) → (c == 10) ≡ feed → lines_in (norm cs) ≡ map norm (lines_in cs)
+    → lines_in (norm (c ∷ cs)) ≡ map norm (lines_in (c ∷ cs))
 unfolding norm
-norm_step c cs true is below =
+lines_in-norm_step c cs true is below =
     let ten : c ≡ 10 = grind (arith, nat_tests, is) in
-    ap (λ d. lines_of (norm (d ∷ cs))) ten ∙ slice_split-cons_yes (λ d. d == 10) 10 (norm cs) refl ∙ ap (λ ls. [] ∷ ls) below
+    ap (λ d. lines_in (norm (d ∷ cs))) ten ∙ slice_split-cons_yes (λ d. d == 10) 10 (norm cs) refl ∙ ap (λ ls. [] ∷ ls) below
     ∙ ap (map norm) (sym (slice_split-cons_yes (λ d. d == 10) c cs is))
-norm_step c cs false is below = norm_onto c cs (norm cs) (lines_of cs) is refl below
+lines_in-norm_step c cs false is below = lines_in-norm_onto c cs (norm cs) (lines_in cs) is refl below
 
-lines-norm : (cs : List ℕ) → lines_of (norm cs) ≡ map norm (lines_of cs)
+lines-norm : (cs : List ℕ) → lines_in (norm cs) ≡ map norm (lines_in cs)
 unfolding norm
 lines-norm [] = refl
-lines-norm (c ∷ cs) = norm_step c cs (c == 10) refl (lines-norm cs)
+lines-norm (c ∷ cs) = lines_in-norm_step c cs (c == 10) refl (lines-norm cs)
 
 -- so the lines of a text as it is drawn have the room that its own have
-norm-within : (room : ℕ) (cs : List ℕ) → AreWithin room (lines_of cs) → AreWithin room (lines_of (norm cs))
+norm-within : (room : ℕ) (cs : List ℕ) → AreWithin room (lines_in cs) → AreWithin room (lines_in (norm cs))
 norm-within room cs within =
-    subst (AreWithin room) (sym (lines-norm cs)) (All-map (λ part. width_of part ≤ room) norm (lines_of cs)
-    (All-weaker (λ part. width_of part ≤ room) (λ part. width_of (norm part) ≤ room) (λ part least. omega (arith, width_of-norm part, least)) (lines_of cs)
+    subst (AreWithin room) (sym (lines-norm cs)) (All-map (λ part. width_of part ≤ room) norm (lines_in cs)
+    (All-weaker (λ part. width_of part ≤ room) (λ part. width_of (norm part) ≤ room) (λ part least. omega (arith, width_of-norm part, least)) (lines_in cs)
     within))
 
-drawn-within : (room : ℕ) (trusted : Bool) (cs : List ℕ) → AreWithin room (lines_of cs) → AreWithin room (lines_of (if trusted then cs else norm cs))
+drawn-within : (room : ℕ) (trusted : Bool) (cs : List ℕ) → AreWithin room (lines_in cs) → AreWithin room (lines_in (if trusted then cs else norm cs))
 drawn-within room true cs within = within
 drawn-within room false cs within = norm-within room cs within
 
@@ -163,7 +163,7 @@ drawn-within room false cs within = norm-within room cs within
 
 -- the rows of a title are no wider than the terminal where its lines have room
 pub title-within : (term_width : ℕ) (heading : Heading) → label_width heading ≤ term_width
-    → AreWithin (term_width - label_width heading) (lines_of (chars heading.text)) → AreWithin term_width (heading_texts Title heading)
+    → AreWithin (term_width - label_width heading) (lines_in (chars heading.text)) → AreWithin term_width (heading_texts Title heading)
 title-within term_width heading fits within =
     let width = label_width heading in
     texts-within (heading_label_text heading) (row_text (replicate width SPACE)) width (term_width - width) term_width (omega arith)
@@ -172,7 +172,7 @@ title-within term_width heading fits within =
 
 -- and so are those of a message
 pub message-within : (term_width : ℕ) (place : MessageContext) (heading : Heading) → place.layout.gutter + 3 + label_width heading ≤ term_width
-    → AreWithin (term_width - (place.layout.gutter + 3 + label_width heading)) (lines_of (chars heading.text))
+    → AreWithin (term_width - (place.layout.gutter + 3 + label_width heading)) (lines_in (chars heading.text))
     → AreWithin term_width (heading_texts (Message place) heading)
 message-within term_width place heading fits within =
     let width = label_width heading in

@@ -102,8 +102,8 @@ at_suc n c cs =
     let more : n + 1 ≡ suc n = omega arith in
     ap (λ k. get_or (c ∷ cs) k 0) more
 
-pub width_cons : (c : ℕ) (cs : List ℕ) → width_of (c ∷ cs) ≡ char_width c + width_of cs
-width_cons c cs = sum_by-cons char_width c cs
+pub width-cons : (c : ℕ) (cs : List ℕ) → width_of (c ∷ cs) ≡ char_width c + width_of cs
+width-cons c cs = sum_by-cons char_width c cs
 
 -- whether a character fits
 abbrev pub fits : ℕ → ℕ → Bool
@@ -127,7 +127,7 @@ width_one : (room c : ℕ) (cs : List ℕ) (b : Bool) (n : ℕ) → fits room c 
     → width_of (take (and_one b n) (c ∷ cs)) ≤ room
 width_one room c cs true n is rest =
     let fit : char_width c ≤ room = grind (arith, nat_tests, is) in
-    omega (arith, ap width_of (take_suc n c cs), width_cons c (take n cs), rest, fit)
+    omega (arith, ap width_of (take_suc n c cs), width-cons c (take n cs), rest, fit)
 width_one room c cs false n is rest = omega arith
 
 pub fitting_width : (room : ℕ) (cs : List ℕ) → width_of (take (fitting room cs) cs) ≤ room
@@ -156,10 +156,10 @@ stop_one : (room c : ℕ) (cs : List ℕ) (b : Bool) (n : ℕ) → fits room c �
 stop_one room c cs true n is rest less other =
     let here : n < length cs = omega (arith, less) in
     let next : get_or cs n 0 ≡ 10 → ⊥ = λ feed. other (at_suc n c cs ∙ feed) in
-    omega (arith, rest here next, ap width_of (take_suc (n + 1) c cs), width_cons c (take (n + 1) cs))
+    omega (arith, rest here next, ap width_of (take_suc (n + 1) c cs), width-cons c (take (n + 1) cs))
 stop_one room c cs false n is rest less other =
     let wide : room < char_width c = grind (arith, nat_tests, is, other) in
-    omega (arith, wide, ap width_of (take_suc 0 c cs), width_cons c [])
+    omega (arith, wide, ap width_of (take_suc 0 c cs), width-cons c [])
 
 pub fitting_stops : (room : ℕ) (cs : List ℕ) → fitting room cs < length cs → (get_or cs (fitting room cs) 0 ≡ 10 → ⊥)
     → room < width_of (take (fitting room cs + 1) cs)

@@ -25,9 +25,9 @@ one_row : (more room : ℕ) (cs : List ℕ) (found : Option Break)
 one_row more room cs None is = refl
 one_row more room cs (Some at) is = absurd (false≢true (sym (ap (λ (o : Option (List ℕ × List ℕ)). unwrap_or (option_map (λ _. true) o) false) is)))
 
-pub rows-one : (more room : ℕ) (cs : List ℕ) → first_row room cs ≡ None → rows_joined more room cs ≡ cs
-rows-one zero room cs none = refl
-rows-one (suc more) room cs none = one_row more room cs (first_break room cs) none
+pub rows_joined-one : (more room : ℕ) (cs : List ℕ) → first_row room cs ≡ None → rows_joined more room cs ≡ cs
+rows_joined-one zero room cs none = refl
+rows_joined-one (suc more) room cs none = one_row more room cs (first_break room cs) none
 
 -- a text that begins with a row and goes on with another text, which is shorter
 pub record GoesOn (more room : ℕ) (cs row after : List ℕ) : Type 0 where
@@ -67,9 +67,9 @@ first_is more room cs row after enough wide (Some at) found is =
     goes_on more room cs row after enough at (break_within room cs at wide found) found (ap (λ (p : List ℕ × List ℕ). p.0) both)
     (ap (λ (p : List ℕ × List ℕ). p.1) both)
 
-pub rows-more : (more room : ℕ) (cs row after : List ℕ) → length cs ≤ more → 4 ≤ room → first_row room cs ≡ Some (row, after)
+pub rows_joined-more : (more room : ℕ) (cs row after : List ℕ) → length cs ≤ more → 4 ≤ room → first_row room cs ≡ Some (row, after)
     → GoesOn more room cs row after
-rows-more more room cs row after enough wide is = first_is more room cs row after enough wide (first_break room cs) refl is
+rows_joined-more more room cs row after enough wide is = first_is more room cs row after enough wide (first_break room cs) refl is
 
 -- ---- what is written
 
@@ -90,7 +90,7 @@ encode-feed = encode_ascii 10 (omega arith)
 pub joined-next : (room : ℕ) (old mid new cs row text after all : List ℕ) → 4 ≤ room → first_row room cs ≡ Some (row, after) → IsUtf8 text
     → chars text ≡ row → mid ≡ old ++ text → new ≡ mid ++ encode_utf8 10 → JoinedSoFar room old cs all → JoinedSoFar room new after all
 joined-next room old mid new cs row text after all wide first utf8 spells second third so_far =
-    let on = rows-more so_far.left room cs row after so_far.enough wide first in
+    let on = rows_joined-more so_far.left room cs row after so_far.enough wide first in
     let tail = encode_utf8_all (rows_joined on.left room after) in
     let bytes : encode_utf8_all row ≡ text = ap encode_utf8_all (sym spells) ∙ encodes-chars text utf8 in
     let all_of : encode_utf8_all (rows_joined so_far.left room cs) ≡ text ++ (encode_utf8 10 ++ tail) =
@@ -106,11 +106,11 @@ pub joined-all : (room : ℕ) (old new cs text all : List ℕ) → first_row roo
 joined-all room old new cs text all none utf8 text_utf8 spells is so_far =
     let bytes : encode_utf8_all cs ≡ text = ap encode_utf8_all (sym spells) ∙ encodes-chars text text_utf8 in
     let written : encode_utf8_all all ≡ new =
-    sym so_far.is ∙ ap (λ cs. old ++ encode_utf8_all cs) (rows-one so_far.left room cs none) ∙ ap (λ t. old ++ t) bytes ∙ sym is in
+    sym so_far.is ∙ ap (λ cs. old ++ encode_utf8_all cs) (rows_joined-one so_far.left room cs none) ∙ ap (λ t. old ++ t) bytes ∙ sym is in
     sym (chars_from_encodes all new utf8 written)
 
 -- what is left is shorter after each row
 pub row-shorter : (room : ℕ) (cs row after : List ℕ) → 4 ≤ room → first_row room cs ≡ Some (row, after) → length after < length cs
 row-shorter room cs row after wide first =
-    let on = rows-more (length cs) room cs row after (omega arith) wide first in
+    let on = rows_joined-more (length cs) room cs row after (omega arith) wide first in
     on.shorter

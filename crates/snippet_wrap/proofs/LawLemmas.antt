@@ -12,10 +12,10 @@ use Rattle.std.proofs.lemmas.List.Splits.{length-slice_split, slice_split-cons_n
 use Rattle.std.proofs.lemmas.List.Sums.{sum_by-append}
 use Rattle.snippet_text.specs.Width.{char_width, width_of}
 use Rattle.snippet_wrap.specs.Wrapped.{break_before, first_break, fitting, gap_at, is_blank, last_blank, lines_fit, rows_joined, wrapped}
-use Rattle.snippet_wrap.specs.WrapLaws.{AreWithin, IsAmong, IsRewrapped, is_gap, is_inside, lines_of, words_of}
+use Rattle.snippet_wrap.specs.WrapLaws.{AreWithin, IsAmong, IsRewrapped, is_gap, is_inside, lines_in, words_of}
 use Rattle.snippet_wrap.specs.declared.row.Break.{Break}
 use Rattle.snippet_wrap.proofs.EndLemmas.{Ends, IsOther, at_gap, at_seam, break_found, break_missing, break_within, ends, fitting_all, fitting_line}
-use Rattle.snippet_wrap.proofs.EndLemmas.{and_one, at_suc, fits, fitting_stops, fitting_width, width_cons}
+use Rattle.snippet_wrap.proofs.EndLemmas.{and_one, at_suc, fits, fitting_stops, fitting_width, width-cons}
 use Rattle.snippet_wrap.proofs.FitLemmas.{lines_fit-feed, lines_fit-next, lines_fit-wide, no_feed, unlike}
 use Rattle.snippet_wrap.proofs.JoinLemmas.{joined}
 
@@ -163,15 +163,15 @@ rows-words (suc more) room cs within = words_found more room cs (first_break roo
 -- ---- lines have room
 
 -- a text of one line, no wider than the room
-one_line : (room : ℕ) (cs : List ℕ) → All IsOther cs → width_of cs ≤ room → AreWithin room (lines_of cs)
+one_line : (room : ℕ) (cs : List ℕ) → All IsOther cs → width_of cs ≤ room → AreWithin room (lines_in cs)
 one_line room cs other narrow =
     subst (AreWithin room) (sym (slice_split_none (λ c. c == 10) cs other))
     (All-cons (λ part. width_of part ≤ room) cs [] narrow (All-nil (λ part. width_of part ≤ room)))
 
 -- such a line before others
-line_before : (room : ℕ) (xs ys : List ℕ) → All IsOther xs → width_of xs ≤ room → AreWithin room (lines_of ys) → AreWithin room (lines_of (xs ++ 10 ∷ ys))
+line_before : (room : ℕ) (xs ys : List ℕ) → All IsOther xs → width_of xs ≤ room → AreWithin room (lines_in ys) → AreWithin room (lines_in (xs ++ 10 ∷ ys))
 line_before room xs ys other narrow rest =
-    subst (AreWithin room) (sym (slice_split_at (λ c. c == 10) xs 10 ys other refl)) (All-cons (λ part. width_of part ≤ room) xs (lines_of ys) narrow rest)
+    subst (AreWithin room) (sym (slice_split_at (λ c. c == 10) xs 10 ys other refl)) (All-cons (λ part. width_of part ≤ room) xs (lines_in ys) narrow rest)
 
 -- the first characters of some that fit
 fewer_fit : (room n k : ℕ) (cs : List ℕ) → k ≤ n → All IsOther (take n cs) → width_of (take n cs) ≤ room
@@ -180,9 +180,9 @@ fewer_fit room n zero cs fewer other narrow = (All-nil IsOther, omega arith)
 fewer_fit room n (suc k) [] fewer other narrow = (All-nil IsOther, omega arith)
 fewer_fit room zero (suc k) (c ∷ cs) fewer other narrow = absurd (omega (arith, fewer))
 fewer_fit room (suc n) (suc k) (c ∷ cs) fewer other narrow =
-    let wide = width_cons c (take n cs) in
+    let wide = width-cons c (take n cs) in
     let rest = fewer_fit (room - char_width c) n k cs (omega (arith, fewer)) (All-tail IsOther c (take n cs) other) (omega (arith, narrow, wide)) in
-    (All-cons IsOther c (take k cs) (All-head IsOther c (take n cs) other) rest.0, omega (arith, rest.1, width_cons c (take k cs), narrow, wide))
+    (All-cons IsOther c (take k cs) (All-head IsOther c (take n cs) other) rest.0, omega (arith, rest.1, width-cons c (take k cs), narrow, wide))
 
 -- a row ends at the first character that has no room, or before
 ends_by : (cs : List ℕ) (n : ℕ) (at : Break) → Ends cs n at → at.end ≤ n
@@ -190,7 +190,7 @@ ends_by cs n at (at_gap k up_to gap is) = omega (arith, up_to, ap (λ (b : Break
 ends_by cs n at (at_seam other blanks is) = omega (arith, ap (λ (b : Break). b.end) is)
 
 fit_found : (more room : ℕ) (cs : List ℕ) (found : Option Break) → first_break room cs ≡ found → 4 ≤ room → length cs ≤ suc more
-    → ((rest : List ℕ) → length rest ≤ more → AreWithin room (lines_of (rows_joined more room rest))) → AreWithin room (lines_of (joined more room cs found))
+    → ((rest : List ℕ) → length rest ≤ more → AreWithin room (lines_in (rows_joined more room rest))) → AreWithin room (lines_in (joined more room cs found))
 fit_found more room cs None is enough many below =
     let all = fitting_all room cs (break_missing room cs is) in
     one_line room cs all.0 all.1
@@ -203,7 +203,7 @@ fit_found more room cs (Some at) is enough many below =
     line_before room (take at.end cs) (rows_joined more room (drop at.next cs)) front.0 front.1
     (below (drop at.next cs) (omega (arith, length-drop at.next cs, some, many)))
 
-rows-fit : (more room : ℕ) (cs : List ℕ) → 4 ≤ room → length cs ≤ more → AreWithin room (lines_of (rows_joined more room cs))
+rows-fit : (more room : ℕ) (cs : List ℕ) → 4 ≤ room → length cs ≤ more → AreWithin room (lines_in (rows_joined more room cs))
 rows-fit zero room [] enough many = one_line room [] (All-nil IsOther) (omega arith)
 rows-fit zero room (c ∷ cs) enough many = absurd (omega (arith, many))
 rows-fit (suc more) room cs enough many =
@@ -265,49 +265,49 @@ rows-same zero room cs all = refl
 rows-same (suc more) room cs all = same_found more room cs (first_break room cs) refl all (rows-same more room)
 
 -- lines that have room fit
-fit_feed : (room left c : ℕ) (cs line : List ℕ) (lines : List (List ℕ)) → c ≡ 10 → lines_of (c ∷ cs) ≡ line ∷ lines → AreWithin room lines
-    → (AreWithin room (lines_of cs) → lines_fit room room cs ≡ true) → lines_fit room left (c ∷ cs) ≡ true
+fit_feed : (room left c : ℕ) (cs line : List ℕ) (lines : List (List ℕ)) → c ≡ 10 → lines_in (c ∷ cs) ≡ line ∷ lines → AreWithin room lines
+    → (AreWithin room (lines_in cs) → lines_fit room room cs ≡ true) → lines_fit room left (c ∷ cs) ≡ true
 fit_feed room left c cs line lines feed is within below =
     let holds : (c == 10) ≡ true = ap (λ (d : ℕ). d == 10) feed in
-    let rest : lines_of cs ≡ lines = ap (λ (parts : List (List ℕ)). drop 1 parts) (sym (slice_split-cons_yes (λ d. d == 10) c cs holds) ∙ is) in
+    let rest : lines_in cs ≡ lines = ap (λ (parts : List (List ℕ)). drop 1 parts) (sym (slice_split-cons_yes (λ d. d == 10) c cs holds) ∙ is) in
     lines_fit-feed room left c cs feed ∙ below (subst (AreWithin room) (sym rest) within)
 
 fit_other : (room left c : ℕ) (cs line : List ℕ) (lines : List (List ℕ)) (first : List ℕ) (others : List (List ℕ)) → (c == 10) ≡ false
-    → lines_of (c ∷ cs) ≡ line ∷ lines → lines_of cs ≡ first ∷ others → width_of line ≤ left → AreWithin room lines
+    → lines_in (c ∷ cs) ≡ line ∷ lines → lines_in cs ≡ first ∷ others → width_of line ≤ left → AreWithin room lines
     → (width_of first ≤ left - char_width c → AreWithin room others → lines_fit room (left - char_width c) cs ≡ true) → lines_fit room left (c ∷ cs) ≡ true
 fit_other room left c cs line lines first others plain is below_is narrow within below =
     let other : c ≡ 10 → ⊥ = unlike c plain in
     let parts : line ∷ lines ≡ (c ∷ first) ∷ others = sym is ∙ slice_split-cons_no (λ d. d == 10) c cs plain ∙ ap (onto_first c) below_is in
     let line_is : line ≡ c ∷ first = ap (λ (ps : List (List ℕ)). get_or ps 0 []) parts in
     let lines_are : lines ≡ others = ap (λ (ps : List (List ℕ)). drop 1 ps) parts in
-    let wide = ap width_of line_is ∙ width_cons c first in
+    let wide = ap width_of line_is ∙ width-cons c first in
     lines_fit-next room left c (char_width c) cs other refl (omega (arith, wide, narrow))
     ∙ below (omega (arith, wide, narrow)) (subst (AreWithin room) lines_are within)
 
-lines-fit-all : (room : ℕ) (cs : List ℕ) (parts : List (List ℕ)) → lines_of cs ≡ parts → AreWithin room parts
-    → ((line : List ℕ) (lines : List (List ℕ)) → lines_of cs ≡ line ∷ lines → width_of line ≤ room → AreWithin room lines → lines_fit room room cs ≡ true)
+lines-fit-all : (room : ℕ) (cs : List ℕ) (parts : List (List ℕ)) → lines_in cs ≡ parts → AreWithin room parts
+    → ((line : List ℕ) (lines : List (List ℕ)) → lines_in cs ≡ line ∷ lines → width_of line ≤ room → AreWithin room lines → lines_fit room room cs ≡ true)
     → lines_fit room room cs ≡ true
 lines-fit-all room cs [] is within below = absurd (omega (arith, length-slice_split (λ c. c == 10) cs, ap (λ (ps : List (List ℕ)). length ps) is))
 lines-fit-all room cs (line ∷ lines) is within below =
     below line lines is (All-head (λ part. width_of part ≤ room) line lines within) (All-tail (λ part. width_of part ≤ room) line lines within)
 
-fit_either : (room left c : ℕ) (cs line : List ℕ) (lines parts : List (List ℕ)) (feed : Bool) → (c == 10) ≡ feed → lines_of (c ∷ cs) ≡ line ∷ lines
-    → lines_of cs ≡ parts → width_of line ≤ left → AreWithin room lines
-    → ((left : ℕ) (line : List ℕ) (lines : List (List ℕ)) → lines_of cs ≡ line ∷ lines → width_of line ≤ left → AreWithin room lines
+fit_either : (room left c : ℕ) (cs line : List ℕ) (lines parts : List (List ℕ)) (feed : Bool) → (c == 10) ≡ feed → lines_in (c ∷ cs) ≡ line ∷ lines
+    → lines_in cs ≡ parts → width_of line ≤ left → AreWithin room lines
+    → ((left : ℕ) (line : List ℕ) (lines : List (List ℕ)) → lines_in cs ≡ line ∷ lines → width_of line ≤ left → AreWithin room lines
     → lines_fit room left cs ≡ true) → lines_fit room left (c ∷ cs) ≡ true
 fit_either room left c cs line lines parts true feed is below_is narrow within below =
     fit_feed room left c cs line lines (grind (arith, nat_tests, feed)) is within
-    (λ all. lines-fit-all room cs (lines_of cs) refl all (below room))
+    (λ all. lines-fit-all room cs (lines_in cs) refl all (below room))
 fit_either room left c cs line lines [] false feed is below_is narrow within below =
     absurd (omega (arith, length-slice_split (λ c. c == 10) cs, ap (λ (ps : List (List ℕ)). length ps) below_is))
 fit_either room left c cs line lines (first ∷ others) false feed is below_is narrow within below =
     fit_other room left c cs line lines first others feed is below_is narrow within (λ small rest. below (left - char_width c) first others below_is small rest)
 
-lines-fit : (room : ℕ) (cs : List ℕ) (left : ℕ) (line : List ℕ) (lines : List (List ℕ)) → lines_of cs ≡ line ∷ lines → width_of line ≤ left
+AreWithin-lines_fit : (room : ℕ) (cs : List ℕ) (left : ℕ) (line : List ℕ) (lines : List (List ℕ)) → lines_in cs ≡ line ∷ lines → width_of line ≤ left
     → AreWithin room lines → lines_fit room left cs ≡ true
-lines-fit room [] left line lines is narrow within = refl
-lines-fit room (c ∷ cs) left line lines is narrow within =
-    fit_either room left c cs line lines (lines_of cs) (c == 10) refl is refl narrow within (lines-fit room cs)
+AreWithin-lines_fit room [] left line lines is narrow within = refl
+AreWithin-lines_fit room (c ∷ cs) left line lines is narrow within =
+    fit_either room left c cs line lines (lines_in cs) (c == 10) refl is refl narrow within (AreWithin-lines_fit room cs)
 
 -- ---- no other character
 
@@ -345,7 +345,7 @@ either_room room cs false is =
       kept = rows-kept (length cs) room cs;
       words = rows-words (length cs) room cs;
       rows = λ enough. rows-fit (length cs) room cs enough (omega arith);
-      same = λ within. rows-same (length cs) room cs (lines-fit-all room cs (lines_of cs) refl within (lines-fit room cs room));
+      same = λ within. rows-same (length cs) room cs (lines-fit-all room cs (lines_in cs) refl within (AreWithin-lines_fit room cs room));
       among = rows-all (IsAmong cs) (inl refl) room (length cs) cs (among_own cs);
     }
 

@@ -17,8 +17,8 @@ abbrev pub words_of : List ℕ → List (List ℕ)
 words_of cs = slice_split is_gap cs
 
 -- its lines
-abbrev pub lines_of : List ℕ → List (List ℕ)
-lines_of cs = slice_split (λ c. c == 10) cs
+abbrev pub lines_in : List ℕ → List (List ℕ)
+lines_in cs = slice_split (λ c. c == 10) cs
 
 -- each of these takes at most so many columns
 abbrev pub AreWithin : ℕ → List (List ℕ) → Type 0
@@ -34,6 +34,6 @@ IsAmong cs c = (c ≡ 10) ⊎ Contains cs c
 pub record IsRewrapped (room : ℕ) (cs shown : List ℕ) : Type 0 where
   pub kept : filter is_inside shown ≡ filter is_inside cs
   pub words : AreWithin room (words_of cs) → words_of shown ≡ words_of cs
-  pub rows : least_room ≤ room → AreWithin room (lines_of shown)
-  pub same : AreWithin room (lines_of cs) → shown ≡ cs
+  pub rows : least_room ≤ room → AreWithin room (lines_in shown)
+  pub same : AreWithin room (lines_in cs) → shown ≡ cs
   pub among : All (IsAmong cs) shown

@@ -12,6 +12,8 @@ mod redraw;
 #[cfg(test)]
 mod replay;
 #[cfg(test)]
+mod replay_arguments;
+#[cfg(test)]
 mod report;
 #[cfg(test)]
 mod slow;

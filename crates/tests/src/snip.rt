@@ -1,4 +1,4 @@
-//! Runs of `snip`, by words, the bytes of a file and two writers.
+//! Runs of `snip`, by arguments, the bytes of a file and two writers.
 use snip_run::run::run;
 use std::alloc::Global;
 use std::io;
@@ -27,12 +27,12 @@ const STYLED_UNICODE: &str =
 const USAGE: &str =
     "usage: snip [--unicode] [--text] [--short] [--styled] [--width N] FILE START END TITLE [LABEL]\n";
 
-/// A run: its words, what FILE holds, and what is wanted: the status and what stands on each output.
+/// A run: its arguments, what FILE holds, and what is wanted: the status and what stands on each output.
 type Run<'a> = (&'a [&'a str], Option<&'a [u8]>, u8, &'a str, &'a str);
 
 const NO_FILE: &str = "snip: cannot read a.rs\n";
 
-/// Runs over words of the form.
+/// Runs over arguments of the form.
 const RUNS: [Run<'static>; 15] = [
     // What is in the way.
     (&["a.rs", "0", "1", "t"], None, 1, "", NO_FILE),
@@ -146,7 +146,7 @@ const RUNS: [Run<'static>; 15] = [
     ),
 ];
 
-/// Words that aren't of the form.
+/// Arguments that aren't of the form.
 const WRONG: [&[&str]; 7] = [
     &[],
     &["a.rs", "4"],
@@ -159,22 +159,22 @@ const WRONG: [&[&str]; 7] = [
 
 /// Whether the run does what is wanted.
 fn does(alloc: Global, wanted: Run<'_>) -> bool {
-    let (words, file, status, printed, told) = wanted;
+    let (args, file, status, printed, told) = wanted;
     let mut out = Vec::new(alloc);
     let mut err = Vec::new(alloc);
-    run(alloc, words, file, &mut out, &mut err) == status
+    run(alloc, args, file, &mut out, &mut err) == status
         && out.as_slice() == printed.as_bytes()
         && err.as_slice() == told.as_bytes()
 }
 
 #[test]
-fn does_what_its_words_ask_for(rt: HostRuntime) {
+fn does_what_its_arguments_ask_for(rt: HostRuntime) {
     for wanted in RUNS {
         assert!(rt; does(rt.alloc(), wanted), "{wanted:?}");
     }
-    for words in WRONG {
-        let wanted = (words, Some(SOURCE), 2, "", USAGE);
-        assert!(rt; does(rt.alloc(), wanted), "{words:?}");
+    for args in WRONG {
+        let wanted = (args, Some(SOURCE), 2, "", USAGE);
+        assert!(rt; does(rt.alloc(), wanted), "{args:?}");
     }
 }
 
@@ -196,8 +196,8 @@ impl Write for Full {
 fn tells_no_failed_write(rt: HostRuntime) {
     let alloc = rt.alloc();
     let mut err = Vec::new(alloc);
-    let words = ["a.rs", "4", "5", "unused"];
-    assert_eq!(rt; run(alloc, &words, Some(SOURCE), &mut Full, &mut err), 1);
+    let args = ["a.rs", "4", "5", "unused"];
+    assert_eq!(rt; run(alloc, &args, Some(SOURCE), &mut Full, &mut err), 1);
     assert!(rt; err.is_empty());
     assert_eq!(rt; run(alloc, &[], None, &mut err, &mut Full), 2);
 }

@@ -1,4 +1,4 @@
-//! Runs of `tidy`, by words, the bytes of a file and three writers.
+//! Runs of `tidy`, by arguments, the bytes of a file and three writers.
 use std::alloc::{AllocError, Global};
 use std::io::Write;
 use std::test::Fail;
@@ -10,7 +10,8 @@ use tidy_run::run::run;
 use tidy_run::tabs::Tabs;
 use tidy_run::trailing_blanks::TrailingBlanks;
 
-/// A run: its words, what FILE holds, and what is wanted: the status, the report without codes, and what `err` is told.
+/// A run: its arguments, what FILE holds, and what is wanted: the status, the report without codes, and what `err` is
+/// told.
 type Run<'a> = (&'a [&'a str], Option<&'a [u8]>, u8, &'a str, &'a str);
 
 /// Blanks at the end of a line.
@@ -132,7 +133,7 @@ fn unstyled(alloc: Global, text: &[u8]) -> Result<Vec<u8>, AllocError> {
 /// The status of a run of the three rules.
 fn status_of<W: Write, V: Write, L: Write>(
     alloc: Global,
-    words: &[&str],
+    args: &[&str],
     file: Option<&[u8]>,
     out: &mut W,
     err: &mut V,
@@ -142,18 +143,18 @@ fn status_of<W: Write, V: Write, L: Write>(
     rules.push(Box::new(alloc, TrailingBlanks)?)?;
     rules.push(Box::new(alloc, Tabs)?)?;
     rules.push(Box::new(alloc, FinalLine)?)?;
-    Ok(run(alloc, &rules, words, file, out, err, log))
+    Ok(run(alloc, &rules, args, file, out, err, log))
 }
 
 /// Whether the run does what is wanted: with LOG, `log` holds the report and a line feed, and `out` the same with
 /// codes.
 fn does(alloc: Global, wanted: Run<'_>) -> Result<bool, AllocError> {
-    let (words, file, status, printed, told) = wanted;
+    let (args, file, status, printed, told) = wanted;
     let mut out = Vec::new(alloc);
     let mut err = Vec::new(alloc);
     let mut log = Vec::new(alloc);
-    let answer = status_of(alloc, words, file, &mut out, &mut err, &mut log)?;
-    let logs = words.len() == 3 && status == 1;
+    let answer = status_of(alloc, args, file, &mut out, &mut err, &mut log)?;
+    let logs = args.len() == 3 && status == 1;
     let plain = unstyled(alloc, &out)?;
     Ok(
         answer == status
@@ -272,9 +273,9 @@ fn status_with_log(
     out: &mut Vec<u8>,
     err: &mut Vec<u8>,
 ) -> Result<u8, AllocError> {
-    let words = ["--log", path, "a.rs"];
+    let args = ["--log", path, "a.rs"];
     let mut log = Log::new(rt, Some(path));
-    status_of(rt.alloc(), &words, Some(source), out, err, &mut log)
+    status_of(rt.alloc(), &args, Some(source), out, err, &mut log)
 }
 
 #[test]

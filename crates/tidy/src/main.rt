@@ -8,13 +8,13 @@ use program::exit::exit_code;
 use program::input::{file_bytes, given_texts};
 use std::alloc::AllocError;
 use std::process::ExitCode;
+use tidy_run::arguments::{file_word, log_word};
 use tidy_run::final_line::FinalLine;
 use tidy_run::log::Log;
 use tidy_run::rule::Rule;
 use tidy_run::run::run;
 use tidy_run::tabs::Tabs;
 use tidy_run::trailing_blanks::TrailingBlanks;
-use tidy_run::words::{file_word, log_word};
 
 /// The status of a run that there was no memory for.
 const STOPPED: u8 = 2;
@@ -23,18 +23,21 @@ const STOPPED: u8 = 2;
 fn answer(rt: &HostRuntime) -> Result<u8, AllocError> {
     let alloc = rt.alloc();
     let given = given_texts(rt)?;
-    let words: Vec<&str> = given.iter().map(|word| word.as_str()).collect(alloc)?;
-    let bytes = file_bytes(rt, file_word(&words));
+    let args: Vec<&str> = given
+        .iter()
+        .map(|argument| argument.as_str())
+        .collect(alloc)?;
+    let bytes = file_bytes(rt, file_word(&args));
     let file = bytes.as_ref().map(|bytes| bytes.as_slice());
     let mut rules: Vec<Box<dyn Rule>> = Vec::new(alloc);
     rules.push(Box::new(alloc, TrailingBlanks)?)?;
     rules.push(Box::new(alloc, Tabs)?)?;
     rules.push(Box::new(alloc, FinalLine)?)?;
-    let mut log = Log::new(rt, log_word(&words));
+    let mut log = Log::new(rt, log_word(&args));
     Ok(run(
         alloc,
         &rules,
-        &words,
+        &args,
         file,
         &mut rt.stdout(),
         &mut rt.stderr(),

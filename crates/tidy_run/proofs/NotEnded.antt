@@ -4,13 +4,13 @@ use Rattle.std.proofs.lemmas.Slice.Zip.{AllZip-long}
 use Rattle.program.specs.Stream.{Output, Silent, Whole, Receives}
 use Rattle.tidy_run.specs.Report.{Told}
 use Rattle.tidy_run.specs.Run.{Clean, End, Ends, Failed, Found, MayEnd, BadUsage, Unlogged, Unprinted, err_of, log_of, out_of, sheets_for, status_of}
-use Rattle.tidy_run.specs.Words.{Line, Word, line_of}
+use Rattle.tidy_run.specs.Arguments.{CommandLine, Argument, command_line_of}
 
 module _ (file : Option (List ℕ)) (tells : List ℕ → List Told) (Out Err Log : Output → Type 0) where
-  abbrev May : Option Line → End → Type 0
+  abbrev May : Option CommandLine → End → Type 0
   May line end = MatchOption line (end ≡ BadUsage) (λ l. MayEnd l file tells end)
 
-  silent_at : (line : Option Line) (end : End) → (file ≡ None) → May line end → Out (out_of end) → Out Silent
+  silent_at : (line : Option CommandLine) (end : End) → (file ≡ None) → May line end → Out (out_of end) → Out Silent
   silent_at None end none may out = subst (λ e. Out (out_of e)) may out
   silent_at (Some line) Clean none may out = out
   silent_at (Some line) (Found shown logged) none may out =
@@ -24,8 +24,8 @@ module _ (file : Option (List ℕ)) (tells : List ℕ → List Told) (Out Err Lo
   silent_at (Some line) BadUsage none may out = out
 
   -- where FILE can't be read, standard output is given nothing
-  pub silent_without_file : (words : List Word) (status : ℕ) → file ≡ None → Ends words file tells status Out Err Log → Out Silent
-  silent_without_file words status none ends = silent_at (line_of words) ends.end none ends.may ends.out
+  pub silent_without_file : (args : List Argument) (status : ℕ) → file ≡ None → Ends args file tells status Out Err Log → Out Silent
+  silent_without_file args status none ends = silent_at (command_line_of args) ends.end none ends.may ends.out
 
   quiet_at : (end : End) → status_of end ≡ 0 → Out (out_of end) → Err (err_of end) → Log (log_of end) → Out Silent × Err Silent × Log Silent
   quiet_at Clean is out err log = (out, err, log)
@@ -36,8 +36,8 @@ module _ (file : Option (List ℕ)) (tells : List ℕ → List Told) (Out Err Lo
   quiet_at BadUsage is out err log = cc
 
   -- with status 0 no writer is given anything
-  pub quiet : (words : List Word) → Ends words file tells 0 Out Err Log → Out Silent × Err Silent × Log Silent
-  quiet words ends = quiet_at ends.end (sym ends.status_is) ends.out ends.err ends.log
+  pub quiet : (args : List Argument) → Ends args file tells 0 Out Err Log → Out Silent × Err Silent × Log Silent
+  quiet args ends = quiet_at ends.end (sym ends.status_is) ends.out ends.err ends.log
 
 -- bytes that stay the same weren't given a line
 line_added : (text : List ℕ) → Receives (λ held. held) (Some []) (Some []) (Whole text) → ⊥
@@ -46,11 +46,11 @@ line_added text whole =
     omega (arith, ap length whole, long)
 
 -- with LOG there are two texts
-two_texts : (log : Option Word) (shown : List ℕ) → (log ≡ None → ⊥) → length (sheets_for log) ≡ length (shown ∷ []) → ⊥
+two_texts : (log : Option Argument) (shown : List ℕ) → (log ≡ None → ⊥) → length (sheets_for log) ≡ length (shown ∷ []) → ⊥
 two_texts None shown named many = named refl
 two_texts (Some name) shown named many = cc
 
-module _ (file : Option (List ℕ)) (tells : List ℕ → List Told) (line : Line) (named : line.log ≡ None → ⊥) (Out Err : Output → Type 0) where
+module _ (file : Option (List ℕ)) (tells : List ℕ → List Told) (line : CommandLine) (named : line.log ≡ None → ⊥) (Out Err : Output → Type 0) where
   -- what was in LOG is there as it was
   abbrev Untouched : Output → Type 0
   Untouched = Receives (λ (held : Option (List ℕ)). held) (Some []) (Some [])
@@ -67,7 +67,7 @@ module _ (file : Option (List ℕ)) (tells : List ℕ → List Told) (line : Lin
   unlogged_at BadUsage may is out log = out
 
   -- with status 2, and nothing in LOG, standard output is given nothing: that LOG can't be written isn't told there
-  pub silent_unlogged : (words : List Word) → line_of words ≡ Some line → Ends words file tells 2 Out Err Untouched → Out Silent
-  silent_unlogged words is ends =
+  pub silent_unlogged : (args : List Argument) → command_line_of args ≡ Some line → Ends args file tells 2 Out Err Untouched → Out Silent
+  silent_unlogged args is ends =
       let may = subst (λ l. MatchOption l (ends.end ≡ BadUsage) (λ x. MayEnd x file tells ends.end)) is ends.may in
       unlogged_at ends.end may (sym ends.status_is) ends.out ends.log

@@ -22,7 +22,7 @@ use Rattle.annotate_snippets.specs.Levels.{help_level, warning_level}
 use Rattle.annotate_snippets.specs.Span.{span_fault}
 use Rattle.annotate_snippets.proofs.BoundsLaws.{cause-clear, span-faultless, suggestion-clear}
 use Rattle.tidy_run.specs.Findings.{AreInside, Finding, IsTitle, findings_from, findings_of, with_rest}
-use Rattle.tidy_run.specs.Report.{IsGroupOf, IsHelp, IsOfFile, IsReportOf, IsWarning, mark_of, mended_by, told_of}
+use Rattle.tidy_run.specs.Report.{IsGroupOf, IsHelp, IsOfFile, IsReportOf, IsWarning, annotation_of, mended_by, told_of}
 
 -- a rule finds at most one more than there are bytes
 few-rest : (t : Bool) (l : List Finding) (f : Finding) (n : ℕ) → length l ≤ n → length (f ∷ (if t then l else [])) ≤ suc n
@@ -50,10 +50,10 @@ clear-spans source at (f ∷ fs) are =
     (span-faultless source f.start f.end are.0.ordered are.0.starts are.0.ends) (clear-spans source f.end fs are.1)
 
 -- and its text is short
-short-texts : (source : List ℕ) → (at : ℕ) → (fs : List Finding) → AreInside source at fs → All (λ f. length f.text ≤ 64) fs
-short-texts source at [] are = All-nil (λ (f : Finding). length f.text ≤ 64)
-short-texts source at (f ∷ fs) are =
-    All-cons (λ (g : Finding). length g.text ≤ 64) f fs are.0.short (short-texts source f.end fs are.1)
+texts-short : (source : List ℕ) → (at : ℕ) → (fs : List Finding) → AreInside source at fs → All (λ f. length f.text ≤ 64) fs
+texts-short source at [] are = All-nil (λ (f : Finding). length f.text ≤ 64)
+texts-short source at (f ∷ fs) are =
+    All-cons (λ (g : Finding). length g.text ≤ 64) f fs are.0.short (texts-short source f.end fs are.1)
 
 -- what holds of each thing that is made of some holds of what is made of each
 of-each : {A B : Type 0} (P : B → Type 0) (f : A → B) (xs : List A) → All P (map f xs) → All (λ x. P (f x)) xs
@@ -112,13 +112,13 @@ warning-within path source title found g is titled of =
     let Clear : List ℕ → Annotation → Type 0 = λ text a. span_fault text a.span.start a.span.end ≡ None in
     let spans : All (Clear (cow_str_bytes s.source)) s.markers.items =
     subst (λ text. All (Clear text) s.markers.items) (sym is.of_file.source_is)
-    (subst (All (Clear source)) (sym is.marks) (All-map (Clear source) mark_of found (clear-spans source 0 found of.inside))) in
+    (subst (All (Clear source)) (sym is.marks) (All-map (Clear source) annotation_of found (clear-spans source 0 found of.inside))) in
     let size : length (cow_str_bytes s.source) ≡ length source = ap length is.of_file.source_is in
     let fits = of.source_fits in
     let first = is.of_file.line_start in
     let numbers : s.line_start + (length (cow_str_bytes s.source) + 1) < 2 ^ 64 = omega (arith, size, fits, first) in
     let unlabelled : All AnnotationFits s.markers.items =
-    subst (All AnnotationFits) (sym is.marks) (All-map AnnotationFits mark_of found (λ k d within. tt)) in
+    subst (All AnnotationFits) (sym is.marks) (All-map AnnotationFits annotation_of found (λ k d within. tt)) in
     group-within warning_level title false (Cause s) g is.is (lit< tt) (omega (arith, titled.short))
     (source_text_fits path source s is.of_file of.source_fits, path_text_fits path source s is.of_file of.path_fits, unlabelled)
     (λ n. cause-clear n 0 s spans numbers)
@@ -134,7 +134,7 @@ help-within path source found g is of =
     subst (λ text. All (Clear text) ps) (sym is.of_file.source_is)
     (of-each (λ (f : Finding). span_fault source f.start f.end ≡ None) mended_by ps (clear-spans source 0 (map mended_by ps) inside)) in
     let short : All (λ (p : Patch). length (cow_str_bytes p.replacement) ≤ 64) ps =
-    of-each (λ (f : Finding). length f.text ≤ 64) mended_by ps (short-texts source 0 (map mended_by ps) inside) in
+    of-each (λ (f : Finding). length f.text ≤ 64) mended_by ps (texts-short source 0 (map mended_by ps) inside) in
     let all : sum_by (λ (p : Patch). length (cow_str_bytes p.replacement)) ps ≤ length ps * 64 =
     sum_by-le (λ (p : Patch). length (cow_str_bytes p.replacement)) 64 ps short in
     let many : length ps ≡ length found = sym (length-map ps mended_by) ∙ ap length is.patches in

@@ -1,6 +1,6 @@
+pub mod Arguments
 pub mod Findings
 pub mod Mended
 pub mod Report
 pub mod Rules
 pub mod Run
-pub mod Words

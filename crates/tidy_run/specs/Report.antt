@@ -18,8 +18,8 @@ use Rattle.tidy_run.specs.Findings.{Finding}
 use Rattle.tidy_run.specs.Mended.{mended}
 
 -- the mark of a finding: a primary one of its bytes, without a label
-abbrev pub mark_of : Finding → Annotation
-mark_of f =
+abbrev pub annotation_of : Finding → Annotation
+annotation_of f =
     record { span = record { start = f.start; end = f.end }; label = None; kind = Primary; highlight_source = false }
 
 -- the finding that a patch mends: the bytes that it replaces, and by what
@@ -49,7 +49,7 @@ pub record IsGroupOf (level : Level) (text : List ℕ) (trusted : Bool) (element
 pub record IsWarning (path source title : List ℕ) (found : List Finding) (group : Group) : Type 0 where
   pub snippet : Snippet Annotation
   pub of_file : IsOfFile path source snippet
-  pub marks : snippet.markers.items ≡ map mark_of found
+  pub marks : snippet.markers.items ≡ map annotation_of found
   pub is : IsGroupOf warning_level title false (Cause snippet) group
 
 -- the help to it: a secondary title, and the file with a patch for each finding; so the patched source, whose lines are offered, is

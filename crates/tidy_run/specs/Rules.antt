@@ -6,13 +6,13 @@ use Rattle.std.specs.Option.{option_or}
 use Rattle.tidy_run.specs.Findings.{Finding}
 
 -- the first finding that begins at byte `from`, or at one of so many bytes in all
-abbrev pub first_of : (ℕ → Option Finding) → ℕ → ℕ → Option Finding
-first_of begins zero from = None
-first_of begins (suc more) from = option_or (begins from) (first_of begins more (from + 1))
+abbrev pub first_finding : (ℕ → Option Finding) → ℕ → ℕ → Option Finding
+first_finding begins zero from = None
+first_finding begins (suc more) from = option_or (begins from) (first_finding begins more (from + 1))
 
 -- the first finding in a source that begins at byte `from` or after it, the place at the source's end counted
 unfoldable pub first_from : (List ℕ → ℕ → Option Finding) → List ℕ → ℕ → Option Finding
-first_from begins source from = first_of (begins source) (length source + 1 - from) from
+first_from begins source from = first_finding (begins source) (length source + 1 - from) from
 
 -- a tab: four spaces stand in its place
 abbrev pub tab_at : List ℕ → ℕ → Option Finding
@@ -26,8 +26,8 @@ missing_end_at source at =
     then Some record { start = at; end = at; text = 10 ∷ [] } else None
 
 -- spaces and tabs are blanks
-abbrev pub is_blank : ℕ → Bool
-is_blank b = b == 32 || b == 9
+abbrev pub is_space_or_tab : ℕ → Bool
+is_space_or_tab b = b == 32 || b == 9
 
 -- whether bytes begin with a line feed
 abbrev pub begins_with_line_feed : List ℕ → Bool
@@ -35,13 +35,13 @@ begins_with_line_feed [] = false
 begins_with_line_feed (b ∷ bs) = b == 10
 
 -- whether a line ends before these bytes: there are none, or they begin with a line feed, or with a carriage return and that
-abbrev pub ends_line : List ℕ → Bool
-ends_line [] = true
-ends_line (b ∷ bs) = b == 10 || b == 13 && begins_with_line_feed bs
+abbrev pub line_ends_before : List ℕ → Bool
+line_ends_before [] = true
+line_ends_before (b ∷ bs) = b == 10 || b == 13 && begins_with_line_feed bs
 
 -- blanks that end a line, from the first of them on: they go
 abbrev pub trailing_blanks_at : List ℕ → ℕ → Option Finding
 trailing_blanks_at source at =
-    if is_blank (slice_index_or source at 0) && not (nat_lt 0 at && is_blank (slice_index_or source (at - 1) 0))
-    && ends_line (drop (at + prefix_len is_blank (drop at source)) source)
-    then Some record { start = at; end = at + prefix_len is_blank (drop at source); text = [] } else None
+    if is_space_or_tab (slice_index_or source at 0) && not (nat_lt 0 at && is_space_or_tab (slice_index_or source (at - 1) 0))
+    && line_ends_before (drop (at + prefix_len is_space_or_tab (drop at source)) source)
+    then Some record { start = at; end = at + prefix_len is_space_or_tab (drop at source); text = [] } else None

@@ -1,5 +1,5 @@
 -- How a run ends, and what it writes.
-use Rattle.std.specs.Prelude.{◌≡◌, ◌≢◌, ℕ, List, [], ◌∷◌, ◌++◌, Option, Some, None, MatchOption, chars, codes, encode_utf8_all}
+use Rattle.std.specs.Prelude.{◌≡◌, ◌≢◌, ℕ, List, [], ◌∷◌, ◌++◌, Option, Some, None, MatchOption, codes}
 use Rattle.std.specs.List.{AllZip}
 use Rattle.std.specs.Option.{option_to_list}
 use Rattle.std.specs.Str.{IsUtf8}
@@ -9,10 +9,10 @@ use Rattle.annotate_snippets.specs.Fits.{TextFits}
 use Rattle.annotate_snippets.specs.FormLaws.{HasLaws}
 use Rattle.annotate_snippets.specs.Forms.{TextsShown}
 use Rattle.annotate_snippets.specs.Settings.{plain_settings, styled_settings}
-use Rattle.annotate_snippets.specs.Normalized.{norm}
+pub use Rattle.program.specs.Stream.{normalized_text}
 use Rattle.program.specs.Stream.{Output, Silent, Whole, CutShort, Told as Tells}
 use Rattle.tidy_run.specs.Report.{IsReportOf, Told}
-use Rattle.tidy_run.specs.Words.{Line, Word, line_of}
+use Rattle.tidy_run.specs.Arguments.{CommandLine, Argument, command_line_of}
 use Rattle.tidy_run.specs.declared.run.Failure.{Failure}
 use Rattle.tidy_run.specs.declared.run.Failure.TheVariants.{Unreadable, Unwritable, Memory}
 use Rattle.tidy_run.specs.declared.run.Written.{Written}
@@ -23,7 +23,7 @@ abbrev pub IsSource : List ℕ → Type 0
 IsSource bytes = IsUtf8 bytes × TextFits bytes
 
 -- the sheets under which a report is drawn: that of standard output, which is plain where there is no LOG; and that of LOG
-abbrev pub sheets_for : Option Word → List Stylesheet
+abbrev pub sheets_for : Option Argument → List Stylesheet
 sheets_for None = plain_settings.stylesheet ∷ []
 sheets_for (Some log) = styled_settings.stylesheet ∷ plain_settings.stylesheet ∷ []
 
@@ -40,46 +40,42 @@ AreTextsOf path source [] sheets texts = texts ≡ []
 AreTextsOf path source (t ∷ ts) sheets texts = ShowsTold path source (t ∷ ts) sheets texts
 
 -- the file holds this source, which can be looked through, and so can its name be shown
-pub record Reads (line : Line) (file : Option (List ℕ)) (source : List ℕ) : Type 0 where
+pub record Reads (line : CommandLine) (file : Option (List ℕ)) (source : List ℕ) : Type 0 where
   pub file_is : file ≡ Some source
   pub source_is : IsSource source
   pub name_fits : TextFits line.file
 
 -- something is told of the source, and these texts show it: the one for standard output and, with LOG, the one for that
-pub record IsReport (line : Line) (file : Option (List ℕ)) (tells : List ℕ → List Told) (shown : List ℕ) (logged : Option (List ℕ)) : Type 0 where
+pub record IsReport (line : CommandLine) (file : Option (List ℕ)) (tells : List ℕ → List Told) (shown : List ℕ) (logged : Option (List ℕ)) : Type 0 where
   pub source : List ℕ
   pub reads : Reads line file source
   pub told : tells source ≢ []
   pub shows : ShowsTold line.file source (tells source) (sheets_for line.log) (shown ∷ option_to_list logged)
 
 -- there is no report, for this reason: FILE of this name holds no source that can be looked through, or memory is refused
-abbrev pub Fails : Line → Option (List ℕ) → Failure → Type 0
+abbrev pub Fails : CommandLine → Option (List ℕ) → Failure → Type 0
 Fails line file (Unreadable name) = (name.now ≡ line.file) × ((source : List ℕ) → Reads line file source → ⊥)
 Fails line file (Unwritable name) = ⊥
 Fails line file Memory = Unit {0}
 
 -- what is told where LOG can't be written: that, by its name, or that there was no memory for that
-abbrev pub Unlogs : Line → Failure → Type 0
+abbrev pub Unlogs : CommandLine → Failure → Type 0
 Unlogs line (Unreadable name) = ⊥
 Unlogs line (Unwritable name) = line.log ≡ Some name.now
 Unlogs line Memory = Unit {0}
 
--- a name as a message shows it: what is listed in it is replaced
-abbrev pub shown_name : Word → List ℕ
-shown_name name = encode_utf8_all (norm (chars name))
-
--- how the words are to be written
+-- how the arguments are to be written
 abbrev pub usage : List ℕ
 usage = codes "usage: tidy [--log LOG] FILE"
 
 -- what is told of a failure
 abbrev pub message : Failure → List ℕ
-message (Unreadable name) = codes "tidy: cannot read " ++ shown_name name.now
-message (Unwritable name) = codes "tidy: cannot write " ++ shown_name name.now
+message (Unreadable name) = codes "tidy: cannot read " ++ normalized_text name.now
+message (Unwritable name) = codes "tidy: cannot write " ++ normalized_text name.now
 message Memory = codes "tidy: out of memory"
 
 -- how a run ends: nothing is told; the report is printed, once it is in LOG where that is given; it couldn't be printed; it couldn't be
--- written to LOG; there is none, for this reason; or the words aren't of the form
+-- written to LOG; there is none, for this reason; or the arguments aren't of the form
 pub data End : Type 0 where
   Clean : End
   Found : (shown : List ℕ) (logged : Option (List ℕ)) → End
@@ -89,7 +85,7 @@ pub data End : Type 0 where
   BadUsage : End
 
 -- whether a run for a line may end so, over what FILE holds and by what rules tell of a source
-abbrev pub MayEnd : Line → Option (List ℕ) → (List ℕ → List Told) → End → Type 0
+abbrev pub MayEnd : CommandLine → Option (List ℕ) → (List ℕ → List Told) → End → Type 0
 MayEnd line file tells Clean = (source : List ℕ) × Reads line file source × (tells source ≡ [])
 MayEnd line file tells (Found shown logged) = IsReport line file tells shown logged
 MayEnd line file tells (Unprinted shown logged) = IsReport line file tells shown logged
@@ -138,17 +134,17 @@ err_of (Unlogged shown plain failure) = Tells (message failure)
 err_of (Failed failure) = Tells (message failure)
 err_of BadUsage = Tells usage
 
--- a run of these words ends with this status, and gives the three writers what they are given
-pub record Ends (words : List Word) (file : Option (List ℕ)) (tells : List ℕ → List Told) (status : ℕ) (Out Err Log : Output → Type 0) : Type 0 where
+-- a run of these arguments ends with this status, and gives the three writers what they are given
+pub record Ends (args : List Argument) (file : Option (List ℕ)) (tells : List ℕ → List Told) (status : ℕ) (Out Err Log : Output → Type 0) : Type 0 where
   pub end : End
-  pub may : MatchOption (line_of words) (end ≡ BadUsage) (λ line. MayEnd line file tells end)
+  pub may : MatchOption (command_line_of args) (end ≡ BadUsage) (λ line. MayEnd line file tells end)
   pub status_is : status ≡ status_of end
   pub out : Out (out_of end)
   pub err : Err (err_of end)
   pub log : Log (log_of end)
 
 -- what is written of texts: the first goes to standard output, and with LOG the second to that, all of it
-abbrev pub AreGiven : Option Word → (List ℕ → Type 0) → (Output → Type 0) → List (List ℕ) → Type 0
+abbrev pub AreGiven : Option Argument → (List ℕ → Type 0) → (Output → Type 0) → List (List ℕ) → Type 0
 AreGiven log Printed Log [] = ⊥
 AreGiven None Printed Log (shown ∷ []) = Printed shown × Log Silent
 AreGiven None Printed Log (shown ∷ plain ∷ texts) = ⊥
@@ -157,7 +153,7 @@ AreGiven (Some log) Printed Log (shown ∷ plain ∷ []) = Printed shown × Log 
 AreGiven (Some log) Printed Log (shown ∷ plain ∷ more ∷ texts) = ⊥
 
 -- the same where the second couldn't be written to LOG of this name: the first isn't printed
-abbrev pub AreKept : Option Word → Word → (Output → Type 0) → (Output → Type 0) → List (List ℕ) → Type 0
+abbrev pub AreKept : Option Argument → Argument → (Output → Type 0) → (Output → Type 0) → List (List ℕ) → Type 0
 AreKept log name Out Log [] = ⊥
 AreKept log name Out Log (shown ∷ []) = ⊥
 AreKept log name Out Log (shown ∷ plain ∷ []) = (log ≡ Some name) × Out Silent × Log (CutShort plain)
@@ -165,7 +161,7 @@ AreKept log name Out Log (shown ∷ plain ∷ more ∷ texts) = ⊥
 
 -- what became of texts: there are none; all are written, LOG's first; what is for LOG of this name couldn't be written; or what is for
 -- standard output couldn't be printed
-abbrev pub Becomes : Written → Option Word → List (List ℕ) → (Output → Type 0) → (Output → Type 0) → Type 0
+abbrev pub Becomes : Written → Option Argument → List (List ℕ) → (Output → Type 0) → (Output → Type 0) → Type 0
 Becomes written.Nothing log texts Out Log = (texts ≡ []) × Out Silent × Log Silent
 Becomes written.All log texts Out Log = AreGiven log (λ shown. Out (Whole shown)) Log texts
 Becomes written.Unprinted log texts Out Log = AreGiven log (λ shown. Out (CutShort shown)) Log texts

@@ -7,7 +7,7 @@ ghost use Rattle.annotate_snippets.specs.Fault.{IsWithinBounds};
 ghost use Rattle.annotate_snippets.specs.Fits.{TextFits};
 ghost use Rattle.annotate_snippets.specs.Settings.{plain_settings};
 ghost use Rattle.tidy_run.specs.Findings.{AreInside, IsTitle, finding_of, findings_of};
-ghost use Rattle.tidy_run.specs.Report.{IsHelp, IsOfFile, IsReportOf, IsWarning, mark_of, mended_by, told_of};
+ghost use Rattle.tidy_run.specs.Report.{IsHelp, IsOfFile, IsReportOf, IsWarning, annotation_of, mended_by, told_of};
 
 use crate::rule::{Edit, Rule};
 use annotate_snippets::level::{HELP, WARNING};
@@ -24,7 +24,7 @@ fn marked<'a>(
     edits: &[Edit],
 ) -> Result<Snippet<'a, Annotation<'a>>, AllocError>
     ensures of_file { IfOk result (IsOfFile path.now source.now) }
-    ensures marks { IfOk result (λ snippet. snippet.markers.items ≡ map mark_of (map finding_of edits.now)) }
+    ensures marks { IfOk result (λ snippet. snippet.markers.items ≡ map annotation_of (map finding_of edits.now)) }
 {
     let mut snippet = Snippet::indexed(alloc, source).path(OptionCow::from(path));
     for edit in edits {

@@ -12,13 +12,13 @@ ghost use Rattle.program.specs.Stream.{Receives, Told};
 ghost use Rattle.tidy_run.specs.Findings.{findings_of};
 ghost use Rattle.tidy_run.specs.Report.{told_of};
 ghost use Rattle.tidy_run.specs.Run.{AreTextsOf, Becomes, Ends, Fails, IsSource, Reads, message, sheets_for};
-ghost use Rattle.tidy_run.specs.Run.{shown_name};
-ghost use Rattle.tidy_run.specs.Words.{line_of, said, words_at};
+ghost use Rattle.tidy_run.specs.Run.{normalized_text};
+ghost use Rattle.tidy_run.specs.Arguments.{command_line_of, said, arguments_at};
 
+use crate::arguments::{Command, command_of};
 use crate::lint::lint;
 use crate::report::report;
 use crate::rule::Rule;
-use crate::words::{Command, command_of};
 use annotate_snippets::renderer::RenderError;
 use annotate_snippets::renderer::style::Stylesheet;
 use annotate_snippets::text::{normalize_untrusted_str, text_fits};
@@ -28,7 +28,7 @@ use std::alloc::{AllocError, Global};
 use std::io::Write;
 use std::str;
 
-/// How the words are to be written.
+/// How the arguments are to be written.
 const USAGE: &str = "usage: tidy [--log LOG] FILE";
 
 /// What is told where there is no memory to tell more.
@@ -206,7 +206,7 @@ fn message_of(alloc: Global, failure: Failure<'_>) -> Result<String, AllocError>
 /// What is told where this can't be done to the file of this name.
 fn cannot(alloc: Global, verb: &str, name: &str) -> Result<String, AllocError>
     ensures message { IfOk result (λ text.
-        string_bytes text ≡ codes "tidy: cannot " ++ (verb.now ++ (codes " " ++ shown_name name.now))) }
+        string_bytes text ≡ codes "tidy: cannot " ++ (verb.now ++ (codes " " ++ normalized_text name.now))) }
 {
     let shown = normalize_untrusted_str(alloc, name)?;
     format!(in alloc; "tidy: cannot {verb} {shown}")
@@ -223,17 +223,18 @@ fn tell<V: Write>(alloc: Global, failure: Failure<'_>, err: &mut V)
     };
 }
 
-/// Looks through a file by rules and prints what they find, as the words ask for, and answers the status to end with.
+/// Looks through a file by rules and prints what they find, as the arguments ask for, and answers the status to end
+/// with.
 ///
 /// `file` is what FILE holds, or `None` where it can't be read; `log` writes to LOG, and isn't written to where the
-/// words name none. The status is 0 where the rules find nothing, 1 where what they find was printed, else 2. With LOG
-/// the report is printed in colours, once it stands in LOG without. No writer is flushed.
+/// arguments name none. The status is 0 where the rules find nothing, 1 where what they find was printed, else 2. With
+/// LOG the report is printed in colours, once it stands in LOG without. No writer is flushed.
 ///
 /// | Status | `out` | `log` | `err` |
 /// |---|---|---|---|
 /// | 0 | as it was | as it was | as it was |
 /// | 1 | the report and a line feed more | with LOG the report and a line feed more | as it was |
-/// | 2, the words, or what was in the way of the report | as it was | as it was | a message and a line feed more |
+/// | 2, the arguments, or what was in the way of the report | as it was | as it was | a message and a line feed more |
 /// | 2, LOG couldn't be written | as it was | a first part of the report more | the same |
 /// | 2, printing failed | a first part of it more | with LOG the report and a line feed more | as it was |
 ///
@@ -241,22 +242,22 @@ fn tell<V: Write>(alloc: Global, failure: Failure<'_>, err: &mut V)
 pub fn run<W: Write, V: Write, L: Write>(
     alloc: Global,
     rules: &[Box<dyn Rule>],
-    words: &[&str],
+    args: &[&str],
     file: Option<&[u8]>,
     out: &mut W,
     err: &mut V,
     log: &mut L,
 ) -> u8
     ensures status { result ≤ 2 }
-    ensures usage { line_of (words_at words.now) ≡ None → result ≡ 2 }
+    ensures usage { command_line_of (arguments_at args.now) ≡ None → result ≡ 2 }
 
     // By cases: which status, what each writer is given, and when that is so.
-    ensures ends { Ends (words_at words.now) (option_copied file.entry)
+    ensures ends { Ends (arguments_at args.now) (option_copied file.entry)
         (λ source. flat_map (λ rule. told_of (title_of rule) (findings_of (finds rule source) source)) rules.now) result
         (Receives W.contents out.old out.new) (Receives V.contents err.old err.new)
         (Receives L.contents log.old log.new) }
 {
-    let Some(command) = command_of(words) else {
+    let Some(command) = command_of(args) else {
         write_line(USAGE, err);
         return FAILED;
     };

@@ -14,14 +14,14 @@ pub struct TrailingBlanks;
 
 /// Whether a byte is a space or a tab.
 fn is_blank(byte: u8) -> bool
-    ensures value { result ≡ spec.is_blank byte }
+    ensures value { result ≡ spec.is_space_or_tab byte }
 {
     matches!(byte, b' ' | b'\t')
 }
 
 /// How many blanks some bytes begin with.
 fn leading_blanks(bytes: &[u8]) -> usize
-    ensures value { result ≡ prefix_len spec.is_blank bytes.now }
+    ensures value { result ≡ prefix_len spec.is_space_or_tab bytes.now }
     ensures within { result ≤ length bytes.now }
 {
     let mut count = 0;
@@ -33,7 +33,7 @@ fn leading_blanks(bytes: &[u8]) -> usize
 
 /// Whether a line ends before these bytes.
 fn ends_line(bytes: &[u8]) -> bool
-    ensures value { result ≡ spec.ends_line bytes.now }
+    ensures value { result ≡ spec.line_ends_before bytes.now }
 {
     matches!(bytes, [] | [b'\n', ..] | [b'\r', b'\n', ..])
 }

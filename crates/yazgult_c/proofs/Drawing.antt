@@ -13,7 +13,7 @@ use Rattle.annotate_snippets.specs.declared.renderer.error.RenderError.{RenderEr
 use Rattle.annotate_snippets.specs.declared.renderer.error.RenderError.TheVariants as refusal
 use Rattle.report_bytes.specs.Request.{request_bytes}
 use Rattle.report_bytes.specs.declared.request.Request.{Request}
-use Rattle.yazgult_c.specs.AnswerBytes.{IsAnswerTo, IsDrawn, answer_of, renderer_of}
+use Rattle.yazgult_c.specs.AnswerBytes.{IsAnswerTo, IsDrawn, answer_of_result, renderer_of}
 use Rattle.yazgult_c.specs.declared.answer.Answer.{Answer}
 use Rattle.yazgult_c.specs.declared.answer.Answer.TheVariants as answer
 
@@ -51,7 +51,7 @@ pub drawn_is : (made : Renderer) (groups : List Group) (sheets : List Stylesheet
     → made ≡ renderer_of r.settings → groups ≡ r.groups.items → sheets ≡ r.sheets.items → ReportFits r.groups.items
     → IfSome (first_refusal made groups) (λ x. result ≡ Err x) → (IsWithinBounds made groups → IsOkUnless result (refusal.Memory alloc_error))
     → IfOk result (λ texts. TextsShown made groups sheets (map string_bytes texts.items))
-    → IfOk result (λ texts. AllZip (HasLaws made groups) sheets (map string_bytes texts.items)) → IsDrawn r (answer_of result)
+    → IfOk result (λ texts. AllZip (HasLaws made groups) sheets (map string_bytes texts.items)) → IsDrawn r (answer_of_result result)
 drawn_is made groups sheets r (Ok texts) m g h fits refused renders shows laws =
     let given : TextsWithLaws made groups sheets (map string_bytes texts.items) = record { shows = shows; laws = laws } in
     let a = subst (λ k. TextsWithLaws k groups sheets (map string_bytes texts.items)) m given in

@@ -44,9 +44,9 @@ answer_of_refusal (refusal.Memory refused) = Memory
 answer_of_refusal other = Refused other
 
 -- what was drawn, or not, as an answer
-abbrev pub answer_of : Result (Vec (String Global) Global) RenderError → Answer
-answer_of (Ok texts) = Texts texts
-answer_of (Err refusal) = answer_of_refusal refusal
+abbrev pub answer_of_result : Result (Vec (String Global) Global) RenderError → Answer
+answer_of_result (Ok texts) = Texts texts
+answer_of_result (Err refusal) = answer_of_refusal refusal
 
 -- what becomes of a report: texts that show it, one under each of its sheets, each with its laws, or the refusal that stands first, or
 -- nothing where memory ran out

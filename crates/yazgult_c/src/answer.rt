@@ -2,7 +2,7 @@
 
 ghost use Rattle.std.specs.Prelude.{◌≡◌};
 ghost use Rattle.annotate_snippets.specs.Fits.{ReportFits};
-ghost use Rattle.yazgult_c.specs.AnswerBytes.{IsAnswerTo, IsDrawn, answer_of, answer_of_refusal, renderer_of};
+ghost use Rattle.yazgult_c.specs.AnswerBytes.{IsAnswerTo, IsDrawn, answer_of_result, answer_of_refusal, renderer_of};
 
 use annotate_snippets::Renderer;
 use annotate_snippets::renderer::{RenderError, Stylesheet};
@@ -48,7 +48,7 @@ fn drawn(alloc: Global, request: &Request<'_>) -> Answer
 
 /// What `render_sheets` gave, as an answer.
 fn answered(given: Result<Vec<String>, RenderError>) -> Answer
-    ensures answer { result ≡ answer_of given }
+    ensures answer { result ≡ answer_of_result given }
 {
     match given {
         Ok(texts) => Answer::Texts(texts),

@@ -163,7 +163,7 @@ fn first_two_share(elements: &[PreparedElement<'_>]) -> bool
 
 /// How an element begins, if it is a suggestion, which may share its file with the one right before.
 fn start_of(file: Option<&str>, shares: bool, element: &PreparedElement<'_>) -> SuggestionStart
-    ensures value { result ≡ spec.start_of (option_copied file.entry) shares (element_of element.now) }
+    ensures value { result ≡ spec.suggestion_start (option_copied file.entry) shares (element_of element.now) }
 {
     let PreparedElement::Suggestion(suggestion) = element else {
         return SuggestionStart::Opening;

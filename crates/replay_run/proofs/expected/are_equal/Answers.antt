@@ -2,7 +2,7 @@ use Rattle.std.proofs.Common.{◌≡◌, ◌∙◌, ◌↔◌, ◌<◌, ◌++◌
 use Rattle.std.proofs.Common.{string_bytes}
 use Rattle.std.proofs.lemmas.List.{map_more, get_or-map, take_all}
 use Rattle.std.specs.Borrow.{Bor}
-use Rattle.replay_run.specs.Expected.{texts_at}
+use Rattle.replay_run.specs.Expected.{texts_lent}
 use Rattle.replay_run.proofs.expected.are_equal.Goals as goal
 
 pub loop-i-init : goal.loop-i-init
@@ -32,7 +32,7 @@ returns-then-not-is_text c =
     let wanted = c.args.wanted.now in
     let texts = c.args.texts.now in
     let there : i < length wanted = omega (arith, c.loop-i-test.true, c.if-wanted-texts.false) in
-    let never : texts_at wanted ≡ map string_bytes texts → ⊥ =
+    let never : texts_lent wanted ≡ map string_bytes texts → ⊥ =
     λ same. denied c.is_text.result c.is_text.ensures.value c.if-not-is_text.true
     (sym (get_or-map text_of wanted i no_text [] there) ∙ ap (λ xs. get_or xs i []) same
     ∙ get_or-map string_bytes texts i c.index-texts-i.result [] c.loop-i-test.true ∙ sym (ap string_bytes c.index-texts-i.is)) in

@@ -8,7 +8,7 @@ use Rattle.annotate_snippets.specs.Fault.{first_refusal}
 use Rattle.annotate_snippets.specs.Fits.{ReportFits}
 use Rattle.annotate_snippets.specs.FormLaws.{HasLaws}
 use Rattle.annotate_snippets.specs.Forms.{ShowsReport}
-use Rattle.snip_run.specs.declared.words.Command.{Command}
+use Rattle.snip_run.specs.declared.arguments.Command.{Command}
 use Rattle.snip_run.specs.Report.{IsReportFor, RefusesCommand, ShowsCommand}
 use Rattle.snip_run.proofs.Reporting.{allowed_and, ok_had, refused_or_want}
 use Rattle.snip_run.proofs.run.rendered.Goals as goal

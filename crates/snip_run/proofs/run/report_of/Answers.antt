@@ -6,7 +6,7 @@ use Rattle.annotate_snippets.specs.declared.snippet.Element.{Element}
 use Rattle.annotate_snippets.specs.declared.snippet.Group.{Group}
 use Rattle.annotate_snippets.specs.declared.snippet.Snippet.{Snippet}
 use Rattle.annotate_snippets.specs.declared.snippet.Title.{Title}
-use Rattle.snip_run.specs.declared.words.Command.{Command}
+use Rattle.snip_run.specs.declared.arguments.Command.{Command}
 use Rattle.annotate_snippets.specs.KeptSettings.{KeepsSettings}
 use Rattle.snip_run.specs.Report.{IsMarkFor, IsSnippetFor, IsTitleFor}
 use Rattle.snip_run.proofs.Reporting.{ok_had}

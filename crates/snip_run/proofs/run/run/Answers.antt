@@ -1,29 +1,29 @@
 use Rattle.std.proofs.Common.{refl, string_bytes, subst}
 use Rattle.std.specs.Option.{option_copied}
 use Rattle.program.specs.Stream.{CutShort, Receives, Whole}
-use Rattle.snip_run.specs.Words.{words_at}
+use Rattle.snip_run.specs.Arguments.{arguments_at}
 use Rattle.snip_run.proofs.Ending.{ends_failed, ends_bad_usage, ends_printed, ends_unprinted, no_command}
 use Rattle.snip_run.proofs.run.run.Goals as goal
 
 pub returns-in_default-clause-ends : goal.returns-in_default-clause-ends
 returns-in_default-clause-ends g c =
-    ends_bad_usage (words_at c.args.words.now) (option_copied c.args.file) _ _ (no_command _ c.in_default.ensures.each_line) refl c.write_line.ensures.told
+    ends_bad_usage (arguments_at c.args.args.now) (option_copied c.args.file) _ _ (no_command _ c.in_default.ensures.each_line) refl c.write_line.ensures.told
 
 pub returns-then-write_line-clause-ends : goal.returns-then-write_line-clause-ends
 returns-then-write_line-clause-ends g c =
-    ends_printed (words_at c.args.words.now) (option_copied c.args.file) c.in-Some.command
+    ends_printed (arguments_at c.args.args.now) (option_copied c.args.file) c.in-Some.command
     (string_bytes c.in-Ok.text) _ _ c.in-Some.ensures.command c.in-Ok.ensures.shows
     (subst (λ text. Receives g.W.Write.contents c.args.out.now c.write_line-in-Ok.new.out
     (Whole text)) c.as_str.ensures.value c.if-write_line.ensures.whole) refl
 
 pub returns-in-Ok-clause-ends : goal.returns-in-Ok-clause-ends
 returns-in-Ok-clause-ends g c =
-    ends_unprinted (words_at c.args.words.now) (option_copied c.args.file) c.in-Some.command
+    ends_unprinted (arguments_at c.args.args.now) (option_copied c.args.file) c.in-Some.command
     (string_bytes c.in-Ok.text) _ _ c.in-Some.ensures.command c.in-Ok.ensures.shows
     (subst (λ text. Receives g.W.Write.contents c.args.out.now c.write_line-in-Ok.new.out
     (CutShort text)) c.as_str.ensures.value c.if-write_line.ensures.cut) refl
 
 pub returns-clause-ends : goal.returns-clause-ends
 returns-clause-ends g c =
-    ends_failed (words_at c.args.words.now) (option_copied c.args.file) c.in-Some.command c.in-Err.failure _ _ c.in-Some.ensures.command c.in-Err.ensures.fails
-    refl c.tell.ensures.told
+    ends_failed (arguments_at c.args.args.now) (option_copied c.args.file) c.in-Some.command c.in-Err.failure _ _ c.in-Some.ensures.command
+    c.in-Err.ensures.fails refl c.tell.ensures.told

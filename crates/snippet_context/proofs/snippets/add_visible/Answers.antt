@@ -17,8 +17,8 @@ nothing_left (x ∷ xs) none = absurd (omega arith)
 abbrev of_parts : Range ℕ → Option (CowStr Global) → AnnotationKind → Bool → Annotation
 of_parts span label kind highlight = record { span = span; label = label; kind = kind; highlight_source = highlight }
 
-mark-is : (a : Annotation) (span : Range ℕ) → a.span ≡ span → a.label ≡ None → a.kind ≡ Visible → a.highlight_source ≡ false → a ≡ visible_mark span
-mark-is a span is no_label kind plain =
+visible_mark-is : (a : Annotation) (span : Range ℕ) → a.span ≡ span → a.label ≡ None → a.kind ≡ Visible → a.highlight_source ≡ false → a ≡ visible_mark span
+visible_mark-is a span is no_label kind plain =
     ap (λ (s : Range ℕ). of_parts s a.label a.kind a.highlight_source) is
     ∙ ap (λ (l : Option (CowStr Global)). of_parts span l a.kind a.highlight_source) no_label
     ∙ ap (λ (k : AnnotationKind). of_parts span None k a.highlight_source) kind ∙ ap (of_parts span None Visible) plain
@@ -38,7 +38,7 @@ loop-span-preserved c =
     let rest : List (Range ℕ) = into_iter_items c.next.new.self in
     let steps : into_iter_items at.span-iterator ≡ x ∷ rest = c.in-Some.ensures.steps.0 in
     let mark : c.span.result ≡ visible_mark x =
-    mark-is c.span.result x c.span.ensures.span c.span.ensures.label c.span.ensures.kind c.span.ensures.highlight_source in
+    visible_mark-is c.span.result x c.span.ensures.span c.span.ensures.label c.span.ensures.kind c.span.ensures.highlight_source in
     record {
       added = ap (λ (marks : List Annotation). marks ++ map visible_mark rest) c.in_ok-push.ensures.items
           ∙ ap (λ (m : Annotation). (at.markers.items ++ m ∷ []) ++ map visible_mark rest) mark

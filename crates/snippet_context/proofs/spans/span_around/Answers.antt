@@ -2,7 +2,7 @@ use Rattle.std.proofs.Common.{◌≡◌, ◌∙◌, ℕ, ◌+◌, ◌-◌, min, 
 use Rattle.std.specs.declared.ops.Range.{Range}
 use Rattle.snippet_lines.specs.Lines.{source_lines, start_of}
 use Rattle.snippet_context.specs.Context as spec
-use Rattle.snippet_context.proofs.SpanLemmas.{starts-at, starts-length}
+use Rattle.snippet_context.proofs.SpanLemmas.{line_starts-start_of, starts-length}
 use Rattle.snippet_context.proofs.spans.span_around.Goals as goal
 
 pub returns : goal.returns
@@ -14,6 +14,6 @@ returns c =
     let last : c.min-last.result ≡ min (c.args.line + c.args.after) (length (source_lines source) - 1) = omega arith in
     record {
       value = ap₂ (λ (start end : ℕ). (let span : Range ℕ = record { start = start; end = end } in span))
-          (starts-at source starts c.saturating_sub.result c.requires.starts (omega arith) ∙ ap (start_of (source_lines source)) first)
+          (line_starts-start_of source starts c.saturating_sub.result c.requires.starts (omega arith) ∙ ap (start_of (source_lines source)) first)
           (c.close_of.ensures.value ∙ ap (spec.close_of source) last);
     }

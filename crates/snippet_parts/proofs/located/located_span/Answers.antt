@@ -7,7 +7,7 @@ use Rattle.snippet_model.specs.declared.snippet.Annotation.{Annotation}
 use Rattle.snippet_lines.proofs.PlaceLemmas.{line_of-mono, line_of-within}
 use Rattle.snippet_parts.specs.Mark.{is_marking}
 use Rattle.snippet_parts.specs.Marked.{first_line, last_line}
-use Rattle.snippet_parts.proofs.MarkLemmas.{first-from, end-line}
+use Rattle.snippet_parts.proofs.MarkLemmas.{first_line-from, end-line}
 use Rattle.snippet_parts.proofs.located.located_span.Goals as goal
 
 -- the line on which an annotation's locations end
@@ -16,15 +16,20 @@ last-from s a at is = ap (λ (l : Loc × Loc). l.1.line) is ∙ end-line s a.spa
 
 pub overflow_sub-first : goal.overflow_sub-first
 overflow_sub-first c =
-    omega (arith, c.line_start.ensures.value, first-from c.args.source.now c.args.annotation.now c.span_to_locations.result c.span_to_locations.ensures.value)
+    omega (
+      arith,
+      c.line_start.ensures.value,
+      first_line-from c.args.source.now c.args.annotation.now c.span_to_locations.result
+          c.span_to_locations.ensures.value,
+    )
 
 pub overflow_sub-last : goal.overflow_sub-last
 overflow_sub-last c =
     omega (arith, c.line_start-2.ensures.value, last-from c.args.source.now c.args.annotation.now c.span_to_locations.result c.span_to_locations.ensures.value)
 
 -- of lines in order that differ the first comes before the last
-long-parts : (marked : Bool) (first last : ℕ) → first ≤ last → (marked && not (eqb last first)) ≡ true → (marked ≡ true) × (first < last)
-long-parts marked first last ordered long =
+marked-longer : (marked : Bool) (first last : ℕ) → first ≤ last → (marked && not (eqb last first)) ≡ true → (marked ≡ true) × (first < last)
+marked-longer marked first last ordered long =
     let parts = and_parts marked (not (eqb last first)) long in
     (parts.0, below first last ordered (eqb-false last first (not-true (eqb last first) parts.1)))
   where
@@ -49,7 +54,7 @@ returns c =
     let first : ℕ = c.span_to_locations.result.0.line - c.line_start.result in
     let last : ℕ = c.span_to_locations.result.1.line - c.line_start-2.result in
     let first_is : first ≡ first_line s.text a =
-    omega (arith, c.line_start.ensures.value, first-from s a c.span_to_locations.result c.span_to_locations.ensures.value) in
+    omega (arith, c.line_start.ensures.value, first_line-from s a c.span_to_locations.result c.span_to_locations.ensures.value) in
     let last_is : last ≡ last_line s.text a =
     omega (arith, c.line_start-2.ensures.value, last-from s a c.span_to_locations.result c.span_to_locations.ensures.value) in
     let ordered : first ≤ last = omega (
@@ -69,6 +74,6 @@ returns c =
         start_display = c.span_to_locations.ensures.start_bound;
         end_display = c.span_to_locations.ensures.end_bound;
         start_char = c.span_to_locations.ensures.start_char;
-        bars = λ long. let parts = long-parts (is_marking a.kind) first last ordered long in c.span_bars.ensures.value parts.0 parts.1;
+        bars = λ long. let parts = marked-longer (is_marking a.kind) first last ordered long in c.span_bars.ensures.value parts.0 parts.1;
       };
     }

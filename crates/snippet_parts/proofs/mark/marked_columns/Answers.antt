@@ -1,5 +1,5 @@
 use Rattle.std.proofs.Common.{◌≡◌, true, false, sym, ◌∙◌, arith}
-use Rattle.snippet_parts.proofs.MarkLemmas.{first-from, marked-from, unmarked-from, start_column-from, end_column-from}
+use Rattle.snippet_parts.proofs.MarkLemmas.{first_line-from, marked-from, unmarked-from, start_column-from, end_column-from}
 use Rattle.snippet_parts.proofs.mark.marked_columns.Goals.{then-not-is_marking-via-then-not-is_marking}
 use Rattle.snippet_parts.proofs.mark.marked_columns.Goals.{then-not-is_marking-via-else-not-is_marking+then-start-line}
 use Rattle.snippet_parts.proofs.mark.marked_columns.Goals.{then-not-is_marking-via-else-not-is_marking+else-start-line+then-end-line}
@@ -22,7 +22,7 @@ pub returns-clause-number : goal.returns-clause-number
 returns-clause-number c = omega (
   arith,
   c.if-start-line.false,
-  first-from c.args.source.now c.args.annotation.now c.span_to_locations.result
+  first_line-from c.args.source.now c.args.annotation.now c.span_to_locations.result
       c.span_to_locations.ensures.value,
 )
 

@@ -3,7 +3,7 @@ use Rattle.std.proofs.lemmas.Bool.{cases_eq}
 use Rattle.snippet_model.specs.declared.snippet.Patch.{Patch}
 use Rattle.snippet_splice.specs.Edits.{Edit, edit_of}
 use Rattle.snippet_splice.specs.Overlap.{no_edit}
-use Rattle.snippet_splice.proofs.OverlapLemmas.{edit-at}
+use Rattle.snippet_splice.proofs.OverlapLemmas.{get_or-edit_of}
 use Rattle.snippet_splice.proofs.overlap.stand_apart.Goals as goal
 
 pub loop-i-preserved : goal.loop-i-preserved
@@ -12,9 +12,9 @@ loop-i-preserved c = λ k within.
     let es : List Edit = map edit_of ps in
     let i : ℕ = c.loop-i.i in
     let inside : i < length ps = c.loop-i-test.true in
-    let before : get_or es (i - 1) no_edit ≡ edit_of c.index-patches-i-in-loop-i.result = edit-at ps (i - 1) c.index-patches-i-in-loop-i.result
+    let before : get_or es (i - 1) no_edit ≡ edit_of c.index-patches-i-in-loop-i.result = get_or-edit_of ps (i - 1) c.index-patches-i-in-loop-i.result
     (omega arith) c.index-patches-i-in-loop-i.is in
-    let here : get_or es i no_edit ≡ edit_of c.index-patches-i.result = edit-at ps i c.index-patches-i.result inside c.index-patches-i.is in
+    let here : get_or es i no_edit ≡ edit_of c.index-patches-i.result = get_or-edit_of ps i c.index-patches-i.result inside c.index-patches-i.is in
     let ends : c.index-patches-i-in-loop-i.result.span.end ≤ c.index-patches-i.result.span.start = omega
     (arith, c.if-patches-i.false, ap (λ p. p.span.end) c.index-patches-i-in-loop-i.is, ap (λ p. p.span.start) c.index-patches-i.is) in
     ⊎_elim

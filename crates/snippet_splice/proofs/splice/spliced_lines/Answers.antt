@@ -14,12 +14,12 @@ use Rattle.snippet_splice.proofs.OverlapLemmas.{apart-in_order, ordered-spans}
 use Rattle.snippet_splice.specs.EditStretches.{capped, extent_of, extents_from, feeds_made}
 use Rattle.snippet_splice.proofs.PlaceLemmas.{replaced_are, stretches_are}
 use Rattle.snippet_splice.proofs.ShownLineLemmas.{num_replaced, num_shown}
-use Rattle.snippet_splice.proofs.ShownLemmas.{none_given, first-given, shown_start-border, shown-apart, shown-value, some-trimmed}
+use Rattle.snippet_splice.proofs.ShownLemmas.{none_given, first_start-trimmed, shown_start-border, shown-apart, shown-value, some-trimmed}
 use Rattle.snippet_splice.proofs.SpliceLemmas.{IsShownPart, IsShownPart-plain}
 use Rattle.snippet_splice.proofs.WriteLemmas.{without_final-twice}
-use Rattle.snippet_splice.proofs.LineLemmas.{shown-lines}
+use Rattle.snippet_splice.proofs.LineLemmas.{AreFrom-shown}
 use Rattle.snippet_splice.proofs.TouchLemmas.{shown-touched}
-use Rattle.snippet_splice.proofs.RangeLemmas.{written-ranges}
+use Rattle.snippet_splice.proofs.RangeLemmas.{ranges_from-written_ranges}
 use Rattle.snippet_splice.proofs.splice.spliced_lines.Goals as goal
 
 pub returns-in_default-clause-none : goal.returns-in_default-clause-none
@@ -36,7 +36,7 @@ write_patches-requires-clause-from c =
 
 first_is : (c : goal.After-deref-2) → c.in-Some.first.now.original_span.start ≡ first_start (in_order (map edit_of c.args.patches.now))
 first_is c =
-    first-given c.in_ok-patches.patches.items (in_order (map edit_of c.args.patches.now)) c.in-Some.first.now c.in_ok-patches.ensures.originals
+    first_start-trimmed c.in_ok-patches.patches.items (in_order (map edit_of c.args.patches.now)) c.in-Some.first.now c.in_ok-patches.ensures.originals
     (sym (c.in-Some.ensures.value ∙ ap (λ l. slice_get l 0) c.deref.ensures.value))
 
 pub write_patches-requires-clause-apart : goal.write_patches-requires-clause-apart
@@ -63,7 +63,7 @@ patch_places-requires-clause-apart c =
     let es : List Edit = map edit_of c.args.patches.now in
     let apart : AreApart (shown_start c.args.fold source (first_start (in_order es))) (trimmed_edits source es) = shown-apart c.args.fold source es
     (apart-in_order es (ordered-spans source c.args.patches.now c.requires.spans) c.requires.disjoint) in
-    let first : c.in-Some.first.now.original_span.start ≡ first_start (in_order es) = first-given c.in_ok-patches.patches.items
+    let first : c.in-Some.first.now.original_span.start ≡ first_start (in_order es) = first_start-trimmed c.in_ok-patches.patches.items
     (in_order es) c.in-Some.first.now c.in_ok-patches.ensures.originals (sym (c.in-Some.ensures.value ∙ ap (λ l. slice_get l 0) c.deref.ensures.value)) in
     let begin : c.shown_start-start.result ≡ shown_start c.args.fold source (first_start (in_order es)) = c.shown_start-start.ensures.value
     ∙ ap (shown_start c.args.fold source) first in
@@ -78,7 +78,7 @@ returns-clause-splice c =
     let es : List Edit = map edit_of c.args.patches.now in
     let edits : map trimmed_edit_of c.deref-2.result.now ≡ trimmed_edits source es = ap (map trimmed_edit_of) c.deref-2.ensures.value
     ∙ c.in_ok-patches.ensures.edits in
-    let first : c.in-Some.first.now.original_span.start ≡ first_start (in_order es) = first-given c.in_ok-patches.patches.items
+    let first : c.in-Some.first.now.original_span.start ≡ first_start (in_order es) = first_start-trimmed c.in_ok-patches.patches.items
     (in_order es) c.in-Some.first.now c.in_ok-patches.ensures.originals (sym (c.in-Some.ensures.value ∙ ap (λ l. slice_get l 0) c.deref.ensures.value)) in
     let same : map trimmed_edit_of c.deref-3.result.now ≡ map trimmed_edit_of c.deref-2.result.now = ap (map trimmed_edit_of)
     (c.deref-3.ensures.value ∙ sym c.deref-2.ensures.value) in
@@ -140,9 +140,10 @@ returns-clause-splice c =
           (subst (λ (l : List TrimmedPatch). All (λ t. IsSpanBorder source t.original_span.end) l) (sym c.deref-5.ensures.value) (λ k d within.
           (c.in_ok-patches.ensures.original_spans k d within).to)));
       text = λ plain. value ∙ (part plain).text ∙ sym (part plain).spliced;
-      ranges = λ plain. ap (ranges_from (shown_line c.args.fold source es)) written ∙ written-ranges c.args.fold source es plain.no_cr plain.before apart;
+      ranges = λ plain. ap (ranges_from (shown_line c.args.fold source es)) written
+          ∙ ranges_from-written_ranges c.args.fold source es plain.no_cr plain.before apart;
       lines = λ plain texts_none. subst (λ t. AreFrom (shown_line c.args.fold source es) (texts_of (lines_of t)) (texts_of (source_lines (patched source es))))
-          (sym (value ∙ (part plain).text)) (shown-lines c.args.fold source es plain.no_cr texts_none (part plain));
+          (sym (value ∙ (part plain).text)) (AreFrom-shown c.args.fold source es plain.no_cr texts_none (part plain));
       touched = λ plain j touched filled. subst (λ t. (shown_line c.args.fold source es ≤ j) × (j < shown_line c.args.fold source es + length (lines_of t)))
           (sym (value ∙ (part plain).text)) (shown-touched c.args.fold source es plain.no_cr plain.before apart (part plain) j touched filled);
     }

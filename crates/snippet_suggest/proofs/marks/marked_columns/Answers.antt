@@ -2,7 +2,7 @@ use Rattle.std.proofs.Common.{◌≡◌, ◌∙◌, ◌+◌, ◌-◌, ℕ, List,
 use Rattle.std.proofs.lemmas.Bool.{cond-false, cond-true}
 use Rattle.std.specs.Str.{trim, trim_start}
 use Rattle.snippet_splice.specs.EditStretches.{capped}
-use Rattle.snippet_suggest.specs.Kind.{is_blank}
+use Rattle.snippet_suggest.specs.Kind.{is_blank_text}
 use Rattle.snippet_suggest.specs.Marks.{inner_width, lead_of, left_of, patch_mark_end, mark_start, text_width}
 use Rattle.snippet_suggest.specs.Moves.{shift_of}
 use Rattle.snippet_suggest.specs.declared.marks.Shift.{Shift}
@@ -16,15 +16,15 @@ returns c =
     let Pair : ℕ → ℕ → ℕ × ℕ = λ m n. (m, n) in
     let parts : ◌≡◌ {A = ℕ × ℕ} c.if-is_blank.lead (lead_of text, inner_width cols text) = elim c.if-is_blank.branch [
       | then-is_blank w ↦
-          let blank : is_blank text ≡ true = sym c.is_blank.ensures.value ∙ w.if-is_blank.true in
-          w.lead-is ∙ ap (λ m. Pair m cols.width) (sym (cond-true (is_blank text) 0 (length text - length (trim_start text)) blank))
-          ∙ ap (Pair (lead_of text)) (sym (cond-true (is_blank text) cols.width (text_width (trim text)) blank))
+          let blank : is_blank_text text ≡ true = sym c.is_blank.ensures.value ∙ w.if-is_blank.true in
+          w.lead-is ∙ ap (λ m. Pair m cols.width) (sym (cond-true (is_blank_text text) 0 (length text - length (trim_start text)) blank))
+          ∙ ap (Pair (lead_of text)) (sym (cond-true (is_blank_text text) cols.width (text_width (trim text)) blank))
       | else-is_blank w ↦
-          let other : is_blank text ≡ false = sym c.is_blank.ensures.value ∙ w.if-is_blank.false in
+          let other : is_blank_text text ≡ false = sym c.is_blank.ensures.value ∙ w.if-is_blank.false in
           let lead : w.saturating_sub-lead.result ≡ lead_of text = w.saturating_sub-lead.ensures ∙ ap (λ t. length text - length t) w.trim_start.ensures.trim
-          ∙ sym (cond-false (is_blank text) 0 (length text - length (trim_start text)) other) in
+          ∙ sym (cond-false (is_blank_text text) 0 (length text - length (trim_start text)) other) in
           let width : w.text_width.result ≡ inner_width cols text = w.text_width.ensures.value ∙ ap text_width w.trim.ensures.trim
-          ∙ sym (cond-false (is_blank text) cols.width (text_width (trim text)) other) in
+          ∙ sym (cond-false (is_blank_text text) cols.width (text_width (trim text)) other) in
           w.lead-is ∙ ap (λ m. Pair m w.text_width.result) lead ∙ ap (Pair (lead_of text)) width
     ] in
     let from : c.saturating_add-from.result ≡ capped (cols.start + lead_of text) = c.saturating_add-from.ensures

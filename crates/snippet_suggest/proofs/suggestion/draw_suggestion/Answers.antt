@@ -10,7 +10,7 @@ use Rattle.snippet_suggest.specs.Marks.{with_marks}
 use Rattle.snippet_grid.specs.Grid.{row_at}
 use Rattle.snippet_suggest.specs.Cells.{end_cells}
 use Rattle.snippet_suggest.specs.RowOrder.{Ends}
-use Rattle.snippet_suggest.specs.Suggested.{cells_of}
+use Rattle.snippet_suggest.specs.Suggested.{suggested_cells}
 use Rattle.snippet_suggest.proofs.SuggestedRows.{ends_marked, ends_plain, suggestion_is}
 use Rattle.snippet_lines.specs.Span.{IsSpan}
 use Rattle.snippet_style.specs.Cell.{Cell}
@@ -43,7 +43,7 @@ returns c =
           let row : List Cell = end_cells l a.follows in
           let ended : c.draw_end.new.buffer ≡ before ++ row ∷ [] = c.in_ok-row.ensures.cells in
           let Ended : List Cell → Type 0 = λ r. c.if-eq.buffer ≡ before ++ r ∷ [] in
-          let last : Ended (cells_of l s [] (Ends a.follows)) = elim c.if-eq.branch [
+          let last : Ended (suggested_cells l s [] (Ends a.follows)) = elim c.if-eq.branch [
             | then-eq+in_ok-draw_marks w ↦
                 let kind : p.kind ≡ Underline = same_true the_type (search rules) p.kind Underline (sym w.if-eq.ensures) in
                 let marks : shown_kind s ≡ Underline = sym c.requires.prepared.kind ∙ kind in

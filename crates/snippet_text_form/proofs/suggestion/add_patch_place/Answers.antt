@@ -3,7 +3,7 @@ use Rattle.std.proofs.lemmas.Bool.{and_left, and_right}
 use Rattle.std.proofs.lemmas.Result.{on_ok_weaker}
 use Rattle.std.specs.Option.{option_copied}
 use Rattle.snippet_splice.specs.Edits.{Edit, trimmed_edit_of}
-use Rattle.snippet_suggest.specs.Kind.{is_blank}
+use Rattle.snippet_suggest.specs.Kind.{is_blank_text}
 use Rattle.snippet_text_form.specs.Cause.{column_unless}
 use Rattle.snippet_text_form.specs.Form.{FormPiece, bare}
 use Rattle.snippet_text_form.specs.Position.{place}
@@ -24,7 +24,7 @@ returns-in_ok-add_place c =
     let new : List FormPiece = c.add_end.new.form in
     let over : overwrites a.map.now.text e ≡ true = sym (seen_over c.source.result.now a.map.now.text e c.overwrites.result c.source.ensures.value
     c.requires.span c.overwrites.ensures.value) ∙ c.if-overwrites.true in
-    let given : is_blank e.text ≡ false = sym c.is_blank.ensures.value ∙ c.if-not-is_blank.true in
+    let given : is_blank_text e.text ≡ false = sym c.is_blank.ensures.value ∙ c.if-not-is_blank.true in
     record {
       added = on_ok_weaker c.add_end.result
           (λ last. text-two old mid new (place a.anonymized path a.start.line (Some (a.start.char + 1))) (replaced_to a.anonymized a.start a.end)
@@ -43,9 +43,9 @@ returns-else-overwrites c =
     c.overwrites.ensures.value in
     let other : replaces a.map.now.text e ≡ false = elim c.else-overwrites.branch [
       | else-overwrites-via-then-overwrites+else-not-is_blank w ↦
-          and_right over (not (is_blank e.text)) (ap not (sym w.is_blank.ensures.value ∙ w.if-not-is_blank.false))
+          and_right over (not (is_blank_text e.text)) (ap not (sym w.is_blank.ensures.value ∙ w.if-not-is_blank.false))
       | else-overwrites-via-else-overwrites w ↦
-          and_left over (not (is_blank e.text)) (sym seen ∙ w.if-overwrites.false)
+          and_left over (not (is_blank_text e.text)) (sym seen ∙ w.if-overwrites.false)
     ] in
     let column : c.column_unless-column.result ≡ column_unless (replaces_whole_line a.map.now a.start a.end e) a.start = c.column_unless-column.ensures.value
     ∙ ap (λ whole. column_unless whole a.start) c.is_whole_line-whole.ensures.value in

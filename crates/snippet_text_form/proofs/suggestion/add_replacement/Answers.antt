@@ -7,7 +7,7 @@ use Rattle.std.specs.Cow.{cow_str_bytes}
 use Rattle.snippet_splice.specs.Edits.{Edit, trimmed_edit_of}
 use Rattle.snippet_splice.specs.ShownText.{without_final_line_feeds}
 use Rattle.snippet_style.specs.declared.role.ElementStyle.TheVariants.{Addition}
-use Rattle.snippet_suggest.specs.Kind.{is_blank}
+use Rattle.snippet_suggest.specs.Kind.{is_blank_text}
 use Rattle.snippet_text.specs.Normalized.{norm}
 use Rattle.snippet_text_form.specs.Form.{FormPiece, bare, styled}
 use Rattle.snippet_text_form.specs.Suggestion.{overwrites}
@@ -25,7 +25,7 @@ returns c =
     let over = overwrites c.args.source.now e in
     let lead : List ℕ = if over then codes " replace with: " else codes " add: " in
     let form : List FormPiece = styled Addition (norm (chars (without_final_line_feeds e.text))) in
-    let given : is_blank e.text ≡ false = sym c.is_blank.ensures.value ∙ c.if-is_blank.false in
+    let given : is_blank_text e.text ≡ false = sym c.is_blank.ensures.value ∙ c.if-is_blank.false in
     let led : chars c.if-overwrites.add_text.now ≡ lead = elim c.if-overwrites.branch [
       | then-overwrites w ↦
           ap (λ (t : Bor (List ℕ)). chars t.now) w.add_text-is ∙ chars-encodes (codes " replace with: ") refl
@@ -39,5 +39,5 @@ returns c =
     ∙ ap (λ text. norm (chars text)) c.without_final_line_feeds-text.ensures.value in
     record {
       added = on_ok_weaker c.add_styled.result (λ last. added-two old mid new (bare lead) form front (last ∙ ap (λ text. mid ++ styled Addition text) shown)
-          ∙ ap (λ pieces. old ++ pieces) (sym (cond-false (is_blank e.text) [] (bare lead ++ form) given))) c.add_styled.ensures.added;
+          ∙ ap (λ pieces. old ++ pieces) (sym (cond-false (is_blank_text e.text) [] (bare lead ++ form) given))) c.add_styled.ensures.added;
     }

@@ -5,7 +5,7 @@ use Rattle.std.proofs.lemmas.List.{length_push}
 use Rattle.snippet_style.proofs.CutLemmas.{bytes_next}
 use Rattle.snippet_wrap.specs.Wrapped.{IsBreakIn, first_break}
 use Rattle.snippet_wrap.specs.declared.row.Break.{Break}
-use Rattle.snippet_wrap.proofs.BreakLemmas.{BlankSoFar, FitsSoFar, blank-no, blank-yes, break-feed, break-none, break-wide, fits-next, gap_within}
+use Rattle.snippet_wrap.proofs.BreakLemmas.{BlankSoFar, FitsSoFar, blank-no, blank-yes, break-feed, break-none, break-wide, FitsSoFar-next, gap_within}
 use Rattle.snippet_wrap.proofs.BreakLemmas.{is_blank-ascii}
 use Rattle.snippet_wrap.proofs.row.first_break.Goals as goal
 use Rattle.snippet_wrap.proofs.row.first_break.Goals.{else-is_blank, then-is_blank}
@@ -81,7 +81,7 @@ loop-c-preserved c =
     let one = sym (length_push c.loop-c.yielded c.in-Some.c) in
     record {
       fits = subst (λ (m : ℕ). FitsSoFar c.args.room cs m (c.loop-c.at + c.len_utf8-at.result) (c.loop-c.left - c.char_width-width.result)) one
-          (fits-next c.args.room cs n c.loop-c.at c.loop-c.left c.in-Some.c c.char_width-width.result c.len_utf8-at.result at c.if-c-eq10.false
+          (FitsSoFar-next c.args.room cs n c.loop-c.at c.loop-c.left c.in-Some.c c.char_width-width.result c.len_utf8-at.result at c.if-c-eq10.false
           c.char_width-width.ensures.value c.if-width-left.false c.len_utf8-at.ensures.len c.loop-c.invariant.fits);
       blank = subst (λ (m : ℕ). BlankSoFar cs m c.if-is_blank.blank) one blanks;
     }

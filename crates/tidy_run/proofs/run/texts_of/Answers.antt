@@ -4,7 +4,7 @@ use Rattle.std.specs.Option.{option_copied}
 use Rattle.tidy_run.specs.Findings.{findings_of}
 use Rattle.tidy_run.specs.Report.{Told, told_of}
 use Rattle.tidy_run.specs.Run.{AreTextsOf, sheets_for}
-use Rattle.tidy_run.specs.Words.{said}
+use Rattle.tidy_run.specs.Arguments.{said}
 use Rattle.tidy_run.proofs.Ending.{reads_file, reads_none}
 use Rattle.tidy_run.proofs.FileLemmas.{for-file}
 use Rattle.tidy_run.proofs.run.texts_of.Goals as goal

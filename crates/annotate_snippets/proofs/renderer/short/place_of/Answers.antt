@@ -12,7 +12,7 @@ use Rattle.snippet_titles.specs.declared.origin.OriginLocation.{OriginLocation}
 use Rattle.annotate_snippets.specs.Around.{path_bytes}
 use Rattle.annotate_snippets.specs.Gutter.{numbered_source}
 use Rattle.annotate_snippets.specs.RowsWithoutSource.{place_named}
-use Rattle.annotate_snippets.proofs.ShortLemmas.{PlaceFits, place-added, place-of_none, place-of_path, place-short}
+use Rattle.annotate_snippets.proofs.ShortLemmas.{PlaceFits, place-added, place-of_none, origin_text-place_of_cause, place-short}
 use Rattle.annotate_snippets.proofs.renderer.short.place_of.Goals as goal
 
 pub map_of-requires-clause-numbers : goal.map_of-requires-clause-numbers
@@ -52,6 +52,6 @@ returns c =
     let short : TextFits path = subst (λ p. IfSome p (λ t. TextFits (cow_str_bytes t))) c.in-Some.is c.requires.fits.1 in
     let fits : PlaceFits place = search rules in
     record {
-      value = is ∙ place-of_path c.args.renderer.now s path place (ap path_bytes c.in-Some.is) own;
+      value = is ∙ origin_text-place_of_cause c.args.renderer.now s path place (ap path_bytes c.in-Some.is) own;
       short = place-short c.args.renderer.now.anonymized_origin_line_numbers path place (string_bytes c.push_str.new.self) short fits is;
     }

@@ -1,7 +1,7 @@
 use Rattle.std.proofs.Common.{ap, sym, ◌∙◌}
 use Rattle.std.specs.Option.{option_copied}
 use Rattle.std.specs.List.{slice_get}
-use Rattle.annotate_snippets.proofs.PlaceLemmas.{first-is_some, first-place, first-span}
+use Rattle.annotate_snippets.proofs.PlaceLemmas.{first-is_some, patch_place-first, first-span}
 use Rattle.annotate_snippets.proofs.renderer.suggestions.first_place.Goals as goal
 
 pub returns-in_default : goal.returns-in_default
@@ -17,6 +17,6 @@ span_to_locations-requires c = record {
 
 pub returns : goal.returns
 returns c = record {
-  value = first-place c.args.suggestion.now c.in-Some.patch.now c.span_to_locations.result c.requires.prepared
+  value = patch_place-first c.args.suggestion.now c.in-Some.patch.now c.span_to_locations.result c.requires.prepared
       (ap (λ xs. slice_get xs 0) (sym c.deref.ensures.value) ∙ sym c.first.ensures.value ∙ ap option_copied c.in-Some.is) c.span_to_locations.ensures.value;
 }

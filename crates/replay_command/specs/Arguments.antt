@@ -1,6 +1,5 @@
--- What the words of a command line ask for.
+-- What the arguments of a command line ask for.
 use Rattle.std.specs.Prelude.{◌≡◌, ◌⊎◌, ℕ, ◌%◌, ◌^◌, ◌==◌, Bool, true, false, ◌&&◌, ◌||◌, List, [], ◌∷◌, Option, Some, None, Result, Ok, Err, codes, length}
-use Rattle.std.specs.Prelude.{map}
 use Rattle.std.specs.Prelude.{if◌then◌else◌, bytes_eq, is_some, nat_lt, option_map, unwrap_or}
 use Rattle.std.specs.Borrow.{Bor}
 use Rattle.std.specs.Option.{option_map_or}
@@ -13,28 +12,21 @@ use Rattle.clap.specs.ValueTests.{is_numeral}
 use Rattle.clap.specs.Walk.{Row, Rule, all_of, first_of}
 use Rattle.clap.specs.declared.builder.action.ArgAction.TheVariants.{Append, Set, SetTrue}
 use Rattle.clap.specs.declared.error.kind.ErrorKind.TheVariants.{DisplayHelp, DisplayVersion}
+pub use Rattle.program.specs.Arguments.{Argument, arguments_at}
 use Rattle.replay_command.specs.declared.command.Command.{Command}
 use Rattle.replay_command.specs.declared.command.Command.TheVariants.{Answer, Check, Repeat}
 
--- a word, by its bytes
-abbrev pub Word : Type 0
-Word = List ℕ
-
--- the words that a list of references leads to
-abbrev pub words_at : List (Bor Word) → List Word
-words_at refs = map (λ (w : Bor Word). w.now) refs
-
--- the word that names standard input
-abbrev pub hyphen : Word
+-- the argument that names standard input
+abbrev pub hyphen : Argument
 hyphen = codes "-"
 
 -- ---- what may be written, as clap reads it
 
 -- an option that stands alone: two hyphens and this name
-abbrev pub flag_rule : Word → Rule
+abbrev pub flag_rule : Argument → Rule
 flag_rule name = record (new_rule name) { long = Some name; action = Some SetTrue }
 
--- the option that has a word after it, its number
+-- the option that has an argument after it, its number
 abbrev pub repeat_rule : Rule
 repeat_rule = record (new_rule (codes "repeat")) {
   long = Some (codes "repeat");
@@ -51,7 +43,7 @@ files_rule = record (new_rule (codes "files")) {
   defaults = hyphen ∷ [];
 }
 
--- the command: these options and files, beside help and a version. The program's name isn't among its words, and an option that is given
+-- the command: these options and files, beside help and a version. The program's name isn't among its arguments, and an option that is given
 -- again counts as it is given last
 abbrev pub replay_app : App
 replay_app = record {
@@ -69,41 +61,41 @@ replay_app = record {
 -- what is asked for: answers to the cases of inputs, as texts or not, and going on past lines that are no cases or not; a comparison of
 -- files, each of expected answers with the next one's cases; or that each case of inputs is drawn so many times
 pub data Task : Type 0 where
-  Answers : (texts keep_going : Bool) → (inputs : List Word) → Task
-  Checks : (files : List Word) → Task
-  Repeats : (times : ℕ) → (inputs : List Word) → Task
+  Answers : (texts keep_going : Bool) → (inputs : List Argument) → Task
+  Checks : (files : List Argument) → Task
+  Repeats : (times : ℕ) → (inputs : List Argument) → Task
 
 -- an option that stands alone was given
-abbrev pub was_given : Word → List Row → Bool
+abbrev pub was_given : Argument → List Row → Bool
 was_given name found = option_map_or (λ value. bytes_eq value (codes "true")) (first_of name found) false
 
 -- the files that were named, in order
-abbrev pub files_in : List Row → List Word
+abbrev pub files_in : List Row → List Argument
 files_in found = unwrap_or (all_of (codes "files") found) []
 
 -- the number that decimal digits write, one or more and nothing else, where it fits in 64 bits
-abbrev pub number_of : Word → Option ℕ
-number_of word =
-    if is_numeral word && nat_lt (digits_value 10 word) (2 ^ 64) then Some (digits_value 10 word) else None
+abbrev pub number_of : Argument → Option ℕ
+number_of argument =
+    if is_numeral argument && nat_lt (digits_value 10 argument) (2 ^ 64) then Some (digits_value 10 argument) else None
 
 -- one pair or more
-abbrev pub are_pairs : List Word → Bool
+abbrev pub are_pairs : List Argument → Bool
 are_pairs files = nat_lt 0 (length files) && length files % 2 == 0
 
 -- what is asked for where `--check` is given: the files are pairs, and no option of another kind is given
-abbrev pub asked_to_check : Bool → Bool → Option Word → List Word → Option Task
+abbrev pub asked_to_check : Bool → Bool → Option Argument → List Argument → Option Task
 asked_to_check texts keep_going repeat files =
     if texts || keep_going || is_some repeat then None else (if are_pairs files then Some (Checks files) else None)
 
--- what is asked for by this word after `--repeat`: it is a number, and no option of another kind is given
-abbrev pub asked_to_repeat : Bool → Bool → Word → List Word → Option Task
-asked_to_repeat texts keep_going word inputs =
-    if texts || keep_going then None else option_map (λ times. Repeats times inputs) (number_of word)
+-- what is asked for by this argument after `--repeat`: it is a number, and no option of another kind is given
+abbrev pub asked_to_repeat : Bool → Bool → Argument → List Argument → Option Task
+asked_to_repeat texts keep_going argument inputs =
+    if texts || keep_going then None else option_map (λ times. Repeats times inputs) (number_of argument)
 
--- what is asked for where `--check` isn't given, by the word after `--repeat`, if that is
-abbrev pub asked_to_draw : Bool → Bool → Option Word → List Word → Option Task
+-- what is asked for where `--check` isn't given, by the argument after `--repeat`, if that is
+abbrev pub asked_to_draw : Bool → Bool → Option Argument → List Argument → Option Task
 asked_to_draw texts keep_going None inputs = Some (Answers texts keep_going inputs)
-asked_to_draw texts keep_going (Some word) inputs = asked_to_repeat texts keep_going word inputs
+asked_to_draw texts keep_going (Some argument) inputs = asked_to_repeat texts keep_going argument inputs
 
 -- what is asked for, if something is
 abbrev pub asked : List Row → Option Task
@@ -114,23 +106,23 @@ asked found =
     if was_given (codes "check") found then asked_to_check texts keep_going repeat (files_in found)
     else asked_to_draw texts keep_going repeat (files_in found)
 
--- the words ask for this: clap finds nothing wrong with them, and what it finds asks for it
-abbrev pub AsksFor : List Word → Task → Type 0
-AsksFor words task = (fault_of replay_app words ≡ []) × (asked (matches_of replay_app words) ≡ Some task)
+-- the arguments ask for this: clap finds nothing wrong with them, and what it finds asks for it
+abbrev pub AsksFor : List Argument → Task → Type 0
+AsksFor args task = (fault_of replay_app args ≡ []) × (asked (matches_of replay_app args) ≡ Some task)
 
--- the words ask for the help or the version: that is what ends clap's reading
-abbrev pub AsksToShow : List Word → Type 0
-AsksToShow words = IsAmong DisplayHelp (fault_of replay_app words) ⊎ IsAmong DisplayVersion (fault_of replay_app words)
+-- the arguments ask for the help or the version: that is what ends clap's reading
+abbrev pub AsksToShow : List Argument → Type 0
+AsksToShow args = IsAmong DisplayHelp (fault_of replay_app args) ⊎ IsAmong DisplayVersion (fault_of replay_app args)
 
--- the words are of the form
-abbrev pub IsCommandLine : List Word → Type 0
-IsCommandLine words = ((task : Task) × AsksFor words task) ⊎ AsksToShow words
+-- the arguments are of the form
+abbrev pub IsCommandLine : List Argument → Type 0
+IsCommandLine args = ((task : Task) × AsksFor args task) ⊎ AsksToShow args
 
--- what a command does, by its words
+-- what a command does, by its arguments
 abbrev pub task_of : Command → Task
-task_of (Answer texts keep_going inputs) = Answers texts keep_going (words_at inputs.now)
-task_of (Check files) = Checks (words_at files.now)
-task_of (Repeat times inputs) = Repeats times (words_at inputs.now)
+task_of (Answer texts keep_going inputs) = Answers texts keep_going (arguments_at inputs.now)
+task_of (Check files) = Checks (arguments_at files.now)
+task_of (Repeat times inputs) = Repeats times (arguments_at inputs.now)
 
 -- the same where it may be that none is asked for
 abbrev pub task_in : {E : Type 0} → Result Command E → Option Task

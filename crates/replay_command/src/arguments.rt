@@ -1,9 +1,9 @@
-//! The words of the command line, without the program's name.
+//! The arguments of the command line, without the program's name.
 
 ghost use Rattle.std.specs.Prelude.{◌≡◌, false, IfOk};
 ghost use Rattle.clap.specs.Words.{FailsBy, app_of, fault_of, found_of, rows_of, rule_of};
 ghost use Rattle.clap.specs.Simple.{matches_of as rows_for};
-ghost use Rattle.replay_command.specs.Words.{flag_rule, files_rule, repeat_rule, replay_app, words_at};
+ghost use Rattle.replay_command.specs.Arguments.{flag_rule, files_rule, repeat_rule, replay_app, arguments_at};
 
 use clap::{Arg, ArgAction, ArgMatches, Command, Error};
 use std::alloc::{AllocError, Global};
@@ -11,7 +11,7 @@ use std::alloc::{AllocError, Global};
 /// What the program is for, as its help says it.
 const ABOUT: &str = "Reads reports as lines of JSON, and draws them";
 
-/// How its words are written, as its help and its messages say it.
+/// How its arguments are written, as its help and its messages say it.
 const USAGE: &str = "replay [--text] [--keep-going] [FILE]...
        replay --check EXPECTED FILE [EXPECTED FILE]...
        replay --repeat N [FILE]...";
@@ -88,12 +88,12 @@ fn files<'a>(alloc: Global) -> Arg<'a>
         .default_value("-")
 }
 
-/// What the words are matched with, or what is to be told in place of that: what is wrong with them, the help or the
-/// version.
-pub fn matches_of<'a>(alloc: Global, words: &'a [&'a str]) -> Result<ArgMatches<'a>, Error>
-    ensures rows { IfOk result (λ matches. rows_of (found_of matches) ≡ rows_for replay_app (words_at words.now)) }
-    ensures faults { FailsBy (fault_of replay_app (words_at words.now)) result }
+/// What the arguments are matched with, or what is to be told in place of that: what is wrong with them, the help or
+/// the version.
+pub fn matches_of<'a>(alloc: Global, args: &'a [&'a str]) -> Result<ArgMatches<'a>, Error>
+    ensures rows { IfOk result (λ matches. rows_of (found_of matches) ≡ rows_for replay_app (arguments_at args.now)) }
+    ensures faults { FailsBy (fault_of replay_app (arguments_at args.now)) result }
 {
     let command = parser(alloc)?;
-    command.try_get_matches_from(words)
+    command.try_get_matches_from(args)
 }

@@ -1,9 +1,9 @@
-//! The words of the command line, without the program's name.
+//! The arguments of the command line, without the program's name.
 ghost use Rattle.std.specs.Prelude.{◌≡◌};
 ghost use Rattle.std.specs.Option.{option_and_then, option_map};
-ghost use Rattle.tidy_run.specs.Words.{line_of, said, words_at};
+ghost use Rattle.tidy_run.specs.Arguments.{command_line_of, said, arguments_at};
 
-/// The word before LOG.
+/// The argument before LOG.
 const LOG_OPTION: &str = "--log";
 
 /// What a command line asks for.
@@ -15,11 +15,11 @@ pub struct Command<'a> {
     pub file: &'a str,
 }
 
-/// The command that the words ask for: `--log LOG FILE` or `FILE`; `None` where they aren't of the form.
-pub fn command_of<'a>(words: &[&'a str]) -> Option<Command<'a>>
-    ensures command { option_map said result ≡ line_of (words_at words.now) }
+/// The command that the arguments ask for: `--log LOG FILE` or `FILE`; `None` where they aren't of the form.
+pub fn command_of<'a>(args: &[&'a str]) -> Option<Command<'a>>
+    ensures command { option_map said result ≡ command_line_of (arguments_at args.now) }
 {
-    match *words {
+    match *args {
         [file] => {
             if file == LOG_OPTION {
                 None
@@ -41,18 +41,18 @@ pub fn command_of<'a>(words: &[&'a str]) -> Option<Command<'a>>
     }
 }
 
-/// The word that names FILE; `None` where the words aren't of the form.
-pub fn file_word<'a>(words: &[&'a str]) -> Option<&'a str>
+/// The argument that names FILE; `None` where the arguments aren't of the form.
+pub fn file_word<'a>(args: &[&'a str]) -> Option<&'a str>
     ensures file { option_map (λ file. file.now) result
-        ≡ option_map (λ line. line.file) (line_of (words_at words.now)) }
+        ≡ option_map (λ line. line.file) (command_line_of (arguments_at args.now)) }
 {
-    command_of(words).map(|command| command.file)
+    command_of(args).map(|command| command.file)
 }
 
-/// The word that names LOG; `None` where there is none, or the words aren't of the form.
-pub fn log_word<'a>(words: &[&'a str]) -> Option<&'a str>
+/// The argument that names LOG; `None` where there is none, or the arguments aren't of the form.
+pub fn log_word<'a>(args: &[&'a str]) -> Option<&'a str>
     ensures log { option_map (λ log. log.now) result ≡ option_and_then (λ line.
-        line.log) (line_of (words_at words.now)) }
+        line.log) (command_line_of (arguments_at args.now)) }
 {
-    command_of(words).and_then(|command| command.log)
+    command_of(args).and_then(|command| command.log)
 }

@@ -1,5 +1,5 @@
 use Rattle.std.proofs.Common.{refl, sym, arith}
-use Rattle.snip_run.proofs.words.is_option_name.Goals as goal
+use Rattle.snip_run.proofs.arguments.is_option_name.Goals as goal
 
 pub returns-in-text-3 : goal.returns-in-text-3
 returns-in-text-3 c =

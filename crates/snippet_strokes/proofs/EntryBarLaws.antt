@@ -1,0 +1,279 @@
+-- Laws of the bars of a line's entries: what the last entry of a bar's depth leaves in the bar's cells, and which strokes leave them.
+use Rattle.std.proofs.Common.{◌≡◌, ◌≢◌, ℕ, zero, suc, ◌+◌, ◌-◌, ◌<◌, ◌≤◌, ◌==◌, ◌||◌, Bool, true, false, cond, List, [], ◌∷◌, ◌++◌, All}
+use Rattle.std.proofs.Common.{Contains, map, length, get_or, refl, ap, ◌∙◌, arith, inl, inr}
+use Rattle.std.specs.Prelude.{nat_lt}
+use Rattle.std.specs.List.{flat_map, list_any, range_with_len}
+use Rattle.std.proofs.lemmas.Bool.{both_ways, cases_Bool, cases_lt, eq-eqb, or_parts}
+use Rattle.std.proofs.lemmas.List.Concat.{flat_map-append}
+use Rattle.std.proofs.lemmas.List.Elements.{All-append, All-cons, All-nil, All-weaker}
+use Rattle.snippet_style.specs.Cell.{Cell, SPACE, unlinked_cell}
+use Rattle.snippet_style.specs.Glyphs.{strokes_of, underline_role}
+use Rattle.snippet_style.specs.declared.role.ElementStyle.{ElementStyle}
+use Rattle.snippet_grid.specs.Grid.{cell_at, row_at}
+use Rattle.snippet_model.specs.AnnotationKind.{is_primary}
+use Rattle.snippet_parts.specs.declared.entries.LineAnnotationType.{LineAnnotationType}
+use Rattle.snippet_parts.specs.declared.entries.LineAnnotationType.TheVariants.{Singleline, MultilineStart, MultilineEnd, MultilineLine}
+use Rattle.snippet_parts.proofs.ShownFacts.{contains-here, contains-there}
+use Rattle.snippet_grid.specs.Layout.{Layout}
+use Rattle.snippet_labels.specs.declared.positions.PlacedEntry.{PlacedEntry}
+use Rattle.snippet_strokes.specs.Painting.{first_glyph, mark_end, mark_of, marks_of, stroke_role}
+use Rattle.snippet_strokes.specs.Writes.{Write, glyph_at, painted, stretch_of, written_by}
+use Rattle.snippet_strokes.proofs.WriteLemmas.{painted-append}
+use Rattle.snippet_strokes.specs.declared.bars.BarStroke.TheVariants.{Solid}
+use Rattle.snippet_strokes.specs.Bars.{Bar, bar_cell_part}
+use Rattle.snippet_strokes.specs.EndBars.{end_corner, start_corner}
+use Rattle.snippet_strokes.specs.Reach.{Reaches}
+use Rattle.snippet_strokes.specs.Strokes as strokes
+use Rattle.snippet_strokes.specs.Strokes.{column_of, connectors_of, corner_by, corner_of, corners_of, label_of, labels_of}
+use Rattle.snippet_strokes.specs.Strokes.{stems_of, line_strokes}
+use Rattle.snippet_strokes.proofs.BarWrites.{All-column_of, All-stretch_of}
+use Rattle.snippet_strokes.proofs.LabelWrites.{All-label_of}
+use Rattle.snippet_strokes.proofs.StemWrites.{All-stems_of, All-stem_of}
+use Rattle.snippet_strokes.proofs.WriteLaws.{All-flat_map, cell-unwritten, cell-written, painted-last, painted-untouched}
+
+-- ---- lists
+
+-- the last element that passes a test, and what stands before and after it
+pub record HasLast {X : Type 0} (p : X → Bool) (xs : List X) : Type 0 where
+  pub before : List X
+  pub one : X
+  pub after : List X
+  pub split : xs ≡ before ++ one ∷ after
+  pub among : Contains xs one
+  pub passes : p one ≡ true
+  pub none : All (λ x. p x ≡ false) after
+
+none_pass : {X : Type 0} (p : X → Bool) (xs : List X) → list_any p xs ≡ false → All (λ x. p x ≡ false) xs
+none_pass p [] none = All-nil (λ x. p x ≡ false)
+none_pass p (x ∷ xs) none =
+    let parts = or_parts (p x) (list_any p xs) none in
+    All-cons (λ y. p y ≡ false) x xs parts.0 (none_pass p xs parts.1)
+
+pub last_passing : {X : Type 0} (p : X → Bool) (xs : List X) → list_any p xs ≡ true → HasLast p xs
+last_passing p [] some = absurd cc
+last_passing p (x ∷ xs) some =
+    elim (cases_Bool (list_any p xs)) [
+      | inl later ↦
+          let rest = last_passing p xs later in
+          record {
+            before = x ∷ rest.before;
+            one = rest.one;
+            after = rest.after;
+            split = ap (λ ys.
+                x ∷ ys) rest.split;
+            among = contains-there rest.one x xs rest.among;
+            passes = rest.passes;
+            none = rest.none;
+          }
+      | inr none ↦ record {
+        before = [];
+        one = x;
+        after = xs;
+        split = refl;
+        among = contains-here x x xs refl;
+        passes = here (p x)
+            (list_any p xs) some none;
+        none = none_pass p xs none;
+      }
+    ]
+  where
+    here : (a b : Bool) → (a || b) ≡ true → b ≡ false → a ≡ true
+    here true b any none = refl
+    here false b any none = absurd (both_ways b none any)
+
+-- ---- columns
+
+-- the cells of a column that is drawn
+column_stands : (start n cell glyph : ℕ) (role : ElementStyle) (rows : List (List Cell)) (r : ℕ) → start ≤ r → r < start + n
+    → cell_at (painted (map (λ row. glyph_at row cell glyph role) (range_with_len start n)) rows) r cell ≡ unlinked_cell role glyph
+column_stands start zero cell glyph role rows r from to = absurd (omega (arith, from, to))
+column_stands start (suc n) cell glyph role rows r from to =
+    let w : Write = glyph_at start cell glyph role in
+    elim (cases_lt start r) [
+      | inl later ↦ column_stands (start + 1) n cell glyph role (written_by rows w) r (omega (arith, later)) (omega (arith, to))
+      | inr first ↦
+          let here : start ≡ r = omega (arith, first, from) in
+          let beside : All (λ v. Reaches r cell v → ⊥) (map (λ row. glyph_at row cell glyph role) (range_with_len (start + 1) n)) = lower (start + 1) n
+          (omega (arith, first)) in
+          painted-untouched (map (λ row. glyph_at row cell glyph role) (range_with_len (start + 1) n)) (written_by rows w) r cell beside
+          ∙ one_glyph w rows r cell here refl refl
+    ]
+  where
+    lower : (a m : ℕ) → r < a → All (λ v. Reaches r cell v → ⊥) (map (λ row. glyph_at row cell glyph role) (range_with_len a m))
+    lower a zero up = All-nil (λ v. Reaches r cell v → ⊥)
+    lower a (suc m) up =
+        All-cons (λ v. Reaches r cell v → ⊥) (glyph_at a cell glyph role) (map (λ row. glyph_at row cell glyph role) (range_with_len (a + 1) m)) (λ there.
+        omega (arith, there.row, up)) (lower (a + 1) m (omega (arith, up)))
+
+    one_glyph : (w : Write) (old : List (List Cell)) (at c : ℕ) → w.row ≡ at → w.cell ≡ c → w.text ≡ glyph ∷ []
+        → cell_at (written_by old w) at c ≡ unlinked_cell w.role glyph
+    one_glyph w old at c row is text =
+        let zero_at : c - w.cell ≡ 0 = omega (arith, is) in
+        cell-written w old at c (record { row = row; from = omega (arith, is); to = omega (arith, is, ap length text) })
+        ∙ ap (λ n. unlinked_cell w.role (get_or w.text n 0)) zero_at ∙ ap (λ t. unlinked_cell w.role (get_or t 0 0)) text
+
+-- ---- the bars of a line's entries
+
+-- whether the start or the end of a span has this depth
+unfoldable pub is_at : ℕ → LineAnnotationType → Bool
+is_at depth Singleline = false
+is_at depth (MultilineStart d) = d == depth
+is_at depth (MultilineEnd d) = d == depth
+is_at depth (MultilineLine d) = false
+
+module _ (layout : Layout) (bar : Bar) (room : layout.gutter + 2 + bar.depth < layout.code) (count : ℕ) (placed order : List PlacedEntry)
+    (begun : List (List Cell)) where
+  -- the cell of the bar's depth
+  abbrev cell : ℕ
+  cell = layout.gutter + 2 + bar.depth
+
+  -- a write leaves that cell of a row
+  abbrev Leaves : ℕ → Write → Type 0
+  Leaves r w = Reaches r cell w → ⊥
+
+  -- stems stand right of it
+  pub stems_right : (r : ℕ) → All (Leaves r) (stems_of layout 1 placed)
+  stems_right r =
+      All-stems_of (Leaves r) layout 1 placed (λ k d within. All-stem_of (Leaves r) layout 1 (get_or placed k d) (λ b low there.
+      omega (arith, there.from, room)))
+
+  -- labels do
+  pub labels_right : (r : ℕ) → All (Leaves r) (labels_of layout 1 placed)
+  labels_right r =
+      All-flat_map (Leaves r) (label_of layout 1) placed (λ k d within.
+      All-label_of (Leaves r) layout 1 (get_or placed k d) (λ has there. omega (arith, there.from, room)))
+
+  -- and marks
+  pub marks_right : (r : ℕ) → All (Leaves r) (marks_of layout 1 order)
+  marks_right r =
+      All-flat_map (Leaves r) (mark_of layout 1) order (λ k d within. mark (get_or order k d))
+    where
+      mark : (e : PlacedEntry) → All (Leaves r) (mark_of layout 1 e)
+      mark e =
+          let from : ℕ = layout.code + e.entry.start.display in
+          let to : ℕ = layout.code + mark_end e in
+          elim (nat_lt from to) as (λ b. All (Leaves r) (cond b (glyph_at 1 from (first_glyph layout.decor e) (stroke_role e) ∷ stretch_of 1 (from + 1) to
+          (strokes_of layout.decor (is_primary e.entry.kind)).underline (stroke_role e)) [])) [
+            | true ↦ All-cons (Leaves r) (glyph_at 1 from (first_glyph layout.decor e) (stroke_role e))
+                (stretch_of 1 (from + 1) to (strokes_of layout.decor (is_primary e.entry.kind)).underline (stroke_role e))
+                (λ there. omega (arith, there.from, room))
+                (All-stretch_of (Leaves r) 1 (from + 1) to (strokes_of layout.decor (is_primary e.entry.kind)).underline (stroke_role e) (λ there.
+                omega (arith, there.from, room)))
+            | false ↦ All-nil (Leaves r)
+          ]
+
+  -- a glyph at another depth leaves it
+  glyph_leaves : (r row depth glyph : ℕ) (role : ElementStyle) → depth ≢ bar.depth → Leaves r (glyph_at row (layout.gutter + 2 + depth) glyph role)
+  glyph_leaves r row depth glyph role other there = other (omega (arith, there.from, there.to))
+
+  column_leaves : (r start end depth glyph : ℕ) (role : ElementStyle) → depth ≢ bar.depth
+      → All (Leaves r) (column_of start end (layout.gutter + 2 + depth) glyph role)
+  column_leaves r start end depth glyph role other =
+      All-column_of (Leaves r) start end (layout.gutter + 2 + depth) glyph role (λ n from to. glyph_leaves r n depth glyph role other)
+
+  -- and so does what is drawn for the bar of an entry of another depth
+  pub part_leaves : (r : ℕ) (e : PlacedEntry) (part : LineAnnotationType) → is_at bar.depth part ≡ false → All (Leaves r) (corner_by layout 0 count e part)
+  unfolding is_at
+  part_leaves r e Singleline other = All-nil (Leaves r)
+  part_leaves r e (MultilineStart depth) other =
+      let apart : depth ≢ bar.depth = λ same. both_ways (depth == bar.depth) other (eq-eqb depth bar.depth same) in
+      let corner : ℕ = 0 + 1 + e.position in
+      let glyph : ℕ = (strokes_of layout.decor (is_primary e.entry.kind)).bar_top in
+      let line : ℕ = (strokes_of layout.decor (is_primary e.entry.kind)).bar in
+      let own : Write = glyph_at corner (layout.gutter + 2 + depth) glyph (stroke_role e) in
+      All-cons (Leaves r) own (strokes.bar_writes layout e depth (corner + 1) count) (glyph_leaves r corner depth glyph (stroke_role e) apart)
+      (column_leaves r (corner + 1) count depth line (stroke_role e) apart)
+  part_leaves r e (MultilineEnd depth) other =
+      let apart : depth ≢ bar.depth = λ same. both_ways (depth == bar.depth) other (eq-eqb depth bar.depth same) in
+      let corner : ℕ = 0 + 1 + e.position in
+      let glyph : ℕ = (strokes_of layout.decor (is_primary e.entry.kind)).bar_bottom in
+      let own : Write = glyph_at corner (layout.gutter + 2 + depth) glyph (stroke_role e) in
+      let line : ℕ = (strokes_of layout.decor (is_primary e.entry.kind)).bar in
+      let last : All (Leaves r) (own ∷ []) = All-cons (Leaves r) own [] (glyph_leaves r corner depth glyph (stroke_role e) apart) (All-nil (Leaves r)) in
+      All-append (Leaves r) (strokes.bar_writes layout e depth 0 corner) (own ∷ []) (column_leaves r 0 corner depth line (stroke_role e) apart) last
+  part_leaves r e (MultilineLine depth) other = All-nil (Leaves r)
+
+  -- so in it stands what the last entry of its depth leaves there
+  pub last_stands : (before : List PlacedEntry) (e : PlacedEntry) (after : List PlacedEntry) → placed ≡ before ++ e ∷ after
+      → All (λ f. is_at bar.depth f.entry.annotation_type ≡ false) after
+      → (old : List (List Cell)) × ((r : ℕ) → cell_at (painted (line_strokes layout 0 count placed order) begun) r cell
+      ≡ cell_at (painted (corner_of layout 0 count e) old) r cell)
+  last_stands before e after split others =
+      let f : PlacedEntry → List Write = corner_of layout 0 count in
+      let lines : List Write = connectors_of layout 1 placed in
+      let corners : List Write = corners_of layout 0 count placed in
+      let stems : List Write = stems_of layout 1 placed in
+      let labels : List Write = labels_of layout 1 placed in
+      let marks : List Write = marks_of layout 1 order in
+      let joined : List (List Cell) = painted lines begun in
+      let old : List (List Cell) = painted (flat_map f before) joined in
+      let barred : List (List Cell) = painted (lines ++ corners) begun in
+      let stemmed : List (List Cell) = painted (lines ++ corners ++ stems) begun in
+      let labelled : List (List Cell) = painted (lines ++ corners ++ stems ++ labels) begun in
+      let parts : corners ≡ flat_map f before ++ (f e ++ flat_map f after) = ap (flat_map f) split ∙ flat_map-append f before (e ∷ after) in
+      let drawn : barred ≡ painted (flat_map f after) (painted (f e) old) =
+      painted-append lines corners begun ∙ ap (λ ws. painted ws joined) parts ∙ painted-append (flat_map f before) (f e ++ flat_map f after) joined
+      ∙ painted-append (f e) (flat_map f after) old in (
+        old,
+        λ r.
+            let own : List Cell → Cell = λ row. get_or row cell SPACE in
+            let at : List (List Cell) → Cell = λ rows. own (row_at rows r) in
+            let leave : All (Leaves r) (flat_map f after) = All-flat_map (Leaves r) f after
+            (All-weaker (λ (x : PlacedEntry). is_at bar.depth x.entry.annotation_type ≡ false) (λ (x : PlacedEntry). All (Leaves r) (f x)) (λ x other.
+            part_leaves r x x.entry.annotation_type other) after others) in
+            ap at (painted-append (lines ++ corners ++ stems ++ labels) marks begun) ∙ painted-untouched marks labelled r cell (marks_right r)
+            ∙ ap at (painted-append (lines ++ corners ++ stems) labels begun) ∙ painted-untouched labels stemmed r cell (labels_right r)
+            ∙ ap at (painted-append (lines ++ corners) stems begun) ∙ painted-untouched stems barred r cell (stems_right r)
+            ∙ ap at drawn ∙ painted-untouched (flat_map f after) (painted (f e) old) r cell leave,
+      )
+
+  -- the corner of an entry is drawn as its bar's
+  abbrev HasKind : PlacedEntry → Type 0
+  HasKind e = is_primary e.entry.kind ≡ bar.primary
+
+  solid_by : (e : PlacedEntry) → HasKind e → unlinked_cell (stroke_role e) (strokes_of layout.decor (is_primary e.entry.kind)).bar
+      ≡ bar_cell_part layout Solid bar
+  solid_by e kind =
+      ap (λ primary. unlinked_cell (underline_role primary) (strokes_of layout.decor primary).bar) kind
+
+  pub start_drawn : (e : PlacedEntry) (old : List (List Cell)) → HasKind e
+      → (cell_at (painted (corner_by layout 0 count e (MultilineStart bar.depth)) old) (1 + e.position) cell ≡ start_corner layout bar)
+      × ((r : ℕ) → 1 + e.position < r → r < count → cell_at (painted (corner_by layout 0 count e (MultilineStart bar.depth)) old) r cell
+      ≡ bar_cell_part layout Solid bar)
+  start_drawn e old kind =
+      let corner : ℕ = 0 + 1 + e.position in
+      let glyph : ℕ = (strokes_of layout.decor (is_primary e.entry.kind)).bar_top in
+      let line : ℕ = (strokes_of layout.decor (is_primary e.entry.kind)).bar in
+      let own : Write = glyph_at corner cell glyph (stroke_role e) in
+      let below : List Write = column_of (corner + 1) count cell line (stroke_role e) in
+      let here : corner ≡ 1 + e.position = omega arith in
+      let none : cell - cell ≡ 0 = omega arith in
+      let leave : All (Leaves (1 + e.position)) below = All-column_of (Leaves (1 + e.position)) (corner + 1) count cell line (stroke_role e)
+      (λ n from to there. omega (arith, there.row, from, here)) in
+      let first = painted-last [] below own old (1 + e.position) cell (record { row = here; from = omega arith; to = omega arith }) leave
+      ∙ ap (λ n. unlinked_cell (stroke_role e) (get_or (glyph ∷ []) n 0)) none in (
+        first ∙ ap (λ primary. unlinked_cell (underline_role primary) (strokes_of layout.decor primary).bar_top) kind,
+        λ r lower within. column_stands (corner + 1) (count - (corner + 1)) cell line (stroke_role e) (written_by old own) r (omega (arith, lower, here))
+            (omega (arith, lower, within, here)) ∙ solid_by e kind,
+      )
+
+  pub end_drawn : (e : PlacedEntry) (old : List (List Cell)) → HasKind e
+      → (cell_at (painted (corner_by layout 0 count e (MultilineEnd bar.depth)) old) (1 + e.position) cell ≡ end_corner layout bar)
+      × ((r : ℕ) → r < 1 + e.position → cell_at (painted (corner_by layout 0 count e (MultilineEnd bar.depth)) old) r cell ≡ bar_cell_part layout Solid bar)
+  end_drawn e old kind =
+      let corner : ℕ = 0 + 1 + e.position in
+      let glyph : ℕ = (strokes_of layout.decor (is_primary e.entry.kind)).bar_bottom in
+      let line : ℕ = (strokes_of layout.decor (is_primary e.entry.kind)).bar in
+      let own : Write = glyph_at corner cell glyph (stroke_role e) in
+      let above : List Write = column_of 0 corner cell line (stroke_role e) in
+      let here : corner ≡ 1 + e.position = omega arith in
+      let none : cell - cell ≡ 0 = omega arith in
+      let last = painted-last above [] own old (1 + e.position) cell (record { row = here; from = omega arith; to = omega arith })
+      (All-nil (Leaves (1 + e.position))) ∙ ap (λ n. unlinked_cell (stroke_role e) (get_or (glyph ∷ []) n 0)) none in (
+        last ∙ ap (λ primary. unlinked_cell (underline_role primary) (strokes_of layout.decor primary).bar_bottom) kind,
+        λ r higher.
+            let one : cell_at (painted (above ++ own ∷ []) old) r cell ≡ cell_at (written_by (painted above old) own) r cell = ap (λ rows.
+            cell_at rows r cell) (painted-append above (own ∷ []) old) in
+            one ∙ cell-unwritten own (painted above old) r cell (λ there. omega (arith, there.row, higher, here))
+            ∙ column_stands 0 (corner - 0) cell line (stroke_role e) old r (omega arith) (omega (arith, higher, here)) ∙ solid_by e kind,
+      )

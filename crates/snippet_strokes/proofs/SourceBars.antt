@@ -1,0 +1,63 @@
+-- The source row of a line with the bars that are drawn in it: left of them and from the code on it is what it was.
+use Rattle.std.proofs.Common.{◌≡◌, ℕ, ◌+◌, ◌-◌, ◌<◌, ◌≤◌, List, length, take, drop}
+use Rattle.std.proofs.Common.{sym, ap, ◌∙◌, subst, arith}
+use Rattle.std.specs.List.{slice_index_or}
+use Rattle.std.proofs.lemmas.List.{take-take}
+use Rattle.std.proofs.lemmas.List.Elements.{All-from_get_or}
+use Rattle.snippet_window.specs.Window.{AreReplaced}
+use Rattle.snippet_style.specs.Glyphs.{placeholder_of}
+use Rattle.snippet_grid.specs.Print.{row_text}
+use Rattle.snippet_grid.specs.Grid.{cell_at, row_at}
+use Rattle.snippet_style.specs.Cell.{Cell, SPACE}
+use Rattle.snippet_grid.specs.Layout.{Layout}
+use Rattle.snippet_strokes.specs.EntryMarks.{IsBarCell}
+use Rattle.snippet_model.specs.FreeRows.{IsFreeCell, IsFree}
+use Rattle.snippet_strokes.specs.Drawing.{DrawsBarCells}
+use Rattle.snippet_strokes.specs.StrokeRows.{IsBeside, IsCut, HasNoBars}
+use Rattle.snippet_strokes.proofs.BegunLemmas.{free_cell, cut_left}
+use Rattle.snippet_strokes.proofs.BegunLemmas.{same_front}
+
+module _ (layout : Layout) (n : ℕ) (plain_row source : List Cell) (joined barred : List (List Cell)) (place : layout.gutter + 3 ≤ layout.code)
+    (bare_bars : HasNoBars layout plain_row)
+    (bars : DrawsBarCells layout n joined barred)
+    (joined_source : row_at joined n ≡ plain_row)
+    (barred_source : source ≡ row_at barred n) where
+  source_left : (c : ℕ) → c < layout.gutter + 3 → slice_index_or source c SPACE ≡ slice_index_or plain_row c SPACE
+  source_left c before =
+      ap (λ cells. slice_index_or cells c SPACE) barred_source ∙ bars.draws.left n c before
+      ∙ ap (λ cells. slice_index_or cells c SPACE) joined_source
+
+  source_bar_cells : (c : ℕ) → layout.gutter + 3 ≤ c → c < layout.code → IsBarCell layout.decor (slice_index_or source c SPACE)
+  source_bar_cells c right before =
+      let R : Cell → Type 0 = IsBarCell layout.decor in
+      let begun_here : R (cell_at joined n c) = subst (λ cells.
+      R (slice_index_or cells c SPACE)) (sym joined_source) (bare_bars.1 c right before) in
+      subst (λ cells. R (slice_index_or cells c SPACE)) (sym barred_source) (bars.bar_cells n c before begun_here)
+
+  source_code : drop layout.code source ≡ drop layout.code plain_row
+  source_code = ap (drop layout.code) barred_source ∙ bars.code n ∙ ap (drop layout.code) joined_source
+
+  source_long : length plain_row ≤ length source
+  source_long = omega (arith, ap length barred_source, bars.longer n, ap length joined_source)
+
+  source_free : IsFree plain_row → IsFree source
+  source_free free =
+      let P : Cell → Type 0 = IsFreeCell in
+      let cells : (c : ℕ) → P (cell_at joined n c) = λ c.
+      subst (λ cells. P (slice_index_or cells c SPACE)) (sym joined_source) (free_cell plain_row free c) in
+      subst IsFree (sym barred_source) (All-from_get_or P (row_at barred n) SPACE (λ c _. bars.draws.free n cells c))
+
+  -- it stays beside its bars where it is cut
+  pub source_beside : (wide : ℕ) (row_now : List Cell) → IsCut layout wide source row_now → IsBeside layout wide plain_row row_now
+  source_beside wide row_now cut =
+      record {
+        front = sym (take-take (layout.gutter + 2) layout.code row_now (omega (arith, place))) ∙ ap (take (layout.gutter + 2)) cut.left
+            ∙ take-take (layout.gutter + 2) layout.code source (omega (arith, place))
+            ∙ same_front source plain_row (layout.gutter + 2) (omega (arith, source_long, bare_bars.0))
+            bare_bars.0 (λ c before. source_left c (omega (arith, before)));
+        gap = cut_left layout wide source row_now cut (layout.gutter + 2) (omega (arith, place)) ∙ source_left (layout.gutter + 2) (omega arith);
+        bar_cells = λ c right before. subst (IsBarCell layout.decor) (sym (cut_left layout wide source row_now cut c before)) (source_bar_cells c right before);
+        text = subst (λ cells. AreReplaced (placeholder_of layout.decor) wide (row_text cells) (row_text (drop layout.code row_now))) source_code cut.text;
+        uncut = λ none. ap (drop layout.code) (cut.uncut none) ∙ source_code;
+        free = λ free. cut.free (source_free free);
+      }
