@@ -1,6 +1,6 @@
 //! The bars of spans of several lines, which run beside the rows, left of the code.
 ghost use Rattle.std.specs.Prelude.{◌≡◌, ◌+◌, ◌-◌, ◌^◌, ◌<◌, ◌≤◌, ℕ, true, All, IfOk, OnOk, length, replicate};
-ghost use Rattle.std.specs.Prelude.{slice_index_or};
+ghost use Rattle.std.specs.Prelude.{chars, slice_index_or};
 ghost use Rattle.snippet_strokes.specs.declared.bars.OpenBar.{OpenBar};
 ghost use Rattle.snippet_strokes.specs.Bars as spec;
 ghost use Rattle.snippet_strokes.specs.Bars.{HasBarRoom, StandsBeside, bar_cell_part, barred, changed_from};
@@ -182,11 +182,33 @@ fn draw_side(
         row buffer.old) }
 {
     let glyph = stroke.glyph(layout.decor, first.primary);
-    let role = layout.decor.underline(first.primary).style;
     let part = repeated(alloc, glyph, count)?;
+    draw_parts(buffer, layout, row, first, count, stroke, part.as_str())
+}
+
+/// The same, given the text of the part.
+fn draw_parts(
+    buffer: &mut StyledBuffer,
+    layout: Layout,
+    row: usize,
+    first: OpenBar,
+    count: usize,
+    stroke: BarStroke,
+    part: &str,
+) -> Result<(), AllocError>
+    requires left { 0 < first.depth }
+    requires room { bar_cell layout first.depth + count < layout.code }
+    requires some { 0 < count }
+    requires part { chars part.now ≡ replicate count (spec.bar_glyph stroke layout.decor first.primary) }
+    ensures value { OnOk result (buffer.new ≡ changed_from
+        (λ cells. written SPACE cells (bar_cell layout first.depth)
+        (replicate count (bar_cell_part layout stroke first)))
+        row buffer.old) }
+{
+    let role = layout.decor.underline(first.primary).style;
     let cell = layout.bar_cell(first.depth);
     for r in row..buffer.num_lines() {
-        buffer.puts(r, cell, part.as_str(), role)?;
+        buffer.puts(r, cell, part, role)?;
     }
     Ok(())
 }
