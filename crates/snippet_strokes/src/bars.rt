@@ -1,5 +1,5 @@
 //! The bars of spans of several lines, which run beside the rows, left of the code.
-ghost use Rattle.std.specs.Prelude.{◌≡◌, ◌+◌, ◌-◌, ◌^◌, ◌<◌, ◌≤◌, ℕ, true, All, IfOk, OnOk, length, replicate};
+ghost use Rattle.std.specs.Prelude.{◌≡◌, ◌+◌, ◌-◌, ◌^◌, ◌<◌, ◌≤◌, ◌++◌, ℕ, true, All, IfOk, OnOk, length, replicate};
 ghost use Rattle.std.specs.Prelude.{chars, slice_index_or};
 ghost use Rattle.snippet_strokes.specs.declared.bars.OpenBar.{OpenBar};
 ghost use Rattle.snippet_strokes.specs.Bars as spec;
@@ -80,7 +80,7 @@ fn bar_of(entry: &LineAnnotation) -> Option<OpenBar>
     }
 }
 
-/// The bars whose depth none of the others has.
+/// The bars whose depth none of the others has, with room for the others.
 ///
 /// # Errors
 ///
@@ -92,13 +92,29 @@ pub(crate) fn bars_apart(
 ) -> Result<Vec<OpenBar>, AllocError>
     ensures value { IfOk result (λ apart. apart.items ≡ spec.bars_apart bars.now others.now) }
 {
-    let mut apart = Vec::new(alloc);
+    let mut apart = Vec::with_capacity(alloc, bars.len().saturating_add(others.len()))?;
+    add_bars_apart(&mut apart, bars, others)?;
+    Ok(apart)
+}
+
+/// Adds to a list the bars whose depth none of the others has.
+///
+/// # Errors
+///
+/// There is no memory for the list.
+pub(crate) fn add_bars_apart(
+    list: &mut Vec<OpenBar>,
+    bars: &[OpenBar],
+    others: &[OpenBar],
+) -> Result<(), AllocError>
+    ensures added { OnOk result (list.new.items ≡ list.old.items ++ spec.bars_apart bars.now others.now) }
+{
     for bar in bars {
         if !has_depth(others, bar.depth) {
-            apart.push(*bar)?;
+            list.push(*bar)?;
         }
     }
-    Ok(apart)
+    Ok(())
 }
 
 /// Whether one of some bars has this depth.
