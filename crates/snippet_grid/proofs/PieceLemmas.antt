@@ -6,6 +6,7 @@ use Rattle.std.proofs.lemmas.List.{length-set, length-drop}
 use Rattle.std.proofs.lemmas.List.Elements.{All-cons, All-nil}
 use Rattle.std.proofs.lemmas.Bool.{cases_lt, cases_eq, true≢false}
 use Rattle.snippet_grid.proofs.ShownLemmas.{painted-append, run_cell-grown, ShowsMore-joined, AddsRun-joined, pick, cell_same, holds_inside, holds_elsewhere}
+use Rattle.snippet_grid.proofs.ShownLemmas.{AddsRun-pushed, ShowsMore-pushed}
 use Rattle.snippet_grid.proofs.ShownLemmas.{holds_before, holds-after}
 use Rattle.snippet_grid.proofs.CopyLemmas.{shown_past}
 use Rattle.snippet_grid.proofs.PutLemmas.{AreOrdered, AreApart, IsRow-added, painted_elsewhere}
@@ -299,6 +300,14 @@ ArePieces-two old new runs front pieces run touched is is_front is_back shows ar
       apart_after = λ y clear all. begun.apart_after y clear;
       few = omega (arith, begun.few, is_front.few);
     }
+
+-- where nothing is touched, the run alone
+pub ArePieces-alone : (text : List ℕ) (run : Run) → IsRun text run → ArePieces text text [] (run ∷ []) run
+ArePieces-alone text run is =
+    let touched : AreTouchedRuns text run [] = record { is_row = IsRow-none text run.row; touch = All-nil _ } in
+    ArePieces-two text text [] [] (run ∷ []) run touched is (IsFront-none text [] run (All-nil _)) (IsBack-none text [] run (All-nil _))
+    (ShowsMore-pushed text [] (run ∷ []) run refl) (All-cons (λ x. IsRun text x) run [] is (All-nil _))
+    (AddsRun-pushed [] (run ∷ []) run (All-nil _) (λ d some. absurd (omega arith)) refl)
 
 -- with what the last run holds after it
 pub ArePieces-three : (t0 t1 t2 : List ℕ) (runs front begun pieces : List Run) (run right : Run) → AreTouchedRuns t0 run runs → IsRun t0 run

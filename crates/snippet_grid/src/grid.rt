@@ -30,6 +30,10 @@ use std::alloc::{AllocError, Global};
 use std::marker::Model;
 use std::ops::Range;
 
+/// The bytes that a printed text has room for at first, for each run, beside those of its characters: for the codes
+/// before and after it, the spaces before it and a line feed.
+const RUN_BYTES: usize = 16;
+
 /// A grid of styled cells. It has no row at first.
 ///
 /// Rows and cells are numbered from 0, and each character takes one cell. What writes asks that the number after a
@@ -362,8 +366,8 @@ impl<'a> StyledBuffer<'a> {
             (string_bytes text)) }
     {
         let mut text = before;
-        // Codes take about as much as the text itself.
-        text.reserve(self.text.len().saturating_mul(2))?;
+        let codes_room = self.runs.len().saturating_mul(RUN_BYTES);
+        text.reserve(self.text.len().saturating_add(codes_room))?;
         weave_rows(
             &mut text,
             self.text.as_str(),

@@ -2,7 +2,7 @@
 //!
 //! A put takes only the runs that the new one touches: what the first of them holds before it, and the last after it,
 //! stays. All other runs keep their places.
-ghost use Rattle.std.specs.Prelude.{◌≡◌, ◌+◌, ◌-◌, ◌<◌, ◌≤◌, ◌++◌, ℕ, [], true, false, length, take, drop};
+ghost use Rattle.std.specs.Prelude.{◌≡◌, ◌+◌, ◌-◌, ◌<◌, ◌≤◌, ◌++◌, ◌∷◌, ℕ, [], true, false, length, take, drop};
 ghost use Rattle.std.specs.Prelude.{All, OnOk, OnErr, string_bytes, option_to_list};
 ghost use Rattle.snippet_grid.specs.Runs.{IsRun, BeginsWith, Precedes, Differ, IsClear, ReachesTo, Touches};
 ghost use Rattle.snippet_grid.specs.Runs.{AreTouchedRuns};
@@ -138,6 +138,16 @@ fn insert_one<'a>(
     Ok(())
 }
 
+/// Puts a run between those that it doesn't touch.
+fn insert_clear<'a>(runs: &mut Vec<Run<'a>>, place: usize, run: &Run<'a>) -> Result<(), AllocError>
+    requires within { place ≤ length runs.old.items }
+    ensures ok { OnOk result (runs.new.items ≡ take place runs.old.items ++ run.now ∷ drop place runs.old.items) }
+    ensures err { OnErr result (runs.new.items ≡ runs.old.items) }
+{
+    runs.insert(place, *run)?;
+    Ok(())
+}
+
 /// Puts runs in place of those from `start` to before `end`. What is left in `fresh` means nothing.
 #[inline(never)]
 pub(crate) fn exchange<'a>(
@@ -196,6 +206,9 @@ pub(crate) fn put_run<'a>(
     }
     let end = begun_by(old, run.row, run.cell + run.count);
     let start = first_touched(old, end, run);
+    if start == end {
+        return insert_clear(runs, end, run);
+    }
     if end - start == 1 && continues(&old[start], run) {
         return join(text, &mut spare.text, &mut runs[start], run);
     }

@@ -109,7 +109,7 @@ fn labelled_entries<'a>(
     ensures labels { IfOk result (λ labelled. All HasItsLabel labelled.items) }
     ensures bytes { IfOk result (λ labelled. All HasItsBytes labelled.items) }
 {
-    let mut labelled = Vec::new(alloc);
+    let mut labelled = Vec::with_capacity(alloc, entries.len())?;
     for entry in entries {
         let label = shown_label(alloc, entry)?;
         // it is a text, so its bytes are those of its characters
@@ -237,7 +237,7 @@ fn label_positions(alloc: Global, entries: &[PlacedEntry]) -> Result<Vec<FoundPo
     ensures value { IfOk result (λ found. map (λ f. f.position) found.items ≡ spec.positions 0 entries.now) }
     ensures looked { IfOk result (λ found. map (λ f. f.looked) found.items ≡ spec.look_counts 0 entries.now) }
 {
-    let mut found = Vec::new(alloc);
+    let mut found = Vec::with_capacity(alloc, entries.len())?;
     let end = askers_end(entries);
     let mut reached = 0;
     for i in 0..entries.len() {

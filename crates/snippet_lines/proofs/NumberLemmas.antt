@@ -1,44 +1,25 @@
 -- The texts of line numbers.
-use Rattle.std.proofs.Common.{inl, inr, ◌≡◌, ℕ, zero, suc, ◌-◌, ◌+◌, ◌==◌, ◌^◌, ◌<◌, ◌≤◌, ◌/◌, ◌%◌, List, [], ◌∷◌, ◌++◌, length, replicate, refl, ap, All}
-use Rattle.std.proofs.Common.{chars, ◌∙◌, arith, encode_utf8, false}
+use Rattle.std.proofs.Common.{inl, inr, ◌≡◌, ℕ, zero, suc, ◌-◌, ◌+◌, ◌^◌, ◌<◌, ◌≤◌, ◌/◌, ◌%◌, List, [], ◌∷◌, ◌++◌, length, replicate, refl, ap, All}
+use Rattle.std.proofs.Common.{chars, ◌∙◌, arith, false}
 use Rattle.std.specs.List.{repeat}
-use Rattle.std.specs.Fmt.{decimal, styled_decimal, padded_integral, format_spec, char_count}
+use Rattle.std.specs.Fmt.{decimal}
 use Rattle.std.proofs.lemmas.Bool.Decides.{nat_tests}
 use Rattle.std.proofs.lemmas.Bool.{cases_lt}
-use Rattle.std.proofs.lemmas.List.{append-nil, length-append, length-replicate, length_push}
+use Rattle.std.proofs.lemmas.List.{length-append, length-replicate, length_push}
 use Rattle.std.proofs.lemmas.Fmt.{decimal_digit, decimal_step, decimal_by_steps, IsAscii-decimal}
 use Rattle.std.proofs.lemmas.List.Elements.{All-append, All-cons, All-nil, All-push, All-replicate}
 use Rattle.std.proofs.lemmas.Str.{chars-IsAscii, IsAscii-append}
 use Rattle.std.proofs.lemmas.Str.Ascii.{IsAscii-from_all}
 use Rattle.std.specs.Str.{IsAscii}
 use Rattle.snippet_text.specs.Normalized.{is_listed}
-use Rattle.snippet_lines.specs.Number.{number_width, set_right, shown_number}
+use Rattle.snippet_lines.specs.Number.{number_width, shown_number}
 use Rattle.snippet_lines.specs.declared.number.LineNumbers.{LineNumbers}
 use Rattle.snippet_lines.specs.declared.number.LineNumbers.TheVariants.{Shown, Anonymized, Hidden}
-
--- copies of the space's bytes
-repeat-space : (n : ℕ) → repeat n (encode_utf8 32) ≡ replicate n 32
-unfolding lib.Utf8.encode
-repeat-space zero = refl
-repeat-space (suc n) = ap (λ t. 32 ∷ t) (repeat-space n)
 
 -- a text of one space, repeated
 pub repeat-one_space : (n : ℕ) → repeat {A = ℕ} n (32 ∷ []) ≡ replicate n 32
 repeat-one_space zero = refl
 repeat-one_space (suc n) = ap (λ t. 32 ∷ t) (repeat-one_space n)
-
--- digits that are padded to a width
-padded_number : (ds : List ℕ) (w : ℕ) → padded_integral (format_spec 32 3 0 w (2 ^ 64 - 1)) false [] ds ≡ set_right w ds
-unfolding padded_integral char_count
-padded_number ds w =
-    let none : (k : ℕ) → k - k ≡ 0 = λ k. omega arith in
-    let all : (k : ℕ) → k - 0 ≡ k = λ k. omega arith in
-    simp (repeat-space, append-nil, none, all)
-
--- what a hole writes that sets a number right in a field of w cells
-pub styled_decimal-right : (n w : ℕ) → styled_decimal (format_spec 32 3 0 w (2 ^ 64 - 1)) n ≡ set_right w (decimal n)
-styled_decimal-right n zero = let none : 0 - length (decimal n) ≡ 0 = omega arith in rw none
-styled_decimal-right n (suc k) = let other : (suc k == 0) ≡ false = grind (arith, nat_tests) in rw other (padded_number (decimal n) (suc k))
 
 -- a number of one digit, and one more digit
 pub length-decimal_last : (n : ℕ) → n < 10 → n < 2 ^ 64 → length (decimal n) ≡ 1

@@ -1,8 +1,9 @@
 //! Line numbers, as the gutter shows them.
-ghost use Rattle.std.specs.Prelude.{◌≡◌, ◌≤◌, IfOk, codes, length, string_bytes};
+ghost use Rattle.std.specs.Prelude.{◌≡◌, ◌≤◌, IfOk, codes, length, replicate, string_bytes};
 ghost use Rattle.std.specs.Fmt.{decimal};
 ghost use Rattle.snippet_lines.specs.Number.{number_width, set_right, shown_number};
 
+use itoa::Buffer;
 use std::alloc::{AllocError, Global};
 
 /// What the gutter shows beside lines.
@@ -58,10 +59,33 @@ pub fn number_text(
     ensures text { IfOk result (λ text. string_bytes text ≡ shown_number numbers gutter number) }
 {
     match numbers {
-        LineNumbers::Shown => format!(in alloc; "{number:>gutter$}"),
+        LineNumbers::Shown => digits_text(alloc, gutter, number),
         LineNumbers::Anonymized => anonymized_text(alloc, gutter),
         LineNumbers::Hidden => " ".repeat(alloc, gutter),
     }
+}
+
+/// A number, right-aligned in `gutter` cells.
+fn digits_text(alloc: Global, gutter: usize, number: usize) -> Result<String, AllocError>
+    ensures text { IfOk result (λ text. string_bytes text ≡ set_right gutter (decimal number)) }
+{
+    let mut buffer = Buffer::new();
+    let digits = buffer.format(number);
+    let len = digits.len();
+    let mut text = spaces(alloc, gutter.saturating_sub(len), len)?;
+    text.push_str(digits)?;
+    Ok(text)
+}
+
+/// This many spaces, with room for so many bytes after them.
+fn spaces(alloc: Global, count: usize, room: usize) -> Result<String, AllocError>
+    ensures text { IfOk result (λ text. string_bytes text ≡ replicate count 32) }
+{
+    let mut text = String::with_capacity(alloc, count.saturating_add(room))?;
+    for _ in 0..count {
+        text.push(' ')?;
+    }
+    Ok(text)
 }
 
 /// The text `LL`, right-aligned in `gutter` cells.

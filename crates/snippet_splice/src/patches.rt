@@ -42,7 +42,7 @@ pub fn trimmed_patches<'a>(
     ensures law { AreApart 0 (in_order (map edit_of patches.now)) → IfOk result (λ ts.
         edited_from source.now 0 (map trimmed_edit_of ts.items) ≡ patched source.now (map edit_of patches.now)) }
 {
-    let mut trimmed = Vec::new(alloc);
+    let mut trimmed = Vec::with_capacity(alloc, patches.len())?;
     for patch in patches {
         trimmed.push(trim_patch(source, patch))?;
     }

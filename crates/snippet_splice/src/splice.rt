@@ -196,8 +196,8 @@ fn write_patches(
     ensures end { IfOk result (λ w. w.end ≡ end_from from (map trimmed_edit_of patches.now)) }
     ensures border { IfOk result (λ w. IsSpanBorder source.now w.end) }
 {
-    let mut text = String::new(alloc);
-    let mut ranges = Vec::new(alloc);
+    let mut text = String::with_capacity(alloc, room_for(from, patches))?;
+    let mut ranges = Vec::with_capacity(alloc, patches.len())?;
     let mut feeds = 0;
     let mut end = from;
     for patch in patches {
@@ -209,4 +209,17 @@ fn write_patches(
         end = patch.span.end;
     }
     Ok(Written { text, ranges, end })
+}
+
+/// The bytes that a replacement is made room for.
+const REPLACEMENT_BYTES: usize = 16;
+
+/// Room for a source from a byte to the end of the last patch, with the patches applied, in bytes: for what is kept of
+/// it at least.
+fn room_for(from: usize, patches: &[TrimmedPatch<'_>]) -> usize {
+    let kept = match patches.last() {
+        Some(patch) => patch.span.end.saturating_sub(from),
+        None => 0,
+    };
+    kept.saturating_add(patches.len().saturating_mul(REPLACEMENT_BYTES))
 }

@@ -60,7 +60,7 @@ pub(crate) fn patch_places<'s, 'a>(
     ensures value { IfOk result (λ places. map extent_of places.items
         ≡ extents_from source.now from from (map trimmed_edit_of patches.now)) }
 {
-    let mut places = Vec::new(alloc);
+    let mut places = Vec::with_capacity(alloc, patches.len())?;
     let mut at = from;
     let mut chars = 0;
     for patch in patches {
@@ -152,7 +152,7 @@ pub(crate) fn new_stretches(
     ensures lines { IfOk result (λ lines.
         length lines.items ≡ capped (feeds_made (map extent_of places.now) + feeds + 1)) }
 {
-    let mut lines = Vec::new(alloc);
+    let mut lines = Vec::with_capacity(alloc, places.len())?;
     let mut line = 0usize;
     let mut shown = 0usize;
     let mut end = 0usize;
@@ -277,7 +277,7 @@ pub(crate) fn replaced_stretches(
     ensures lines { IfOk result (λ lines.
         length lines.items ≡ max (lines_over 0 (map extent_of places.now)) count) }
 {
-    let mut lines = Vec::new(alloc);
+    let mut lines = Vec::with_capacity(alloc, count)?;
     let mut line = 0usize;
     for place in places {
         line = line.saturating_add(place.feeds);

@@ -163,10 +163,16 @@ cuts_of-more layout room placed flags k e flag within there =
     ap (λ es. cuts_of layout room es (drop k flags)) (drop_more placed k e within)
     ∙ ap (cuts_of layout room (get_or placed k e ∷ drop (k + 1) placed)) (drop_more flags k flag there)
 
--- nothing is cut after the last entry
-pub cuts_of-none : (layout : Layout) (room k : ℕ) (placed : List PlacedEntry) (flags : List Bool) → length placed ≤ k
+-- no flag is left, so no cut
+cuts_of-nil : (layout : Layout) (room : ℕ) (placed : List PlacedEntry) → cuts_of layout room placed [] ≡ []
+cuts_of-nil layout room [] = refl
+cuts_of-nil layout room (e ∷ es) = refl
+
+-- nothing is cut after the last flag
+pub cuts_of-none : (layout : Layout) (room k : ℕ) (placed : List PlacedEntry) (flags : List Bool) → length flags ≤ k
     → cuts_of layout room (drop k placed) (drop k flags) ≡ []
-cuts_of-none layout room k placed flags past = ap (λ es. cuts_of layout room es (drop k flags)) (drop_all k placed past)
+cuts_of-none layout room k placed flags past =
+    ap (cuts_of layout room (drop k placed)) (drop_all k flags past) ∙ cuts_of-nil layout room (drop k placed)
 
 -- the same stretch of two rows gave its place to the placeholder
 replaced_here : (layout : Layout) (row start end : ℕ) (above : List (List Cell)) (source marks : List Cell) (below : List (List Cell)) → length above ≡ row

@@ -1,9 +1,10 @@
 -- A glyph that is repeated.
-use Rattle.std.proofs.Common.{◌≡◌, ℕ, zero, suc, ◌<◌, List, [], ◌∷◌, ◌++◌, length, replicate, refl, sym, ap, ◌∙◌, arith}
-use Rattle.std.proofs.lemmas.List.{length-replicate}
+use Rattle.std.proofs.Common.{◌≡◌, ℕ, zero, suc, ◌<◌, List, [], ◌∷◌, ◌++◌, length, replicate, refl, subst, sym, ap, ◌∙◌, arith}
+use Rattle.std.proofs.lemmas.List.{get_or-replicate, length-replicate}
 use Rattle.std.proofs.lemmas.Str.{chars_from_encodes, chars-nil}
+use Rattle.std.proofs.lemmas.Str.Ascii.{IsAscii-from_all}
 use Rattle.std.specs.List.{repeat}
-use Rattle.std.specs.Str.{chars, IsUtf8}
+use Rattle.std.specs.Str.{chars, IsAscii, IsUtf8}
 use Rattle.std.specs.Prelude.{encode_utf8, encode_utf8_all}
 use Rattle.snippet_style.specs.Cell.{Cell, text_cells, unlinked_cell}
 use Rattle.snippet_style.specs.declared.role.ElementStyle.{ElementStyle}
@@ -25,3 +26,9 @@ text_cells-replicate role (suc n) ch = ap (λ (cells : List Cell). unlinked_cell
 pub some_bytes : (bs : List ℕ) (n ch : ℕ) → chars bs ≡ replicate n ch → 0 < n → 0 < length bs
 some_bytes [] n ch is some = absurd (omega (arith, ap length (sym chars-nil ∙ is), length-replicate n ch))
 some_bytes (b ∷ bs) n ch is some = omega arith
+
+-- a glyph of ASCII, repeated
+pub IsAscii-replicate : (n ch : ℕ) → ch < 128 → IsAscii (replicate n ch)
+IsAscii-replicate n ch small =
+    IsAscii-from_all (replicate n ch) (λ k d within. subst (λ b. b < 128)
+    (sym (get_or-replicate n k ch d (omega (arith, within, length-replicate {A = ℕ} n ch)))) small)

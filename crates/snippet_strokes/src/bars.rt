@@ -1,6 +1,6 @@
 //! The bars of spans of several lines, which run beside the rows, left of the code.
-ghost use Rattle.std.specs.Prelude.{◌≡◌, ◌+◌, ◌-◌, ◌^◌, ◌<◌, ◌≤◌, ℕ, true, All, IfOk, OnOk, length, replicate};
-ghost use Rattle.std.specs.Prelude.{slice_index_or};
+ghost use Rattle.std.specs.Prelude.{◌≡◌, ◌+◌, ◌-◌, ◌^◌, ◌<◌, ◌≤◌, ◌++◌, ℕ, true, All, IfOk, OnOk, length, replicate};
+ghost use Rattle.std.specs.Prelude.{chars, slice_index_or};
 ghost use Rattle.snippet_strokes.specs.declared.bars.OpenBar.{OpenBar};
 ghost use Rattle.snippet_strokes.specs.Bars as spec;
 ghost use Rattle.snippet_strokes.specs.Bars.{HasBarRoom, StandsBeside, bar_cell_part, barred, changed_from};
@@ -80,7 +80,7 @@ fn bar_of(entry: &LineAnnotation) -> Option<OpenBar>
     }
 }
 
-/// The bars whose depth none of the others has.
+/// The bars whose depth none of the others has, with room for the others.
 ///
 /// # Errors
 ///
@@ -92,13 +92,29 @@ pub(crate) fn bars_apart(
 ) -> Result<Vec<OpenBar>, AllocError>
     ensures value { IfOk result (λ apart. apart.items ≡ spec.bars_apart bars.now others.now) }
 {
-    let mut apart = Vec::new(alloc);
+    let mut apart = Vec::with_capacity(alloc, bars.len().saturating_add(others.len()))?;
+    add_bars_apart(&mut apart, bars, others)?;
+    Ok(apart)
+}
+
+/// Adds to a list the bars whose depth none of the others has.
+///
+/// # Errors
+///
+/// There is no memory for the list.
+pub(crate) fn add_bars_apart(
+    list: &mut Vec<OpenBar>,
+    bars: &[OpenBar],
+    others: &[OpenBar],
+) -> Result<(), AllocError>
+    ensures added { OnOk result (list.new.items ≡ list.old.items ++ spec.bars_apart bars.now others.now) }
+{
     for bar in bars {
         if !has_depth(others, bar.depth) {
-            apart.push(*bar)?;
+            list.push(*bar)?;
         }
     }
-    Ok(apart)
+    Ok(())
 }
 
 /// Whether one of some bars has this depth.
@@ -182,11 +198,33 @@ fn draw_side(
         row buffer.old) }
 {
     let glyph = stroke.glyph(layout.decor, first.primary);
-    let role = layout.decor.underline(first.primary).style;
     let part = repeated(alloc, glyph, count)?;
+    draw_parts(buffer, layout, row, first, count, stroke, part.as_str())
+}
+
+/// The same, given the text of the part.
+fn draw_parts(
+    buffer: &mut StyledBuffer,
+    layout: Layout,
+    row: usize,
+    first: OpenBar,
+    count: usize,
+    stroke: BarStroke,
+    part: &str,
+) -> Result<(), AllocError>
+    requires left { 0 < first.depth }
+    requires room { bar_cell layout first.depth + count < layout.code }
+    requires some { 0 < count }
+    requires part { chars part.now ≡ replicate count (spec.bar_glyph stroke layout.decor first.primary) }
+    ensures value { OnOk result (buffer.new ≡ changed_from
+        (λ cells. written SPACE cells (bar_cell layout first.depth)
+        (replicate count (bar_cell_part layout stroke first)))
+        row buffer.old) }
+{
+    let role = layout.decor.underline(first.primary).style;
     let cell = layout.bar_cell(first.depth);
     for r in row..buffer.num_lines() {
-        buffer.puts(r, cell, part.as_str(), role)?;
+        buffer.puts(r, cell, part, role)?;
     }
     Ok(())
 }

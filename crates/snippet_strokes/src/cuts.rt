@@ -1,5 +1,5 @@
 //! Wide spans, of which the middle gives its place to the placeholder, in the source row and in the row of the marks.
-ghost use Rattle.std.specs.Prelude.{◌≡◌, ◌+◌, ◌<◌, true, All, IfOk, OnOk, length};
+ghost use Rattle.std.specs.Prelude.{◌≡◌, ◌+◌, ◌<◌, ◌≤◌, [], false, true, All, IfOk, OnOk, length};
 ghost use Rattle.std.specs.List.{list_any};
 ghost use Rattle.snippet_parts.specs.Entries.{is_wide_entry};
 ghost use Rattle.snippet_style.specs.Glyphs.{placeholder_of};
@@ -23,7 +23,7 @@ const LEAST_END: usize = 5;
 
 /// For each entry of a line, from right to left, whether its columns overlap those of an entry that was looked at while
 /// the place of a label was sought. The two entries farthest right count for no one, and any other counts for itself
-/// too. Only wide entries ask for it: where none is, nothing is looked at.
+/// too. Only wide entries ask for it: where none is, nothing is looked at, and the list is empty.
 ///
 /// ```text
 ///       |          ^^^^^    the first and the second entry aren't overlapped, though they overlap
@@ -42,12 +42,13 @@ pub(crate) fn overlapping(
 ) -> Result<Vec<bool>, AllocError>
     requires columns { All (λ e. HasPlace e.entry) placed.now }
     requires looked { All (λ e. IsCount e.looked) placed.now }
-    ensures count { IfOk result (λ flags. length flags.items ≡ length placed.now) }
+    ensures count { IfOk result (λ flags. length flags.items ≤ length placed.now) }
     ensures value { IfOk result (λ flags. list_any (is_wide_at room decor) placed.now ≡ true → flags.items
         ≡ spec.overlapped placed.now) }
+    ensures none { IfOk result (λ flags. list_any (is_wide_at room decor) placed.now ≡ false → flags.items ≡ []) }
 {
     if !has_wide(room, decor, placed) {
-        return vec![in alloc; false; placed.len()];
+        return Ok(Vec::new(alloc));
     }
     let ends = look_ends(alloc, placed)?;
     overlapped(alloc, placed, &ends)
@@ -143,7 +144,7 @@ fn is_met(k: usize, entry: &PlacedEntry, placed: &[PlacedEntry], ends: &[usize])
 }
 
 /// Puts the placeholder in place of the middle of each wide entry that stands at a place which isn't overlapped: in the
-/// source row, and in the row of the marks below it.
+/// source row, and in the row of the marks below it. Entries of which nothing is told stay.
 ///
 /// ```text
 ///     1 | let aaaaa...aaaaa = 1;
@@ -162,13 +163,13 @@ pub(crate) fn cut_wide(
     overlapped: &[bool],
 ) -> Result<(), AllocError>
     requires columns { All (λ e. HasPlace e.entry) placed.now }
-    requires count { length overlapped.now ≡ length placed.now }
+    requires count { length overlapped.now ≤ length placed.now }
     requires rows { row + 1 < length buffer.old }
     requires small { AreRows (length buffer.old) }
     ensures value { OnOk result (buffer.new ≡ spec.cut_rows layout.decor row
         (spec.cuts_of layout room placed.now overlapped.now) buffer.old) }
 {
-    for k in 0..placed.len() {
+    for k in 0..overlapped.len() {
         cut_entry(buffer, layout, row, room, &placed[k], overlapped[k])?;
     }
     Ok(())

@@ -1,19 +1,68 @@
 //! Glyphs that stand side by side in a row.
-ghost use Rattle.std.specs.Prelude.{◌≡◌, IfOk, OnOk, replicate, string_bytes};
+ghost use Rattle.std.specs.Prelude.{◌≡◌, ◌<◌, ◌≤◌, IfOk, IfSome, OnOk, replicate, string_bytes};
+ghost use Rattle.std.specs.Cow.{cow_str_bytes};
 ghost use Rattle.std.specs.Str.{chars};
 ghost use Rattle.snippet_strokes.specs.Writes.{painted, stretch_of};
 ghost use Rattle.snippet_style.specs.Bounds.{HasNext};
 
 use snippet_grid::StyledBuffer;
 use snippet_style::ElementStyle;
+use snippet_text::CowStr;
 use std::alloc::{AllocError, Global};
 
-/// A text that holds a glyph this many times.
+/// How many glyphs each of the strips below has: few marks are longer.
+const STRIP: usize = 64;
+
+const CARETS: &str = "^^^^^^^^^^^^^^^^^^^^^^^^^^^^^^^^^^^^^^^^^^^^^^^^^^^^^^^^^^^^^^^^";
+
+const DASHES: &str = "----------------------------------------------------------------";
+
+const CONNECTORS: &str = "________________________________________________________________";
+
+const BARS: &str = "||||||||||||||||||||||||||||||||||||||||||||||||||||||||||||||||";
+
+/// A strip of a glyph, if there is one.
+fn strip_of(glyph: char) -> Option<&'static str>
+    ensures value { IfSome result (λ strip. strip.now ≡ replicate 64 glyph) }
+    ensures ascii { IfSome result (λ strip. glyph < 128) }
+{
+    match glyph {
+        '^' => Some(CARETS),
+        '-' => Some(DASHES),
+        '_' => Some(CONNECTORS),
+        '|' => Some(BARS),
+        _ => None,
+    }
+}
+
+/// The first glyphs of a strip.
+fn first_of(strip: &'static str, glyph: char, count: usize) -> &'static str
+    requires strip { strip.now ≡ replicate 64 glyph }
+    requires ascii { glyph < 128 }
+    requires within { count ≤ 64 }
+    ensures value { chars result.now ≡ replicate count glyph }
+{
+    &strip[..count]
+}
+
+/// A text that holds a glyph this many times: a part of a strip, where there is one that is long enough.
 ///
 /// # Errors
 ///
 /// There is no memory for the text.
-pub fn repeated(alloc: Global, glyph: char, count: usize) -> Result<String, AllocError>
+pub fn repeated(alloc: Global, glyph: char, count: usize) -> Result<CowStr<'static>, AllocError>
+    ensures value { IfOk result (λ text. chars (cow_str_bytes text) ≡ replicate count glyph) }
+{
+    if count <= STRIP
+        && let Some(strip) = strip_of(glyph)
+    {
+        return Ok(CowStr::Borrowed(first_of(strip, glyph, count)));
+    }
+    Ok(CowStr::Owned(made(alloc, glyph, count)?))
+}
+
+/// A text that holds a glyph this many times.
+fn made(alloc: Global, glyph: char, count: usize) -> Result<String, AllocError>
     ensures value { IfOk result (λ text. chars (string_bytes text) ≡ replicate count glyph) }
 {
     let mut bytes = [0; 4];

@@ -16,7 +16,7 @@ ghost use Rattle.snippet_strokes.specs.Snippet.{AddsLine, AddsSnippet};
 ghost use Rattle.snippet_grid.specs.Layout.{separator_cell};
 ghost use Rattle.snippet_text.specs.TextBounds.{TextFits};
 
-use crate::bars::{BarStroke, OpenBar, bars_apart, draw_bars, ends_on};
+use crate::bars::{BarStroke, OpenBar, add_bars_apart, bars_apart, draw_bars, ends_on};
 use crate::elision::draw_gap;
 use crate::highlight::highlight_source;
 use crate::source_row::draw_source_row;
@@ -136,7 +136,7 @@ fn draw_line(
     )?;
     let mut below = bars_apart(alloc, open_bars, &ends)?;
     draw_bars(alloc, buffer, layout, row, &below, BarStroke::Solid)?;
-    below.extend_from_slice(&bars_apart(alloc, &ends, open_bars)?)?;
+    add_bars_apart(&mut below, &ends, open_bars)?;
     Ok(below)
 }
 

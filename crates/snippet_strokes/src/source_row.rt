@@ -2,11 +2,13 @@
 ghost use Rattle.std.specs.Prelude.{◌≡◌, ◌+◌, ◌<◌, ◌≤◌, ◌++◌, ◌∷◌, [], IfOk, IfSome, List, OnOk, chars, false};
 ghost use Rattle.std.specs.Prelude.{length};
 ghost use Rattle.snippet_style.specs.Cell.{Cell};
+ghost use Rattle.std.specs.Cow.{cow_str_bytes};
 ghost use Rattle.std.specs.List.{list_any};
 ghost use Rattle.snippet_window.specs.Margin.{bounds_of};
 ghost use Rattle.snippet_window.specs.Window.{dropped_part};
 ghost use Rattle.snippet_style.specs.Glyphs.{placeholder_of};
 ghost use Rattle.snippet_lines.specs.Number.{shown_number};
+ghost use Rattle.snippet_lines.specs.declared.number.LineNumbers.TheVariants.{Shown};
 ghost use Rattle.snippet_strokes.specs.SourceRows.{AddsSourceRow, begun_cells, ended_cells, shown_cells, window_cells};
 ghost use Rattle.snippet_strokes.specs.SourceRows.{with_cells};
 ghost use Rattle.snippet_text.specs.Normalized.{is_listed, norm};
@@ -16,11 +18,12 @@ ghost use Rattle.snippet_text.specs.TextBounds.{TextFits};
 ghost use Rattle.snippet_style.specs.Bounds.{FitsRow, HasNext, IsTextWidth, IsWindowColumn, IsWindowEnd};
 
 use crate::row::begin_row;
+use itoa::Buffer;
 use snippet_grid::{Layout, StyledBuffer};
 use snippet_lines::{LineNumbers, number_text};
 use snippet_parts::ShownLine;
 use snippet_style::ElementStyle;
-use snippet_text::normalized;
+use snippet_text::{CowStr, normalized};
 use snippet_window::{LineWindow, Margin, near_part, window_of};
 use std::alloc::{AllocError, Global};
 
@@ -56,13 +59,54 @@ pub fn draw_source_row(
     ensures uncut { IfOk result (λ at. (bounds_of margin).left ≡ 0 → at.1 ≡ 0) }
     ensures few { IfOk result (λ at. IsWindowColumn at.1) }
 {
-    let number = number_text(alloc, numbers, layout.gutter, line.info.line_index)?;
+    let mut digits = Buffer::new();
+    let number = number_beside(
+        alloc,
+        &mut digits,
+        numbers,
+        layout.gutter,
+        line.info.line_index,
+    )?;
     let near = near_part(margin, line.info.line, line.width);
     let text = normalized(alloc, near.text)?;
     let placeholder = layout.decor.placeholder();
     let window = window_of(margin, placeholder, near.skipped, text.as_str(), line.width);
     let row = write_source_row(buffer, layout, number.as_str(), placeholder, window)?;
     Ok((row, window.dropped))
+}
+
+/// What the gutter shows beside a line. It is made in `digits` where it is a number that fills the gutter.
+fn number_beside<'b>(
+    alloc: Global,
+    digits: &'b mut Buffer,
+    numbers: LineNumbers,
+    gutter: usize,
+    number: usize,
+) -> Result<CowStr<'b>, AllocError>
+    ensures text { IfOk result (λ text. cow_str_bytes text ≡ shown_number numbers gutter number) }
+{
+    match numbers {
+        LineNumbers::Shown => digits_beside(alloc, digits, gutter, number),
+        LineNumbers::Anonymized | LineNumbers::Hidden => {
+            Ok(CowStr::Owned(number_text(alloc, numbers, gutter, number)?))
+        }
+    }
+}
+
+/// The number of a line, right-aligned in `gutter` cells.
+fn digits_beside<'b>(
+    alloc: Global,
+    digits: &'b mut Buffer,
+    gutter: usize,
+    number: usize,
+) -> Result<CowStr<'b>, AllocError>
+    ensures text { IfOk result (λ text. cow_str_bytes text ≡ shown_number Shown gutter number) }
+{
+    let text = digits.format(number);
+    if gutter <= text.len() {
+        return Ok(CowStr::Borrowed(text));
+    }
+    Ok(CowStr::Owned(number_text(alloc, LineNumbers::Shown, gutter, number)?))
 }
 
 /// Writes a source row of these texts, which hold no listed character.

@@ -14,11 +14,14 @@ ghost use Rattle.snippet_text_form.specs.Form.{Break, Styled, bare, begun_after,
 ghost use Rattle.snippet_text_form.specs.Form.{in_style, link_codes_before, link_codes_after, pieces_of_part};
 ghost use Rattle.snippet_text_form.specs.Form.{plain_from, role_style, woven_from};
 
+use itoa::Buffer;
 use snippet_style::{ElementStyle, LevelInner, Style, Stylesheet, reset_code, write_opening};
 use snippet_text::CowStr;
 use std::alloc::{AllocError, Global};
-use std::fmt::Write;
 use std::marker::Model;
+
+/// The parts that a form has room for at first: those of a title, a marked line and a note.
+const FIRST_PARTS: usize = 32;
 
 /// The bytes that a text has room for at first, for each part: of the usual parts few are longer.
 const PART_BYTES: usize = 12;
@@ -75,12 +78,22 @@ impl<'a> TextForm<'a> {
         }
     }
 
+    /// Adds a part.
+    fn add(&mut self, part: TextPart<'a>) -> Result<(), AllocError>
+        ensures added { OnOk result (self.new ≡ self.old ++ pieces_of_part part.entry) }
+    {
+        if self.parts.is_empty() {
+            self.parts.reserve(FIRST_PARTS)?;
+        }
+        self.parts.push(part)?;
+        Ok(())
+    }
+
     /// Begins a new line. Where no text stands before it, nothing is written.
     pub fn add_break(&mut self) -> Result<(), AllocError>
         ensures added { OnOk result (self.new ≡ self.old ++ Break ∷ []) }
     {
-        self.parts.push(TextPart::Break)?;
-        Ok(())
+        self.add(TextPart::Break)
     }
 
     /// Adds a text without codes.
@@ -94,24 +107,21 @@ impl<'a> TextForm<'a> {
     pub fn add_shown(&mut self, text: CowStr<'a>) -> Result<(), AllocError>
         ensures added { OnOk result (self.new ≡ self.old ++ bare (chars (cow_str_bytes text.entry))) }
     {
-        self.parts.push(TextPart::Text(text))?;
-        Ok(())
+        self.add(TextPart::Text(text))
     }
 
     /// Adds a number without codes.
     pub fn add_number(&mut self, number: usize) -> Result<(), AllocError>
         ensures added { OnOk result (self.new ≡ self.old ++ bare (decimal number)) }
     {
-        self.parts.push(TextPart::Number(number))?;
-        Ok(())
+        self.add(TextPart::Number(number))
     }
 
     /// Adds this many spaces without codes.
     pub fn add_spaces(&mut self, count: usize) -> Result<(), AllocError>
         ensures added { OnOk result (self.new ≡ self.old ++ bare (replicate count 32)) }
     {
-        self.parts.push(TextPart::Spaces(count))?;
-        Ok(())
+        self.add(TextPart::Spaces(count))
     }
 
     /// Adds a text in the style of a role, which may link to an address. The style is opened and reset even where the
@@ -125,9 +135,7 @@ impl<'a> TextForm<'a> {
         ensures added { OnOk result (self.new
             ≡ self.old ++ Styled role (option_copied link.entry) (chars (cow_str_bytes text.entry)) ∷ []) }
     {
-        self.parts
-            .push(TextPart::Styled(StyledText { role, link, text }))?;
-        Ok(())
+        self.add(TextPart::Styled(StyledText { role, link, text }))
     }
 
     /// The text under a sheet.
@@ -178,10 +186,18 @@ fn write_part(
         TextPart::Break if begun => out.push('\n'),
         TextPart::Break => Ok(()),
         TextPart::Text(text) => out.push_str(text.as_str()),
-        TextPart::Number(number) => write!(out, "{number}"),
+        TextPart::Number(number) => write_number(out, *number),
         TextPart::Spaces(count) => write_spaces(out, *count),
         TextPart::Styled(text) => write_styled(out, sheet, text),
     }
+}
+
+/// Adds a number to a text.
+fn write_number(out: &mut String, number: usize) -> Result<(), AllocError>
+    ensures added { OnOk result (string_bytes out.new ≡ string_bytes out.old ++ decimal number) }
+{
+    let mut digits = Buffer::new();
+    out.push_str(digits.format(number))
 }
 
 /// Adds this many spaces to a text.

@@ -1,6 +1,5 @@
 -- What a grid becomes where a row is begun with a glyph after the gutter.
-use Rattle.std.proofs.Common.{◌≡◌, ℕ, ◌+◌, ◌<◌, ◌≤◌, List, [], ◌∷◌, ◌++◌, length, chars, ap, ◌∙◌, sym, arith}
-use Rattle.std.proofs.lemmas.List.{append_assoc, map-append}
+use Rattle.std.proofs.Common.{◌≡◌, ℕ, ◌+◌, ◌<◌, ◌≤◌, List, [], ◌∷◌, ◌++◌, length, chars, ap, ◌∙◌, arith}
 use Rattle.snippet_style.specs.declared.glyphs.DecorStyle.{DecorStyle}
 use Rattle.snippet_style.specs.declared.glyphs.DecorStyle.TheVariants.{Ascii, Unicode}
 use Rattle.snippet_style.specs.declared.role.ElementStyle.TheVariants.{LineAndColumn, LineNumber}
@@ -11,9 +10,7 @@ use Rattle.snippet_titles.specs.declared.origin.FileStart.{FileStart}
 use Rattle.snippet_titles.specs.declared.origin.FileStart.TheVariants.{Alone, First, Later, Secondary}
 use Rattle.snippet_titles.specs.declared.origin.OriginLocation.{OriginLocation}
 use Rattle.snippet_titles.specs.declared.origin.OriginLayout.{OriginLayout}
-use Rattle.snippet_text.specs.Normalized.{norm}
-use Rattle.snippet_titles.specs.Origin.{file_glyph, file_row, origin_row, origin_text, place_text}
-use Rattle.snippet_titles.proofs.OriginText.{place_text-chars}
+use Rattle.snippet_titles.specs.Origin.{file_glyph, file_row, origin_row, origin_text}
 use Rattle.snippet_style.specs.Separators.{closing_row}
 use Rattle.snippet_titles.proofs.ExtendLemmas.{extended, extended_from, length-begun}
 use Rattle.snippet_style.proofs.RowLemmas.{closing_some as closing-some}
@@ -70,17 +67,11 @@ row-appended old now new row cells text below begun writes =
     extended_from old now new row cells (text_cells LineAndColumn (chars text)) below begun
     (extended now new row LineAndColumn text (length-begun old now row cells below begun) writes.0 writes.1)
 
--- the row of a path: the row that leads to it, with the path after that, and then its place
-pub origin_row-begun : (old begun named new : List (List Cell)) (row : ℕ) (shown after path : List ℕ) (layout : OriginLayout) (start : FileStart)
-    (place : OriginLocation) → row ≡ length old → begun ≡ old ++ file_row layout start ∷ [] → chars shown ≡ norm (chars path)
-    → after ≡ place_text layout.anonymized place → Appends begun named row shown → Appends named new row after
-    → new ≡ old ++ origin_row layout start path place ∷ []
-unfolding origin_row origin_text
-origin_row-begun old begun named new row shown after path layout start place below starts is is_after names places =
-    let text : chars after ≡ place_text layout.anonymized place = ap chars is_after ∙ place_text-chars layout.anonymized place in
-    row-appended old named new row (file_row layout start ++ text_cells LineAndColumn (chars shown)) after below
-    (row-appended old begun named row (file_row layout start) shown below starts names) places
-    ∙ ap (λ cells. old ++ cells ∷ []) (append_assoc (file_row layout start) (text_cells LineAndColumn (chars shown)) (text_cells LineAndColumn (chars after)))
-    ∙ ap (λ cells. old ++ (file_row layout start ++ cells) ∷ []) (sym (map-append _ (chars shown) (chars after)))
-    ∙ ap (λ cs. old ++ (file_row layout start ++ text_cells LineAndColumn (cs ++ chars after)) ∷ []) is
-    ∙ ap (λ cs. old ++ (file_row layout start ++ text_cells LineAndColumn (norm (chars path) ++ cs)) ∷ []) text
+-- the row of a path: the row that leads to it, with the path and its place after that
+pub origin_row-begun : (old begun new : List (List Cell)) (row : ℕ) (text path : List ℕ) (layout : OriginLayout) (start : FileStart)
+    (place : OriginLocation) → row ≡ length old → begun ≡ old ++ file_row layout start ∷ [] → chars text ≡ origin_text layout.anonymized path place
+    → Appends begun new row text → new ≡ old ++ origin_row layout start path place ∷ []
+unfolding origin_row
+origin_row-begun old begun new row text path layout start place below starts is writes =
+    row-appended old begun new row (file_row layout start) text below starts writes
+    ∙ ap (λ cs. old ++ (file_row layout start ++ text_cells LineAndColumn cs) ∷ []) is

@@ -1,5 +1,5 @@
 -- A heading's rows, from what is drawn of them.
-use Rattle.std.proofs.Common.{◌≡◌, ℕ, List, [], ◌++◌, length, map, take, Bool, sym, ap, ◌∙◌, arith}
+use Rattle.std.proofs.Common.{◌≡◌, ℕ, List, [], ◌++◌, All, length, map, take, Bool, true, false, if◌then◌else◌, refl, sym, ap, ◌∙◌, arith}
 use Rattle.std.specs.Str.{chars, IsUtf8}
 use Rattle.std.proofs.lemmas.List.{get_or_past}
 use Rattle.snippet_grid.specs.Grid.{row_at}
@@ -7,6 +7,9 @@ use Rattle.snippet_style.specs.Cell.{Cell}
 use Rattle.snippet_style.specs.declared.role.ElementStyle.{ElementStyle}
 use Rattle.snippet_model.specs.declared.level.Level.{Level}
 use Rattle.snippet_model.specs.Heading.{Heading}
+use Rattle.snippet_text.specs.Normalized.{norm}
+use Rattle.snippet_text.specs.Plain.{IsPlain}
+use Rattle.snippet_text.proofs.PlainLemmas.{norm-plain}
 use Rattle.snippet_titles.specs.declared.style.HeadingRoles.{HeadingRoles}
 use Rattle.snippet_titles.specs.declared.style.TitleStyle.{TitleStyle}
 use Rattle.snippet_titles.specs.Appended.{IsAtEnd, appended}
@@ -47,6 +50,16 @@ pub text_drawn : (old new : List (List Cell)) (row : ℕ) (further : List Cell) 
 text_drawn old new row further role text shown utf8 spelled is =
     let cut : map chars (lines_at text) ≡ lines_at shown = lines_at-chars text utf8 ∙ ap lines_at spelled in
     is ∙ ap (λ (ls : List (List ℕ)). take row old ++ without_empty_end (lines_below (row_at old row) further role ls)) cut
+
+-- a text of printable ASCII is drawn as it is, trusted or not
+drawn_as_is : (trusted : Bool) (text : List ℕ) → All IsPlain text → chars text ≡ (if trusted then chars text else norm (chars text))
+drawn_as_is true text plain = refl
+drawn_as_is false text plain = norm-plain text text plain refl
+
+pub plain_shown : (trusted : Bool) (text given : List ℕ) → text ≡ given → All IsPlain text
+    → chars text ≡ (if trusted then chars given else norm (chars given))
+plain_shown trusted text given is plain =
+    drawn_as_is trusted text plain ∙ ap (λ (t : List ℕ). if trusted then chars t else norm (chars t)) is
 
 -- the lines after a label make the rows
 pub heading_drawn : (old one two new : List (List Cell)) (row : ℕ) (hyperlink : Bool) (style : TitleStyle) (heading : Heading) (level : Level)

@@ -176,13 +176,17 @@ pub(crate) fn draw_text(
         (indent_cells style.now (spec.label_width (heading_of heading.now))) role
         (spec.heading_lines (heading_of heading.now)))) }
 {
-    let text = text_of(alloc, heading)?;
-    draw_lines(buffer, row, style, role, heading, text.as_str())
+    let text = heading.text();
+    // Most texts are printable ASCII: trusted or not they are drawn as they are, and hold no line feed.
+    if is_plain(text) {
+        return extend_row(buffer, row, text, role);
+    }
+    let shown = text_of(alloc, heading)?;
+    draw_lines(buffer, row, style, role, heading, shown.as_str())
 }
 
 /// Draws a text after the cells of the grid's last row; each further line of it stands in a row of its own, below the
 /// heading's label. That is only measured where there is such a line.
-#[inline(always)]
 fn draw_lines(
     buffer: &mut StyledBuffer,
     row: usize,
@@ -199,11 +203,6 @@ fn draw_lines(
         (indent_cells style.now (spec.label_width (heading_of heading.now))) role
         (map chars (slice_split (λ b. b == 10) text.now)))) }
 {
-    // Most texts are printable ASCII, in which no line feed has to be looked for.
-    if is_plain(text) {
-        extend_row(buffer, row, text, role)?;
-        return Ok(());
-    }
     let Some((first, rest)) = text.split_once('\n') else {
         extend_row(buffer, row, text, role)?;
         return Ok(());

@@ -1,15 +1,16 @@
 //! The row of a path, and of the place after it.
 ghost use Rattle.std.specs.Prelude.{◌≡◌, ◌∷◌, ◌++◌, [], length, chars, string_bytes, OnOk, IfOk};
+ghost use Rattle.std.specs.Fmt.{decimal};
 ghost use Rattle.snippet_text.specs.Normalized.{norm};
 ghost use Rattle.snippet_titles.specs.Origin as spec;
 ghost use Rattle.snippet_titles.specs.Origin.{file_glyph, file_row, origin_row, place_text};
 ghost use Rattle.snippet_style.specs.Bounds.{IsRowNumber};
 
+use itoa::Buffer;
 use snippet_grid::{Layout, StyledBuffer};
 use snippet_style::{DecorStyle, ElementStyle};
-use snippet_text::{normalize_untrusted_str, normalized};
+use snippet_text::normalized;
 use std::alloc::{AllocError, Global};
-use std::fmt::Write;
 
 /// What leads from the gutter to a path.
 #[derive(Clone, Copy, Debug, PartialEq, Eq)]
@@ -78,19 +79,18 @@ pub fn origin_text(
     Ok(text)
 }
 
-/// A path as it is drawn.
+/// Room after a path for what usually follows: a place of lines and columns of a few digits, and what stands behind
+/// it in the short form.
+const PLACE_BYTES: usize = 16;
+
+/// A path as it is drawn, with room for a place after it.
 fn shown_path(alloc: Global, path: &str) -> Result<String, AllocError>
     ensures value { IfOk result (λ text. chars (string_bytes text) ≡ norm (chars path.now)) }
 {
-    normalize_untrusted_str(alloc, path)
-}
-
-/// The text that stands after a path: nothing where there is no line.
-fn place_after(alloc: Global, place: OriginLocation, anonymized: bool) -> Result<String, AllocError>
-    ensures value { IfOk result (λ t. string_bytes t ≡ place_text anonymized place) }
-{
-    let mut text = String::new(alloc);
-    push_place(&mut text, place, anonymized)?;
+    let shown = normalized(alloc, path)?;
+    let shown = shown.as_str();
+    let mut text = String::with_capacity(alloc, shown.len().saturating_add(PLACE_BYTES))?;
+    text.push_str(shown)?;
     Ok(text)
 }
 
@@ -102,10 +102,10 @@ fn push_place(text: &mut String, place: OriginLocation, anonymized: bool) -> Res
         return Ok(());
     };
     push_line(text, line, anonymized)?;
-    if let Some(column) = place.column {
-        write!(text, ":{column}")?;
+    match place.column {
+        Some(column) => push_number(text, column),
+        None => Ok(()),
     }
-    Ok(())
 }
 
 /// Adds a colon and the name of a line.
@@ -115,8 +115,17 @@ fn push_line(text: &mut String, line: usize, anonymized: bool) -> Result<(), All
     if anonymized {
         text.push_str(":LL")
     } else {
-        write!(text, ":{line}")
+        push_number(text, line)
     }
+}
+
+/// Adds a colon and a number.
+fn push_number(text: &mut String, number: usize) -> Result<(), AllocError>
+    ensures added { OnOk result (string_bytes text.new ≡ string_bytes text.old ++ 58 ∷ decimal number) }
+{
+    text.push_str(":")?;
+    let mut digits = Buffer::new();
+    text.push_str(digits.format(number))
 }
 
 /// Draws the row of a path below all that stands in the grid.
@@ -139,11 +148,9 @@ pub fn draw_origin(
 ) -> Result<(), AllocError>
     ensures row { OnOk result (buffer.new ≡ buffer.old ++ origin_row layout start path.now place ∷ []) }
 {
-    let path = normalized(alloc, path)?;
-    let place = place_after(alloc, place, layout.anonymized)?;
+    let text = origin_text(alloc, path, place, layout.anonymized)?;
     let row = begin_file_row(buffer, layout, start)?;
-    buffer.append(row, path.as_str(), ElementStyle::LineAndColumn)?;
-    buffer.append(row, place.as_str(), ElementStyle::LineAndColumn)
+    buffer.append(row, text.as_str(), ElementStyle::LineAndColumn)
 }
 
 /// Begins a row below all that stands in the grid with what leads to a file, and gives the row's number.

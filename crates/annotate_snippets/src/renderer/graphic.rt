@@ -6,7 +6,7 @@
 //! 1 | let x = 1;
 //!   |     ^
 //! ```
-ghost use Rattle.std.specs.Prelude.{◌≡◌, ◌+◌, ◌<◌, ◌≤◌, ◌^◌, All, IfOk, Some, slice_get, string_bytes};
+ghost use Rattle.std.specs.Prelude.{◌≡◌, ◌+◌, ◌<◌, ◌≤◌, ◌^◌, [], All, IfOk, Some, slice_get, string_bytes};
 ghost use Rattle.std.specs.Option.{option_copied};
 ghost use Rattle.annotate_snippets.specs.Around.{report_path};
 ghost use Rattle.annotate_snippets.specs.DrawnReport.{AreGridsOf, HasRoomFor, IsGridAt, IsGroupGrid};
@@ -83,22 +83,53 @@ pub fn draw_at<'a>(
     ensures level { IfOk result (λ grid. grid.level ≡ group.entry.group.now.level) }
     ensures drawn { IfOk result (λ grid. IsGridAt renderer.now groups.now number group.entry.group.now grid) }
 {
+    let buffer = StyledBuffer::new(alloc);
+    draw_in(alloc, buffer, renderer, groups, gutter, file, number, group)
+}
+
+/// The same, in an empty grid, which may have room of what stood in it before.
+///
+/// # Errors
+///
+/// There is no memory for the rows.
+pub fn draw_in<'a>(
+    alloc: Global,
+    buffer: StyledBuffer<'a>,
+    renderer: &Renderer,
+    groups: &[Group<'_>],
+    gutter: usize,
+    file: Option<&str>,
+    number: usize,
+    group: PreparedGroup<'a>,
+) -> Result<GroupGrid<'a>, AllocError>
+    requires empty { buffer ≡ [] }
+    requires drawable { All IsGroupDrawable groups.now }
+    requires prepared { IsGroupPrepared group }
+    requires here { slice_get groups.now number ≡ Some group.group.now }
+    requires gutter { gutter ≡ gutter_of_report renderer.now groups.now }
+    requires small { gutter ≤ 20 }
+    requires file { option_copied file ≡ report_path groups.now }
+    ensures level { IfOk result (λ grid. grid.level ≡ group.entry.group.now.level) }
+    ensures drawn { IfOk result (λ grid. IsGridAt renderer.now groups.now number group.entry.group.now grid) }
+{
     let layout = layout_for(gutter, group.depth(), renderer.decor_style);
     let place = GroupPosition::at(groups.len(), number);
     let file = primary_path(group.group).or(file);
-    draw_group(alloc, renderer, layout, place, file, group)
+    draw_group(alloc, buffer, renderer, layout, place, file, group)
 }
 
-/// The grid of a group, which stands at this place, and this is the file that its suggestions are for where they name
-/// no other.
+/// The grid of a group, which stands at this place, drawn in an empty one; and this is the file that its suggestions
+/// are for where they name no other.
 fn draw_group<'a>(
     alloc: Global,
+    mut buffer: StyledBuffer<'a>,
     renderer: &Renderer,
     layout: Layout,
     place: GroupPosition,
     file: Option<&str>,
     group: PreparedGroup<'a>,
 ) -> Result<GroupGrid<'a>, AllocError>
+    requires empty { buffer ≡ [] }
     requires prepared { IsGroupPrepared group }
     requires room { All (λ e. HasRoomFor renderer.now layout (element_of e)) group.elements.items }
     ensures level { IfOk result (λ grid. grid.level ≡ group.entry.group.now.level) }
@@ -106,7 +137,6 @@ fn draw_group<'a>(
         (option_copied file.entry) group.entry.group.now grid.buffer) }
 {
     let level = group.group.level;
-    let mut buffer = StyledBuffer::new(alloc);
     if let Some(title) = &group.group.title {
         let next = next_of(&group.elements);
         draw_title(alloc, &mut buffer, renderer, layout, place, next, title)?;
@@ -121,6 +151,15 @@ fn draw_group<'a>(
         group.elements,
     )?;
     Ok(GroupGrid { level, buffer })
+}
+
+/// The grid that a group was drawn in, without its rows, for the next group.
+pub fn emptied<'a>(grid: GroupGrid<'a>) -> StyledBuffer<'a>
+    ensures empty { result ≡ [] }
+{
+    let mut buffer = grid.buffer;
+    buffer.clear();
+    buffer
 }
 
 /// The text that prints grids under a sheet, each in its level, joined by line feeds.

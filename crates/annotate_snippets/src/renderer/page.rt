@@ -1,5 +1,5 @@
-//! The text of a report under one sheet. In the graphic form each group is drawn, printed and dropped before the next
-//! is drawn, so that memory holds the rows of one group at a time.
+//! The text of a report under one sheet. In the graphic form each group is drawn and printed before the next is drawn,
+//! in the room that it took, so that memory holds the rows of one group at a time.
 ghost use Rattle.std.specs.Prelude.{◌≡◌, ◌++◌, [], ◌∷◌, All, IfOk, None, string_bytes, if◌then◌else◌};
 ghost use Rattle.annotate_snippets.specs.Fault as spec;
 ghost use Rattle.annotate_snippets.specs.FormLaws.{IsTextUnder};
@@ -10,12 +10,12 @@ ghost use Rattle.annotate_snippets.specs.declared.renderer.form.Form.TheVariants
 use crate::renderer::Renderer;
 use crate::renderer::drawn::{draw, text_under};
 use crate::renderer::form::Form;
-use crate::renderer::graphic::{GroupGrid, draw_at};
+use crate::renderer::graphic::{GroupGrid, draw_in, emptied};
 use crate::renderer::gutter::gutter_of;
 use crate::renderer::paths::report_file;
 use crate::renderer::preprocess::prepare_groups;
 use crate::snippet::Report;
-use snippet_grid::SheetCodes;
+use snippet_grid::{SheetCodes, StyledBuffer};
 use snippet_style::Stylesheet;
 use std::alloc::{AllocError, Global};
 
@@ -77,9 +77,11 @@ fn page_text(
     let file = report_file(groups);
     let mut codes = SheetCodes::new(alloc, sheet);
     let mut text = String::new(alloc);
+    let mut buffer = StyledBuffer::new(alloc);
     for (i, group) in prepared.into_iter().enumerate() {
-        let grid = draw_at(alloc, renderer, groups, gutter, file, i, group)?;
+        let grid = draw_in(alloc, buffer, renderer, groups, gutter, file, i, group)?;
         text = text_with(text, &grid, i == 0, &mut codes)?;
+        buffer = emptied(grid);
     }
     Ok(text)
 }

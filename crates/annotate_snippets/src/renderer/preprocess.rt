@@ -117,7 +117,7 @@ pub fn prepare_groups<'a>(
     ensures groups { IfOk result (λ ps. map (λ p. p.group.now) ps.items ≡ groups.now) }
     ensures prepared { IfOk result (λ ps. All IsGroupPrepared ps.items) }
 {
-    let mut prepared = Vec::new(alloc);
+    let mut prepared = Vec::with_capacity(alloc, groups.len())?;
     for group in groups {
         let elements = prepare_elements(alloc, &group.elements)?;
         prepared.push(PreparedGroup { group, elements })?;
@@ -134,7 +134,7 @@ fn prepare_elements<'a>(
     ensures elements { IfOk result (λ ps. map element_of ps.items ≡ filter is_drawn elements.now) }
     ensures prepared { IfOk result (λ ps. All IsElementPrepared ps.items) }
 {
-    let mut prepared = Vec::new(alloc);
+    let mut prepared = Vec::with_capacity(alloc, elements.len())?;
     for element in elements {
         if let Some(element) = prepare_element(alloc, element)? {
             prepared.push(element)?;

@@ -134,6 +134,9 @@ fn labels_of(alloc: Global, annotations: &[Annotation<'_>]) -> Result<String, Al
     Ok(text)
 }
 
+/// What a colon or a comma with its space takes.
+const LEAD_BYTES: usize = 2;
+
 /// Adds an annotation's label after the others, if it is primary and its label isn't blank.
 fn push_label(
     alloc: Global,
@@ -150,6 +153,7 @@ fn push_label(
     if is_blank(&label) {
         return Ok(());
     }
+    text.reserve(label.len().saturating_add(LEAD_BYTES))?;
     text.push_str(if text.is_empty() { ": " } else { ", " })?;
     text.push_str(label.as_str())
 }

@@ -1,11 +1,11 @@
-use Rattle.std.proofs.Common.{arith, ◌<◌, ◌≤◌, ◌∙◌, ap, sym, subst, string_bytes, length, get_or, set, List, ℕ, All}
-use Rattle.std.proofs.lemmas.List.{get_or_default, set-get_or}
+use Rattle.std.proofs.Common.{arith, ◌-◌, ◌<◌, ◌≤◌, ◌∙◌, ap, sym, subst, string_bytes, length, take, drop, get_or, set, List, [], ◌∷◌, ◌≡◌, ℕ, All}
+use Rattle.std.proofs.lemmas.List.{append_assoc, get_or_default, set-get_or}
 use Rattle.std.proofs.lemmas.Result.{on_ok_weaker, on_err_weaker}
 use Rattle.snippet_grid.proofs.OutcomeLemmas.{on_ok_three}
-use Rattle.snippet_grid.proofs.PieceLemmas.{IsPut-one}
+use Rattle.snippet_grid.proofs.PieceLemmas.{ArePieces-alone, IsPut-one}
 use Rattle.snippet_grid.proofs.RunLemmas.{none}
 use Rattle.snippet_grid.proofs.PutLemmas.{AllFit, AreOrdered, AreApart, fits_all}
-use Rattle.snippet_grid.proofs.StretchLemmas.{stretch}
+use Rattle.snippet_grid.proofs.StretchLemmas.{BeginsWith-same, stretch}
 use Rattle.snippet_grid.proofs.TouchLemmas.{IsPut-added, IsPut-touched, touched_stretch}
 use Rattle.snippet_grid.specs.Runs.{IsRun, Continues, IsClear, Touches, ArePieces, Precedes}
 use Rattle.snippet_grid.specs.declared.runs.Run.{Run}
@@ -51,6 +51,27 @@ returns-then-continues-clause-err c =
     let start = c.first_touched-start.result in
     on_err_weaker c.join.result (λ same. ap (λ (x : Run). set items start x) (same ∙ c.index_mut.ensures.value)
     ∙ set-get_or items start c.index_mut.result.now) c.join.ensures.err
+
+pub returns-then-start-end-clause-ok : goal.returns-then-start-end-clause-ok
+returns-then-start-end-clause-ok c =
+    let text = string_bytes c.args.text.now in
+    let is = c.as_slice-old.ensures.value in
+    let items = c.args.runs.now.items in
+    let run = c.args.run.now in
+    let start = c.first_touched-start.result in
+    let end = c.begun_by-end.result in
+    let high : end ≤ length items = subst (λ (l : List Run). end ≤ length l) is c.begun_by-end.ensures.within in
+    let above : (k : ℕ) (d : Run) → k < start → IsClear (get_or items k d) run = subst
+    (λ (l : List Run). (k : ℕ) (d : Run) → k < start → IsClear (get_or l k d) run) is c.first_touched-start.ensures.before in
+    let below : (k : ℕ) (d : Run) → end ≤ k → k < length items → IsClear run (get_or items k d) = subst
+    (λ (l : List Run). (k : ℕ) (d : Run) → end ≤ k → k < length l → IsClear run (get_or l k d)) is c.begun_by-end.ensures.later in
+    let zero : end - end ≡ 0 = omega arith in
+    let none : stretch items end end ≡ [] = ap (λ (n : ℕ). take n (drop end items)) zero in
+    let are = subst (λ (l : List Run). ArePieces text text l (run ∷ []) run) (sym none) (ArePieces-alone text run c.requires.run) in
+    on_ok_weaker c.insert_clear.result (λ done. IsPut-touched text text items c.insert_clear.new.runs.items (run ∷ []) run end end (omega arith) high
+    (λ k d before. above k d (omega (arith, before, c.if-start-end.true))) (λ k d low within. absurd (omega (arith, low, within))) below
+    c.requires.runs c.requires.ordered c.requires.apart (BeginsWith-same text) are
+    (done ∙ sym (append_assoc (take end items) (run ∷ []) (drop end items)))) c.insert_clear.ensures.ok
 
 pub add_pieces-requires-clause-touched : goal.add_pieces-requires-clause-touched
 add_pieces-requires-clause-touched c =

@@ -16,7 +16,7 @@ loop-patch-init c =
       utf8 = between_utf8 a.source.now a.from;
       counted = none_before a.source.now a.from;
       apart = c.requires.apart;
-      whole = ap (λ ps. map extent_of ps ++ extents_from a.source.now a.from a.from (map trimmed_edit_of a.patches.now)) c.new-places.ensures.items;
+      whole = ap (λ ps. map extent_of ps ++ extents_from a.source.now a.from a.from (map trimmed_edit_of a.patches.now)) c.in_ok-places.ensures.items;
     }
 
 pub loop-patch-preserved : goal.loop-patch-preserved

@@ -93,8 +93,14 @@ cut_wide-requires c =
     record {
       columns = subst (All (λ (e : PlacedEntry). HasPlace e.entry)) (sym ordered)
           (All-permutation (λ (e : PlacedEntry). HasPlace e.entry) placed (painting_order placed) (IsPermutation-painting_order placed) enough.places);
-      count = ap length c.deref-5.ensures.value ∙ c.in_ok-overlapped.ensures.count ∙ ap length c.deref.ensures.value
-          ∙ sym (length_permutation placed (painting_order placed) (IsPermutation-painting_order placed)) ∙ sym (ap length ordered);
+      count = omega (
+        arith,
+        ap length c.deref-5.ensures.value,
+        c.in_ok-overlapped.ensures.count,
+        ap length c.deref.ensures.value,
+        length_permutation placed (painting_order placed) (IsPermutation-painting_order placed),
+        ap length ordered,
+      );
       rows = omega (arith, marked, drawn.marks);
       small = omega (arith, marked, drawn.small);
     }

@@ -18,8 +18,8 @@ returns-in-Text c =
 pub returns-in-Number : goal.returns-in-Number
 returns-in-Number c =
     record {
-      added = rw c.in-Number.is (subst (λ (bs : List ℕ). OnOk c.write.result (string_bytes c.write.new.self ≡ string_bytes c.args.out.now ++ bs))
-          (woven-number c.args.sheet.now c.args.begun c.in-Number.number) c.write.ensures.bytes);
+      added = rw c.in-Number.is (subst (λ (bs : List ℕ). OnOk c.write_number.result (string_bytes c.write_number.new.out ≡ string_bytes c.args.out.now ++ bs))
+          (woven-number c.args.sheet.now c.args.begun c.in-Number.number) c.write_number.ensures.added);
     }
 
 pub returns-in-Spaces : goal.returns-in-Spaces

@@ -6,10 +6,9 @@ use Rattle.snippet_titles.proofs.origin.draw_origin.Goals as goal
 pub returns : goal.returns
 returns c =
     record {
-      row = on_ok_weaker c.append-2.result
-          (λ writes. origin_row-begun c.args.buffer.now c.begin_file_row.new.buffer c.append.new.self c.append-2.new.self c.in_ok-row.row
-          c.as_str.result.now c.as_str-2.result.now c.args.path.now c.args.layout c.args.start c.args.place
-          c.in_ok-row.ensures.row c.in_ok-row.ensures.added (ap chars c.as_str.ensures.value ∙ c.in_ok-path.ensures.value)
-          (c.as_str-2.ensures.value ∙ c.in_ok-place.ensures.value) (c.in_ok-append.ensures.ok, c.append.ensures.empty)
-          (writes, c.append-2.ensures.empty)) c.append-2.ensures.ok;
+      row = on_ok_weaker c.append.result
+          (λ writes. origin_row-begun c.args.buffer.now c.begin_file_row.new.buffer c.append.new.self c.in_ok-row.row
+          c.as_str.result.now c.args.path.now c.args.layout c.args.start c.args.place
+          c.in_ok-row.ensures.row c.in_ok-row.ensures.added (ap chars c.as_str.ensures.value ∙ c.in_ok-text.ensures.value)
+          (writes, c.append.ensures.empty)) c.append.ensures.ok;
     }

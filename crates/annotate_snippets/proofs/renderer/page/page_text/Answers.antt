@@ -15,16 +15,18 @@ pub loop-i-init : goal.loop-i-init
 loop-i-init c =
     record {
       sheet = c.new-codes.ensures.sheet;
+      empty = c.new-buffer.ensures.empty;
       printed = printed_none c.args.renderer.now c.args.groups.now c.args.sheet.now (string_bytes c.new-text.result) c.new-text.ensures.bytes;
     }
 
-pub draw_at-requires : goal.draw_at-requires
-draw_at-requires c =
+pub draw_in-requires : goal.draw_in-requires
+draw_in-requires c =
     let turn = YieldsList-turn (YieldsList-from_enumerate (YieldsList-from_vec c.in_ok-prepared.prepared.items (cc) (cc))
     (cc)) c.loop-i.yielded c.loop-i.i-iterator c.loop-i.yielded_by c.next.result c.next.new.self
     (c.in-Some.i, c.in-Some.group) c.in-Some.is c.next.ensures.steps in
     let same : map group_of c.deref.result.now ≡ c.args.groups.now = ap (map group_of) c.deref.ensures.value ∙ c.in_ok-prepared.ensures.groups in
     record {
+      empty = c.loop-i.invariant.empty;
       drawable = c.requires.drawable;
       prepared = turn_prepared c.in_ok-prepared.prepared.items (length c.loop-i.yielded) c.in-Some.i c.in-Some.group c.in_ok-prepared.ensures.prepared turn;
       here = turn_group c.args.groups.now c.in_ok-prepared.prepared.items (length c.loop-i.yielded) c.in-Some.i c.in-Some.group
@@ -51,6 +53,7 @@ loop-i-preserved c =
     (string_bytes c.in_ok-text.text)) c.loop-i.invariant.sheet c.in_ok-text.ensures.added in
     record {
       sheet = c.text_with.ensures.sheet ∙ c.loop-i.invariant.sheet;
+      empty = c.emptied-buffer.ensures.empty;
       printed = printed_more r groups (length c.loop-i.yielded) _ c.in_ok-grid.grid (c.in-Some.i == 0) sheet (string_bytes c.loop-i.text)
           (string_bytes c.in_ok-text.text) before (ap (λ k. k == 0) at) added so_far;
     }

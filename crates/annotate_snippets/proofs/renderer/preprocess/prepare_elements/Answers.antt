@@ -12,8 +12,8 @@ use Rattle.annotate_snippets.proofs.renderer.preprocess.prepare_elements.Goals.{
 
 pub loop-element-init : goal.loop-element-init
 loop-element-init c =
-    let none = c.new-prepared.ensures.items in
-    record { elements = ap (map element_of) none; prepared = All-same IsElementPrepared c.new-prepared.result.items [] none (All-nil IsElementPrepared) }
+    let none = c.in_ok-prepared.ensures.items in
+    record { elements = ap (map element_of) none; prepared = All-same IsElementPrepared c.in_ok-prepared.prepared.items [] none (All-nil IsElementPrepared) }
 
 pub prepare_element-requires : goal.prepare_element-requires
 prepare_element-requires c =
@@ -27,22 +27,22 @@ loop-element-preserved c =
     let es = c.args.elements.now in
     let e = c.element-item.result in
     let before = c.loop-element.prepared.items in
-    elim c.match-branch-2.branch [
+    elim c.match-branch-3.branch [
       | in-Some+in_ok-push w ↦
           let p = w.in-Some.element in
-          let items : c.match-branch-2.prepared.items ≡ before ++ p ∷ [] = ap (λ (v : Vec PreparedElement Global). v.items) w.prepared-is
+          let items : c.match-branch-3.prepared.items ≡ before ++ p ∷ [] = ap (λ (v : Vec PreparedElement Global). v.items) w.prepared-is
           ∙ w.in_ok-push.ensures.items in
           let drawn = subst (λ (q : Option PreparedElement). option_map element_of q
           ≡ cond (is_drawn e) (Some e) None) w.in-Some.is c.in_ok-element.ensures.drawn in
           let prepared = subst (λ (q : Option PreparedElement). IfSome q IsElementPrepared) w.in-Some.is c.in_ok-element.ensures.prepared in
-          AreDrawnPrepared-push es c.loop-element.element-index e before c.match-branch-2.prepared.items
+          AreDrawnPrepared-push es c.loop-element.element-index e before c.match-branch-3.prepared.items
           (Some p) items c.loop-element-test.true c.element-item.is drawn prepared c.loop-element.invariant
       | in_default w ↦
-          let items : c.match-branch-2.prepared.items ≡ before ++ [] = ap (λ (v : Vec PreparedElement Global). v.items) w.prepared-is
+          let items : c.match-branch-3.prepared.items ≡ before ++ [] = ap (λ (v : Vec PreparedElement Global). v.items) w.prepared-is
           ∙ sym (append-nil before) in
           let drawn = subst (λ (q : Option PreparedElement). option_map element_of q
           ≡ cond (is_drawn e) (Some e) None) w.in_default.is c.in_ok-element.ensures.drawn in
-          AreDrawnPrepared-push es c.loop-element.element-index e before c.match-branch-2.prepared.items None items c.loop-element-test.true c.element-item.is
+          AreDrawnPrepared-push es c.loop-element.element-index e before c.match-branch-3.prepared.items None items c.loop-element-test.true c.element-item.is
           drawn tt c.loop-element.invariant
     ]
 

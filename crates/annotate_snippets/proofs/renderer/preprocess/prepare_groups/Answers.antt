@@ -9,8 +9,8 @@ use Rattle.annotate_snippets.proofs.renderer.preprocess.prepare_groups.Goals as 
 
 pub loop-group-init : goal.loop-group-init
 loop-group-init c =
-    let none = c.new-prepared.ensures.items in
-    record { groups = ap (map group_of) none; prepared = All-same IsGroupPrepared c.new-prepared.result.items [] none (All-nil IsGroupPrepared) }
+    let none = c.in_ok-prepared.ensures.items in
+    record { groups = ap (map group_of) none; prepared = All-same IsGroupPrepared c.in_ok-prepared.prepared.items [] none (All-nil IsGroupPrepared) }
 
 pub prepare_elements-requires : goal.prepare_elements-requires
 prepare_elements-requires c =

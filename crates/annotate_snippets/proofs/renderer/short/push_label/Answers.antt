@@ -35,9 +35,9 @@ returns c =
     record {
       added = λ labels are. on_added c.push_str-2.result (string_bytes c.push_str-2.new.self)
           _ _ c.push_str-2.ensures.bytes
-          (λ added. joined_labels-added labels (string_bytes c.args.text.now) (string_bytes c.push_str.new.self) (string_bytes c.push_str-2.new.self)
-          (cow_str_bytes c.in_ok-label.label) c.is_empty.result (IsUtf8-string_bytes c.args.text.now)
-          are (c.is_empty.ensures ∙ ap (λ n. n == 0) c.args.text.now.bytes.ok.0)
-          (c.in_ok-push_str.ensures.bytes ∙ ap (λ bs. string_bytes c.args.text.now ++ bs) led)
+          (λ added. joined_labels-added labels (string_bytes c.reserve.new.self) (string_bytes c.push_str.new.self) (string_bytes c.push_str-2.new.self)
+          (cow_str_bytes c.in_ok-label.label) c.is_empty.result (IsUtf8-string_bytes c.reserve.new.self)
+          (ap chars c.reserve.ensures.bytes ∙ are) (c.is_empty.ensures ∙ ap (λ n. n == 0) c.reserve.new.self.bytes.ok.0)
+          (c.in_ok-push_str.ensures.bytes ∙ ap (λ bs. string_bytes c.reserve.new.self ++ bs) led)
           (added ∙ ap (λ bs. string_bytes c.push_str.new.self ++ bs) c.as_str-2.ensures.value) ∙ ap (λ ls. joined_labels (labels ++ ls)) (sym one));
     }

@@ -5,7 +5,7 @@ use Rattle.annotate_snippets.specs.Around.{primary_path}
 use Rattle.annotate_snippets.specs.DrawnReport.{IsGridAt, IsGroupGrid}
 use Rattle.annotate_snippets.specs.Gutter.{layout_of_group}
 use Rattle.annotate_snippets.proofs.GridRows.{copied_or, grid_at, layout_is, room_at}
-use Rattle.annotate_snippets.proofs.renderer.graphic.draw_at.Goals as goal
+use Rattle.annotate_snippets.proofs.renderer.graphic.draw_in.Goals as goal
 
 pub draw_group-requires-clause-room : goal.draw_group-requires-clause-room
 draw_group-requires-clause-room c =

@@ -2,7 +2,7 @@ use Rattle.std.proofs.Common.{◌+◌, replicate}
 use Rattle.snippet_style.specs.Cell.{SPACE, written}
 use Rattle.snippet_strokes.specs.Bars.{bar_cell_part}
 use Rattle.snippet_strokes.proofs.BarRows.{ChangesRows}
-use Rattle.snippet_strokes.proofs.bars.draw_side.Given as goal
+use Rattle.snippet_strokes.proofs.bars.draw_parts.Given as goal
 
 -- the bars are drawn down to this row
 abbrev pub invariant-loop-r : goal.invariant-loop-r

@@ -4,7 +4,7 @@ use Rattle.std.proofs.lemmas.Str.{IsUtf8-string_bytes}
 use Rattle.std.specs.List.{repeat}
 use Rattle.std.specs.Str.{chars}
 use Rattle.snippet_strokes.proofs.LineLemmas.{chars-repeat}
-use Rattle.snippet_strokes.proofs.lines.repeated.Goals as goal
+use Rattle.snippet_strokes.proofs.lines.made.Goals as goal
 
 pub returns : goal.returns
 returns c =
