@@ -53,7 +53,7 @@ is_named name home f = bytes_eq (string_bytes f.name) name && bytes_eq (string_b
 
 -- what a file holds, where it was read
 abbrev pub held : File → Option (List ℕ)
-held f = option_map (λ (s : Source). string_bytes s.text) f.source
+held f = option_map (λ (s : Source). s.lines) f.source
 
 -- what the file of this name holds, where it was read
 abbrev pub text_of : List File → List ℕ → List ℕ → Option (List ℕ)
@@ -61,5 +61,5 @@ text_of files name home = option_and_then held (find (is_named name home) files)
 
 -- the lines that were chosen for a part of a file
 abbrev pub chosen : extract_type.Extract → Extract
-chosen (Whole source) = whole (string_bytes source.now.text)
+chosen (Whole source) = whole source.now.lines
 chosen (Part lines) = carried_lines lines.now

@@ -25,6 +25,7 @@ use Rattle.redraw_report.specs.Region.{IsLocated, end_place, line_starts, start_
 use Rattle.snippet_places.specs.declared.clamp.SpanAt.{SpanAt}
 use Rattle.redraw_report.specs.Report.{edited_of, lent}
 use Rattle.redraw_report.specs.SameSource.{same_source}
+use Rattle.redraw_report.specs.ShownText.{shown_text}
 use Rattle.redraw_report.specs.View.{Edited}
 use Rattle.redraw_read.specs.Extract.{Extract, lines_for, text_of}
 use Rattle.redraw_read.specs.declared.hand.Hand.{Hand}
@@ -52,7 +53,7 @@ pub data Sight : Type 0 where
   Blank : (line column : ℕ) → Sight
 
 abbrev pub sight_of : Content → Sight
-sight_of (content.Lines text first_line) = Lines text.now first_line
+sight_of (content.Lines text first_line) = Lines (shown_text text) first_line
 sight_of (content.Nothing line column) = Nothing line column
 sight_of (content.Blank line column) = Blank line column
 
@@ -209,7 +210,8 @@ pub record IsAttributeIn (text : List ℕ) (number : ℕ) (s : Spot) (e : Edit) 
 
 -- the same in what is shown there of a region
 abbrev pub IsAttributeAt : Content → Region → Spot → Edit → Offer → Type 0
-IsAttributeAt (content.Lines text first) (region.Lines r) s e o = (is_attribute (string_bytes e.replacement) ≡ true) × IsAttributeIn text.now r.start_line s e o
+IsAttributeAt (content.Lines text first) (region.Lines r) s e o =
+    (is_attribute (string_bytes e.replacement) ≡ true) × IsAttributeIn (shown_text text) r.start_line s e o
 IsAttributeAt (content.Lines text first) (region.Bytes start end) s e o = ⊥
 IsAttributeAt (content.Lines text first) (region.Chars start end unit) s e o = ⊥
 IsAttributeAt (content.Nothing line column) r s e o = ⊥
@@ -226,7 +228,7 @@ IsAttributeOffer (s ∷ t ∷ ss) edits o = ⊥
 -- an edit of this text is an attribute that is to stand above a line of what is shown there of a region: nothing but blanks stands
 -- before it in that line
 abbrev pub IsAboveLine : Content → Region → ℕ → List ℕ → Type 0
-IsAboveLine (content.Lines text first) (region.Lines r) at replacement = (is_attribute replacement ≡ true) × IsAlone text.now at
+IsAboveLine (content.Lines text first) (region.Lines r) at replacement = (is_attribute replacement ≡ true) × IsAlone (shown_text text) at
 IsAboveLine (content.Lines text first) (region.Bytes start end) at replacement = ⊥
 IsAboveLine (content.Lines text first) (region.Chars start end unit) at replacement = ⊥
 IsAboveLine (content.Nothing line column) r at replacement = ⊥

@@ -1,6 +1,6 @@
 //! What is at hand to show a part of a file in: the file, or lines that the input has of it.
 
-ghost use Rattle.std.specs.Prelude.{◌≡◌, Some, string_bytes};
+ghost use Rattle.std.specs.Prelude.{◌≡◌, Some};
 ghost use Rattle.std.specs.Option.{option_map};
 ghost use Rattle.redraw_read.specs.Extract as spec;
 ghost use Rattle.redraw_read.specs.Extract.{chosen, text_of};
@@ -50,7 +50,7 @@ pub fn lines_for<'a>(
 /// The file, where it has these lines of it; else the lines. Parts of lines may be other than the file's: it counts
 /// more than they.
 fn choice_of<'a>(source: &'a Source, lines: &'a Carried) -> Extract<'a>
-    ensures value { Some (chosen result) ≡ spec.lines_for (Some (string_bytes source.now.text)) (Some lines.now) }
+    ensures value { Some (chosen result) ≡ spec.lines_for (Some source.now.lines) (Some lines.now) }
 {
     if !lines.is_whole || has_lines(source, lines.first_line, lines.text.as_str()) {
         Extract::Whole(source)
@@ -61,7 +61,7 @@ fn choice_of<'a>(source: &'a Source, lines: &'a Carried) -> Extract<'a>
 
 /// What the file of this name holds, where it was read.
 fn source_of<'a>(hand: Hand<'a>, name: &str) -> Option<&'a Source>
-    ensures value { option_map (λ source. string_bytes source.now.text) result
+    ensures value { option_map (λ source. source.now.lines) result
         ≡ text_of hand.entry.files.now name.now hand.entry.home.now }
 {
     for file in hand.files {

@@ -1,6 +1,6 @@
 //! Whether a source has given lines.
 
-ghost use Rattle.std.specs.Prelude.{◌≡◌, ◌==◌, drop, string_bytes};
+ghost use Rattle.std.specs.Prelude.{◌≡◌, ◌==◌, drop};
 ghost use Rattle.std.specs.List.{slice_split};
 ghost use Rattle.std.specs.Str.{bytes_eq};
 ghost use Rattle.redraw_read.specs.Extract as spec;
@@ -13,14 +13,14 @@ use redraw_report::lines::first_line;
 
 /// Whether a source has these lines, from the one of this number on.
 pub fn has_lines(source: &Source, first_line: usize, lines: &str) -> bool
-    ensures value { result ≡ spec.has_lines (string_bytes source.now.text) first_line lines.now }
+    ensures value { result ≡ spec.has_lines source.now.lines first_line lines.now }
 {
     if first_line == 0 {
         return false;
     }
     let starts = source.starts.as_slice();
     let before = (first_line - 1).min(starts.len());
-    starts_lines(source.text.as_str(), &starts[before..], lines)
+    starts_lines(source.text(), &starts[before..], lines)
 }
 
 /// Whether these are the lines of a text that start at these bytes of it.

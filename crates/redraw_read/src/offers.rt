@@ -16,6 +16,7 @@ use crate::spot::{Placing, Spot, counted};
 use crate::words::{begins_with, finishes_with};
 use redraw_report::diagnostic::{Edit, Region};
 use redraw_report::finding::{Change, Content, Offer, Shown, is_same};
+use redraw_report::shown_text::ShownText;
 use std::alloc::{AllocError, Global};
 
 /// The offers of some alternatives.
@@ -233,7 +234,7 @@ fn attribute_at<'a>(
 {
     match (spot.source.content, edit.region) {
         (Content::Lines { text, .. }, Region::Lines(region)) => {
-            attribute_if(alloc, text, region.start_line, spot, edit)
+            attribute_if(alloc, text.as_str(), region.start_line, spot, edit)
         }
         _ => Ok(None),
     }
@@ -321,6 +322,7 @@ fn line_offer<'a>(
     ensures changes { result.changes ≡ changes.entry }
     ensures unfolded { result.is_folded ≡ false }
 {
+    let text = ShownText::Text(text);
     let content = Content::Lines { text, first_line };
     Offer {
         source: Shown { path, content },

@@ -49,7 +49,7 @@ impl File {
 
     /// What it holds, where it was read.
     pub fn source(&self) -> Option<&Source>
-        ensures value { option_map (λ source. string_bytes source.now.text) result ≡ held self.now }
+        ensures value { option_map (λ source. source.now.lines) result ≡ held self.now }
     {
         self.source.as_ref()
     }

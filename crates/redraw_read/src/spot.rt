@@ -4,6 +4,7 @@ ghost use Rattle.std.specs.Prelude.{◌≡◌, IfOk, string_bytes};
 ghost use Rattle.redraw_read.specs.Extract.{chosen};
 ghost use Rattle.redraw_read.specs.Placed as spec;
 ghost use Rattle.redraw_report.specs.Region.{line_starts as starts_of};
+ghost use Rattle.redraw_report.specs.ShownText.{shown_text};
 ghost use Rattle.redraw_read.specs.Placed.{IsSpot, Lines, at_hand, sight_in, sight_of};
 
 use crate::hand::{Extract, Hand, lines_for};
@@ -12,6 +13,7 @@ use redraw_report::diagnostic::{Carried, Region};
 use redraw_report::finding::{Content, Shown};
 use redraw_report::lines::line_starts;
 use redraw_report::locate::{Lookup, locate};
+use redraw_report::shown_text::ShownText;
 use std::alloc::{AllocError, Global};
 
 /// A source and a part of it.
@@ -69,9 +71,9 @@ impl Placing {
 
     /// Where a region of a file is.
     fn spot_in_file<'a>(&mut self, path: &'a str, source: &'a Source, region: Region) -> Spot<'a>
-        ensures is { IsSpot path.now (Lines (string_bytes source.now.text) 1) region result }
+        ensures is { IsSpot path.now (Lines source.now.lines 1) region result }
     {
-        let text = source.text.as_str();
+        let text = ShownText::Lines(&source.lines);
         self.spot_in_text(path, text, &source.starts, 1, region)
     }
 
@@ -86,6 +88,7 @@ impl Placing {
     {
         let text = lines.text.as_str();
         let starts = line_starts(self.alloc, text)?;
+        let text = ShownText::Text(text);
         Ok(self.spot_in_text(path, text, &starts, lines.first_line, region))
     }
 
@@ -93,16 +96,16 @@ impl Placing {
     fn spot_in_text<'a>(
         &mut self,
         path: &'a str,
-        text: &'a str,
+        text: ShownText<'a>,
         starts: &[usize],
         first_line: usize,
         region: Region,
     ) -> Spot<'a>
-        requires lined { starts.now ≡ starts_of text.now }
-        ensures is { IsSpot path.now (Lines text.now first_line) region result }
+        requires lined { starts.now ≡ starts_of (shown_text text) }
+        ensures is { IsSpot path.now (Lines (shown_text text.entry) first_line) region result }
     {
         let lookup = Lookup {
-            text,
+            text: text.as_str(),
             starts,
             first_line,
         };

@@ -1,6 +1,6 @@
 -- What is drawn of one place: its source is the only one, and the place is in it.
-use Rattle.std.proofs.Common.{◌≡◌, ℕ, ◌==◌, ◌&&◌, ◌||◌, ◌<◌, ◌≤◌, Bool, true, false, not, nat_eq, List, [], ◌∷◌, ◌++◌, Option, Some, None, get_or, length}
-use Rattle.std.proofs.Common.{ap, arith, refl, sym, append-nil, ◌∙◌, if◌then◌else◌}
+use Rattle.std.proofs.Common.{◌≡◌, ℕ, ◌==◌, ◌&&◌, ◌||◌, ◌<◌, ◌≤◌, Bool, true, false, not, nat_eq, List, [], ◌∷◌, Option, Some, None, get_or, length}
+use Rattle.std.proofs.Common.{ap, arith, refl, append-nil, ◌∙◌, if◌then◌else◌}
 use Rattle.std.specs.List.{flat_map}
 use Rattle.std.specs.Option.{option_eq}
 use Rattle.std.specs.Str.{bytes_eq}
@@ -12,6 +12,7 @@ use Rattle.redraw_report.specs.declared.finding.Mark.{Mark}
 use Rattle.redraw_report.specs.declared.finding.Shown.{Shown}
 use Rattle.redraw_report.specs.Report.{content_parts, marked_parts, marks_in, source_parts, sources_of, with_shown}
 use Rattle.redraw_report.specs.SameSource.{same_content, same_source}
+use Rattle.redraw_report.specs.ShownText.{shown_text}
 
 both : (a b : Bool) → a ≡ true → b ≡ true → (a && b) ≡ true
 both true b p q = q
@@ -28,7 +29,7 @@ same_text : (text : List ℕ) → bytes_eq text text ≡ true
 same_text text = (bytes_eq-Decides text text).1 refl
 
 itself_shown : (c : Content) → same_content c c ≡ true
-itself_shown (Lines text first) = both (first == first) (bytes_eq text.now text.now) (same_number first) (same_text text.now)
+itself_shown (Lines text first) = both (first == first) (bytes_eq (shown_text text) (shown_text text)) (same_number first) (same_text (shown_text text))
 itself_shown (Nothing line column) = both (option_eq nat_eq line line) (option_eq nat_eq column column) (same_option line) (same_option column)
 itself_shown (Blank line column) = both (line == line) (column == column) (same_number line) (same_number column)
 

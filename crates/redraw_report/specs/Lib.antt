@@ -2,4 +2,5 @@
 pub mod Region
 pub mod Report
 pub mod SameSource
+pub mod ShownText
 pub mod View

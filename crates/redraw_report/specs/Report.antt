@@ -22,6 +22,7 @@ use Rattle.redraw_report.specs.declared.finding.Offer.{Offer}
 use Rattle.redraw_report.specs.declared.finding.Remark.{Remark}
 use Rattle.redraw_report.specs.declared.finding.Shown.{Shown}
 use Rattle.redraw_report.specs.SameSource.{same_source}
+use Rattle.redraw_report.specs.ShownText.{shown_text}
 use Rattle.redraw_report.specs.View.{Edited, Edits, Gap, Headed, Lines, Marked, Marks, Named, Names, Part, Says, Section}
 
 -- the level of a severity: the standard one, and that of a note, but without its name, for a plain text
@@ -78,7 +79,7 @@ blanks_before column = repeat (column - 1) (codes " ")
 -- blanks with the marks
 abbrev pub content_parts : List Mark → Shown → Content → List Part
 content_parts within source (content.Lines text first_line) =
-    Marks (lines_of source.path.now text.now first_line true) (map marked_of within) ∷ []
+    Marks (lines_of source.path.now (shown_text text) first_line true) (map marked_of within) ∷ []
 content_parts within source (content.Blank line column) =
     Marks (lines_of source.path.now (blanks_before column) line true) (map marked_of within) ∷ []
 content_parts within source (content.Nothing line column) = Names source.path.now line column ∷ flat_map said_of within
@@ -115,7 +116,7 @@ edited_of c = record { start = c.start; end = c.end; text = c.text.now }
 -- an offer: the lines of its source with all of its edits; nothing where the source has no lines
 abbrev pub edits_on : Offer → Content → List Part
 edits_on offer (content.Lines text first_line) =
-    Edits (lines_of offer.source.path.now text.now first_line offer.is_folded) (map edited_of offer.changes.items) ∷ []
+    Edits (lines_of offer.source.path.now (shown_text text) first_line offer.is_folded) (map edited_of offer.changes.items) ∷ []
 edits_on offer (content.Nothing line column) = []
 edits_on offer (content.Blank line column) = []
 

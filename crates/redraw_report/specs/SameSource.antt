@@ -5,10 +5,11 @@ use Rattle.std.specs.Str.{bytes_eq}
 use Rattle.redraw_report.specs.declared.finding.Content.{Content}
 use Rattle.redraw_report.specs.declared.finding.Content.TheVariants.{Lines, Nothing, Blank}
 use Rattle.redraw_report.specs.declared.finding.Shown.{Shown}
+use Rattle.redraw_report.specs.ShownText.{shown_text}
 
 -- whether the same is shown of two files
 abbrev pub same_content : Content → Content → Bool
-same_content (Lines text first) (Lines other_text other_first) = first == other_first && bytes_eq text.now other_text.now
+same_content (Lines text first) (Lines other_text other_first) = first == other_first && bytes_eq (shown_text text) (shown_text other_text)
 same_content (Lines text first) (Nothing line column) = false
 same_content (Lines text first) (Blank line column) = false
 same_content (Nothing line column) (Lines text first) = false

@@ -3,6 +3,7 @@ ghost use Rattle.std.specs.Prelude.{◌≡◌};
 ghost use Rattle.redraw_report.specs.SameSource.{same_content, same_source};
 
 use crate::diagnostic::{Code, Severity};
+use crate::shown_text::ShownText;
 
 /// Text that places are shown in.
 #[derive(Clone, Copy)]
@@ -18,7 +19,7 @@ pub struct Shown<'a> {
 pub enum Content<'a> {
     /// Lines of it, the first of which has this number.
     Lines {
-        text: &'a str,
+        text: ShownText<'a>,
         first_line: usize,
     },
     /// None of it: only the line and column of a place are known, where they are.
@@ -114,7 +115,7 @@ fn holds_same(known: Content<'_>, other: Content<'_>) -> bool
                 text: other_text,
                 first_line: other_line,
             },
-        ) => first_line == other_line && text == other_text,
+        ) => first_line == other_line && text.as_str() == other_text.as_str(),
         (
             Content::Nothing { line, column },
             Content::Nothing {

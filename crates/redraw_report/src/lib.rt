@@ -8,6 +8,7 @@ pub mod locate;
 mod marks;
 mod offers;
 pub mod report;
+pub mod shown_text;
 mod titles;
 
 pub use snippet_places::lines;

@@ -194,8 +194,7 @@ fn add_source<'a>(
 {
     match source.content {
         Content::Lines { text, first_line } => {
-            let text = CowStr::Borrowed(text);
-            add_marked(alloc, elements, source, text, first_line, within)
+            add_marked(alloc, elements, source, text.source(), first_line, within)
         }
         Content::Nothing { line, column } => {
             elements.push(Element::Origin(Origin {
@@ -206,8 +205,8 @@ fn add_source<'a>(
             add_labels(alloc, elements, within)
         }
         Content::Blank { line, column } => {
-            let text = blanks_before(alloc, column)?;
-            add_marked(alloc, elements, source, CowStr::Owned(text), line, within)
+            let text = SourceText::new(CowStr::Owned(blanks_before(alloc, column)?));
+            add_marked(alloc, elements, source, text, line, within)
         }
     }
 }
@@ -224,7 +223,7 @@ fn add_marked<'a>(
     alloc: Global,
     elements: &mut Vec<Element<'a>>,
     source: &Shown<'a>,
-    text: CowStr<'a>,
+    text: SourceText<'a>,
     first_line: usize,
     within: &[Mark<'a>],
 ) -> Result<(), AllocError>
@@ -236,7 +235,7 @@ fn add_marked<'a>(
     elements.push(Element::Cause(Snippet {
         path: Some(CowStr::Borrowed(source.path)),
         line_start: first_line,
-        source: SourceText::new(text),
+        source: text,
         markers,
         line_numbering: true,
         fold: true,

@@ -8,7 +8,7 @@ ghost use Rattle.redraw_report.specs.View.{edited_view, part_view};
 use crate::diagnostic::Severity;
 use crate::finding::{Change, Content, Offer};
 use crate::titles::level_of;
-use snippet_model::{Element, Patch, Snippet, SourceText};
+use snippet_model::{Element, Patch, Snippet};
 use snippet_text::CowStr;
 use std::alloc::{AllocError, Global};
 
@@ -50,7 +50,7 @@ fn add_offer<'a>(
         elements.push(Element::Suggestion(Snippet {
             path: Some(CowStr::Borrowed(offer.source.path)),
             line_start: first_line,
-            source: SourceText::new(CowStr::Borrowed(text)),
+            source: text.source(),
             markers,
             line_numbering: true,
             fold: offer.is_folded,

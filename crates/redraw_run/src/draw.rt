@@ -104,12 +104,7 @@ impl<S: SourceFiles + Drop> Drawing<'_, S> {
     pub fn tell<D: fmt::Display + Drop, V: Write>(&self, what: D, err: &mut V)
         ensures told { Tells (V.contents err.old) (V.contents err.new) }
     {
-        let (input, line) = (self.input, self.line);
-        if line == 0 {
-            tell(self.alloc, format_args!("{input}: {what}"), err);
-        } else {
-            tell(self.alloc, format_args!("{input}:{line}: {what}"), err);
-        }
+        tell_of(self.alloc, self.input, self.line, what, err);
     }
 
     /// Tells where something that begins on this line isn't JSON, and leaves it out.
@@ -299,7 +294,8 @@ impl<S: SourceFiles + Drop> Drawing<'_, S> {
     {
         for name in self.sources.take_unread() {
             let what = "--root names the folder that paths begin in";
-            self.tell(format_args!("can't read {name}: {what}"), err);
+            let told = format_args!("can't read {name}: {what}");
+            tell_of(self.alloc, self.input, self.line, told, err);
         }
     }
 
@@ -324,7 +320,8 @@ impl<S: SourceFiles + Drop> Drawing<'_, S> {
         ensures one { TellsUnless (count == 0) (V.contents err.old) (V.contents err.new) }
     {
         if count > 0 {
-            self.tell(format_args!("{what}: {count}"), err);
+            let told = format_args!("{what}: {count}");
+            tell_of(self.alloc, self.input, self.line, told, err);
         }
     }
 
@@ -409,6 +406,23 @@ impl<S: SourceFiles + Drop> Drawing<'_, S> {
         self.tally = self.tally.with(diagnostic.severity, is_sum(diagnostic));
         self.tally.files = self.files.len();
         Ok(())
+    }
+}
+
+/// Tells something of an input's line, or of the input where the line is 0.
+fn tell_of<D: fmt::Display + Drop, V: Write>(
+    alloc: Global,
+    input: &str,
+    line: u64,
+    what: D,
+    err: &mut V,
+)
+    ensures told { Tells (V.contents err.old) (V.contents err.new) }
+{
+    if line == 0 {
+        tell(alloc, format_args!("{input}: {what}"), err);
+    } else {
+        tell(alloc, format_args!("{input}:{line}: {what}"), err);
     }
 }
 

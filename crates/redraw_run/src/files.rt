@@ -8,15 +8,15 @@ use std::rt::Files;
 
 /// The files below a folder, or below the one that the program runs in.
 #[derive(Drop)]
-pub struct FilesUnder<'r, 'w, R> {
-    pub rt: &'r R,
+pub struct FilesUnder<'w, R> {
+    pub rt: &'w R,
     /// The folder, where one is given.
     pub root: Option<&'w str>,
     /// Whether any file elsewhere is as one that isn't there.
     pub is_confined: bool,
 }
 
-impl<R: Files + AllocGlobal> SourceFiles for FilesUnder<'_, '_, R> {
+impl<R: Files + AllocGlobal> SourceFiles for FilesUnder<'_, R> {
     fn bytes(&self, name: &str) -> Result<Option<Vec<u8>>, AllocError> {
         match self.root {
             Some(root) if !name.starts_with('/') => {
@@ -28,7 +28,7 @@ impl<R: Files + AllocGlobal> SourceFiles for FilesUnder<'_, '_, R> {
     }
 }
 
-impl<R: Files + AllocGlobal> FilesUnder<'_, '_, R> {
+impl<R: Files + AllocGlobal> FilesUnder<'_, R> {
     /// The bytes of a file by its path; `None` where it can't be read, or may not be.
     fn read(&self, path: &str) -> Option<Vec<u8>> {
         if self.is_confined {

@@ -6,7 +6,7 @@ pub loop-name-init : goal.loop-name-init
 loop-name-init g c = tells_none _
 
 pub loop-name-preserved : goal.loop-name-preserved
-loop-name-preserved g c = tells_then c.loop-name.invariant (tells_one c.tell.ensures.told)
+loop-name-preserved g c = tells_then c.loop-name.invariant (tells_one c.tell_of.ensures.told)
 
 pub returns-clause-does : goal.returns-clause-does
 returns-clause-does g c = λ out. does_tell_all c.loop-name.invariant refl refl refl refl
