@@ -10,3 +10,4 @@ pub mod NotRead
 pub mod NotRefused
 pub mod NotRun
 pub mod Refusing
+pub mod Telling

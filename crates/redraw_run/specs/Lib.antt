@@ -5,3 +5,4 @@ pub mod Inputs
 pub mod ReadLines
 pub mod ReportLook
 pub mod Run
+pub mod Telling

@@ -1,7 +1,9 @@
 //! The text that is drawn of a diagnostic.
-ghost use Rattle.std.specs.Prelude.{IfErr, IfOk, string_bytes};
+ghost use Rattle.std.specs.Prelude.{◌≡◌, IfErr, IfOk, string_bytes};
 ghost use Rattle.annotate_snippets.specs.FormLaws.{HasLaws};
 ghost use Rattle.annotate_snippets.specs.Forms.{ShowsReport};
+ghost use Rattle.redraw_read.specs.Counted.{capped, clamped_in, undrawn_in};
+ghost use Rattle.redraw_read.specs.Placed.{hand_for};
 ghost use Rattle.redraw_run.specs.DrawnFinding.{IsRefusalOf, IsUndrawn, ShowsFinding};
 
 use annotate_snippets::renderer::RenderError;
@@ -20,7 +22,7 @@ pub struct Drawn {
     pub text: Result<String, RenderError>,
     /// How many places aren't in their source.
     pub clamped: u64,
-    /// How many edits aren't drawn.
+    /// How many alternatives aren't drawn.
     pub undrawn: u64,
 }
 
@@ -35,6 +37,10 @@ pub fn drawn_of<S: SourceFiles + Drop>(
         ShowsFinding renderer.now sources.now.files.items diagnostic.now (string_bytes text))) }
     ensures refused { IfOk result (λ drawn. IfErr drawn.text
         (IsUndrawn renderer.now sources.now.files.items diagnostic.now)) }
+    ensures clamped { IfOk result (λ drawn. drawn.clamped ≡ capped
+        (clamped_in (hand_for sources.now.files.items renderer.now.short_message diagnostic.now) diagnostic.now)) }
+    ensures undrawn { IfOk result (λ drawn. drawn.undrawn ≡ capped
+        (undrawn_in (hand_for sources.now.files.items renderer.now.short_message diagnostic.now) diagnostic.now)) }
 {
     let mut placing = Placing::new(alloc);
     let finding = placing.finding(sources, diagnostic, renderer.short_message)?;
