@@ -1,6 +1,8 @@
 pub mod After
 pub mod AllNext
+pub mod Counting
 pub mod Loading
+pub mod NotCounted
 pub mod NotLoaded
 pub mod Offered
 mod Rows

@@ -46,6 +46,10 @@ abbrev pub home_of : List (String Global) → List ℕ
 home_of [] = []
 home_of (home ∷ homes) = string_bytes home
 
+-- what is at hand for the finding that a diagnostic reports
+abbrev pub hand_for : List File → Bool → Diagnostic → AtHand
+hand_for files is_short d = record { files = files; home = home_of d.homes.items; is_short = is_short }
+
 -- what is shown of a part of a file: lines; its line and column alone; or blanks up to its column
 pub data Sight : Type 0 where
   Lines : (text : List ℕ) (first_line : ℕ) → Sight

@@ -1,11 +1,13 @@
 //! The suggestions that alternatives become: the edits of one are made together, in one source, or it isn't drawn.
 
 ghost use Rattle.std.specs.Prelude.{◌≡◌, ◌+◌, ◌≤◌, ◌++◌, ◌∷◌, [], Some, None, true, false, if◌then◌else◌, ◌&&◌};
-ghost use Rattle.std.specs.Prelude.{IfOk, IfSome, IsTrue, OnOk, length, map, string_bytes, take};
+ghost use Rattle.std.specs.Prelude.{IfOk, IfSome, IsTrue, OnOk, is_some, length, map, not, string_bytes, take};
 ghost use Rattle.std.specs.List.{AllZip, filter_map, slice_range};
 ghost use Rattle.std.specs.Str.{IsCharBoundary, trim};
 ghost use Rattle.std.specs.Option.{option_map};
 ghost use Rattle.redraw_report.specs.Report.{edited_of};
+ghost use Rattle.redraw_read.specs.Counted.{adds, clamped_alternatives, clamped_edits, is_clamped, is_drawn, ones};
+ghost use Rattle.redraw_read.specs.Counted.{sight_of_edit, undrawn_alternatives};
 ghost use Rattle.redraw_read.specs.Placed as spec;
 ghost use Rattle.redraw_read.specs.Placed.{AreOffersOf, IsOfferAt, IsOfferOf, IsSpotOf, at_hand, edit_at, edits_at};
 ghost use Rattle.redraw_read.specs.Placed.{IsAttributeAt, IsAttributeIn, IsAttributeOffer, IsLastStart, IsLineIn};
@@ -26,6 +28,9 @@ pub fn offers_of<'a>(
     alternatives: &'a Vec<Vec<Edit>>,
 ) -> Result<Vec<Offer<'a>>, AllocError>
     ensures are { IfOk result (λ offers. AreOffersOf (at_hand hand.entry) alternatives.now.items offers.items) }
+    ensures counted { OnOk result (placing.new
+        ≡ adds placing.old (clamped_alternatives (at_hand hand.entry) alternatives.now.items)
+        (undrawn_alternatives (at_hand hand.entry) alternatives.now.items)) }
 {
     let mut offers = Vec::new(placing.alloc);
     for edits in alternatives {
@@ -52,6 +57,9 @@ fn offer_of<'a>(
     edits: &'a Vec<Edit>,
 ) -> Result<Option<Offer<'a>>, AllocError>
     ensures is { IfOk result (IsOfferOf (at_hand hand.entry) edits.now.items) }
+    ensures counted { OnOk result (placing.new
+        ≡ adds placing.old (clamped_edits (at_hand hand.entry) edits.now.items)
+        (ones (not (is_drawn (at_hand hand.entry) edits.now.items)))) }
 {
     let spots = spots_of(placing, hand, edits)?;
     let offer = offer_by(placing.alloc, &spots, edits)?;
@@ -66,6 +74,8 @@ fn spots_of<'a>(
     edits: &'a Vec<Edit>,
 ) -> Result<Vec<Spot<'a>>, AllocError>
     ensures are { IfOk result (λ spots. AllZip (IsSpotOf (at_hand hand.entry)) edits.now.items spots.items) }
+    ensures counted { OnOk result
+        (placing.new ≡ adds placing.old (clamped_edits (at_hand hand.entry) edits.now.items) 0) }
 {
     let mut spots = Vec::new(placing.alloc);
     for edit in edits {
@@ -81,6 +91,8 @@ fn spot_of<'a>(
     edit: &'a Edit,
 ) -> Result<Spot<'a>, AllocError>
     ensures is { IfOk result (IsSpotOf (at_hand hand.entry) edit.now) }
+    ensures counted { OnOk result (placing.new
+        ≡ adds placing.old (ones (is_clamped (sight_of_edit (at_hand hand.entry) edit.now) edit.now.region)) 0) }
 {
     placing.spot(hand, &edit.file, edit.region, &edit.carried)
 }
@@ -92,6 +104,7 @@ fn offer_by<'a>(
     edits: &'a [Edit],
 ) -> Result<Option<Offer<'a>>, AllocError>
     ensures is { IfOk result (IsOfferAt spots.now edits.now) }
+    ensures drawn { IfOk result (λ offer. is_some offer ≡ is_some (spec.one_source spots.now)) }
 {
     match attribute_of(alloc, spots, edits)? {
         Some(offer) => Ok(Some(offer)),

@@ -1,12 +1,14 @@
 //! The finding that a diagnostic reports: its places and edits, in the sources that are at hand.
 
 ghost use Rattle.std.specs.Prelude.{◌≡◌, IfOk, OnOk, string_bytes};
-ghost use Rattle.std.specs.List.{AllZip};
+ghost use Rattle.std.specs.List.{AllZip, sum_by};
 ghost use Rattle.std.specs.Option.{option_map};
 ghost use Rattle.redraw_report.specs.Report.{lent};
+ghost use Rattle.redraw_read.specs.Counted.{adds, clamped_child, clamped_in, clamped_spans, is_clamped, ones};
+ghost use Rattle.redraw_read.specs.Counted.{sight_of_span, undrawn_child, undrawn_in};
 ghost use Rattle.redraw_read.specs.Loaded.{Loads, child_files, edited_files, files_in, files_of, named_files};
 ghost use Rattle.redraw_read.specs.Loaded.{texts_of};
-ghost use Rattle.redraw_read.specs.Placed.{IsFindingOf, IsMarkOf, IsRemarkOf, at_hand, home_of};
+ghost use Rattle.redraw_read.specs.Placed.{IsFindingOf, IsMarkOf, IsRemarkOf, at_hand, hand_for, home_of};
 
 use crate::hand::Hand;
 use crate::offers::offers_of;
@@ -97,7 +99,10 @@ fn load_edited<S: SourceFiles + Drop>(
 
 impl Placing {
     /// Nothing was found wrong yet.
-    pub fn new(alloc: Global) -> Placing {
+    pub fn new(alloc: Global) -> Placing
+        ensures clamped { result.clamped ≡ 0 }
+        ensures undrawn { result.undrawn ≡ 0 }
+    {
         Placing {
             alloc,
             clamped: 0,
@@ -112,9 +117,11 @@ impl Placing {
         diagnostic: &'a Diagnostic,
         is_short: bool,
     ) -> Result<Finding<'a>, AllocError>
-        ensures is { IfOk result (IsFindingOf
-            record { files = sources.now.files.items; home = home_of diagnostic.now.homes.items; is_short = is_short }
+        ensures is { IfOk result (IsFindingOf (hand_for sources.now.files.items is_short diagnostic.now)
             diagnostic.now) }
+        ensures counted { OnOk result (self.new ≡ adds self.old
+            (clamped_in (hand_for sources.now.files.items is_short diagnostic.now) diagnostic.now)
+            (undrawn_in (hand_for sources.now.files.items is_short diagnostic.now) diagnostic.now)) }
     {
         let hand = Hand {
             files: sources.files(),
@@ -132,6 +139,8 @@ pub fn finding_in<'a>(
     diagnostic: &'a Diagnostic,
 ) -> Result<Finding<'a>, AllocError>
     ensures is { IfOk result (IsFindingOf (at_hand hand.entry) diagnostic.now) }
+    ensures counted { OnOk result (placing.new ≡ adds placing.old (clamped_in (at_hand hand.entry) diagnostic.now)
+        (undrawn_in (at_hand hand.entry) diagnostic.now)) }
 {
     let marks = marks_of(placing, hand, &diagnostic.spans)?;
     let remarks = remarks_of(placing, hand, &diagnostic.children)?;
@@ -151,6 +160,8 @@ fn marks_of<'a>(
     spans: &'a Vec<FileSpan>,
 ) -> Result<Vec<Mark<'a>>, AllocError>
     ensures are { IfOk result (λ marks. AllZip (IsMarkOf (at_hand hand.entry)) spans.now.items marks.items) }
+    ensures counted { OnOk result
+        (placing.new ≡ adds placing.old (clamped_spans (at_hand hand.entry) spans.now.items) 0) }
 {
     let mut marks = Vec::new(placing.alloc);
     for span in spans {
@@ -166,6 +177,8 @@ fn mark_of<'a>(
     span: &'a FileSpan,
 ) -> Result<Mark<'a>, AllocError>
     ensures is { IfOk result (IsMarkOf (at_hand hand.entry) span.now) }
+    ensures counted { OnOk result (placing.new
+        ≡ adds placing.old (ones (is_clamped (sight_of_span (at_hand hand.entry) span.now) span.now.region)) 0) }
 {
     let spot = placing.spot(hand, &span.file, span.region, &span.carried)?;
     Ok(Mark {
@@ -194,6 +207,9 @@ fn remarks_of<'a>(
     children: &'a Vec<Child>,
 ) -> Result<Vec<Remark<'a>>, AllocError>
     ensures are { IfOk result (λ remarks. AllZip (IsRemarkOf (at_hand hand.entry)) children.now.items remarks.items) }
+    ensures counted { OnOk result (placing.new
+        ≡ adds placing.old (sum_by (clamped_child (at_hand hand.entry)) children.now.items)
+        (sum_by (undrawn_child (at_hand hand.entry)) children.now.items)) }
 {
     let mut remarks = Vec::new(placing.alloc);
     for child in children {
@@ -209,6 +225,8 @@ fn remark_of<'a>(
     child: &'a Child,
 ) -> Result<Remark<'a>, AllocError>
     ensures is { IfOk result (IsRemarkOf (at_hand hand.entry) child.now) }
+    ensures counted { OnOk result (placing.new ≡ adds placing.old (clamped_child (at_hand hand.entry) child.now)
+        (undrawn_child (at_hand hand.entry) child.now)) }
 {
     let marks = marks_of(placing, hand, &child.spans)?;
     let offers = offers_of(placing, hand, &child.alternatives)?;

@@ -163,6 +163,8 @@ impl<S: SourceFiles + Drop> Sources<S> {
     /// The names of the files that couldn't be read since this was asked before.
     pub fn take_unread(&mut self) -> Vec<String>
         ensures kept { self.new.files ≡ self.old.files }
+        ensures taken { result ≡ self.old.unread }
+        ensures none { self.new.unread.items ≡ [] }
     {
         std::mem::replace(&mut self.unread, Vec::new(self.alloc))
     }

@@ -1,6 +1,7 @@
 //! Where the places that a tool names are, in the sources that are shown.
 
-ghost use Rattle.std.specs.Prelude.{◌≡◌, IfOk, string_bytes};
+ghost use Rattle.std.specs.Prelude.{◌≡◌, IfOk, OnOk, string_bytes};
+ghost use Rattle.redraw_read.specs.Counted.{adds, is_clamped, more, ones};
 ghost use Rattle.redraw_read.specs.Extract.{chosen};
 ghost use Rattle.redraw_read.specs.Placed as spec;
 ghost use Rattle.redraw_report.specs.Region.{line_starts as starts_of};
@@ -45,6 +46,8 @@ impl Placing {
     ) -> Result<Spot<'a>, AllocError>
         ensures is { IfOk result (IsSpot (string_bytes file.now)
             (sight_in (at_hand hand.entry) (string_bytes file.now) region carried.now) region) }
+        ensures counted { OnOk result (self.new ≡ adds self.old (ones (is_clamped
+            (sight_in (at_hand hand.entry) (string_bytes file.now) region carried.now) region)) 0) }
     {
         let path = file.as_str();
         match lines_for(hand, path, carried) {
@@ -62,6 +65,8 @@ impl Placing {
     ) -> Result<Spot<'a>, AllocError>
         ensures is { IfOk result (IsSpot path.now
             (Lines (chosen lines.entry).text (chosen lines.entry).first_line) region) }
+        ensures counted { OnOk result (self.new ≡ adds self.old (ones (is_clamped
+            (Lines (chosen lines.entry).text (chosen lines.entry).first_line) region)) 0) }
     {
         match lines {
             Extract::Whole(source) => Ok(self.spot_in_file(path, source, region)),
@@ -72,6 +77,7 @@ impl Placing {
     /// Where a region of a file is.
     fn spot_in_file<'a>(&mut self, path: &'a str, source: &'a Source, region: Region) -> Spot<'a>
         ensures is { IsSpot path.now (Lines source.now.lines 1) region result }
+        ensures counted { self.new ≡ adds self.old (ones (is_clamped (Lines source.now.lines 1) region)) 0 }
     {
         let text = ShownText::Lines(&source.lines);
         self.spot_in_text(path, text, &source.starts, 1, region)
@@ -85,6 +91,8 @@ impl Placing {
         region: Region,
     ) -> Result<Spot<'a>, AllocError>
         ensures is { IfOk result (IsSpot path.now (Lines (string_bytes lines.now.text) lines.now.first_line) region) }
+        ensures counted { OnOk result (self.new ≡ adds self.old
+            (ones (is_clamped (Lines (string_bytes lines.now.text) lines.now.first_line) region)) 0) }
     {
         let text = lines.text.as_str();
         let starts = line_starts(self.alloc, text)?;
@@ -103,6 +111,8 @@ impl Placing {
     ) -> Spot<'a>
         requires lined { starts.now ≡ starts_of (shown_text text) }
         ensures is { IsSpot path.now (Lines (shown_text text.entry) first_line) region result }
+        ensures counted { self.new
+            ≡ adds self.old (ones (is_clamped (Lines (shown_text text.entry) first_line) region)) 0 }
     {
         let lookup = Lookup {
             text: text.as_str(),
@@ -134,7 +144,9 @@ fn spot_nowhere<'a>(is_short: bool, path: &'a str, region: Region) -> Spot<'a>
 }
 
 /// A count, with one more if there is one.
-pub fn counted(count: u64, is_one: bool) -> u64 {
+pub fn counted(count: u64, is_one: bool) -> u64
+    ensures value { result ≡ more count (ones is_one) }
+{
     if is_one {
         count.saturating_add(1)
     } else {

@@ -119,10 +119,7 @@ run_part c ds h = part_as {P = Then IsRun IsResult} c ds (run_more c) (part_then
 pub run_some : (c : Choice) → (es : List Deed) × IsRun c es
 run_some c = ([], record { before = []; after = []; split = refl; first = tt; next = ([], refl) })
 
-pub no_runs : (c : Choice) (ds : List Deed) → AreNone c ds → AreRuns c ds
-no_runs c ds h = ([], h)
-
-pub runs_more : (c : Choice) (ds : List Deed) → Then AreRuns IsRun c ds → AreRuns c ds
+runs_more : (c : Choice) (ds : List Deed) → Then AreRuns IsRun c ds → AreRuns c ds
 runs_more c ds h = (
   h.first.0 ++ null ∷ [],
   each_more (λ (d : Data). IsRun) null c h.first.0 ds

@@ -11,3 +11,4 @@ pub mod NotRead
 pub mod NotRefused
 pub mod NotRun
 pub mod Refusing
+pub mod Telling

@@ -6,3 +6,4 @@ pub mod Inputs
 pub mod ReadLines
 pub mod ReportLook
 pub mod Run
+pub mod Telling

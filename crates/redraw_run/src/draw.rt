@@ -1,7 +1,7 @@
 //! Findings, drawn one after another as they are read.
 ghost use Rattle.std.specs.Prelude.{◌≡◌, ℕ, Bool, List, Option, option_map, ◌++◌, [], ◌∷◌, if◌then◌else◌, false, true};
 ghost use Rattle.std.specs.Prelude.{◌==◌, ◌≢◌, OnErr, OnOk, IfOk, IfErr, alloc_error};
-ghost use Rattle.std.specs.Prelude.{string_bytes};
+ghost use Rattle.std.specs.Prelude.{length, string_bytes};
 ghost use Rattle.std.specs.Io.KnownBytes.{Appends};
 ghost use Rattle.redraw_command.specs.Seen.{IsSeen, digests_of};
 ghost use Rattle.redraw_command.specs.Tally.{one_more};
@@ -11,6 +11,8 @@ ghost use Rattle.redraw_run.specs.Fates.{AreMessages, IsChosen, IsDrawing, IsTak
 ghost use Rattle.redraw_run.specs.Fates.{IsHandedOn, IsWritten, IsWrong};
 ghost use Rattle.redraw_run.specs.DrawnFinding.{Draws, IsCounted, IsLeftOut, IsUndrawn, ShowsFinding, ending_after};
 ghost use Rattle.redraw_run.specs.ReadLines.{TellsUnless};
+ghost use Rattle.redraw_run.specs.Telling.{TellsAbout, TellsMany};
+ghost use Rattle.redraw_read.specs.Loaded.{texts_of};
 ghost use Rattle.serde_json.specs.View.{view};
 ghost use Rattle.redraw_read.specs.declared.sources.File.{File};
 ghost use Rattle.redraw_command.specs.declared.choice.Form.TheVariants.{Report, Workflow};
@@ -184,9 +186,9 @@ impl<S: SourceFiles + Drop> Drawing<'_, S> {
         out: &mut W,
         err: &mut V,
     ) -> Result<(), Stop>
-        ensures once { OnOk result ((was : Bool) × (kept : List (List ℕ))
+        ensures once { OnOk result ((was : Bool)
             × IsSeen (option_map (λ m. view m.now) message.entry) self.old.choice.has_duplicates was
-            (digests_of self.old.seen) kept
+            (digests_of self.old.seen) (digests_of self.new.seen)
             × (was ≡ true → (out.new ≡ out.old) × (self.new.tally ≡ repeated self.old.tally))
             × (was ≡ false → Draws self.old.choice.form self.old.renderer self.new.sources.files.items
             diagnostic.now (W.contents out.old) (W.contents out.new) (out.new ≡ out.old)
@@ -235,6 +237,7 @@ impl<S: SourceFiles + Drop> Drawing<'_, S> {
             diagnostic.now (W.contents out.old) (W.contents out.new) (out.new ≡ out.old)
             self.old.tally self.new.tally) }
         ensures kept { (self.new.renderer ≡ self.old.renderer) × (self.new.choice ≡ self.old.choice) }
+        ensures seen { self.new.seen ≡ self.old.seen }
         ensures does { Goes result (IsDrawing diagnostic.now)
             (standing self.old (W.contents out.old) (V.contents err.old))
             (standing self.new (W.contents out.new) (V.contents err.new)) }
@@ -255,9 +258,14 @@ impl<S: SourceFiles + Drop> Drawing<'_, S> {
         ensures draws { OnOk result (Draws Report self.old.renderer self.new.sources.files.items diagnostic.now
             (W.contents out.old) (W.contents out.new) (out.new ≡ out.old) self.old.tally self.new.tally) }
         ensures kept { (self.new.renderer ≡ self.old.renderer) × (self.new.choice ≡ self.old.choice) }
+        ensures seen { self.new.seen ≡ self.old.seen }
         ensures does { self.old.choice.form ≡ Report
             → Goes result (IsShown diagnostic.now) (standing self.old (W.contents out.old) (V.contents err.old))
             (standing self.new (W.contents out.new) (V.contents err.new)) }
+        ensures tells { OnOk result (TellsAbout self.old.renderer.settings.short_message self.old.sources.files.items
+            self.new.sources.files.items (texts_of self.old.sources.unread.items) diagnostic.now
+            (V.contents err.old) (V.contents err.new)) }
+        ensures told { OnOk result (self.new.sources.unread.items ≡ []) }
     {
         load_files(&mut self.sources, diagnostic)?;
         self.tell_unread(err);
@@ -271,6 +279,7 @@ impl<S: SourceFiles + Drop> Drawing<'_, S> {
         ensures draws { OnOk result (Draws Workflow self.old.renderer self.new.sources.files.items diagnostic.now
             (W.contents out.old) (W.contents out.new) (out.new ≡ out.old) self.old.tally self.new.tally) }
         ensures kept { (self.new.renderer ≡ self.old.renderer) × (self.new.choice ≡ self.old.choice) }
+        ensures seen { self.new.seen ≡ self.old.seen }
         ensures does { self.old.choice.form ≡ Workflow → (err : Option (List ℕ))
             → Goes result (IsWritten diagnostic.now) (standing self.old (W.contents out.old) err)
             (standing self.new (W.contents out.new) err) }
@@ -288,11 +297,15 @@ impl<S: SourceFiles + Drop> Drawing<'_, S> {
     fn tell_unread<V: Write>(&mut self, err: &mut V)
         ensures kept { (self.new.renderer ≡ self.old.renderer) × (self.new.choice ≡ self.old.choice)
             × (self.new.tally ≡ self.old.tally) }
+        ensures seen { self.new.seen ≡ self.old.seen }
         ensures files { self.new.sources.files ≡ self.old.sources.files }
         ensures does { (out : Option (List ℕ)) → Does AreMessages (standing self.old out (V.contents err.old))
             (standing self.new out (V.contents err.new)) }
+        ensures each { TellsMany (length self.old.sources.unread.items) (V.contents err.old) (V.contents err.new) }
+        ensures none { self.new.sources.unread.items ≡ [] }
     {
-        for name in self.sources.take_unread() {
+        let unread = self.sources.take_unread();
+        for name in &unread {
             let what = "--root names the folder that paths begin in";
             let told = format_args!("can't read {name}: {what}");
             tell_of(self.alloc, self.input, self.line, told, err);
@@ -340,14 +353,16 @@ impl<S: SourceFiles + Drop> Drawing<'_, S> {
         ensures untold { OnOk result (IfOk text (λ t. err.new ≡ err.old)) }
         ensures left_out { OnOk result (IfErr text (λ e. (e ≢ RenderError.Memory alloc_error)
             × (out.new ≡ out.old) × IsLeftOut self.old.tally self.new.tally)) }
+        ensures told { OnOk result (IfErr text (λ e. Tells (V.contents err.old) (V.contents err.new))) }
         ensures kept { (self.new.renderer ≡ self.old.renderer) × (self.new.choice ≡ self.old.choice) }
+        ensures seen { self.new.seen ≡ self.old.seen }
         ensures does { self.old.choice.form ≡ Report
             → (files : List File)
             → IfOk text (λ t. ShowsFinding self.old.renderer files diagnostic.now (string_bytes t))
             → IfErr text (IsUndrawn self.old.renderer files diagnostic.now)
             → Goes result (IsShown diagnostic.now) (standing self.old (W.contents out.old) (V.contents err.old))
             (standing self.new (W.contents out.new) (V.contents err.new)) }
-        ensures files { self.new.sources.files ≡ self.old.sources.files }
+        ensures sources { self.new.sources ≡ self.old.sources }
     {
         match text {
             Ok(text) => {
@@ -367,12 +382,14 @@ impl<S: SourceFiles + Drop> Drawing<'_, S> {
     ) -> Result<(), Stop>
         ensures left_out { OnOk result ((error.now ≢ RenderError.Memory alloc_error)
             × IsLeftOut self.old.tally self.new.tally) }
+        ensures told { OnOk result (Tells (V.contents err.old) (V.contents err.new)) }
         ensures kept { (self.new.renderer ≡ self.old.renderer) × (self.new.choice ≡ self.old.choice) }
+        ensures seen { self.new.seen ≡ self.old.seen }
         ensures does { self.old.choice.form ≡ Report
             → (files : List File) → IsUndrawn self.old.renderer files diagnostic.now error.now
             → (out : Option (List ℕ)) → Goes result (IsShown diagnostic.now)
             (standing self.old out (V.contents err.old)) (standing self.new out (V.contents err.new)) }
-        ensures files { self.new.sources.files ≡ self.old.sources.files }
+        ensures sources { self.new.sources ≡ self.old.sources }
     {
         match error {
             RenderError::Memory(_) => Err(Stop::Memory),
@@ -400,7 +417,8 @@ impl<S: SourceFiles + Drop> Drawing<'_, S> {
         ensures counted { OnOk result (IsCounted diagnostic.now self.old.tally self.new.tally) }
         ensures uncounted { OnErr result (self.new.tally ≡ self.old.tally) }
         ensures kept { (self.new.renderer ≡ self.old.renderer) × (self.new.choice ≡ self.old.choice) }
-        ensures files { self.new.sources.files ≡ self.old.sources.files }
+        ensures seen { self.new.seen ≡ self.old.seen }
+        ensures sources { self.new.sources ≡ self.old.sources }
     {
         add_files(&mut self.files, &diagnostic.spans)?;
         self.tally = self.tally.with(diagnostic.severity, is_sum(diagnostic));

@@ -1,7 +1,8 @@
 //! A SARIF log, whose results are drawn one after another.
-ghost use Rattle.std.specs.Prelude.{◌≡◌, IfErr};
-ghost use Rattle.redraw_run.specs.Deeds.{Goes, TellsAll, standing};
-ghost use Rattle.redraw_run.specs.Fates.{AreRuns, IsResult, IsRun};
+ghost use Rattle.std.specs.Prelude.{◌≡◌, IfErr, OnOk, map};
+ghost use Rattle.serde_json.specs.View.{view};
+ghost use Rattle.redraw_run.specs.Deeds.{Does, Goes, TellsAll, standing};
+ghost use Rattle.redraw_run.specs.Fates.{AreRuns, Each, IsResult, IsRun};
 
 use crate::draw::Drawing;
 use json_node::lenient::{List, Node, Problems};
@@ -21,6 +22,9 @@ pub fn draw_runs<S: SourceFiles + Drop, W: Write, V: Write>(
 ) -> Result<(), Stop>
     ensures does { Goes result AreRuns (standing drawing.old (W.contents out.old) (V.contents err.old))
         (standing drawing.new (W.contents out.new) (V.contents err.new)) }
+    ensures each { OnOk result (Does (Each (λ run. IsRun) (map view runs.now))
+        (standing drawing.old (W.contents out.old) (V.contents err.old))
+        (standing drawing.new (W.contents out.new) (V.contents err.new))) }
 {
     let document = Place::Document;
     let runs = List {

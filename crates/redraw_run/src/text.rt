@@ -1,5 +1,7 @@
 //! The text that is drawn of a diagnostic.
-ghost use Rattle.std.specs.Prelude.{IfErr, IfOk, string_bytes};
+ghost use Rattle.std.specs.Prelude.{◌≡◌, IfErr, IfOk, string_bytes};
+ghost use Rattle.redraw_read.specs.Counted.{capped, clamped_in, undrawn_in};
+ghost use Rattle.redraw_read.specs.Placed.{hand_for};
 ghost use Rattle.redraw_run.specs.DrawnFinding.{HasLawsAs, IsRefusalOf, IsUndrawn, ShowsAs, ShowsFinding};
 
 use crate::look::ReportRenderer;
@@ -19,7 +21,7 @@ pub struct Drawn {
     pub text: Result<String, RenderError>,
     /// How many places aren't in their source.
     pub clamped: u64,
-    /// How many edits aren't drawn.
+    /// How many alternatives aren't drawn.
     pub undrawn: u64,
 }
 
@@ -34,6 +36,12 @@ pub fn drawn_of<S: SourceFiles + Drop>(
         ShowsFinding renderer.now sources.now.files.items diagnostic.now (string_bytes text))) }
     ensures refused { IfOk result (λ drawn. IfErr drawn.text
         (IsUndrawn renderer.now sources.now.files.items diagnostic.now)) }
+    ensures clamped { IfOk result (λ drawn. drawn.clamped ≡ capped
+        (clamped_in (hand_for sources.now.files.items renderer.now.settings.short_message diagnostic.now)
+        diagnostic.now)) }
+    ensures undrawn { IfOk result (λ drawn. drawn.undrawn ≡ capped
+        (undrawn_in (hand_for sources.now.files.items renderer.now.settings.short_message diagnostic.now)
+        diagnostic.now)) }
 {
     let mut placing = Placing::new(alloc);
     let finding = placing.finding(sources, diagnostic, renderer.settings.short_message)?;

@@ -1,9 +1,13 @@
+use Rattle.std.proofs.Common.{map, take}
+use Rattle.serde_json.specs.Data.{Data}
+use Rattle.serde_json.specs.View.{view}
 use Rattle.redraw_run.specs.Deeds.{Does, standing}
-use Rattle.redraw_run.specs.Fates.{AreRuns}
+use Rattle.redraw_run.specs.Fates.{Each, IsRun}
 use Rattle.redraw_run.proofs.sarif.draw_runs.Given as goal
 
 -- what is done of the runs so far
 abbrev pub invariant-loop-index : goal.invariant-loop-index
 invariant-loop-index g l =
-    Does AreRuns (standing l.fn.drawing (g.W.Write.contents l.fn.out) (g.V.Write.contents l.fn.err))
+    Does (Each (λ (d : Data). IsRun) (map view (take l.index l.runs.items.now)))
+    (standing l.fn.drawing (g.W.Write.contents l.fn.out) (g.V.Write.contents l.fn.err))
     (standing l.drawing (g.W.Write.contents l.out) (g.V.Write.contents l.err))

@@ -1,7 +1,9 @@
-use Rattle.std.proofs.Common.{ℕ, List, string_bytes}
+use Rattle.std.proofs.Common.{ℕ, ◌∙◌, List, ap, string_bytes}
 use Rattle.std.proofs.lemmas.Result.{IfOk-weaker}
 use Rattle.annotate_snippets.proofs.ReportLemmas.{IfOk-both}
 use Rattle.annotate_snippets.specs.declared.snippet.Group.{Group}
+use Rattle.redraw_read.proofs.Counting.{more-none}
+use Rattle.redraw_read.specs.declared.spot.Placing.{Placing}
 use Rattle.redraw_run.specs.DrawnFinding.{HasLawsAs, ShowsAs, ShowsFinding}
 use Rattle.redraw_run.proofs.Refusing.{undrawn_of}
 use Rattle.redraw_run.proofs.text.drawn_of.Goals as goal
@@ -29,4 +31,8 @@ returns g c =
       refused =
           undrawn_of r c.args.sources.now.files.items c.args.diagnostic.now c.in_ok-finding.finding groups c.render_fitting.result
           c.in_ok-finding.ensures.is c.in_ok-groups.ensures.told c.render_fitting.ensures.refused;
+      clamped =
+          ap (λ (p : Placing). p.clamped) c.in_ok-finding.ensures.counted ∙ more-none c.new-placing.result.clamped _ c.new-placing.ensures.clamped;
+      undrawn =
+          ap (λ (p : Placing). p.undrawn) c.in_ok-finding.ensures.counted ∙ more-none c.new-placing.result.undrawn _ c.new-placing.ensures.undrawn;
     }

@@ -1,5 +1,10 @@
-use Rattle.std.proofs.Common.{◌≡◌, ℕ, List, Option, inr, ap, if◌then◌else◌, refl, subst, ◌∙◌, Bool}
+use Rattle.std.proofs.Common.{◌≡◌, ℕ, List, Option, inr, ap, if◌then◌else◌, refl, subst, sym, ◌∙◌, Bool}
 use Rattle.std.proofs.lemmas.Result.{on_ok_weaker}
+use Rattle.std.specs.Prelude.{option_map}
+use Rattle.serde_json.specs.Data.{Data}
+use Rattle.serde_json.specs.View.{view}
+use Rattle.redraw_command.specs.Seen.{IsSeen, digests_of}
+use Rattle.redraw_command.specs.declared.seen.Seen.{Seen}
 use Rattle.redraw_run.specs.declared.look.ReportRenderer.{ReportRenderer}
 use Rattle.redraw_command.specs.declared.choice.Choice.{Choice}
 use Rattle.redraw_command.specs.declared.tally.Tally.{Tally}
@@ -23,7 +28,6 @@ pub returns-then-is_seen-clause-once : goal.returns-then-is_seen-clause-once
 returns-then-is_seen-clause-once g c =
     let t = c.args.self.now.tally in (
       c.in_ok-is_seen.is_seen,
-      _,
       c.in_ok-is_seen.ensures.seen,
       λ yes. (refl, c.in_ok-is_seen.ensures.counted ∙ ap (λ (b : Bool). if b then repeated t else t) yes),
       λ no. absurd (cc (no, c.if-is_seen.true)),
@@ -45,6 +49,11 @@ drawn_for {a} {b} {r} {s} {t} {u} files d o n Same after p q w h =
     (subst (λ (y : ReportRenderer). Draws a.form y files d o n Same u after) q
     (subst (λ (z : Tally). Draws a.form r files d o n Same z after) w h))
 
+-- what was seen stays
+seen_still : (d : Option Data) (again was : Bool) (old : List (List ℕ)) (a b : Seen) → b ≡ a → IsSeen d again was old (digests_of a)
+    → IsSeen d again was old (digests_of b)
+seen_still d again was old a b same h = subst (λ (s : Seen). IsSeen d again was old (digests_of s)) (sym same) h
+
 pub returns-clause-once : goal.returns-clause-once
 returns-clause-once g c =
     let kept = c.in_ok-is_seen.ensures.kept in
@@ -53,8 +62,8 @@ returns-clause-once g c =
     on_ok_weaker c.draw.result
     (λ drawn. (
       c.in_ok-is_seen.is_seen,
-      _,
-      c.in_ok-is_seen.ensures.seen,
+      seen_still (option_map (λ m. view m.now) c.args.message) c.args.self.now.choice.has_duplicates c.in_ok-is_seen.is_seen
+          (digests_of c.args.self.now.seen) c.is_duplicate.new.self.seen c.draw.new.self.seen c.draw.ensures.seen c.in_ok-is_seen.ensures.seen,
       λ yes. absurd (cc (yes, c.if-is_seen.false)),
       λ no. drawn_for _ _ _ _ _ _ kept.1 kept.0 same drawn,
     ))

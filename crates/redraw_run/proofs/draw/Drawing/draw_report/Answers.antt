@@ -1,5 +1,6 @@
 use Rattle.std.proofs.Common.{ap, refl, sym, ◌∙◌}
 use Rattle.std.specs.Global.{Vec}
+use Rattle.redraw_run.specs.declared.look.ReportRenderer.{ReportRenderer}
 use Rattle.redraw_read.specs.declared.sources.File.{File}
 use Rattle.redraw_command.specs.declared.choice.Choice.{Choice}
 use Rattle.redraw_run.specs.Fates.{AreMessages, IsShown, Then}
@@ -7,6 +8,7 @@ use Rattle.redraw_run.proofs.Doing.{does_as, does_then, goes_as, goes_err, goes_
 use Rattle.redraw_run.proofs.Done.{does_same}
 use Rattle.redraw_run.proofs.Fated.{messages_then, shown_part, shown_some, shown_then}
 use Rattle.redraw_run.proofs.Refusing.{draws_as, draws_report}
+use Rattle.redraw_run.proofs.Telling.{done_so, same_files, same_unread, tells_about, tells_of}
 use Rattle.redraw_run.proofs.draw.Drawing.draw_report.Goals as goal
 
 pub returns-in_err-load_files-clause-does : goal.returns-in_err-load_files-clause-does
@@ -31,7 +33,24 @@ returns-clause-does g c = λ form.
 pub returns-clause-draws : goal.returns-clause-draws
 returns-clause-draws g c =
     let kept = c.tell_unread.ensures.kept in
-    draws_as c.print_drawn.result c.args.diagnostic.now _ _ _ _ kept.0 (ap (λ (files : Vec File). files.items) (sym c.print_drawn.ensures.files)) kept.2
+    draws_as c.print_drawn.result c.args.diagnostic.now _ _ _ _ kept.0 (same_files _ _ c.print_drawn.ensures.sources) kept.2
     (draws_report c.print_drawn.result c.in_ok-drawn.drawn.text c.tell_unread.new.self.renderer c.tell_unread.new.self.sources.files.items
     c.args.diagnostic.now _ _ _ _ _ c.in_ok-drawn.ensures.shows c.in_ok-drawn.ensures.refused c.print_drawn.ensures.drawn c.print_drawn.ensures.counted
     c.print_drawn.ensures.left_out)
+
+pub returns-clause-tells : goal.returns-clause-tells
+returns-clause-tells g c =
+    let kept = c.tell_unread.ensures.kept in
+    let each = c.tell_inexact.ensures.each in
+    let old = g.V.Write.contents c.args.err.now in
+    let named = g.V.Write.contents c.tell_unread.new.err in
+    let before = g.V.Write.contents c.tell_inexact.new.err in
+    tells_about g.V.Write.contents c.print_drawn.result c.in_ok-drawn.drawn.text c.args.diagnostic.now old c.tell_inexact.new.err c.print_drawn.new.err
+    (tells_of c.load_files.new.sources.unread.items c.args.diagnostic.now c.in_ok-drawn.drawn.clamped c.in_ok-drawn.drawn.undrawn old named each.0 before
+    (ap (λ (r : ReportRenderer). r.settings.short_message) kept.0)
+    (ap (λ (files : Vec File). files.items) (sym c.tell_unread.ensures.files)) (same_files _ _ c.print_drawn.ensures.sources)
+    c.in_ok-load_files.ensures.loads c.tell_unread.ensures.each c.in_ok-drawn.ensures.clamped c.in_ok-drawn.ensures.undrawn each.1 each.2)
+    c.print_drawn.ensures.untold c.print_drawn.ensures.told
+
+pub returns-clause-told : goal.returns-clause-told
+returns-clause-told g c = done_so c.print_drawn.result (same_unread _ _ c.print_drawn.ensures.sources ∙ c.tell_unread.ensures.none)

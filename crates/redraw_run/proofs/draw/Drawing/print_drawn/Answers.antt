@@ -5,6 +5,7 @@ use Rattle.redraw_run.specs.Fates.{IsShown}
 use Rattle.redraw_run.proofs.Doing.{goes_err, stops_none}
 use Rattle.redraw_run.proofs.Done.{at_err, at_ok, does_same, ended, goes_drawn}
 use Rattle.redraw_run.proofs.Refusing.{left_by}
+use Rattle.redraw_run.proofs.Telling.{told_err}
 use Rattle.redraw_run.proofs.draw.Drawing.print_drawn.Goals as goal
 
 pub returns-in_err-count-in-Ok-clause-does : goal.returns-in_err-count-in-Ok-clause-does
@@ -30,3 +31,6 @@ returns-in-Err-clause-does g c = λ form files shows undrawn.
 
 pub returns-in-Err-clause-left_out : goal.returns-in-Err-clause-left_out
 returns-in-Err-clause-left_out g c = left_by c.refuse.result c.args.text c.in-Err.error _ _ _ c.in-Err.is refl c.refuse.ensures.left_out
+
+pub returns-in-Err-clause-told : goal.returns-in-Err-clause-told
+returns-in-Err-clause-told g c = told_err c.refuse.result c.args.text c.in-Err.error _ c.in-Err.is c.refuse.ensures.told

@@ -1,6 +1,6 @@
-use Rattle.redraw_run.specs.Deeds.{TellsAll}
+use Rattle.redraw_run.specs.Telling.{TellsMany}
 use Rattle.redraw_run.proofs.draw.Drawing.tell_unread.Given as goal
 
--- what is told so far
+-- one message is told of each name so far
 abbrev pub invariant-loop-name : goal.invariant-loop-name
-invariant-loop-name g l = TellsAll (g.V.Write.contents l.fn.err) (g.V.Write.contents l.err)
+invariant-loop-name g l = TellsMany l.name-index (g.V.Write.contents l.fn.err) (g.V.Write.contents l.err)
