@@ -30,7 +30,7 @@ use Rattle.snippet_style.specs.declared.role.LevelInner.{LevelInner}
 use Rattle.snippet_style.specs.declared.stylesheet.Stylesheet.{Stylesheet}
 use Rattle.snippet_grid.proofs.WovenLemmas.{IsWoven-from_prints, plain_woven}
 use Rattle.snippet_text.specs.Normalized.{is_listed, norm}
-use Rattle.snippet_titles.proofs.ShortLaws.{short-free, short-links, short-texts}
+use Rattle.snippet_titles.proofs.ShortLaws.{short-free, links_of-short_rows, row_text-short_rows}
 use Rattle.snippet_titles.specs.HeadingRows.{shown_text, heading_lines, indent_cells, heading_label_text, label_width}
 use Rattle.snippet_titles.specs.Origin.{origin_text, place_text}
 use Rattle.snippet_titles.specs.ShortRows.{with_end}
@@ -189,7 +189,7 @@ begins r g title rows are drawable s first path has some none =
       place = found.0;
       is = found.2;
       rest = text.0;
-      text = ap (λ (rs : List (List Cell)). row_text (row_at rs 0)) are ∙ short-texts r.hyperlink before (after_title g) heading 0 ∙ text.1
+      text = ap (λ (rs : List (List Cell)). row_text (row_at rs 0)) are ∙ row_text-short_rows r.hyperlink before (after_title g) heading 0 ∙ text.1
           ∙ ap (λ cs. cs ++ text.0) named ∙ append_assoc (origin_text r.anonymized_origin_line_numbers path (place_found (Some found.0))) (codes ": ") text.0;
     }
 
@@ -198,7 +198,7 @@ rows_shown : (r : Renderer) (g : Group) (title : Title) (rows : List (List Cell)
 rows_shown r g title rows are drawable =
     let heading : Heading = heading_of_title title in
     record {
-      texts = λ i. ap (λ (rs : List (List Cell)). row_text (row_at rs i)) are ∙ short-texts r.hyperlink (before_title r g) (after_title g) heading i;
+      texts = λ i. ap (λ (rs : List (List Cell)). row_text (row_at rs i)) are ∙ row_text-short_rows r.hyperlink (before_title r g) (after_title g) heading i;
       origin = begins r g title rows are drawable;
       free = subst (All (IsFreeButText heading)) (sym are) (short-free r.hyperlink (before_title r g) (after_title g) heading
           (before-free r (first_cause g.elements.items)) (after-free (first_cause g.elements.items)));
@@ -256,7 +256,7 @@ short-laws r groups grids drawable page =
       shows = shows;
       free = free_text (trusted_texts groups) rows (All-weaker (IsFreeButText heading) (IsFreeRow (trusted_texts groups))
           (own_row (trusted_texts groups) heading (title-trusted groups g title page.first page.titled)) rows shows.free);
-      links = short-links r.hyperlink (before_title r g) (after_title g) heading ∙ first-links r groups g title page.first page.titled;
+      links = links_of-short_rows r.hyperlink (before_title r g) (after_title g) heading ∙ first-links r groups g title page.first page.titled;
     }
 
 -- the rows of the first group that has a title are all of the short form

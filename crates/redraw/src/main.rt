@@ -2,7 +2,7 @@
 #![tactic(auto)]
 
 use program::exit::exit_code;
-use program::input::given_words;
+use program::input::given_arguments;
 use redraw_command::tally::FAILED;
 use redraw_command::terminal::Surroundings;
 use redraw_run::run::run;
@@ -28,8 +28,11 @@ fn columns(rt: &(impl Env + AllocGlobal)) -> Option<usize> {
 /// Runs the program, and answers the status to end with.
 fn answer(rt: &HostRuntime) -> io::Result<u8> {
     let alloc = rt.alloc();
-    let given = given_words(rt)?;
-    let words: Vec<&str> = given.iter().map(|word| word.as_str()).collect(alloc)?;
+    let given = given_arguments(rt)?;
+    let args: Vec<&str> = given
+        .iter()
+        .map(|argument| argument.as_str())
+        .collect(alloc)?;
     let folder = env::current_dir(rt).ok();
     let around = Surroundings {
         is_terminal: rt.stdout().is_terminal(),
@@ -38,7 +41,7 @@ fn answer(rt: &HostRuntime) -> io::Result<u8> {
         folder: folder.as_ref().map(|path| path.as_str()),
     };
     let mut out = BufWriter::new(alloc, rt.stdout())?;
-    Ok(run(rt, &words, around, &mut out, &mut rt.stderr()))
+    Ok(run(rt, &args, around, &mut out, &mut rt.stderr()))
 }
 
 fn main(rt: HostRuntime) -> ExitCode {

@@ -1,4 +1,4 @@
--- What the words of a command line ask for, by the parts of it that are read.
+-- What the arguments of a command line ask for, by the parts of it that are read.
 use Rattle.std.proofs.Common.{◌≡◌, ◌<◌, ◌^◌, ◌&&◌, ℕ, Bool, true, false, List, [], ◌∷◌, Option, Some, None, inl, length, map, refl}
 use Rattle.std.specs.Prelude.{Err, IfOk, IsErrAnd, Ok, Result, SomeIff, nat_lt}
 use Rattle.std.specs.Borrow.{Bor}
@@ -15,7 +15,7 @@ use Rattle.clap.specs.Words.{found_of, kind_of, rows_of}
 use Rattle.clap.specs.declared.error.Error.{Error}
 use Rattle.clap.specs.declared.error.kind.ErrorKind.TheVariants.{OutOfMemory}
 use Rattle.clap.specs.declared.parser.matches.ArgMatches.{ArgMatches}
-use Rattle.redraw_command.specs.Words.{Word, number_of}
+use Rattle.redraw_command.specs.Arguments.{Argument, number_of}
 
 digits_pass : (ds : List ℕ) → AllDigits 10 ds → list_all (λ d. nat_lt (digit_value d) 10) ds ≡ true
 digits_pass [] h = refl
@@ -27,31 +27,31 @@ digits_from (d ∷ ds) e =
     let parts = both _ _ e in
     (ltb-true _ _ parts.0, digits_from ds parts.1)
 
-abbrev is_number : Word → Bool
+abbrev is_number : Argument → Bool
 is_number digits = is_numeral digits && nat_lt (digits_value 10 digits) (2 ^ 64)
 
--- what is read of a word where its digits write a number that fits is its number
-pub number_read : (word : Word) (r : Option ℕ)
-    → SomeIff r (IsNumeral 10 (without_leading_plus word) × (digits_value 10 (without_leading_plus word) < 2 ^ 64))
-    (digits_value 10 (without_leading_plus word))
-    → r ≡ number_of word
-number_read word (Some n) h =
+-- what is read of an argument where its digits write a number that fits is its number
+pub number_read : (argument : Argument) (r : Option ℕ)
+    → SomeIff r (IsNumeral 10 (without_leading_plus argument) × (digits_value 10 (without_leading_plus argument) < 2 ^ 64))
+    (digits_value 10 (without_leading_plus argument))
+    → r ≡ number_of argument
+number_read argument (Some n) h =
     rw (
-      lt-ltb 0 (length (without_leading_plus word)) h.0.0.0,
-      digits_pass (without_leading_plus word) h.0.0.1,
-      lt-ltb (digits_value 10 (without_leading_plus word)) (2 ^ 64) h.0.1,
+      lt-ltb 0 (length (without_leading_plus argument)) h.0.0.0,
+      digits_pass (without_leading_plus argument) h.0.0.1,
+      lt-ltb (digits_value 10 (without_leading_plus argument)) (2 ^ 64) h.0.1,
       h.1,
     ) refl
-number_read word None h = go (is_number (without_leading_plus word)) refl
+number_read argument None h = go (is_number (without_leading_plus argument)) refl
   where
-    go : (b : Bool) → is_number (without_leading_plus word) ≡ b → None ≡ number_of word
+    go : (b : Bool) → is_number (without_leading_plus argument) ≡ b → None ≡ number_of argument
     go false t = rw t refl
     go true t =
         let outer = both _ _ t in
         let inner = both _ _ outer.0 in
-        absurd (h ((ltb-true _ _ inner.0, digits_from (without_leading_plus word) inner.1), ltb-true _ _ outer.1))
+        absurd (h ((ltb-true _ _ inner.0, digits_from (without_leading_plus argument) inner.1), ltb-true _ _ outer.1))
 
--- ---- words that can't be read, and words that can
+-- ---- arguments that can't be read, and arguments that can
 
 -- it fails for want of memory
 pub fails_for_memory : {T : Type 0} (r : Result T Error) (kinds : Kinds) → IsErrAnd r (λ e. kind_of e ≡ OutOfMemory) → FailsBy kinds r
@@ -63,12 +63,12 @@ pub none_matched : {T E : Type 0} (P : T → Type 0) (Q : E → Type 0) (r : Res
 none_matched P Q (Ok m) h = absurd h
 none_matched P Q (Err e) h = tt
 
--- words that are lent, wherever they stand
-abbrev pub lent_words : List Word → Bor (List (Bor Word))
-lent_words words = record { ref_ptr = (0, 0); now = map (λ (w : Word). record { ref_ptr = (0, 0); now = w }) words }
+-- arguments that are lent, wherever they stand
+abbrev pub lent_arguments : List Argument → Bor (List (Bor Argument))
+lent_arguments args = record { ref_ptr = (0, 0); now = map (λ (w : Argument). record { ref_ptr = (0, 0); now = w }) args }
 
--- what is found in the words of a simple command
-pub matched_rows : (app : App) (words : List Word) (r : Result ArgMatches Error) → is_simple_and_free app ≡ true → IfOk r (HasMatchesOf app words)
-    → IfOk r (λ m. rows_of (found_of m) ≡ matches_of app words)
-matched_rows app words (Ok m) simple h = (h (both _ _ simple).0).0
-matched_rows app words (Err e) simple h = tt
+-- what is found in the arguments of a simple command
+pub matched_rows : (app : App) (args : List Argument) (r : Result ArgMatches Error) → is_simple_and_free app ≡ true → IfOk r (HasMatchesOf app args)
+    → IfOk r (λ m. rows_of (found_of m) ≡ matches_of app args)
+matched_rows app args (Ok m) simple h = (h (both _ _ simple).0).0
+matched_rows app args (Err e) simple h = tt

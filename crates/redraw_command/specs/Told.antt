@@ -1,16 +1,12 @@
 -- What is told on standard error.
-use Rattle.std.specs.Prelude.{◌≡◌, ℕ, ◌⊎◌, List, ◌++◌, Option, chars, codes, encode_utf8_all}
+use Rattle.std.specs.Prelude.{◌≡◌, ℕ, ◌⊎◌, List, ◌++◌, Option, codes}
 use Rattle.std.specs.Io.KnownBytes.{Appends}
-use Rattle.program.specs.Stream.{line_of}
-use Rattle.snippet_text.specs.Normalized.{norm}
-
--- a text as a message shows it: what is listed in it is replaced
-abbrev pub shown : List ℕ → List ℕ
-shown text = encode_utf8_all (norm (chars text))
+use Rattle.program.specs.Stream.{ended_line}
+pub use Rattle.program.specs.Stream.{normalized_text}
 
 -- what is told where this is said: the program's name, and that as it may be shown
 abbrev pub message : List ℕ → List ℕ
-message said = codes "redraw: " ++ shown said
+message said = codes "redraw: " ++ normalized_text said
 
 -- a first part of some bytes, which may be nothing or all
 pub record IsFirstPart (part whole : List ℕ) : Type 0 where
@@ -25,7 +21,7 @@ IsMessage line = ((said : List ℕ) × (line ≡ message said)) ⊎ (line ≡ co
 pub record IsTold (part : List ℕ) : Type 0 where
   pub line : List ℕ
   pub message : IsMessage line
-  pub is : IsFirstPart part (line_of line)
+  pub is : IsFirstPart part (ended_line line)
 
 -- known bytes grow by what stands there of one message, and by nothing else
 pub record Tells (old new : Option (List ℕ)) : Type 0 where
@@ -36,15 +32,15 @@ pub record Tells (old new : Option (List ℕ)) : Type 0 where
 -- what is told where there is no memory to tell more, and no more of it than a first part where a write failed
 pub record TellsMemory (old new : Option (List ℕ)) : Type 0 where
   pub part : List ℕ
-  pub is : IsFirstPart part (line_of (codes "redraw: out of memory"))
+  pub is : IsFirstPart part (ended_line (codes "redraw: out of memory"))
   pub added : Appends old new part
 
--- this stands there of what is told of wrong words: of a text as it may be shown, or of a message that there was no memory for it
-abbrev pub IsToldOfWords : List ℕ → Type 0
-IsToldOfWords part = ((text : List ℕ) × IsFirstPart part (shown text)) ⊎ IsTold part
+-- this stands there of what is told of wrong arguments: of a text as it may be shown, or of a message that there was no memory for it
+abbrev pub IsToldOfArguments : List ℕ → Type 0
+IsToldOfArguments part = ((text : List ℕ) × IsFirstPart part (normalized_text text)) ⊎ IsTold part
 
 -- known bytes grow by that, and by nothing else
-pub record TellsOfWords (old new : Option (List ℕ)) : Type 0 where
+pub record TellsOfArguments (old new : Option (List ℕ)) : Type 0 where
   pub part : List ℕ
-  pub told : IsToldOfWords part
+  pub told : IsToldOfArguments part
   pub added : Appends old new part

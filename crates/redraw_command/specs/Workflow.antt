@@ -14,7 +14,7 @@ use Rattle.redraw_report.specs.declared.diagnostic.Region.TheVariants as region
 use Rattle.redraw_report.specs.declared.diagnostic.Severity.{Severity}
 use Rattle.redraw_report.specs.declared.diagnostic.Severity.TheVariants.{Error, Warning, Info, Note, Help, Plain}
 use Rattle.redraw_command.specs.Choice.{is_sum}
-use Rattle.redraw_command.specs.Told.{shown}
+use Rattle.redraw_command.specs.Told.{normalized_text}
 use Rattle.redraw_command.specs.declared.workflow.Part.{Part}
 use Rattle.redraw_command.specs.declared.workflow.Part.TheVariants.{Data, Property}
 
@@ -114,4 +114,4 @@ raw_command name place d =
 abbrev pub command : Diagnostic → Option (List ℕ)
 command d =
     if is_sum d then None
-    else option_map (λ name. shown (raw_command name (first_primary d.spans.items) d)) (level_name d.severity)
+    else option_map (λ name. normalized_text (raw_command name (first_primary d.spans.items) d)) (level_name d.severity)

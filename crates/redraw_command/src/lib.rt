@@ -1,7 +1,8 @@
-//! What `redraw` is asked for, and what it does beside drawing: its words, which findings are chosen, what a line of an
-//! input is, what was drawn before, findings as workflow commands, what is written where, and the status.
+//! What `redraw` is asked for, and what it does beside drawing: its arguments, which findings are chosen, what a
+//! line of an input is, what was drawn before, findings as workflow commands, what is written where, and the status.
 #![tactic(auto)]
 
+pub mod arguments;
 pub mod choice;
 pub mod line;
 pub mod relative;
@@ -10,5 +11,4 @@ pub mod stop;
 pub mod tally;
 pub mod tell;
 pub mod terminal;
-pub mod words;
 pub mod workflow;

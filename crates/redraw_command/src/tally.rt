@@ -9,7 +9,7 @@ use std::fmt;
 pub const CLEAN: u8 = 0;
 /// The status of a run that drew an error, or read that a build failed.
 pub const ERRORS: u8 = 1;
-/// The status of a run whose words or input aren't of the form, or that was stopped.
+/// The status of a run whose arguments or input aren't of the form, or that was stopped.
 pub const FAILED: u8 = 2;
 
 /// What was drawn, by level, and what became of the rest.

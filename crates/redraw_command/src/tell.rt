@@ -1,7 +1,7 @@
 //! Messages to the user.
 ghost use Rattle.std.specs.Prelude.{◌≡◌, ℕ, List, IfOk, string_bytes};
 ghost use Rattle.redraw_command.specs.Told as spec;
-ghost use Rattle.redraw_command.specs.Told.{Tells, TellsMemory, TellsOfWords};
+ghost use Rattle.redraw_command.specs.Told.{Tells, TellsMemory, TellsOfArguments};
 ghost use Rattle.std.specs.Prelude.{IsErr};
 ghost use Rattle.clap.specs.Words.{kind_of};
 
@@ -43,9 +43,9 @@ fn shown<D: fmt::Display + Drop>(alloc: Global, message: D) -> Result<String, Al
     format!(in alloc; "redraw: {said}")
 }
 
-/// Writes what is wrong with the words, in the same way.
+/// Writes what is wrong with the arguments, in the same way.
 pub fn tell_error<V: Write>(alloc: Global, error: &clap::Error, err: &mut V)
-    ensures told { TellsOfWords (V.contents err.old) (V.contents err.new) }
+    ensures told { TellsOfArguments (V.contents err.old) (V.contents err.new) }
     ensures memory { kind_of error.now ≡ ErrorKind.OutOfMemory
         → TellsMemory (V.contents err.old) (V.contents err.new) }
 {
@@ -59,7 +59,7 @@ pub fn tell_error<V: Write>(alloc: Global, error: &clap::Error, err: &mut V)
 
 /// The same as it may be shown, unless it is that there was no memory to read them.
 fn shown_error(alloc: Global, error: &clap::Error) -> Result<String, AllocError>
-    ensures shown { IfOk result (λ text. (said : List ℕ) × (string_bytes text ≡ spec.shown said)) }
+    ensures shown { IfOk result (λ text. (said : List ℕ) × (string_bytes text ≡ spec.normalized_text said)) }
     ensures memory { kind_of error.now ≡ ErrorKind.OutOfMemory → IsErr result }
 {
     if let ErrorKind::OutOfMemory = error.kind() {

@@ -4,7 +4,7 @@ ghost use Rattle.std.specs.Prelude.{◌≡◌, ◌++◌, codes, chars, IfOk, OnO
 ghost use Rattle.std.specs.List.{find};
 ghost use Rattle.std.specs.Option.{option_map};
 ghost use Rattle.redraw_report.specs.Report.{lent};
-ghost use Rattle.redraw_command.specs.Told.{shown};
+ghost use Rattle.redraw_command.specs.Told.{normalized_text};
 ghost use Rattle.redraw_command.specs.Workflow.{code_named, columns_named, command, escape, escaped, in_part};
 ghost use Rattle.redraw_command.specs.Workflow.{level_name, lines_named};
 ghost use Rattle.redraw_command.specs.Workflow.{number_property, place_named, property, raw_command, region_named};
@@ -40,7 +40,7 @@ pub fn command_of(alloc: Global, diagnostic: &Diagnostic) -> Result<Option<Strin
 /// The command of this name for a finding.
 fn named_command(alloc: Global, name: &str, diagnostic: &Diagnostic) -> Result<String, AllocError>
     ensures value { IfOk result (λ line. string_bytes line
-        ≡ shown (raw_command name.now (first_primary diagnostic.now.spans.items) diagnostic.now)) }
+        ≡ normalized_text (raw_command name.now (first_primary diagnostic.now.spans.items) diagnostic.now)) }
 {
     let line = raw_line(alloc, name, place_of(&diagnostic.spans), diagnostic)?;
     normalize_untrusted_str(alloc, line.as_str())

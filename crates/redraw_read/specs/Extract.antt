@@ -56,8 +56,8 @@ abbrev pub held : File → Option (List ℕ)
 held f = option_map (λ (s : Source). s.lines) f.source
 
 -- what the file of this name holds, where it was read
-abbrev pub text_of : List File → List ℕ → List ℕ → Option (List ℕ)
-text_of files name home = option_and_then held (find (is_named name home) files)
+abbrev pub held_by_file : List File → List ℕ → List ℕ → Option (List ℕ)
+held_by_file files name home = option_and_then held (find (is_named name home) files)
 
 -- the lines that were chosen for a part of a file
 abbrev pub chosen : extract_type.Extract → Extract

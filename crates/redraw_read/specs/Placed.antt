@@ -27,7 +27,7 @@ use Rattle.redraw_report.specs.Report.{edited_of, lent}
 use Rattle.redraw_report.specs.SameSource.{same_source}
 use Rattle.redraw_report.specs.ShownText.{shown_text}
 use Rattle.redraw_report.specs.View.{Edited}
-use Rattle.redraw_read.specs.Extract.{Extract, lines_for, text_of}
+use Rattle.redraw_read.specs.Extract.{Extract, lines_for, held_by_file}
 use Rattle.redraw_read.specs.declared.hand.Hand.{Hand}
 use Rattle.redraw_read.specs.declared.sources.File.{File}
 use Rattle.redraw_read.specs.declared.spot.Spot.{Spot}
@@ -62,10 +62,10 @@ sight_of (content.Nothing line column) = Nothing line column
 sight_of (content.Blank line column) = Blank line column
 
 -- the line on which a region starts, and the column, where it has them
-abbrev pub line_of : Region → Option ℕ
-line_of (region.Lines r) = Some r.start_line
-line_of (region.Bytes start end) = None
-line_of (region.Chars start end unit) = None
+abbrev pub start_line_of : Region → Option ℕ
+start_line_of (region.Lines r) = Some r.start_line
+start_line_of (region.Bytes start end) = None
+start_line_of (region.Chars start end unit) = None
 
 abbrev pub column_of : Region → Option ℕ
 column_of (region.Lines r) = r.start_column
@@ -83,11 +83,11 @@ unseen false line column = Nothing line column
 -- what is shown of a region, by the lines that there are for it
 abbrev pub sight_by : Bool → Region → Option Extract → Sight
 sight_by short r (Some lines) = Lines lines.text lines.first_line
-sight_by short r None = unseen short (line_of r) (column_of r)
+sight_by short r None = unseen short (start_line_of r) (column_of r)
 
 -- what is shown of a region of a file, by what is at hand and what the input has of it
 abbrev pub sight_in : AtHand → List ℕ → Region → Option Carried → Sight
-sight_in hand file r c = sight_by hand.is_short r (lines_for (text_of hand.files file hand.home) c)
+sight_in hand file r c = sight_by hand.is_short r (lines_for (held_by_file hand.files file hand.home) c)
 
 -- how many blanks are shown before a place of which nothing is at hand
 abbrev pub blanks_in : Sight → ℕ

@@ -4,7 +4,7 @@ use Rattle.std.specs.Prelude.{string_bytes, if◌then◌else◌}
 use Rattle.std.specs.List.{list_all}
 use Rattle.std.specs.Option.{option_and_then, option_map, option_map_or}
 use Rattle.std.specs.Str.{bytes_eq}
-use Rattle.json_node.specs.Field.{given, text_at}
+use Rattle.json_node.specs.Field.{given, text_field}
 use Rattle.serde_json.specs.Data.{Data}
 use Rattle.redraw_report.specs.declared.diagnostic.Code.{Code}
 use Rattle.redraw_report.specs.declared.diagnostic.Diagnostic.{Diagnostic}
@@ -44,10 +44,10 @@ message_for (Some level) message =
 
 -- a value says a level of this severity and this message
 pub record IsHeading (d : Data) (severity : Severity) (message : List ℕ) : Type 0 where
-  pub level : option_and_then severity_named (text_at (codes "level") d) ≡ Some severity
+  pub level : option_and_then severity_named (text_field (codes "level") d) ≡ Some severity
   pub text : List ℕ
-  pub said : text_at (codes "message") d ≡ Some text
-  pub is : message ≡ message_for (text_at (codes "level") d) text
+  pub said : text_field (codes "message") d ≡ Some text
+  pub is : message ≡ message_for (text_field (codes "level") d) text
 
 -- where the code of an error is explained
 abbrev pub code_address : List ℕ → List ℕ
@@ -68,7 +68,7 @@ error_code code = if is_error_code code then Some record { id = code; url = Some
 -- the code that a value says
 abbrev pub code_in : Option Data → Option CodeTold
 code_in None = None
-code_in (Some e) = option_and_then error_code (text_at (codes "code") e)
+code_in (Some e) = option_and_then error_code (text_field (codes "code") e)
 
 abbrev pub code_told : Data → Option CodeTold
 code_told d = code_in (given (codes "code") d)

@@ -3,7 +3,7 @@
 ghost use Rattle.std.specs.Prelude.{◌≡◌, Some};
 ghost use Rattle.std.specs.Option.{option_map};
 ghost use Rattle.redraw_read.specs.Extract as spec;
-ghost use Rattle.redraw_read.specs.Extract.{chosen, text_of};
+ghost use Rattle.redraw_read.specs.Extract.{chosen, held_by_file};
 
 use crate::lines::has_lines;
 use crate::source::Source;
@@ -37,7 +37,7 @@ pub fn lines_for<'a>(
     carried: &'a Option<Carried>,
 ) -> Option<Extract<'a>>
     ensures value { option_map chosen result
-        ≡ spec.lines_for (text_of hand.entry.files.now file.now hand.entry.home.now) carried.now }
+        ≡ spec.lines_for (held_by_file hand.entry.files.now file.now hand.entry.home.now) carried.now }
 {
     match (source_of(hand, file), carried) {
         (None, None) => None,
@@ -62,7 +62,7 @@ fn choice_of<'a>(source: &'a Source, lines: &'a Carried) -> Extract<'a>
 /// What the file of this name holds, where it was read.
 fn source_of<'a>(hand: Hand<'a>, name: &str) -> Option<&'a Source>
     ensures value { option_map (λ source. source.now.lines) result
-        ≡ text_of hand.entry.files.now name.now hand.entry.home.now }
+        ≡ held_by_file hand.entry.files.now name.now hand.entry.home.now }
 {
     for file in hand.files {
         if file.is_named(name, hand.home) {

@@ -1,7 +1,7 @@
 //! The places of a diagnostic of rustc, or of one of its children.
 
 ghost use Rattle.std.specs.Prelude.{◌≡◌, Some, IfOk, codes, option_map, string_bytes, ℕ, List, Option};
-ghost use Rattle.json_node.specs.Field.{flag_at, lent_text, number_at, optional_at};
+ghost use Rattle.json_node.specs.Field.{flag_field, lent_text, number_field, optional_at};
 ghost use Rattle.redraw_read.specs.Spans.{SaysPlace, IsRegionOf, IsSpanIn};
 ghost use Rattle.serde_json.specs.Find.{as_str};
 ghost use Rattle.serde_json.specs.View.{view};
@@ -78,7 +78,7 @@ fn span_of(node: &Node<'_, '_>) -> Result<FileSpan, Fault>
         × (optional_at as_str (codes "label") (view node.now.value.now) ≡ Some said)
         × (option_map string_bytes span.label ≡ said_label said)) }
     ensures primary { IfOk result (λ span.
-        flag_at (codes "is_primary") (view node.now.value.now) ≡ Some span.is_primary) }
+        flag_field (codes "is_primary") (view node.now.value.now) ≡ Some span.is_primary) }
 {
     let label = given_text(node, "label")?;
     let is_primary = node.flag("is_primary")?;
@@ -145,8 +145,8 @@ pub fn region_of(node: &Node<'_, '_>) -> Result<LineRegion, Fault>
 
 /// The line and the column in the fields of these names.
 fn numbers_of(node: &Node<'_, '_>, line: &str, column: &str) -> Result<(usize, usize), Fault>
-    ensures line { IfOk result (λ numbers. number_at line.now (view node.now.value.now) ≡ Some numbers.0) }
-    ensures column { IfOk result (λ numbers. number_at column.now (view node.now.value.now) ≡ Some numbers.1) }
+    ensures line { IfOk result (λ numbers. number_field line.now (view node.now.value.now) ≡ Some numbers.0) }
+    ensures column { IfOk result (λ numbers. number_field column.now (view node.now.value.now) ≡ Some numbers.1) }
 {
     let line = node.number(line)?;
     let column = node.number(column)?;

@@ -132,7 +132,8 @@ impl Placing {
 
 /// The place of a region of which nothing is at hand.
 fn spot_nowhere<'a>(is_short: bool, path: &'a str, region: Region) -> Spot<'a>
-    ensures is { IsSpot path.now (spec.unseen is_short (spec.line_of region) (spec.column_of region)) region result }
+    ensures is { IsSpot path.now (spec.unseen is_short (spec.start_line_of region) (spec.column_of region)) region
+        result }
 {
     let content = unseen(is_short, line_of(region), column_of(region));
     let at = blank_length(content);
@@ -156,7 +157,7 @@ pub fn counted(count: u64, is_one: bool) -> u64
 
 /// The line on which a region starts, where it has one.
 fn line_of(region: Region) -> Option<usize>
-    ensures value { result ≡ spec.line_of region }
+    ensures value { result ≡ spec.start_line_of region }
 {
     match region {
         Region::Lines(lines) => Some(lines.start_line),

@@ -32,16 +32,16 @@ units_at CodePoints b = if nat_le 128 b && nat_lt b 192 then 0 else 1
 
 -- the place after so many units of some bytes that begin at byte `at`: the first byte before which they are counted and at which a
 -- character begins. It isn't exact where it lies inside of a character, or there are fewer units
-abbrev pub place_from : unit_type.Unit → ℕ → List ℕ → ℕ → Place
-place_from unit at [] units = record { byte = at; exact = units == 0 }
-place_from unit at (b ∷ bs) units =
+abbrev pub place_in_bytes : unit_type.Unit → ℕ → List ℕ → ℕ → Place
+place_in_bytes unit at [] units = record { byte = at; exact = units == 0 }
+place_in_bytes unit at (b ∷ bs) units =
     if nat_lt units (units_at unit b) then record { byte = at; exact = units == 0 }
-    else place_from unit (at + 1) bs (units - units_at unit b)
+    else place_in_bytes unit (at + 1) bs (units - units_at unit b)
 
 -- the place of a column, counted from 1, in a line
 abbrev pub column_in : unit_type.Unit → List ℕ → ℕ → Place
 column_in unit line zero = record { byte = 0; exact = false }
-column_in unit line (suc units) = place_from unit 0 line units
+column_in unit line (suc units) = place_in_bytes unit 0 line units
 
 -- the place that comes so many bytes after another
 abbrev pub moved : ℕ → Place → Place
@@ -80,12 +80,12 @@ end_on_line None = on_line.End
 -- where a region starts
 abbrev pub start_place : List ℕ → List ℕ → ℕ → Region → Place
 start_place text starts first (region.Bytes start end) = record { byte = start; exact = true }
-start_place text starts first (region.Chars start end unit) = place_from unit 0 text start
+start_place text starts first (region.Chars start end unit) = place_in_bytes unit 0 text start
 start_place text starts first (region.Lines r) =
     place_on r.unit text starts first r.start_line (start_on_line r.start_column r.end_column)
 
 -- where it ends
 abbrev pub end_place : List ℕ → List ℕ → ℕ → Region → Place
 end_place text starts first (region.Bytes start end) = record { byte = end; exact = true }
-end_place text starts first (region.Chars start end unit) = place_from unit 0 text end
+end_place text starts first (region.Chars start end unit) = place_in_bytes unit 0 text end
 end_place text starts first (region.Lines r) = place_on r.unit text starts first r.end_line (end_on_line r.end_column)

@@ -63,26 +63,26 @@ label_rows None = []
 label_rows (Some label) = Gap ∷ said Note label.now ∷ []
 
 -- the same of a place
-abbrev pub said_of : Mark → List Part
-said_of m = label_rows m.label
+abbrev pub said_of_mark : Mark → List Part
+said_of_mark m = label_rows m.label
 
 -- lines of a file as they are shown
-abbrev pub lines_of : List ℕ → List ℕ → ℕ → Bool → Lines
-lines_of path text first_line folded =
+abbrev pub file_lines : List ℕ → List ℕ → ℕ → Bool → Lines
+file_lines path text first_line folded =
     record { path = Some path; text = text; first_line = first_line; numbered = true; folded = folded }
 
 -- as many blanks as stand before a column, counted from 1
-abbrev pub blanks_before : ℕ → List ℕ
-blanks_before column = repeat (column - 1) (codes " ")
+abbrev pub spaces_before : ℕ → List ℕ
+spaces_before column = repeat (column - 1) (codes " ")
 
 -- a source with places that are in it: its lines with a mark for each, or where it has none its place and what is said, or a line of
 -- blanks with the marks
 abbrev pub content_parts : List Mark → Shown → Content → List Part
 content_parts within source (content.Lines text first_line) =
-    Marks (lines_of source.path.now (shown_text text) first_line true) (map marked_of within) ∷ []
+    Marks (file_lines source.path.now (shown_text text) first_line true) (map marked_of within) ∷ []
 content_parts within source (content.Blank line column) =
-    Marks (lines_of source.path.now (blanks_before column) line true) (map marked_of within) ∷ []
-content_parts within source (content.Nothing line column) = Names source.path.now line column ∷ flat_map said_of within
+    Marks (file_lines source.path.now (spaces_before column) line true) (map marked_of within) ∷ []
+content_parts within source (content.Nothing line column) = Names source.path.now line column ∷ flat_map said_of_mark within
 
 -- a source as it is shown, with those of some places that are in it
 abbrev pub source_parts : List Mark → Shown → List Part
@@ -116,7 +116,7 @@ edited_of c = record { start = c.start; end = c.end; text = c.text.now }
 -- an offer: the lines of its source with all of its edits; nothing where the source has no lines
 abbrev pub edits_on : Offer → Content → List Part
 edits_on offer (content.Lines text first_line) =
-    Edits (lines_of offer.source.path.now (shown_text text) first_line offer.is_folded) (map edited_of offer.changes.items) ∷ []
+    Edits (file_lines offer.source.path.now (shown_text text) first_line offer.is_folded) (map edited_of offer.changes.items) ∷ []
 edits_on offer (content.Nothing line column) = []
 edits_on offer (content.Blank line column) = []
 

@@ -1,6 +1,7 @@
 //! Where in a text a region lies, as a tool counted it.
 ghost use Rattle.std.specs.Prelude.{◌≡◌, ◌≤◌, length, true};
-ghost use Rattle.redraw_report.specs.Region.{IsLocated, blanks_before, column_in, on_line_from, place_from, place_on};
+ghost use Rattle.redraw_report.specs.Region.{IsLocated, blanks_before, column_in, on_line_from, place_in_bytes};
+ghost use Rattle.redraw_report.specs.Region.{place_on};
 ghost use Rattle.redraw_report.specs.Region as spec;
 
 use crate::diagnostic::{Region, Unit};
@@ -180,7 +181,7 @@ fn place_in_line(line: &[u8], column: usize, unit: Unit) -> Place
 
 /// The place before which a text has this many units.
 fn place_after(bytes: &[u8], units: usize, unit: Unit) -> Place
-    ensures value { result ≡ place_from unit 0 bytes.now units }
+    ensures value { result ≡ place_in_bytes unit 0 bytes.now units }
     ensures within { result.byte ≤ length bytes.now }
 {
     let mut left = units;

@@ -3,8 +3,8 @@ ghost use Rattle.std.specs.Prelude.{◌≡◌, ◌++◌, [], ◌∷◌, IfOk, On
 ghost use Rattle.std.specs.Cow.{cow_str_bytes};
 ghost use Rattle.std.specs.List.{flat_map, list_any};
 ghost use Rattle.redraw_report.specs.Report as spec;
-ghost use Rattle.redraw_report.specs.Report.{content_parts, label_rows, lines_of, marked_of, marked_parts, said};
-ghost use Rattle.redraw_report.specs.Report.{said_of, source_parts, with_shown, with_source, with_sources};
+ghost use Rattle.redraw_report.specs.Report.{content_parts, label_rows, file_lines, marked_of, marked_parts, said};
+ghost use Rattle.redraw_report.specs.Report.{said_of_mark, source_parts, with_shown, with_source, with_sources};
 ghost use Rattle.redraw_report.specs.SameSource.{same_source};
 ghost use Rattle.redraw_report.specs.View.{Gap, Marks, marked_view, part_view};
 ghost use Rattle.redraw_report.specs.declared.diagnostic.Severity.TheVariants.{Note};
@@ -174,7 +174,7 @@ fn add_labels<'a>(
     marks: &[Mark<'a>],
 ) -> Result<(), AllocError>
     ensures added { OnOk result (map part_view elements.new.items
-        ≡ map part_view elements.old.items ++ flat_map said_of marks.now) }
+        ≡ map part_view elements.old.items ++ flat_map said_of_mark marks.now) }
 {
     for mark in marks {
         add_label_rows(alloc, elements, mark.label)?;
@@ -213,7 +213,7 @@ fn add_source<'a>(
 
 /// As many blanks as stand before a column.
 fn blanks_before(alloc: Global, column: usize) -> Result<String, AllocError>
-    ensures value { IfOk result (λ text. string_bytes text ≡ spec.blanks_before column) }
+    ensures value { IfOk result (λ text. string_bytes text ≡ spec.spaces_before column) }
 {
     " ".repeat(alloc, column.saturating_sub(1))
 }
@@ -228,7 +228,7 @@ fn add_marked<'a>(
     within: &[Mark<'a>],
 ) -> Result<(), AllocError>
     ensures added { OnOk result (map part_view elements.new.items ≡ map part_view elements.old.items
-        ++ Marks (lines_of source.now.path.now (cow_str_bytes text.entry) first_line true)
+        ++ Marks (file_lines source.now.path.now (cow_str_bytes text.entry) first_line true)
         (map marked_of within.now) ∷ []) }
 {
     let markers = annotations_of(alloc, within)?;

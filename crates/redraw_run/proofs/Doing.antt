@@ -15,7 +15,7 @@ use Rattle.redraw_command.specs.declared.tally.Tally.{Tally}
 use Rattle.redraw_report.specs.declared.diagnostic.Severity.{Severity}
 use Rattle.redraw_report.specs.declared.diagnostic.Severity.TheVariants.{Error, Warning, Info, Note, Help, Plain}
 use Rattle.redraw_run.specs.Deeds.{State, Deed, Drawn, Commanded, HandedOn, Told, Refused, LeftOut, Repeated, BuildFailed, AreDeeds, printed, told}
-use Rattle.redraw_run.specs.Deeds.{tally_after, tally_by, with_files, Does, AppendsFirst, IsCutShort, IsPart, Stops, Goes}
+use Rattle.redraw_run.specs.Deeds.{tally_after, tally_by, with_files, Does, AppendsFirst, IsCutShort, IsPartOfDeeds, Stops, Goes}
 use Rattle.redraw_run.specs.Fates.{AreNone, Then}
 
 deeds_both : (r : ReportRenderer) (c : Choice) (ds es : List Deed) → AreDeeds r c ds → AreDeeds r c es → AreDeeds r c (ds ++ es)
@@ -144,27 +144,28 @@ part_either P Q c ds f (inl none) = inl none
 part_either P Q c ds f (inr (rest, p)) = inr (rest, f (ds ++ rest) p)
 
 -- a part of some things is one of those of a wider kind
-pub part_as : {P Q : Choice → List Deed → Type 0} (c : Choice) (ds : List Deed) → ((ds : List Deed) → P c ds → Q c ds) → IsPart P c ds → IsPart Q c ds
+pub part_as : {P Q : Choice → List Deed → Type 0} (c : Choice) (ds : List Deed) → ((ds : List Deed) → P c ds → Q c ds) → IsPartOfDeeds P c ds
+    → IsPartOfDeeds Q c ds
 part_as {P} {Q} c ds f h = record { is = part_either P Q c ds f h.is }
 
 -- all of some things is a part of them
-pub part_all : {P : Choice → List Deed → Type 0} (c : Choice) (ds : List Deed) → P c ds → IsPart P c ds
+pub part_all : {P : Choice → List Deed → Type 0} (c : Choice) (ds : List Deed) → P c ds → IsPartOfDeeds P c ds
 part_all {P} c ds p = record { is = inr ([], subst (P c) (sym (append-nil ds)) p) }
 
 -- these are the first of some things
-parted : {P : Choice → List Deed → Type 0} {c : Choice} {ds : List Deed} → (rest : List Deed) × P c (ds ++ rest) → IsPart P c ds
+parted : {P : Choice → List Deed → Type 0} {c : Choice} {ds : List Deed} → (rest : List Deed) × P c (ds ++ rest) → IsPartOfDeeds P c ds
 parted h = record { is = inr h }
 
 part_next : {P Q : Choice → List Deed → Type 0} (c : Choice) (ds : List Deed) → ((es : List Deed) × Q c es) → (bs es : List Deed) → ds ≡ bs ++ es
-    → P c bs → (es ≡ []) ⊎ ((rest : List Deed) × Q c (es ++ rest)) → IsPart (Then P Q) c ds
+    → P c bs → (es ≡ []) ⊎ ((rest : List Deed) × Q c (es ++ rest)) → IsPartOfDeeds (Then P Q) c ds
 part_next {P} {Q} c ds q bs es split p (inl none) =
     parted (q.0, record { before = bs; after = q.0; split = ap (λ l. l ++ q.0) (split ∙ ap (λ l. bs ++ l) none ∙ append-nil bs); first = p; next = q.1 })
 part_next {P} {Q} c ds q bs es split p (inr (rest, h)) =
     parted (rest, record { before = bs; after = es ++ rest; split = ap (λ l. l ++ rest) split ∙ append_assoc bs es rest; first = p; next = h })
 
 -- things are done, and a part of others, of which there are some
-pub part_then : {P Q : Choice → List Deed → Type 0} (c : Choice) (ds : List Deed) → ((es : List Deed) × Q c es) → Then P (IsPart Q) c ds
-    → IsPart (Then P Q) c ds
+pub part_then : {P Q : Choice → List Deed → Type 0} (c : Choice) (ds : List Deed) → ((es : List Deed) × Q c es) → Then P (IsPartOfDeeds Q) c ds
+    → IsPartOfDeeds (Then P Q) c ds
 part_then {P} {Q} c ds q h = part_next {P = P} {Q = Q} c ds q h.before h.after h.split h.first h.next.is
 
 pub cut_all : {P : Choice → List Deed → Type 0} {a b : State} → Does P a b → IsCutShort P a b
@@ -215,33 +216,34 @@ stops_then P Q a b c Utf16 p q = absurd q
 pub goes_as : {T : Type 0} (P Q : Choice → List Deed → Type 0) (a b : State) (r : Result T Stop) → ((ds : List Deed) → P a.choice ds → Q a.choice ds)
     → Goes r P a b → Goes r Q a b
 goes_as P Q a b (Ok x) f p = does_as f p
-goes_as P Q a b (Err s) f p = stops_as (IsPart P) (IsPart Q) a b s (λ ds h. part_as a.choice ds f h) p
+goes_as P Q a b (Err s) f p = stops_as (IsPartOfDeeds P) (IsPartOfDeeds Q) a b s (λ ds h. part_as a.choice ds f h) p
 
 pub goes_then : {T : Type 0} (P Q : Choice → List Deed → Type 0) (a b c : State) (r : Result T Stop) → ((ch : Choice) → (es : List Deed) × Q ch es)
     → Does P a b → Goes r Q b c → Goes r (Then P Q) a c
 goes_then P Q a b c (Ok x) q p g = does_then p g
 goes_then P Q a b c (Err s) q p g =
-    stops_as (Then P (IsPart Q)) (IsPart (Then P Q)) a c s (λ ds h. part_then a.choice ds (q a.choice) h) (stops_then P (IsPart Q) a b c s p g)
+    stops_as (Then P (IsPartOfDeeds Q)) (IsPartOfDeeds (Then P Q)) a c s (λ ds h. part_then a.choice ds (q a.choice) h)
+    (stops_then P (IsPartOfDeeds Q) a b c s p g)
 
 -- nothing is done before it stops
-pub stops_none : (P : Choice → List Deed → Type 0) {a b : State} (s : Stop) → s ≡ Memory → Does AreNone a b → Stops s (IsPart P) a b
+pub stops_none : (P : Choice → List Deed → Type 0) {a b : State} (s : Stop) → s ≡ Memory → Does AreNone a b → Stops s (IsPartOfDeeds P) a b
 stops_none P s is p = stops_any s is (does_as (λ ds none. record { is = inl none }) p)
 
 -- all of some things are done before it stops
-pub stops_all : {P : Choice → List Deed → Type 0} {a b : State} (s : Stop) → s ≡ Memory → Does P a b → Stops s (IsPart P) a b
+pub stops_all : {P : Choice → List Deed → Type 0} {a b : State} (s : Stop) → s ≡ Memory → Does P a b → Stops s (IsPartOfDeeds P) a b
 stops_all {P} {a} {b} s is p = stops_any s is (does_as (part_all a.choice) p)
 
 -- what is an error goes as it stops
 pub goes_err : {T : Type 0} {Q : Stop → Type 0} (P : Choice → List Deed → Type 0) (a b : State) (r : Result T Stop) → IsErrAnd r Q
-    → ((s : Stop) → Q s → Stops s (IsPart P) a b) → Goes r P a b
+    → ((s : Stop) → Q s → Stops s (IsPartOfDeeds P) a b) → Goes r P a b
 goes_err P a b (Ok x) is f = absurd is
 goes_err P a b (Err s) is f = f s is
 
 -- what stops for a reason goes so
 pub goes_on : {T : Type 0} (P : Choice → List Deed → Type 0) (a b : State) (x : Stop) (r : Result T Stop) → IsErrAnd r (λ s. s ≡ x)
-    → Stops x (IsPart P) a b → Goes r P a b
+    → Stops x (IsPartOfDeeds P) a b → Goes r P a b
 goes_on P a b x (Ok done) is h = absurd is
-goes_on P a b x (Err s) is h = subst (λ (t : Stop). Stops t (IsPart P) a b) (sym is) h
+goes_on P a b x (Err s) is h = subst (λ (t : Stop). Stops t (IsPartOfDeeds P) a b) (sym is) h
 
 none_then : {P : Choice → List Deed → Type 0} (c : Choice) (ds : List Deed) → Then AreNone P c ds → P c ds
 none_then {P} c ds h = subst (P c) (sym (h.split ∙ ap (λ l. l ++ h.after) h.first)) h.next
@@ -250,4 +252,5 @@ none_then {P} c ds h = subst (P c) (sym (h.split ∙ ap (λ l. l ++ h.after) h.f
 pub goes_after : {T : Type 0} (P : Choice → List Deed → Type 0) (a b c : State) (r : Result T Stop) → Does AreNone a b → Goes r P b c → Goes r P a c
 goes_after P a b c (Ok x) p g = does_as (none_then {P = P} a.choice) (does_then {P = AreNone} {Q = P} p g)
 goes_after P a b c (Err s) p g =
-    stops_as (Then AreNone (IsPart P)) (IsPart P) a c s (none_then {P = IsPart P} a.choice) (stops_then AreNone (IsPart P) a b c s p g)
+    stops_as (Then AreNone (IsPartOfDeeds P)) (IsPartOfDeeds P) a c s (none_then {P = IsPartOfDeeds P} a.choice)
+    (stops_then AreNone (IsPartOfDeeds P) a b c s p g)

@@ -22,7 +22,7 @@ use Rattle.redraw_read.specs.declared.sources.File.{File}
 use Rattle.redraw_report.specs.declared.diagnostic.Diagnostic.{Diagnostic}
 use Rattle.redraw_run.specs.Deeds.{State, Deed, Drawn, Commanded, HandedOn, Told, Refused, LeftOut, Repeated, BuildFailed, AreDeeds, AreTold, TellsAll, printed}
 use Rattle.redraw_run.specs.Deeds.{told}
-use Rattle.redraw_run.specs.Deeds.{left_out, tally_by, with_files, repeated, Does, AppendsFirst, IsCutShort, IsUnwritable, Writes, Stops}
+use Rattle.redraw_run.specs.Deeds.{one_left_out, tally_by, with_files, repeated, Does, AppendsFirst, IsCutShort, IsUnwritable, Writes, Stops}
 use Rattle.redraw_run.specs.Deeds.{Goes}
 use Rattle.redraw_run.specs.DrawnFinding.{IsCounted, RefusesFinding, ShowsFinding, ending_after}
 use Rattle.redraw_run.specs.HtmlDocument.{handed}
@@ -139,7 +139,7 @@ abbrev pub IsRefused : Diagnostic → RenderError → Choice → List Deed → T
 IsRefused d why c deeds = deeds ≡ Refused d why ∷ []
 
 pub does_refused : {a b : State} (d : Diagnostic) (why : RenderError) (files : List File) → a.choice.form ≡ Report → RefusesFinding a.renderer files d why
-    → b.out ≡ a.out → b.err ≡ a.err → b.tally ≡ left_out a.tally → b.renderer ≡ a.renderer → b.choice ≡ a.choice → Does (IsRefused d why) a b
+    → b.out ≡ a.out → b.err ≡ a.err → b.tally ≡ one_left_out a.tally → b.renderer ≡ a.renderer → b.choice ≡ a.choice → Does (IsRefused d why) a b
 does_refused {a} {b} d why files form refuses out err tally renderer choice =
     record {
       deeds = Refused d why ∷ [];
@@ -147,7 +147,7 @@ does_refused {a} {b} d why files form refuses out err tally renderer choice =
       fit = refl;
       out = same_appends a.out b.out out;
       err = same_appends a.err b.err err;
-      tally = tally_is b.tally (left_out a.tally) tally;
+      tally = tally_is b.tally (one_left_out a.tally) tally;
       renderer = renderer;
       choice = choice;
     }

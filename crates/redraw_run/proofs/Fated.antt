@@ -3,9 +3,9 @@ use Rattle.std.proofs.Common.{◌≡◌, ◌++◌, ◌∙◌, ℕ, List, [], ◌
 use Rattle.serde_json.specs.Data.{Data, null}
 use Rattle.redraw_command.specs.declared.choice.Choice.{Choice}
 use Rattle.redraw_report.specs.declared.diagnostic.Diagnostic.{Diagnostic}
-use Rattle.redraw_run.specs.Deeds.{Deed, Drawn, Commanded, HandedOn, Told, Refused, LeftOut, Repeated, BuildFailed, IsPart}
+use Rattle.redraw_run.specs.Deeds.{Deed, Drawn, Commanded, HandedOn, Told, Refused, LeftOut, Repeated, BuildFailed, IsPartOfDeeds}
 use Rattle.redraw_run.specs.Fates.{AreMessages, AreNone, AreResults, AreRuns, Each, IsChosen, IsFound, IsHandedOn, IsKnown, IsRepeated}
-use Rattle.redraw_run.specs.Fates.{IsResult, IsRun, IsShown}
+use Rattle.redraw_run.specs.Fates.{IsResult, IsLogRun, IsShown}
 use Rattle.redraw_run.specs.Fates.{IsUnknown, IsWrong, Then}
 use Rattle.redraw_run.specs.declared.kind.Kind.{Kind}
 use Rattle.redraw_run.proofs.Doing.{part_as, part_then}
@@ -64,7 +64,7 @@ pub shown_some : (d : Diagnostic) (c : Choice) → (es : List Deed) × IsShown d
 shown_some d c = (Drawn d [] ∷ [], (refl, refl))
 
 -- messages before a finding is shown are a part of that
-pub shown_part : (d : Diagnostic) (c : Choice) (ds : List Deed) → AreMessages c ds → IsPart (IsShown d) c ds
+pub shown_part : (d : Diagnostic) (c : Choice) (ds : List Deed) → AreMessages c ds → IsPartOfDeeds (IsShown d) c ds
 shown_part d c ds h = record { is = inr ((shown_some d c).0, shown_after d c ds (shown_some d c).0 h (shown_some d c).1) }
 
 -- messages, and then messages
@@ -96,10 +96,10 @@ pub result_some : (c : Choice) → (es : List Deed) × IsResult c es
 result_some c = (LeftOut ∷ [], record { before = []; after = LeftOut ∷ []; split = refl; first = tt; next = inl refl })
 
 -- messages are a part of what becomes of a result, and of a run
-pub result_part : (c : Choice) (ds : List Deed) → AreMessages c ds → IsPart IsResult c ds
+pub result_part : (c : Choice) (ds : List Deed) → AreMessages c ds → IsPartOfDeeds IsResult c ds
 result_part c ds h = record { is = inr (LeftOut ∷ [], record { before = ds; after = LeftOut ∷ []; split = refl; first = h; next = inl refl }) }
 
-pub run_begins : (c : Choice) (ds : List Deed) → AreMessages c ds → IsRun c ds
+pub run_begins : (c : Choice) (ds : List Deed) → AreMessages c ds → IsLogRun c ds
 run_begins c ds h = record { before = ds; after = []; split = sym (append-nil ds); first = h; next = ([], refl) }
 
 pub results_more : (c : Choice) (ds : List Deed) → Then AreResults IsResult c ds → AreResults c ds
@@ -110,24 +110,24 @@ results_more c ds h = (
 )
 
 -- the results of a run so far, and one more
-pub run_more : (c : Choice) (ds : List Deed) → Then IsRun IsResult c ds → IsRun c ds
+pub run_more : (c : Choice) (ds : List Deed) → Then IsLogRun IsResult c ds → IsLogRun c ds
 run_more c ds h = then_as {P = AreMessages} c ds (λ es m. m) (results_more c) (then_assoc {P = AreMessages} {Q = AreResults} c ds h)
 
-pub run_part : (c : Choice) (ds : List Deed) → Then IsRun (IsPart IsResult) c ds → IsPart IsRun c ds
-run_part c ds h = part_as {P = Then IsRun IsResult} c ds (run_more c) (part_then {P = IsRun} {Q = IsResult} c ds (result_some c) h)
+pub run_part : (c : Choice) (ds : List Deed) → Then IsLogRun (IsPartOfDeeds IsResult) c ds → IsPartOfDeeds IsLogRun c ds
+run_part c ds h = part_as {P = Then IsLogRun IsResult} c ds (run_more c) (part_then {P = IsLogRun} {Q = IsResult} c ds (result_some c) h)
 
-pub run_some : (c : Choice) → (es : List Deed) × IsRun c es
+pub run_some : (c : Choice) → (es : List Deed) × IsLogRun c es
 run_some c = ([], record { before = []; after = []; split = refl; first = tt; next = ([], refl) })
 
-runs_more : (c : Choice) (ds : List Deed) → Then AreRuns IsRun c ds → AreRuns c ds
+runs_more : (c : Choice) (ds : List Deed) → Then AreRuns IsLogRun c ds → AreRuns c ds
 runs_more c ds h = (
   h.first.0 ++ null ∷ [],
-  each_more (λ (d : Data). IsRun) null c h.first.0 ds
+  each_more (λ (d : Data). IsLogRun) null c h.first.0 ds
       record { before = h.before; after = h.after; split = h.split; first = h.first.1; next = h.next },
 )
 
-pub runs_part : (c : Choice) (ds : List Deed) → Then AreRuns (IsPart IsRun) c ds → IsPart AreRuns c ds
-runs_part c ds h = part_as {P = Then AreRuns IsRun} c ds (runs_more c) (part_then {P = AreRuns} {Q = IsRun} c ds (run_some c) h)
+pub runs_part : (c : Choice) (ds : List Deed) → Then AreRuns (IsPartOfDeeds IsLogRun) c ds → IsPartOfDeeds AreRuns c ds
+runs_part c ds h = part_as {P = Then AreRuns IsLogRun} c ds (runs_more c) (part_then {P = AreRuns} {Q = IsLogRun} c ds (run_some c) h)
 
 -- ---- values
 

@@ -11,12 +11,12 @@ use Rattle.redraw_command.specs.declared.choice.Choice.{Choice}
 use Rattle.redraw_command.specs.declared.stop.Stop.{Stop}
 use Rattle.redraw_command.specs.declared.stop.Stop.TheVariants.{Memory, Unwritable, Unreadable, Utf16}
 use Rattle.redraw_command.specs.Line.{begins_utf16}
-use Rattle.redraw_run.specs.Deeds.{State, Deed, Does, IsCutShort, IsPart, IsUnreadable, Stops}
+use Rattle.redraw_run.specs.Deeds.{State, Deed, Does, IsCutShort, IsPartOfDeeds, IsUnreadable, Stops}
 use Rattle.redraw_run.specs.Fates.{AreNone, Each, Halts, IsHalted, IsOfUtf16, IsInput, IsLast, IsNextIn, IsSoFar, IsTelling, Then}
-use Rattle.redraw_run.specs.Inputs.{AreAllIn, AreCut, AreDrawn, AreFirstIn, Input, IsCutFrom, IsCutIn, IsCutOf, IsDrawnFrom, IsDrawnIn, IsDrawnOf}
+use Rattle.redraw_run.specs.Inputs.{AreAllIn, AreCut, AreDrawn, AreFirstIn, Input, IsCutFrom, IsCutIn, IsInputCut, IsDrawnFrom, IsDrawnIn, IsDrawnOf}
 use Rattle.redraw_run.specs.Inputs.{IsOf, are_whole, held_by, held_in, names_of, standard}
 use Rattle.redraw_run.specs.ReadLines.{AreAllOf, AreFirstOf, SumsUp}
-use Rattle.redraw_run.specs.Run.{ArePartlyPrinted, ArePrinted, EndsInput, Runs, begun}
+use Rattle.redraw_run.specs.Run.{ArePartlyPrinted, ArePrinted, EndsInput, Runs, nothing_begun}
 use Rattle.redraw_run.proofs.Doing.{cut_then, does_as, does_nothing, does_then, stops_as, stops_then}
 use Rattle.redraw_run.proofs.Done.{does_told}
 use Rattle.redraw_run.proofs.Fated.{each_more}
@@ -25,17 +25,17 @@ use Rattle.std.proofs.lemmas.Result.{IfOk-weaker}
 
 -- lines are read so far, and it stops at the next one
 pub halts_next : (before : List (List ℕ)) (line : List ℕ) (document : Option (List ℕ)) (a b c : State) (s : Stop) → Does (IsSoFar before document) a b
-    → Stops s (IsPart (IsNextIn line document)) b c → Stops s (IsHalted (before ++ line ∷ [])) a c
+    → Stops s (IsPartOfDeeds (IsNextIn line document)) b c → Stops s (IsHalted (before ++ line ∷ [])) a c
 halts_next before line document a b c s p q =
-    stops_as (Then (IsSoFar before document) (IsPart (IsNextIn line document))) (IsHalted (before ++ line ∷ [])) a c s
-    (λ ds h. inr (before, line, document, refl, h)) (stops_then (IsSoFar before document) (IsPart (IsNextIn line document)) a b c s p q)
+    stops_as (Then (IsSoFar before document) (IsPartOfDeeds (IsNextIn line document))) (IsHalted (before ++ line ∷ [])) a c s
+    (λ ds h. inr (before, line, document, refl, h)) (stops_then (IsSoFar before document) (IsPartOfDeeds (IsNextIn line document)) a b c s p q)
 
 -- or at their end
 pub halts_end : (lines : List (List ℕ)) (document : Option (List ℕ)) (a b c : State) (s : Stop) → Does (IsSoFar lines document) a b
-    → Stops s (IsPart (IsLast document)) b c → Stops s (IsHalted lines) a c
+    → Stops s (IsPartOfDeeds (IsLast document)) b c → Stops s (IsHalted lines) a c
 halts_end lines document a b c s p q =
-    stops_as (Then (IsSoFar lines document) (IsPart (IsLast document))) (IsHalted lines) a c s (λ ds h. inl (document, h))
-    (stops_then (IsSoFar lines document) (IsPart (IsLast document)) a b c s p q)
+    stops_as (Then (IsSoFar lines document) (IsPartOfDeeds (IsLast document))) (IsHalted lines) a c s (λ ds h. inl (document, h))
+    (stops_then (IsSoFar lines document) (IsPartOfDeeds (IsLast document)) a b c s p q)
 
 halted : (lines : List (List ℕ)) (document : Option (List ℕ)) (c : Choice) (ds : List Deed) → IsSoFar lines document c ds → IsHalted lines c ds
 halted lines document c ds h =
@@ -132,7 +132,7 @@ drawn_one {File} {Standard} held name is a b none q =
 
 -- it is cut short at the next one
 pub drawn_cut : {File Standard : Type 0} (held : File ⊎ Standard → Option (List ℕ)) (names : List (List ℕ)) (name : List ℕ) (later : List (List ℕ))
-    (whole : Bool) (a b c : State) → AreDrawn File Standard held names whole a b → IsCutOf held name b c
+    (whole : Bool) (a b c : State) → AreDrawn File Standard held names whole a b → IsInputCut held name b c
     → AreCut File Standard held (names ++ name ∷ later) a c
 drawn_cut held names name later whole a b c p (source, is, (lines, first, q)) =
     record {
@@ -260,7 +260,7 @@ file_drawn file input name (Ok is) a b other h = file_of file input name is a b 
 file_drawn file input name (Err e) a b other h = tt
 
 pub file_cut : {File Standard : Type 0} (file : File → Option (List ℕ)) (input : Standard → Option (List ℕ)) (name : List ℕ) (result : Result Bool Error)
-    (a b : State) → (name ≡ standard → ⊥) → IfErr result (λ error. IsCutIn file a b) → IfErr result (λ error. IsCutOf (held_by file input) name a b)
+    (a b : State) → (name ≡ standard → ⊥) → IfErr result (λ error. IsCutIn file a b) → IfErr result (λ error. IsInputCut (held_by file input) name a b)
 file_cut file input name (Ok is) a b other h = tt
 file_cut file input name (Err e) a b other (None, h) = (None, tt, h)
 file_cut file input name (Err e) a b other (Some source, h) = (Some (inl source), other, h)
@@ -279,7 +279,7 @@ input_drawn file input name (Ok is) a b same h = input_of file input name is a b
 input_drawn file input name (Err e) a b same h = tt
 
 pub input_cut : {File Standard : Type 0} (file : File → Option (List ℕ)) (input : Standard → Option (List ℕ)) (name : List ℕ) (result : Result Bool Error)
-    (a b : State) → name ≡ standard → IfErr result (λ error. IsCutIn input a b) → IfErr result (λ error. IsCutOf (held_by file input) name a b)
+    (a b : State) → name ≡ standard → IfErr result (λ error. IsCutIn input a b) → IfErr result (λ error. IsInputCut (held_by file input) name a b)
 input_cut file input name (Ok is) a b same h = tt
 input_cut file input name (Err e) a b same (None, h) = (None, tt, h)
 input_cut file input name (Err e) a b same (Some source, h) = (Some (inr source), same, h)
@@ -303,7 +303,7 @@ unbegun held names a err status told ends = inr (inr record { unprinted = refl; 
 
 -- what a run begins with
 pub run_from : (P : State → Type 0) (r looked : ReportRenderer) (c : Choice) (t : Tally) (out err : Option (List ℕ)) → r ≡ looked → t ≡ no_tally
-    → P record { renderer = r; choice = c; tally = t; out = out; err = err } → P (begun looked c out err)
+    → P record { renderer = r; choice = c; tally = t; out = out; err = err } → P (nothing_begun looked c out err)
 run_from P r looked c t out err is none h =
     subst P (ap₂ (λ (x : ReportRenderer) (y : Tally). record { renderer = x; choice = c; tally = y; out = out; err = err }) is none) h
 
@@ -327,7 +327,7 @@ one_drawn held name (Ok is) a b h = drawn_one held name is a b (does_nothing a) 
 one_drawn held name (Err e) a b h = tt
 
 pub one_cut : {File Standard : Type 0} (held : File ⊎ Standard → Option (List ℕ)) (name : List ℕ) (r : Result Bool Error) (a b : State)
-    → IfErr r (λ error. IsCutOf held name a b) → IfErr r (λ error. AreCut File Standard held (name ∷ []) a b)
+    → IfErr r (λ error. IsInputCut held name a b) → IfErr r (λ error. AreCut File Standard held (name ∷ []) a b)
 one_cut held name (Ok is) a b h = tt
 one_cut held name (Err e) a b h = drawn_cut held [] name [] true a a b (drawn_none held a (does_nothing a)) h
 
@@ -339,7 +339,7 @@ if_err_any P (Err e) h = h
 -- the next input is cut short
 pub next_cut : {File Standard : Type 0} (held : File ⊎ Standard → Option (List ℕ)) (names : List (List ℕ)) (name : List ℕ) (later all : List (List ℕ))
     (whole : Bool) (r : Result Bool Error) (a b c : State) → all ≡ names ++ name ∷ later → AreDrawn File Standard held names whole a b
-    → IsCutOf held name b c → IfErr r (λ error. AreCut File Standard held all a c)
+    → IsInputCut held name b c → IfErr r (λ error. AreCut File Standard held all a c)
 next_cut {File} {Standard} held names name later all whole r a b c is p q =
     if_err_any (AreCut File Standard held all a c) r
     (subst (λ (l : List (List ℕ)). AreCut File Standard held l a c) (sym is) (drawn_cut held names name later whole a b c p q))

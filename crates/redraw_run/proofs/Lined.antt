@@ -13,11 +13,11 @@ use Rattle.redraw_command.specs.Line.{IsUnmarked, begins_object, first_of}
 use Rattle.redraw_command.specs.declared.choice.Choice.{Choice}
 use Rattle.redraw_command.specs.declared.stop.Stop.{Stop}
 use Rattle.redraw_command.specs.declared.stop.Stop.TheVariants.{Memory}
-use Rattle.redraw_run.specs.Deeds.{State, Deed, Does, Goes, IsPart, Stops}
-use Rattle.redraw_run.specs.Fates.{Advances, AreNone, Each, IsDocumentLine, IsHandedOn, IsInput, IsLast, IsLine, IsNext, IsNextIn}
+use Rattle.redraw_run.specs.Deeds.{State, Deed, Does, Goes, IsPartOfDeeds, Stops}
+use Rattle.redraw_run.specs.Fates.{Advances, AreNone, Each, IsDocumentLine, IsHandedOn, IsInput, IsLast, IsFateOfLine, IsNext, IsNextIn}
 use Rattle.redraw_run.specs.Fates.{IsNoValue, IsObject, IsOpen, IsSoFar, IsValue, Reads, document_of, IsTelling, IsTextOf, IsWhole, IsWithoutEnd, IsWrong}
 use Rattle.redraw_run.specs.Fates.{LeavesOpen, Then}
-use Rattle.redraw_run.specs.ReadLines.{AreAllOf, AreFirstOf, AreLinesOf, AreReadOf, AreTaken, TakesLine, TakesNext}
+use Rattle.redraw_run.specs.ReadLines.{AreAllOf, AreFirstOf, AreReadLines, AreReadOf, AreTaken, TakesLine, TakesNext}
 use Rattle.redraw_run.proofs.Doing.{does_as, does_then, stops_all, stops_none}
 use Rattle.redraw_run.proofs.Fated.{each_more, then_as, then_assoc}
 
@@ -46,7 +46,7 @@ pub read_first : (held left : Option (List ℕ)) (lines : List (List ℕ)) → A
 read_first None left lines read = tt
 read_first (Some bytes) left lines read = (read.0, read.2)
 
-pub read_all : (held left : Option (List ℕ)) (lines : List (List ℕ)) → AreReadOf held lines left → IsAtEnd left → AreLinesOf held lines
+pub read_all : (held left : Option (List ℕ)) (lines : List (List ℕ)) → AreReadOf held lines left → IsAtEnd left → AreReadLines held lines
 read_all None left lines read end = tt
 read_all (Some bytes) left lines read end =
     subst (AreTaken bytes lines) (subst IsAtEnd read.1 end) read.2
@@ -71,15 +71,15 @@ open_more lines line document c ds h =
           ap (λ l. l ++ line) h.first.whole ∙ append_assoc h.first.text (concat h.first.rest) line
           ∙ ap (λ l. h.first.text ++ l) (sym (concat_more h.first.rest line));
       becomes =
-          then_as {P = Each IsLine h.first.alone} c ds (λ es m. m) (λ es m. each_more IsDocumentLine line c h.first.rest es m)
-          (then_assoc {P = Each IsLine h.first.alone} {Q = Each IsDocumentLine h.first.rest} c ds
+          then_as {P = Each IsFateOfLine h.first.alone} c ds (λ es m. m) (λ es m. each_more IsDocumentLine line c h.first.rest es m)
+          (then_assoc {P = Each IsFateOfLine h.first.alone} {Q = Each IsDocumentLine h.first.rest} c ds
           record { before = h.before; after = h.after; split = h.split; first = h.first.becomes; next = h.next });
     }
 
 -- what becomes of lines so far, and of the next one
 pub so_far_more : (lines : List (List ℕ)) (line : List ℕ) (old new : Option (List ℕ)) (c : Choice) (ds : List Deed)
     → Then (IsSoFar lines old) (IsNext line old new) c ds → IsSoFar (lines ++ line ∷ []) new c ds
-so_far_more lines line None None c ds h = each_more IsLine line c lines ds h
+so_far_more lines line None None c ds h = each_more IsFateOfLine line c lines ds h
 so_far_more lines line None (Some text) c ds h =
     record {
       alone = lines;
@@ -103,7 +103,7 @@ input_end lines None c ds h =
     record { alone = lines; last = []; split = sym (append-nil lines); becomes = h }
 input_end lines (Some document) c ds h =
     let o = h.first in
-    let all = then_assoc {P = Each IsLine o.alone} {Q = Each IsDocumentLine o.rest} {R = IsWhole document} c ds
+    let all = then_assoc {P = Each IsFateOfLine o.alone} {Q = Each IsDocumentLine o.rest} {R = IsWhole document} c ds
     record { before = h.before; after = h.after; split = h.split; first = o.becomes; next = h.next } in
     record {
       alone = o.alone;
@@ -126,12 +126,12 @@ input_end lines (Some document) c ds h =
 
 -- a line that begins no document is taken by itself
 pub advances_alone : {T : Type 0} (r : Result T Stop) (line : List ℕ) (old new : Option (List ℕ)) (a b : State) → old ≡ None → new ≡ None
-    → Goes r (IsLine line) a b → Advances r line old new a b
+    → Goes r (IsFateOfLine line) a b → Advances r line old new a b
 advances_alone (Ok x) line old new a b was is g =
     subst (λ (o : Option (List ℕ)). Does (IsNext line o new) a b) (sym was)
     (subst (λ (o : Option (List ℕ)). Does (IsNext line None o) a b) (sym is) g)
 advances_alone (Err s) line old new a b was is g =
-    subst (λ (o : Option (List ℕ)). Stops s (IsPart (IsNextIn line o)) a b) (sym was) g
+    subst (λ (o : Option (List ℕ)). Stops s (IsPartOfDeeds (IsNextIn line o)) a b) (sym was) g
 
 -- a line of a document is taken
 pub advances_document : {T : Type 0} (r : Result T Stop) (line document : List ℕ) (old new : Option (List ℕ)) (a b : State) → old ≡ Some document
@@ -140,14 +140,15 @@ advances_document (Ok x) line document old new a b was is for d =
     subst (λ (o : Option (List ℕ)). Does (IsNext line o new) a b) (sym was)
     (subst (λ (o : Option (List ℕ)). Does (IsNext line (Some document) o) a b) (sym is) (does_as (λ ds h. (refl, h)) d))
 advances_document (Err s) line document old new a b was is for d =
-    subst (λ (o : Option (List ℕ)). Stops s (IsPart (IsNextIn line o)) a b) (sym was) (stops_all s for d)
+    subst (λ (o : Option (List ℕ)). Stops s (IsPartOfDeeds (IsNextIn line o)) a b) (sym was) (stops_all s for d)
 
 -- a line with this text, by what becomes of that
-pub line_as : (line text : List ℕ) (c : Choice) (ds : List Deed) → IsTextOf line text → begins_object text ≡ true → IsObject line text c ds → IsLine line c ds
+pub line_as : (line text : List ℕ) (c : Choice) (ds : List Deed) → IsTextOf line text → begins_object text ≡ true → IsObject line text c ds
+    → IsFateOfLine line c ds
 line_as line text c ds is begins h = (text, is, inr (begins, h))
 
 goes_wrong : {T : Type 0} (r : Result T Stop) (line text : List ℕ) (a b : State) → IsTextOf line text → begins_object text ≡ true → IsNoValue text
-    → IfErr r (λ s. s ≡ Memory) → Does IsWrong a b → Goes r (IsLine line) a b
+    → IfErr r (λ s. s ≡ Memory) → Does IsWrong a b → Goes r (IsFateOfLine line) a b
 goes_wrong (Ok x) line text a b is begins none for d = does_as (λ ds h. line_as line text a.choice ds is begins (inl (none, inl h))) d
 goes_wrong (Err s) line text a b is begins none for d =
     stops_all s for (does_as (λ ds h. line_as line text a.choice ds is begins (inl (none, inl h))) d)
@@ -188,17 +189,17 @@ no_document o is = ap document_of is
 
 -- a line that is a value
 pub line_value : (line text : List ℕ) (d : Data) (c : Choice) (ds : List Deed) → IsTextOf line text → begins_object text ≡ true → Reads text (Some d)
-    → IsValue (Some line) d c ds → IsLine line c ds
+    → IsValue (Some line) d c ds → IsFateOfLine line c ds
 line_value line text d c ds is begins reads h = line_as line text c ds is begins (inr (d, reads, h))
 
 -- a line that is none, and is handed on
 pub line_handed : (line text : List ℕ) (c : Choice) (ds : List Deed) → IsTextOf line text → begins_object text ≡ true → IsNoValue text
-    → IsHandedOn line c ds → IsLine line c ds
+    → IsHandedOn line c ds → IsFateOfLine line c ds
 line_handed line text c ds is begins none h = line_as line text c ds is begins (inl (none, inr h))
 
 -- a line that doesn't begin as an object does
 pub line_other : (line text : List ℕ) (c : Choice) (ds : List Deed) → IsTextOf line text → begins_object text ≡ false → IsHandedOn line c ds
-    → IsLine line c ds
+    → IsFateOfLine line c ds
 line_other line text c ds is begins h = (text, is, inl (begins, h))
 
 -- a line may begin with the mark
@@ -212,13 +213,14 @@ pub blank_begins : (text : List ℕ) → first_of text ≡ None → begins_objec
 blank_begins text is = ap (λ (o : Option ℕ). option_map_or (λ b. b == 123) o false) is
 
 -- what is done of a line by itself is what is done of the next one
-pub next_alone : (line : List ℕ) (old new : Option (List ℕ)) (a b : State) → old ≡ None → new ≡ None → Does (IsLine line) a b → Does (IsNext line old new) a b
+pub next_alone : (line : List ℕ) (old new : Option (List ℕ)) (a b : State) → old ≡ None → new ≡ None → Does (IsFateOfLine line) a b
+    → Does (IsNext line old new) a b
 next_alone line old new a b was is d =
     subst (λ (o : Option (List ℕ)). Does (IsNext line o new) a b) (sym was) (subst (λ (o : Option (List ℕ)). Does (IsNext line None o) a b) (sym is) d)
 
 -- a line that begins as an object does and isn't UTF-8
 pub line_undecoded : (line text : List ℕ) (c : Choice) (ds : List Deed) → IsTextOf line text → begins_object text ≡ true → (IsUtf8 text → ⊥)
-    → IsWrong c ds → IsLine line c ds
+    → IsWrong c ds → IsFateOfLine line c ds
 line_undecoded line text c ds is begins none h = line_as line text c ds is begins (inl (inl none, inl h))
 
 -- there is a value, or none

@@ -32,7 +32,7 @@ use Rattle.redraw_report.specs.declared.diagnostic.Severity.TheVariants.{Error}
 use Rattle.redraw_report.specs.declared.finding.Finding.{Finding}
 use Rattle.redraw_report.specs.declared.finding.Remark.{Remark}
 use Rattle.redraw_run.specs.Deeds.{Commanded, IsDeed}
-use Rattle.redraw_run.specs.DrawnFinding.{Draws, ShowsFinding, ending_after}
+use Rattle.redraw_run.specs.DrawnFinding.{DrawsFinding, ShowsFinding, ending_after}
 use Rattle.redraw_run.specs.declared.look.ReportRenderer.{ReportRenderer}
 
 -- the byte before the last is the same at the end of equal texts
@@ -44,7 +44,7 @@ before_last (x ∷ xs) (y ∷ ys) a b c d same = before_last xs ys a b c d (ap (
 
 -- no empty line after a report: it ends with a line feed alone, here `error: e`
 pub no_line_after : (r : ReportRenderer) (files : List File) (d : Diagnostic) (before after : Tally) → r.settings.short_message ≡ false → d.severity ≡ Error
-    → Draws Report r files d (Some []) (Some (codes "error: " ++ 101 ∷ 10 ∷ [])) (Some (codes "error: " ++ 101 ∷ 10 ∷ []) ≡ Some []) before after → ⊥
+    → DrawsFinding Report r files d (Some []) (Some (codes "error: " ++ 101 ∷ 10 ∷ [])) (Some (codes "error: " ++ 101 ∷ 10 ∷ []) ≡ Some []) before after → ⊥
 no_line_after r files d before after long severity (inr same) = let never = same.1 in cc
 no_line_after r files d before after long severity (inl drawn) =
     let ends : codes "error: " ++ 101 ∷ 10 ∷ [] ≡ drawn.text ++ 10 ∷ 10 ∷ [] = drawn.written

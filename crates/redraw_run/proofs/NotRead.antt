@@ -9,7 +9,7 @@ use Rattle.clap.specs.declared.error.kind.ErrorKind.TheVariants.{DisplayHelp, Di
 use Rattle.redraw_command.specs.Tally.{status_of}
 use Rattle.redraw_command.specs.declared.choice.Choice.{Choice}
 use Rattle.redraw_command.specs.declared.terminal.Surroundings.{Surroundings}
-use Rattle.redraw_command.proofs.CommandLines.{no_words}
+use Rattle.redraw_command.proofs.CommandLines.{no_arguments}
 use Rattle.redraw_run.specs.Deeds.{Deed, State}
 use Rattle.redraw_run.specs.Fates.{Each}
 use Rattle.redraw_run.specs.Inputs.{AreAllIn, Input, IsOf, are_whole, asked_names, given_names, names_of, standard}
@@ -77,6 +77,6 @@ by_answer held app around out err clean (inr (inr (inl h))) =
     unread_run held (asked_names h.request.inputs) name rest _ out err are h.draws
 by_answer held app around out err clean (inr (inr (inr h))) = let two : ◌≡◌ {A = ℕ} 0 2 = h.ends in cc two
 
--- the same where no words are given: a run that reads and writes nothing, and ends with the status 0
+-- the same where no arguments are given: a run that reads and writes nothing, and ends with the status 0
 pub nothing_done : (held : Nothing → Option (List ℕ)) (around : Surroundings) (out err : Option (List ℕ)) → Answers held [] around out err out err 0 → ⊥
-nothing_done held around out err (app, is, h) = by_answer held app around out err (no_words app is) h
+nothing_done held around out err (app, is, h) = by_answer held app around out err (no_arguments app is) h

@@ -13,8 +13,8 @@ use Rattle.redraw_run.specs.declared.look.ReportRenderer.{ReportRenderer}
 use Rattle.redraw_run.specs.declared.kind.Kind.{Kind}
 use Rattle.redraw_run.specs.declared.kind.Kind.TheVariants as kind
 use Rattle.redraw_run.specs.Deeds.{State, Deed, Drawn, Commanded, HandedOn, Told, Refused, LeftOut, Repeated, BuildFailed, tally_by, with_files}
-use Rattle.redraw_run.specs.Fates.{AreMessages, Each, IsFound, IsKnown, IsLine, IsLog, IsReported, IsResult, IsRun, IsShown, IsTaking}
-use Rattle.redraw_run.specs.Run.{Finishes, begun}
+use Rattle.redraw_run.specs.Fates.{AreMessages, Each, IsFound, IsKnown, IsFateOfLine, IsLog, IsReported, IsResult, IsLogRun, IsShown, IsTaking}
+use Rattle.redraw_run.specs.Run.{Finishes, nothing_begun}
 
 -- no line is handed on
 Unhanded : List Deed → Type 0
@@ -93,7 +93,7 @@ each_unhanded Are c f [] ds h = subst Unhanded (sym h) tt
 each_unhanded Are c f (x ∷ xs) ds h =
     subst Unhanded (sym h.split) (unhanded_both h.before h.after (f x h.before h.first) (each_unhanded Are c f xs h.after h.next))
 
-run_unhanded : (c : Choice) (ds : List Deed) → IsRun c ds → Unhanded ds
+run_unhanded : (c : Choice) (ds : List Deed) → IsLogRun c ds → Unhanded ds
 run_unhanded c ds h =
     subst Unhanded (sym h.split)
     (unhanded_both h.before h.after (messages_unhanded c h.before h.first)
@@ -101,7 +101,7 @@ run_unhanded c ds h =
 
 log_unhanded : (c : Choice) (ds : List Deed) → IsLog c ds → Unhanded ds
 log_unhanded c ds (inl h) = reported_unhanded c ds h
-log_unhanded c ds (inr h) = each_unhanded (λ (d : Data). IsRun) c (λ x es m. run_unhanded c es m) h.0 ds h.1
+log_unhanded c ds (inr h) = each_unhanded (λ (d : Data). IsLogRun) c (λ x es m. run_unhanded c es m) h.0 ds h.1
 
 known_unhanded : (k : Kind) (c : Choice) (ds : List Deed) → IsKnown k c ds → Unhanded ds
 unfolding Unhanded
@@ -116,7 +116,7 @@ unfolding Unhanded
 both_handed k c d text line h = known_unhanded k c (Drawn d text ∷ HandedOn line ∷ []) h
 
 -- a finding is drawn, and the line that reports it is handed on too
-pub drawn_and_handed_on : (line : List ℕ) (c : Choice) (d : Diagnostic) (text : List ℕ) → IsLine line c (Drawn d text ∷ HandedOn line ∷ []) → ⊥
+pub drawn_and_handed_on : (line : List ℕ) (c : Choice) (d : Diagnostic) (text : List ℕ) → IsFateOfLine line c (Drawn d text ∷ HandedOn line ∷ []) → ⊥
 drawn_and_handed_on line c d text (t, is, inl h) = cc h.1
 drawn_and_handed_on line c d text (t, is, inr (begins, inl (none, inl h))) = cc h.1
 drawn_and_handed_on line c d text (t, is, inr (begins, inl (none, inr h))) = cc h
@@ -134,7 +134,7 @@ drawn_twice c d text (inr (f, inr (taken, inr (inr (form, inl h))))) = cc h.1
 drawn_twice c d text (inr (f, inr (taken, inr (inr (form, inr h))))) = cc h.1
 
 -- what another tool writes, here `a`, is handed on and told too
-pub noise_told : (c : Choice) (part : List ℕ) → IsLine (97 ∷ 10 ∷ []) c (HandedOn (97 ∷ 10 ∷ []) ∷ Told part ∷ []) → ⊥
+pub noise_told : (c : Choice) (part : List ℕ) → IsFateOfLine (97 ∷ 10 ∷ []) c (HandedOn (97 ∷ 10 ∷ []) ∷ Told part ∷ []) → ⊥
 noise_told c part (text, inl is, inl h) = cc h.1
 noise_told c part (text, inl is, inr h) = cc (ap begins_object is, h.0)
 noise_told c part (text, inr is, h) = cc is
@@ -156,7 +156,7 @@ has_one t false = or_true t.has_error
 -- status 0 after an error was drawn
 pub clean_after_an_error : {File Standard : Type 0} (held : File ⊎ Standard → Option (List ℕ)) (names : List (List ℕ)) (r : ReportRenderer) (c : Choice)
     (old_out old_err out err : Option (List ℕ)) (d : Diagnostic) (text : List ℕ) → d.severity ≡ Error
-    → (run : Finishes File Standard held names (begun r c old_out old_err) out err 0) → run.drawn.drawn.does.deeds ≡ Drawn d text ∷ [] → ⊥
+    → (run : Finishes File Standard held names (nothing_begun r c old_out old_err) out err 0) → run.drawn.drawn.does.deeds ≡ Drawn d text ∷ [] → ⊥
 clean_after_an_error held names r c old_out old_err out err d text error run is =
     let last : Tally = run.drawn.last.tally in
     let counted : run.end.tally ≡ with_files (tally_by no_tally (Drawn d text ∷ [])) last.files

@@ -16,11 +16,11 @@ use Rattle.redraw_report.specs.Report.{report_of}
 use Rattle.redraw_report.specs.View.{section_view}
 use Rattle.redraw_report.specs.declared.diagnostic.Diagnostic.{Diagnostic}
 use Rattle.redraw_report.specs.declared.finding.Finding.{Finding}
-use Rattle.redraw_run.specs.DrawnFinding.{Draws, IsCounted, IsLeftOut, IsRefusalOf, IsUndrawn, Refuses, ShowsFinding, ending_after}
+use Rattle.redraw_run.specs.DrawnFinding.{DrawsFinding, IsCounted, IsLeftOut, IsRefusalOf, IsUndrawn, Refuses, ShowsFinding, ending_after}
 use Rattle.std.specs.declared.alloc.AllocError.{AllocError}
 use Rattle.redraw_command.specs.Tally.{one_more}
 use Rattle.redraw_command.specs.Told.{Tells}
-use Rattle.redraw_run.specs.Deeds.{Does, left_out, standing}
+use Rattle.redraw_run.specs.Deeds.{Does, one_left_out, standing}
 use Rattle.redraw_run.specs.Fates.{IsShown}
 use Rattle.redraw_run.specs.declared.draw.Drawing.{Drawing}
 use Rattle.redraw_run.proofs.Doing.{does_as, does_then}
@@ -55,7 +55,7 @@ pub draws_report : {T : Type 0} (result : Result T Stop) (text : Result (String 
     → OnOk result (IfOk text (λ t. Appends old new (string_bytes t ++ (ending_after r.settings.short_message d.severity ++ 10 ∷ []))))
     → OnOk result (IfOk text (λ t. IsCounted d before after))
     → OnOk result (IfErr text (λ e. (e ≡ Memory alloc_error → ⊥) × Same × IsLeftOut before after))
-    → OnOk result (Draws Report r files d old new Same before after)
+    → OnOk result (DrawsFinding Report r files d old new Same before after)
 draws_report (Err stop) text r files d old new Same before after shows undrawn written counted left = tt
 draws_report (Ok done) (Ok t) r files d old new Same before after shows undrawn written counted left =
     inl record { text = string_bytes t; shows = shows; written = written; counted = counted }
@@ -65,13 +65,13 @@ draws_report (Ok done) (Err e) r files d old new Same before after shows undrawn
 -- the same in the same settings, of the same files, from the same tally
 pub draws_as : {T : Type 0} (result : Result T Stop) {r s : ReportRenderer} {files these : List File} (d : Diagnostic) (old new : Option (List ℕ))
     (Same : Type 0)
-    {before first : Tally} (after : Tally) → r ≡ s → files ≡ these → before ≡ first → OnOk result (Draws Report r files d old new Same before after)
-    → OnOk result (Draws Report s these d old new Same first after)
+    {before first : Tally} (after : Tally) → r ≡ s → files ≡ these → before ≡ first → OnOk result (DrawsFinding Report r files d old new Same before after)
+    → OnOk result (DrawsFinding Report s these d old new Same first after)
 draws_as (Err stop) d old new Same after p q w h = tt
 draws_as (Ok done) {r} {s} {files} {these} d old new Same {before} {first} after p q w h =
-    subst (λ (x : ReportRenderer). Draws Report x these d old new Same first after) p
-    (subst (λ (x : List File). Draws Report r x d old new Same first after) q
-    (subst (λ (x : Tally). Draws Report r files d old new Same x after) w h))
+    subst (λ (x : ReportRenderer). DrawsFinding Report x these d old new Same first after) p
+    (subst (λ (x : List File). DrawsFinding Report r x d old new Same first after) q
+    (subst (λ (x : Tally). DrawsFinding Report r files d old new Same x after) w h))
 
 -- ---- what is done about a refusal
 
@@ -79,7 +79,7 @@ draws_as (Ok done) {r} {s} {files} {these} d old new Same {before} {first} after
 abbrev pub Leaves : {S : Type 0} → Drawing S → Drawing S → Type 0
 Leaves a b = b ≡ record a { tally = record a.tally { wrong = one_more a.tally.wrong } }
 
-pub left_tally : {S : Type 0} (a b : Drawing S) → Leaves a b → b.tally ≡ left_out a.tally
+pub left_tally : {S : Type 0} (a b : Drawing S) → Leaves a b → b.tally ≡ one_left_out a.tally
 left_tally {S} a b is = ap (λ (d : Drawing S). d.tally) is
 
 left_renderer : {S : Type 0} (a b : Drawing S) → Leaves a b → b.renderer ≡ a.renderer

@@ -83,8 +83,8 @@ told Repeated = []
 told BuildFailed = []
 
 -- the tally with one more that is left out
-abbrev pub left_out : Tally → Tally
-left_out t = record t { wrong = one_more t.wrong }
+abbrev pub one_left_out : Tally → Tally
+one_left_out t = record t { wrong = one_more t.wrong }
 
 -- the tally with one more that was drawn before
 abbrev pub repeated : Tally → Tally
@@ -96,8 +96,8 @@ tally_after t (Drawn d text) = tallied t d.severity (is_sum d)
 tally_after t (Commanded d line) = tallied t d.severity (is_sum d)
 tally_after t (HandedOn line) = t
 tally_after t (Told part) = t
-tally_after t (Refused d why) = left_out t
-tally_after t LeftOut = left_out t
+tally_after t (Refused d why) = one_left_out t
+tally_after t LeftOut = one_left_out t
 tally_after t Repeated = repeated t
 tally_after t BuildFailed = record t { has_failed = true }
 
@@ -159,7 +159,7 @@ Writes (Ok done) old new bytes = Appends old new bytes
 Writes (Err stop) old new bytes = IsUnwritable stop × AppendsFirst old new bytes
 
 -- a part of some things of a kind is done: nothing of them, or the first of them, which may be all
-pub record IsPart (Are : Choice → List Deed → Type 0) (c : Choice) (deeds : List Deed) : Type 0 where
+pub record IsPartOfDeeds (Are : Choice → List Deed → Type 0) (c : Choice) (deeds : List Deed) : Type 0 where
   pub is : (deeds ≡ []) ⊎ ((rest : List Deed) × Are c (deeds ++ rest))
 
 -- things of a kind are done up to where output couldn't be written: standard output is given a first part of what they give
@@ -180,4 +180,4 @@ Stops Utf16 Are a b = ⊥
 -- things of a kind are done, be it to the end or up to where it stops
 abbrev pub Goes : {T : Type 0} → Result T Stop → (Choice → List Deed → Type 0) → State → State → Type 0
 Goes (Ok done) Are a b = Does Are a b
-Goes (Err stop) Are a b = Stops stop (IsPart Are) a b
+Goes (Err stop) Are a b = Stops stop (IsPartOfDeeds Are) a b

@@ -104,6 +104,6 @@ pub record IsCommanded (d : Diagnostic) (old new : Option (List ℕ)) (before af
 
 -- what becomes of a finding, by the form that is asked for. As a report it is drawn, or refused: then nothing is written (Same), and
 -- it is counted as left out. As a command it is written, or it has none: then nothing is written, and nothing counted
-abbrev pub Draws : Form → ReportRenderer → List File → Diagnostic → Option (List ℕ) → Option (List ℕ) → Type 0 → Tally → Tally → Type 0
-Draws Report r files d old new Same before after = IsDrawn r files d old new before after ⊎ (Refuses r files d × Same × IsLeftOut before after)
-Draws Workflow r files d old new Same before after = IsCommanded d old new before after ⊎ ((command d ≡ None) × Same × (after ≡ before))
+abbrev pub DrawsFinding : Form → ReportRenderer → List File → Diagnostic → Option (List ℕ) → Option (List ℕ) → Type 0 → Tally → Tally → Type 0
+DrawsFinding Report r files d old new Same before after = IsDrawn r files d old new before after ⊎ (Refuses r files d × Same × IsLeftOut before after)
+DrawsFinding Workflow r files d old new Same before after = IsCommanded d old new before after ⊎ ((command d ≡ None) × Same × (after ≡ before))

@@ -4,7 +4,7 @@ use Rattle.std.specs.Prelude.{◌≡◌, ◌≢◌, ◌⊎◌, ℕ, true, false,
 use Rattle.std.specs.Global.{Vec}
 use Rattle.std.specs.List.{concat}
 use Rattle.std.specs.Str.{IsUtf8}
-use Rattle.json_node.specs.Field.{flag_at, text_at}
+use Rattle.json_node.specs.Field.{flag_field, text_field}
 use Rattle.serde_json.specs.Data.{Data}
 use Rattle.serde_json.specs.Find.{get}
 use Rattle.serde_json.specs.Read.{read}
@@ -17,7 +17,7 @@ use Rattle.redraw_command.specs.declared.stop.Stop.{Stop}
 use Rattle.redraw_command.specs.declared.stop.Stop.TheVariants.{Memory, Unwritable, Unreadable, Utf16}
 use Rattle.redraw_report.specs.declared.diagnostic.Diagnostic.{Diagnostic}
 use Rattle.redraw_run.specs.Deeds.{State, Deed, Drawn, Commanded, HandedOn, Told, Refused, LeftOut, Repeated, BuildFailed, Does, IsCutShort}
-use Rattle.redraw_run.specs.Deeds.{IsPart, Stops}
+use Rattle.redraw_run.specs.Deeds.{IsPartOfDeeds, Stops}
 use Rattle.redraw_run.specs.declared.kind.Kind.{Kind}
 use Rattle.redraw_run.specs.declared.kind.Kind.TheVariants as kind
 
@@ -108,12 +108,12 @@ IsResult = Then AreMessages IsFound
 abbrev pub AreResults : Choice → List Deed → Type 0
 AreResults c deeds = (results : List Data) × Each (λ (result : Data). IsResult) results c deeds
 
-abbrev pub IsRun : Choice → List Deed → Type 0
-IsRun = Then AreMessages AreResults
+abbrev pub IsLogRun : Choice → List Deed → Type 0
+IsLogRun = Then AreMessages AreResults
 
 -- what becomes of the runs of a log, in their order
 abbrev pub AreRuns : Choice → List Deed → Type 0
-AreRuns c deeds = (runs : List Data) × Each (λ (run : Data). IsRun) runs c deeds
+AreRuns c deeds = (runs : List Data) × Each (λ (run : Data). IsLogRun) runs c deeds
 
 -- what becomes of a log: its runs are no list, and it is left out; or this becomes of its runs
 abbrev pub IsLog : Choice → List Deed → Type 0
@@ -133,7 +133,7 @@ IsRustc d = Has (codes "message") d × Has (codes "spans") d
 
 -- cargo says in a message that the build failed
 abbrev pub IsFailure : List ℕ → Data → Type 0
-IsFailure reason d = (reason ≡ codes "build-finished") × (flag_at (codes "success") d ≡ Some false)
+IsFailure reason d = (reason ≡ codes "build-finished") × (flag_field (codes "success") d ≡ Some false)
 
 -- what a message with a reason is, as cargo writes them: one with a diagnostic of rustc, the last one of a build that failed, or another
 abbrev pub IsCargoKind : List ℕ → Data → Kind → Type 0
@@ -162,7 +162,7 @@ IsMessageKind (Some reason) d (Some known) = IsCargoKind reason d known
 abbrev pub IsOfKind : Data → Option Kind → Type 0
 IsOfKind d found =
     (Has (codes "runs") d × (found ≡ Some kind.Sarif))
-    ⊎ (Lacks (codes "runs") d × IsMessageKind (text_at (codes "reason") d) d found)
+    ⊎ (Lacks (codes "runs") d × IsMessageKind (text_field (codes "reason") d) d found)
 
 -- what becomes of a value of a kind that is known: a diagnostic, alone or in a message of cargo, reports a finding; the last message of
 -- cargo says that the build failed; any other message says nothing; and a log has runs
@@ -225,8 +225,8 @@ IsLineWith line text c deeds =
     ⊎ ((begins_object text ≡ true) × IsObject line text c deeds)
 
 -- what becomes of a line
-abbrev pub IsLine : List ℕ → Choice → List Deed → Type 0
-IsLine line c deeds = (text : List ℕ) × IsTextOf line text × IsLineWith line text c deeds
+abbrev pub IsFateOfLine : List ℕ → Choice → List Deed → Type 0
+IsFateOfLine line c deeds = (text : List ℕ) × IsTextOf line text × IsLineWith line text c deeds
 
 -- what becomes of a line of a document before that is read: one that isn't UTF-8 is left out as wrong
 abbrev pub IsDocumentLine : List ℕ → Choice → List Deed → Type 0
@@ -240,7 +240,7 @@ IsWhole text c deeds =
     ⊎ ((d : Data) × Reads text (Some d) × IsValue None d c deeds)
 
 -- a line begins a document: its text begins as an object does, and is no value by itself
-pub record Begins (line text : List ℕ) : Type 0 where
+pub record BeginsDocument (line text : List ℕ) : Type 0 where
   pub is : IsTextOf line text
   pub begins : begins_object text ≡ true
   pub ends_later : IsNoValue text
@@ -248,7 +248,7 @@ pub record Begins (line text : List ℕ) : Type 0 where
 -- what becomes of a document with this first line and these others
 pub record IsDocument (line : List ℕ) (lines : List (List ℕ)) (c : Choice) (deeds : List Deed) : Type 0 where
   pub text : List ℕ
-  pub begins : Begins line text
+  pub begins : BeginsDocument line text
   pub becomes : Then (Each IsDocumentLine lines) (IsWhole (text ++ concat lines)) c deeds
 
 -- what becomes of lines at the end of an input: none are left, and one message may tell that nothing was of a form that is known; or they
@@ -262,7 +262,7 @@ pub record IsInput (lines : List (List ℕ)) (c : Choice) (deeds : List Deed) : 
   pub alone : List (List ℕ)
   pub last : List (List ℕ)
   pub split : lines ≡ alone ++ last
-  pub becomes : Then (Each IsLine alone) (IsEnd last) c deeds
+  pub becomes : Then (Each IsFateOfLine alone) (IsEnd last) c deeds
 
 -- the text of a document as far as its lines are there, if one is read
 abbrev pub document_of : Option (Vec ℕ) → Option (List ℕ)
@@ -275,32 +275,32 @@ pub record IsOpen (lines : List (List ℕ)) (document : List ℕ) (c : Choice) (
   pub rest : List (List ℕ)
   pub text : List ℕ
   pub split : lines ≡ alone ++ line ∷ rest
-  pub begins : Begins line text
+  pub begins : BeginsDocument line text
   pub whole : document ≡ text ++ concat rest
-  pub becomes : Then (Each IsLine alone) (Each IsDocumentLine rest) c deeds
+  pub becomes : Then (Each IsFateOfLine alone) (Each IsDocumentLine rest) c deeds
 
 -- what becomes of lines that were read so far, where they may end with a document of this text: of each of the others by itself, and of
 -- those of the document after its first
 abbrev pub IsSoFar : List (List ℕ) → Option (List ℕ) → Choice → List Deed → Type 0
-IsSoFar lines None = Each IsLine lines
+IsSoFar lines None = Each IsFateOfLine lines
 IsSoFar lines (Some document) = IsOpen lines document
 
 -- what becomes of the next line, where lines so far may end with a document of this text, and do with it with a document of that
 abbrev pub IsNext : List ℕ → (old new : Option (List ℕ)) → Choice → List Deed → Type 0
-IsNext line None None c deeds = IsLine line c deeds
-IsNext line None (Some text) c deeds = Begins line text × (deeds ≡ [])
+IsNext line None None c deeds = IsFateOfLine line c deeds
+IsNext line None (Some text) c deeds = BeginsDocument line text × (deeds ≡ [])
 IsNext line (Some document) None c deeds = ⊥
 IsNext line (Some document) (Some text) c deeds = (text ≡ document ++ line) × IsDocumentLine line c deeds
 
 -- what may become of the next line
 abbrev pub IsNextIn : List ℕ → Option (List ℕ) → Choice → List Deed → Type 0
-IsNextIn line None c deeds = IsLine line c deeds
+IsNextIn line None c deeds = IsFateOfLine line c deeds
 IsNextIn line (Some document) c deeds = IsDocumentLine line c deeds
 
 -- the next line is taken, be it to the end or up to where it stops
 abbrev pub Advances : {T : Type 0} → Result T Stop → List ℕ → (old new : Option (List ℕ)) → State → State → Type 0
 Advances (Ok done) line old new a b = Does (IsNext line old new) a b
-Advances (Err stop) line old new a b = Stops stop (IsPart (IsNextIn line old)) a b
+Advances (Err stop) line old new a b = Stops stop (IsPartOfDeeds (IsNextIn line old)) a b
 
 -- a line that is no value is left out as wrong, or begins a document with this text where there was none, if there is memory for that
 abbrev pub LeavesOpen : {T : Type 0} → Result T Stop → List ℕ → (old new : Option (List ℕ)) → State → State → Type 0
@@ -315,9 +315,9 @@ IsLast (Some document) c deeds = IsWhole document c deeds
 -- the last one, and a part of what becomes of that
 abbrev pub IsHalted : List (List ℕ) → Choice → List Deed → Type 0
 IsHalted lines c deeds =
-    ((document : Option (List ℕ)) × Then (IsSoFar lines document) (IsPart (IsLast document)) c deeds)
+    ((document : Option (List ℕ)) × Then (IsSoFar lines document) (IsPartOfDeeds (IsLast document)) c deeds)
     ⊎ ((before : List (List ℕ)) × (line : List ℕ) × (document : Option (List ℕ)) × (lines ≡ before ++ line ∷ [])
-    × Then (IsSoFar before document) (IsPart (IsNextIn line document)) c deeds)
+    × Then (IsSoFar before document) (IsPartOfDeeds (IsNextIn line document)) c deeds)
 
 -- an input is written in UTF-16, as the first bytes of its first line tell, and no other line was read
 abbrev pub IsOfUtf16 : List (List ℕ) → Type 0

@@ -1,4 +1,4 @@
--- What becomes of inputs: of standard input and of files, each by the word that names it.
+-- What becomes of inputs: of standard input and of files, each by the argument that names it.
 use Rattle.std.specs.Prelude.{◌≡◌, ◌⊎◌, ℕ, ◌&&◌, ◌++◌, Bool, true, false, List, [], ◌∷◌, Option, Some, None, Result, Ok, Err, codes, map, option_map}
 use Rattle.std.specs.declared.io.Error.{Error}
 use Rattle.std.specs.Borrow.{Bor}
@@ -10,11 +10,11 @@ use Rattle.redraw_run.specs.ReadLines.{AreFirstOf, AreAllOf}
 
 -- ---- where lines come from
 
--- the word that names standard input
+-- the argument that names standard input
 abbrev pub standard : List ℕ
 standard = codes "-"
 
--- what a word names: standard input where it is a hyphen, and a file where it isn't
+-- what an argument names: standard input where it is a hyphen, and a file where it isn't
 abbrev pub IsNamed : {File Standard : Type 0} → List ℕ → File ⊎ Standard → Type 0
 IsNamed name (inl file) = name ≡ standard → ⊥
 IsNamed name (inr input) = name ≡ standard
@@ -76,7 +76,7 @@ IsDrawnIn {X} held is_whole a b = (source : Option X) × IsDrawnFrom (option_map
 abbrev pub IsCutIn : {X : Type 0} → (X → Option (List ℕ)) → State → State → Type 0
 IsCutIn {X} held a b = (source : Option X) × IsCutFrom (option_map held source) a b
 
--- an input: the word that names it; the file or standard input that it is, if that could be opened; the lines that were read of it; and
+-- an input: the argument that names it; the file or standard input that it is, if that could be opened; the lines that were read of it; and
 -- whether all of it could be read and is of a form that is known
 pub record Input (File Standard : Type 0) : Type 0 where
   pub name : List ℕ
@@ -94,8 +94,8 @@ IsDrawnOf {File} {Standard} held name is_whole a b =
     (input : Input File Standard) × (input.name ≡ name) × (input.is_whole ≡ is_whole) × Does (IsOf held input) a b
 
 -- lines of the input of this name are read up to where output couldn't be written
-abbrev pub IsCutOf : {File Standard : Type 0} → (File ⊎ Standard → Option (List ℕ)) → List ℕ → State → State → Type 0
-IsCutOf {File} {Standard} held name a b =
+abbrev pub IsInputCut : {File Standard : Type 0} → (File ⊎ Standard → Option (List ℕ)) → List ℕ → State → State → Type 0
+IsInputCut {File} {Standard} held name a b =
     (source : Option (File ⊎ Standard)) × IsSourceOf name source × IsCutFrom (option_map held source) a b
 
 -- ---- several

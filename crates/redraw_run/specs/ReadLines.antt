@@ -18,8 +18,8 @@ AreTaken bytes [] rest = rest ≡ bytes
 AreTaken bytes (line ∷ lines) rest = (0 < length line) × (line ≡ take_through 10 bytes) × AreTaken (drop_through 10 bytes) lines rest
 
 -- what a reader holds, where that is known, are these lines
-abbrev pub AreLinesOf : Option (List ℕ) → List (List ℕ) → Type 0
-AreLinesOf held lines = IfSome held (λ bytes. AreTaken bytes lines [])
+abbrev pub AreReadLines : Option (List ℕ) → List (List ℕ) → Type 0
+AreReadLines held lines = IfSome held (λ bytes. AreTaken bytes lines [])
 
 -- these are the first lines of what a reader holds, where that is known, and it still holds this
 abbrev pub AreReadOf : Option (List ℕ) → List (List ℕ) → Option (List ℕ) → Type 0
@@ -31,7 +31,7 @@ AreFirstOf held lines = IfSome held (λ bytes. (rest : List ℕ) × AreTaken byt
 
 -- they are all the lines that it holds, or as many as are counted
 abbrev pub AreAllOf : Option (List ℕ) → List (List ℕ) → Type 0
-AreAllOf held lines = AreLinesOf held lines ⊎ (AreFirstOf held lines × (2 ^ 64 - 2 ≤ length lines))
+AreAllOf held lines = AreReadLines held lines ⊎ (AreFirstOf held lines × (2 ^ 64 - 2 ≤ length lines))
 
 -- whether there is one more
 abbrev pub TakesNext : Bool → Option (List ℕ) → Option (List ℕ) → List ℕ → Type 0

@@ -4,13 +4,13 @@ use Rattle.std.specs.Io.KnownBytes.{Appends}
 use Rattle.std.specs.declared.io.Error.{Error}
 use Rattle.clap.specs.Simple.{App}
 use Rattle.redraw_command.specs.Tally.{no_tally, status_of}
-use Rattle.redraw_command.specs.Told.{Tells, TellsMemory, TellsOfWords}
-use Rattle.redraw_command.specs.Words.{AreWrong, AsksFor, AsksToShow, IsRedraw, Word}
+use Rattle.redraw_command.specs.Told.{Tells, TellsMemory, TellsOfArguments}
+use Rattle.redraw_command.specs.Arguments.{AreWrong, AsksFor, AsksToShow, IsRedraw, Argument}
 use Rattle.redraw_command.specs.declared.choice.Choice.{Choice}
 use Rattle.redraw_command.specs.declared.stop.Stop.{Stop}
 use Rattle.redraw_command.specs.declared.stop.Stop.TheVariants.{Memory, Unwritable, Unreadable, Utf16}
 use Rattle.redraw_command.specs.declared.terminal.Surroundings.{Surroundings}
-use Rattle.redraw_command.specs.declared.words.Request.{Request}
+use Rattle.redraw_command.specs.declared.arguments.Request.{Request}
 use Rattle.redraw_run.specs.Deeds.{AppendsFirst, State}
 use Rattle.redraw_run.specs.HtmlDocument.{closing, opening}
 use Rattle.redraw_run.specs.Inputs.{AreCut, AreDrawn, asked_names}
@@ -79,7 +79,7 @@ pub record Finishes (File Standard : Type 0) (held : File ⊎ Standard → Optio
   pub ends : status ≡ status_of end.tally is_whole
 
 -- a run ends where standard output can't be written: one message may tell why, and the status is 2
-pub record IsCut (File Standard : Type 0) (held : File ⊎ Standard → Option (List ℕ)) (names : List (List ℕ)) (a : State)
+pub record EndsCut (File Standard : Type 0) (held : File ⊎ Standard → Option (List ℕ)) (names : List (List ℕ)) (a : State)
     (out err : Option (List ℕ)) (status : ℕ) : Type 0 where
   pub end : State
   pub drawn : ArePartlyPrinted held names a end
@@ -96,49 +96,49 @@ pub record IsUnbegun (old_out old_err out err : Option (List ℕ)) (status : ℕ
 -- what a run does about the inputs of these names, and what it ends with
 abbrev pub Runs : {File Standard : Type 0} → (File ⊎ Standard → Option (List ℕ)) → List (List ℕ) → State → (out err : Option (List ℕ)) → ℕ → Type 0
 Runs {File} {Standard} held names a out err status =
-    Finishes File Standard held names a out err status ⊎ IsCut File Standard held names a out err status ⊎ IsUnbegun a.out a.err out err status
+    Finishes File Standard held names a out err status ⊎ EndsCut File Standard held names a out err status ⊎ IsUnbegun a.out a.err out err status
 
 -- nothing is done yet, where reports look so, these are drawn, and both streams hold this
-abbrev pub begun : ReportRenderer → Choice → Option (List ℕ) → Option (List ℕ) → State
-begun r c out err = record { renderer = r; choice = c; tally = no_tally; out = out; err = err }
+abbrev pub nothing_begun : ReportRenderer → Choice → Option (List ℕ) → Option (List ℕ) → State
+nothing_begun r c out err = record { renderer = r; choice = c; tally = no_tally; out = out; err = err }
 
 -- a run draws what is asked for
 abbrev pub Draws : {File Standard : Type 0} → (File ⊎ Standard → Option (List ℕ)) → Request → Surroundings
     → (old_out old_err out err : Option (List ℕ)) → ℕ → Type 0
 Draws held request around old_out old_err out err status =
-    Runs held (asked_names request.inputs) (begun (looks request.look around) request.choice old_out old_err) out err status
+    Runs held (asked_names request.inputs) (nothing_begun (looks request.look around) request.choice old_out old_err) out err status
 
--- the words ask for the help or the version: a text is printed, and nothing is told
-pub record Shows (app : App) (words : List Word) (old_out old_err out err : Option (List ℕ)) (status : ℕ) : Type 0 where
-  pub asked : AsksToShow app words
+-- the arguments ask for the help or the version: a text is printed, and nothing is told
+pub record ShowsHelp (app : App) (args : List Argument) (old_out old_err out err : Option (List ℕ)) (status : ℕ) : Type 0 where
+  pub asked : AsksToShow app args
   pub printed : IsPrinted old_out out status
   pub untold : err ≡ old_err
 
--- the words are wrong: that is told, nothing is printed, and the status is 2
-pub record Misuses (app : App) (words : List Word) (old_out old_err out err : Option (List ℕ)) (status : ℕ) : Type 0 where
-  pub wrong : AreWrong app words
+-- the arguments are wrong: that is told, nothing is printed, and the status is 2
+pub record Misuses (app : App) (args : List Argument) (old_out old_err out err : Option (List ℕ)) (status : ℕ) : Type 0 where
+  pub wrong : AreWrong app args
   pub unprinted : out ≡ old_out
-  pub told : TellsOfWords old_err err
+  pub told : TellsOfArguments old_err err
   pub ends : status ≡ 2
 
--- the words ask for inputs: these are drawn
-pub record DrawsAsked (File Standard : Type 0) (held : File ⊎ Standard → Option (List ℕ)) (app : App) (words : List Word) (around : Surroundings)
+-- the arguments ask for inputs: these are drawn
+pub record DrawsAsked (File Standard : Type 0) (held : File ⊎ Standard → Option (List ℕ)) (app : App) (args : List Argument) (around : Surroundings)
     (old_out old_err out err : Option (List ℕ)) (status : ℕ) : Type 0 where
   pub request : Request
-  pub asked : AsksFor app words request
+  pub asked : AsksFor app args request
   pub draws : Draws held request around old_out old_err out err status
 
--- what a run answers, by what its words ask for: one of these, or there is no memory to begin
-abbrev pub AnswersBy : {File Standard : Type 0} → (File ⊎ Standard → Option (List ℕ)) → App → List Word → Surroundings
+-- what a run answers, by what its arguments ask for: one of these, or there is no memory to begin
+abbrev pub AnswersBy : {File Standard : Type 0} → (File ⊎ Standard → Option (List ℕ)) → App → List Argument → Surroundings
     → (old_out old_err out err : Option (List ℕ)) → ℕ → Type 0
-AnswersBy {File} {Standard} held app words around old_out old_err out err status =
-    Shows app words old_out old_err out err status
-    ⊎ Misuses app words old_out old_err out err status
-    ⊎ DrawsAsked File Standard held app words around old_out old_err out err status
+AnswersBy {File} {Standard} held app args around old_out old_err out err status =
+    ShowsHelp app args old_out old_err out err status
+    ⊎ Misuses app args old_out old_err out err status
+    ⊎ DrawsAsked File Standard held app args around old_out old_err out err status
     ⊎ IsUnbegun old_out old_err out err status
 
--- the same, where the words are read as those of this program
-abbrev pub Answers : {File Standard : Type 0} → (File ⊎ Standard → Option (List ℕ)) → List Word → Surroundings
+-- the same, where the arguments are read as those of this program
+abbrev pub Answers : {File Standard : Type 0} → (File ⊎ Standard → Option (List ℕ)) → List Argument → Surroundings
     → (old_out old_err out err : Option (List ℕ)) → ℕ → Type 0
-Answers held words around old_out old_err out err status =
-    (app : App) × IsRedraw app × AnswersBy held app words around old_out old_err out err status
+Answers held args around old_out old_err out err status =
+    (app : App) × IsRedraw app × AnswersBy held app args around old_out old_err out err status

@@ -9,7 +9,8 @@ ghost use Rattle.redraw_command.specs.Told.{Tells};
 ghost use Rattle.redraw_run.specs.Deeds.{Does, Goes, TellsAll, repeated, standing};
 ghost use Rattle.redraw_run.specs.Fates.{AreMessages, IsChosen, IsDrawing, IsTaking, LeavesOut, IsReported, IsShown};
 ghost use Rattle.redraw_run.specs.Fates.{IsHandedOn, IsWritten, IsWrong};
-ghost use Rattle.redraw_run.specs.DrawnFinding.{Draws, IsCounted, IsLeftOut, IsUndrawn, ShowsFinding, ending_after};
+ghost use Rattle.redraw_run.specs.DrawnFinding.{DrawsFinding, IsCounted, IsLeftOut, IsUndrawn, ShowsFinding};
+ghost use Rattle.redraw_run.specs.DrawnFinding.{ending_after};
 ghost use Rattle.redraw_run.specs.ReadLines.{TellsUnless};
 ghost use Rattle.redraw_run.specs.Telling.{TellsAbout, TellsMany};
 ghost use Rattle.redraw_read.specs.Loaded.{texts_of};
@@ -190,7 +191,7 @@ impl<S: SourceFiles + Drop> Drawing<'_, S> {
             × IsSeen (option_map (λ m. view m.now) message.entry) self.old.choice.has_duplicates was
             (digests_of self.old.seen) (digests_of self.new.seen)
             × (was ≡ true → (out.new ≡ out.old) × (self.new.tally ≡ repeated self.old.tally))
-            × (was ≡ false → Draws self.old.choice.form self.old.renderer self.new.sources.files.items
+            × (was ≡ false → DrawsFinding self.old.choice.form self.old.renderer self.new.sources.files.items
             diagnostic.now (W.contents out.old) (W.contents out.new) (out.new ≡ out.old)
             self.old.tally self.new.tally)) }
         ensures does { Goes result (IsChosen diagnostic.now)
@@ -233,7 +234,7 @@ impl<S: SourceFiles + Drop> Drawing<'_, S> {
         out: &mut W,
         err: &mut V,
     ) -> Result<(), Stop>
-        ensures draws { OnOk result (Draws self.old.choice.form self.old.renderer self.new.sources.files.items
+        ensures draws { OnOk result (DrawsFinding self.old.choice.form self.old.renderer self.new.sources.files.items
             diagnostic.now (W.contents out.old) (W.contents out.new) (out.new ≡ out.old)
             self.old.tally self.new.tally) }
         ensures kept { (self.new.renderer ≡ self.old.renderer) × (self.new.choice ≡ self.old.choice) }
@@ -255,7 +256,7 @@ impl<S: SourceFiles + Drop> Drawing<'_, S> {
         out: &mut W,
         err: &mut V,
     ) -> Result<(), Stop>
-        ensures draws { OnOk result (Draws Report self.old.renderer self.new.sources.files.items diagnostic.now
+        ensures draws { OnOk result (DrawsFinding Report self.old.renderer self.new.sources.files.items diagnostic.now
             (W.contents out.old) (W.contents out.new) (out.new ≡ out.old) self.old.tally self.new.tally) }
         ensures kept { (self.new.renderer ≡ self.old.renderer) × (self.new.choice ≡ self.old.choice) }
         ensures seen { self.new.seen ≡ self.old.seen }
@@ -276,7 +277,7 @@ impl<S: SourceFiles + Drop> Drawing<'_, S> {
 
     /// Draws it as a workflow command, if it is one.
     fn draw_command<W: Write>(&mut self, diagnostic: &Diagnostic, out: &mut W) -> Result<(), Stop>
-        ensures draws { OnOk result (Draws Workflow self.old.renderer self.new.sources.files.items diagnostic.now
+        ensures draws { OnOk result (DrawsFinding Workflow self.old.renderer self.new.sources.files.items diagnostic.now
             (W.contents out.old) (W.contents out.new) (out.new ≡ out.old) self.old.tally self.new.tally) }
         ensures kept { (self.new.renderer ≡ self.old.renderer) × (self.new.choice ≡ self.old.choice) }
         ensures seen { self.new.seen ≡ self.old.seen }

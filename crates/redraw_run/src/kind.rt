@@ -1,6 +1,6 @@
 //! What a value of JSON is, by its fields.
 ghost use Rattle.std.specs.Prelude.{◌≡◌, ◌↔◌, Some, false, IsTrue, codes};
-ghost use Rattle.json_node.specs.Field.{flag_at};
+ghost use Rattle.json_node.specs.Field.{flag_field};
 ghost use Rattle.serde_json.specs.View.{view};
 ghost use Rattle.redraw_run.specs.Fates.{IsCargoKind, IsOfKind};
 
@@ -56,7 +56,7 @@ fn cargo_kind(reason: &str, value: &Value) -> Kind
 
 /// Whether cargo's last message says that the build failed.
 fn is_failed(value: &Value) -> bool
-    ensures failed { IsTrue result ↔ (flag_at (codes "success") (view value.now) ≡ Some false) }
+    ensures failed { IsTrue result ↔ (flag_field (codes "success") (view value.now) ≡ Some false) }
 {
     value.get("success").and_then(Value::as_bool) == Some(false)
 }

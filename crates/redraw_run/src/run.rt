@@ -5,10 +5,10 @@ ghost use Rattle.clap.specs.declared.error.kind.ErrorKind.TheVariants as kind;
 ghost use Rattle.std.specs.IoError.{error_kind};
 ghost use Rattle.std.specs.declared.io.ErrorKind.TheVariants.{BrokenPipe};
 ghost use Rattle.redraw_command.specs.Tally.{is_empty, status_of};
-ghost use Rattle.redraw_command.specs.Told.{Tells, TellsMemory, TellsOfWords};
-ghost use Rattle.redraw_command.specs.Words.{words_at};
+ghost use Rattle.redraw_command.specs.Told.{Tells, TellsMemory, TellsOfArguments};
+ghost use Rattle.redraw_command.specs.Arguments.{arguments_at};
 ghost use Rattle.redraw_run.specs.Deeds.{standing};
-ghost use Rattle.redraw_run.specs.Inputs.{AreCut, AreDrawn, IsCutFrom, IsCutIn, IsCutOf, IsDrawnFrom, IsDrawnIn};
+ghost use Rattle.redraw_run.specs.Inputs.{AreCut, AreDrawn, IsCutFrom, IsCutIn, IsInputCut, IsDrawnFrom, IsDrawnIn};
 ghost use Rattle.redraw_run.specs.Inputs.{IsDrawnOf, asked_names, given_names, held_by, held_in};
 ghost use Rattle.redraw_run.specs.ReadLines.{IsPrinted, SumsUp};
 ghost use Rattle.redraw_run.specs.Run.{Answers, ArePartlyPrinted, ArePrinted, Draws, EndsInput};
@@ -20,38 +20,38 @@ use crate::html;
 use crate::input::draw_input;
 use crate::look::renderer_for;
 use crate::write::pass;
+use redraw_command::arguments::{Request, matches_of, request_of};
 use redraw_command::relative::folder_of;
 use redraw_command::seen::{Names, Seen};
 use redraw_command::stop::Stop;
 use redraw_command::tally::{CLEAN, FAILED, Tally};
 use redraw_command::tell::{tell, tell_error, tell_memory};
 use redraw_command::terminal::Surroundings;
-use redraw_command::words::{Request, matches_of, request_of};
 use redraw_read::sources::{SourceFiles, Sources};
 use std::alloc::{AllocError, Global};
 use std::fs;
 use std::io::{self, BufRead, BufReader, Write};
 use std::rt::Files;
 
-/// Runs what the words ask for, and answers the status to end with.
+/// Runs what the arguments ask for, and answers the status to end with.
 pub fn run<'w, R: Files + Input + AllocGlobal, W: Write, V: Write>(
     rt: &R,
-    words: &'w [&'w str],
+    args: &'w [&'w str],
     around: Surroundings<'w>,
     out: &mut W,
     err: &mut V,
 ) -> u8
     ensures status { result ≤ 2 }
-    ensures answers { Answers (held_by R.File.remaining R.Reader.remaining) (words_at words.now) around.entry
+    ensures answers { Answers (held_by R.File.remaining R.Reader.remaining) (arguments_at args.now) around.entry
         (W.contents out.old) (V.contents err.old) (W.contents out.new) (V.contents err.new) result }
 {
-    match matches_of(rt.alloc(), words) {
+    match matches_of(rt.alloc(), args) {
         Ok(matches) => draw_all(rt, request_of(&matches), around, out, err),
         Err(error) => answer_error(rt.alloc(), &error, out, err),
     }
 }
 
-/// Writes the help or the version, or what is wrong with the words.
+/// Writes the help or the version, or what is wrong with the arguments.
 fn answer_error<W: Write, V: Write>(
     alloc: Global,
     error: &clap::Error,
@@ -61,7 +61,7 @@ fn answer_error<W: Write, V: Write>(
     ensures usage_error { kind_of error.now ≢ kind.DisplayHelp → kind_of error.now ≢ kind.DisplayVersion
         → (result ≡ 2) × (out.new ≡ out.old) }
     ensures told { kind_of error.now ≢ kind.DisplayHelp → kind_of error.now ≢ kind.DisplayVersion
-        → TellsOfWords (V.contents err.old) (V.contents err.new) }
+        → TellsOfArguments (V.contents err.old) (V.contents err.new) }
     ensures memory { kind_of error.now ≡ kind.OutOfMemory → TellsMemory (V.contents err.old) (V.contents err.new) }
     ensures status { result ≤ 2 }
     ensures asked { (kind_of error.now ≡ kind.DisplayHelp) ⊎ (kind_of error.now ≡ kind.DisplayVersion) → err.new
@@ -266,7 +266,7 @@ fn draw_named<'r, R: Files + Input + AllocGlobal, S: SourceFiles + Drop, W: Writ
         (held_by R.File.remaining R.Reader.remaining) name.now is_whole
         (standing drawing.old (W.contents out.old) (V.contents err.old))
         (standing drawing.new (W.contents out.new) (V.contents err.new))) }
-    ensures cut { IfErr result (λ error. IsCutOf
+    ensures cut { IfErr result (λ error. IsInputCut
         (held_by R.File.remaining R.Reader.remaining) name.now
         (standing drawing.old (W.contents out.old) (V.contents err.old))
         (standing drawing.new (W.contents out.new) (V.contents err.new))) }

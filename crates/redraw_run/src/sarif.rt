@@ -2,7 +2,7 @@
 ghost use Rattle.std.specs.Prelude.{◌≡◌, IfErr, OnOk, map};
 ghost use Rattle.serde_json.specs.View.{view};
 ghost use Rattle.redraw_run.specs.Deeds.{Does, Goes, TellsAll, standing};
-ghost use Rattle.redraw_run.specs.Fates.{AreRuns, Each, IsResult, IsRun};
+ghost use Rattle.redraw_run.specs.Fates.{AreRuns, Each, IsResult, IsLogRun};
 
 use crate::draw::Drawing;
 use json_node::lenient::{List, Node, Problems};
@@ -22,7 +22,7 @@ pub fn draw_runs<S: SourceFiles + Drop, W: Write, V: Write>(
 ) -> Result<(), Stop>
     ensures does { Goes result AreRuns (standing drawing.old (W.contents out.old) (V.contents err.old))
         (standing drawing.new (W.contents out.new) (V.contents err.new)) }
-    ensures each { OnOk result (Does (Each (λ run. IsRun) (map view runs.now))
+    ensures each { OnOk result (Does (Each (λ run. IsLogRun) (map view runs.now))
         (standing drawing.old (W.contents out.old) (V.contents err.old))
         (standing drawing.new (W.contents out.new) (V.contents err.new))) }
 {
@@ -44,7 +44,7 @@ fn draw_run<S: SourceFiles + Drop, W: Write, V: Write>(
     out: &mut W,
     err: &mut V,
 ) -> Result<(), Stop>
-    ensures does { Goes result IsRun (standing drawing.old (W.contents out.old) (V.contents err.old))
+    ensures does { Goes result IsLogRun (standing drawing.old (W.contents out.old) (V.contents err.old))
         (standing drawing.new (W.contents out.new) (V.contents err.new)) }
 {
     let mut problems = Problems::new(drawing.alloc);

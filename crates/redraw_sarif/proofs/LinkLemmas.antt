@@ -5,9 +5,9 @@ use Rattle.std.proofs.lemmas.Str.{encodes-append}
 use Rattle.redraw_sarif.specs.Links.{piece_of, without_links}
 
 -- of no characters nothing is shown
-pub nothing-left : (taken : ℕ) → without_links taken [] ≡ []
-nothing-left zero = refl
-nothing-left (suc taken) = refl
+pub without_links-nil : (taken : ℕ) → without_links taken [] ≡ []
+without_links-nil zero = refl
+without_links-nil (suc taken) = refl
 
 -- one that was taken isn't shown again
 pub one-taken : (cs : List ℕ) (at taken left : ℕ) → at < length cs → left + 1 ≡ taken → without_links left (drop (at + 1) cs) ≡ without_links taken (drop at cs)

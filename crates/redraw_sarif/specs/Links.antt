@@ -42,8 +42,8 @@ target_length cs = 0
 
 -- what is shown for a character of a link's text: nothing for one that escapes the next, and for one that is escaped and needn't be the
 -- backslash as well
-abbrev pub text_at : Bool → ℕ → List ℕ
-text_at escaped c =
+abbrev pub link_text_at : Bool → ℕ → List ℕ
+link_text_at escaped c =
     if escapes escaped c then []
     else if escaped && not (is_bracket c || is_backslash c) then 92 ∷ c ∷ []
     else c ∷ []
@@ -51,7 +51,7 @@ text_at escaped c =
 -- a link's text as it is shown, of which the first character is told whether it is escaped
 abbrev pub unescaped : Bool → List ℕ → List ℕ
 unescaped escaped [] = if escaped then 92 ∷ [] else []
-unescaped escaped (c ∷ cs) = text_at escaped c ++ unescaped (escapes escaped c) cs
+unescaped escaped (c ∷ cs) = link_text_at escaped c ++ unescaped (escapes escaped c) cs
 
 -- what is shown for the first of some characters, and how many more it takes with it
 pub record Piece : Type 0 where

@@ -15,7 +15,7 @@ step_label number None = decimal number
 step_label number (Some message) = decimal number ++ (codes ": " ++ message.now)
 
 -- what is said of the steps that aren't shown
-abbrev pub left_out : ℕ → ℕ → List ℕ
-left_out hidden count =
+abbrev pub steps_left_out : ℕ → ℕ → List ℕ
+steps_left_out hidden count =
     decimal hidden
     ++ (codes " of " ++ (decimal count ++ (if hidden == 1 then codes " steps is left out" else codes " steps are left out")))

@@ -199,7 +199,7 @@ fn add_unescaped(text: &mut String, written: &[char]) -> Result<(), AllocError>
 /// Adds what is shown for a character of a link's text.
 fn add_text_at(text: &mut String, is_escaped: bool, c: char) -> Result<(), AllocError>
     ensures added { OnOk result (string_bytes text.new
-        ≡ string_bytes text.old ++ encode_utf8_all (spec.text_at is_escaped c)) }
+        ≡ string_bytes text.old ++ encode_utf8_all (spec.link_text_at is_escaped c)) }
 {
     if escapes(is_escaped, c) {
         return Ok(());

@@ -50,7 +50,7 @@ pub fn step_label(alloc: Global, number: usize, message: Option<&str>) -> Result
 
 /// What is said of the steps that aren't shown.
 pub fn left_out(alloc: Global, hidden: usize, count: usize) -> Result<String, AllocError>
-    ensures value { IfOk result (λ text. string_bytes text ≡ spec.left_out hidden count) }
+    ensures value { IfOk result (λ text. string_bytes text ≡ spec.steps_left_out hidden count) }
 {
     if hidden == 1 {
         format!(in alloc; "{hidden} of {count} steps is left out")

@@ -85,14 +85,14 @@ width_of-shown_if true name = refl
 width_of-shown_if false name = refl
 
 -- a label is as wide as its name, its id and its colon
-pub label-width : (kind : HeadingKind) (known level : Level) (hidden : Bool) (owned id set : Option Id) (name shown colon : ℕ) (colons : List ℕ)
+pub width_of-label : (kind : HeadingKind) (known level : Level) (hidden : Bool) (owned id set : Option Id) (name shown colon : ℕ) (colons : List ℕ)
     → level ≡ known → hidden ≡ is_hidden known.name → id ≡ owned → set ≡ owned
     → name ≡ (if is_hidden level.name then 0 else width_of (before_name kind ++ norm (chars (name_of level))))
     → shown ≡ width_of (label_of_id hidden id) → colons ≡ colon_of hidden set → colon ≡ width_of colons
     → name + shown + colon ≡ width_of
     ((if is_hidden known.name then [] else before_name kind ++ norm (chars (name_of known)))
     ++ (label_of_id (is_hidden known.name) owned ++ colon_of (is_hidden known.name) owned))
-label-width kind known level hidden owned id set name shown colon colons leveled hides own is_set named identified spelled measured =
+width_of-label kind known level hidden owned id set name shown colon colons leveled hides own is_set named identified spelled measured =
     let h : Bool = is_hidden known.name in
     let front : List ℕ = if h then [] else before_name kind ++ norm (chars (name_of known)) in
     let one : name ≡ width_of front = named ∙ ap (λ (l : Level). if is_hidden l.name then 0 else width_of

@@ -47,8 +47,8 @@ pub links-append : (a b : List FormPiece) → form_links (a ++ b) ≡ form_links
 links-append a b = flat_map-append _ a b
 
 -- after one that links to nothing, and before one
-pub links-after : (a b : List FormPiece) → form_links a ≡ [] → form_links (a ++ b) ≡ form_links b
-links-after a b none = links-append a b ∙ ap (λ ls. ls ++ form_links b) none
+pub form_links-unlinked : (a b : List FormPiece) → form_links a ≡ [] → form_links (a ++ b) ≡ form_links b
+form_links-unlinked a b none = links-append a b ∙ ap (λ ls. ls ++ form_links b) none
 
 pub links-before : (a b : List FormPiece) → form_links b ≡ [] → form_links (a ++ b) ≡ form_links a
 links-before a b none = links-append a b ∙ ap (λ ls. form_links a ++ ls) none ∙ append-nil (form_links a)
@@ -62,7 +62,7 @@ bare-links (c ∷ cs) = bare-links cs
 module _ {A : Type 0} (form : A → List FormPiece) (none : (x : A) → form_links (form x) ≡ []) where
   pub each-links : (xs : List A) → form_links (flat_map form xs) ≡ []
   each-links [] = refl
-  each-links (x ∷ xs) = links-after (form x) (flat_map form xs) (none x) ∙ each-links xs
+  each-links (x ∷ xs) = form_links-unlinked (form x) (flat_map form xs) (none x) ∙ each-links xs
 
 -- a text links to its address where it shows anything
 link_for-some : (address : Option (List ℕ)) (c : ℕ) (cs : List ℕ) → link_for address (c ∷ cs) ≡ address
@@ -77,12 +77,12 @@ linking-links role address (c ∷ cs) =
 id_text-links : (hidden : Bool) (role : ElementStyle) (address : Option (List ℕ)) (text : List ℕ)
     → form_links (id_text_form hidden role address (Some text)) ≡ text_links address (norm (chars text))
 id_text-links hidden role address text =
-    links-after (bare (before_id hidden)) (linking role address (norm (chars text))) (bare-links (before_id hidden))
+    form_links-unlinked (bare (before_id hidden)) (linking role address (norm (chars text))) (bare-links (before_id hidden))
     ∙ linking-links role address (norm (chars text))
 
-id-links : (hyperlink hidden : Bool) (role : ElementStyle) (id : Option Id) → form_links (id_form hyperlink hidden role id) ≡ id_links hyperlink id
-id-links hyperlink hidden role None = refl
-id-links hyperlink hidden role (Some id) = of_text id.id refl
+form_links-id : (hyperlink hidden : Bool) (role : ElementStyle) (id : Option Id) → form_links (id_form hyperlink hidden role id) ≡ id_links hyperlink id
+form_links-id hyperlink hidden role None = refl
+form_links-id hyperlink hidden role (Some id) = of_text id.id refl
   where
     of_text : (text : Option (CowStr Global)) → id.id ≡ text → form_links (id_form hyperlink hidden role (Some id)) ≡ id_links hyperlink (Some id)
     of_text None is = rw is refl
@@ -111,8 +111,8 @@ label-links hyperlink kind roles heading =
     let hidden : Bool = is_hidden heading.level.name in
     let id : List FormPiece = id_form hyperlink hidden roles.label heading.id in
     let colon : List FormPiece = colon_form roles.colon hidden heading.id in
-    links-after (name_form kind roles.label heading.level) (id ++ colon) (name-links kind roles.label heading.level)
-    ∙ links-before id colon (colon-links roles.colon hidden heading.id) ∙ id-links hyperlink hidden roles.label heading.id
+    form_links-unlinked (name_form kind roles.label heading.level) (id ++ colon) (name-links kind roles.label heading.level)
+    ∙ links-before id colon (colon-links roles.colon hidden heading.id) ∙ form_links-id hyperlink hidden roles.label heading.id
 
 lines-links : (role : ElementStyle) (width : ℕ) (lines : List (List ℕ)) → form_links (lines_form role width lines) ≡ []
 lines-links role width [] = refl
@@ -137,7 +137,7 @@ spans-links anonymized source path [] = bare-links (codes " " ++ place anonymize
 spans-links anonymized source path (a ∷ marks) =
     let first : List FormPiece = span_form anonymized source (codes " ") path a in
     let further : Annotation → List FormPiece = span_form anonymized source (further_indent path) None in
-    links-after first (flat_map further (filter is_labelled marks)) (bare-links (span_text anonymized source (codes " ") path a))
+    form_links-unlinked first (flat_map further (filter is_labelled marks)) (bare-links (span_text anonymized source (codes " ") path a))
     ∙ each-links further (λ b. bare-links (span_text anonymized source (further_indent path) None b)) (filter is_labelled marks)
 
 -- the text form of a snippet has no link
@@ -166,7 +166,7 @@ edit-links : (anonymized : Bool) (source : Source) (indent : List ℕ) (path : O
 edit-links anonymized source indent path e =
     let at = locations_of source e.start e.end in
     let front : List ℕ = indent ++ edit_place anonymized source path e at.0 at.1 in
-    links-after (bare front) (added_form source.text e) (bare-links front) ∙ added_links source.text e
+    form_links-unlinked (bare front) (added_form source.text e) (bare-links front) ∙ added_links source.text e
 
 -- the text form of a suggestion has no link
 pub suggestion-links : (anonymized : Bool) (at : SuggestionContext) (s : Snippet Patch) → form_links (suggestion_form anonymized at s) ≡ []
@@ -175,7 +175,7 @@ suggestion-links anonymized at s =
     let source : Source = numbered_source s in
     let path : Option (List ℕ) = named_path at.names_path (option_map cow_str_bytes s.path) in
     let edits : Edit → List FormPiece = edit_form anonymized source (edit_indent at.option) path in
-    links-after (option_form at.option) (flat_map edits (given.trimmed_of s)) (option-links at.option)
+    form_links-unlinked (option_form at.option) (flat_map edits (given.trimmed_of s)) (option-links at.option)
     ∙ each-links edits (edit-links anonymized source (edit_indent at.option) path) (given.trimmed_of s)
 
 -- the text form of an origin has no link

@@ -59,12 +59,12 @@ shown_lines-of false cs = sym (lines_at-norm cs)
 
 -- ---- the lines so far
 
-abbrev pub shown-lines : Bool → List (ℕ × Bor (List ℕ)) → List (List ℕ)
-shown-lines trusted numbered = map (λ p. line_shown trusted (line_of p)) numbered
+abbrev pub lines_so_far : Bool → List (ℕ × Bor (List ℕ)) → List (List ℕ)
+lines_so_far trusted numbered = map (λ p. line_shown trusted (line_of p)) numbered
 
 -- all lines
 shown_lines-seen : (trusted : Bool) (numbered : List (ℕ × Bor (List ℕ)))
-    → shown-lines trusted numbered ≡ map (λ (p : ℕ × List ℕ). line_shown trusted (chars p.1)) (map (λ (p : ℕ × Bor (List ℕ)). (p.0, p.1.now)) numbered)
+    → lines_so_far trusted numbered ≡ map (λ (p : ℕ × List ℕ). line_shown trusted (chars p.1)) (map (λ (p : ℕ × Bor (List ℕ)). (p.0, p.1.now)) numbered)
 shown_lines-seen trusted [] = refl
 shown_lines-seen trusted (p ∷ ps) =
     ap (λ (ls : List (List ℕ)). line_shown trusted (line_of p) ∷ ls) (shown_lines-seen trusted ps)
@@ -78,7 +78,7 @@ shown_lines-numbered trusted n (line ∷ lines) =
 -- the lines that are shown are those of the heading's text
 pub shown_lines-all : (styling trusted : Bool) (own text : List ℕ) (numbered : List (ℕ × Bor (List ℕ))) → trusted ≡ styling → IsUtf8 text → text ≡ own
     → map (λ (p : ℕ × Bor (List ℕ)). (p.0, p.1.now)) numbered ≡ enumerate_from 0 (lines_at text)
-    → shown-lines trusted numbered ≡ lines_at (if styling then chars own else norm (chars own))
+    → lines_so_far trusted numbered ≡ lines_at (if styling then chars own else norm (chars own))
 shown_lines-all styling trusted own text numbered trusts utf8 is all =
     shown_lines-seen trusted numbered ∙ ap (map (λ (p : ℕ × List ℕ). line_shown trusted (chars p.1))) all
     ∙ shown_lines-numbered trusted 0 (lines_at text) ∙ ap (map (line_shown trusted)) (lines_at-chars text utf8)
@@ -95,11 +95,11 @@ lines_form-push role width (first ∷ lines) line =
 
 -- the form after these lines
 abbrev pub with_lines : List FormPiece → ElementStyle → ℕ → Bool → List (ℕ × Bor (List ℕ)) → List FormPiece
-with_lines old role width trusted numbered = old ++ lines_form role width (shown-lines trusted numbered)
+with_lines old role width trusted numbered = old ++ lines_form role width (lines_so_far trusted numbered)
 
 -- once all lines are added the form is that of them all
 pub all_added : (old form : List FormPiece) (role : ElementStyle) (width : ℕ) (trusted : Bool) (numbered : List (ℕ × Bor (List ℕ))) (lines : List (List ℕ))
-    → form ≡ with_lines old role width trusted numbered → shown-lines trusted numbered ≡ lines → form ≡ old ++ lines_form role width lines
+    → form ≡ with_lines old role width trusted numbered → lines_so_far trusted numbered ≡ lines → form ≡ old ++ lines_form role width lines
 all_added old form role width trusted numbered lines so_far all =
     so_far ∙ ap (λ (ls : List (List ℕ)). old ++ lines_form role width ls) all
 
@@ -109,11 +109,11 @@ pub line_added : (old form one new : List FormPiece) (role : ElementStyle) (widt
     → one ≡ form ++ bare (before_line width index) → new ≡ one ++ styled role text → text ≡ line_shown trusted (chars line.now)
     → new ≡ with_lines old role width trusted (numbered ++ (index, line) ∷ [])
 line_added old form one new role width index trusted numbered line text at is first second shows =
-    let ls : List (List ℕ) = shown-lines trusted numbered in
+    let ls : List (List ℕ) = lines_so_far trusted numbered in
     let l : List ℕ = line_shown trusted (chars line.now) in
     let before : List FormPiece = lines_form role width ls in
     let count : index ≡ length ls = at ∙ sym (length-map numbered (λ p. line_shown trusted (line_of p))) in
-    let both : shown-lines trusted (numbered ++ (index, line) ∷ []) ≡ ls
+    let both : lines_so_far trusted (numbered ++ (index, line) ∷ []) ≡ ls
     ++ l ∷ [] = map-append (λ p. line_shown trusted (line_of p)) numbered ((index, line) ∷ []) in
     second ∙ ap (λ (ps : List FormPiece). ps ++ styled role text) first ∙ append_assoc form (bare (before_line width index)) (styled role text)
     ∙ ap (λ (cs : List ℕ). form ++ (bare (before_line width index) ++ styled role cs)) shows

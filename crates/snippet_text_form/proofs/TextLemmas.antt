@@ -13,9 +13,9 @@ unfolding lib.Utf8.encode
 chars-feed = chars-encodes (10 ∷ []) refl
 
 -- of a place
-pub chars-at : chars (97 ∷ 116 ∷ 32 ∷ []) ≡ codes "at "
+pub chars-place : chars (97 ∷ 116 ∷ 32 ∷ []) ≡ codes "at "
 unfolding lib.Utf8.encode
-chars-at = chars-encodes (codes "at ") refl
+chars-place = chars-encodes (codes "at ") refl
 
 -- the characters of the bytes that the code writes for `:`
 pub chars-after : chars (58 ∷ []) ≡ codes ":"

@@ -63,13 +63,13 @@ indent_unlinked (Message place) width =
     (All-cons IsUnlinked bar spaces (bar_unlinked place.layout.decor place.followed) (All-replicate IsUnlinked (width + 1) SPACE refl))
 
 -- such cells link to nothing, after others and before them
-pub links-after : (last : Option (List ℕ)) (xs ys : List Cell) → All IsUnlinked ys → links_after last (xs ++ ys) ≡ links_after last xs
-links-after last [] [] none = refl
-links-after last [] (y ∷ ys) none =
+pub links_after-unlinked : (last : Option (List ℕ)) (xs ys : List Cell) → All IsUnlinked ys → links_after last (xs ++ ys) ≡ links_after last xs
+links_after-unlinked last [] [] none = refl
+links_after-unlinked last [] (y ∷ ys) none =
     let here : y.link ≡ None = All-head IsUnlinked y ys none in
-    ap (λ l. link_begun last l ++ links_after l ys) here ∙ links-after None [] ys (All-tail IsUnlinked y ys none)
-links-after last (x ∷ xs) ys none =
-    ap (λ (urls : List (List ℕ)). link_begun last x.link ++ urls) (links-after x.link xs ys none)
+    ap (λ l. link_begun last l ++ links_after l ys) here ∙ links_after-unlinked None [] ys (All-tail IsUnlinked y ys none)
+links_after-unlinked last (x ∷ xs) ys none =
+    ap (λ (urls : List (List ℕ)). link_begun last x.link ++ urls) (links_after-unlinked x.link xs ys none)
 
 -- cells without links in front add no link
 pub links-before : (xs ys : List Cell) → All IsUnlinked xs → links_after None (xs ++ ys) ≡ links_after None ys
@@ -89,7 +89,7 @@ linked-links url r (c ∷ cs) =
 
 links-linked : (address : Option (List ℕ)) (r : ElementStyle) (cs : List ℕ) → links_after None (linked_to address (text_cells r cs)) ≡ text_links address cs
 links-linked None r [] = refl
-links-linked None r (c ∷ cs) = links-after None [] (text_cells r cs) (drawn_unlinked r cs)
+links-linked None r (c ∷ cs) = links_after-unlinked None [] (text_cells r cs) (drawn_unlinked r cs)
 links-linked (Some url) r [] = refl
 links-linked (Some url) r (c ∷ cs) = ap (λ (urls : List (List ℕ)). url ∷ urls) (linked-links url r cs)
 
@@ -99,12 +99,12 @@ bracketed-links : (hidden : Bool) (r : ElementStyle) (address : Option (List ℕ
 bracketed-links hidden r address text =
     let shown : List Cell = linked_to address (text_cells r (norm (chars text))) in
     let opening : List Cell = text_cells r (opening_bracket_of hidden) in
-    links-after None (opening ++ shown) (text_cells r (closing_bracket_of hidden)) (drawn_unlinked r (closing_bracket_of hidden))
+    links_after-unlinked None (opening ++ shown) (text_cells r (closing_bracket_of hidden)) (drawn_unlinked r (closing_bracket_of hidden))
     ∙ links-before opening shown (drawn_unlinked r (opening_bracket_of hidden)) ∙ links-linked address r (norm (chars text))
 
-id-links : (hyperlink hidden : Bool) (r : ElementStyle) (id : Option Id) → links_after None (id_cells hyperlink hidden r id) ≡ id_links hyperlink id
-id-links hyperlink hidden r None = refl
-id-links hyperlink hidden r (Some id) = of_text id.id refl
+links_after-id : (hyperlink hidden : Bool) (r : ElementStyle) (id : Option Id) → links_after None (id_cells hyperlink hidden r id) ≡ id_links hyperlink id
+links_after-id hyperlink hidden r None = refl
+links_after-id hyperlink hidden r (Some id) = of_text id.id refl
   where
     of_text : (text : Option (CowStr Global)) → id.id ≡ text → links_after None (id_cells hyperlink hidden r (Some id)) ≡ id_links hyperlink (Some id)
     of_text None is = rw is refl
@@ -119,14 +119,14 @@ label-links hyperlink roles heading =
     let hidden : Bool = is_hidden heading.level.name in
     let name : List ℕ = norm (chars (name_of heading.level)) in
     let id : List Cell = id_cells hyperlink hidden roles.label heading.id in
-    links-after None (text_cells roles.label name ++ id) (text_cells roles.colon (colon_of hidden heading.id))
+    links_after-unlinked None (text_cells roles.label name ++ id) (text_cells roles.colon (colon_of hidden heading.id))
     (drawn_unlinked roles.colon (colon_of hidden heading.id)) ∙ links-before (text_cells roles.label name) id (drawn_unlinked roles.label name)
-    ∙ id-links hyperlink hidden roles.label heading.id
+    ∙ links_after-id hyperlink hidden roles.label heading.id
 
 -- rows of cells that link to nothing link to nothing
 unlinked_row : (cells : List Cell) (r : ElementStyle) (line : List ℕ) → All IsUnlinked cells → links_after None (cells ++ text_cells r line) ≡ []
 unlinked_row cells r line none =
-    links-after None [] (cells ++ text_cells r line) (All-append IsUnlinked cells (text_cells r line) none (drawn_unlinked r line))
+    links_after-unlinked None [] (cells ++ text_cells r line) (All-append IsUnlinked cells (text_cells r line) none (drawn_unlinked r line))
 
 further-links : (further : List Cell) (r : ElementStyle) (lines : List (List ℕ)) → All IsUnlinked further
     → links_of (map (λ l. further ++ text_cells r l) lines) ≡ []
@@ -141,7 +141,7 @@ pub lines-links : (first further : List Cell) (r : ElementStyle) (lines : List (
 lines-links first further r [] some none = absurd (omega (arith, some))
 lines-links first further r (line ∷ lines) some none =
     ap (λ (urls : List (List ℕ)). links_after None (first ++ text_cells r line) ++ urls) (further-links further r lines none)
-    ∙ append-nil (links_after None (first ++ text_cells r line)) ∙ links-after None first (text_cells r line) (drawn_unlinked r line)
+    ∙ append-nil (links_after None (first ++ text_cells r line)) ∙ links_after-unlinked None first (text_cells r line) (drawn_unlinked r line)
 
 -- rows that aren't there link to nothing
 on_top-links : (row : List Cell) (rows : List (List Cell)) → links_of (on_top row rows) ≡ links_after None row ++ links_of rows

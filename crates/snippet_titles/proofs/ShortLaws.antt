@@ -20,7 +20,8 @@ use Rattle.snippet_titles.specs.Title.{id_links}
 use Rattle.snippet_titles.proofs.EndLemmas.{row_at-trimmed}
 use Rattle.snippet_titles.proofs.FreeLemmas.{All-slice_split, All-trimmed, IsUnlisted, IsOwn, from_free, indent-all, label-all, lines_all, own_text}
 use Rattle.snippet_titles.proofs.FreeLemmas.{own_unlisted, row-all}
-use Rattle.snippet_titles.proofs.LinkLemmas.{IsUnlinked, drawn_unlinked, indent_unlinked, label-links, lines-links, links-before, links-after, trimmed-links}
+use Rattle.snippet_titles.proofs.LinkLemmas.{IsUnlinked, drawn_unlinked, indent_unlinked, label-links, lines-links, links-before, links_after-unlinked}
+use Rattle.snippet_titles.proofs.LinkLemmas.{trimmed-links}
 use Rattle.snippet_titles.proofs.TextLemmas.{row_text-append, row_text-after, row_text-label, text_at, texts_of_lines}
 use Rattle.snippet_grid.proofs.RowLemmas.{row_text-text_cells}
 
@@ -39,10 +40,10 @@ with_end-texts after (row ∷ rows) =
     ap (λ t. t ∷ map row_text rows) (row_text-after row (row_text row) NoStyle after refl)
 
 -- the text of each row
-pub short-texts : (hyperlink : Bool) (before after : List ℕ) (heading : Heading) (i : ℕ)
+pub row_text-short_rows : (hyperlink : Bool) (before after : List ℕ) (heading : Heading) (i : ℕ)
     → row_text (row_at (short_rows hyperlink before after heading) i) ≡ slice_index_or (short_texts before after heading) i []
 unfolding short_rows
-short-texts hyperlink before after heading i =
+row_text-short_rows hyperlink before after heading i =
     let roles : HeadingRoles = roles_of Short heading.level.kind heading.allows_styling in
     let first : List Cell = text_cells LineAndColumn before ++ label_cells hyperlink roles heading in
     let further : List Cell = indent_cells Short (label_width heading) in
@@ -54,15 +55,15 @@ short-texts hyperlink before after heading i =
 
 -- a text after the first row links to nothing
 with_end-links : (cells : List Cell) (rows : List (List Cell)) → All IsUnlinked cells → links_of (with_end cells rows) ≡ links_of rows
-with_end-links cells [] none = append-nil (links_after None cells) ∙ links-after None [] cells none
+with_end-links cells [] none = append-nil (links_after None cells) ∙ links_after-unlinked None [] cells none
 with_end-links cells (row ∷ rows) none =
-    ap (λ (urls : List (List ℕ)). urls ++ links_of rows) (links-after None row cells none)
+    ap (λ (urls : List (List ℕ)). urls ++ links_of rows) (links_after-unlinked None row cells none)
 
 -- the addresses that the rows link to
-pub short-links : (hyperlink : Bool) (before after : List ℕ) (heading : Heading)
+pub links_of-short_rows : (hyperlink : Bool) (before after : List ℕ) (heading : Heading)
     → links_of (short_rows hyperlink before after heading) ≡ id_links hyperlink heading.id
 unfolding short_rows
-short-links hyperlink before after heading =
+links_of-short_rows hyperlink before after heading =
     let roles : HeadingRoles = roles_of Short heading.level.kind heading.allows_styling in
     let label : List Cell = label_cells hyperlink roles heading in
     let first : List Cell = text_cells LineAndColumn before ++ label in

@@ -309,7 +309,7 @@ const NOWHERE: Surroundings<'static> = Surroundings {
     folder: None,
 };
 
-/// Words that aren't of the form, and the first line of what is told of them.
+/// Arguments that aren't of the form, and the first line of what is told of them.
 const MISUSES: [(&[&str], &str); 6] = [
     (
         &["--text", "--loud"],
@@ -335,10 +335,10 @@ const MISUSES: [(&[&str], &str); 6] = [
 ];
 
 #[test]
-fn the_word_that_is_wrong_is_told(rt: HostRuntime) -> Result<(), Fail> {
-    for (words, told) in &MISUSES {
+fn the_argument_that_is_wrong_is_told(rt: HostRuntime) -> Result<(), Fail> {
+    for (args, told) in &MISUSES {
         let (mut out, mut err) = (Vec::new(rt.alloc()), Vec::new(rt.alloc()));
-        assert_eq!(rt; run(&rt, words, NOWHERE, &mut out, &mut err), 2);
+        assert_eq!(rt; run(&rt, args, NOWHERE, &mut out, &mut err), 2);
         assert!(rt; err.starts_with(told.as_bytes()));
         assert!(rt; out.is_empty());
     }

@@ -1,7 +1,7 @@
 use Rattle.std.proofs.Common.{List, ap, inl, inr, subst}
 use Rattle.clap.specs.Walk.{Row}
 use Rattle.clap.specs.Words.{kind_of}
-use Rattle.redraw_command.specs.Words.{IsRequestOf, words_at}
+use Rattle.redraw_command.specs.Arguments.{IsRequestOf, arguments_at}
 use Rattle.redraw_run.specs.Inputs.{held_by}
 use Rattle.redraw_run.proofs.Asking.{answers_error}
 use Rattle.redraw_run.proofs.run.run.Goals as goal
@@ -25,7 +25,7 @@ returns-in-Err-clause-answers g c =
     let ends = c.answer_error.ensures in (
       app,
       is,
-      answers_error (held_by g.R.File.Read.remaining g.R.Reader.Read.remaining) app (words_at c.args.words.now) c.args.around (kind_of c.in-Err.error)
+      answers_error (held_by g.R.File.Read.remaining g.R.Reader.Read.remaining) app (arguments_at c.args.args.now) c.args.around (kind_of c.in-Err.error)
           _ _ _ _ c.answer_error.result
           record {
             usage_error = λ help version. let failed = ends.usage_error help version in (failed.0, ap g.W.Write.contents failed.1);

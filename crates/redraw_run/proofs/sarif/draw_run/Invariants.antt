@@ -1,9 +1,9 @@
 use Rattle.redraw_run.specs.Deeds.{Does, standing}
-use Rattle.redraw_run.specs.Fates.{IsRun}
+use Rattle.redraw_run.specs.Fates.{IsLogRun}
 use Rattle.redraw_run.proofs.sarif.draw_run.Given as goal
 
 -- what is done of the run so far
 abbrev pub invariant-loop-index : goal.invariant-loop-index
 invariant-loop-index g l =
-    Does IsRun (standing l.fn.drawing (g.W.Write.contents l.fn.out) (g.V.Write.contents l.fn.err))
+    Does IsLogRun (standing l.fn.drawing (g.W.Write.contents l.fn.out) (g.V.Write.contents l.fn.err))
     (standing l.drawing (g.W.Write.contents l.out) (g.V.Write.contents l.err))

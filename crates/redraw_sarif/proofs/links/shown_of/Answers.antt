@@ -1,7 +1,7 @@
 use Rattle.std.proofs.Common.{◌≡◌, ◌++◌, ◌+◌, encode_utf8_all, drop, string_bytes, ap, sym, ◌∙◌, arith}
 use Rattle.std.proofs.lemmas.List.{append-nil, at_drop_all}
 use Rattle.redraw_sarif.specs.Links.{without_links}
-use Rattle.redraw_sarif.proofs.LinkLemmas.{nothing-left, one-taken, piece-added}
+use Rattle.redraw_sarif.proofs.LinkLemmas.{without_links-nil, one-taken, piece-added}
 use Rattle.redraw_sarif.proofs.links.shown_of.Goals as goal
 use Rattle.redraw_sarif.proofs.links.shown_of.Goals.{then-taken-gt0, else-taken-gt0+in_ok-taken}
 
@@ -31,6 +31,6 @@ returns c =
     record {
       value = sym (append-nil text)
           ∙ ap (λ xs. text ++ encode_utf8_all xs) (sym
-          (at_drop_all (without_links c.loop-at.taken) cs c.loop-at.at (omega arith) ∙ nothing-left c.loop-at.taken))
+          (at_drop_all (without_links c.loop-at.taken) cs c.loop-at.at (omega arith) ∙ without_links-nil c.loop-at.taken))
           ∙ c.loop-at.invariant;
     }

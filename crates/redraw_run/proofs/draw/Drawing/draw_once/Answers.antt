@@ -11,7 +11,7 @@ use Rattle.redraw_command.specs.declared.tally.Tally.{Tally}
 use Rattle.redraw_read.specs.declared.sources.File.{File}
 use Rattle.redraw_report.specs.declared.diagnostic.Diagnostic.{Diagnostic}
 use Rattle.redraw_run.specs.Deeds.{repeated}
-use Rattle.redraw_run.specs.DrawnFinding.{Draws}
+use Rattle.redraw_run.specs.DrawnFinding.{DrawsFinding}
 use Rattle.redraw_run.specs.Fates.{IsChosen, IsDrawing}
 use Rattle.redraw_run.proofs.Doing.{does_as, goes_after, goes_as, goes_err, stops_none}
 use Rattle.redraw_run.proofs.Done.{does_repeated, does_same}
@@ -43,11 +43,11 @@ returns-then-is_seen-clause-does g c =
 
 -- what is drawn is drawn for the same choice, in the same settings, from the same tally
 drawn_for : {a b : Choice} {r s : ReportRenderer} {t u : Tally} (files : List File) (d : Diagnostic) (o n : Option (List ℕ)) (Same : Type 0) (after : Tally)
-    → a ≡ b → r ≡ s → t ≡ u → Draws a.form r files d o n Same t after → Draws b.form s files d o n Same u after
+    → a ≡ b → r ≡ s → t ≡ u → DrawsFinding a.form r files d o n Same t after → DrawsFinding b.form s files d o n Same u after
 drawn_for {a} {b} {r} {s} {t} {u} files d o n Same after p q w h =
-    subst (λ (x : Choice). Draws x.form s files d o n Same u after) p
-    (subst (λ (y : ReportRenderer). Draws a.form y files d o n Same u after) q
-    (subst (λ (z : Tally). Draws a.form r files d o n Same z after) w h))
+    subst (λ (x : Choice). DrawsFinding x.form s files d o n Same u after) p
+    (subst (λ (y : ReportRenderer). DrawsFinding a.form y files d o n Same u after) q
+    (subst (λ (z : Tally). DrawsFinding a.form r files d o n Same z after) w h))
 
 -- what was seen stays
 seen_still : (d : Option Data) (again was : Bool) (old : List (List ℕ)) (a b : Seen) → b ≡ a → IsSeen d again was old (digests_of a)

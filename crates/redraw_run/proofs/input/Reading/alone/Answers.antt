@@ -1,6 +1,6 @@
 use Rattle.std.proofs.Common.{ap, subst, sym, ◌∙◌}
 use Rattle.redraw_command.specs.Line.{begins_object}
-use Rattle.redraw_run.specs.Fates.{IsHandedOn, IsLine, IsTextOf}
+use Rattle.redraw_run.specs.Fates.{IsHandedOn, IsFateOfLine, IsTextOf}
 use Rattle.redraw_run.proofs.Doing.{does_as, goes_as}
 use Rattle.redraw_run.proofs.Lined.{advances_alone, blank_begins, line_other, line_undecoded, next_alone, no_document, unmarked_text}
 use Rattle.redraw_run.proofs.input.Reading.alone.Goals as goal
@@ -31,7 +31,7 @@ returns-in-Blank g c =
     record {
       advances = λ was.
           advances_alone c.hand_on.result line _ _ _ _ (no_document _ was) (no_document _ was)
-          (goes_as (IsHandedOn line) (IsLine line) _ _ c.hand_on.result
+          (goes_as (IsHandedOn line) (IsFateOfLine line) _ _ c.hand_on.result
           (λ ds h. line_other line form.0 _ ds (unmarked_text c.args.is_first line form.0 form.1) (blank_begins form.0 form.2) h)
           (c.hand_on.ensures.does _));
     }
@@ -43,7 +43,7 @@ returns-in-Other g c =
     record {
       advances = λ was.
           advances_alone c.hand_on-in-Other.result line _ _ _ _ (no_document _ was) (no_document _ was)
-          (goes_as (IsHandedOn line) (IsLine line) _ _ c.hand_on-in-Other.result
+          (goes_as (IsHandedOn line) (IsFateOfLine line) _ _ c.hand_on-in-Other.result
           (λ ds h. line_other line form.0 _ ds (unmarked_text c.args.is_first line form.0 form.1) form.2.0 h)
           (c.hand_on-in-Other.ensures.does _));
     }

@@ -1,5 +1,5 @@
 use Rattle.std.proofs.Common.{inr}
-use Rattle.redraw_run.specs.Fates.{IsHandedOn, IsLine}
+use Rattle.redraw_run.specs.Fates.{IsHandedOn, IsFateOfLine}
 use Rattle.redraw_run.proofs.Doing.{goes_as}
 use Rattle.redraw_run.proofs.Lined.{advances_alone, advances_open, line_handed, no_document}
 use Rattle.redraw_run.proofs.input.Reading.not_json.Goals as goal
@@ -17,7 +17,7 @@ returns-else-starts_with g c =
     record {
       advances = λ is begins reads was.
           advances_alone c.hand_on.result c.args.bytes.now _ _ _ _ (no_document _ was) (no_document _ was)
-          (goes_as (IsHandedOn c.args.bytes.now) (IsLine c.args.bytes.now) _ _ c.hand_on.result
+          (goes_as (IsHandedOn c.args.bytes.now) (IsFateOfLine c.args.bytes.now) _ _ c.hand_on.result
           (λ ds h. line_handed c.args.bytes.now c.args.line.now _ ds is begins (inr reads) h)
           (c.hand_on.ensures.does _));
     }

@@ -1,6 +1,6 @@
 use Rattle.std.proofs.Common.{None, Some, refl, ◌∙◌}
 use Rattle.serde_json.specs.View.{view}
-use Rattle.redraw_run.specs.Fates.{IsLine, IsValue, Reads}
+use Rattle.redraw_run.specs.Fates.{IsFateOfLine, IsValue, Reads}
 use Rattle.redraw_run.proofs.Doing.{goes_as}
 use Rattle.redraw_run.proofs.Done.{does_same}
 use Rattle.redraw_run.proofs.Lined.{advances_alone, advances_err, line_value, match_err, match_ok, no_document}
@@ -23,7 +23,7 @@ returns-in-Ok g c =
           match_ok (λ v. Reads c.args.line.now (Some (view v))) (λ e. Reads c.args.line.now None) c.in_ok-read.read c.in-Ok.value c.in-Ok.is
           c.in_ok-read.ensures.reads in
           advances_alone c.value.result line _ _ _ _ (no_document _ was) (no_document _ (c.value.ensures.same ∙ was))
-          (goes_as (IsValue (Some line) d) (IsLine line) _ _ c.value.result
+          (goes_as (IsValue (Some line) d) (IsFateOfLine line) _ _ c.value.result
           (λ ds h. line_value line c.args.line.now d _ ds is begins reads h) c.value.ensures.does);
     }
 

@@ -1,6 +1,6 @@
 use Rattle.std.proofs.Common.{ap₂, refl, ◌∙◌}
 use Rattle.clap.specs.Simple.{with_rule}
-use Rattle.redraw_command.proofs.words.with_values.Goals as goal
+use Rattle.redraw_command.proofs.arguments.with_values.Goals as goal
 
 pub returns : goal.returns
 returns c =
@@ -12,8 +12,8 @@ returns c =
       app = (
         c.color_words-colors.result,
         c.level_words-levels.result,
-        c.color_words-colors.ensures.words,
-        c.level_words-levels.ensures.words,
+        c.color_words-colors.ensures.args,
+        c.level_words-levels.ensures.args,
         c.in_ok-valued.ensures.shape c.valued-path.ensures.local ∙ ap₂ with_rule level c.valued-path.ensures.rule,
       );
     }

@@ -1,7 +1,7 @@
 use Rattle.std.proofs.Common.{ap, ap₂, true, ◌∙◌}
 use Rattle.clap.specs.Simple.{App, app_of_fields, on_top, with_rule}
-use Rattle.redraw_command.specs.Words.{flag_rules, valued_rules, with_rules}
-use Rattle.redraw_command.proofs.words.command.Goals as goal
+use Rattle.redraw_command.specs.Arguments.{flag_rules, valued_rules, with_rules}
+use Rattle.redraw_command.proofs.arguments.command.Goals as goal
 
 abbrev versioned : App → App
 versioned = on_top (λ s. record s { has_version = true })

@@ -1,7 +1,7 @@
 use Rattle.std.proofs.Common.{◌∙◌}
 use Rattle.clap.specs.Words.{found_of}
 use Rattle.clap.proofs.WalkLemmas.{first_value-rows}
-use Rattle.redraw_command.proofs.words.word_after.Goals as goal
+use Rattle.redraw_command.proofs.arguments.argument_after.Goals as goal
 
 pub returns : goal.returns
 returns c = record { value = c.get_str.ensures ∙ first_value-rows (found_of c.args.matches.now) c.args.name.now }

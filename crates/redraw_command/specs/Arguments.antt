@@ -1,5 +1,5 @@
--- What the words of a command line ask for.
-use Rattle.std.specs.Prelude.{◌≡◌, ◌≢◌, ◌⊎◌, ℕ, ◌^◌, Bool, true, false, ◌&&◌, List, [], ◌∷◌, Option, Some, None, codes, map}
+-- What the arguments of a command line ask for.
+use Rattle.std.specs.Prelude.{◌≡◌, ◌≢◌, ◌⊎◌, ℕ, ◌^◌, Bool, true, false, ◌&&◌, List, [], ◌∷◌, Option, Some, None, codes}
 use Rattle.std.specs.Prelude.{if◌then◌else◌, bytes_eq, nat_lt, not, option_map}
 use Rattle.std.specs.Borrow.{Bor}
 use Rattle.std.specs.Option.{option_and_then, option_map_or}
@@ -15,6 +15,7 @@ use Rattle.clap.specs.declared.builder.value_parser.ValueParser.{ValueParser}
 use Rattle.clap.specs.declared.builder.value_parser.ValueParser.TheVariants.{Names, NonEmptyString, Unsigned}
 use Rattle.clap.specs.declared.error.kind.ErrorKind.{ErrorKind}
 use Rattle.clap.specs.declared.error.kind.ErrorKind.TheVariants.{DisplayHelp, DisplayVersion}
+pub use Rattle.program.specs.Arguments.{Argument, arguments_at}
 use Rattle.redraw_command.specs.declared.choice.Choice.{Choice}
 use Rattle.redraw_command.specs.declared.choice.Form.{Form}
 use Rattle.redraw_command.specs.declared.choice.Form.TheVariants.{Report, Workflow}
@@ -23,24 +24,16 @@ use Rattle.redraw_command.specs.declared.choice.Least.TheVariants as least
 use Rattle.redraw_command.specs.declared.terminal.Look.{Look}
 use Rattle.redraw_command.specs.declared.terminal.When.{When}
 use Rattle.redraw_command.specs.declared.terminal.When.TheVariants.{Auto, Always, Never}
-use Rattle.redraw_command.specs.declared.words.Request.{Request}
-
--- a word, by its bytes
-abbrev pub Word : Type 0
-Word = List ℕ
-
--- the words that a list of references leads to
-abbrev pub words_at : List (Bor Word) → List Word
-words_at refs = map (λ (w : Bor Word). w.now) refs
+use Rattle.redraw_command.specs.declared.arguments.Request.{Request}
 
 -- ---- what may be written, as clap reads it
 
 -- an option that stands alone: two hyphens and this name
-abbrev pub flag_rule : Word → Rule
+abbrev pub flag_rule : Argument → Rule
 flag_rule name = record (new_rule name) { long = Some name; action = Some SetTrue }
 
 -- an option that has a value after it, which has to be such a one
-abbrev pub valued_rule : Word → ValueParser → Rule
+abbrev pub valued_rule : Argument → ValueParser → Rule
 valued_rule name parser = record (new_rule name) {
   long = Some name;
   action = Some Set;
@@ -64,14 +57,14 @@ flag_rules =
     ∷ flag_rule (codes "confined") ∷ []
 
 -- the words that may stand after `--color`, and after `--level`
-abbrev pub color_words : List Word
+abbrev pub color_words : List Argument
 color_words = codes "auto" ∷ codes "always" ∷ codes "never" ∷ []
 
-abbrev pub level_words : List Word
+abbrev pub level_words : List Argument
 level_words = codes "error" ∷ codes "warning" ∷ codes "note" ∷ []
 
 -- the options that have a value after them, where these are the words for two of them
-abbrev pub valued_rules : (colors levels : Bor (List (Bor Word))) → List Rule
+abbrev pub valued_rules : (colors levels : Bor (List (Bor Argument))) → List Rule
 valued_rules colors levels =
     valued_rule (codes "color") (Names colors) ∷ valued_rule (codes "width") (Unsigned 0 18446744073709551615)
     ∷ valued_rule (codes "root") NonEmptyString ∷ valued_rule (codes "level") (Names levels)
@@ -82,58 +75,58 @@ abbrev pub with_rules : App → List Rule → App
 with_rules app [] = app
 with_rules app (rule ∷ rules) = with_rules (with_rule app rule) rules
 
--- the command before its options, beside help and a version. The program's name isn't among its words, and an option that is given
+-- the command before its options, beside help and a version. The program's name isn't among its arguments, and an option that is given
 -- again counts as it is given last
 abbrev pub bare_app : App
 bare_app = on_top (λ s. record s { no_binary_name = true; has_version = true; args_override_self = true }) (new_app (codes "redraw"))
 
 -- the command, where these are the words for two of its options
-abbrev pub redraw_app : (colors levels : Bor (List (Bor Word))) → App
+abbrev pub redraw_app : (colors levels : Bor (List (Bor Argument))) → App
 redraw_app colors levels = with_rule (with_rules (with_rules bare_app flag_rules) (valued_rules colors levels)) inputs_rule
 
 -- that command. Where in memory the words for two of its options stand is left open
 pub record IsRedraw (app : App) : Type 0 where
-  pub colors : Bor (List (Bor Word))
-  pub levels : Bor (List (Bor Word))
-  pub color_words : words_at colors.now ≡ color_words
-  pub level_words : words_at levels.now ≡ level_words
+  pub colors : Bor (List (Bor Argument))
+  pub levels : Bor (List (Bor Argument))
+  pub color_words : arguments_at colors.now ≡ color_words
+  pub level_words : arguments_at levels.now ≡ level_words
   pub is : app ≡ redraw_app colors levels
 
 -- ---- what is asked for, by what clap finds
 
 -- an option that stands alone was given
-abbrev pub was_given : Word → List Row → Bool
+abbrev pub was_given : Argument → List Row → Bool
 was_given name found = option_map_or (λ value. bytes_eq value (codes "true")) (first_of name found) false
 
 -- when colours are written where `--color` isn't given: always with `--styled`, else on a terminal that shows them
 abbrev pub otherwise : Bool → When
 otherwise is_styled = if is_styled then Always else Auto
 
--- when colours are written, by the word after `--color`, if that is given
-abbrev pub when_of : Option Word → Bool → When
+-- when colours are written, by the argument after `--color`, if that is given
+abbrev pub when_of : Option Argument → Bool → When
 when_of None is_styled = otherwise is_styled
-when_of (Some word) is_styled =
-    if bytes_eq word (codes "always") then Always else (if bytes_eq word (codes "never") then Never else otherwise is_styled)
+when_of (Some argument) is_styled =
+    if bytes_eq argument (codes "always") then Always else (if bytes_eq argument (codes "never") then Never else otherwise is_styled)
 
 -- the number that decimal digits write, after a plus or without, where it fits in 64 bits
-abbrev pub number_of : Word → Option ℕ
-number_of word =
-    let digits = without_leading_plus word in
+abbrev pub number_of : Argument → Option ℕ
+number_of argument =
+    let digits = without_leading_plus argument in
     if is_numeral digits && nat_lt (digits_value 10 digits) (2 ^ 64) then Some (digits_value 10 digits) else None
 
--- the least level that is drawn, by the word after `--level`, if that is given
-abbrev pub least_of : Option Word → Least
+-- the least level that is drawn, by the argument after `--level`, if that is given
+abbrev pub least_of : Option Argument → Least
 least_of None = least.Any
-least_of (Some word) =
-    if bytes_eq word (codes "error") then least.Error else (if bytes_eq word (codes "warning") then least.Warning else least.Any)
+least_of (Some argument) =
+    if bytes_eq argument (codes "error") then least.Error else (if bytes_eq argument (codes "warning") then least.Warning else least.Any)
 
 -- the form of what is drawn
 abbrev pub form_of : Bool → Form
 form_of is_github = if is_github then Workflow else Report
 
--- the word that a reference leads to, if there is one
-abbrev pub word_at : Option (Bor Word) → Option Word
-word_at word = option_map (λ (w : Bor Word). w.now) word
+-- the argument that a reference leads to, if there is one
+abbrev pub argument_at : Option (Bor Argument) → Option Argument
+argument_at argument = option_map (λ (w : Bor Argument). w.now) argument
 
 -- how reports are to look, by what is found
 abbrev pub look_of : List Row → Look
@@ -151,34 +144,34 @@ look_of found = record {
 pub record IsChoiceOf (found : List Row) (c : Choice) : Type 0 where
   pub form : c.form ≡ form_of (was_given (codes "github") found)
   pub least : c.least ≡ least_of (first_of (codes "level") found)
-  pub path : word_at c.path ≡ first_of (codes "path") found
+  pub path : argument_at c.path ≡ first_of (codes "path") found
   pub duplicates : c.has_duplicates ≡ was_given (codes "duplicates") found
   pub quiet : c.is_quiet ≡ was_given (codes "quiet") found
 
 -- the names of files, if there are some
-abbrev pub names_at : Option (Bor (List (Bor Word))) → Option (List Word)
-names_at names = option_map (λ (ns : Bor (List (Bor Word))). words_at ns.now) names
+abbrev pub names_at : Option (Bor (List (Bor Argument))) → Option (List Argument)
+names_at names = option_map (λ (ns : Bor (List (Bor Argument))). arguments_at ns.now) names
 
 -- what is asked for, by what is found
 pub record IsRequestOf (found : List Row) (r : Request) : Type 0 where
   pub look : r.look ≡ look_of found
-  pub root : word_at r.root ≡ first_of (codes "root") found
+  pub root : argument_at r.root ≡ first_of (codes "root") found
   pub confined : r.is_confined ≡ was_given (codes "confined") found
   pub choice : IsChoiceOf found r.choice
   pub inputs : names_at r.inputs ≡ all_of (codes "inputs") found
 
--- the words ask for this: clap finds nothing wrong with them, and what it finds asks for it
-pub record AsksFor (app : App) (words : List Word) (r : Request) : Type 0 where
-  pub clean : fault_of app words ≡ []
-  pub is : IsRequestOf (matches_of app words) r
+-- the arguments ask for this: clap finds nothing wrong with them, and what it finds asks for it
+pub record AsksFor (app : App) (args : List Argument) (r : Request) : Type 0 where
+  pub clean : fault_of app args ≡ []
+  pub is : IsRequestOf (matches_of app args) r
 
--- the words ask for the help or the version: that is what ends clap's reading
-abbrev pub AsksToShow : App → List Word → Type 0
-AsksToShow app words = IsAmong DisplayHelp (fault_of app words) ⊎ IsAmong DisplayVersion (fault_of app words)
+-- the arguments ask for the help or the version: that is what ends clap's reading
+abbrev pub AsksToShow : App → List Argument → Type 0
+AsksToShow app args = IsAmong DisplayHelp (fault_of app args) ⊎ IsAmong DisplayVersion (fault_of app args)
 
--- the words are wrong: something other than these ends clap's reading
-pub record AreWrong (app : App) (words : List Word) : Type 0 where
+-- the arguments are wrong: something other than these ends clap's reading
+pub record AreWrong (app : App) (args : List Argument) : Type 0 where
   pub kind : ErrorKind
-  pub found : IsAmong kind (fault_of app words)
+  pub found : IsAmong kind (fault_of app args)
   pub no_help : kind ≢ DisplayHelp
   pub no_version : kind ≢ DisplayVersion

@@ -1,6 +1,6 @@
 use Rattle.std.proofs.Common.{ap₂, refl, ◌∙◌}
 use Rattle.clap.specs.Simple.{with_rule}
-use Rattle.redraw_command.proofs.words.with_flags.Goals as goal
+use Rattle.redraw_command.proofs.arguments.with_flags.Goals as goal
 
 pub returns : goal.returns
 returns c =

@@ -1,14 +1,14 @@
-//! The words of the command line, without the program's name.
+//! The arguments of the command line, without the program's name.
 
 ghost use Rattle.std.specs.Prelude.{◌≡◌, ◌&&◌, codes, false, not, IfOk};
 ghost use Rattle.clap.specs.Words.{FailsBy, app_of, fault_of, found_of, rows_of, rule_of};
 ghost use Rattle.clap.specs.Walk.{all_of, first_of};
 ghost use Rattle.clap.specs.Simple.{matches_of as rows_for};
 ghost use Rattle.std.specs.Option.{option_and_then};
-ghost use Rattle.redraw_command.specs.Words as spec;
-ghost use Rattle.redraw_command.specs.Words.{IsChoiceOf, IsRedraw, IsRequestOf, flag_rule};
-ghost use Rattle.redraw_command.specs.Words.{flag_rules, inputs_rule, names_at, valued_rule, valued_rules};
-ghost use Rattle.redraw_command.specs.Words.{was_given, when_of, with_rules, word_at, words_at};
+ghost use Rattle.redraw_command.specs.Arguments as spec;
+ghost use Rattle.redraw_command.specs.Arguments.{IsChoiceOf, IsRedraw, IsRequestOf, flag_rule};
+ghost use Rattle.redraw_command.specs.Arguments.{flag_rules, inputs_rule, names_at, valued_rule, valued_rules};
+ghost use Rattle.redraw_command.specs.Arguments.{was_given, when_of, with_rules, argument_at, arguments_at};
 
 use crate::choice::{Choice, Form, Least};
 use crate::terminal::{Look, When};
@@ -41,14 +41,14 @@ const INPUTS: &str =
 
 /// The words that may stand after `--color`.
 fn color_words() -> &'static [&'static str]
-    ensures words { words_at result.now ≡ spec.color_words }
+    ensures args { arguments_at result.now ≡ spec.color_words }
 {
     &["auto", "always", "never"]
 }
 
 /// The words that may stand after `--level`.
 fn level_words() -> &'static [&'static str]
-    ensures words { words_at result.now ≡ spec.level_words }
+    ensures args { arguments_at result.now ≡ spec.level_words }
 {
     &["error", "warning", "note"]
 }
@@ -122,8 +122,8 @@ fn with_flags<'a>(alloc: Global, command: Command<'a>) -> Result<Command<'a>, Al
 
 /// A command with the options that have a value after them.
 fn with_values<'a>(alloc: Global, command: Command<'a>) -> Result<Command<'a>, AllocError>
-    ensures app { IfOk result (λ added. (colors levels : _) × (words_at colors.now ≡ spec.color_words)
-        × (words_at levels.now ≡ spec.level_words)
+    ensures app { IfOk result (λ added. (colors levels : _) × (arguments_at colors.now ≡ spec.color_words)
+        × (arguments_at levels.now ≡ spec.level_words)
         × (app_of added ≡ with_rules (app_of command.entry) (valued_rules colors levels))) }
 {
     let colors = color_words();
@@ -214,23 +214,23 @@ fn inputs<'a>(alloc: Global) -> Arg<'a>
         .num_args(0..)
 }
 
-/// What the words are matched with, or what is to be told in place of that: what is wrong with them, the help or the
-/// version.
-pub fn matches_of<'a>(alloc: Global, words: &'a [&'a str]) -> Result<ArgMatches<'a>, Error>
-    ensures matches { (app : _) × IsRedraw app × FailsBy (fault_of app (words_at words.now)) result
-        × IfOk result (λ matches. rows_of (found_of matches) ≡ rows_for app (words_at words.now)) }
+/// What the arguments are matched with, or what is to be told in place of that: what is wrong with them, the help or
+/// the version.
+pub fn matches_of<'a>(alloc: Global, args: &'a [&'a str]) -> Result<ArgMatches<'a>, Error>
+    ensures matches { (app : _) × IsRedraw app × FailsBy (fault_of app (arguments_at args.now)) result
+        × IfOk result (λ matches. rows_of (found_of matches) ≡ rows_for app (arguments_at args.now)) }
 {
     let command = command(alloc)?;
-    command.try_get_matches_from(words)
+    command.try_get_matches_from(args)
 }
 
-/// What the words that are matched ask for.
+/// What the arguments that are matched ask for.
 pub fn request_of<'w, 'a>(matches: &'w ArgMatches<'a>) -> Request<'w, 'a>
     ensures asked { IsRequestOf (rows_of (found_of matches.now)) result }
 {
     Request {
         look: look_of(matches),
-        root: word_after(matches, "root"),
+        root: argument_after(matches, "root"),
         is_confined: has(matches, "confined"),
         choice: choice_of(matches),
         inputs: inputs_of(matches),
@@ -247,9 +247,9 @@ fn has(matches: &ArgMatches<'_>, name: &str) -> bool
     }
 }
 
-/// The word after an option, if that was given.
-fn word_after<'a>(matches: &ArgMatches<'a>, name: &str) -> Option<&'a str>
-    ensures value { word_at result ≡ first_of name.now (rows_of (found_of matches.now)) }
+/// The argument after an option, if that was given.
+fn argument_after<'a>(matches: &ArgMatches<'a>, name: &str) -> Option<&'a str>
+    ensures value { argument_at result ≡ first_of name.now (rows_of (found_of matches.now)) }
 {
     matches.get_str(name)
 }
@@ -265,8 +265,8 @@ fn inputs_of<'w, 'a>(matches: &'w ArgMatches<'a>) -> Option<&'w [&'a str]>
 fn look_of(matches: &ArgMatches<'_>) -> Look
     ensures value { result ≡ spec.look_of (rows_of (found_of matches.now)) }
 {
-    let color = word_after(matches, "color");
-    let width = word_after(matches, "width");
+    let color = argument_after(matches, "color");
+    let width = argument_after(matches, "width");
     Look {
         unicode: has(matches, "unicode"),
         text: has(matches, "text"),
@@ -285,11 +285,11 @@ fn is_html(is_asked: bool, is_github: bool) -> bool
     is_asked && !is_github
 }
 
-/// When colors are to be written, by the word that says when, and whether they always are where none does.
-fn colors_of(word: Option<&str>, is_styled: bool) -> When
-    ensures value { result ≡ when_of (word_at word.entry) is_styled }
+/// When colors are to be written, by the argument that says when, and whether they always are where none does.
+fn colors_of(argument: Option<&str>, is_styled: bool) -> When
+    ensures value { result ≡ when_of (argument_at argument.entry) is_styled }
 {
-    match word {
+    match argument {
         Some("always") => When::Always,
         Some("never") => When::Never,
         _ => { if is_styled { When::Always } else { When::Auto } }
@@ -297,17 +297,17 @@ fn colors_of(word: Option<&str>, is_styled: bool) -> When
 }
 
 /// The width that lines are cut to, if one is given.
-fn width_of(word: Option<&str>) -> Option<usize>
-    ensures value { result ≡ option_and_then spec.number_of (word_at word.entry) }
+fn width_of(argument: Option<&str>) -> Option<usize>
+    ensures value { result ≡ option_and_then spec.number_of (argument_at argument.entry) }
 {
-    number_of(word?)
+    number_of(argument?)
 }
 
-/// The number that a word of decimal digits writes; `None` for another word, and where the number doesn't fit.
-fn number_of(word: &str) -> Option<usize>
-    ensures value { result ≡ spec.number_of word.now }
+/// The number that an argument of decimal digits writes; `None` for another argument, and where the number doesn't fit.
+fn number_of(argument: &str) -> Option<usize>
+    ensures value { result ≡ spec.number_of argument.now }
 {
-    word.parse().ok()
+    argument.parse().ok()
 }
 
 /// Which findings are to be drawn, and in which form.
@@ -316,8 +316,8 @@ fn choice_of<'a>(matches: &ArgMatches<'a>) -> Choice<'a>
 {
     Choice {
         form: form_of(has(matches, "github")),
-        least: least_of(word_after(matches, "level")),
-        path: word_after(matches, "path"),
+        least: least_of(argument_after(matches, "level")),
+        path: argument_after(matches, "path"),
         has_duplicates: has(matches, "duplicates"),
         is_quiet: has(matches, "quiet"),
     }
@@ -334,11 +334,11 @@ fn form_of(is_github: bool) -> Form
     }
 }
 
-/// The least level that is to be drawn, by the word that names it.
-fn least_of(word: Option<&str>) -> Least
-    ensures value { result ≡ spec.least_of (word_at word.entry) }
+/// The least level that is to be drawn, by the argument that names it.
+fn least_of(argument: Option<&str>) -> Least
+    ensures value { result ≡ spec.least_of (argument_at argument.entry) }
 {
-    match word {
+    match argument {
         Some("error") => Least::Error,
         Some("warning") => Least::Warning,
         _ => Least::Any,
