@@ -1,7 +1,10 @@
 -- Ends of a run that the definition excludes: what a wrong program would give the streams.
-use Rattle.std.proofs.Common.{◌≡◌, ℕ, zero, suc, List, [], ◌∷◌, Option, Some, None, ap, arith, codes, inl, inr, take}
+use Rattle.std.proofs.Common.{◌≡◌, ◌++◌, ℕ, zero, suc, List, [], ◌∷◌, Option, Some, None, ap, arith, codes, inl, inr, length, take}
+use Rattle.std.specs.Str.{chars}
+use Rattle.snippet_text.specs.Normalized.{norm}
 use Rattle.program.specs.Stream.{Output, Silent, Told, Receives, ended_line}
-use Rattle.snip_run.specs.Run.{End, Ends, Failed, MayEnd, BadUsage, Printed, Unprinted, err_of, out_of, status_of, usage}
+use Rattle.snip_run.specs.Run.{End, Ends, Failed, MayEnd, BadUsage, Printed, Unprinted, err_of, message, out_of, status_of, usage}
+use Rattle.snip_run.specs.declared.run.Failure.TheVariants.{Unreadable}
 use Rattle.snip_run.specs.Arguments.{Argument}
 
 silent_for : (args : List Argument) (Out : Output → Type 0) (end : End) → MayEnd args None end → Out (out_of end) → Out Silent
@@ -69,3 +72,8 @@ pub told_when_printed : (args : List Argument) (file : Option (List ℕ)) (Out :
 told_when_printed args file Out rest ends =
     let same : Some (115 ∷ rest) ≡ Some [] = silent_when_printed (Receives (λ held. held) (Some []) (Some (115 ∷ rest))) ends.end ends.status_is ends.err in
     cc
+
+-- a name that is told as it is, here the character that begins a code
+pub raw_name_told : message (27 ∷ []) Unreadable ≡ codes "snip: cannot read " ++ 27 ∷ [] → ⊥
+unfolding norm chars lib.Utf8.encode
+raw_name_told is = absurd (omega (arith, ap length is))

@@ -1,9 +1,13 @@
 -- Ends of a run that the definition excludes: what a wrong program would give the writers.
-use Rattle.std.proofs.Common.{◌≡◌, ℕ, List, [], ◌∷◌, Option, Some, None, MatchOption, ap, arith, length, length-append, refl, subst, sym, ◌∙◌}
+use Rattle.std.proofs.Common.{◌≡◌, ◌++◌, Bor, ℕ, List, [], ◌∷◌, Option, Some, None, MatchOption, ap, arith, codes, length, length-append, refl, subst, sym, ◌∙◌}
 use Rattle.std.proofs.lemmas.Slice.Zip.{AllZip-long}
+use Rattle.std.specs.Str.{chars}
+use Rattle.snippet_text.specs.Normalized.{norm}
 use Rattle.program.specs.Stream.{Output, Silent, Whole, Receives}
 use Rattle.tidy_run.specs.Report.{Told}
-use Rattle.tidy_run.specs.Run.{Clean, End, Ends, Failed, Found, MayEnd, BadUsage, Unlogged, Unprinted, err_of, log_of, out_of, sheets_for, status_of}
+use Rattle.tidy_run.specs.Run.{Clean, End, Ends, Failed, Found, MayEnd, BadUsage, Unlogged, Unprinted, err_of, log_of, message, normalized_text}
+use Rattle.tidy_run.specs.Run.{out_of, sheets_for, status_of}
+use Rattle.tidy_run.specs.declared.run.Failure.TheVariants.{Unwritable}
 use Rattle.tidy_run.specs.Arguments.{CommandLine, Argument, command_line_of}
 
 module _ (file : Option (List ℕ)) (tells : List ℕ → List Told) (Out Err Log : Output → Type 0) where
@@ -71,3 +75,11 @@ module _ (file : Option (List ℕ)) (tells : List ℕ → List Told) (line : Com
   silent_unlogged args is ends =
       let may = subst (λ l. MatchOption l (ends.end ≡ BadUsage) (λ x. MayEnd x file tells ends.end)) is ends.may in
       unlogged_at ends.end may (sym ends.status_is) ends.out ends.log
+
+-- the name of LOG that is told as it is, here the character that begins a code
+pub raw_log_told : (name : Bor (List ℕ)) → name.now ≡ 27 ∷ [] → message (Unwritable name) ≡ codes "tidy: cannot write " ++ 27 ∷ [] → ⊥
+unfolding norm chars lib.Utf8.encode
+raw_log_told name raw is =
+    let told : message (Unwritable name) ≡ codes "tidy: cannot write " ++ normalized_text (27 ∷ []) =
+    ap (λ text. codes "tidy: cannot write " ++ normalized_text text) raw in
+    absurd (omega (arith, ap length (sym told ∙ is)))
