@@ -119,10 +119,10 @@ pub fn colon(hidden: bool, id: Option<&Id>) -> &'static str
     if hidden && !is_set(id) { "" } else { ": " }
 }
 
-/// The columns of what stands before a heading's text.
-fn label_width(heading: &dyn MessageOrTitle) -> usize
+/// The columns of what stands before a heading's text: its level's name, its id, a colon and a space.
+pub fn label_width(heading: &dyn MessageOrTitle) -> usize
     requires fits { HeadingFits (heading_of heading.now) }
-    ensures value { result ≡ width_of (spec.heading_label_text (heading_of heading.now)) }
+    ensures value { result ≡ spec.label_width (heading_of heading.now) }
     ensures small { IsColumn result }
 {
     let hidden = is_hidden(heading.level());
