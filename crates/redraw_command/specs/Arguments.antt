@@ -49,11 +49,16 @@ inputs_rule = record (new_rule (codes "inputs")) {
   value_names = 1;
 }
 
--- the options that stand alone
+-- the options that say in which form reports are written, and that stand alone
+abbrev pub form_rules : List Rule
+form_rules =
+    flag_rule (codes "unicode") ∷ flag_rule (codes "text") ∷ flag_rule (codes "short") ∷ flag_rule (codes "github")
+    ∷ flag_rule (codes "html") ∷ []
+
+-- the other options that stand alone
 abbrev pub flag_rules : List Rule
 flag_rules =
-    flag_rule (codes "unicode") ∷ flag_rule (codes "text") ∷ flag_rule (codes "short") ∷ flag_rule (codes "github")
-    ∷ flag_rule (codes "html") ∷ flag_rule (codes "styled") ∷ flag_rule (codes "links") ∷ flag_rule (codes "duplicates") ∷ flag_rule (codes "quiet")
+    flag_rule (codes "styled") ∷ flag_rule (codes "links") ∷ flag_rule (codes "duplicates") ∷ flag_rule (codes "quiet")
     ∷ flag_rule (codes "confined") ∷ []
 
 -- the words that may stand after `--color`, and after `--level`
@@ -82,7 +87,8 @@ bare_app = on_top (λ s. record s { no_binary_name = true; has_version = true; a
 
 -- the command, where these are the words for two of its options
 abbrev pub redraw_app : (colors levels : Bor (List (Bor Argument))) → App
-redraw_app colors levels = with_rule (with_rules (with_rules bare_app flag_rules) (valued_rules colors levels)) inputs_rule
+redraw_app colors levels =
+    with_rule (with_rules (with_rules (with_rules bare_app form_rules) flag_rules) (valued_rules colors levels)) inputs_rule
 
 -- that command. Where in memory the words for two of its options stand is left open
 pub record IsRedraw (app : App) : Type 0 where

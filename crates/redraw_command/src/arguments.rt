@@ -7,7 +7,7 @@ ghost use Rattle.clap.specs.Simple.{matches_of as rows_for};
 ghost use Rattle.std.specs.Option.{option_and_then};
 ghost use Rattle.redraw_command.specs.Arguments as spec;
 ghost use Rattle.redraw_command.specs.Arguments.{IsChoiceOf, IsRedraw, IsRequestOf, flag_rule};
-ghost use Rattle.redraw_command.specs.Arguments.{flag_rules, inputs_rule, names_at, valued_rule, valued_rules};
+ghost use Rattle.redraw_command.specs.Arguments.{flag_rules, form_rules, inputs_rule, names_at, valued_rule, valued_rules};
 ghost use Rattle.redraw_command.specs.Arguments.{was_given, when_of, with_rules, argument_at, arguments_at};
 
 use crate::choice::{Choice, Form, Least};
@@ -62,15 +62,16 @@ fn command<'a>(alloc: Global) -> Result<Command<'a>, AllocError>
         .version("1.0.0")
         .no_binary_name(true)
         .args_override_self(true);
-    let flagged = with_flags(alloc, command)?;
+    let formed = with_forms(alloc, command)?;
+    let flagged = with_flags(alloc, formed)?;
     let valued = with_values(alloc, flagged)?;
     let whole = valued.arg(inputs(alloc))?;
     Ok(whole)
 }
 
-/// A command with the options that stand alone.
-fn with_flags<'a>(alloc: Global, command: Command<'a>) -> Result<Command<'a>, AllocError>
-    ensures app { IfOk result (λ added. app_of added ≡ with_rules (app_of command.entry) flag_rules) }
+/// A command with the options that say in which form reports are written, and that stand alone.
+fn with_forms<'a>(alloc: Global, command: Command<'a>) -> Result<Command<'a>, AllocError>
+    ensures app { IfOk result (λ added. app_of added ≡ with_rules (app_of command.entry) form_rules) }
 {
     let unicode = flag(
         alloc,
@@ -89,6 +90,19 @@ fn with_flags<'a>(alloc: Global, command: Command<'a>) -> Result<Command<'a>, Al
         "Write each finding as a workflow command of GitHub, on one line",
     );
     let html = flag(alloc, "html", "Write one HTML document of all reports");
+    let formed = command
+        .arg(unicode)?
+        .arg(text)?
+        .arg(short)?
+        .arg(github)?
+        .arg(html)?;
+    Ok(formed)
+}
+
+/// A command with the other options that stand alone.
+fn with_flags<'a>(alloc: Global, command: Command<'a>) -> Result<Command<'a>, AllocError>
+    ensures app { IfOk result (λ added. app_of added ≡ with_rules (app_of command.entry) flag_rules) }
+{
     let styled = flag(alloc, "styled", "The same as --color always");
     let links = flag(
         alloc,
@@ -107,11 +121,6 @@ fn with_flags<'a>(alloc: Global, command: Command<'a>) -> Result<Command<'a>, Al
         "Show no files but those below the folder: for logs from strangers",
     );
     let flagged = command
-        .arg(unicode)?
-        .arg(text)?
-        .arg(short)?
-        .arg(github)?
-        .arg(html)?
         .arg(styled)?
         .arg(links)?
         .arg(duplicates)?

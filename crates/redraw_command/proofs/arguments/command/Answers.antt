@@ -1,6 +1,6 @@
 use Rattle.std.proofs.Common.{ap, ap₂, true, ◌∙◌}
 use Rattle.clap.specs.Simple.{App, app_of_fields, on_top, with_rule}
-use Rattle.redraw_command.specs.Arguments.{flag_rules, valued_rules, with_rules}
+use Rattle.redraw_command.specs.Arguments.{flag_rules, form_rules, valued_rules, with_rules}
 use Rattle.redraw_command.proofs.arguments.command.Goals as goal
 
 abbrev versioned : App → App
@@ -18,7 +18,8 @@ returns c =
     ∙ ap unnamed (ap app_of_fields c.version.ensures
     ∙ ap versioned (ap app_of_fields c.about.ensures ∙ c.new.ensures.app))) in
     let (colors, levels, color_words, level_words, valued) = c.in_ok-valued.ensures.app in
-    let flagged = c.in_ok-flagged.ensures.app ∙ ap (λ (app : App). with_rules app flag_rules) base in
+    let formed = c.in_ok-formed.ensures.app ∙ ap (λ (app : App). with_rules app form_rules) base in
+    let flagged = c.in_ok-flagged.ensures.app ∙ ap (λ (app : App). with_rules app flag_rules) formed in
     record {
       app = record {
         colors = colors;

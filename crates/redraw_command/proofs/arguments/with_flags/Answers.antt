@@ -4,13 +4,8 @@ use Rattle.redraw_command.proofs.arguments.with_flags.Goals as goal
 
 pub returns : goal.returns
 returns c =
-    let unicode = c.in_ok-arg.ensures.shape c.flag-unicode.ensures.local ∙ ap₂ with_rule refl c.flag-unicode.ensures.rule in
-    let text = c.in_ok-arg-2.ensures.shape c.flag-text.ensures.local ∙ ap₂ with_rule unicode c.flag-text.ensures.rule in
-    let short = c.in_ok-arg-3.ensures.shape c.flag-short.ensures.local ∙ ap₂ with_rule text c.flag-short.ensures.rule in
-    let github = c.in_ok-arg-4.ensures.shape c.flag-github.ensures.local ∙ ap₂ with_rule short c.flag-github.ensures.rule in
-    let html = c.in_ok-arg-5.ensures.shape c.flag-html.ensures.local ∙ ap₂ with_rule github c.flag-html.ensures.rule in
-    let styled = c.in_ok-arg-6.ensures.shape c.flag-styled.ensures.local ∙ ap₂ with_rule html c.flag-styled.ensures.rule in
-    let links = c.in_ok-arg-7.ensures.shape c.flag-links.ensures.local ∙ ap₂ with_rule styled c.flag-links.ensures.rule in
-    let duplicates = c.in_ok-arg-8.ensures.shape c.flag-duplicates.ensures.local ∙ ap₂ with_rule links c.flag-duplicates.ensures.rule in
-    let quiet = c.in_ok-arg-9.ensures.shape c.flag-quiet.ensures.local ∙ ap₂ with_rule duplicates c.flag-quiet.ensures.rule in
+    let styled = c.in_ok-arg.ensures.shape c.flag-styled.ensures.local ∙ ap₂ with_rule refl c.flag-styled.ensures.rule in
+    let links = c.in_ok-arg-2.ensures.shape c.flag-links.ensures.local ∙ ap₂ with_rule styled c.flag-links.ensures.rule in
+    let duplicates = c.in_ok-arg-3.ensures.shape c.flag-duplicates.ensures.local ∙ ap₂ with_rule links c.flag-duplicates.ensures.rule in
+    let quiet = c.in_ok-arg-4.ensures.shape c.flag-quiet.ensures.local ∙ ap₂ with_rule duplicates c.flag-quiet.ensures.rule in
     record { app = c.in_ok-flagged.ensures.shape c.flag-confined.ensures.local ∙ ap₂ with_rule quiet c.flag-confined.ensures.rule }
