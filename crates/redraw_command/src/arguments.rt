@@ -6,8 +6,8 @@ ghost use Rattle.clap.specs.Walk.{all_of, first_of};
 ghost use Rattle.clap.specs.Simple.{matches_of as rows_for};
 ghost use Rattle.std.specs.Option.{option_and_then};
 ghost use Rattle.redraw_command.specs.Arguments as spec;
-ghost use Rattle.redraw_command.specs.Arguments.{IsChoiceOf, IsRedraw, IsRequestOf, flag_rule};
-ghost use Rattle.redraw_command.specs.Arguments.{flag_rules, form_rules, inputs_rule, names_at, valued_rule, valued_rules};
+ghost use Rattle.redraw_command.specs.Arguments.{IsChoiceOf, IsRedraw, IsRequestOf, flag_rule, form_rules};
+ghost use Rattle.redraw_command.specs.Arguments.{flag_rules, inputs_rule, names_at, valued_rule, valued_rules};
 ghost use Rattle.redraw_command.specs.Arguments.{was_given, when_of, with_rules, argument_at, arguments_at};
 
 use crate::choice::{Choice, Form, Least};
