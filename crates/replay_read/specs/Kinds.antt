@@ -1,9 +1,5 @@
 -- The names of kinds, as the format writes them.
 use Rattle.std.specs.Prelude.{ℕ, List, codes}
-use Rattle.std.specs.Cow.{cow_str_bytes}
-use Rattle.snippet_model.specs.Fits.{TextFits}
-use Rattle.snippet_model.specs.declared.level.LevelName.{LevelName}
-use Rattle.snippet_model.specs.declared.level.LevelName.TheVariants.{Standard, Hidden, Own}
 use Rattle.snippet_style.specs.declared.role.LevelInner.{LevelInner}
 use Rattle.snippet_style.specs.declared.role.LevelInner.TheVariants.{Error, Warning, Info, Note, Help}
 use Rattle.snippet_model.specs.declared.snippet.AnnotationKind.{AnnotationKind}
@@ -22,9 +18,3 @@ abbrev pub mark_name : AnnotationKind → List ℕ
 mark_name Primary = codes "primary"
 mark_name Context = codes "context"
 mark_name Visible = codes "visible"
-
--- an own name of a level fits
-abbrev pub NameFits : LevelName → Type 0
-NameFits Standard = Unit {0}
-NameFits Hidden = Unit {0}
-NameFits (Own name) = TextFits (cow_str_bytes name)

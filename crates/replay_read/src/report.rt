@@ -10,7 +10,7 @@ ghost use Rattle.json_node.specs.Field.{OrNull, SaysAt, as_whole, given_or, lent
 ghost use Rattle.replay_read.specs.Report.{AreMarkersOf, IsAnnotationOf, IsElementOf, IsGroupOf, IsLevelOf};
 ghost use Rattle.replay_read.specs.Report.{IsMessageOf, IsNameOf};
 ghost use Rattle.replay_read.specs.Report.{IsOriginOf, IsPatchOf, IsSnippetOf, IsTitleOf};
-ghost use Rattle.replay_read.specs.Kinds.{NameFits, kind_name, mark_name};
+ghost use Rattle.replay_read.specs.Kinds.{kind_name, mark_name};
 
 use crate::list::{Marker, Part, markers_of, parts_at};
 use crate::shape::{FormatValue, Shape, has_shape};
@@ -119,7 +119,7 @@ fn level_of<'v>(node: &Node<'v, '_>) -> Result<Level<'v>, Fault>
 /// The name of a level: that of its kind where none is given, hidden where `null` stands there.
 fn name_in<'v>(level: &Node<'v, '_>) -> Result<LevelName<'v>, Fault>
     ensures value { IfOk result (IsNameOf (get (codes "name") (view level.now.value.now))) }
-    ensures fits { IfOk result NameFits }
+    ensures fits { IfOk result (λ name. (kind : LevelInner) → LevelFits (record { name = name; kind = kind })) }
 {
     match level.optional("name") {
         None => Ok(LevelName::Standard),

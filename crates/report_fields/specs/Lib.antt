@@ -1,4 +1,3 @@
 pub mod Bytes
-pub mod NameFits
 pub mod Reading
 pub mod Report

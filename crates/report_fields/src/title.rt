@@ -2,9 +2,9 @@
 
 ghost use Rattle.std.specs.Prelude.{◌≡◌, IfOk};
 ghost use Rattle.snippet_model.specs.Fits.{IdFits, LevelFits, MessageFits, TextFits, TitleFits};
+ghost use Rattle.snippet_style.specs.declared.role.LevelInner.{LevelInner};
 ghost use Rattle.report_fields.specs.Bytes.{id_then, level_then, message_then, name_then, title_then};
 ghost use Rattle.report_fields.specs.Reading.{Gives, after_id, after_level, after_message, after_name, after_title};
-ghost use Rattle.report_fields.specs.NameFits.{NameFits};
 
 use crate::fault::ReadError;
 use crate::field::{flag, kind, text};
@@ -82,7 +82,7 @@ fn level(bytes: &[u8]) -> Result<(Level<'_>, &[u8]), ReadError>
 fn name(bytes: &[u8]) -> Result<(LevelName<'_>, &[u8]), ReadError>
     ensures left { Gives (λ x. x.1.now) result (after_name bytes.now) }
     ensures spelled { IfOk result (λ x. bytes.now ≡ name_then x.0 x.1.now) }
-    ensures fits { IfOk result (λ x. NameFits x.0) }
+    ensures fits { IfOk result (λ x. (kind : LevelInner) → LevelFits (record { name = x.0; kind = kind })) }
 {
     let (number, rest) = kind(3, bytes)?;
     match number {
