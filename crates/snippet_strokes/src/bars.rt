@@ -35,6 +35,17 @@ pub(crate) enum BarStroke {
     Dotted,
 }
 
+/// Bars that stand side by side, each right of the one before, and are drawn in one role.
+#[derive(Clone, Copy, Debug)]
+struct BarSide {
+    /// The leftmost of them.
+    first: OpenBar,
+    /// How many they are.
+    count: usize,
+    /// The part of them that is drawn.
+    stroke: BarStroke,
+}
+
 impl BarStroke {
     /// The glyph of the part.
     fn glyph(self, decor: DecorStyle, primary: bool) -> char
@@ -149,7 +160,12 @@ pub(crate) fn draw_bars(
     let mut from = 0;
     while from < bars.len() {
         let to = side_end(bars, from);
-        draw_side(alloc, buffer, layout, row, bars[from], to - from, stroke)?;
+        let side = BarSide {
+            first: bars[from],
+            count: to - from,
+            stroke,
+        };
+        draw_side(alloc, buffer, layout, row, side)?;
         from = to;
     }
     Ok(())
@@ -179,27 +195,25 @@ fn side_end(bars: &[OpenBar], from: usize) -> usize
     to
 }
 
-/// Draws a part of this many bars that stand side by side, in one role, in each row from this one on.
+/// Draws a part of bars that stand side by side in each row from this one on.
 fn draw_side(
     alloc: Global,
     buffer: &mut StyledBuffer,
     layout: Layout,
     row: usize,
-    first: OpenBar,
-    count: usize,
-    stroke: BarStroke,
+    side: BarSide,
 ) -> Result<(), AllocError>
-    requires left { 0 < first.depth }
-    requires room { bar_cell layout first.depth + count < layout.code }
-    requires some { 0 < count }
+    requires left { 0 < side.first.depth }
+    requires room { bar_cell layout side.first.depth + side.count < layout.code }
+    requires some { 0 < side.count }
     ensures value { OnOk result (buffer.new ≡ changed_from
-        (λ cells. written SPACE cells (bar_cell layout first.depth)
-        (replicate count (bar_cell_part layout stroke first)))
+        (λ cells. written SPACE cells (bar_cell layout side.first.depth)
+        (replicate side.count (bar_cell_part layout side.stroke side.first)))
         row buffer.old) }
 {
-    let glyph = stroke.glyph(layout.decor, first.primary);
-    let part = repeated(alloc, glyph, count)?;
-    draw_parts(buffer, layout, row, first, count, stroke, part.as_str())
+    let glyph = side.stroke.glyph(layout.decor, side.first.primary);
+    let part = repeated(alloc, glyph, side.count)?;
+    draw_parts(buffer, layout, row, side, part.as_str())
 }
 
 /// The same, given the text of the part.
@@ -207,22 +221,21 @@ fn draw_parts(
     buffer: &mut StyledBuffer,
     layout: Layout,
     row: usize,
-    first: OpenBar,
-    count: usize,
-    stroke: BarStroke,
+    side: BarSide,
     part: &str,
 ) -> Result<(), AllocError>
-    requires left { 0 < first.depth }
-    requires room { bar_cell layout first.depth + count < layout.code }
-    requires some { 0 < count }
-    requires part { chars part.now ≡ replicate count (spec.bar_glyph stroke layout.decor first.primary) }
+    requires left { 0 < side.first.depth }
+    requires room { bar_cell layout side.first.depth + side.count < layout.code }
+    requires some { 0 < side.count }
+    requires part { chars part.now ≡ replicate side.count
+        (spec.bar_glyph side.stroke layout.decor side.first.primary) }
     ensures value { OnOk result (buffer.new ≡ changed_from
-        (λ cells. written SPACE cells (bar_cell layout first.depth)
-        (replicate count (bar_cell_part layout stroke first)))
+        (λ cells. written SPACE cells (bar_cell layout side.first.depth)
+        (replicate side.count (bar_cell_part layout side.stroke side.first)))
         row buffer.old) }
 {
-    let role = layout.decor.underline(first.primary).style;
-    let cell = layout.bar_cell(first.depth);
+    let role = layout.decor.underline(side.first.primary).style;
+    let cell = layout.bar_cell(side.first.depth);
     for r in row..buffer.num_lines() {
         buffer.puts(r, cell, part, role)?;
     }

@@ -85,12 +85,12 @@ fn draw_line_to(
 {
     let strokes = layout.decor.underline(is_primary(placed.entry.kind));
     let start = layout.code_cell(placed.entry.start.display);
+    let cells = layout.bar_cell(depth) + 1..start;
     draw_stretch(
         alloc,
         buffer,
         row + placed.position,
-        layout.bar_cell(depth) + 1,
-        start,
+        cells,
         strokes.connector,
         strokes.style,
     )

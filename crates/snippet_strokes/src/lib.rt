@@ -19,4 +19,4 @@ mod stems;
 mod strokes;
 mod whole_line;
 
-pub use snippet::draw_snippet;
+pub use snippet::{LineView, draw_snippet};

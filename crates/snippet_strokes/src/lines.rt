@@ -9,6 +9,7 @@ use snippet_grid::StyledBuffer;
 use snippet_style::ElementStyle;
 use snippet_text::CowStr;
 use std::alloc::{AllocError, Global};
+use std::ops::Range;
 
 /// How many glyphs each of the strips below has: few marks are longer.
 const STRIP: usize = 64;
@@ -69,11 +70,11 @@ fn made(alloc: Global, glyph: char, count: usize) -> Result<String, AllocError>
     glyph.encode_utf8(&mut bytes).repeat(alloc, count)
 }
 
-/// Draws a glyph in each cell of a row from one to before another.
+/// Draws a glyph in each of these cells of a row.
 ///
 /// ```text
 ///       |  ______
-///         ^from  ^to
+///          ^start^end
 /// ```
 ///
 /// # Errors
@@ -83,17 +84,17 @@ pub fn draw_stretch(
     alloc: Global,
     buffer: &mut StyledBuffer,
     row: usize,
-    from: usize,
-    to: usize,
+    cells: Range<usize>,
     glyph: char,
     role: ElementStyle,
 ) -> Result<(), AllocError>
     requires row { HasNext row }
-    ensures painted { OnOk result (buffer.new ≡ painted (stretch_of row from to glyph role) buffer.old) }
+    ensures painted { OnOk result (buffer.new ≡ painted (stretch_of row cells.start cells.end glyph role) buffer.old) }
 {
-    if to <= from {
+    let (start, end) = (cells.start, cells.end);
+    if end <= start {
         return Ok(());
     }
-    let text = repeated(alloc, glyph, to - from)?;
-    buffer.puts(row, from, text.as_str(), role)
+    let text = repeated(alloc, glyph, end - start)?;
+    buffer.puts(row, start, text.as_str(), role)
 }

@@ -100,15 +100,8 @@ fn paint_entry(
     let first = first_glyph(layout.decor, placed);
     let cell = layout.code_cell(start);
     buffer.putc(row, cell, first, strokes.style)?;
-    draw_stretch(
-        alloc,
-        buffer,
-        row,
-        cell + 1,
-        layout.code_cell(end),
-        strokes.underline,
-        strokes.style,
-    )
+    let rest = cell + 1..layout.code_cell(end);
+    draw_stretch(alloc, buffer, row, rest, strokes.underline, strokes.style)
 }
 
 /// The column after the last one at which an entry's mark is painted. Where an entry covers no column, but a glyph of

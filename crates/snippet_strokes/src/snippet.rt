@@ -20,7 +20,7 @@ use crate::bars::{BarStroke, OpenBar, add_bars_apart, bars_apart, draw_bars, end
 use crate::elision::draw_gap;
 use crate::highlight::highlight_source;
 use crate::source_row::draw_source_row;
-use crate::strokes::draw_strokes;
+use crate::strokes::{StrokePlace, draw_strokes};
 use crate::whole_line::is_whole_line;
 use snippet_grid::{Layout, StyledBuffer};
 use snippet_lines::LineNumbers;
@@ -28,8 +28,19 @@ use snippet_parts::{AnnotatedLineInfo, ShownLine};
 use snippet_window::Margin;
 use std::alloc::{AllocError, Global};
 
+/// How lines of a source are shown.
+#[derive(Clone, Copy, Debug)]
+pub struct LineView {
+    /// The bounds between which they are shown.
+    pub margin: Margin,
+    /// What the gutter shows beside them.
+    pub numbers: LineNumbers,
+    /// Whether the group's window closes with the last of them.
+    pub closes: bool,
+}
+
 /// Draws the lines of a snippet below all that stands in the grid: for each line its source row and its strokes. Where
-/// the group's window `closes` with it, the last row does so; it is one of its own where the last line has no entries.
+/// the group's window closes with them, the last row does so; it is one of its own where the last line has no entries.
 ///
 /// ```text
 ///     1 | let x = 1;           1 │ let x = 1;
@@ -55,29 +66,27 @@ pub fn draw_snippet(
     alloc: Global,
     buffer: &mut StyledBuffer,
     layout: Layout,
-    margin: Margin,
-    numbers: LineNumbers,
-    closes: bool,
+    view: LineView,
     lines: &[ShownLine],
 ) -> Result<(), AllocError>
-    requires numbers { All (λ line. length (shown_number numbers layout.gutter line.info.line_index) ≤
+    requires numbers { All (λ line. length (shown_number view.numbers layout.gutter line.info.line_index) ≤
         separator_cell layout)
         lines.now }
     requires texts { All (λ line. TextFits line.info.line.now) lines.now }
     requires columns { All (λ line. All HasPlace line.info.annotations.items) lines.now }
-    requires clear { All (λ line. All (StandsClear margin) line.info.annotations.items) lines.now }
+    requires clear { All (λ line. All (StandsClear view.margin) line.info.annotations.items) lines.now }
     requires bar_cells { All (λ line. All (HasBarCell layout) line.info.annotations.items) lines.now }
     requires labels { All (λ line. All (λ e. IfSome e.label (λ t. TextFits t.now)) line.info.annotations.items)
         lines.now }
-    ensures added { OnOk result (AddsSnippet layout margin numbers closes (infos_of lines.now) buffer.old buffer.new) }
+    ensures added { OnOk result (AddsSnippet layout view.margin view.numbers view.closes (infos_of lines.now)
+        buffer.old buffer.new) }
 {
     let mut open_bars = Vec::new(alloc);
     for i in 0..lines.len() {
-        let closes = closes && i + 1 == lines.len();
+        let closes = view.closes && i + 1 == lines.len();
         let line = &lines[i];
-        open_bars = draw_line(
-            alloc, buffer, layout, margin, numbers, closes, line, &open_bars,
-        )?;
+        let shown = LineView { closes, ..view };
+        open_bars = draw_line(alloc, buffer, layout, shown, line, &open_bars)?;
         let after = &lines[i + 1..];
         draw_gap(
             alloc,
@@ -102,84 +111,66 @@ fn draw_line(
     alloc: Global,
     buffer: &mut StyledBuffer,
     layout: Layout,
-    margin: Margin,
-    numbers: LineNumbers,
-    closes: bool,
+    view: LineView,
     line: &ShownLine,
     open_bars: &[OpenBar],
 ) -> Result<Vec<OpenBar>, AllocError>
-    requires number { length (shown_number numbers layout.gutter line.now.info.line_index) ≤ separator_cell layout }
+    requires number { length (shown_number view.numbers layout.gutter line.now.info.line_index) ≤
+        separator_cell layout }
     requires text { TextFits line.now.info.line.now }
     requires columns { All HasPlace line.now.info.annotations.items }
-    requires clear { All (StandsClear margin) line.now.info.annotations.items }
+    requires clear { All (StandsClear view.margin) line.now.info.annotations.items }
     requires bar_cells { All (HasBarCell layout) line.now.info.annotations.items }
     requires labels { All (λ e. IfSome e.label (λ t. TextFits t.now)) line.now.info.annotations.items }
     requires room { All (HasBarRoom layout) open_bars.now }
-    ensures added { OnOk result (AddsLine layout margin numbers closes open_bars.now line.now.info buffer.old
-        buffer.new) }
+    ensures added { OnOk result (AddsLine layout view.margin view.numbers view.closes open_bars.now line.now.info
+        buffer.old buffer.new) }
     ensures bars { IfOk result (λ bars. bars.items ≡ open_below open_bars.now line.now.info.annotations.items) }
 {
-    let (row, dropped) = draw_source_row(alloc, buffer, layout, numbers, margin, line)?;
+    let (row, dropped) = draw_source_row(alloc, buffer, layout, view.numbers, view.margin, line)?;
     let info = &line.info;
     highlight_source(buffer, layout, dropped, row, &info.annotations)?;
     let ends = ends_on(alloc, &info.annotations)?;
-    draw_entries(
-        alloc,
-        buffer,
-        layout,
+    let place = StrokePlace {
         row,
-        closes,
         dropped,
-        margin.term_width,
-        info,
-        &ends,
-    )?;
+        room: view.margin.term_width,
+        closes: view.closes,
+    };
+    draw_entries(alloc, buffer, layout, place, info, &ends)?;
     let mut below = bars_apart(alloc, open_bars, &ends)?;
     draw_bars(alloc, buffer, layout, row, &below, BarStroke::Solid)?;
     add_bars_apart(&mut below, &ends, open_bars)?;
     Ok(below)
 }
 
-/// Draws the strokes of a line, of which this many columns are dropped on the left, where these bars start or end on
-/// it. Its source row is the last row of the grid. A line that is marked as a whole has no strokes but the tops of its
-/// bars.
+/// Draws the strokes of a line, where these bars start or end on it. Its source row is the last row of the grid. A line
+/// that is marked as a whole has no strokes but the tops of its bars.
 fn draw_entries(
     alloc: Global,
     buffer: &mut StyledBuffer,
     layout: Layout,
-    row: usize,
-    closes: bool,
-    dropped: usize,
-    room: usize,
+    place: StrokePlace,
     info: &AnnotatedLineInfo,
     ends: &[OpenBar],
 ) -> Result<(), AllocError>
-    requires last { length buffer.old ≡ row + 1 }
+    requires last { length buffer.old ≡ place.row + 1 }
     requires columns { All HasPlace info.now.annotations.items }
     requires clear { All (λ e. is_bar e.annotation_type ≡ false
-        → dropped ≤ e.start.display) info.now.annotations.items }
+        → place.dropped ≤ e.start.display) info.now.annotations.items }
     requires bar_cells { All (HasBarCell layout) info.now.annotations.items }
     requires labels { All (λ e. IfSome e.label (λ t. TextFits t.now)) info.now.annotations.items }
     requires ends { ends.now ≡ ends_of_bars info.now.annotations.items }
     ensures added { OnOk result ((above : List (List Cell)) (plain : List Cell) → buffer.old ≡ above ++ plain ∷ []
         → HasNoBars layout plain
-        → AddsStrokes layout room (map (shifted dropped) info.now.annotations.items) closes above plain buffer.new) }
+        → AddsStrokes layout place.room (map (shifted place.dropped) info.now.annotations.items) place.closes above
+        plain buffer.new) }
     ensures own { OnOk result ((above : List (List Cell)) (source : List Cell) → buffer.old ≡ above ++ source ∷ []
-        → AddsOwnRows layout room closes (norm (chars info.now.line.now)) dropped info.now.annotations.items
-        above source
-        buffer.new) }
+        → AddsOwnRows layout place.room place.closes (norm (chars info.now.line.now)) place.dropped
+        info.now.annotations.items above source buffer.new) }
 {
     if is_whole_line(info.line, &info.annotations) {
-        return draw_bars(alloc, buffer, layout, row, ends, BarStroke::Top);
+        return draw_bars(alloc, buffer, layout, place.row, ends, BarStroke::Top);
     }
-    draw_strokes(
-        alloc,
-        buffer,
-        layout,
-        row,
-        closes,
-        dropped,
-        room,
-        &info.annotations,
-    )
+    draw_strokes(alloc, buffer, layout, place, &info.annotations)
 }

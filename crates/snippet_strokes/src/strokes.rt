@@ -28,11 +28,23 @@ use snippet_labels::{PlacedEntry, are_starts, placed_entries};
 use snippet_parts::LineAnnotation;
 use std::alloc::{AllocError, Global};
 
-/// Draws the strokes of a line, of which this many columns are dropped on the left, below its source row, which has
-/// this number and is the last one: none if the line has no entries, and else the row of its marks and the rows of the
-/// labels that hang from them and of the lines that lead to bars. Where the window closes with the line, its last row
-/// begins with the closing glyph; a line with no entries then has a row for it. Wide spans are cut to a room of this
-/// many columns.
+/// Where the strokes of a line stand.
+#[derive(Clone, Copy, Debug)]
+pub(crate) struct StrokePlace {
+    /// The number of the line's source row, below which they stand.
+    pub(crate) row: usize,
+    /// How many columns of the line are dropped on the left.
+    pub(crate) dropped: usize,
+    /// The room: to how many columns wide spans are cut.
+    pub(crate) room: usize,
+    /// Whether the window closes with the line.
+    pub(crate) closes: bool,
+}
+
+/// Draws the strokes of a line below its source row, which is the last one: none if the line has no entries, and else
+/// the row of its marks and the rows of the labels that hang from them and of the lines that lead to bars. Where the
+/// window closes with the line, its last row begins with the closing glyph; a line with no entries then has a row for
+/// it.
 ///
 /// ```text
 ///       | --^^--             │ ┬─┯━──             1 | |   b)             1 │ ┃   b)
@@ -52,35 +64,32 @@ pub(crate) fn draw_strokes(
     alloc: Global,
     buffer: &mut StyledBuffer,
     layout: Layout,
-    row: usize,
-    closes: bool,
-    dropped: usize,
-    room: usize,
+    place: StrokePlace,
     entries: &[LineAnnotation],
 ) -> Result<(), AllocError>
-    requires last { length buffer.old ≡ row + 1 }
+    requires last { length buffer.old ≡ place.row + 1 }
     requires columns { All HasPlace entries.now }
-    requires clear { All (λ e. is_bar e.annotation_type ≡ false → dropped ≤ e.start.display) entries.now }
+    requires clear { All (λ e. is_bar e.annotation_type ≡ false → place.dropped ≤ e.start.display) entries.now }
     requires bar_cells { All (HasBarCell layout) entries.now }
     requires labels { All (λ e. IfSome e.label (λ t. TextFits t.now)) entries.now }
     ensures added { OnOk result ((above : List (List Cell)) (plain : List Cell) → buffer.old ≡ above ++ plain ∷ []
         → HasNoBars layout plain
-        → AddsStrokes layout room (map (shifted dropped) entries.now) closes above plain buffer.new) }
+        → AddsStrokes layout place.room (map (shifted place.dropped) entries.now) place.closes above plain buffer.new) }
     ensures none { OnOk result (length entries.now ≡ 0 → buffer.new ≡ buffer.old
-        ++ (if closes then closing_row layout.decor layout.gutter ∷ [] else [])) }
+        ++ (if place.closes then closing_row layout.decor layout.gutter ∷ [] else [])) }
     ensures painted { OnOk result (0 < length entries.now → (above : List (List Cell)) (plain : List Cell)
         → buffer.old ≡ above ++ plain ∷ []
-        → AddsPainted layout room closes (map (shifted dropped) entries.now) above plain buffer.new) }
+        → AddsPainted layout place.room place.closes (map (shifted place.dropped) entries.now) above plain buffer.new) }
 {
     if entries.is_empty() {
-        return close_below(buffer, layout, closes);
+        return close_below(buffer, layout, place.closes);
     }
-    let mut placed = placed_entries(alloc, dropped, entries)?;
-    let overlapped = overlapping(alloc, layout.decor, room, &placed)?;
-    begin_rows(buffer, layout, closes, row_count(&placed))?;
-    draw_under_marks(alloc, buffer, layout, row, &placed)?;
-    draw_marks(alloc, buffer, layout, row + 1, &mut placed)?;
-    cut_wide(buffer, layout, row, room, &placed, &overlapped)
+    let mut placed = placed_entries(alloc, place.dropped, entries)?;
+    let overlapped = overlapping(alloc, layout.decor, place.room, &placed)?;
+    begin_rows(buffer, layout, place.closes, row_count(&placed))?;
+    draw_under_marks(alloc, buffer, layout, place.row, &placed)?;
+    draw_marks(alloc, buffer, layout, place.row + 1, &mut placed)?;
+    cut_wide(buffer, layout, place.row, place.room, &placed, &overlapped)
 }
 
 /// Draws the strokes of a line but its marks into the rows that are begun for them below its source row, which has this

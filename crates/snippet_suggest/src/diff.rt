@@ -11,12 +11,27 @@ ghost use Rattle.snippet_suggest.specs.Given.{is_left_out, last_removed};
 use crate::kind::is_blank;
 use crate::layout::SuggestionLayout;
 use crate::roles::{paint_stretches, stretches_of};
-use crate::row::{draw_line, draw_removed_line};
+use crate::row::{NumberedLine, draw_line, draw_removed_line};
 use snippet_grid::StyledBuffer;
 use snippet_parts::LineInfo;
 use snippet_splice::SubstitutionHighlight;
 use snippet_style::{ElementStyle, SuggestionGlyph};
 use std::alloc::{AllocError, Global};
+
+/// Lines of a source that are removed, and the one line that stands in their place.
+#[derive(Clone, Copy)]
+pub(crate) struct LineDiff<'a> {
+    /// The number of the first line that is shown, which the line in their place has, too.
+    pub(crate) first: usize,
+    /// The lines that are removed.
+    pub(crate) removed: &'a [LineInfo<'a>],
+    /// The stretches that are replaced on each line of the source, from the one of number `first` on.
+    pub(crate) replaced: &'a [Vec<SubstitutionHighlight>],
+    /// The line in their place.
+    pub(crate) line: &'a str,
+    /// The stretches that are new in it.
+    pub(crate) added: &'a [SubstitutionHighlight],
+}
 
 /// Draws lines that are removed below all that stands in the grid, and the line in their place below them. Where this
 /// is the same as the last of them, neither is drawn; a blank one isn't drawn.
@@ -34,26 +49,23 @@ pub(crate) fn draw_diff(
     alloc: Global,
     buffer: &mut StyledBuffer,
     layout: &SuggestionLayout,
-    first: usize,
-    removed: &[LineInfo<'_>],
-    replaced: &[Vec<SubstitutionHighlight>],
-    line: &str,
-    added: &[SubstitutionHighlight],
+    diff: &LineDiff<'_>,
 ) -> Result<(), AllocError>
-    requires some { 0 < length removed.now }
+    requires some { 0 < length diff.now.removed.now }
     ensures cells { (above : List (List Cell)) (last : List Cell) → buffer.old ≡ above ++ last ∷ []
-        → OnOk result (buffer.new ≡ above ++ diff_cells layout.now first removed.now
-        (line_stretches replaced.now) line.now added.now last) }
+        → OnOk result (buffer.new ≡ above ++ diff_cells layout.now diff.now.first diff.now.removed.now
+        (line_stretches diff.now.replaced.now) diff.now.line.now diff.now.added.now last) }
 {
-    let stays = is_last(removed, line);
+    let (first, removed, replaced) = (diff.first, diff.removed, diff.replaced);
+    let stays = is_last(removed, diff.line);
     let count = removed.len().saturating_sub(usize::from(stays));
     draw_diff_removed(alloc, buffer, layout, first, &removed[..count], replaced)?;
     if stays {
         let stretches = diff_stretches(replaced, first, removed[count]);
-        paint_last(buffer, layout, line, stretches, ElementStyle::Removal)?;
+        paint_last(buffer, layout, diff.line, stretches, ElementStyle::Removal)?;
     }
-    let left_out = is_left_out(removed, line);
-    draw_diff_line(alloc, buffer, layout, first, line, left_out, added)
+    let left_out = is_left_out(removed, diff.line);
+    draw_diff_line(alloc, buffer, layout, diff, left_out)
 }
 
 /// Draws the line that stands in place of those that are removed below all that stands in the grid, unless it is left
@@ -62,22 +74,28 @@ fn draw_diff_line(
     alloc: Global,
     buffer: &mut StyledBuffer,
     layout: &SuggestionLayout,
-    first: usize,
-    line: &str,
+    diff: &LineDiff<'_>,
     left_out: bool,
-    added: &[SubstitutionHighlight],
 ) -> Result<(), AllocError>
     ensures left_cells { (above : List (List Cell)) (last : List Cell) → left_out ≡ true → buffer.old ≡ above
         ++ last ∷ []
         → OnOk result (buffer.new ≡ above ++ with_stretches Addition layout.now.base.gutter
-        (chars line.now) added.now last ∷ []) }
+        (chars diff.now.line.now) diff.now.added.now last ∷ []) }
     ensures cells { left_out ≡ false → OnOk result (buffer.new ≡ buffer.old
-        ++ offered_cells layout.now Diff 1 first line.now added.now ∷ []) }
+        ++ offered_cells layout.now Diff 1 diff.now.first diff.now.line.now diff.now.added.now ∷ []) }
 {
+    let line = diff.line;
     if !left_out {
-        draw_line(alloc, buffer, layout, SuggestionGlyph::Added, first, line)?;
+        draw_line(
+            alloc,
+            buffer,
+            layout,
+            SuggestionGlyph::Added,
+            diff.first,
+            line,
+        )?;
     }
-    paint_last(buffer, layout, line, added, ElementStyle::Addition)
+    paint_last(buffer, layout, line, diff.added, ElementStyle::Addition)
 }
 
 /// Gives the cells of stretches of a line, which stands in the last row, a role.
@@ -141,15 +159,11 @@ fn draw_diff_removed(
         let info = removed[i];
         let row = buffer.num_lines();
         let number = first.saturating_add(i);
-        draw_removed_line(
-            alloc,
-            buffer,
-            layout,
-            row,
+        let line = NumberedLine {
             number,
-            info.line,
-            ElementStyle::NoStyle,
-        )?;
+            text: info.line,
+        };
+        draw_removed_line(alloc, buffer, layout, row, line, ElementStyle::NoStyle)?;
         let stretches = diff_stretches(replaced, first, info);
         paint_stretches(
             buffer,

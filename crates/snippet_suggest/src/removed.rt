@@ -7,7 +7,7 @@ ghost use Rattle.snippet_suggest.specs.RowOrder.{numbered_at};
 ghost use Rattle.snippet_style.specs.Bounds.{IsRowNumber};
 
 use crate::layout::SuggestionLayout;
-use crate::row::draw_removed_line;
+use crate::row::{NumberedLine, draw_removed_line};
 use snippet_grid::StyledBuffer;
 use snippet_parts::LineInfo;
 use snippet_style::ElementStyle;
@@ -37,15 +37,11 @@ pub(crate) fn draw_removed_lines(
 {
     let mut row = row;
     for info in lines {
-        draw_removed_line(
-            alloc,
-            buffer,
-            layout,
-            row,
-            info.line_index,
-            info.line,
-            ElementStyle::Removal,
-        )?;
+        let line = NumberedLine {
+            number: info.line_index,
+            text: info.line,
+        };
+        draw_removed_line(alloc, buffer, layout, row, line, ElementStyle::Removal)?;
         row = buffer.num_lines();
     }
     Ok(())

@@ -45,6 +45,15 @@ pub(crate) fn draw_line(
     Ok(row)
 }
 
+/// A line, and the number that stands beside it.
+#[derive(Clone, Copy, Debug)]
+pub(crate) struct NumberedLine<'a> {
+    /// Its number.
+    pub(crate) number: usize,
+    /// Its text, without its end.
+    pub(crate) text: &'a str,
+}
+
 /// Draws a line that is removed, in this row.
 ///
 /// ```text
@@ -59,16 +68,16 @@ pub(crate) fn draw_removed_line(
     buffer: &mut StyledBuffer,
     layout: &SuggestionLayout,
     row: usize,
-    number: usize,
-    line: &str,
+    line: NumberedLine<'_>,
     role: ElementStyle,
 ) -> Result<(), AllocError>
     requires row { HasNext row }
     ensures cells { (above tail : List (List Cell)) → row ≡ length above → buffer.old ≡ above ++ tail → length tail ≤ 1
-        → OnOk result (buffer.new ≡ above ++ removed_cells layout.now role number line.now (row_at tail 0) ∷ []) }
+        → OnOk result (buffer.new ≡ above
+        ++ removed_cells layout.now role line.entry.number line.entry.text.now (row_at tail 0) ∷ []) }
 {
     let base = layout.base;
-    let number = number_text(alloc, layout.numbers, base.gutter, number)?;
+    let number = number_text(alloc, layout.numbers, base.gutter, line.number)?;
     buffer.puts(row, 0, number.as_str(), ElementStyle::LineNumber)?;
     buffer.puts(
         row,
@@ -76,7 +85,7 @@ pub(crate) fn draw_removed_line(
         base.decor.removed_sign(),
         ElementStyle::Removal,
     )?;
-    let text = normalized(alloc, line)?;
+    let text = normalized(alloc, line.text)?;
     buffer.puts(row, base.inner_cell(), text.as_str(), role)?;
     Ok(())
 }

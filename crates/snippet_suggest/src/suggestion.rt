@@ -16,7 +16,7 @@ ghost use Rattle.snippet_suggest.specs.declared.kind.DisplaySuggestion.TheVarian
 ghost use Rattle.snippet_suggest.specs.declared.layout.SuggestionStart.{SuggestionStart};
 ghost use Rattle.snippet_style.specs.Bounds.{IsRowNumber};
 
-use crate::diff::draw_diff;
+use crate::diff::{LineDiff, draw_diff};
 use crate::ends::{draw_end, draw_head};
 use crate::kind::DisplaySuggestion;
 use crate::layout::{SuggestionLayout, SuggestionStart};
@@ -136,9 +136,14 @@ fn draw_changed(
     let removed = map.span_to_lines(trimmed_span(map, &splice.patches))?;
     let added = stretches_of(&splice.highlights, 0);
     let replaced = &splice.replaced_highlights;
-    draw_diff(
-        alloc, buffer, layout, first, &removed, replaced, line, added,
-    )?;
+    let diff = LineDiff {
+        first,
+        removed: &removed,
+        replaced,
+        line,
+        added,
+    };
+    draw_diff(alloc, buffer, layout, &diff)?;
     Ok(0)
 }
 

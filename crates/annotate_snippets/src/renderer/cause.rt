@@ -21,7 +21,7 @@ use crate::renderer::place::place_in_head;
 use crate::renderer::preprocess::PreparedCause;
 use snippet_grid::{Layout, StyledBuffer};
 use snippet_parts::with_lines_between;
-use snippet_strokes::draw_snippet;
+use snippet_strokes::{LineView, draw_snippet};
 use snippet_titles::{
     draw_closing, draw_nameless_head, draw_opening_head, draw_primary_head, draw_secondary_head,
     draw_separator,
@@ -100,7 +100,12 @@ fn draw_cause_lines(
     let kept = cause.kept;
     let lines = with_lines_between(alloc, &cause.map, kept)?;
     let margin = margin_for(&lines, room);
-    draw_snippet(alloc, buffer, layout, margin, numbers, closes, &lines)
+    let view = LineView {
+        margin,
+        numbers,
+        closes,
+    };
+    draw_snippet(alloc, buffer, layout, view, &lines)
 }
 
 /// Draws what stands below an annotated snippet's lines, below all that stands in the grid: what sets off a message, or

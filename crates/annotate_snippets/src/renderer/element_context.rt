@@ -7,6 +7,7 @@ ghost use Rattle.annotate_snippets.specs.PreparedReport.{AreAround, element_of};
 
 use crate::renderer::paths::{is_same_file, path_of};
 use crate::renderer::preprocess::PreparedElement;
+use snippet_grid::Layout;
 use snippet_suggest::SuggestionStart;
 use std::alloc::{AllocError, Global};
 
@@ -48,6 +49,17 @@ impl GroupPosition {
     {
         self == GroupPosition::First
     }
+}
+
+/// What the rows of a group depend on beside the group.
+#[derive(Clone, Copy)]
+pub struct GroupContext<'r> {
+    /// Where the parts of its rows stand.
+    pub layout: Layout,
+    /// Where it stands in its report.
+    pub place: GroupPosition,
+    /// The file that its suggestions are for where they name no other.
+    pub file: Option<&'r str>,
 }
 
 /// What follows in a group.

@@ -11,7 +11,7 @@ ghost use Rattle.snippet_model.specs.Fits.{MessageFits};
 
 use crate::renderer::Renderer;
 use crate::renderer::cause::draw_cause;
-use crate::renderer::element_context::{ElementContext, GroupPosition, contexts_of};
+use crate::renderer::element_context::{ElementContext, GroupContext, contexts_of};
 use crate::renderer::preprocess::PreparedElement;
 use crate::renderer::suggestions::draw_patches;
 use snippet_grid::{Layout, StyledBuffer};
@@ -22,8 +22,7 @@ use snippet_titles::{
 };
 use std::alloc::{AllocError, Global};
 
-/// Draws a group's elements below all that stands in the grid. The group has this position, and this is the file
-/// that its suggestions are for where they name no other.
+/// Draws a group's elements below all that stands in the grid.
 ///
 /// # Errors
 ///
@@ -32,19 +31,17 @@ pub fn draw_elements<'a>(
     alloc: Global,
     buffer: &mut StyledBuffer<'a>,
     renderer: &Renderer,
-    layout: Layout,
-    position: GroupPosition,
-    file: Option<&str>,
+    group: &GroupContext<'_>,
     elements: Vec<PreparedElement<'a>>,
 ) -> Result<(), AllocError>
     requires prepared { All IsElementPrepared elements.items }
-    requires room { All (λ e. HasRoomFor renderer.now layout (element_of e)) elements.items }
-    ensures added { OnOk result (AddsElements renderer.now layout position (option_copied file.entry)
-        (map element_of elements.entry.items) buffer.old buffer.new) }
+    requires room { All (λ e. HasRoomFor renderer.now group.now.layout (element_of e)) elements.items }
+    ensures added { OnOk result (AddsElements renderer.now group.now.layout group.now.place
+        (option_copied group.now.file) (map element_of elements.entry.items) buffer.old buffer.new) }
 {
-    let around = contexts_of(alloc, position, file, &elements)?;
+    let around = contexts_of(alloc, group.place, group.file, &elements)?;
     for (i, element) in elements.into_iter().enumerate() {
-        draw_element(alloc, buffer, renderer, layout, around[i], element)?;
+        draw_element(alloc, buffer, renderer, group.layout, around[i], element)?;
     }
     Ok(())
 }

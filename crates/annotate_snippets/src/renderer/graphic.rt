@@ -15,14 +15,14 @@ ghost use Rattle.annotate_snippets.specs.Page.{PrintsGrids};
 ghost use Rattle.annotate_snippets.specs.PreparedReport.{IsGroupDrawable, IsGroupPrepared, element_of};
 
 use crate::renderer::Renderer;
-use crate::renderer::element_context::{GroupPosition, next_of};
+use crate::renderer::element_context::{GroupContext, GroupPosition, next_of};
 use crate::renderer::elements::draw_elements;
 use crate::renderer::gutter::gutter_of;
 use crate::renderer::layout::layout_for;
 use crate::renderer::paths::{primary_path, report_file};
 use crate::renderer::preprocess::{PreparedGroup, prepare_groups};
 use crate::renderer::title::draw_title;
-use snippet_grid::{Layout, SheetCodes, StyledBuffer};
+use snippet_grid::{SheetCodes, StyledBuffer};
 use snippet_model::snippet::Group;
 use snippet_style::{LevelInner, Stylesheet};
 use std::alloc::{AllocError, Global};
@@ -34,6 +34,17 @@ pub struct GroupGrid<'a> {
     pub level: LevelInner,
     /// The rows.
     pub buffer: StyledBuffer<'a>,
+}
+
+/// What the grid of a report's group depends on beside the group.
+#[derive(Clone, Copy)]
+pub struct ReportContext<'r> {
+    /// The report's groups.
+    pub groups: &'r [Group<'r>],
+    /// The width of its gutter.
+    pub gutter: usize,
+    /// Its primary file.
+    pub file: Option<&'r str>,
 }
 
 /// The grids of a report's groups, in order.
@@ -52,15 +63,19 @@ pub fn grids<'a>(
     let prepared = prepare_groups(alloc, groups)?;
     let gutter = gutter_of(renderer, &prepared);
     let file = report_file(groups);
+    let report = ReportContext {
+        groups,
+        gutter,
+        file,
+    };
     let mut grids = Vec::new(alloc);
     for (i, group) in prepared.into_iter().enumerate() {
-        grids.push(draw_at(alloc, renderer, groups, gutter, file, i, group)?)?;
+        grids.push(draw_at(alloc, renderer, &report, i, group)?)?;
     }
     Ok(grids)
 }
 
-/// The grid of the report's group of this number, from 0, where this is the width of its gutter and this its primary
-/// file.
+/// The grid of the report's group of this number, from 0.
 ///
 /// # Errors
 ///
@@ -68,23 +83,22 @@ pub fn grids<'a>(
 pub fn draw_at<'a>(
     alloc: Global,
     renderer: &Renderer,
-    groups: &[Group<'_>],
-    gutter: usize,
-    file: Option<&str>,
+    report: &ReportContext<'_>,
     number: usize,
     group: PreparedGroup<'a>,
 ) -> Result<GroupGrid<'a>, AllocError>
-    requires drawable { All IsGroupDrawable groups.now }
+    requires drawable { All IsGroupDrawable report.now.groups.now }
     requires prepared { IsGroupPrepared group }
-    requires here { slice_get groups.now number ≡ Some group.group.now }
-    requires gutter { gutter ≡ gutter_of_report renderer.now groups.now }
-    requires small { gutter ≤ 20 }
-    requires file { option_copied file ≡ report_path groups.now }
+    requires here { slice_get report.now.groups.now number ≡ Some group.group.now }
+    requires gutter { report.now.gutter ≡ gutter_of_report renderer.now report.now.groups.now }
+    requires small { report.now.gutter ≤ 20 }
+    requires file { option_copied report.now.file ≡ report_path report.now.groups.now }
     ensures level { IfOk result (λ grid. grid.level ≡ group.entry.group.now.level) }
-    ensures drawn { IfOk result (λ grid. IsGridAt renderer.now groups.now number group.entry.group.now grid) }
+    ensures drawn { IfOk result (λ grid. IsGridAt renderer.now report.now.groups.now number
+        group.entry.group.now grid) }
 {
     let buffer = StyledBuffer::new(alloc);
-    draw_in(alloc, buffer, renderer, groups, gutter, file, number, group)
+    draw_in(alloc, buffer, renderer, report, number, group)
 }
 
 /// The same, in an empty grid, which may have room of what stood in it before.
@@ -96,60 +110,53 @@ pub fn draw_in<'a>(
     alloc: Global,
     buffer: StyledBuffer<'a>,
     renderer: &Renderer,
-    groups: &[Group<'_>],
-    gutter: usize,
-    file: Option<&str>,
+    report: &ReportContext<'_>,
     number: usize,
     group: PreparedGroup<'a>,
 ) -> Result<GroupGrid<'a>, AllocError>
     requires empty { buffer ≡ [] }
-    requires drawable { All IsGroupDrawable groups.now }
+    requires drawable { All IsGroupDrawable report.now.groups.now }
     requires prepared { IsGroupPrepared group }
-    requires here { slice_get groups.now number ≡ Some group.group.now }
-    requires gutter { gutter ≡ gutter_of_report renderer.now groups.now }
-    requires small { gutter ≤ 20 }
-    requires file { option_copied file ≡ report_path groups.now }
+    requires here { slice_get report.now.groups.now number ≡ Some group.group.now }
+    requires gutter { report.now.gutter ≡ gutter_of_report renderer.now report.now.groups.now }
+    requires small { report.now.gutter ≤ 20 }
+    requires file { option_copied report.now.file ≡ report_path report.now.groups.now }
     ensures level { IfOk result (λ grid. grid.level ≡ group.entry.group.now.level) }
-    ensures drawn { IfOk result (λ grid. IsGridAt renderer.now groups.now number group.entry.group.now grid) }
+    ensures drawn { IfOk result (λ grid. IsGridAt renderer.now report.now.groups.now number
+        group.entry.group.now grid) }
 {
-    let layout = layout_for(gutter, group.depth(), renderer.decor_style);
-    let place = GroupPosition::at(groups.len(), number);
-    let file = primary_path(group.group).or(file);
-    draw_group(alloc, buffer, renderer, layout, place, file, group)
+    let layout = layout_for(report.gutter, group.depth(), renderer.decor_style);
+    let place = GroupPosition::at(report.groups.len(), number);
+    let file = primary_path(group.group).or(report.file);
+    let around = GroupContext {
+        layout,
+        place,
+        file,
+    };
+    draw_group(alloc, buffer, renderer, &around, group)
 }
 
-/// The grid of a group, which stands at this place, drawn in an empty one; and this is the file that its suggestions
-/// are for where they name no other.
+/// The grid of a group, drawn in an empty one.
 fn draw_group<'a>(
     alloc: Global,
     mut buffer: StyledBuffer<'a>,
     renderer: &Renderer,
-    layout: Layout,
-    place: GroupPosition,
-    file: Option<&str>,
+    around: &GroupContext<'_>,
     group: PreparedGroup<'a>,
 ) -> Result<GroupGrid<'a>, AllocError>
     requires empty { buffer ≡ [] }
     requires prepared { IsGroupPrepared group }
-    requires room { All (λ e. HasRoomFor renderer.now layout (element_of e)) group.elements.items }
+    requires room { All (λ e. HasRoomFor renderer.now around.now.layout (element_of e)) group.elements.items }
     ensures level { IfOk result (λ grid. grid.level ≡ group.entry.group.now.level) }
-    ensures drawn { IfOk result (λ grid. IsGroupGrid renderer.now layout place
-        (option_copied file.entry) group.entry.group.now grid.buffer) }
+    ensures drawn { IfOk result (λ grid. IsGroupGrid renderer.now around.now.layout around.now.place
+        (option_copied around.now.file) group.entry.group.now grid.buffer) }
 {
     let level = group.group.level;
     if let Some(title) = &group.group.title {
         let next = next_of(&group.elements);
-        draw_title(alloc, &mut buffer, renderer, layout, place, next, title)?;
+        draw_title(alloc, &mut buffer, renderer, around, next, title)?;
     }
-    draw_elements(
-        alloc,
-        &mut buffer,
-        renderer,
-        layout,
-        place,
-        file,
-        group.elements,
-    )?;
+    draw_elements(alloc, &mut buffer, renderer, around, group.elements)?;
     Ok(GroupGrid { level, buffer })
 }
 

@@ -10,7 +10,7 @@ ghost use Rattle.annotate_snippets.specs.PreparedReport.{IsGroupDrawable};
 ghost use Rattle.snippet_grid.specs.Html.{html_bytes};
 
 use crate::renderer::Renderer;
-use crate::renderer::graphic::{GroupGrid, draw_at};
+use crate::renderer::graphic::{GroupGrid, ReportContext, draw_at};
 use crate::renderer::gutter::gutter_of;
 use crate::renderer::page::fed;
 use crate::renderer::paths::report_file;
@@ -35,9 +35,14 @@ pub fn page_html(
     let prepared = prepare_groups(alloc, groups)?;
     let gutter = gutter_of(renderer, &prepared);
     let file = report_file(groups);
+    let report = ReportContext {
+        groups,
+        gutter,
+        file,
+    };
     let mut text = String::new(alloc);
     for (i, group) in prepared.into_iter().enumerate() {
-        let grid = draw_at(alloc, renderer, groups, gutter, file, i, group)?;
+        let grid = draw_at(alloc, renderer, &report, i, group)?;
         text = html_with(text, &grid, i == 0)?;
     }
     Ok(text)

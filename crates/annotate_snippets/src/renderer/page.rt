@@ -10,7 +10,7 @@ ghost use Rattle.annotate_snippets.specs.declared.renderer.form.Form.TheVariants
 use crate::renderer::Renderer;
 use crate::renderer::drawn::{draw, text_under};
 use crate::renderer::form::Form;
-use crate::renderer::graphic::{GroupGrid, draw_in, emptied};
+use crate::renderer::graphic::{GroupGrid, ReportContext, draw_in, emptied};
 use crate::renderer::gutter::gutter_of;
 use crate::renderer::paths::report_file;
 use crate::renderer::preprocess::prepare_groups;
@@ -75,11 +75,16 @@ fn page_text(
     let prepared = prepare_groups(alloc, groups)?;
     let gutter = gutter_of(renderer, &prepared);
     let file = report_file(groups);
+    let report = ReportContext {
+        groups,
+        gutter,
+        file,
+    };
     let mut codes = SheetCodes::new(alloc, sheet);
     let mut text = String::new(alloc);
     let mut buffer = StyledBuffer::new(alloc);
     for (i, group) in prepared.into_iter().enumerate() {
-        let grid = draw_in(alloc, buffer, renderer, groups, gutter, file, i, group)?;
+        let grid = draw_in(alloc, buffer, renderer, &report, i, group)?;
         text = text_with(text, &grid, i == 0, &mut codes)?;
         buffer = emptied(grid);
     }

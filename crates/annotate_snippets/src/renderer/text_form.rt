@@ -41,6 +41,17 @@ pub struct PreviousSuggestion<'r> {
     pub number: usize,
 }
 
+/// What stands around an element, as far as its text depends on it.
+#[derive(Clone, Copy)]
+struct TextContext<'r> {
+    /// The group's primary file.
+    file: Option<&'r str>,
+    /// The suggestion right before it.
+    before: Option<PreviousSuggestion<'r>>,
+    /// Whether it and the element after it are suggestions for one file.
+    followed: bool,
+}
+
 /// The text form of a report.
 ///
 /// # Errors
@@ -146,7 +157,12 @@ fn add_elements<'a>(
     let mut before = None;
     for (i, drawn) in elements.iter().enumerate() {
         let followed = first_two_share(&elements[i..]);
-        add_element(alloc, form, renderer, file, before, followed, drawn.element)?;
+        let context = TextContext {
+            file,
+            before,
+            followed,
+        };
+        add_element(alloc, form, renderer, context, drawn.element)?;
         before = before_next(before, drawn.element);
     }
     Ok(())
@@ -167,28 +183,26 @@ fn first_two_share(elements: &[DrawnElement<'_>]) -> bool
     }
 }
 
-/// Adds an element. A suggestion stands after this one, if there is one, and another for its file may follow.
+/// Adds an element.
 fn add_element<'a>(
     alloc: Global,
     form: &mut TextForm<'a>,
     renderer: &Renderer,
-    file: Option<&str>,
-    before: Option<PreviousSuggestion<'_>>,
-    followed: bool,
+    context: TextContext<'_>,
     element: &'a Element<'a>,
 ) -> Result<(), AllocError>
     requires drawable { IsElementDrawable element.now }
     requires drawn { around.is_drawn element.now ≡ true }
-    requires small { IfSome before (λ b. HasNext b.number) }
-    ensures added { OnOk result (form.new ≡ form.old
-        ++ element_form renderer.now (option_copied file.entry) (before_seen before.entry) followed element.now) }
+    requires small { IfSome context.before (λ b. HasNext b.number) }
+    ensures added { OnOk result (form.new ≡ form.old ++ element_form renderer.now (option_copied context.entry.file)
+        (before_seen context.entry.before) context.entry.followed element.now) }
 {
     let anonymized = renderer.anonymized_origin_line_numbers;
     match element {
         Element::Message(message) => add_message(alloc, form, renderer.hyperlink, message),
         Element::Cause(snippet) => add_snippet(alloc, form, anonymized, snippet),
         Element::Suggestion(snippet) => {
-            let place = suggestion_place(file, before, followed, snippet);
+            let place = suggestion_place(context.file, context.before, context.followed, snippet);
             add_patches(alloc, form, anonymized, place, snippet)
         }
         Element::Origin(origin) => add_origin(alloc, form, anonymized, origin),

@@ -4,8 +4,8 @@ ghost use Rattle.snippet_model.specs.Fits.{TitleFits};
 ghost use Rattle.annotate_snippets.specs.RowsWithoutSource.{title_part};
 
 use crate::renderer::Renderer;
-use crate::renderer::element_context::{GroupPosition, Next};
-use snippet_grid::{Layout, StyledBuffer};
+use crate::renderer::element_context::{GroupContext, Next};
+use snippet_grid::StyledBuffer;
 use snippet_model::snippet::Title;
 use snippet_titles::{draw_closing, draw_separator};
 use std::alloc::{AllocError, Global};
@@ -25,19 +25,19 @@ pub fn draw_title<'a>(
     alloc: Global,
     buffer: &mut StyledBuffer<'a>,
     renderer: &Renderer,
-    layout: Layout,
-    place: GroupPosition,
+    group: &GroupContext<'_>,
     next: Next,
     title: &'a Title<'a>,
 ) -> Result<(), AllocError>
     requires fits { TitleFits title.now }
-    ensures rows { OnOk result (buffer.new ≡ buffer.old ++ title_part renderer.now layout place next (Some title.now)) }
+    ensures rows { OnOk result (buffer.new ≡ buffer.old
+        ++ title_part renderer.now group.now.layout group.now.place next (Some title.now)) }
 {
     snippet_titles::draw_title(alloc, buffer, renderer.hyperlink, title)?;
     if next.is_message() {
-        draw_separator(buffer, layout)
-    } else if next.is_nothing() && place.is_first_of_several() && !title.allows_styling {
-        draw_closing(buffer, layout)
+        draw_separator(buffer, group.layout)
+    } else if next.is_nothing() && group.place.is_first_of_several() && !title.allows_styling {
+        draw_closing(buffer, group.layout)
     } else {
         Ok(())
     }

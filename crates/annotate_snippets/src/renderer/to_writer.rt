@@ -13,7 +13,7 @@ ghost use Rattle.annotate_snippets.specs.declared.renderer.form.Form.TheVariants
 use crate::renderer::Renderer;
 use crate::renderer::error::RenderError;
 use crate::renderer::form::{Form, form_of};
-use crate::renderer::graphic::{GroupGrid, draw_at};
+use crate::renderer::graphic::{GroupGrid, ReportContext, draw_at};
 use crate::renderer::gutter::gutter_of;
 use crate::renderer::page::drawn_text;
 use crate::renderer::paths::report_file;
@@ -194,9 +194,14 @@ fn write_groups<W: Write>(
     let prepared = prepare_groups(alloc, groups)?;
     let gutter = gutter_of(renderer, &prepared);
     let file = report_file(groups);
+    let report = ReportContext {
+        groups,
+        gutter,
+        file,
+    };
     let mut codes = SheetCodes::new(alloc, &renderer.stylesheet);
     for (i, group) in prepared.into_iter().enumerate() {
-        let grid = draw_at(alloc, renderer, groups, gutter, file, i, group)?;
+        let grid = draw_at(alloc, renderer, &report, i, group)?;
         write_grid(alloc, &grid, i == 0, &mut codes, out)?;
     }
     Ok(())

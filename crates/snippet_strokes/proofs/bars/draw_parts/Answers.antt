@@ -15,7 +15,7 @@ puts-requires-clause-end c =
     omega (
       arith,
       ap length c.requires.part,
-      length-replicate c.args.count (bar_glyph c.args.stroke c.args.layout.decor c.args.first.primary),
+      length-replicate c.args.side.count (bar_glyph c.args.side.stroke c.args.layout.decor c.args.side.first.primary),
       c.requires.room,
       ap (λ (l : Layout). l.gutter) c.layout.view_is,
       ap
@@ -27,21 +27,22 @@ puts-requires-clause-end c =
 pub loop-r-preserved : goal.loop-r-preserved
 loop-r-preserved c =
     let layout = c.args.layout in
-    let glyph : ℕ = bar_glyph c.args.stroke layout.decor c.args.first.primary in
-    let n = c.args.count in
+    let glyph : ℕ = bar_glyph c.args.side.stroke layout.decor c.args.side.first.primary in
+    let n = c.args.side.count in
     let role = c.underline-role.result.style in
     let text = c.args.part.now in
     let is : chars text ≡ replicate n glyph = c.requires.part in
-    let at = layout.gutter + 2 + c.args.first.depth in
+    let at = layout.gutter + 2 + c.args.side.first.depth in
     let written_is : c.puts.new.self ≡ cells_written c.loop-r.buffer c.loop-r.r at (text_cells role (chars text)) =
     c.in_ok-puts.ensures.ok (some_bytes text n glyph is c.requires.some)
     ∙ ap (λ n. cells_written c.loop-r.buffer c.loop-r.r n (text_cells role (chars text))) c.bar_cell-cell.ensures.value in
-    let part : unlinked_cell role glyph ≡ bar_cell_part layout c.args.stroke c.args.first = ap (λ r. unlinked_cell r glyph)
+    let part : unlinked_cell role glyph ≡ bar_cell_part layout c.args.side.stroke c.args.side.first = ap (λ r. unlinked_cell r glyph)
     (ap (λ (s : Strokes). s.style) c.underline-role.ensures.value) in
-    let parts : text_cells role (chars text) ≡ replicate n (bar_cell_part layout c.args.stroke c.args.first) = ap (text_cells role) is
+    let parts : text_cells role (chars text) ≡ replicate n (bar_cell_part layout c.args.side.stroke c.args.side.first) = ap (text_cells role) is
     ∙ text_cells-replicate role n glyph ∙ ap (replicate n) part in
     let there : c.loop-r.r < length c.args.buffer.now = omega (arith, c.loop-r.invariant.count, c.num_lines-r-end.ensures.count, c.loop-r-test.true) in
-    ChangesRows-next at (replicate n (bar_cell_part layout c.args.stroke c.args.first)) c.args.row c.loop-r.r c.args.buffer.now c.loop-r.buffer c.puts.new.self
+    ChangesRows-next at (replicate n (bar_cell_part layout c.args.side.stroke c.args.side.first))
+    c.args.row c.loop-r.r c.args.buffer.now c.loop-r.buffer c.puts.new.self
     (omega arith) there c.loop-r.invariant (written_is ∙ ap (cells_written c.loop-r.buffer c.loop-r.r at) parts)
 
 pub loop-r-init : goal.loop-r-init

@@ -8,6 +8,6 @@ use Rattle.snippet_strokes.proofs.bars.draw_parts.Given as goal
 abbrev pub invariant-loop-r : goal.invariant-loop-r
 invariant-loop-r l =
     let layout = l.fn.layout in
-    let first = l.fn.first in
+    let first = l.fn.side.first in
     ChangesRows (λ cells. written SPACE cells (layout.gutter + 2 + first.depth)
-    (replicate l.fn.count (bar_cell_part layout l.fn.stroke first))) l.fn.row l.r l.initial.buffer l.buffer
+    (replicate l.fn.side.count (bar_cell_part layout l.fn.side.stroke first))) l.fn.row l.r l.initial.buffer l.buffer

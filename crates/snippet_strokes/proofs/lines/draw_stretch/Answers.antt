@@ -9,24 +9,24 @@ use Rattle.snippet_strokes.proofs.lines.draw_stretch.Goals as goal
 
 pub puts-requires-clause-end : goal.puts-requires-clause-end
 puts-requires-clause-end c =
-    let n = c.args.to - c.args.from in
+    let n = c.args.cells.end - c.args.cells.start in
     let is : chars c.as_str.result.now ≡ replicate n c.args.glyph = ap chars c.as_str.ensures.value ∙ c.in_ok-text.ensures.value in
-    omega (arith, ap length is, length-replicate n c.args.glyph, c.if-to-from.false)
+    omega (arith, ap length is, length-replicate n c.args.glyph, c.if-end-start.false)
 
-pub returns-then-to-from : goal.returns-then-to-from
-returns-then-to-from c =
+pub returns-then-end-start : goal.returns-then-end-start
+returns-then-end-start c =
     record {
       painted = sym (ap (λ ws. painted ws c.args.buffer.now)
-          (stretch_of-none c.args.row c.args.from c.args.to c.args.glyph c.args.role (omega (arith, c.if-to-from.true))));
+          (stretch_of-none c.args.row c.args.cells.start c.args.cells.end c.args.glyph c.args.role (omega (arith, c.if-end-start.true))));
     }
 
 pub returns : goal.returns
 returns c =
-    let n = c.args.to - c.args.from in
-    let some : c.args.from < c.args.to = omega (arith, c.if-to-from.false) in
+    let n = c.args.cells.end - c.args.cells.start in
+    let some : c.args.cells.start < c.args.cells.end = omega (arith, c.if-end-start.false) in
     let is : chars c.as_str.result.now ≡ replicate n c.args.glyph = ap chars c.as_str.ensures.value ∙ c.in_ok-text.ensures.value in
     let bytes = some_bytes c.as_str.result.now n c.args.glyph is (omega (arith, some)) in
     record {
-      painted = on_ok_weaker c.puts.result (λ writes. stretch_painted c.args.row c.args.from c.args.to c.args.glyph c.args.role
+      painted = on_ok_weaker c.puts.result (λ writes. stretch_painted c.args.row c.args.cells.start c.args.cells.end c.args.glyph c.args.role
           (chars c.as_str.result.now) c.args.buffer.now c.puts.new.self some is (writes bytes)) c.puts.ensures.ok;
     }

@@ -31,13 +31,14 @@ returns-then-is_whole_line c =
       added = on_ok_weaker c.draw_bars.result (λ value above plain is bare.
           let room : All (HasBarRoom c.args.layout) c.args.ends.now = All-same (HasBarRoom c.args.layout) c.args.ends.now (ends_of_bars es) c.requires.ends
           (room_ends c.args.layout es c.requires.bar_cells) in
-          let draws = DrawsBars-barred c.args.layout Top c.args.ends.now c.args.row c.args.buffer.now c.draw_bars.new.buffer room value in
-          whole_added c.args.layout text c.args.room c.args.dropped c.args.closes es above plain c.args.buffer.now c.draw_bars.new.buffer c.args.row whole
-          c.requires.last draws is bare) c.draw_bars.ensures.value;
+          let draws = DrawsBars-barred c.args.layout Top c.args.ends.now c.args.place.row c.args.buffer.now c.draw_bars.new.buffer room value in
+          whole_added c.args.layout text c.args.place.room c.args.place.dropped c.args.place.closes es above plain
+          c.args.buffer.now c.draw_bars.new.buffer c.args.place.row whole c.requires.last draws is bare) c.draw_bars.ensures.value;
       own = on_ok_weaker c.draw_bars.result (λ value above plain is.
-          let last : c.args.row ≡ length above = omega (arith, c.requires.last, ap length is, length_push above plain) in
-          own_whole c.args.layout c.args.room c.args.closes text c.args.dropped es above plain c.args.buffer.now c.draw_bars.new.buffer c.args.row whole is
-          last (value ∙ ap (λ bars. barred c.args.layout Top bars c.args.row c.args.buffer.now) c.requires.ends)) c.draw_bars.ensures.value;
+          let last : c.args.place.row ≡ length above = omega (arith, c.requires.last, ap length is, length_push above plain) in
+          own_whole c.args.layout c.args.place.room c.args.place.closes text c.args.place.dropped es above plain
+          c.args.buffer.now c.draw_bars.new.buffer c.args.place.row whole is last
+          (value ∙ ap (λ bars. barred c.args.layout Top bars c.args.place.row c.args.buffer.now) c.requires.ends)) c.draw_bars.ensures.value;
     }
 
 pub returns-clause-own : goal.returns-clause-own
@@ -49,9 +50,9 @@ returns-clause-own c =
     ∙ c.if-is_whole_line.false in
     let new = c.draw_strokes.new.buffer in
     let Painted : List LineAnnotation → List (List Cell) → List Cell → Type 0 = λ xs above source.
-    AddsPainted c.args.layout c.args.room c.args.closes (map (shifted c.args.dropped) xs) above source new in
+    AddsPainted c.args.layout c.args.place.room c.args.place.closes (map (shifted c.args.place.dropped) xs) above source new in
     on_ok_two c.draw_strokes.result (λ none painted above source is.
     let strokes : 0 < length es → Painted es above source = λ some.
     subst (λ xs. Painted xs above source) given (painted (omega (arith, some, ap length given)) above source is) in
-    own_strokes c.args.layout c.args.room c.args.closes text c.args.dropped es above source c.args.buffer.now new other is (λ empty.
+    own_strokes c.args.layout c.args.place.room c.args.place.closes text c.args.place.dropped es above source c.args.buffer.now new other is (λ empty.
     none (ap length given ∙ empty)) strokes) c.draw_strokes.ensures.none c.draw_strokes.ensures.painted

@@ -33,7 +33,7 @@ draw_bars-requires c =
 pub returns-clause-added : goal.returns-clause-added
 returns-clause-added c =
     let layout = c.args.layout in
-    let margin = c.args.margin in
+    let margin = c.args.view.margin in
     let info = c.args.line.now.info in
     let mid = c.draw_source_row.new.buffer in
     let high = c.highlight_source.new.buffer in
@@ -55,7 +55,7 @@ returns-clause-added c =
     let past : All (HasBarRoom layout) c.deref-5.result.now = All-same (HasBarRoom layout) c.deref-5.result.now _
     (c.deref-5.ensures.value ∙ c.in_ok-below.ensures.value) (room_apart layout c.args.open_bars.now _ c.requires.room) in
     let draws = DrawsBars-barred layout Solid c.deref-5.result.now row c.draw_entries.new.buffer c.draw_bars.new.buffer past c.in_ok-draw_bars.ensures.value in
-    line_added layout margin c.args.numbers c.args.closes c.args.open_bars.now c.deref-5.result.now info dropped c.args.buffer.now mid high
+    line_added layout margin c.args.view.numbers c.args.view.closes c.args.open_bars.now c.deref-5.result.now info dropped c.args.buffer.now mid high
     c.draw_entries.new.buffer c.draw_bars.new.buffer row c.requires.number drawn.added drawn.row drawn.dropped clear highlights others
     count c.in_ok-draw_entries.ensures.added draws c.in_ok-draw_entries.ensures.own bars_are
     c.in_ok-draw_bars.ensures.value

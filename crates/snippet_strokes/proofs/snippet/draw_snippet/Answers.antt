@@ -10,14 +10,14 @@ use Rattle.snippet_strokes.specs.Snippet.{AddsGap, AddsLine}
 use Rattle.snippet_strokes.proofs.OpenLemmas.{room_below}
 use Rattle.snippet_strokes.proofs.SnippetLemmas.{AddsLines, AddsLines-none, AddsLines-next, AddsSnippet-from_lines}
 use Rattle.snippet_strokes.proofs.snippet.draw_snippet.Goals as goal
-use Rattle.snippet_strokes.proofs.snippet.draw_snippet.Goals.{then-closes, else-closes}
+use Rattle.snippet_strokes.proofs.snippet.draw_snippet.Goals.{then-view, else-view}
 
 pub loop-i-init : goal.loop-i-init
 loop-i-init c =
     let infos = infos_of c.args.lines.now in (
       All-same (HasBarRoom c.args.layout) c.new-open_bars.result.items [] c.new-open_bars.ensures.items (All-nil (HasBarRoom c.args.layout)),
-      subst (λ bs. AddsLines c.args.layout c.args.margin c.args.numbers c.args.closes infos 0 bs c.args.buffer.now c.args.buffer.now)
-          (sym c.new-open_bars.ensures.items) (AddsLines-none c.args.layout c.args.margin c.args.numbers c.args.closes infos c.args.buffer.now),
+      subst (λ bs. AddsLines c.args.layout c.args.view.margin c.args.view.numbers c.args.view.closes infos 0 bs c.args.buffer.now c.args.buffer.now)
+          (sym c.new-open_bars.ensures.items) (AddsLines-none c.args.layout c.args.view.margin c.args.view.numbers c.args.view.closes infos c.args.buffer.now),
     )
 
 pub draw_line-requires-clause-room : goal.draw_line-requires-clause-room
@@ -49,12 +49,13 @@ loop-i-preserved c =
     let info = line.info in
     let at = infos_of-at lines i line c.loop-i-test.true c.index-lines-i.is in
     let count : length infos ≡ length lines = infos_of-length lines in
-    let closes : c.if-closes.closes ≡ (c.args.closes && i + 1 == length infos) = elim c.if-closes.branch [
-      | then-closes w ↦ w.closes-is ∙ sym (ap (λ n. c.args.closes && i + 1 == n) count ∙ ap (λ b. b && i + 1 == length lines) w.if-closes.true)
-      | else-closes w ↦ w.closes-is ∙ w.if-closes.false ∙ sym (ap (λ b. b && i + 1 == length infos) w.if-closes.false)
+    let closes : c.if-view.closes ≡ (c.args.view.closes && i + 1 == length infos) = elim c.if-view.branch [
+      | then-view w ↦ w.closes-is ∙ sym (ap (λ n. c.args.view.closes && i + 1 == n) count ∙ ap (λ b. b && i + 1 == length lines) w.if-view.true)
+      | else-view w ↦ w.closes-is ∙ w.if-view.false ∙ sym (ap (λ b. b && i + 1 == length infos) w.if-view.false)
     ] in
-    let shown = subst (λ b. AddsLine layout c.args.margin c.args.numbers b c.loop-i.open_bars.items info old mid) closes
-    (subst (λ bs. AddsLine layout c.args.margin c.args.numbers c.if-closes.closes bs info old mid) c.deref.ensures.value c.in_ok-open_bars.ensures.added) in
+    let shown = subst (λ b. AddsLine layout c.args.view.margin c.args.view.numbers b c.loop-i.open_bars.items info old mid) closes
+    (subst (λ bs. AddsLine layout c.args.view.margin c.args.view.numbers c.if-view.closes bs info old mid)
+    c.deref.ensures.value c.in_ok-open_bars.ensures.added) in
     let rest : infos_of (take (length lines - (i + 1)) (drop (i + 1) lines)) ≡ drop (i + 1) infos = ap infos_of (take_rest lines (i + 1))
     ∙ infos_of-drop lines (i + 1) in
     let gap = subst (λ xs. AddsGap layout c.in_ok-open_bars.open_bars.items info.line_index xs mid new) rest
@@ -67,7 +68,7 @@ loop-i-preserved c =
     (sym c.index-lines-i.is) (c.requires.bar_cells i line c.loop-i-test.true) in (
       All-same (HasBarRoom layout) c.in_ok-open_bars.open_bars.items _ c.in_ok-open_bars.ensures.bars
           (room_below layout c.deref.result.now info.annotations.items before bar_cells),
-      AddsLines-next layout c.args.margin c.args.numbers c.args.closes infos i info c.loop-i.open_bars.items c.in_ok-open_bars.open_bars.items
+      AddsLines-next layout c.args.view.margin c.args.view.numbers c.args.view.closes infos i info c.loop-i.open_bars.items c.in_ok-open_bars.open_bars.items
           c.args.buffer.now old mid new at.0 at.1 below c.loop-i.invariant.1 shown gap,
     )
 
@@ -75,7 +76,7 @@ pub returns : goal.returns
 returns c =
     let lines = c.args.lines.now in
     record {
-      added = AddsSnippet-from_lines c.args.layout c.args.margin c.args.numbers c.args.closes
+      added = AddsSnippet-from_lines c.args.layout c.args.view.margin c.args.view.numbers c.args.view.closes
           (infos_of lines) c.loop-i.i c.loop-i.open_bars.items c.args.buffer.now c.loop-i.buffer
           (omega (arith, c.loop-i-test.false, c.loop-i.auto.i-end, infos_of-length lines)) c.loop-i.invariant.1;
     }

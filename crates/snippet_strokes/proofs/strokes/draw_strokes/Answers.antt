@@ -35,7 +35,7 @@ row_count-requires c =
       low = subst (All (λ (e : PlacedEntry). e.position < 2 ^ 63)) (sym c.deref-2.ensures.value) (λ k d within.
           omega (
             arith,
-            positions_of_placed (map (shifted c.args.dropped) c.args.entries.now) placed.items c.in_ok-placed.ensures.placed k d within,
+            positions_of_placed (map (shifted c.args.place.dropped) c.args.entries.now) placed.items c.in_ok-placed.ensures.placed k d within,
             placed.ok.0,
             placed.small,
           ));
@@ -46,12 +46,12 @@ overlapping-requires c =
     let placed = c.in_ok-placed.placed in
     record {
       columns = subst (All (λ (e : PlacedEntry). HasPlace e.entry)) (sym c.deref.ensures.value)
-          (entries_all HasPlace (map (shifted c.args.dropped) c.args.entries.now)
-          placed.items c.in_ok-placed.ensures.placed.same (shifted_places c.args.dropped c.args.entries.now c.requires.columns));
+          (entries_all HasPlace (map (shifted c.args.place.dropped) c.args.entries.now)
+          placed.items c.in_ok-placed.ensures.placed.same (shifted_places c.args.place.dropped c.args.entries.now c.requires.columns));
       looked = subst (All (λ (e : PlacedEntry). e.looked < 2 ^ 63)) (sym c.deref.ensures.value) (λ k d within.
           omega (
             arith,
-            looked_of_placed (map (shifted c.args.dropped) c.args.entries.now) placed.items c.in_ok-placed.ensures.placed k d within,
+            looked_of_placed (map (shifted c.args.place.dropped) c.args.entries.now) placed.items c.in_ok-placed.ensures.placed k d within,
             placed.ok.0,
             placed.small,
           ));
@@ -62,20 +62,20 @@ draw_under_marks-requires c =
     let placed = c.in_ok-placed.placed.items in
     let Q : LineAnnotation → Type 0 = λ e. length (label_text e) < 2 ^ 60 in
     record {
-      enough = subst (AreEnough c.args.layout c.args.row (length c.begin_rows.new.buffer)) (sym c.deref-3.ensures.value)
-          (enough_begun c.args.layout c.args.dropped c.args.entries.now c.args.buffer.now c.begin_rows.new.buffer _ _
+      enough = subst (AreEnough c.args.layout c.args.place.row (length c.begin_rows.new.buffer)) (sym c.deref-3.ensures.value)
+          (enough_begun c.args.layout c.args.place.dropped c.args.entries.now c.args.buffer.now c.begin_rows.new.buffer _ _
           c.requires.columns c.requires.bar_cells c.in_ok-placed.ensures.placed (c.row_count.ensures.value ∙ ap row_count c.deref-2.ensures.value)
           c.requires.last c.in_ok-begin_rows.ensures.added c.in_ok-begin_rows.ensures.small);
       labels = subst (All HasItsLabel) (sym c.deref-3.ensures.value) c.in_ok-placed.ensures.placed.labels;
       short = subst (All (λ (e : PlacedEntry). Q e.entry)) (sym c.deref-3.ensures.value)
-          (entries_all Q (map (shifted c.args.dropped) c.args.entries.now) placed c.in_ok-placed.ensures.placed.same
-          (labels_short c.args.dropped c.args.entries.now c.requires.labels));
+          (entries_all Q (map (shifted c.args.place.dropped) c.args.entries.now) placed c.in_ok-placed.ensures.placed.same
+          (labels_short c.args.place.dropped c.args.entries.now c.requires.labels));
     }
 
 pub draw_marks-requires-clause-columns : goal.draw_marks-requires-clause-columns
 draw_marks-requires-clause-columns c =
-    let places = entries_all HasPlace (map (shifted c.args.dropped) c.args.entries.now) c.in_ok-placed.placed.items
-    c.in_ok-placed.ensures.placed.same (shifted_places c.args.dropped c.args.entries.now c.requires.columns) in
+    let places = entries_all HasPlace (map (shifted c.args.place.dropped) c.args.entries.now) c.in_ok-placed.placed.items
+    c.in_ok-placed.ensures.placed.same (shifted_places c.args.place.dropped c.args.entries.now c.requires.columns) in
     λ k d within. (places k d within).near
 
 -- the entries stand in the order of painting, and no row is added or taken after those that are begun
@@ -84,7 +84,7 @@ cut_wide-requires c =
     let placed = c.in_ok-placed.placed.items in
     let begun = c.begin_rows.new.buffer in
     let under = c.draw_under_marks.new.buffer in
-    let enough = enough_begun c.args.layout c.args.dropped c.args.entries.now c.args.buffer.now begun _ _ c.requires.columns c.requires.bar_cells
+    let enough = enough_begun c.args.layout c.args.place.dropped c.args.entries.now c.args.buffer.now begun _ _ c.requires.columns c.requires.bar_cells
     c.in_ok-placed.ensures.placed (c.row_count.ensures.value ∙ ap row_count c.deref-2.ensures.value) c.requires.last
     c.in_ok-begin_rows.ensures.added c.in_ok-begin_rows.ensures.small in
     let drawn = enough_after begun under enough c.in_ok-draw_under_marks.ensures.count in
@@ -107,12 +107,13 @@ cut_wide-requires c =
 
 pub returns-then-is_empty : goal.returns-then-is_empty
 returns-then-is_empty c =
-    let es = map (shifted c.args.dropped) c.args.entries.now in
+    let es = map (shifted c.args.place.dropped) c.args.entries.now in
     let given : length c.args.entries.now ≡ 0 = grind arith in
-    let none : length es ≡ 0 = length-map c.args.entries.now (shifted c.args.dropped) ∙ given in
+    let none : length es ≡ 0 = length-map c.args.entries.now (shifted c.args.place.dropped) ∙ given in
     record {
       added = on_ok_weaker c.close_below.result (λ adds above plain old_is bare_bars.
-          strokes_none c.args.layout c.args.room c.args.closes es above plain c.args.buffer.now c.close_below.new.buffer c.close_below.ensures.place none
+          strokes_none c.args.layout c.args.place.room c.args.place.closes es above plain c.args.buffer.now
+          c.close_below.new.buffer c.close_below.ensures.place none
           old_is bare_bars adds) c.close_below.ensures.added;
       none = on_ok_weaker c.close_below.result (λ adds _. adds) c.close_below.ensures.added;
       painted = on_ok_weaker c.close_below.result (λ _ some above plain _. absurd (omega (arith, given, some))) c.close_below.ensures.added;
@@ -120,22 +121,22 @@ returns-then-is_empty c =
 
 pub returns : goal.returns
 returns c =
-    let es = map (shifted c.args.dropped) c.args.entries.now in
+    let es = map (shifted c.args.place.dropped) c.args.entries.now in
     let layout = c.args.layout in
-    let row = c.args.row in
+    let row = c.args.place.row in
     let placed = c.in_ok-placed.placed.items in
     let after = painting_order placed in
     let old = c.args.buffer.now in
     let sep = separator_row layout.decor layout.gutter in
-    let end = bare_row layout.decor layout.gutter c.args.closes in
+    let end = bare_row layout.decor layout.gutter c.args.place.closes in
     let given : 0 < length c.args.entries.now = grind arith in
-    let some : 0 < length es = omega (arith, given, length-map c.args.entries.now (shifted c.args.dropped)) in
+    let some : 0 < length es = omega (arith, given, length-map c.args.entries.now (shifted c.args.place.dropped)) in
     let count : c.row_count.result ≡ row_count placed = c.row_count.ensures.value ∙ ap row_count c.deref-2.ensures.value in
     let begun = c.begin_rows.new.buffer in
     let under = c.draw_under_marks.new.buffer in
     let new = c.draw_marks.new.buffer in
     let are = c.in_ok-placed.ensures.placed in
-    let enough = enough_begun layout c.args.dropped c.args.entries.now old begun _ _ c.requires.columns c.requires.bar_cells are count c.requires.last
+    let enough = enough_begun layout c.args.place.dropped c.args.entries.now old begun _ _ c.requires.columns c.requires.bar_cells are count c.requires.last
     c.in_ok-begin_rows.ensures.added c.in_ok-begin_rows.ensures.small in
     let rows : List (List Cell) = old ++ replicate (row_count placed - 1) sep ++ end ∷ [] in
     let begun_is : begun ≡ rows = c.in_ok-begin_rows.ensures.added ∙ ap (λ n. old ++ replicate (n - 1) sep ++ end ∷ []) count in
@@ -147,7 +148,7 @@ returns c =
     (c.in_ok-draw_marks.ensures.painted ∙ ap (λ xs. painted (marks_of layout (row + 1) xs) under) c.in_ok-draw_marks.ensures.order) in
     let flags = c.in_ok-overlapped.overlapped.items in
     let final = c.cut_wide.new.buffer in
-    let cut_to : List PlacedEntry → List Bool → List (List Cell) = λ ps fs. cut_rows layout.decor row (cuts_of layout c.args.room ps fs) new in
+    let cut_to : List PlacedEntry → List Bool → List (List Cell) = λ ps fs. cut_rows layout.decor row (cuts_of layout c.args.place.room ps fs) new in
     let final_is : final ≡ cut_to c.deref-4.result.now c.deref-5.result.now → final ≡ cut_to after flags = λ value.
     value ∙ ap (λ ps. cut_to ps c.deref-5.result.now) (c.deref-4.ensures.value ∙ c.in_ok-draw_marks.ensures.order)
     ∙ ap (cut_to after) c.deref-5.ensures.value in
@@ -156,22 +157,24 @@ returns c =
     record {
       added = on_ok_weaker c.cut_wide.result (λ value above plain old_is bare_bars.
           let source_row : row ≡ length above = last_row above plain old_is in
-          strokes_added_whole layout c.args.room c.args.closes es placed above plain begun new c.in_ok-begin_rows.ensures.place are
+          strokes_added_whole layout c.args.place.room c.args.place.closes es placed above plain begun new c.in_ok-begin_rows.ensures.place are
           (subst (λ n. AreEnough layout n (length begun) placed) source_row enough) bare_bars
           (begun_is ∙ ap (λ top. top ++ replicate (row_count placed - 1) sep ++ end ∷ []) old_is)
           (new_is ∙ ap (λ n. painted (line_strokes layout n (length begun) placed after) begun) source_row) final flags some
-          (final_is value ∙ ap (λ n. cut_rows layout.decor n (cuts_of layout c.args.room after flags) new) source_row)) c.cut_wide.ensures.value;
+          (final_is value ∙ ap (λ n. cut_rows layout.decor n (cuts_of layout c.args.place.room after flags) new) source_row)) c.cut_wide.ensures.value;
       none = on_ok_weaker c.cut_wide.result (λ _ none. absurd (omega (arith, given, none))) c.cut_wide.ensures.value;
       painted = on_ok_weaker c.cut_wide.result (λ value _ above plain old_is.
           let all_rows : length new ≡ all =
           count_marks under new (enough_after begun under enough c.in_ok-draw_under_marks.ensures.count) c.draw_marks.new.placed.items
           c.in_ok-draw_marks.ensures.painted
           ∙ c.in_ok-draw_under_marks.ensures.count ∙ long in
-          let is_wide : PlacedEntry → Bool = is_wide_at c.args.room layout.decor in
+          let is_wide : PlacedEntry → Bool = is_wide_at c.args.place.room layout.decor in
           let flags_are : list_any is_wide placed ≡ true → flags ≡ overlapped placed =
-          λ some_wide. c.in_ok-overlapped.ensures.value (ap (λ (l : Layout). list_any (is_wide_at c.args.room l.decor) c.deref.result.now) c.layout.view_is
+          λ some_wide. c.in_ok-overlapped.ensures.value (ap (λ (l : Layout).
+          list_any (is_wide_at c.args.place.room l.decor) c.deref.result.now) c.layout.view_is
           ∙ ap (list_any is_wide) c.deref.ensures.value ∙ some_wide) ∙ ap overlapped c.deref.ensures.value in
-          painted_added layout c.args.room c.args.closes es placed flags above plain old new final row are old_is (last_row above plain old_is) all_rows
+          painted_added layout c.args.place.room c.args.place.closes es placed flags above plain old new final row are old_is
+          (last_row above plain old_is) all_rows
           (new_is ∙ ap (λ n. painted (line_strokes layout row n placed after) begun) long ∙ ap (painted (line_strokes layout row all placed after)) begun_is)
           flags_are (final_is value)) c.cut_wide.ensures.value;
     }

@@ -18,7 +18,7 @@ returns-clause-cells c = λ shown.
     elim c.if-not-left_out.branch [
       | then-not-left_out+in_ok-draw_line w ↦
           on_ok_weaker c.paint_last.result (λ painted. painted ∙ ap (λ (row : List Cell). a.buffer.now ++ row ∷ [])
-          (diff_offered a.layout.now a.first a.line.now a.added.now))
+          (diff_offered a.layout.now a.diff.now.first a.diff.now.line.now a.diff.now.added.now))
           (c.paint_last.ensures.cells a.buffer.now _ (w.buffer-is ∙ w.in_ok-draw_line.ensures.cells))
       | else-not-left_out w ↦ absurd (cc)
     ]

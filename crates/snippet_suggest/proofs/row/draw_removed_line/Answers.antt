@@ -28,10 +28,10 @@ returns c =
     let gutter : c.base.inside.gutter ≡ g = ap (λ (l : Layout). l.gutter) c.base.view_is in
     let number = c.as_str.result.now in
     let text = c.as_str-2.result.now in
-    let is_number : chars number ≡ shown_number a.layout.now.numbers g a.number = ap chars (c.as_str.ensures.value ∙ c.in_ok-number.ensures.text)
-    ∙ chars-shown_number a.layout.now.numbers c.base.inside.gutter a.number (omega arith)
-    ∙ ap (λ (l : Layout). shown_number a.layout.now.numbers l.gutter a.number) c.base.view_is in
-    let is_text : chars text ≡ norm (chars a.line.now) = ap chars c.as_str-2.ensures.value ∙ c.in_ok-text.ensures.value in
+    let is_number : chars number ≡ shown_number a.layout.now.numbers g a.line.number = ap chars (c.as_str.ensures.value ∙ c.in_ok-number.ensures.text)
+    ∙ chars-shown_number a.layout.now.numbers c.base.inside.gutter a.line.number (omega arith)
+    ∙ ap (λ (l : Layout). shown_number a.layout.now.numbers l.gutter a.line.number) c.base.view_is in
+    let is_text : chars text ≡ norm (chars a.line.text.now) = ap chars c.as_str-2.ensures.value ∙ c.in_ok-text.ensures.value in
     let sign = c.removed_sign.result.now in
     let is_sign : chars sign ≡ removed_sign_of a.layout.now.base.decor = c.removed_sign.ensures.value
     ∙ ap (λ (l : Layout). removed_sign_of l.decor) c.base-2.view_is in
@@ -40,7 +40,7 @@ returns c =
     let lined = λ (some : 0 < length c.as_str-2.result.now). c.in_ok-puts-3.ensures.ok some
     ∙ ap (λ n. cells_written c.puts-2.new.self a.row n (text_cells a.role (chars text))) c.inner_cell.ensures.value in
     record {
-      cells = λ above tail here is few. removed_drawn a.layout.now a.role a.number a.line.now sign number text a.row above tail a.buffer.now
+      cells = λ above tail here is few. removed_drawn a.layout.now a.role a.line.number a.line.text.now sign number text a.row above tail a.buffer.now
           c.puts.new.self c.puts-2.new.self c.puts-3.new.self here is few is_sign is_number is_text
           c.as_str.utf8 c.as_str-2.utf8 c.in_ok-puts.ensures.ok c.puts.ensures.empty signed lined c.puts-3.ensures.empty;
     }

@@ -9,16 +9,17 @@ use Rattle.annotate_snippets.proofs.renderer.elements.draw_elements.Goals as goa
 
 pub loop-i-init : goal.loop-i-init
 loop-i-init c =
-    drawn_none c.args.renderer.now c.args.layout c.args.position (option_copied c.args.file) (map element_of c.args.elements.items) c.args.buffer.now
+    drawn_none c.args.renderer.now c.args.group.now.layout c.args.group.now.place (option_copied c.args.group.now.file)
+    (map element_of c.args.elements.items) c.args.buffer.now
 
 pub draw_element-requires-clause-around : goal.draw_element-requires-clause-around
 draw_element-requires-clause-around c =
     let turn = YieldsList-turn (YieldsList-from_enumerate (YieldsList-from_vec c.args.elements.items (cc) (cc))
     (cc)) c.loop-i.yielded c.loop-i.i-iterator c.loop-i.yielded_by c.next.result c.next.new.self
     (c.in-Some.i, c.in-Some.element) c.in-Some.is c.next.ensures.steps in
-    turn_stands c.args.position (option_copied c.args.file) c.args.elements.items c.in_ok-around.around.items (length c.loop-i.yielded)
+    turn_stands c.args.group.now.place (option_copied c.args.group.now.file) c.args.elements.items c.in_ok-around.around.items (length c.loop-i.yielded)
     c.in-Some.i c.in-Some.element c.index.result.now
-    (subst (λ xs. AreAround c.args.position (option_copied c.args.file) (map element_of xs) c.in_ok-around.around.items)
+    (subst (λ xs. AreAround c.args.group.now.place (option_copied c.args.group.now.file) (map element_of xs) c.in_ok-around.around.items)
     c.deref.ensures.value c.in_ok-around.ensures.value) turn c.index.ensures
 
 pub loop-i-preserved : goal.loop-i-preserved
@@ -26,10 +27,10 @@ loop-i-preserved c =
     let turn = YieldsList-turn (YieldsList-from_enumerate (YieldsList-from_vec c.args.elements.items (cc) (cc))
     (cc)) c.loop-i.yielded c.loop-i.i-iterator c.loop-i.yielded_by c.next.result c.next.new.self
     (c.in-Some.i, c.in-Some.element) c.in-Some.is c.next.ensures.steps in
-    turn_drawn c.args.renderer.now c.args.layout c.args.position (option_copied c.args.file)
+    turn_drawn c.args.renderer.now c.args.group.now.layout c.args.group.now.place (option_copied c.args.group.now.file)
     c.args.elements.items c.in_ok-around.around.items (length c.loop-i.yielded)
     _ c.in-Some.i c.in-Some.element c.index.result.now c.args.buffer.now c.loop-i.buffer c.draw_element.new.buffer
-    (subst (λ xs. AreAround c.args.position (option_copied c.args.file) (map element_of xs) c.in_ok-around.around.items)
+    (subst (λ xs. AreAround c.args.group.now.place (option_copied c.args.group.now.file) (map element_of xs) c.in_ok-around.around.items)
     c.deref.ensures.value c.in_ok-around.ensures.value) turn c.index.ensures (length_push c.loop-i.yielded (c.in-Some.i, c.in-Some.element))
     c.loop-i.invariant c.in_ok-draw_element.ensures.added
 
@@ -38,6 +39,6 @@ returns c =
     let end = YieldsList-end (YieldsList-from_enumerate (YieldsList-from_vec c.args.elements.items (cc) (cc))
     (cc)) c.loop-i.yielded c.loop-i.i-iterator c.loop-i.yielded_by c.next.result c.next.new.self c.in-None.is c.next.ensures.steps in
     record {
-      added = turns_all c.args.renderer.now c.args.layout c.args.position (option_copied c.args.file) c.args.elements.items
+      added = turns_all c.args.renderer.now c.args.group.now.layout c.args.group.now.place (option_copied c.args.group.now.file) c.args.elements.items
           (length c.loop-i.yielded) c.args.buffer.now c.loop-i.buffer end.1 c.loop-i.invariant;
     }

@@ -6,4 +6,5 @@ use Rattle.annotate_snippets.proofs.renderer.elements.draw_elements.Given as goa
 
 abbrev pub invariant-loop-i : goal.invariant-loop-i
 invariant-loop-i l =
-    DrawnSoFar l.fn.renderer l.fn.layout l.fn.position (option_copied l.fn.file) (map element_of l.fn.elements.items) (length l.yielded) l.fn.buffer l.buffer
+    DrawnSoFar l.fn.renderer l.fn.group.layout l.fn.group.place (option_copied l.fn.group.file)
+    (map element_of l.fn.elements.items) (length l.yielded) l.fn.buffer l.buffer
