@@ -1,27 +1,30 @@
--- How the text of a form grows, part by part.
-use Rattle.std.proofs.Common.{◌≡◌, ℕ, zero, suc, ◌+◌, ◌<◌, ◌≤◌, ◌/◌, ◌%◌, ◌==◌, ◌||◌, not, Bool, true, false, List, [], ◌∷◌, ◌++◌, Option, Result, Ok, Err}
-use Rattle.std.proofs.Common.{if◌then◌else◌, All, chars, length, replicate, take, get_or, refl, sym, ap, ◌∙◌, subst, arith, encode_utf8, encode_utf8_all}
-use Rattle.std.specs.Fmt.{decimal, digits, digits_onto, digit_glyph}
+-- How the text of a form grows, piece by piece.
+use Rattle.std.proofs.Common.{◌≡◌, ℕ, ◌-◌, ◌<◌, ◌≤◌, ◌==◌, ◌||◌, nat_lt, not, Bool, true, false, List, [], ◌∷◌, ◌++◌, Option, Result, Ok, Err}
+use Rattle.std.proofs.Common.{if◌then◌else◌, chars, length, replicate, take, drop, refl, sym, ap, ◌∙◌, arith, encode_utf8, encode_utf8_all}
+use Rattle.std.specs.Fmt.{decimal}
 use Rattle.std.specs.List.{flat_map}
 use Rattle.std.specs.Result.{OnOk, is_ok}
 use Rattle.std.specs.Str.{IsUtf8}
-use Rattle.std.proofs.lemmas.Bool.{lt-ltb}
 use Rattle.std.proofs.lemmas.Bool.Decides.{nat_tests}
 use Rattle.std.proofs.lemmas.Grind.{flat_map-append}
-use Rattle.std.proofs.lemmas.List.{append-nil, append_assoc, take_all, take_more}
+use Rattle.std.proofs.lemmas.List.{append-nil, append_assoc}
 use Rattle.std.proofs.lemmas.List.Elements.{All-weaker, All-replicate}
-use Rattle.std.proofs.lemmas.Str.{encodes-chars, encodes-IsAscii, length-le-encodes}
+use Rattle.std.proofs.lemmas.Str.{chars-IsAscii, chars-nil, encodes-chars, length-le-encodes}
 use Rattle.std.proofs.lemmas.Str.Ascii.{IsAscii-from_all}
 use Rattle.snippet_style.specs.Codes.{opening, reset}
 use Rattle.snippet_grid.specs.Woven as woven
 use Rattle.snippet_grid.specs.Woven.{Piece, Reset, piece_text}
+use Rattle.snippet_grid.proofs.StretchLemmas.{stretch, length-stretch_of, IsUtf8-stretch}
 use Rattle.snippet_style.specs.declared.style.Style.{Style}
 use Rattle.snippet_style.specs.declared.stylesheet.Stylesheet.{Stylesheet}
 use Rattle.snippet_titles.proofs.DigitLemmas.{IsDigit, decimal-all}
-use Rattle.snippet_text_form.specs.Form.{FormPiece, Char, Break, Styled, bare, begun_after, pieces_of_part, plain_from, form_bytes, link_codes_before}
-use Rattle.snippet_text_form.specs.Form.{link_codes_after, in_style, role_style, woven_from}
-use Rattle.snippet_text_form.specs.declared.form.TextPart.{TextPart}
+use Rattle.snippet_text_form.specs.Form.{FormPiece, Char, Break, Styled, bare, begun_after, piece_of_kind, pieces_from, plain_from, form_bytes}
+use Rattle.snippet_text_form.specs.Form.{link_codes_before, link_codes_after, in_style, role_style, woven_from, IsPlace, IsMark, AreMarks}
+use Rattle.snippet_text_form.specs.declared.form.Mark.{Mark}
+use Rattle.snippet_text_form.specs.declared.form.MarkKind.{MarkKind}
+use Rattle.snippet_text_form.specs.declared.form.MarkKind.TheVariants as kinds
 use Rattle.snippet_text_form.proofs.FormLaws.{woven_chars, in_style-pieces}
+use Rattle.snippet_text_form.proofs.MarkLemmas.{first_place, IsPlace-end}
 
 -- ---- texts without codes
 
@@ -46,20 +49,16 @@ pub pushed-on_ok : {T E : Type 0} (r : Result T E) (old new kept added bytes : L
 pushed-on_ok (Ok value) old new kept added bytes is same = is ∙ ap (λ (bs : List ℕ). old ++ bs) same
 pushed-on_ok (Err error) old new kept added bytes is same = tt
 
--- characters below 128 are their own bytes
-woven-ascii : (sheet : Stylesheet) (begun : Bool) (cs : List ℕ) → All (λ c. c < 128) cs → cs ≡ flat_map piece_text (woven_from sheet begun (bare cs))
-woven-ascii sheet begun cs ascii =
-    sym (encodes-IsAscii cs (IsAscii-from_all cs ascii)) ∙ sym (woven-bare sheet begun cs)
+-- the characters of a number's digits are the digits
+pub chars-number : (n : ℕ) → chars (decimal n) ≡ decimal n
+chars-number n =
+    chars-IsAscii (decimal n) (IsAscii-from_all (decimal n)
+    (All-weaker IsDigit (λ c. c < 128) (λ c is. omega (arith, is.1)) (decimal n) (decimal-all n)))
 
--- the digits of a number are woven as they are
-pub woven-number : (sheet : Stylesheet) (begun : Bool) (n : ℕ) → decimal n ≡ flat_map piece_text (woven_from sheet begun (bare (decimal n)))
-woven-number sheet begun n =
-    woven-ascii sheet begun (decimal n) (All-weaker IsDigit (λ c. c < 128) (λ c is. omega (arith, is.1)) (decimal n) (decimal-all n))
-
--- spaces are woven as they are
-pub woven-spaces : (sheet : Stylesheet) (begun : Bool) (n : ℕ) → replicate n 32 ≡ flat_map piece_text (woven_from sheet begun (bare (replicate n 32)))
-woven-spaces sheet begun n =
-    woven-ascii sheet begun (replicate n 32) (All-replicate (λ c. c < 128) n 32 (omega arith))
+-- the characters of spaces are the spaces
+pub chars-spaces : (n : ℕ) → chars (replicate n 32) ≡ replicate n 32
+chars-spaces n =
+    chars-IsAscii (replicate n 32) (IsAscii-from_all (replicate n 32) (All-replicate (λ c. c < 128) n 32 (omega arith)))
 
 -- ---- styled texts
 
@@ -166,78 +165,113 @@ pub begun-chars : (empty : Bool) (bytes text : List ℕ) → IsUtf8 bytes → by
 begun-chars empty bytes text utf8 same is =
     ap not is ∙ some-chars (chars bytes) bytes (encodes-chars bytes utf8) ∙ ap (λ (bs : List ℕ). begun_after false (chars bs)) same
 
--- a text that is added has begun a line where it isn't empty
-pub begun-text : (empty : Bool) (bytes text : List ℕ) → IsUtf8 bytes → bytes ≡ text → empty ≡ (length bytes == 0)
-    → not empty ≡ begun_after false (plain_from false (bare (chars text)))
-begun-text empty bytes text utf8 same is =
-    begun-chars empty bytes text utf8 same is ∙ ap (begun_after false) (sym (plain-bare false (chars text)))
+-- ---- the pieces so far
 
--- a styled text has begun a line where it isn't empty
-pub begun-styled : (empty : Bool) (bytes text : List ℕ) → IsUtf8 bytes → bytes ≡ text → empty ≡ (length bytes == 0)
-    → not empty ≡ begun_after false (chars text ++ [])
-begun-styled empty bytes text utf8 same is =
-    begun-chars empty bytes text utf8 same is ∙ ap (begun_after false) (sym (append-nil (chars text)))
-
--- a number has a digit
-digits-step : (k n : ℕ) (others : List ℕ) (done : Bool) → (n / 10 == 0) ≡ done
-    → 0 < length (digits_onto k 10 false (n / 10) (digit_glyph false (n % 10) ∷ others)) → 0 < length (digits_onto (suc k) 10 false n others)
-digits-step k n others true is more = rw is (omega arith)
-digits-step k n others false is more = rw is more
-
-digits-some : (k n : ℕ) (others : List ℕ) → 0 < length others → 0 < length (digits_onto k 10 false n others)
-digits-some zero n others some = some
-digits-some (suc k) n others some =
-    digits-step k n others (n / 10 == 0) refl (digits-some k (n / 10) (digit_glyph false (n % 10) ∷ others) (omega arith))
-
-decimal-some : (n : ℕ) → 0 < length (decimal n)
-unfolding digits
-decimal-some n =
-    digits-step 63 n [] (n / 10 == 0) refl (digits-some 63 (n / 10) (digit_glyph false (n % 10) ∷ []) (omega arith))
-
--- a number has begun a line
-pub begun-number : (n : ℕ) → true ≡ begun_after false (plain_from false (bare (decimal n)))
-begun-number n =
-    sym (lt-ltb 0 (length (decimal n)) (decimal-some n)) ∙ ap (begun_after false) (sym (plain-bare false (decimal n)))
-
--- ---- the parts so far
-
--- this text is that of these parts, and text stands after them or not
-pub record IsRendered (sheet : Stylesheet) (parts : List TextPart) (text : List ℕ) (begun : Bool) : Type 0 where
-  pub text_is : text ≡ form_bytes sheet (flat_map pieces_of_part parts)
-  pub begun_is : begun ≡ begun_past false (flat_map pieces_of_part parts)
+-- this text is that of these pieces, and text stands after them or not
+pub record IsRendered (sheet : Stylesheet) (front : List FormPiece) (text : List ℕ) (begun : Bool) : Type 0 where
+  pub text_is : text ≡ form_bytes sheet front
+  pub begun_is : begun ≡ begun_past false front
 
 -- an empty text renders no pieces
 pub IsRendered-none : (sheet : Stylesheet) (text : List ℕ) → text ≡ [] → IsRendered sheet [] text false
 IsRendered-none sheet text none = record { text_is = none; begun_is = refl }
 
-rendered-push : (sheet : Stylesheet) (parts : List TextPart) (part : TextPart) (old new : List ℕ) (begun after : Bool)
-    → IsRendered sheet parts old begun → new ≡ old ++ flat_map piece_text (woven_from sheet begun (pieces_of_part part))
-    → after ≡ (begun || begun_after false (plain_from false (pieces_of_part part))) → IsRendered sheet (parts ++ part ∷ []) new after
-rendered-push sheet parts part old new begun after rendered added is =
-    let front : List FormPiece = flat_map pieces_of_part parts in
-    let own : List FormPiece = pieces_of_part part in
-    let split : flat_map pieces_of_part (parts ++ part ∷ []) ≡ front ++ own = flat_map-append pieces_of_part parts (part ∷ [])
-    ∙ ap (λ (ps : List FormPiece). front ++ ps) (append-nil own) in
+-- some pieces more
+pub IsRendered-more : (sheet : Stylesheet) (front own : List FormPiece) (old new : List ℕ) (begun after : Bool)
+    → IsRendered sheet front old begun → new ≡ old ++ flat_map piece_text (woven_from sheet begun own) → after ≡ begun_past begun own
+    → IsRendered sheet (front ++ own) new after
+IsRendered-more sheet front own old new begun after rendered added is =
     record {
       text_is = added ∙ ap (λ (bs : List ℕ). bs ++ flat_map piece_text (woven_from sheet begun own)) rendered.text_is
           ∙ ap (λ (b : Bool). form_bytes sheet front ++ flat_map piece_text (woven_from sheet b own)) rendered.begun_is
           ∙ sym (flat_map-append piece_text (woven_from sheet false front) (woven_from sheet (begun_past false front) own))
-          ∙ ap (flat_map piece_text) (sym (woven-append sheet false front own)) ∙ ap (form_bytes sheet) (sym split);
-      begun_is = is ∙ sym (begun_past-is begun own) ∙ ap (λ (b : Bool). begun_past b own) rendered.begun_is ∙ sym (begun_past-append false front own)
-          ∙ ap (begun_past false) (sym split);
+          ∙ ap (flat_map piece_text) (sym (woven-append sheet false front own));
+      begun_is = is ∙ ap (λ (b : Bool). begun_past b own) rendered.begun_is ∙ sym (begun_past-append false front own);
     }
 
--- one part more of a list
-pub IsRendered-more : (sheet : Stylesheet) (parts : List TextPart) (i : ℕ) (part : TextPart) (old new : List ℕ) (begun after : Bool)
-    → i < length parts → part ≡ get_or parts i part → IsRendered sheet (take i parts) old begun
-    → new ≡ old ++ flat_map piece_text (woven_from sheet begun (pieces_of_part part))
-    → after ≡ (begun || begun_after false (plain_from false (pieces_of_part part))) → IsRendered sheet (take (i + 1) parts) new after
-IsRendered-more sheet parts i part old new begun after within read rendered added is =
-    let more : take (i + 1) parts ≡ take i parts ++ part ∷ [] = take_more parts i part within ∙ ap (λ (p : TextPart). take i parts ++ p ∷ []) (sym read) in
-    subst (λ (ps : List TextPart). IsRendered sheet ps new after) (sym more) (rendered-push sheet (take i parts) part old new begun after rendered added is)
+-- whether text stands after a text without codes, given whether it stands before
+begun_past-bare : (begun : Bool) (cs : List ℕ) → begun_past begun (bare cs) ≡ begun_after begun cs
+begun_past-bare true [] = refl
+begun_past-bare false [] = refl
+begun_past-bare true (c ∷ cs) = begun_past-true (bare cs)
+begun_past-bare false (c ∷ cs) = begun_past-true (bare cs) ∙ begun_by_one c cs
 
--- all parts
-pub IsRendered-all : (sheet : Stylesheet) (parts : List TextPart) (i : ℕ) (text : List ℕ) (begun : Bool) (form : List FormPiece) → length parts ≤ i
-    → flat_map pieces_of_part parts ≡ form → IsRendered sheet (take i parts) text begun → text ≡ form_bytes sheet form
-IsRendered-all sheet parts i text begun form past is rendered =
-    rendered.text_is ∙ ap (λ (ps : List TextPart). form_bytes sheet (flat_map pieces_of_part ps)) (take_all i parts past) ∙ ap (form_bytes sheet) is
+begun_sum : (from to : ℕ) → from ≤ to → nat_lt 0 to ≡ (nat_lt 0 from || not (to - from == 0))
+begun_sum from to ordered = grind (arith, nat_tests, ordered)
+
+-- whether text stands before a place of a text, given whether it stands before an earlier one
+begun_between : (text : List ℕ) (from to : ℕ) → IsUtf8 (stretch text from to) → from ≤ to → to ≤ length text
+    → nat_lt 0 to ≡ begun_after (nat_lt 0 from) (chars (stretch text from to))
+begun_between text from to utf8 ordered within =
+    let some : not (to - from == 0) ≡ begun_after false (chars (stretch text from to)) =
+    ap (λ n. not (n == 0)) (sym (length-stretch_of text from to within)) ∙ some-chars (chars (stretch text from to)) (stretch text from to)
+    (encodes-chars (stretch text from to) utf8) in
+    begun_sum from to ordered ∙ ap (λ (b : Bool). nat_lt 0 from || b) some
+
+-- the piece of a mark that is empty where it is a break
+begun_past-mark : (begun : Bool) (kind : MarkKind) (cs : List ℕ) → (kind ≡ kinds.Break → cs ≡ [])
+    → begun_past begun (piece_of_kind cs kind ∷ []) ≡ begun_after begun cs
+begun_past-mark true kinds.Break cs empty = refl
+begun_past-mark false kinds.Break cs empty = ap (begun_after false) (sym (empty refl))
+begun_past-mark begun (kinds.Styled look) cs empty = refl
+
+-- a text is rendered up to a place, after which these marks stand
+pub record IsRenderedTo (sheet : Stylesheet) (form : List FormPiece) (text : List ℕ) (marks : List Mark) (from : ℕ) (out : List ℕ) : Type 0 where
+  pub front : List FormPiece
+  pub rendered : IsRendered sheet front out (nat_lt 0 from)
+  pub form_is : form ≡ front ++ pieces_from text from marks
+  pub marks_are : AreMarks text from marks
+
+-- nothing is rendered at first
+pub IsRenderedTo-none : (sheet : Stylesheet) (form : List FormPiece) (text : List ℕ) (marks : List Mark) (out : List ℕ) → out ≡ []
+    → form ≡ pieces_from text 0 marks → AreMarks text 0 marks → IsRenderedTo sheet form text marks 0 out
+IsRenderedTo-none sheet form text marks out none is are =
+    record { front = []; rendered = IsRendered-none sheet out none; form_is = is; marks_are = are }
+
+-- what stands between two places of a text, without codes
+rendered-bare : (sheet : Stylesheet) (front : List FormPiece) (text : List ℕ) (from to : ℕ) (old new : List ℕ) → IsUtf8 text → IsPlace text from
+    → IsPlace text to → from ≤ to → IsRendered sheet front old (nat_lt 0 from) → new ≡ old ++ stretch text from to
+    → IsRendered sheet (front ++ bare (chars (stretch text from to))) new (nat_lt 0 to)
+rendered-bare sheet front text from to old new utf8 start end ordered rendered added =
+    let own : IsUtf8 (stretch text from to) = IsUtf8-stretch text from to utf8 ordered end.within start.whole end.whole in
+    let cs : List ℕ = chars (stretch text from to) in
+    IsRendered-more sheet front (bare cs) old new (nat_lt 0 from) (nat_lt 0 to) rendered
+    (added ∙ ap (λ (bs : List ℕ). old ++ bs) (woven-text sheet (nat_lt 0 from) (stretch text from to) own))
+    (begun_between text from to own ordered end.within ∙ sym (begun_past-bare (nat_lt 0 from) cs))
+
+-- nothing stands between a place and itself
+none_between : (text : List ℕ) (from to : ℕ) → to ≡ from → chars (stretch text from to) ≡ []
+none_between text from to same =
+    let nothing : to - from ≡ 0 = omega (arith, same) in
+    ap (λ n. chars (take n (drop from text))) nothing ∙ chars-nil
+
+-- a mark more, and what stands before it
+pub IsRenderedTo-mark : (sheet : Stylesheet) (form : List FormPiece) (text : List ℕ) (m : Mark) (ms : List Mark) (from : ℕ) (out mid new : List ℕ)
+    → IsUtf8 text → IsRenderedTo sheet form text (m ∷ ms) from out → mid ≡ out ++ stretch text from m.start
+    → new ≡ mid ++ flat_map piece_text (woven_from sheet (nat_lt 0 m.start) (piece_of_kind (chars (stretch text m.start m.end)) m.kind ∷ []))
+    → IsRenderedTo sheet form text ms m.end new
+IsRenderedTo-mark sheet form text m ms from out mid new utf8 before first second =
+    let is : IsMark text from m = before.marks_are.0 in
+    let end : IsPlace text m.end = first_place text m.end ms before.marks_are.1 in
+    let own : IsUtf8 (stretch text m.start m.end) = IsUtf8-stretch text m.start m.end utf8 is.ordered end.within is.start_is.whole end.whole in
+    let cs : List ℕ = chars (stretch text m.start m.end) in
+    let plain : List FormPiece = bare (chars (stretch text from m.start)) in
+    let bare_is = rendered-bare sheet before.front text from m.start out mid utf8 is.from_is is.start_is is.after before.rendered first in
+    let empty : m.kind ≡ kinds.Break → cs ≡ [] = λ is_break.
+    none_between text m.start m.end (is.empty is_break) in
+    record {
+      front = (before.front ++ plain) ++ piece_of_kind cs m.kind ∷ [];
+      rendered = IsRendered-more sheet (before.front ++ plain) (piece_of_kind cs m.kind ∷ []) mid new (nat_lt 0 m.start) (nat_lt 0 m.end) bare_is second
+          (begun_between text m.start m.end own is.ordered end.within ∙ sym (begun_past-mark (nat_lt 0 m.start) m.kind cs empty));
+      form_is = before.form_is ∙ sym (append_assoc before.front plain (piece_of_kind cs m.kind ∷ pieces_from text m.end ms))
+          ∙ sym (append_assoc (before.front ++ plain) (piece_of_kind cs m.kind ∷ []) (pieces_from text m.end ms));
+      marks_are = before.marks_are.1;
+    }
+
+-- all of it, once no mark is left
+pub IsRenderedTo-all : (sheet : Stylesheet) (form : List FormPiece) (text : List ℕ) (from : ℕ) (out new : List ℕ) → IsUtf8 text
+    → IsRenderedTo sheet form text [] from out → new ≡ out ++ stretch text from (length text) → new ≡ form_bytes sheet form
+IsRenderedTo-all sheet form text from out new utf8 before last =
+    let all = rendered-bare sheet before.front text from (length text) out new utf8 before.marks_are (IsPlace-end text utf8)
+    before.marks_are.within before.rendered last in
+    all.text_is ∙ ap (form_bytes sheet) (sym before.form_is)

@@ -6,6 +6,7 @@ pub mod FormSteps
 pub mod FreeLaws
 pub mod LabelForm
 pub mod LinkLaws
+pub mod MarkLemmas
 pub mod OrderLaws
 pub mod SplitForm
 pub mod SuggestionLemmas

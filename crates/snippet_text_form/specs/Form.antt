@@ -1,17 +1,18 @@
 -- The text form before any sheet, and what is woven of it under a sheet.
-use Rattle.std.specs.Prelude.{ℕ, nat_lt, Bool, true, false, ◌||◌, List, [], ◌∷◌, ◌++◌, Option, None, Some, chars, length, map, replicate, if◌then◌else◌}
-use Rattle.std.specs.Cow.{cow_str_bytes}
-use Rattle.std.specs.Fmt.{decimal}
+use Rattle.std.specs.Prelude.{◌≡◌, ℕ, ◌≤◌, ◌-◌, nat_lt, Bool, true, false, ◌||◌, List, [], ◌∷◌, ◌++◌, Option, None, Some, chars, length, map, take, drop}
+use Rattle.std.specs.Prelude.{if◌then◌else◌}
 use Rattle.std.specs.List.{flat_map}
 use Rattle.std.specs.Option.{option_copied, option_to_list}
+use Rattle.std.specs.Str.{is_utf8}
 use Rattle.snippet_style.specs.Stylesheet.{style_of}
 use Rattle.snippet_grid.specs.Woven as woven
 use Rattle.snippet_style.specs.declared.role.ElementStyle.{ElementStyle}
 use Rattle.snippet_style.specs.declared.role.LevelInner.TheVariants.{Note}
 use Rattle.snippet_style.specs.declared.style.Style.{Style}
 use Rattle.snippet_style.specs.declared.stylesheet.Stylesheet.{Stylesheet}
-use Rattle.snippet_text_form.specs.declared.form.TextPart.{TextPart}
-use Rattle.snippet_text_form.specs.declared.form.TextPart.TheVariants as part
+use Rattle.snippet_text_form.specs.declared.form.Mark.{Mark}
+use Rattle.snippet_text_form.specs.declared.form.MarkKind.{MarkKind}
+use Rattle.snippet_text_form.specs.declared.form.MarkKind.TheVariants as kinds
 
 -- one piece of the text form: a character; a line feed, which is left out where no text stands before it; or a text in the
 -- style of a role, which may link to an address
@@ -28,14 +29,38 @@ bare text = map (λ ch. Char ch) text
 abbrev pub styled : ElementStyle → List ℕ → List FormPiece
 styled role text = Styled role None text ∷ []
 
--- the pieces of a part
-abbrev pub pieces_of_part : TextPart → List FormPiece
-pieces_of_part part.Break = Break ∷ []
-pieces_of_part (part.Text text) = bare (chars (cow_str_bytes text))
-pieces_of_part (part.Number number) = bare (decimal number)
-pieces_of_part (part.Spaces count) = bare (replicate count 32)
-pieces_of_part (part.Styled text) =
-    Styled text.role (option_copied text.link) (chars (cow_str_bytes text.text)) ∷ []
+-- the piece of a mark of this kind, with these characters
+abbrev pub piece_of_kind : List ℕ → MarkKind → FormPiece
+piece_of_kind text kinds.Break = Break
+piece_of_kind text (kinds.Styled look) = Styled look.role (option_copied look.link) text
+
+-- the characters between two places of a text
+abbrev pub chars_between : List ℕ → ℕ → ℕ → List ℕ
+chars_between text from to = chars (take (to - from) (drop from text))
+
+-- the pieces of a text from a place on, with these marks in it: what stands between them has no codes
+abbrev pub pieces_from : List ℕ → ℕ → List Mark → List FormPiece
+pieces_from text from [] = bare (chars_between text from (length text))
+pieces_from text from (mark ∷ marks) =
+    bare (chars_between text from mark.start) ++ piece_of_kind (chars_between text mark.start mark.end) mark.kind ∷ pieces_from text mark.end marks
+
+-- a place after whole characters of a text
+pub record IsPlace (text : List ℕ) (at : ℕ) : Type 0 where
+  pub within : at ≤ length text
+  pub whole : is_utf8 (take at text) ≡ true
+
+-- a mark stands after a place of a text, and a break has no characters
+pub record IsMark (text : List ℕ) (from : ℕ) (mark : Mark) : Type 0 where
+  pub from_is : IsPlace text from
+  pub start_is : IsPlace text mark.start
+  pub after : from ≤ mark.start
+  pub ordered : mark.start ≤ mark.end
+  pub empty : mark.kind ≡ kinds.Break → mark.end ≡ mark.start
+
+-- these marks stand in a text from a place on, one after another
+abbrev pub AreMarks : List ℕ → ℕ → List Mark → Type 0
+AreMarks text from [] = IsPlace text from
+AreMarks text from (mark ∷ marks) = IsMark text from mark × AreMarks text mark.end marks
 
 -- whether text stands before what is after this one, given whether it stands before it
 abbrev pub begun_after : Bool → List ℕ → Bool

@@ -4,15 +4,17 @@
 //! error E0308: mismatched types      the name, the id, `: ` and the text, each in its own style
 //!  at src/main.rs:3:5: here          text without codes, after a break
 //! ```
-ghost use Rattle.std.specs.Prelude.{◌≡◌, ◌||◌, false, [], ◌∷◌, ◌++◌, chars, replicate, IfOk, OnOk, string_bytes};
+ghost use Rattle.std.specs.Prelude.{◌≡◌, [], ◌∷◌, ◌++◌, chars, replicate, IfOk, OnOk, string_bytes};
 ghost use Rattle.std.specs.Cow.{cow_str_bytes};
 ghost use Rattle.std.specs.Fmt.{decimal};
 ghost use Rattle.std.specs.List.{flat_map};
 ghost use Rattle.std.specs.Option.{option_copied};
+ghost use Rattle.snippet_grid.specs.Runs.{BeginsWith};
 ghost use Rattle.snippet_grid.specs.Woven.{IsWoven, piece_text};
-ghost use Rattle.snippet_text_form.specs.Form.{Break, Styled, bare, begun_after, form_bytes, form_links, form_text};
-ghost use Rattle.snippet_text_form.specs.Form.{in_style, link_codes_before, link_codes_after, pieces_of_part};
-ghost use Rattle.snippet_text_form.specs.Form.{plain_from, role_style, woven_from};
+ghost use Rattle.snippet_text_form.specs.Form.{AreMarks, Break, Styled, bare, form_bytes, form_links, form_text};
+ghost use Rattle.snippet_text_form.specs.Form.{in_style, link_codes_after, link_codes_before, piece_of_kind};
+ghost use Rattle.snippet_text_form.specs.Form.{pieces_from, role_style, woven_from};
+ghost use Rattle.snippet_text_form.specs.declared.form.MarkKind.TheVariants as kinds;
 
 use itoa::Buffer;
 use snippet_style::{ElementStyle, LevelInner, Style, Stylesheet, reset_code, write_opening};
@@ -20,52 +22,61 @@ use snippet_text::CowStr;
 use std::alloc::{AllocError, Global};
 use std::marker::Model;
 
-/// The parts that a form has room for at first: those of a title, a marked line and a note.
-const FIRST_PARTS: usize = 32;
+/// The bytes and the marks that a form has room for at first: those of a title, two marked lines and a note.
+const FIRST_BYTES: usize = 256;
 
-/// The bytes that a text has room for at first, for each part: of the usual parts few are longer.
-const PART_BYTES: usize = 12;
+const FIRST_MARKS: usize = 16;
 
-/// A part of a text form.
-#[derive(Drop)]
-pub(crate) enum TextPart<'a> {
-    /// A line feed; none where no text stands before it.
-    Break,
-    /// Text without codes.
-    Text(CowStr<'a>),
-    /// A number, without codes.
-    Number(usize),
-    /// So many spaces, without codes.
-    Spaces(usize),
-    /// Text in a style.
-    Styled(StyledText<'a>),
+/// The bytes that a rendered text has room for at first, for each mark, beside those of its characters: for the codes
+/// before and after it, or its line feed.
+const MARK_BYTES: usize = 16;
+
+/// What stands in a text beside plain characters: some of its characters in a style, or a break between two of them.
+#[derive(Clone, Copy)]
+pub(crate) struct Mark<'a> {
+    /// Where its characters begin and end in the text, in bytes. A break has none.
+    pub(crate) start: usize,
+    pub(crate) end: usize,
+    /// What it is.
+    pub(crate) kind: MarkKind<'a>,
 }
 
-/// A text in the style of a role.
-#[derive(Drop)]
-pub(crate) struct StyledText<'a> {
+/// What a mark is.
+#[derive(Clone, Copy)]
+pub(crate) enum MarkKind<'a> {
+    /// A line feed; none where no text stands before it.
+    Break,
+    /// Text in a style.
+    Styled(Look<'a>),
+}
+
+/// How a text looks.
+#[derive(Clone, Copy)]
+pub(crate) struct Look<'a> {
     /// The role that gives the style.
     pub(crate) role: ElementStyle,
     /// The address that it links to.
     pub(crate) link: Option<&'a str>,
-    /// The text.
-    pub(crate) text: CowStr<'a>,
 }
 
 /// The text form of a report, before any sheet is known. It is empty at first.
 #[derive(Drop)]
 pub struct TextForm<'a> {
-    parts: Vec<TextPart<'a>>,
+    /// The characters of its texts, one after another.
+    text: String,
+    /// The breaks and the styled texts, in order; what stands between them has no codes.
+    marks: Vec<Mark<'a>>,
 }
 
 impl<'a> Model for TextForm<'a> {
-    ghost use Rattle.std.specs.Prelude.{List};
-    ghost use Rattle.std.specs.List.{flat_map};
-    ghost use Rattle.snippet_text_form.specs.Form.{FormPiece, pieces_of_part};
+    ghost use Rattle.std.specs.Prelude.{List, string_bytes};
+    ghost use Rattle.snippet_text_form.specs.Form.{AreMarks, FormPiece, pieces_from};
 
     ghost Value = { List FormPiece };
 
-    ghost view = { λ form. flat_map pieces_of_part form.parts.items };
+    ghost view = { λ form. pieces_from (string_bytes form.text) 0 form.marks.items };
+
+    ghost invariant = { λ form. AreMarks (string_bytes form.text) 0 form.marks.items };
 }
 
 impl<'a> TextForm<'a> {
@@ -74,54 +85,45 @@ impl<'a> TextForm<'a> {
         ensures empty { result ≡ [] }
     {
         TextForm {
-            parts: Vec::new(alloc),
+            text: String::new(alloc),
+            marks: Vec::new(alloc),
         }
-    }
-
-    /// Adds a part.
-    fn add(&mut self, part: TextPart<'a>) -> Result<(), AllocError>
-        ensures added { OnOk result (self.new ≡ self.old ++ pieces_of_part part.entry) }
-    {
-        if self.parts.is_empty() {
-            self.parts.reserve(FIRST_PARTS)?;
-        }
-        self.parts.push(part)?;
-        Ok(())
     }
 
     /// Begins a new line. Where no text stands before it, nothing is written.
     pub fn add_break(&mut self) -> Result<(), AllocError>
         ensures added { OnOk result (self.new ≡ self.old ++ Break ∷ []) }
     {
-        self.add(TextPart::Break)
+        push_mark(&mut self.text, &mut self.marks, "", MarkKind::Break)
     }
 
     /// Adds a text without codes.
-    pub fn add_text(&mut self, text: &'a str) -> Result<(), AllocError>
+    pub fn add_text(&mut self, text: &str) -> Result<(), AllocError>
         ensures added { OnOk result (self.new ≡ self.old ++ bare (chars text.now)) }
     {
-        self.add_shown(CowStr::Borrowed(text))
+        self.text.push_str(text)
     }
 
     /// The same with a text that may have been made for this form.
     pub fn add_shown(&mut self, text: CowStr<'a>) -> Result<(), AllocError>
         ensures added { OnOk result (self.new ≡ self.old ++ bare (chars (cow_str_bytes text.entry))) }
     {
-        self.add(TextPart::Text(text))
+        self.add_text(text.as_str())
     }
 
     /// Adds a number without codes.
     pub fn add_number(&mut self, number: usize) -> Result<(), AllocError>
         ensures added { OnOk result (self.new ≡ self.old ++ bare (decimal number)) }
     {
-        self.add(TextPart::Number(number))
+        let mut digits = Buffer::new();
+        self.text.push_str(digits.format(number))
     }
 
     /// Adds this many spaces without codes.
     pub fn add_spaces(&mut self, count: usize) -> Result<(), AllocError>
         ensures added { OnOk result (self.new ≡ self.old ++ bare (replicate count 32)) }
     {
-        self.add(TextPart::Spaces(count))
+        write_spaces(&mut self.text, count)
     }
 
     /// Adds a text in the style of a role, which may link to an address. The style is opened and reset even where the
@@ -135,7 +137,13 @@ impl<'a> TextForm<'a> {
         ensures added { OnOk result (self.new
             ≡ self.old ++ Styled role (option_copied link.entry) (chars (cow_str_bytes text.entry)) ∷ []) }
     {
-        self.add(TextPart::Styled(StyledText { role, link, text }))
+        let look = Look { role, link };
+        push_mark(
+            &mut self.text,
+            &mut self.marks,
+            text.as_str(),
+            MarkKind::Styled(look),
+        )
     }
 
     /// The text under a sheet.
@@ -149,60 +157,83 @@ impl<'a> TextForm<'a> {
         ensures woven { IfOk result (λ text.
             IsWoven sheet.now (string_bytes text) (form_text self.now) (form_links self.now)) }
     {
-        let mut text = String::with_capacity(alloc, self.parts.len().saturating_mul(PART_BYTES))?;
-        let mut begun = false;
-        for part in &self.parts {
-            write_part(&mut text, sheet, begun, part)?;
-            begun = begun || has_text(part);
+        let codes_room = self.marks.len().saturating_mul(MARK_BYTES);
+        let room = self.text.len().saturating_add(codes_room);
+        let mut out = String::with_capacity(alloc, room)?;
+        let text = self.text.as_str();
+        let mut from = 0;
+        for mark in &self.marks {
+            out.push_str(&text[from..mark.start])?;
+            write_mark(
+                &mut out,
+                sheet,
+                mark.start > 0,
+                &text[mark.start..mark.end],
+                mark.kind,
+            )?;
+            from = mark.end;
         }
-        Ok(text)
+        out.push_str(&text[from..text.len()])?;
+        Ok(out)
     }
 }
 
-/// Whether a part has text of its own.
-fn has_text(part: &TextPart<'_>) -> bool
-    ensures value { result ≡ begun_after false (plain_from false (pieces_of_part part.now)) }
+/// Adds a mark after a text and the marks in it, with these characters, of which a break has none.
+fn push_mark<'a>(
+    text: &mut String,
+    marks: &mut Vec<Mark<'a>>,
+    word: &str,
+    kind: MarkKind<'a>,
+) -> Result<(), AllocError>
+    requires marks { AreMarks (string_bytes text.old) 0 marks.old.items }
+    requires breaks { kind ≡ kinds.Break → word.now ≡ [] }
+    ensures added { OnOk result (pieces_from (string_bytes text.new) 0 marks.new.items
+        ≡ pieces_from (string_bytes text.old) 0 marks.old.items ++ piece_of_kind (chars word.now) kind.entry ∷ []) }
+    ensures marks { AreMarks (string_bytes text.new) 0 marks.new.items }
 {
-    match part {
-        TextPart::Break => false,
-        TextPart::Text(text) => !text.is_empty(),
-        TextPart::Number(_) => true,
-        TextPart::Spaces(count) => *count > 0,
-        TextPart::Styled(text) => !text.text.is_empty(),
-    }
+    make_first_room(text, marks)?;
+    let start = text.len();
+    text.push_str(word)?;
+    let end = text.len();
+    marks.push(Mark { start, end, kind })?;
+    Ok(())
 }
 
-/// Adds a part to a text; `begun` says whether plain text stands before it.
-fn write_part(
+/// Makes room for a small form, if nothing is marked yet.
+fn make_first_room(text: &mut String, marks: &mut Vec<Mark<'_>>) -> Result<(), AllocError>
+    ensures text { string_bytes text.new ≡ string_bytes text.old }
+    ensures marks { marks.new.items ≡ marks.old.items }
+{
+    if !marks.is_empty() {
+        return Ok(());
+    }
+    text.reserve(FIRST_BYTES)?;
+    marks.reserve(FIRST_MARKS)
+}
+
+/// Adds a mark with these characters to a text; `begun` says whether plain text stands before it.
+#[inline(always)]
+fn write_mark(
     out: &mut String,
     sheet: &Stylesheet,
     begun: bool,
-    part: &TextPart<'_>,
+    word: &str,
+    kind: MarkKind<'_>,
 ) -> Result<(), AllocError>
-    ensures added { OnOk result (string_bytes out.new
-        ≡ string_bytes out.old ++ flat_map piece_text (woven_from sheet.now begun (pieces_of_part part.now))) }
+    ensures added { OnOk result (string_bytes out.new ≡ string_bytes out.old
+        ++ flat_map piece_text (woven_from sheet.now begun (piece_of_kind (chars word.now) kind.entry ∷ []))) }
 {
-    match part {
-        TextPart::Break if begun => out.push('\n'),
-        TextPart::Break => Ok(()),
-        TextPart::Text(text) => out.push_str(text.as_str()),
-        TextPart::Number(number) => write_number(out, *number),
-        TextPart::Spaces(count) => write_spaces(out, *count),
-        TextPart::Styled(text) => write_styled(out, sheet, text),
+    match kind {
+        MarkKind::Break if begun => out.push('\n'),
+        MarkKind::Break => Ok(()),
+        MarkKind::Styled(look) => write_styled(out, sheet, look, word),
     }
-}
-
-/// Adds a number to a text.
-fn write_number(out: &mut String, number: usize) -> Result<(), AllocError>
-    ensures added { OnOk result (string_bytes out.new ≡ string_bytes out.old ++ decimal number) }
-{
-    let mut digits = Buffer::new();
-    out.push_str(digits.format(number))
 }
 
 /// Adds this many spaces to a text.
 fn write_spaces(out: &mut String, count: usize) -> Result<(), AllocError>
     ensures added { OnOk result (string_bytes out.new ≡ string_bytes out.old ++ replicate count 32) }
+    ensures grown { BeginsWith (string_bytes out.old) (string_bytes out.new) }
 {
     for _ in 0..count {
         out.push(' ')?;
@@ -210,21 +241,21 @@ fn write_spaces(out: &mut String, count: usize) -> Result<(), AllocError>
     Ok(())
 }
 
-/// Adds a text in its style, which is opened before it and reset after it.
+/// Adds a text that looks like this: its style is opened before it and reset after it.
 fn write_styled(
     out: &mut String,
     sheet: &Stylesheet,
-    text: &StyledText<'_>,
+    look: Look<'_>,
+    word: &str,
 ) -> Result<(), AllocError>
     ensures added { OnOk result (string_bytes out.new ≡ string_bytes out.old ++ flat_map piece_text
-        (in_style (role_style sheet.now text.now.role) (option_copied text.now.link)
-        (chars (cow_str_bytes text.now.text)))) }
+        (in_style (role_style sheet.now look.entry.role) (option_copied look.entry.link) (chars word.now))) }
 {
-    let style = style_of(sheet, text.role);
+    let style = style_of(sheet, look.role);
     write_opening(out, style)?;
-    begin_link(out, text.link)?;
-    out.push_str(text.text.as_str())?;
-    end_link(out, text.link)?;
+    begin_link(out, look.link)?;
+    out.push_str(word)?;
+    end_link(out, look.link)?;
     out.push_str(reset_code(style))?;
     Ok(())
 }

@@ -1,6 +1,7 @@
 use Rattle.std.proofs.Common.{◌≡◌, ◌∷◌, ◌++◌, [], List, ℕ, sym, ap, ◌∙◌, replicate, arith, string_bytes}
 use Rattle.std.proofs.lemmas.List.{append-nil, append_assoc, replicate_more}
 use Rattle.std.proofs.lemmas.Str.{encode_ascii}
+use Rattle.snippet_grid.proofs.StretchLemmas.{BeginsWith-added}
 use Rattle.snippet_text_form.proofs.form.write_spaces.Goals as goal
 
 pub loop-init : goal.loop-init
@@ -18,4 +19,5 @@ returns c =
     let all : c.loop.counter ≡ c.args.count = omega arith in
     record {
       added = c.loop.invariant ∙ ap (λ n. string_bytes c.args.out.now ++ replicate n 32) all;
+      grown = BeginsWith-added (string_bytes c.args.out.now) (replicate c.loop.counter 32) (string_bytes c.loop.out) c.loop.invariant;
     }

@@ -8,11 +8,12 @@ use Rattle.snippet_text_form.proofs.form.write_styled.Goals as goal
 
 pub returns : goal.returns
 returns c =
-    let style : Style = role_style c.args.sheet.now c.args.text.now.role in
+    let style : Style = role_style c.args.sheet.now c.args.look.role in
     let opened = ap (λ (s : Style). encode_utf8_all (opening s)) c.style_of-style.ensures.value in
     let closed = c.reset_code.ensures.text ∙ ap (λ (s : Style). encode_utf8_all (reset s)) c.style_of-style.ensures.value in
     let begun = c.in_ok-write_opening.ensures.text ∙ ap (λ (bs : List ℕ). string_bytes c.args.out.now ++ bs) opened in
     let ended = c.in_ok-push_str-2.ensures.bytes ∙ ap (λ (bs : List ℕ). string_bytes c.end_link.new.out ++ bs) closed in
-    let added = styled_added style (option_copied c.args.text.now.link) c.as_str.result.now _ _ _ _ _ _ c.as_str.utf8 begun c.in_ok-begin_link.ensures.added
-    c.in_ok-push_str.ensures.bytes c.in_ok-end_link.ensures.added ended in
-    record { added = rw c.as_str.ensures.value at added }
+    record {
+      added = styled_added style (option_copied c.args.look.link) c.args.word.now _ _ _ _ _ _ c.utf8.word begun c.in_ok-begin_link.ensures.added
+          c.in_ok-push_str.ensures.bytes c.in_ok-end_link.ensures.added ended;
+    }

@@ -1,37 +1,71 @@
-use Rattle.std.proofs.Common.{◌||◌, ◌≡◌, Bool, List, ℕ, false, ap, sym, ◌∙◌, subst, string_bytes}
+use Rattle.std.proofs.Common.{◌≡◌, ◌∙◌, ◌++◌, ◌∷◌, [], ◌+◌, List, ℕ, nat_lt, ap, chars, drop, get_or, subst, sym, string_bytes}
 use Rattle.std.specs.List.{flat_map}
-use Rattle.snippet_grid.specs.Woven.{IsWoven}
-use Rattle.snippet_text_form.specs.Form.{begun_after, form_bytes, form_links, form_text, pieces_of_part, plain_from}
-use Rattle.snippet_text_form.specs.declared.form.TextPart.{TextPart}
+use Rattle.std.proofs.lemmas.List.{drop_all, drop_more}
+use Rattle.snippet_grid.specs.Woven.{IsWoven, piece_text}
+use Rattle.snippet_text_form.specs.Form.{form_bytes, form_links, form_text, piece_of_kind, woven_from}
+use Rattle.snippet_text_form.specs.declared.form.Mark.{Mark}
 use Rattle.snippet_text_form.proofs.FormLaws.{form-woven}
-use Rattle.snippet_text_form.proofs.FormSteps.{IsRendered-all, IsRendered-more, IsRendered-none}
+use Rattle.snippet_text_form.proofs.FormSteps.{IsRenderedTo, IsRenderedTo-all, IsRenderedTo-mark}
+use Rattle.snippet_text_form.proofs.MarkLemmas.{first_place, mark_here, no_mark, place_boundary}
 use Rattle.snippet_text_form.proofs.form.TextForm.render.Goals as goal
-use Rattle.snippet_text_form.proofs.form.TextForm.render.Goals.{then-begun, else-begun}
 
-pub loop-part-init : goal.loop-part-init
-loop-part-init c = IsRendered-none c.args.sheet.now (string_bytes c.in_ok-text.text) c.in_ok-text.ensures.bytes
+pub range-requires-clause-start_boundary : goal.range-requires-clause-start_boundary
+range-requires-clause-start_boundary c =
+    λ _. place_boundary c.as_str-text.result.now c.loop-mark.from c.as_str-text.utf8
+    (first_place c.as_str-text.result.now c.loop-mark.from (drop c.loop-mark.mark-index c.deref-mark-items.result.now) c.loop-mark.invariant.marks_are)
 
-pub loop-part-preserved : goal.loop-part-preserved
-loop-part-preserved c =
-    let has : Bool = begun_after false (plain_from false (pieces_of_part c.part-item.result)) in
-    let after : c.if-begun.begun ≡ (c.loop-part.begun || has) = elim c.if-begun.branch [
-      | then-begun w ↦ w.begun-is ∙ w.if-begun.true ∙ sym (ap (λ (b : Bool). b || has) w.if-begun.true)
-      | else-begun w ↦ w.begun-is ∙ w.has_text-begun.ensures.value ∙ sym (ap (λ (b : Bool). b || has) w.if-begun.false)
-    ] in
-    IsRendered-more c.args.sheet.now c.deref-part-items.result.now c.loop-part.part-index c.part-item.result _ _ c.loop-part.begun c.if-begun.begun
-    c.loop-part-test.true c.part-item.is c.loop-part.invariant c.in_ok-write_part.ensures.added after
+pub range-requires-clause-end_boundary : goal.range-requires-clause-end_boundary
+range-requires-clause-end_boundary c =
+    let m : Mark = get_or c.deref-mark-items.result.now c.loop-mark.mark-index no_mark in
+    place_boundary c.as_str-text.result.now m.start c.as_str-text.utf8
+    (mark_here c.as_str-text.result.now c.loop-mark.from c.deref-mark-items.result.now c.loop-mark.mark-index c.loop-mark-test.true
+    c.loop-mark.invariant.marks_are).0.start_is
 
--- the text is that of the form
-rendered : (c : goal.After-loop-part) → string_bytes c.loop-part.text ≡ form_bytes c.args.sheet.now c.args.self.now
-rendered c =
-    let form = ap (λ (ps : List TextPart). flat_map pieces_of_part ps) c.deref-part-items.ensures.value ∙ c.self.view_is in
-    IsRendered-all c.args.sheet.now c.deref-part-items.result.now c.loop-part.part-index _ c.loop-part.begun c.args.self.now c.loop-part-test.false form
-    c.loop-part.invariant
+pub range-requires-in-loop-mark-clause-start_boundary : goal.range-requires-in-loop-mark-clause-start_boundary
+range-requires-in-loop-mark-clause-start_boundary c =
+    let m : Mark = get_or c.deref-mark-items.result.now c.loop-mark.mark-index no_mark in
+    λ _. place_boundary c.as_str-text.result.now m.start c.as_str-text.utf8
+    (mark_here c.as_str-text.result.now c.loop-mark.from c.deref-mark-items.result.now c.loop-mark.mark-index c.loop-mark-test.true
+    c.loop-mark.invariant.marks_are).0.start_is
 
-pub returns-clause-text : goal.returns-clause-text
-returns-clause-text c = rendered c
+pub range-requires-in-loop-mark-clause-end_boundary : goal.range-requires-in-loop-mark-clause-end_boundary
+range-requires-in-loop-mark-clause-end_boundary c =
+    let m : Mark = get_or c.deref-mark-items.result.now c.loop-mark.mark-index no_mark in
+    place_boundary c.as_str-text.result.now m.end c.as_str-text.utf8
+    (first_place c.as_str-text.result.now m.end (drop (c.loop-mark.mark-index + 1) c.deref-mark-items.result.now)
+    (mark_here c.as_str-text.result.now c.loop-mark.from c.deref-mark-items.result.now c.loop-mark.mark-index c.loop-mark-test.true
+    c.loop-mark.invariant.marks_are).1)
 
-pub returns-clause-woven : goal.returns-clause-woven
-returns-clause-woven c =
-    subst (λ (text : List ℕ). IsWoven c.args.sheet.now text (form_text c.args.self.now) (form_links c.args.self.now)) (sym (rendered c))
-    (form-woven c.args.sheet.now c.args.self.now)
+pub loop-mark-preserved : goal.loop-mark-preserved
+loop-mark-preserved c =
+    let text : List ℕ = c.as_str-text.result.now in
+    let items : List Mark = c.deref-mark-items.result.now in
+    let i = c.loop-mark.mark-index in
+    let m : Mark = get_or items i no_mark in
+    let before = subst (λ (ms : List Mark). IsRenderedTo c.args.sheet.now c.args.self.now text ms c.loop-mark.from (string_bytes c.loop-mark.out))
+    (drop_more items i no_mark c.loop-mark-test.true) c.loop-mark.invariant in
+    IsRenderedTo-mark c.args.sheet.now c.args.self.now text m (drop (i + 1) items) c.loop-mark.from (string_bytes c.loop-mark.out)
+    (string_bytes c.push_str.new.self) (string_bytes c.write_mark.new.out) c.as_str-text.utf8 before
+    (c.in_ok-push_str.ensures.bytes ∙ ap (λ (bs : List ℕ). string_bytes c.loop-mark.out ++ bs) c.range.ensures.value)
+    (c.in_ok-write_mark.ensures.added
+    ∙ ap (λ (w : List ℕ). string_bytes c.push_str.new.self
+    ++ flat_map piece_text (woven_from c.args.sheet.now (nat_lt 0 m.start) (piece_of_kind (chars w) m.kind ∷ []))) c.range-in-loop-mark.ensures.value)
+
+pub range-requires-2-clause-start_boundary : goal.range-requires-2-clause-start_boundary
+range-requires-2-clause-start_boundary c =
+    λ _. place_boundary c.as_str-text.result.now c.loop-mark.from c.as_str-text.utf8
+    (first_place c.as_str-text.result.now c.loop-mark.from (drop c.loop-mark.mark-index c.deref-mark-items.result.now) c.loop-mark.invariant.marks_are)
+
+pub returns : goal.returns
+returns c =
+    let text : List ℕ = c.as_str-text.result.now in
+    let left = subst (λ (ms : List Mark). IsRenderedTo c.args.sheet.now c.args.self.now text ms c.loop-mark.from (string_bytes c.loop-mark.out))
+    (drop_all c.loop-mark.mark-index c.deref-mark-items.result.now c.loop-mark-test.false) c.loop-mark.invariant in
+    let whole : string_bytes c.push_str-2.new.self ≡ form_bytes c.args.sheet.now c.args.self.now = IsRenderedTo-all c.args.sheet.now c.args.self.now text
+    c.loop-mark.from (string_bytes c.loop-mark.out) (string_bytes c.push_str-2.new.self) c.as_str-text.utf8 left
+    (c.in_ok-push_str-2.ensures.bytes ∙ ap (λ (bs : List ℕ). string_bytes c.loop-mark.out ++ bs) c.range-2.ensures.value) in
+    record {
+      text = whole;
+      woven = subst (λ (t : List ℕ). IsWoven c.args.sheet.now t (form_text c.args.self.now) (form_links c.args.self.now)) (sym whole)
+          (form-woven c.args.sheet.now c.args.self.now);
+    }

@@ -1,7 +1,7 @@
--- The text is that of the parts so far.
-use Rattle.std.proofs.Common.{take, string_bytes}
-use Rattle.snippet_text_form.proofs.FormSteps.{IsRendered}
+-- The text is that of what stands before the marks that are left.
+use Rattle.std.proofs.Common.{drop, string_bytes}
+use Rattle.snippet_text_form.proofs.FormSteps.{IsRenderedTo}
 use Rattle.snippet_text_form.proofs.form.TextForm.render.Given as goal
 
-abbrev pub invariant-loop-part : goal.invariant-loop-part
-invariant-loop-part l = IsRendered l.sheet (take l.part-index l.part-items) (string_bytes l.text) l.begun
+abbrev pub invariant-loop-mark : goal.invariant-loop-mark
+invariant-loop-mark l = IsRenderedTo l.sheet l.self l.text (drop l.mark-index l.mark-items) l.from (string_bytes l.out)

@@ -1,0 +1,186 @@
+-- The pieces of a text with marks in it, as the text and the marks grow.
+use Rattle.std.proofs.Common.{◌≡◌, ℕ, ◌+◌, ◌-◌, ◌<◌, ◌≤◌, List, [], ◌∷◌, ◌++◌, Result, Ok, Err, if◌then◌else◌, length, take, drop, sym, ap, ◌∙◌}
+use Rattle.std.proofs.Common.{subst, get_or, arith, chars}
+use Rattle.std.proofs.lemmas.List.{append-nil, append_assoc, drop_more, map-append}
+use Rattle.std.proofs.lemmas.Str.{IsUtf8-from_ascii, chars-append, chars-nil, is_utf8-from_IsUtf8}
+use Rattle.std.proofs.lemmas.Str.Ascii.{IsAscii-nil}
+use Rattle.std.specs.Result.{OnOk, is_ok}
+use Rattle.std.specs.Str.{IsUtf8, IsCharBoundary, is_utf8}
+use Rattle.snippet_grid.specs.Runs.{BeginsWith}
+use Rattle.snippet_grid.proofs.StretchLemmas.{stretch, stretch_joined, stretch_grown, stretch_added, BeginsWith-added, BeginsWith-le, BeginsWith-same}
+use Rattle.snippet_grid.proofs.StretchLemmas.{boundary, front_grown}
+use Rattle.snippet_grid.proofs.StretchLemmas.{IsUtf8-stretch, is_utf8-end}
+use Rattle.snippet_text_form.specs.Form.{FormPiece, Char, bare, piece_of_kind, pieces_from, chars_between, IsPlace, AreMarks}
+use Rattle.snippet_text_form.specs.declared.form.Mark.{Mark}
+use Rattle.snippet_text_form.specs.declared.form.MarkKind.TheVariants as kinds
+
+-- the place from which marks stand
+pub first_place : (text : List ℕ) (from : ℕ) (marks : List Mark) → AreMarks text from marks → IsPlace text from
+first_place text from [] are = are
+first_place text from (m ∷ ms) are = are.0.from_is
+
+-- a place stays one when the text grows
+pub IsPlace-grown : (old new : List ℕ) (at : ℕ) → BeginsWith old new → IsPlace old at → IsPlace new at
+IsPlace-grown old new at grows is =
+    record {
+      within = omega (arith, is.within, BeginsWith-le old new grows);
+      whole = ap is_utf8 (front_grown old new at grows is.within) ∙ is.whole;
+    }
+
+-- marks stay when the text grows
+pub AreMarks-grown : (old new : List ℕ) (from : ℕ) (marks : List Mark) → BeginsWith old new → AreMarks old from marks → AreMarks new from marks
+AreMarks-grown old new from [] grows are = IsPlace-grown old new from grows are
+AreMarks-grown old new from (m ∷ ms) grows are = (
+  record {
+    from_is = IsPlace-grown old new from grows are.0.from_is;
+    start_is = IsPlace-grown old new m.start grows are.0.start_is;
+    after = are.0.after;
+    ordered = are.0.ordered;
+    empty = are.0.empty;
+  },
+  AreMarks-grown old new m.end ms grows are.1,
+)
+
+-- the end of a text is a place in it
+pub IsPlace-end : (text : List ℕ) → IsUtf8 text → IsPlace text (length text)
+IsPlace-end text utf8 = record { within = omega arith; whole = is_utf8-end text utf8 }
+
+-- what stands from a place on, once more was added
+rest_grown : (old new more : List ℕ) (from : ℕ) → new ≡ old ++ more → from ≤ length old
+    → stretch new from (length new) ≡ stretch old from (length old) ++ more
+rest_grown old new more from is within =
+    let grows : BeginsWith old new = BeginsWith-added old more new is in
+    let added : stretch new (length old) (length new) ≡ more =
+    ap (λ (t : List ℕ). stretch t (length old) (length t)) is ∙ stretch_added old more in
+    sym (stretch_joined new from (length old) (length new) within (BeginsWith-le old new grows) (omega arith))
+    ∙ ap (λ (t : List ℕ). t ++ stretch new (length old) (length new)) (stretch_grown old new from (length old) grows (omega arith))
+    ∙ ap (λ (t : List ℕ). stretch old from (length old) ++ t) added
+
+-- what stands between two places of a text
+between-utf8 : (text : List ℕ) (from to : ℕ) → IsUtf8 text → from ≤ to → IsPlace text from → IsPlace text to → IsUtf8 (stretch text from to)
+between-utf8 text from to utf8 ordered start end =
+    IsUtf8-stretch text from to utf8 ordered end.within start.whole end.whole
+
+-- a text that is added stands after all pieces
+pub pieces-text : (old new more : List ℕ) (from : ℕ) (marks : List Mark) → IsUtf8 old → new ≡ old ++ more → AreMarks old from marks
+    → pieces_from new from marks ≡ pieces_from old from marks ++ bare (chars more)
+pieces-text old new more from [] utf8 is place =
+    ap (λ (bs : List ℕ). bare (chars bs)) (rest_grown old new more from is place.within)
+    ∙ ap bare (chars-append (stretch old from (length old)) more (between-utf8 old from (length old) utf8 place.within place (IsPlace-end old utf8)))
+    ∙ map-append (λ (ch : ℕ). Char ch) (chars (stretch old from (length old))) (chars more)
+pieces-text old new more from (m ∷ ms) utf8 is are =
+    let grows : BeginsWith old new = BeginsWith-added old more new is in
+    let end : IsPlace old m.end = first_place old m.end ms are.1 in
+    let before : List FormPiece = bare (chars_between old from m.start) in
+    let own : FormPiece = piece_of_kind (chars_between old m.start m.end) m.kind in
+    ap (λ (bs : List ℕ). bare (chars bs) ++ piece_of_kind (chars_between new m.start m.end) m.kind ∷ pieces_from new m.end ms)
+    (stretch_grown old new from m.start grows are.0.start_is.within)
+    ∙ ap (λ (bs : List ℕ). before ++ piece_of_kind (chars bs) m.kind ∷ pieces_from new m.end ms) (stretch_grown old new m.start m.end grows end.within)
+    ∙ ap (λ (ps : List FormPiece). before ++ own ∷ ps) (pieces-text old new more m.end ms utf8 is are.1)
+    ∙ sym (append_assoc before (own ∷ pieces_from old m.end ms) (bare (chars more)))
+
+-- nothing stands after the end of a text
+none_after : (text : List ℕ) → chars_between text (length text) (length text) ≡ []
+none_after text =
+    let nothing : length text - length text ≡ 0 = omega arith in
+    ap (λ n. chars (take n (drop (length text) text))) nothing ∙ chars-nil
+
+-- a mark that is added at the end, with its characters, stands after all pieces
+pub pieces-mark : (old new word : List ℕ) (from : ℕ) (marks : List Mark) (mark : Mark) → IsUtf8 old → new ≡ old ++ word → mark.start ≡ length old
+    → mark.end ≡ length new → AreMarks old from marks
+    → pieces_from new from (marks ++ mark ∷ []) ≡ pieces_from old from marks ++ piece_of_kind (chars word) mark.kind ∷ []
+pieces-mark old new word from [] mark utf8 is start end place =
+    let grows : BeginsWith old new = BeginsWith-added old word new is in
+    let front : stretch new from mark.start ≡ stretch old from (length old) = ap (λ n. stretch new from n) start
+    ∙ stretch_grown old new from (length old) grows (omega arith) in
+    let own : stretch new mark.start mark.end ≡ word = ap (λ s. stretch new s mark.end) start ∙ ap (λ e. stretch new (length old) e) end
+    ∙ ap (λ (t : List ℕ). stretch t (length old) (length t)) is ∙ stretch_added old word in
+    let rest : chars_between new mark.end (length new) ≡ [] = ap (λ s. chars_between new s (length new)) end ∙ none_after new in
+    ap (λ (bs : List ℕ). bare (chars bs) ++ piece_of_kind (chars_between new mark.start mark.end) mark.kind ∷ bare (chars_between new mark.end (length new)))
+    front
+    ∙ ap (λ (bs : List ℕ). bare (chars_between old from (length old)) ++ piece_of_kind (chars bs) mark.kind ∷ bare (chars_between new mark.end (length new)))
+    own
+    ∙ ap (λ (cs : List ℕ). bare (chars_between old from (length old)) ++ piece_of_kind (chars word) mark.kind ∷ bare cs) rest
+pieces-mark old new word from (m ∷ ms) mark utf8 is start end are =
+    let grows : BeginsWith old new = BeginsWith-added old word new is in
+    let last : IsPlace old m.end = first_place old m.end ms are.1 in
+    let before : List FormPiece = bare (chars_between old from m.start) in
+    let own : FormPiece = piece_of_kind (chars_between old m.start m.end) m.kind in
+    ap (λ (bs : List ℕ). bare (chars bs) ++ piece_of_kind (chars_between new m.start m.end) m.kind ∷ pieces_from new m.end (ms ++ mark ∷ []))
+    (stretch_grown old new from m.start grows are.0.start_is.within)
+    ∙ ap (λ (bs : List ℕ). before ++ piece_of_kind (chars bs) m.kind ∷ pieces_from new m.end (ms ++ mark ∷ []))
+    (stretch_grown old new m.start m.end grows last.within)
+    ∙ ap (λ (ps : List FormPiece). before ++ own ∷ ps) (pieces-mark old new word m.end ms mark utf8 is start end are.1)
+    ∙ sym (append_assoc before (own ∷ pieces_from old m.end ms) (piece_of_kind (chars word) mark.kind ∷ []))
+
+-- it is one of the marks then
+pub AreMarks-mark : (old new word : List ℕ) (from : ℕ) (marks : List Mark) (mark : Mark) → IsUtf8 old → IsUtf8 new → new ≡ old ++ word
+    → mark.start ≡ length old → mark.end ≡ length new → (mark.kind ≡ kinds.Break → word ≡ []) → AreMarks old from marks
+    → AreMarks new from (marks ++ mark ∷ [])
+AreMarks-mark old new word from [] mark utf8 utf8_new is start end empty place =
+    let grows : BeginsWith old new = BeginsWith-added old word new is in
+    let last : IsPlace new (length old) = IsPlace-grown old new (length old) grows (IsPlace-end old utf8) in
+    let closed : IsPlace new mark.end = record {
+      within = omega (arith, end);
+      whole = ap (λ n. is_utf8 (take n new)) end ∙ is_utf8-end new utf8_new;
+    } in (
+      record {
+        from_is = IsPlace-grown old new from grows place;
+        start_is = record {
+          within = omega (arith, start, last.within);
+          whole = ap (λ n. is_utf8 (take n new)) start ∙ last.whole;
+        };
+        after = omega (arith, start, place.within);
+        ordered = omega (arith, start, end, BeginsWith-le old new grows);
+        empty = λ is_break. end ∙ ap length (is ∙ ap (λ (t : List ℕ). old ++ t) (empty is_break) ∙ append-nil old) ∙ sym start;
+      },
+      closed,
+    )
+AreMarks-mark old new word from (m ∷ ms) mark utf8 utf8_new is start end empty are =
+    let grown = AreMarks-grown old new from (m ∷ ms) (BeginsWith-added old word new is) are in
+    (grown.0, AreMarks-mark old new word m.end ms mark utf8 utf8_new is start end empty are.1)
+
+-- ---- what is pushed to the text, where that may fail
+
+-- the text begins with what it was, whether it grew or not
+pub BeginsWith-pushed : {T E : Type 0} (r : Result T E) (old new more : List ℕ) → new ≡ (if is_ok r then old ++ more else old) → BeginsWith old new
+BeginsWith-pushed (Ok value) old new more is = BeginsWith-added old more new is
+BeginsWith-pushed (Err error) old new more is = subst (λ (t : List ℕ). BeginsWith old t) (sym is) (BeginsWith-same old)
+
+-- on success its characters stand after all pieces
+pub text_pushed-on_ok : {T E : Type 0} (r : Result T E) (old new more cs : List ℕ) (marks : List Mark) (form : List FormPiece) → IsUtf8 old
+    → AreMarks old 0 marks → pieces_from old 0 marks ≡ form → chars more ≡ cs → new ≡ (if is_ok r then old ++ more else old)
+    → OnOk r (pieces_from new 0 marks ≡ form ++ bare cs)
+text_pushed-on_ok (Ok value) old new more cs marks form utf8 are form_is cs_are is =
+    pieces-text old new more 0 marks utf8 is are ∙ ap (λ (ps : List FormPiece). ps ++ bare (chars more)) form_is
+    ∙ ap (λ (ds : List ℕ). form ++ bare ds) cs_are
+text_pushed-on_ok (Err error) old new more cs marks form utf8 are form_is cs_are is = tt
+
+-- ---- a form without marks
+
+-- the start of a text is a place in it
+pub AreMarks-none : (text : List ℕ) (marks : List Mark) → marks ≡ [] → AreMarks text 0 marks
+AreMarks-none text marks none =
+    let start : IsPlace text 0 = record { within = omega arith; whole = is_utf8-from_IsUtf8 [] (IsUtf8-from_ascii [] IsAscii-nil) } in
+    subst (λ (ms : List Mark). AreMarks text 0 ms) (sym none) start
+
+-- an empty text without marks has no pieces
+pub pieces-none : (text : List ℕ) (marks : List Mark) → text ≡ [] → marks ≡ [] → pieces_from text 0 marks ≡ []
+pieces-none text marks no_text no_marks =
+    ap (λ (ms : List Mark). pieces_from text 0 ms) no_marks ∙ ap (λ (t : List ℕ). pieces_from t 0 []) no_text ∙ ap bare chars-nil
+
+-- ---- the marks that are left
+
+-- what stands where a list has no mark
+abbrev pub no_mark : Mark
+no_mark = record { start = 0; end = 0; kind = kinds.Break }
+
+-- the first of them, and those after it
+pub mark_here : (text : List ℕ) (from : ℕ) (marks : List Mark) (i : ℕ) → i < length marks → AreMarks text from (drop i marks)
+    → AreMarks text from (get_or marks i no_mark ∷ drop (i + 1) marks)
+mark_here text from marks i within are =
+    subst (λ (ms : List Mark). AreMarks text from ms) (drop_more marks i no_mark within) are
+
+-- a text may be cut at a place in it
+pub place_boundary : (text : List ℕ) (at : ℕ) → IsUtf8 text → IsPlace text at → IsCharBoundary text at
+place_boundary text at utf8 is = boundary text at utf8 is.within is.whole

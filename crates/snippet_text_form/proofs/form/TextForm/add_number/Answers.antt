@@ -1,0 +1,20 @@
+use Rattle.std.proofs.Common.{◌∙◌, ap, chars, string_bytes}
+use Rattle.std.specs.Fmt.{decimal}
+use Rattle.std.proofs.lemmas.Str.{IsUtf8-string_bytes}
+use Rattle.snippet_text_form.proofs.FormSteps.{chars-number}
+use Rattle.snippet_text_form.proofs.MarkLemmas.{AreMarks-grown, BeginsWith-pushed, text_pushed-on_ok}
+use Rattle.snippet_text_form.proofs.form.TextForm.add_number.Goals as goal
+
+pub invariant_of-self : goal.invariant_of-self
+invariant_of-self c =
+    AreMarks-grown (string_bytes c.self.inside.text) (string_bytes c.push_str.new.self) 0 c.self.inside.marks.items
+    (BeginsWith-pushed c.push_str.result (string_bytes c.self.inside.text) (string_bytes c.push_str.new.self) c.format.result.now c.push_str.ensures.bytes)
+    c.self.invariant
+
+pub returns : goal.returns
+returns c =
+    record {
+      added = text_pushed-on_ok c.push_str.result (string_bytes c.self.inside.text) (string_bytes c.push_str.new.self) c.format.result.now
+          (decimal c.args.number) c.self.inside.marks.items c.args.self.now (IsUtf8-string_bytes c.self.inside.text) c.self.invariant c.self.view_is
+          (ap chars c.format.ensures.text ∙ chars-number c.args.number) c.push_str.ensures.bytes;
+    }

@@ -1,0 +1,36 @@
+use Rattle.std.proofs.Common.{◌≡◌, ◌∙◌, ◌++◌, ◌∷◌, [], List, ℕ, ap, length, rules, subst, sym, string_bytes}
+use Rattle.std.proofs.lemmas.Str.{IsUtf8-string_bytes}
+use Rattle.snippet_grid.proofs.StretchLemmas.{BeginsWith-added}
+use Rattle.snippet_text_form.specs.Form.{AreMarks, pieces_from}
+use Rattle.snippet_text_form.specs.declared.form.Mark.{Mark}
+use Rattle.snippet_text_form.proofs.MarkLemmas.{AreMarks-grown, AreMarks-mark, pieces-mark}
+use Rattle.snippet_text_form.proofs.form.push_mark.Goals as goal
+
+pub returns-in_err-push-clause-marks : goal.returns-in_err-push-clause-marks
+returns-in_err-push-clause-marks c =
+    let old : List ℕ = string_bytes c.args.text.now in
+    let new : List ℕ = string_bytes c.push_str.new.self in
+    let grown : new ≡ old ++ c.args.word.now = c.in_ok-push_str.ensures.bytes
+    ∙ ap (λ (t : List ℕ). t ++ c.args.word.now) c.in_ok-make_first_room.ensures.text in
+    subst (λ (ms : List Mark). AreMarks new 0 ms) (sym (c.in_err-push.ensures.items ∙ c.in_ok-make_first_room.ensures.marks))
+    (AreMarks-grown old new 0 c.args.marks.now.items (BeginsWith-added old c.args.word.now new grown) c.requires.marks)
+
+pub returns : goal.returns
+returns c =
+    let old : List ℕ = string_bytes c.args.text.now in
+    let new : List ℕ = string_bytes c.push_str.new.self in
+    let mark : Mark = record { start = c.len-start.result; end = c.len-end.result; kind = c.args.kind } in
+    let grown : new ≡ old ++ c.args.word.now = c.in_ok-push_str.ensures.bytes
+    ∙ ap (λ (t : List ℕ). t ++ c.args.word.now) c.in_ok-make_first_room.ensures.text in
+    let roomy : c.len-start.result ≡ length (string_bytes c.make_first_room.new.text) = search (rules, c.len-start.ensures) in
+    let start : c.len-start.result ≡ length old = roomy ∙ ap length c.in_ok-make_first_room.ensures.text in
+    let end : c.len-end.result ≡ length new = search (rules, c.len-end.ensures) in
+    let items : c.push.new.self.items ≡ c.args.marks.now.items ++ mark ∷ [] = c.in_ok-push.ensures.items
+    ∙ ap (λ (ms : List Mark). ms ++ mark ∷ []) c.in_ok-make_first_room.ensures.marks in
+    record {
+      added = ap (λ (ms : List Mark). pieces_from new 0 ms) items
+          ∙ pieces-mark old new c.args.word.now 0 c.args.marks.now.items mark (IsUtf8-string_bytes c.args.text.now) grown start end c.requires.marks;
+      marks = subst (λ (ms : List Mark). AreMarks new 0 ms) (sym items)
+          (AreMarks-mark old new c.args.word.now 0 c.args.marks.now.items mark (IsUtf8-string_bytes c.args.text.now)
+          (IsUtf8-string_bytes c.push_str.new.self) grown start end c.requires.breaks c.requires.marks);
+    }
