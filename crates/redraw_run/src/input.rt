@@ -443,9 +443,8 @@ fn next_line<B: BufRead + Drop>(input: &mut B, line: &mut Vec<u8>) -> Result<boo
     ensures next { IfOk result (λ is. TakesNext is (B.remaining input.old) (B.remaining input.new) line.new.items) }
     ensures unread { IfErr result IsUnreadable }
 {
-    line.clear();
-    match input.read_until(b'\n', line) {
-        Ok(count) => Ok(count > 0),
+    match line_reader::line::next_line(input, line) {
+        Ok(is_more) => Ok(is_more),
         Err(error) => Err(Stop::Unreadable(error)),
     }
 }
