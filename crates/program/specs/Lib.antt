@@ -1,2 +1,3 @@
-pub mod Arguments
 pub mod Stream
+pub mod Standing
+pub mod Arguments

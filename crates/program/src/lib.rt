@@ -5,3 +5,4 @@
 pub mod exit;
 pub mod input;
 pub mod line;
+pub mod stream;

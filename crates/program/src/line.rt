@@ -3,8 +3,8 @@
 ghost use Rattle.std.specs.Bool.{OnFalse, OnTrue};
 ghost use Rattle.program.specs.Stream.{Receives, Whole, CutShort, Told};
 
+use crate::stream::Stream;
 use std::io::Write;
-pub use written::write_whole;
 
 /// The bytes that end a line.
 const LINE_END: &[u8] = b"\n";
@@ -13,13 +13,13 @@ const LINE_END: &[u8] = b"\n";
 /// nothing.
 ///
 /// `out` isn't flushed.
-pub fn write_line<W: Write>(text: &str, out: &mut W) -> bool
+pub fn write_line<W: Write>(text: &str, out: &mut Stream<W>) -> bool
     ensures whole { OnTrue result (Receives W.contents out.old out.new (Whole text.now)) }
     ensures cut { OnFalse result (Receives W.contents out.old out.new (CutShort text.now)) }
     ensures told { Receives W.contents out.old out.new (Told text.now) }
 {
-    match write_whole(text.as_bytes(), out) {
-        Ok(()) => match write_whole(LINE_END, out) {
+    match out.write(text.as_bytes()) {
+        Ok(()) => match out.write(LINE_END) {
             Ok(()) => true,
             Err(_) => false,
         },

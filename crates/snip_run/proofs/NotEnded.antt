@@ -1,8 +1,10 @@
 -- Ends of a run that the definition excludes: what a wrong program would give the streams.
-use Rattle.std.proofs.Common.{◌≡◌, ◌++◌, ℕ, zero, suc, List, [], ◌∷◌, Option, Some, None, ap, arith, codes, inl, inr, length, take}
+use Rattle.std.proofs.Common.{◌≡◌, ◌++◌, ℕ, Bool, List, [], ◌∷◌, Option, Some, None, ap, arith, codes, inl, inr, length, sym, ◌∙◌}
 use Rattle.std.specs.Str.{chars}
 use Rattle.snippet_text.specs.Normalized.{norm}
 use Rattle.program.specs.Stream.{Output, Silent, Told, Receives, ended_line}
+use Rattle.program.specs.declared.stream.Stream.{Stream}
+use Rattle.program.proofs.NotGiven.{cut_unfailed, sound, told_nothing}
 use Rattle.snip_run.specs.Run.{End, Ends, Failed, MayEnd, BadUsage, Printed, Unprinted, err_of, message, out_of, status_of, usage}
 use Rattle.snip_run.specs.declared.run.Failure.TheVariants.{Unreadable}
 use Rattle.snip_run.specs.Arguments.{Argument}
@@ -19,9 +21,10 @@ silent_without_file args status Out Err ends = silent_for args Out ends.end ends
 
 -- so its message doesn't stand there
 pub message_printed : (args : List Argument) (status : ℕ) (Err : Output → Type 0)
-    → Ends args None status (Receives (λ held. held) (Some []) (Some (ended_line (codes "snip: cannot read a.rs")))) Err → ⊥
+    → Ends args None status (Receives (λ held. held) (sound []) (sound (ended_line (codes "snip: cannot read a.rs")))) Err → ⊥
 message_printed args status Err ends =
-    let same : Some (ended_line (codes "snip: cannot read a.rs")) ≡ Some [] = silent_without_file args status _ Err ends in
+    let same : sound (ended_line (codes "snip: cannot read a.rs")) ≡ sound [] = silent_without_file args status _ Err ends in
+    let held : Some (ended_line (codes "snip: cannot read a.rs")) ≡ Some [] = ap (λ (s : Stream (Option (List ℕ))). s.writer) same in
     cc
 
 usage_for : (Err : Output → Type 0) (end : End) → 2 ≡ status_of end → Err (err_of end) → Err (Told usage)
@@ -34,31 +37,32 @@ usage_for Err BadUsage status err = err
 pub usage_told : (args : List Argument) (file : Option (List ℕ)) (Out Err : Output → Type 0) → Ends args file 2 Out Err → Err (Told usage)
 usage_told args file Out Err ends = usage_for Err ends.end ends.status_is ends.err
 
+-- where no write failed, that nothing is told there
+pub usage_untold : (args : List Argument) (file : Option (List ℕ)) (Out : Output → Type 0)
+    → Ends args file 2 Out (Receives (λ held. held) (sound []) (sound [])) → ⊥
+usage_untold args file Out ends = told_nothing usage (usage_told args file Out _ ends)
+
 -- what a list begins with
 abbrev first : List ℕ → ℕ
 first [] = 0
 first (b ∷ bs) = b
 
--- no first part of that begins with an `s`
-begins_so : (count : ℕ) (rest : List ℕ) → 115 ∷ rest ≡ take count (ended_line usage) → ⊥
-begins_so zero rest same =
-    let head : 115 ≡ 0 = ap first same in
+-- standard error that holds this, whether a write to it failed or not
+abbrev holding : Bool → List ℕ → Stream (Option (List ℕ))
+holding now held = record { writer = Some held; has_failed = now }
+
+told_so : (now : Bool) (rest : List ℕ) → Receives (λ held. held) (sound []) (holding now (115 ∷ rest)) (Told usage) → ⊥
+told_so now rest (inl whole) =
+    let head : 115 ≡ 117 = ap first whole.added in
     omega (arith, head)
-begins_so (suc count) rest same =
-    let head : 115 ≡ 117 = ap first same in
+told_so now rest (inr part) =
+    let head : 117 ≡ 115 = ap first (part.split ∙ ap (λ (l : List ℕ). l ++ part.rest) (sym part.added)) in
     omega (arith, head)
 
-told_so : (rest : List ℕ) → Receives (λ held. held) (Some []) (Some (115 ∷ rest)) (Told usage) → ⊥
-told_so rest (inl whole) =
-    let head : 115 ≡ 117 = ap first whole in
-    omega (arith, head)
-told_so rest (inr part) = begins_so part.count rest part.appended
-
--- so no other line stands before it, as `snip: all is well`
-pub noise_before_usage : (args : List Argument) (file : Option (List ℕ)) (Out : Output → Type 0) (rest : List ℕ)
-    → Ends args file 2 Out (Receives (λ held. held) (Some []) (Some (115 ∷ rest))) → ⊥
-noise_before_usage args file Out rest ends =
-    told_so rest (usage_told args file Out (Receives (λ held. held) (Some []) (Some (115 ∷ rest))) ends)
+-- no other line stands before it, as `snip: all is well`
+pub noise_before_usage : (args : List Argument) (file : Option (List ℕ)) (Out : Output → Type 0) (now : Bool) (rest : List ℕ)
+    → Ends args file 2 Out (Receives (λ held. held) (sound []) (holding now (115 ∷ rest))) → ⊥
+noise_before_usage args file Out now rest ends = told_so now rest (usage_told args file Out _ ends)
 
 silent_when_printed : (Err : Output → Type 0) (end : End) → 0 ≡ status_of end → Err (err_of end) → Err Silent
 silent_when_printed Err (Printed text) status err = err
@@ -67,11 +71,39 @@ silent_when_printed Err (Failed name failure) status err = cc
 silent_when_printed Err BadUsage status err = cc
 
 -- with status 0 nothing is told
-pub told_when_printed : (args : List Argument) (file : Option (List ℕ)) (Out : Output → Type 0) (rest : List ℕ)
-    → Ends args file 0 Out (Receives (λ held. held) (Some []) (Some (115 ∷ rest))) → ⊥
-told_when_printed args file Out rest ends =
-    let same : Some (115 ∷ rest) ≡ Some [] = silent_when_printed (Receives (λ held. held) (Some []) (Some (115 ∷ rest))) ends.end ends.status_is ends.err in
+pub told_when_printed : (args : List Argument) (file : Option (List ℕ)) (Out : Output → Type 0) (now : Bool) (rest : List ℕ)
+    → Ends args file 0 Out (Receives (λ held. held) (sound []) (holding now (115 ∷ rest))) → ⊥
+told_when_printed args file Out now rest ends =
+    let same : holding now (115 ∷ rest) ≡ sound [] = silent_when_printed (Receives (λ held. held) (sound []) (holding now (115 ∷ rest))) ends.end
+    ends.status_is ends.err in
+    let held : Some (115 ∷ rest) ≡ Some [] = ap (λ (s : Stream (Option (List ℕ))). s.writer) same in
     cc
+
+-- what standard output is given that no write to failed
+abbrev Unfailed : List ℕ → Output → Type 0
+Unfailed held = Receives (λ held. held) (sound []) (sound held)
+
+none_for : (held : List ℕ) (end : End) → 1 ≡ status_of end → Unfailed held (out_of end) → held ≡ []
+none_for held (Printed text) status out = cc
+none_for held (Unprinted text) status out = absurd (cut_unfailed text held out)
+none_for held (Failed name failure) status out =
+    let same : Some held ≡ Some [] = ap (λ (s : Stream (Option (List ℕ))). s.writer) out in
+    cc
+none_for held BadUsage status out = cc
+
+-- with status 1 no part of a report stands on standard output, where no write to it failed
+pub half_printed : (args : List Argument) (file : Option (List ℕ)) (held : List ℕ) (Err : Output → Type 0) → Ends args file 1 (Unfailed held) Err → held ≡ []
+half_printed args file held Err ends = none_for held ends.end ends.status_is ends.out
+
+told_for : (held : List ℕ) (end : End) → 1 ≡ status_of end → Unfailed held (out_of end) → Unfailed [] (err_of end) → ⊥
+told_for held (Printed text) status out err = cc
+told_for held (Unprinted text) status out err = cut_unfailed text held out
+told_for held (Failed name failure) status out err = told_nothing (message name failure) err
+told_for held BadUsage status out err = cc
+
+-- and a message stands on standard error, where none failed to that
+pub failure_untold : (args : List Argument) (file : Option (List ℕ)) (held : List ℕ) → Ends args file 1 (Unfailed held) (Unfailed []) → ⊥
+failure_untold args file held ends = told_for held ends.end ends.status_is ends.out ends.err
 
 -- a name that is told as it is, here the character that begins a code
 pub raw_name_told : message (27 ∷ []) Unreadable ≡ codes "snip: cannot read " ++ 27 ∷ [] → ⊥

@@ -1,4 +1,4 @@
-//! A run of the program, over the bytes of a file and two writers.
+//! A run of the program, over the bytes of a file and two streams.
 ghost use Rattle.std.specs.Prelude.{◌≡◌, ◌≤◌, ◌↔◌, ◌⊎◌, [], ◌∷◌, IsTrue, IsNone, IfErr, IfOk, IfSome, MatchOption};
 ghost use Rattle.std.specs.Prelude.{SomeIff, All, alloc_error, codes, string_bytes};
 ghost use Rattle.std.specs.Option.{option_copied};
@@ -15,6 +15,7 @@ use annotate_snippets::renderer::RenderError;
 use annotate_snippets::text::{normalize_untrusted_str, text_fits};
 use annotate_snippets::{AnnotationKind, Element, Group, OptionCow, Snippet};
 use program::line::write_line;
+use program::stream::Stream;
 use report_options::options::renderer_of;
 use std::alloc::{AllocError, Global};
 use std::io::Write;
@@ -136,7 +137,7 @@ fn message_of(alloc: Global, failure: &Failure, name: &str) -> Result<String, Al
 }
 
 /// Tells a failure, or that there was no memory for that.
-fn tell<V: Write>(alloc: Global, failure: &Failure, name: &str, err: &mut V)
+fn tell<V: Write>(alloc: Global, failure: &Failure, name: &str, err: &mut Stream<V>)
     ensures told { Receives V.contents err.old err.new (Told (message name.now failure.now))
         ⊎ Receives V.contents err.old err.new (Told (codes "snip: out of memory")) }
 {
@@ -150,22 +151,23 @@ fn tell<V: Write>(alloc: Global, failure: &Failure, name: &str, err: &mut V)
 ///
 /// `file` is what FILE holds, or `None` where it can't be read. The status is 0 where the report was printed, 2 for
 /// arguments that aren't of the form, and else 1. The report goes to `out`, and what is in its way to `err`; a report
-/// that couldn't be written is told by the status alone. Neither writer is flushed.
+/// that couldn't be written is told by the status alone. Neither stream is flushed.
 ///
 /// | Status | `out` | `err` |
 /// |---|---|---|
 /// | 0 | the report and a line feed more | as it was |
 /// | 1, what was in the report's way | as it was | a message and a line feed more |
-/// | 1, the report couldn't be written | a first part of it more | as it was |
+/// | 1, a write of the report failed | a first part of it more | as it was |
 /// | 2 | as it was | how the arguments are to be written, and a line feed more |
 ///
-/// A message that couldn't be written stands there by a first part of it.
+/// A message that couldn't be written stands there by a first part of it, and only where a write failed. Once one has
+/// failed nothing more is written to its stream.
 pub fn run<W: Write, V: Write>(
     alloc: Global,
     args: &[&str],
     file: Option<&[u8]>,
-    out: &mut W,
-    err: &mut V,
+    out: &mut Stream<W>,
+    err: &mut Stream<V>,
 ) -> u8
     ensures status { result ≤ 2 }
     ensures usage { (result ≡ 2) ↔ (IsCommandLine (arguments_at args.now) → ⊥) }

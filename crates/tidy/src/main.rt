@@ -6,6 +6,7 @@
 
 use program::exit::exit_code;
 use program::input::{file_bytes, given_texts};
+use program::stream::Stream;
 use std::alloc::AllocError;
 use std::process::ExitCode;
 use tidy_run::arguments::{file_word, log_word};
@@ -33,16 +34,10 @@ fn answer(rt: &HostRuntime) -> Result<u8, AllocError> {
     rules.push(Box::new(alloc, TrailingBlanks)?)?;
     rules.push(Box::new(alloc, Tabs)?)?;
     rules.push(Box::new(alloc, FinalLine)?)?;
-    let mut log = Log::new(rt, log_word(&args));
-    Ok(run(
-        alloc,
-        &rules,
-        &args,
-        file,
-        &mut rt.stdout(),
-        &mut rt.stderr(),
-        &mut log,
-    ))
+    let mut out = Stream::new(rt.stdout());
+    let mut err = Stream::new(rt.stderr());
+    let mut log = Stream::new(Log::new(rt, log_word(&args)));
+    Ok(run(alloc, &rules, &args, file, &mut out, &mut err, &mut log))
 }
 
 fn main(rt: HostRuntime) -> ExitCode {

@@ -4,9 +4,11 @@ use Rattle.std.proofs.lemmas.Slice.Zip.{AllZip-long}
 use Rattle.std.specs.Str.{chars}
 use Rattle.snippet_text.specs.Normalized.{norm}
 use Rattle.program.specs.Stream.{Output, Silent, Whole, Receives}
+use Rattle.program.specs.declared.stream.Stream.{Stream}
+use Rattle.program.proofs.NotGiven.{cut_unfailed, sound, told_nothing}
 use Rattle.tidy_run.specs.Report.{Told}
 use Rattle.tidy_run.specs.Run.{Clean, End, Ends, Failed, Found, MayEnd, BadUsage, Unlogged, Unprinted, err_of, log_of, message, normalized_text}
-use Rattle.tidy_run.specs.Run.{out_of, sheets_for, status_of}
+use Rattle.tidy_run.specs.Run.{out_of, sheets_for, status_of, usage}
 use Rattle.tidy_run.specs.declared.run.Failure.TheVariants.{Unwritable}
 use Rattle.tidy_run.specs.Arguments.{CommandLine, Argument, command_line_of}
 
@@ -44,10 +46,16 @@ module _ (file : Option (List ℕ)) (tells : List ℕ → List Told) (Out Err Lo
   quiet args ends = quiet_at ends.end (sym ends.status_is) ends.out ends.err ends.log
 
 -- bytes that stay the same weren't given a line
-line_added : (text : List ℕ) → Receives (λ held. held) (Some []) (Some []) (Whole text) → ⊥
+line_added : (text : List ℕ) → Receives (λ held. held) (sound []) (sound []) (Whole text) → ⊥
 line_added text whole =
     let long = length-append text (10 ∷ []) in
-    omega (arith, ap length whole, long)
+    omega (arith, ap length whole.added, long)
+
+-- a stream that isn't written to holds what it held
+kept_as : {held : List ℕ} → sound held ≡ sound [] → held ≡ []
+kept_as {held} same =
+    let bytes : Some held ≡ Some [] = ap (λ (s : Stream (Option (List ℕ))). s.writer) same in
+    cc
 
 -- with LOG there are two texts
 two_texts : (log : Option Argument) (shown : List ℕ) → (log ≡ None → ⊥) → length (sheets_for log) ≡ length (shown ∷ []) → ⊥
@@ -57,7 +65,7 @@ two_texts (Some name) shown named many = cc
 module _ (file : Option (List ℕ)) (tells : List ℕ → List Told) (line : CommandLine) (named : line.log ≡ None → ⊥) (Out Err : Output → Type 0) where
   -- what was in LOG is there as it was
   abbrev Untouched : Output → Type 0
-  Untouched = Receives (λ (held : Option (List ℕ)). held) (Some []) (Some [])
+  Untouched = Receives (λ (held : Option (List ℕ)). held) (sound []) (sound [])
 
   unlogged_at : (end : End) → MayEnd line file tells end → status_of end ≡ 2 → Out (out_of end) → Untouched (log_of end)
       → Out Silent
@@ -75,6 +83,35 @@ module _ (file : Option (List ℕ)) (tells : List ℕ → List Told) (line : Com
   silent_unlogged args is ends =
       let may = subst (λ l. MatchOption l (ends.end ≡ BadUsage) (λ x. MayEnd x file tells ends.end)) is ends.may in
       unlogged_at ends.end may (sym ends.status_is) ends.out ends.log
+
+module _ (args : List Argument) (file : Option (List ℕ)) (tells : List ℕ → List Told) (held : List ℕ) where
+  -- what a stream is given that no write to failed
+  abbrev Unfailed : List ℕ → Output → Type 0
+  Unfailed now = Receives (λ (bytes : Option (List ℕ)). bytes) (sound []) (sound now)
+
+  none_at : (end : End) → status_of end ≡ 2 → Unfailed held (out_of end) → held ≡ []
+  none_at Clean is out = cc
+  none_at (Found shown logged) is out = cc
+  none_at (Unprinted shown logged) is out = absurd (cut_unfailed shown held out)
+  none_at (Unlogged shown plain failure) is out = kept_as out
+  none_at (Failed failure) is out = kept_as out
+  none_at BadUsage is out = kept_as out
+
+  -- with status 2 no part of a report stands on standard output, where no write to it failed
+  pub half_printed : (Err Log : Output → Type 0) → Ends args file tells 2 (Unfailed held) Err Log → held ≡ []
+  half_printed Err Log ends = none_at ends.end (sym ends.status_is) ends.out
+
+  told_at : (end : End) → status_of end ≡ 2 → Unfailed held (out_of end) → Unfailed [] (err_of end) → ⊥
+  told_at Clean is out err = cc
+  told_at (Found shown logged) is out err = cc
+  told_at (Unprinted shown logged) is out err = cut_unfailed shown held out
+  told_at (Unlogged shown plain failure) is out err = told_nothing (message failure) err
+  told_at (Failed failure) is out err = told_nothing (message failure) err
+  told_at BadUsage is out err = told_nothing usage err
+
+  -- and a message stands on standard error, where none failed to that
+  pub failure_untold : (Log : Output → Type 0) → Ends args file tells 2 (Unfailed held) (Unfailed []) Log → ⊥
+  failure_untold Log ends = told_at ends.end (sym ends.status_is) ends.out ends.err
 
 -- the name of LOG that is told as it is, here the character that begins a code
 pub raw_log_told : (name : Bor (List ℕ)) → name.now ≡ 27 ∷ [] → message (Unwritable name) ≡ codes "tidy: cannot write " ++ 27 ∷ [] → ⊥

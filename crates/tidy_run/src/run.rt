@@ -1,4 +1,4 @@
-//! A run of the program, over the bytes of a file and three writers.
+//! A run of the program, over the bytes of a file and three streams.
 ghost use Rattle.std.specs.Prelude.{◌≡◌, ◌≢◌, ◌≤◌, ◌⊎◌, [], ◌++◌, None, IsOk, IsNone, IfErr, IfOk, IfSome, IsSomeAnd};
 ghost use Rattle.std.specs.Prelude.{MatchOption, SomeIff, codes, length, map, string_bytes};
 ghost use Rattle.std.specs.List.{AllZip, flat_map};
@@ -24,6 +24,7 @@ use annotate_snippets::renderer::style::Stylesheet;
 use annotate_snippets::text::{normalize_untrusted_str, text_fits};
 use annotate_snippets::{Group, Renderer, SourceLines};
 use program::line::write_line;
+use program::stream::Stream;
 use std::alloc::{AllocError, Global};
 use std::io::Write;
 use std::str;
@@ -170,8 +171,8 @@ enum Written<'a> {
 fn write_texts<'a, W: Write, L: Write>(
     command: &Command<'a>,
     texts: &[String],
-    out: &mut W,
-    log: &mut L,
+    out: &mut Stream<W>,
+    log: &mut Stream<L>,
 ) -> Written<'a>
     requires count { (texts.now ≡ []) ⊎ (length texts.now ≡ length (sheets_for (said command.now).log)) }
     ensures written { Becomes result (said command.now).log (map string_bytes texts.now)
@@ -213,7 +214,7 @@ fn cannot(alloc: Global, verb: &str, name: &str) -> Result<String, AllocError>
 }
 
 /// Tells a failure, or that there was no memory for that.
-fn tell<V: Write>(alloc: Global, failure: Failure<'_>, err: &mut V)
+fn tell<V: Write>(alloc: Global, failure: Failure<'_>, err: &mut Stream<V>)
     ensures told { Receives V.contents err.old err.new (Told (message failure.entry))
         ⊎ Receives V.contents err.old err.new (Told (message Failure.Memory)) }
 {
@@ -228,25 +229,26 @@ fn tell<V: Write>(alloc: Global, failure: Failure<'_>, err: &mut V)
 ///
 /// `file` is what FILE holds, or `None` where it can't be read; `log` writes to LOG, and isn't written to where the
 /// arguments name none. The status is 0 where the rules find nothing, 1 where what they find was printed, else 2. With
-/// LOG the report is printed in colours, once it stands in LOG without. No writer is flushed.
+/// LOG the report is printed in colours, once it stands in LOG without. No stream is flushed.
 ///
 /// | Status | `out` | `log` | `err` |
 /// |---|---|---|---|
 /// | 0 | as it was | as it was | as it was |
 /// | 1 | the report and a line feed more | with LOG the report and a line feed more | as it was |
 /// | 2, the arguments, or what was in the way of the report | as it was | as it was | a message and a line feed more |
-/// | 2, LOG couldn't be written | as it was | a first part of the report more | the same |
-/// | 2, printing failed | a first part of it more | with LOG the report and a line feed more | as it was |
+/// | 2, a write to LOG failed | as it was | a first part of the report more | the same |
+/// | 2, a write of the report failed | a first part of it more | with LOG the report and a line feed more | as it was |
 ///
-/// A message that couldn't be written stands there by a first part of it.
+/// A message that couldn't be written stands there by a first part of it, and only where a write failed. Once one has
+/// failed nothing more is written to its stream.
 pub fn run<W: Write, V: Write, L: Write>(
     alloc: Global,
     rules: &[Box<dyn Rule>],
     args: &[&str],
     file: Option<&[u8]>,
-    out: &mut W,
-    err: &mut V,
-    log: &mut L,
+    out: &mut Stream<W>,
+    err: &mut Stream<V>,
+    log: &mut Stream<L>,
 ) -> u8
     ensures status { result ≤ 2 }
     ensures usage { command_line_of (arguments_at args.now) ≡ None → result ≡ 2 }
