@@ -1,18 +1,23 @@
 -- The lines of a heading's text, and what they add to a form.
 use Rattle.std.proofs.Common.{◌≡◌, ◌≢◌, ℕ, zero, suc, ◌+◌, ◌<◌, ◌==◌, Bool, true, false, List, [], ◌∷◌, ◌++◌, chars, length, map, replicate, if◌then◌else◌}
-use Rattle.std.proofs.Common.{refl, sym, ap, ◌∙◌, arith}
+use Rattle.std.proofs.Common.{All, Result, refl, subst, sym, ap, ◌∙◌, arith}
 use Rattle.std.specs.Borrow.{Bor}
 use Rattle.std.specs.List.{enumerate_from, flat_map, onto_first}
+use Rattle.std.specs.Result.{OnOk}
 use Rattle.std.specs.Str.{IsUtf8}
 use Rattle.std.proofs.lemmas.Bool.Decides.{nat_tests}
 use Rattle.std.proofs.lemmas.Grind.{flat_map-append}
 use Rattle.std.proofs.lemmas.List.{append-nil, append_assoc, length-map, map-append}
 use Rattle.std.specs.List.{list_any}
+use Rattle.std.proofs.lemmas.List.Elements.{All-weaker}
+use Rattle.std.proofs.lemmas.Str.{chars-IsAscii}
+use Rattle.std.proofs.lemmas.Str.Ascii.{IsAscii-from_all}
 use Rattle.std.proofs.lemmas.List.Splits.{slice_split-cons_no, slice_split-cons_yes, length-slice_split}
 use Rattle.snippet_style.specs.declared.role.ElementStyle.{ElementStyle}
 use Rattle.snippet_model.proofs.RowLemmas.{each_fails as All-from_none}
 use Rattle.snippet_text.specs.Normalized.{norm, shown}
-use Rattle.snippet_titles.proofs.LineLemmas.{line_of}
+use Rattle.snippet_text.specs.Plain.{IsPlain}
+use Rattle.snippet_titles.proofs.LineLemmas.{line_of, lines_at-plain}
 use Rattle.snippet_titles.proofs.SplitLemmas.{lines_at, lines_at-after, lines_at-chars}
 use Rattle.snippet_text_form.specs.Form.{FormPiece, bare, styled}
 use Rattle.snippet_text_form.specs.HeadingForm.{before_line, further_line, lines_form}
@@ -126,3 +131,16 @@ line_added old form one new role width index trusted numbered line text at is fi
 pub before_line-later : (width index : ℕ) → index ≢ 0 → 10 ∷ replicate width 32 ≡ before_line width index
 before_line-later width zero other = absurd (other refl)
 before_line-later width (suc index) other = refl
+
+-- a text of printable ASCII that is shown as it is is one line
+pub plain_lines : (text shown : List ℕ) → All IsPlain text → chars text ≡ shown → lines_at shown ≡ chars text ∷ []
+plain_lines text shown plain is =
+    let ascii = IsAscii-from_all text (All-weaker IsPlain (λ b. b < 128) (λ b own. omega (arith, own.1)) text plain) in
+    let same : chars text ≡ text = chars-IsAscii text ascii in
+    ap lines_at (sym is ∙ same) ∙ lines_at-plain text plain ∙ ap (λ (t : List ℕ). t ∷ []) (sym same)
+
+-- one line that is added is all of them
+pub one_added-on_ok : {T E : Type 0} (r : Result T E) (old new : List FormPiece) (role : ElementStyle) (width : ℕ) (line : List ℕ) (lines : List (List ℕ))
+    → lines ≡ line ∷ [] → OnOk r (new ≡ old ++ styled role line) → OnOk r (new ≡ old ++ lines_form role width lines)
+one_added-on_ok r old new role width line lines one added =
+    subst (λ (ls : List (List ℕ)). OnOk r (new ≡ old ++ lines_form role width ls)) (sym one) added

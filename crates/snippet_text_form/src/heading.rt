@@ -20,7 +20,7 @@ use snippet_model::MessageOrTitle;
 use snippet_model::level::Level;
 use snippet_model::snippet::Id;
 use snippet_style::{ElementStyle, LevelInner};
-use snippet_text::{CowStr, normalized, str_width};
+use snippet_text::{CowStr, is_plain, normalized, str_width};
 use snippet_titles::{HeadingRoles, TitleStyle, address_of, colon, is_hidden, is_set};
 use std::alloc::{AllocError, Global};
 
@@ -223,9 +223,14 @@ fn add_lines<'a>(
         ++ lines_form role (width_of (heading_label kind (heading_of heading.now)))
         (heading_lines (heading_of heading.now))) }
 {
+    let text = heading.text();
+    // Most texts are printable ASCII: trusted or not they are shown as they are, and hold no line feed.
+    if is_plain(text) {
+        return form.add_styled(role, None, CowStr::Borrowed(text));
+    }
     let trusted = heading.allows_styling();
     let mut width = None;
-    for (index, line) in heading.text().split('\n').enumerate() {
+    for (index, line) in text.split('\n').enumerate() {
         width = begin_line(form, kind, width, index, heading)?;
         form.add_styled(role, None, shown_line(alloc, trusted, line)?)?;
     }

@@ -1,30 +1,41 @@
-use Rattle.std.proofs.Common.{sym, lit<}
+use Rattle.std.proofs.Common.{List, ℕ, chars, sym, lit<}
 use Rattle.std.proofs.lemmas.List.{append-nil}
 use Rattle.std.proofs.lemmas.Iterator.Splits.{YieldsList-from_str_split}
 use Rattle.std.proofs.lemmas.Iterator.Consumers.{YieldsList-end, YieldsList-from_enumerate, YieldsList-turn}
+use Rattle.snippet_titles.proofs.HeadingLemmas.{plain_shown}
 use Rattle.snippet_titles.proofs.LineLemmas.{number_is}
 use Rattle.snippet_titles.proofs.SplitLemmas.{lines_at}
-use Rattle.snippet_text_form.proofs.SplitForm.{all_added, line_added, shown_lines-all}
+use Rattle.snippet_text_form.proofs.SplitForm.{all_added, line_added, one_added-on_ok, plain_lines, shown_lines-all}
 use Rattle.snippet_text_form.proofs.heading.add_lines.Goals as goal
+
+pub returns-then-is_plain : goal.returns-then-is_plain
+returns-then-is_plain g c =
+    let text : List ℕ = c.text-text.result.now in
+    let plain = c.is_plain.ensures.yes c.if-is_plain.true in
+    record {
+      added = one_added-on_ok c.add_styled.result _ _ c.args.role _ (chars text) _
+          (plain_lines text _ plain (plain_shown _ text _ c.text-text.ensures plain)) c.add_styled.ensures.added;
+    }
 
 pub loop-index-init : goal.loop-index-init
 loop-index-init g c = (sym (append-nil c.args.form.now), tt)
 
 pub loop-index-preserved : goal.loop-index-preserved
 loop-index-preserved g c =
-    let turn = YieldsList-turn (YieldsList-from_enumerate (YieldsList-from_str_split 10 c.text.result.now (lit< tt) (cc) (cc) (cc))
+    let turn = YieldsList-turn (YieldsList-from_enumerate (YieldsList-from_str_split 10 c.text-text.result.now (lit< tt) (cc) (cc) (cc))
     (cc)) c.loop-index.yielded _ c.loop-index.yielded_by _ _ _ c.in-Some.is c.next.ensures.steps in
     let added = line_added _ _ _ _ c.args.role _ _ c.allows_styling-trusted.result c.loop-index.yielded c.in-Some.line _
-    (number_is (lines_at c.text.result.now) _ _ _ turn.0 turn.1)
+    (number_is (lines_at c.text-text.result.now) _ _ _ turn.0 turn.1)
     c.loop-index.invariant.0 c.in_ok-width.ensures.added c.in_ok-add_styled.ensures.added c.in_ok-shown_line.ensures.value in
     (added, c.in_ok-width.ensures.known)
 
 pub returns : goal.returns
 returns g c =
-    let all = YieldsList-end (YieldsList-from_enumerate (YieldsList-from_str_split 10 c.text.result.now (lit< tt) (cc) (cc) (cc))
+    let all = YieldsList-end (YieldsList-from_enumerate (YieldsList-from_str_split 10 c.text-text.result.now (lit< tt) (cc) (cc) (cc))
     (cc)) c.loop-index.yielded _ c.loop-index.yielded_by _ _ c.in-None.is c.next.ensures.steps in
-    let lines = shown_lines-all _ c.allows_styling-trusted.result _ c.text.result.now c.loop-index.yielded c.allows_styling-trusted.ensures c.text.utf8
-    c.text.ensures all.0 in
+    let lines = shown_lines-all _ c.allows_styling-trusted.result _ c.text-text.result.now c.loop-index.yielded c.allows_styling-trusted.ensures
+    c.text-text.utf8
+    c.text-text.ensures all.0 in
     record {
       added = all_added _ _ _ _ _ _ _ c.loop-index.invariant.0 lines;
     }
