@@ -1,16 +1,12 @@
 -- Lines that are read, the last line that is told, and texts that are printed.
 use Rattle.std.specs.Prelude.{◌≡◌, ℕ, ◌<◌, ◌≤◌, ◌-◌, ◌^◌, ◌⊎◌, ◌||◌, Bool, true, false, List, [], ◌∷◌, Option, Some, IfSome, Result, Ok, Err, length}
 use Rattle.std.specs.Io.BufRead.{drop_through, take_through}
-use Rattle.std.specs.Io.KnownBytes.{Appends, IsAtEnd}
+use Rattle.std.specs.Io.KnownBytes.{Appends}
+pub use Rattle.line_reader.specs.TakenLine.{TakesLine, TakesNext}
 use Rattle.redraw_command.specs.Tally.{is_empty}
 use Rattle.redraw_command.specs.Told.{Tells}
 use Rattle.redraw_command.specs.declared.tally.Tally.{Tally}
 use Rattle.redraw_run.specs.Deeds.{AppendsFirst}
-
--- a line is taken of what a reader holds: its bytes up to a line feed and with it, or all that there are, and at least one
-pub record TakesLine (old new : Option (List ℕ)) (line : List ℕ) : Type 0 where
-  pub some : 0 < length line
-  pub is : IfSome old (λ bytes. (line ≡ take_through 10 bytes) × (new ≡ Some (drop_through 10 bytes)))
 
 -- these lines were read of some bytes, in order, and these bytes are left: each line is up to a line feed and with it, or all that there is
 abbrev pub AreTaken : List ℕ → List (List ℕ) → List ℕ → Type 0
@@ -32,11 +28,6 @@ AreFirstOf held lines = IfSome held (λ bytes. (rest : List ℕ) × AreTaken byt
 -- they are all the lines that it holds, or as many as are counted
 abbrev pub AreAllOf : Option (List ℕ) → List (List ℕ) → Type 0
 AreAllOf held lines = AreReadLines held lines ⊎ (AreFirstOf held lines × (2 ^ 64 - 2 ≤ length lines))
-
--- whether there is one more
-abbrev pub TakesNext : Bool → Option (List ℕ) → Option (List ℕ) → List ℕ → Type 0
-TakesNext true old new line = TakesLine old new line
-TakesNext false old new line = IsAtEnd old
 
 -- nothing is told, or one message is
 abbrev pub TellsUnless : Bool → Option (List ℕ) → Option (List ℕ) → Type 0

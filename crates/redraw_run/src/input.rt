@@ -13,6 +13,7 @@ use crate::draw::Drawing;
 use crate::json::json_of;
 use crate::kind::{Kind, kind_of};
 use crate::report::{cargo_message, sarif_log};
+use json::Scratch;
 use json_node::node::Node;
 use json_node::place::Place;
 use redraw_command::line::{Line, is_utf16, line_of};
@@ -28,6 +29,8 @@ use std::str;
 #[derive(Drop)]
 pub struct Reading {
     alloc: Global,
+    /// What a value of JSON is read in, kept from line to line.
+    scratch: Scratch,
     /// Whether something in it was of a form that is known.
     pub is_known: bool,
     /// Whether there was a line that begins as an object does.
@@ -47,6 +50,7 @@ impl Reading {
     {
         Reading {
             alloc,
+            scratch: Scratch::new(alloc),
             is_known: false,
             has_objects: false,
             has_others: false,
@@ -120,7 +124,7 @@ impl Reading {
             (standing drawing.old (W.contents out.old) (V.contents err.old))
             (standing drawing.new (W.contents out.new) (V.contents err.new)) }
     {
-        let read = json_of(self.alloc, line)?;
+        let read = json_of(self.alloc, line, &mut self.scratch)?;
         match read {
             Ok(value) => self.value(&value, Some(bytes), drawing, out, err),
             Err(error) => self.not_json(line, bytes, &error, drawing, out, err),
@@ -263,7 +267,7 @@ impl Reading {
             (standing drawing.old (W.contents out.old) (V.contents err.old))
             (standing drawing.new (W.contents out.new) (V.contents err.new)) }
     {
-        let read = json_of(self.alloc, text)?;
+        let read = json_of(self.alloc, text, &mut self.scratch)?;
         match read {
             Ok(value) => self.value(&value, None, drawing, out, err),
             Err(error) => {
@@ -439,9 +443,8 @@ fn next_line<B: BufRead + Drop>(input: &mut B, line: &mut Vec<u8>) -> Result<boo
     ensures next { IfOk result (λ is. TakesNext is (B.remaining input.old) (B.remaining input.new) line.new.items) }
     ensures unread { IfErr result IsUnreadable }
 {
-    line.clear();
-    match input.read_until(b'\n', line) {
-        Ok(count) => Ok(count > 0),
+    match line_reader::line::next_line(input, line) {
+        Ok(is_more) => Ok(is_more),
         Err(error) => Err(Stop::Unreadable(error)),
     }
 }

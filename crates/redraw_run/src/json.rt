@@ -1,20 +1,46 @@
 //! The value of JSON that a line or a document is.
-ghost use Rattle.std.specs.Prelude.{◌≡◌, ◌++◌, ◌⊎◌, ◌∷◌, [], None, Some, IfOk, MatchResult};
+ghost use Rattle.std.specs.Prelude.{◌≡◌, ◌++◌, ◌⊎◌, ◌∷◌, [], None, Some, IfOk, IfSome, MatchResult};
+ghost use Rattle.serde_json.specs.Read.{read};
 ghost use Rattle.serde_json.specs.View.{view};
 ghost use Rattle.redraw_run.specs.Fates.{IsWithoutEnd, Reads};
 
+use json::Scratch;
+use json_quick::quick::quick_value;
 use serde_json::Value;
 use std::alloc::{AllocError, Global};
 
-/// The value of JSON that a line or a document is, or why it is none.
-pub fn json_of(alloc: Global, text: &str) -> Result<Result<Value, serde_json::Error>, AllocError>
+/// The bytes of the longest text that is read in memory that is kept from one text to the next: as much may stay taken,
+/// and no more. A longer one is read in memory that is given back when it is read.
+const LONGEST_KEPT: usize = 1 << 20;
+
+/// The value of JSON that a line or a document is, or why it is none. The scratch is kept from one to the next.
+pub fn json_of(
+    alloc: Global,
+    text: &str,
+    scratch: &mut Scratch,
+) -> Result<Result<Value, serde_json::Error>, AllocError>
     ensures reads { IfOk result (λ found. MatchResult found (λ value. Reads text.now (Some (view value)))
         (λ error. Reads text.now None)) }
 {
-    match Value::from_str(alloc, without_end(text)) {
-        Ok(value) => Ok(Ok(value)),
-        Err(error) if error.is_memory() => Err(AllocError),
-        Err(error) => Ok(Err(error)),
+    let json = without_end(text);
+    match kept_value(alloc, json, scratch)? {
+        Some(value) => Ok(Ok(value)),
+        None => match Value::from_str(alloc, json) {
+            Ok(value) => Ok(Ok(value)),
+            Err(error) if error.is_memory() => Err(AllocError),
+            Err(error) => Ok(Err(error)),
+        },
+    }
+}
+
+/// The value that a text is that isn't too long for this, if it is found in memory that is kept.
+fn kept_value(alloc: Global, json: &str, scratch: &mut Scratch) -> Result<Option<Value>, AllocError>
+    ensures reads { IfOk result (λ found. IfSome found (λ value. read json.now ≡ Some (view value))) }
+{
+    if json.len() <= LONGEST_KEPT {
+        quick_value(alloc, json, scratch)
+    } else {
+        Ok(None)
     }
 }
 

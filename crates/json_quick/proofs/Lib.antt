@@ -1,0 +1,4 @@
+pub mod Fuel
+pub mod Loops
+pub mod Numbers
+pub mod Taken
