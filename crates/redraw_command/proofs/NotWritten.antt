@@ -1,8 +1,11 @@
 -- What isn't written, counted or ended with: wrong results, each of a small input, contradict the words of a contract.
-use Rattle.std.proofs.Common.{◌≡◌, ◌++◌, ℕ, List, [], ◌∷◌, Some, false, ap, arith, codes, encode_utf8_all, length}
+use Rattle.std.proofs.Common.{◌≡◌, ◌++◌, ℕ, List, [], ◌∷◌, Some, false, ap, arith, codes, encode_utf8_all, inl, inr, length, length-append}
 use Rattle.std.specs.Io.KnownBytes.{Appends}
 use Rattle.redraw_report.specs.declared.diagnostic.Severity.TheVariants.{Warning}
 use Rattle.redraw_command.specs.Tally.{one_more, status_of, tallied}
+use Rattle.program.specs.Standing.{Gets, Standing}
+use Rattle.program.specs.Stream.{ended_line}
+use Rattle.redraw_command.specs.Told.{Tells}
 use Rattle.redraw_command.specs.Workflow.{escape}
 use Rattle.redraw_command.specs.declared.tally.Tally.{Tally}
 use Rattle.redraw_command.specs.declared.workflow.Part.TheVariants.{Property}
@@ -25,3 +28,15 @@ pub warnings_not_counted : (t new : Tally) → t.warnings ≡ 0 → new ≡ tall
 warnings_not_counted t new none counted still =
     let made : new.warnings ≡ one_more t.warnings = ap (λ (tally : Tally). tally.warnings) counted in
     absurd (omega (arith, none, still, made))
+
+-- standard error to which no write failed, and which holds this
+abbrev unfailed : List ℕ → Standing
+unfailed held = record { held = Some held; has_failed = false }
+
+-- nothing on it, where something is told
+pub nothing_told : Tells (unfailed []) (unfailed []) → ⊥
+nothing_told told = none_given told.line told.given
+  where
+    none_given : (line : List ℕ) → Gets (unfailed []) (unfailed []) (ended_line line) → ⊥
+    none_given line (inl adds) = omega (arith, ap length adds.added, length-append line (10 ∷ []))
+    none_given line (inr breaks) = cc

@@ -1,12 +1,14 @@
 //! Messages to the user.
 ghost use Rattle.std.specs.Prelude.{◌≡◌, ℕ, List, IfOk, string_bytes};
+ghost use Rattle.program.specs.Standing.{known};
 ghost use Rattle.redraw_command.specs.Told as spec;
 ghost use Rattle.redraw_command.specs.Told.{Tells, TellsMemory, TellsOfArguments};
 ghost use Rattle.std.specs.Prelude.{IsErr};
 ghost use Rattle.clap.specs.Words.{kind_of};
 
 use clap::error::ErrorKind;
-use program::line::{write_line, write_whole};
+use program::line::write_line;
+use program::stream::Stream;
 use snippet_text::normalize_untrusted_str;
 use std::alloc::{AllocError, Global};
 use std::fmt;
@@ -16,8 +18,8 @@ use std::io::Write;
 const OUT_OF_MEMORY: &str = "redraw: out of memory";
 
 /// Writes a message, with nothing in it that could change how a terminal shows it.
-pub fn tell<D: fmt::Display + Drop, V: Write>(alloc: Global, message: D, err: &mut V)
-    ensures told { Tells (V.contents err.old) (V.contents err.new) }
+pub fn tell<D: fmt::Display + Drop, V: Write>(alloc: Global, message: D, err: &mut Stream<V>)
+    ensures told { Tells (known V.contents err.old) (known V.contents err.new) }
 {
     match shown(alloc, message) {
         Ok(text) => {
@@ -28,8 +30,8 @@ pub fn tell<D: fmt::Display + Drop, V: Write>(alloc: Global, message: D, err: &m
 }
 
 /// Tells that there is no memory to tell more.
-pub fn tell_memory<V: Write>(err: &mut V)
-    ensures told { TellsMemory (V.contents err.old) (V.contents err.new) }
+pub fn tell_memory<V: Write>(err: &mut Stream<V>)
+    ensures told { TellsMemory (known V.contents err.old) (known V.contents err.new) }
 {
     write_line(OUT_OF_MEMORY, err);
 }
@@ -44,20 +46,20 @@ fn shown<D: fmt::Display + Drop>(alloc: Global, message: D) -> Result<String, Al
 }
 
 /// Writes what is wrong with the arguments, in the same way.
-pub fn tell_error<V: Write>(alloc: Global, error: &clap::Error, err: &mut V)
-    ensures told { TellsOfArguments (V.contents err.old) (V.contents err.new) }
+pub fn tell_error<V: Write>(alloc: Global, error: &clap::Error, err: &mut Stream<V>)
+    ensures told { TellsOfArguments (known V.contents err.old) (known V.contents err.new) }
     ensures memory { kind_of error.now ≡ ErrorKind.OutOfMemory
-        → TellsMemory (V.contents err.old) (V.contents err.new) }
+        → TellsMemory (known V.contents err.old) (known V.contents err.new) }
 {
     match shown_error(alloc, error) {
         Ok(text) => {
-            let _ = write_whole(text.as_str().as_bytes(), err);
+            write_line(text.as_str(), err);
         }
         Err(AllocError) => tell_memory(err),
     }
 }
 
-/// The same as it may be shown, unless it is that there was no memory to read them.
+/// The same as it may be shown, without the line's end; unless it is that there was no memory to read them.
 fn shown_error(alloc: Global, error: &clap::Error) -> Result<String, AllocError>
     ensures shown { IfOk result (λ text. (said : List ℕ) × (string_bytes text ≡ spec.normalized_text said)) }
     ensures memory { kind_of error.now ≡ ErrorKind.OutOfMemory → IsErr result }
@@ -66,5 +68,5 @@ fn shown_error(alloc: Global, error: &clap::Error) -> Result<String, AllocError>
         return Err(AllocError);
     }
     let message = format!(in alloc; "{error}")?;
-    normalize_untrusted_str(alloc, message.as_str())
+    normalize_untrusted_str(alloc, message.as_str().trim_end_matches('\n'))
 }

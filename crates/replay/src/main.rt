@@ -6,6 +6,7 @@
 
 use program::exit::exit_code;
 use program::input::given_arguments;
+use program::stream::Stream;
 use replay_run::run::run;
 use std::io::{self, BufWriter};
 use std::process::ExitCode;
@@ -21,8 +22,9 @@ fn answer(rt: &HostRuntime) -> io::Result<u8> {
         .iter()
         .map(|argument| argument.as_str())
         .collect(alloc)?;
-    let mut out = BufWriter::new(alloc, rt.stdout())?;
-    Ok(run(rt, &args, &mut out, &mut rt.stderr()))
+    let mut out = Stream::new(BufWriter::new(alloc, rt.stdout())?);
+    let mut err = Stream::new(rt.stderr());
+    Ok(run(rt, &args, &mut out, &mut err))
 }
 
 fn main(rt: HostRuntime) -> ExitCode {

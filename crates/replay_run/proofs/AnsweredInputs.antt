@@ -1,5 +1,5 @@
 -- The inputs answered so far.
-use Rattle.std.proofs.Common.{◌≡◌, ◌⊎◌, ℕ, zero, suc, ◌+◌, ◌<◌, Bool, true, false, ◌||◌, List, [], ◌∷◌, ◌++◌, Bor, Option, arith, codes, length, map, take}
+use Rattle.std.proofs.Common.{◌≡◌, ◌⊎◌, ℕ, zero, suc, ◌+◌, ◌<◌, Bool, true, false, ◌||◌, List, [], ◌∷◌, ◌++◌, Bor, Option, arith, codes, length, take}
 use Rattle.std.proofs.Common.{slice_index_or, refl}
 use Rattle.std.proofs.Common.{sym, ap, ◌∙◌, subst, inl, inr}
 use Rattle.std.specs.Prelude.{IfErr, OnErr, OnOk, Result, Ok, Err, bytes_eq}
@@ -10,6 +10,8 @@ use Rattle.std.proofs.KnownBytes.{Keeps-trans}
 use Rattle.std.proofs.lemmas.List.{append-nil, map-append, map_more, take_all}
 use Rattle.std.proofs.lemmas.List.Concat.{flat_map-append}
 use Rattle.std.proofs.lemmas.List.Elements.{All-push}
+use Rattle.program.specs.Standing.{Gets, Standing, StaysFailed}
+use Rattle.program.proofs.Writing.{gets_none, gets_stays}
 use Rattle.replay_run.specs.WrittenAnswer.{AnswersLines, Numbered, first_after}
 use Rattle.replay_run.specs.Answered.{AnswersInputs, AnswersReader, AppendsFirst, AreRead, IsEndProblem, StopsAfter, StopsAt, StopsAtInput, StopsFor}
 use Rattle.replay_run.specs.Answered.{StopsInputs, StopsReader}
@@ -32,12 +34,12 @@ lines_push inputs input lines =
 
 -- the inputs of these names are answered, and still_first tells whether still nothing is written
 pub record HaveAnswered (File Standard : Type 0) (held : NamedInput File Standard → Option (List ℕ)) (way : Way) (told : Bool) (names : List Argument)
-    (still_first : Bool) (old new : Option (List ℕ)) : Type 0 where
+    (still_first : Bool) (old new : Standing) : Type 0 where
   pub all : AnswersInputs File Standard held way told names old new
   pub still : still_first ≡ first_after true (lines_of all.inputs)
 
 -- before any input is read nothing is answered
-pub none_answered : {File Standard : Type 0} (held : NamedInput File Standard → Option (List ℕ)) (way : Way) (old : Option (List ℕ))
+pub none_answered : {File Standard : Type 0} (held : NamedInput File Standard → Option (List ℕ)) (way : Way) (old : Standing)
     → HaveAnswered File Standard held way false [] true old old
 none_answered held way old =
     record {
@@ -47,14 +49,14 @@ none_answered held way old =
         read = λ k d within. absurd (omega (arith, within));
         texts = [];
         answered = refl;
-        written = appends_none old;
+        written = appends_none old.held;
       };
       still = refl;
     }
 
 -- with one more input that is answered the inputs so far are answered
 pub one_more_answered : {File Standard : Type 0} (held : NamedInput File Standard → Option (List ℕ)) (way : Way) (told here both : Bool) (names : List Argument)
-    (is_first still_first : Bool) (old mid new : Option (List ℕ)) (input : NamedInput File Standard)
+    (is_first still_first : Bool) (old mid new : Standing) (input : NamedInput File Standard)
     → HaveAnswered File Standard held way told names is_first old mid
     → AnswersReader way here is_first still_first (held input) mid new → both ≡ told || here
     → HaveAnswered File Standard held way both (names ++ input.name ∷ []) still_first old new
@@ -74,14 +76,14 @@ one_more_answered held way told here both names is_first still_first old mid new
         read = All-push (λ r. AreRead (held r.0) r.1) h.all.inputs (input, one.lines) h.all.read one.read;
         texts = h.all.texts ++ one.texts;
         answered = subst (λ l. AnswersLines way both true l (h.all.texts ++ one.texts)) (sym pushed) all;
-        written = written_twice old mid new h.all.texts one.texts h.all.written one.written;
+        written = written_twice old.held mid.held new.held h.all.texts one.texts h.all.written one.written;
       };
       still = one.still ∙ ap (λ f. first_after f one.lines) h.still ∙ sym (first_twice true so_far one.lines) ∙ ap (first_after true) (sym pushed);
     }
 
 -- a flush afterwards changes nothing
 pub answers_kept : {File Standard : Type 0} (held : NamedInput File Standard → Option (List ℕ)) (way : Way) (told : Bool) (names : List Argument)
-    (old mid new : Option (List ℕ)) → AnswersInputs File Standard held way told names old mid → Keeps mid new
+    (old mid new : Standing) → AnswersInputs File Standard held way told names old mid → Keeps mid.held new.held
     → AnswersInputs File Standard held way told names old new
 answers_kept held way told names old mid new h kept =
     record {
@@ -90,7 +92,7 @@ answers_kept held way told names old mid new h kept =
       read = h.read;
       texts = h.texts;
       answered = h.answered;
-      written = appends_kept old mid new (concat h.texts) h.written kept;
+      written = appends_kept old.held mid.held new.held (concat h.texts) h.written kept;
     }
 
 -- what is known of an answer Ok tells more
@@ -99,7 +101,7 @@ on_ok (Ok x) tells h = tells h
 on_ok (Err e) tells h = tt
 
 -- two readers that hold the same are answered by the same
-pub answered_same : (way : Way) (told is_first still_first : Bool) (held same old new : Option (List ℕ)) → held ≡ same
+pub answered_same : (way : Way) (told is_first still_first : Bool) (held same : Option (List ℕ)) (old new : Standing) → held ≡ same
     → AnswersReader way told is_first still_first held old new → AnswersReader way told is_first still_first same old new
 answered_same way told is_first still_first held same old new is h =
     subst (λ bytes. AnswersReader way told is_first still_first bytes old new) is h
@@ -119,29 +121,37 @@ pub if_err : {T E : Type 0} {P Q : E → Type 0} (r : Result T E) → ((e : E) �
 if_err (Ok x) tells h = tt
 if_err (Err e) tells h = tells e h
 
-pub stopped_same : (way : Way) (is_first : Bool) (held same old new : Option (List ℕ)) (problem : Problem) → held ≡ same
+pub stopped_same : (way : Way) (is_first : Bool) (held same : Option (List ℕ)) (old new : Standing) (problem : Problem) → held ≡ same
     → StopsReader way is_first held old new problem → StopsReader way is_first same old new problem
 stopped_same way is_first held same old new problem is h =
     subst (λ bytes. StopsReader way is_first bytes old new problem) is h
 
-part_kept : (way : Way) (held old mid new : Option (List ℕ)) (lines : List Numbered) (whole : List ℕ) (problem : Problem)
-    → (IsWrite problem × AppendsFirst old mid whole) ⊎ (Appends old mid whole × StopsAfter held lines problem × StopsFor way problem)
-    → Keeps mid new → (IsWrite problem × AppendsFirst old new whole) ⊎ (Appends old new whole × StopsAfter held lines problem × StopsFor way problem)
+-- a write that failed has still failed after a flush
+write_kept : (mid new : Standing) (problem : Problem) → IsWrite mid problem → StaysFailed mid new → IsWrite new problem
+write_kept mid new problem write stays =
+    (ap (λ (s : Standing). s.has_failed) (stays write.0) ∙ write.0, write.1, write.2)
+
+part_kept : (way : Way) (held : Option (List ℕ)) (old mid new : Standing) (lines : List Numbered) (whole : List ℕ) (problem : Problem)
+    → (IsWrite mid problem × AppendsFirst old mid whole) ⊎ (Appends old.held mid.held whole × StopsAfter held lines problem × StopsFor way problem)
+    → Gets mid new []
+    → (IsWrite new problem × AppendsFirst old new whole) ⊎ (Appends old.held new.held whole × StopsAfter held lines problem × StopsFor way problem)
 part_kept way held old mid new lines whole problem (inl h) kept =
     inl (
-      h.0,
+      write_kept mid new problem h.0 (gets_stays mid new [] kept),
       record {
         part = h.1.part;
         rest = h.1.rest;
         split = h.1.split;
-        added = appends_kept old mid new h.1.part h.1.added kept;
+        added = appends_kept old.held mid.held new.held h.1.part h.1.added (gets_none mid new kept);
       },
     )
-part_kept way held old mid new lines whole problem (inr h) kept = inr (appends_kept old mid new whole h.0 kept, h.1, h.2)
+part_kept way held old mid new lines whole problem (inr h) kept =
+    inr (appends_kept old.held mid.held new.held whole h.0 (gets_none mid new kept), h.1, h.2)
 
 -- nothing more is written after it stopped
-stopped_kept : (way : Way) (is_first : Bool) (held old mid new : Option (List ℕ)) (problem : Problem) → StopsReader way is_first held old mid problem
-    → Keeps mid new → StopsReader way is_first held old new problem
+stopped_kept : (way : Way) (is_first : Bool) (held : Option (List ℕ)) (old mid new : Standing) (problem : Problem)
+    → StopsReader way is_first held old mid problem
+    → Gets mid new [] → StopsReader way is_first held old new problem
 stopped_kept way is_first held old mid new problem h kept =
     record {
       lines = h.lines;
@@ -153,9 +163,10 @@ stopped_kept way is_first held old mid new problem h kept =
     }
 
 at_kept : {File Standard : Type 0} (held : NamedInput File Standard → Option (List ℕ)) (name : Argument) (way : Way) (is_first : Bool)
-    (old mid new : Option (List ℕ)) (problem : Problem) → StopsAtInput File Standard held name way is_first old mid problem → Keeps mid new
+    (old mid new : Standing) (problem : Problem) → StopsAtInput File Standard held name way is_first old mid problem → Gets mid new []
     → StopsAtInput File Standard held name way is_first old new problem
-at_kept held name way is_first old mid new problem (inl h) kept = inl (Keeps-trans old mid new h.0 kept, h.1)
+at_kept held name way is_first old mid new problem (inl h) kept =
+    inl (Keeps-trans old.held mid.held new.held h.0 (gets_none mid new kept), h.1)
 at_kept held name way is_first old mid new problem (inr h) kept =
     inr (h.0, h.1, stopped_kept way is_first (held h.0) old mid new problem h.2 kept)
 
@@ -179,7 +190,7 @@ names_all refs i all = ap arguments_at (take_all i refs (omega (arith, all)))
 
 -- with the inputs of the first names answered it stops at the next
 pub stops_next : {File Standard : Type 0} (held : NamedInput File Standard → Option (List ℕ)) (way : Way) (told : Bool) (names before after : List Argument)
-    (name called : Argument) (is_first : Bool) (old mid new : Option (List ℕ)) (problem : Problem)
+    (name called : Argument) (is_first : Bool) (old mid new : Standing) (problem : Problem)
     → HaveAnswered File Standard held way told before is_first old mid → names ≡ before ++ name ∷ after → called ≡ input_name name
     → StopsAtInput File Standard held name way is_first mid new problem → StopsInputs File Standard held way names old new called problem
 stops_next {File} {Standard} held way told names before after name called is_first old mid new problem h split call stops =
@@ -193,8 +204,8 @@ stops_next {File} {Standard} held way told names before after name called is_fir
 
 -- it stops where all inputs are answered: as the last flush fails, or as a line was no case
 pub all_stop : {File Standard : Type 0} (held : NamedInput File Standard → Option (List ℕ)) (way : Way) (told : Bool) (names : List Argument)
-    (old mid new : Option (List ℕ)) (problem : Problem) → AnswersInputs File Standard held way told names old mid
-    → Keeps mid new → IsEndProblem told problem → StopsInputs File Standard held way names old new (codes "standard output") problem
+    (old mid new : Standing) (problem : Problem) → AnswersInputs File Standard held way told names old mid
+    → Keeps mid.held new.held → IsEndProblem told new problem → StopsInputs File Standard held way names old new (codes "standard output") problem
 all_stop held way told names old mid new problem h kept end =
     record {
       before = names;
@@ -204,14 +215,18 @@ all_stop held way told names old mid new problem h kept end =
       stops = inr (refl, refl, end, kept);
     }
 
+end_kept : (told : Bool) (mid new : Standing) (problem : Problem) → IsEndProblem told mid problem → StaysFailed mid new → IsEndProblem told new problem
+end_kept told mid new problem (inl write) stays = inl (write_kept mid new problem write stays)
+end_kept told mid new problem (inr other) stays = inr other
+
 pub stops_kept : {File Standard : Type 0} (held : NamedInput File Standard → Option (List ℕ)) (way : Way) (names : List Argument)
-    (old mid new : Option (List ℕ)) (called : Argument) (problem : Problem) → StopsInputs File Standard held way names old mid called problem → Keeps mid new
+    (old mid new : Standing) (called : Argument) (problem : Problem) → StopsInputs File Standard held way names old mid called problem → Gets mid new []
     → StopsInputs File Standard held way names old new called problem
 stops_kept {File} {Standard} held way names old mid new called problem h kept = kept_at h.stops
   where
     kept_at : ((name : Argument) × (after : List Argument) × (names ≡ h.before ++ name ∷ after) × (called ≡ input_name name)
         × StopsAtInput File Standard held name way (first_after true (lines_of h.answered.inputs)) h.mid mid problem)
-        ⊎ ((names ≡ h.before) × (called ≡ codes "standard output") × IsEndProblem h.told problem × Keeps h.mid mid)
+        ⊎ ((names ≡ h.before) × (called ≡ codes "standard output") × IsEndProblem h.told mid problem × Keeps h.mid.held mid.held)
         → StopsInputs File Standard held way names old new called problem
     kept_at (inl at) =
         record {
@@ -227,7 +242,12 @@ stops_kept {File} {Standard} held way names old mid new called problem h kept = 
           mid = h.mid;
           told = h.told;
           answered = h.answered;
-          stops = inr (end.0, end.1, end.2, Keeps-trans h.mid mid new end.3 kept);
+          stops = inr (
+            end.0,
+            end.1,
+            end_kept h.told mid new problem end.2 (gets_stays mid new [] kept),
+            Keeps-trans h.mid.held mid.held new.held end.3 (gets_none mid new kept),
+          );
         }
 
 -- ---- of an input that is a file, or standard input
@@ -238,7 +258,7 @@ no_hyphen name differs is = false≢true (sym differs ∙ ap (λ (argument : Arg
 
 -- what is answered of a file is answered of the input of its name, which is no hyphen
 pub file_answered : {File Standard : Type 0} (file : File → Option (List ℕ)) (standard : Standard → Option (List ℕ)) (name : Argument) (way : Way)
-    (told is_first still_first : Bool) (old new : Option (List ℕ)) → (name ≡ hyphen → ⊥)
+    (told is_first still_first : Bool) (old new : Standing) → (name ≡ hyphen → ⊥)
     → (source : File) × AnswersReader way told is_first still_first (file source) old new
     → (input : NamedInput File Standard) × (input.name ≡ name) × AnswersReader way told is_first still_first (held_by file standard input) old new
 file_answered file standard name way told is_first still_first old new other (source, answered) =
@@ -246,7 +266,7 @@ file_answered file standard name way told is_first still_first old new other (so
 
 -- the same of standard input, whose name is one
 pub standard_answered : {File Standard : Type 0} (file : File → Option (List ℕ)) (standard : Standard → Option (List ℕ)) (name : Argument) (way : Way)
-    (told is_first still_first : Bool) (old new : Option (List ℕ)) → name ≡ hyphen
+    (told is_first still_first : Bool) (old new : Standing) → name ≡ hyphen
     → (source : Standard) × AnswersReader way told is_first still_first (standard source) old new
     → (input : NamedInput File Standard) × (input.name ≡ name) × AnswersReader way told is_first still_first (held_by file standard input) old new
 standard_answered file standard name way told is_first still_first old new is (source, answered) =
@@ -254,14 +274,14 @@ standard_answered file standard name way told is_first still_first old new is (s
 
 -- where it stops at a file it stops at the input of its name
 pub file_stops : {File Standard : Type 0} (file : File → Option (List ℕ)) (standard : Standard → Option (List ℕ)) (name : Argument) (way : Way)
-    (is_first : Bool) (old new : Option (List ℕ)) (problem : Problem) → (name ≡ hyphen → ⊥) → StopsAt File file way is_first old new problem
+    (is_first : Bool) (old new : Standing) (problem : Problem) → (name ≡ hyphen → ⊥) → StopsAt File file way is_first old new problem
     → StopsAtInput File Standard (held_by file standard) name way is_first old new problem
 file_stops file standard name way is_first old new problem other (inl h) = inl h
 file_stops file standard name way is_first old new problem other (inr h) =
     inr (record { name = name; source = inl h.0; is = other }, refl, h.1)
 
 pub standard_stops : {File Standard : Type 0} (file : File → Option (List ℕ)) (standard : Standard → Option (List ℕ)) (name : Argument) (way : Way)
-    (is_first : Bool) (old new : Option (List ℕ)) (problem : Problem) → name ≡ hyphen → StopsAt Standard standard way is_first old new problem
+    (is_first : Bool) (old new : Standing) (problem : Problem) → name ≡ hyphen → StopsAt Standard standard way is_first old new problem
     → StopsAtInput File Standard (held_by file standard) name way is_first old new problem
 standard_stops file standard name way is_first old new problem is (inl h) = inl h
 standard_stops file standard name way is_first old new problem is (inr h) =

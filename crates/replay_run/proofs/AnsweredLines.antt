@@ -10,8 +10,9 @@ use Rattle.std.specs.List.{concat}
 use Rattle.std.specs.declared.alloc.Global.{Global}
 use Rattle.std.proofs.lemmas.List.{append-nil, length_push}
 use Rattle.std.proofs.lemmas.List.Folds.{concat-append}
+use Rattle.program.specs.Standing.{Standing}
 use Rattle.replay_run.specs.WrittenAnswer.{AnswersLine, AnswersLines, AreFirstLines, AreNumberedLines, Numbered, first_after, following_number}
-use Rattle.replay_run.specs.Answered.{AnswersReader, AppendsFirst, AreFirstRead, AreRead, StopsAfter, StopsFor, StopsLine, StopsReader, following_line}
+use Rattle.replay_run.specs.Answered.{AnswersReader, AppendsFirst, AreFirstRead, AreRead, StopsAfter, StopsLine, StopsReader, following_line}
 use Rattle.replay_run.specs.Checked.{most}
 use Rattle.replay_run.specs.Problem.{IsProblemWith, IsWrite}
 use Rattle.replay_run.specs.declared.lines.Way.{Way}
@@ -114,17 +115,17 @@ next_number : (n number next : ℕ) → number ≡ min n most → next ≡ min (
 next_number n number next counted step = omega arith
 
 -- the lines so far are answered, and counted, and this is left of what a reader held
-pub record HaveAnswered (way : Way) (told is_first still_first : Bool) (number : ℕ) (held left old new : Option (List ℕ)) : Type 0 where
+pub record HaveAnswered (way : Way) (told is_first still_first : Bool) (number : ℕ) (held left : Option (List ℕ)) (old new : Standing) : Type 0 where
   pub lines : List Numbered
   pub leaves : LeavesAfter held left lines
   pub texts : List (List ℕ)
   pub answered : AnswersLines way told is_first lines texts
-  pub written : Appends old new (concat texts)
+  pub written : Appends old.held new.held (concat texts)
   pub still : still_first ≡ first_after is_first lines
   pub counted : number ≡ min (length lines) most
 
 -- before any line is read nothing is answered
-pub answered_none : (way : Way) (is_first : Bool) (held left old : Option (List ℕ)) → left ≡ held
+pub answered_none : (way : Way) (is_first : Bool) (held left : Option (List ℕ)) (old : Standing) → left ≡ held
     → HaveAnswered way false is_first is_first 0 held left old old
 answered_none way is_first held left old is =
     record {
@@ -132,7 +133,7 @@ answered_none way is_first held left old is =
       leaves = left_none held left is;
       texts = [];
       answered = refl;
-      written = appends_none old;
+      written = appends_none old.held;
       still = refl;
       counted = refl;
     }
@@ -147,29 +148,33 @@ answer_after way here is_first still_first number more lines line text counted s
     let first : AnswersLine way here (first_after is_first lines) (more, line) text = subst (λ f. AnswersLine way here f (more, line) text) still answers in
     (here, false, or_false here, subst (λ n. AnswersLine way here (first_after is_first lines) (n, line) text) same first, refl)
 
-answered_more : (way : Way) (told here is_first still_first : Bool) (number more : ℕ) (held left next old mid out new : Option (List ℕ)) (line text : List ℕ)
+answered_more : (way : Way) (told here is_first still_first : Bool) (number more : ℕ) (held left next : Option (List ℕ)) (old mid out new : Standing)
+    (line text : List ℕ)
     → HaveAnswered way told is_first still_first number held left old mid → more ≡ min (number + 1) most → GivesLine left next line
-    → AnswersLine way here still_first (more, line) text → Appends mid out text → Keeps out new
+    → AnswersLine way here still_first (more, line) text → Appends mid.held out.held text → Keeps out.held new.held
     → HaveAnswered way (told || here) is_first false more held next old new
 answered_more way told here is_first still_first number more held left next old mid out new line text h step gives answers added kept =
     let this : Numbered = next_line h.lines line in
-    let alone : Appends mid out (concat (text ∷ [])) = subst (Appends mid out) (sym (append-nil text)) added in
+    let alone : Appends mid.held out.held (concat (text ∷ [])) = subst (Appends mid.held out.held) (sym (append-nil text)) added in
     let one = answer_after way here is_first still_first number more h.lines line text h.counted step h.still answers in
     record {
       lines = h.lines ++ this ∷ [];
       leaves = left_more held left next h.lines line h.leaves gives;
       texts = h.texts ++ text ∷ [];
       answered = answered_twice way told here is_first h.lines h.texts (this ∷ []) (text ∷ []) h.answered one;
-      written = appends_kept old out new (concat (h.texts ++ text ∷ [])) (written_twice old mid out h.texts (text ∷ []) h.written alone) kept;
+      written = appends_kept old.held out.held new.held (concat (h.texts ++ text ∷ []))
+          (written_twice old.held mid.held out.held h.texts (text ∷ []) h.written alone) kept;
       still = sym (first_twice is_first h.lines (this ∷ []));
       counted = next_number (length h.lines) number more h.counted step ∙ sym (ap (λ n. min n most) (length_push h.lines this));
     }
 
 -- with one more line that is answered the lines so far are answered
-pub answered_step : {E : Type 0} (way : Way) (told here both is_first still_first : Bool) (number more : ℕ) (held left next old mid out new : Option (List ℕ))
+pub answered_step : {E : Type 0} (way : Way) (told here both is_first still_first : Bool) (number more : ℕ) (held left next : Option (List ℕ))
+    (old mid out new : Standing)
     (r : Option (Result (String Global) E)) (line : Result (String Global) E) → HaveAnswered way told is_first still_first number held left old mid
     → more ≡ min (number + 1) most → r ≡ Some line → YieldsKnownPiece string_bytes first_line 10 left r next
-    → IsOkAnd line (λ x. (text : List ℕ) × AnswersLine way here still_first (more, string_bytes x) text × Appends mid out text) → Keeps out new
+    → IsOkAnd line (λ x. (text : List ℕ) × AnswersLine way here still_first (more, string_bytes x) text × Appends mid.held out.held text)
+    → Keeps out.held new.held
     → both ≡ told || here → HaveAnswered way both is_first false more held next old new
 answered_step way told here both is_first still_first number more held left next old mid out new r (Ok x) h step is gives answers kept either =
     let piece : GivesLine left next (string_bytes x) = subst (λ item. YieldsKnownPiece string_bytes first_line 10 left item next) is gives in
@@ -180,7 +185,7 @@ answered_step way told here both is_first still_first number more held left next
     absurd answers
 
 -- once no line is left the reader is answered
-pub answered_all : {E : Type 0} (way : Way) (told is_first still_first : Bool) (number : ℕ) (held left next old new : Option (List ℕ))
+pub answered_all : {E : Type 0} (way : Way) (told is_first still_first : Bool) (number : ℕ) (held left next : Option (List ℕ)) (old new : Standing)
     (r : Option (Result (String Global) E)) → HaveAnswered way told is_first still_first number held left old new → r ≡ None
     → YieldsKnownPiece string_bytes first_line 10 left r next → AnswersReader way told is_first still_first held old new
 answered_all way told is_first still_first number held left next old new r h is gives =
@@ -194,9 +199,9 @@ answered_all way told is_first still_first number held left next old new r h is 
     }
 
 -- what was written can't be handed on after the lines so far
-pub stops_after : (way : Way) (told is_first still_first : Bool) (number : ℕ) (held left old mid new : Option (List ℕ)) (problem : Problem)
+pub stops_after : (way : Way) (told is_first still_first : Bool) (number : ℕ) (held left : Option (List ℕ)) (old mid new : Standing) (problem : Problem)
     → HaveAnswered way told is_first still_first number held left old mid
-    → Keeps mid new → IsWrite problem → StopsReader way is_first held old new problem
+    → Keeps mid.held new.held → IsWrite new problem → StopsReader way is_first held old new problem
 stops_after way told is_first still_first number held left old mid new problem h kept write =
     record {
       lines = h.lines;
@@ -210,14 +215,14 @@ stops_after way told is_first still_first number held left old mid new problem h
           part = concat h.texts;
           rest = [];
           split = sym (append-nil (concat h.texts));
-          added = appends_kept old mid new (concat h.texts) h.written kept;
+          added = appends_kept old.held mid.held new.held (concat h.texts) h.written kept;
         },
       );
     }
 
-stops_in : (way : Way) (told here is_first still_first : Bool) (number more : ℕ) (held left next old mid new : Option (List ℕ)) (problem : Problem)
+stops_in : (way : Way) (told here is_first still_first : Bool) (number more : ℕ) (held left next : Option (List ℕ)) (old mid new : Standing) (problem : Problem)
     (line text : List ℕ)
-    → HaveAnswered way told is_first still_first number held left old mid → more ≡ min (number + 1) most → GivesLine left next line → IsWrite problem
+    → HaveAnswered way told is_first still_first number held left old mid → more ≡ min (number + 1) most → GivesLine left next line → IsWrite new problem
     → AnswersLine way here still_first (more, line) text → AppendsFirst mid new text → StopsReader way is_first held old new problem
 stops_in way told here is_first still_first number more held left next old mid new problem line text h step gives write answers first =
     let this : Numbered = next_line h.lines line in
@@ -236,7 +241,7 @@ stops_in way told here is_first still_first number more held left next old mid n
           part = concat h.texts ++ first.part;
           rest = first.rest;
           split = whole ∙ ap (λ (l : List ℕ). concat h.texts ++ l) first.split ∙ sym (append_assoc (concat h.texts) first.part first.rest);
-          added = appends_twice old mid new (concat h.texts) first.part h.written first.added;
+          added = appends_twice old.held mid.held new.held (concat h.texts) first.part h.written first.added;
         },
       );
     }
@@ -271,7 +276,7 @@ problem_after held left next lines at line (Write error) h gives at_is with = ab
 problem_after held left next lines at line Memory h gives at_is with = tt
 
 -- it stops within one line more, or at it
-pub stops_within : {E : Type 0} (way : Way) (told is_first still_first : Bool) (number more : ℕ) (held left next old mid new : Option (List ℕ))
+pub stops_within : {E : Type 0} (way : Way) (told is_first still_first : Bool) (number more : ℕ) (held left next : Option (List ℕ)) (old mid new : Standing)
     (problem : Problem)
     (r : Option (Result (String Global) E)) (line : Result (String Global) E) → HaveAnswered way told is_first still_first number held left old mid
     → more ≡ min (number + 1) most → r ≡ Some line → YieldsKnownPiece string_bytes first_line 10 left r next
@@ -284,7 +289,7 @@ stops_within way told is_first still_first number more held left next old mid ne
       told = told;
       answered = h.answered;
       written = inr (
-        appends_kept old mid new (concat h.texts) h.written with.0,
+        appends_kept old.held mid.held new.held (concat h.texts) h.written with.0,
         problem_after held left next h.lines (Case more) line problem h.leaves
             (subst (λ item. YieldsKnownPiece string_bytes first_line 10 left item next) is gives)
             (ap Case (next_number (length h.lines) number more h.counted step)) with.1,

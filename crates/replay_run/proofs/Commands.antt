@@ -1,5 +1,5 @@
 -- What a command does, by what is asked for.
-use Rattle.std.proofs.Common.{◌≡◌, ◌∙◌, ◌≢◌, ◌⊎◌, ℕ, Bool, Bor, Option, List, [], None, Some, ap, inl, inr, length, refl, subst, sym}
+use Rattle.std.proofs.Common.{◌≡◌, ◌∙◌, ◌≢◌, ◌⊎◌, ℕ, Bool, Bor, Option, List, [], None, Some, inl, inr, length, refl, subst, sym}
 use Rattle.std.proofs.lemmas.List.{length-map}
 use Rattle.clap.specs.Faults.{fault_of}
 use Rattle.clap.specs.Kinds.{HasKind, IsAmong, Kinds}
@@ -8,6 +8,7 @@ use Rattle.clap.specs.Values.{kind_of}
 use Rattle.clap.specs.declared.error.Error.{Error}
 use Rattle.clap.specs.declared.error.kind.ErrorKind.{ErrorKind}
 use Rattle.clap.specs.declared.error.kind.ErrorKind.TheVariants.{DisplayHelp, DisplayVersion, OutOfMemory}
+use Rattle.program.specs.Standing.{Standing}
 use Rattle.replay_command.specs.Arguments.{AsksToShow, Checks, IsCommandLine, Task, Argument, asked, replay_app, task_of, arguments_at}
 use Rattle.replay_command.specs.declared.command.Command.{Command}
 use Rattle.replay_command.specs.declared.command.Command.TheVariants.{Answer, Check, Repeat}
@@ -71,7 +72,7 @@ pub answers_done : (command : Command) (texts keep_going : Bool) (inputs : Bor (
 answers_done command texts keep_going inputs P way is same known =
     subst (λ (c : Command). IfAnswers c P) (sym is) (subst (λ (w : Way). P w (arguments_at inputs.now)) same known)
 
-pub comparison_done : {File : Type 0} (bytes : File → Option (List ℕ)) (command : Command) (files : Bor (List (Bor Argument))) (old new : Option (List ℕ))
+pub comparison_done : {File : Type 0} (bytes : File → Option (List ℕ)) (command : Command) (files : Bor (List (Bor Argument))) (old new : Standing)
     (status : ℕ) → command ≡ Check files → EndsComparison File bytes (length files.now) old new status
     → IfComparison command (λ names. EndsComparison File bytes (length names) old new status)
 comparison_done {File} bytes command files old new status is ends =

@@ -1,12 +1,9 @@
--- What a writer holds after more was written to it, where its bytes are known.
-use Rattle.std.specs.Prelude.{◌≡◌, ◌⊎◌, ℕ, List, ◌++◌, Option}
+-- What a stream holds after more was written to it, where its bytes are known.
+use Rattle.std.specs.Prelude.{ℕ, List}
 use Rattle.std.specs.Io.KnownBytes.{Appends}
-use Rattle.program.specs.Stream.{AppendsPart}
+use Rattle.program.specs.Standing.{Standing}
 
 -- what it held, and a text after it
-abbrev pub Grows : Option (List ℕ) → Option (List ℕ) → Type 0
-Grows old new = (text : List ℕ) × Appends old new text
-
--- what it held, and this after it, or a first part of it where a write failed
-abbrev pub AppendsOrPart : Option (List ℕ) → Option (List ℕ) → List ℕ → Type 0
-AppendsOrPart old new text = Appends old new text ⊎ AppendsPart old new text
+pub record Grows (old new : Standing) : Type 0 where
+  pub text : List ℕ
+  pub added : Appends old.held new.held text

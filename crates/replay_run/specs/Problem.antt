@@ -1,10 +1,11 @@
 -- What stops a run, and what is told of it.
-use Rattle.std.specs.Prelude.{◌≡◌, ◌⊎◌, ℕ, Bool, List, ◌++◌, Option, Some, None, Result, String, IsOkAnd, codes, decimal, if◌then◌else◌}
+use Rattle.std.specs.Prelude.{◌≡◌, ◌⊎◌, ℕ, Bool, true, List, ◌++◌, Some, None, Result, String, IsOkAnd, codes, decimal, if◌then◌else◌}
 use Rattle.std.specs.Prelude.{string_bytes}
 use Rattle.std.specs.declared.alloc.Global.{Global}
 use Rattle.std.specs.declared.io.Error.{Error}
 pub use Rattle.program.specs.Stream.{normalized_text}
-use Rattle.program.specs.Stream.{Output, Told, ended_line}
+use Rattle.program.specs.Stream.{Output, Told}
+use Rattle.program.specs.Standing.{Standing}
 use Rattle.serde_json.specs.Data.{Data}
 use Rattle.serde_json.specs.Read.{read}
 use Rattle.replay_answer.specs.Answer.{not_json_text}
@@ -13,7 +14,6 @@ use Rattle.replay_run.specs.declared.problem.Line.TheVariants.{Case, Expected}
 use Rattle.replay_run.specs.declared.problem.Problem.{Problem}
 use Rattle.replay_run.specs.declared.problem.Problem.TheVariants.{NotText, NotJson, Wrong, Unpaired, TooManyLines, NotCases, Read, Clock, Write, Memory}
 use Rattle.replay_command.specs.Arguments.{Argument}
-use Rattle.replay_run.specs.Growth.{AppendsOrPart}
 
 -- a line, by its number
 abbrev pub line_label : Line → List ℕ
@@ -53,16 +53,16 @@ TellsStop name problem Err =
     ((said : List ℕ) × Err (Told (normalized_text (stop_text name problem said)))) ⊎ Err (Told (codes "replay: out of memory"))
 
 -- that there was no memory is told
-abbrev pub TellsMemory : Option (List ℕ) → Option (List ℕ) → Type 0
-TellsMemory old new = AppendsOrPart old new (ended_line (codes "replay: out of memory"))
+abbrev pub TellsMemory : (Output → Type 0) → Type 0
+TellsMemory Err = Err (Told (codes "replay: out of memory"))
 
 -- what is wrong with arguments is told, by a text as it may be shown; or that there was no memory for it
-abbrev pub TellsUsageError : Option (List ℕ) → Option (List ℕ) → Type 0
-TellsUsageError old new = ((text : List ℕ) × AppendsOrPart old new (normalized_text text)) ⊎ TellsMemory old new
+abbrev pub TellsUsageError : (Output → Type 0) → Type 0
+TellsUsageError Err = ((text : List ℕ) × Err (Told (normalized_text text))) ⊎ TellsMemory Err
 
--- the problem is a write that failed
-abbrev pub IsWrite : Problem → Type 0
-IsWrite problem = (error : Error) × (problem ≡ Write error)
+-- the problem is a write that failed, to a stream that stands so
+abbrev pub IsWrite : Standing → Problem → Type 0
+IsWrite stream problem = (stream.has_failed ≡ true) × (error : Error) × (problem ≡ Write error)
 
 -- it is an input that can't be read
 abbrev pub IsRead : Problem → Type 0

@@ -1,5 +1,5 @@
 -- The answer to a line, as it is written.
-use Rattle.std.specs.Prelude.{◌≡◌, ◌⊎◌, ℕ, ◌+◌, ◌<◌, Bool, true, false, ◌||◌, List, [], ◌∷◌, ◌++◌, Some, None, IsTrue, codes, decimal, length, map, min}
+use Rattle.std.specs.Prelude.{◌≡◌, ℕ, ◌+◌, ◌<◌, Bool, true, false, ◌||◌, List, [], ◌∷◌, ◌++◌, IsTrue, codes, decimal, length, min}
 use Rattle.std.specs.Prelude.{if◌then◌else◌}
 use Rattle.std.specs.Prelude.{string_bytes}
 use Rattle.std.specs.Io.BufRead.{first_line, drop_through}

@@ -2,14 +2,16 @@
 
 ghost use Rattle.std.specs.Prelude.{◌≡◌, ◌+◌, ◌^◌, ◌<◌, ◌↔◌, if◌then◌else◌, min, true, IsTrue, IfOk, IsOkAnd, OnOk};
 ghost use Rattle.std.specs.Prelude.{string_bytes};
+ghost use Rattle.program.specs.Standing.{known};
 ghost use Rattle.serde_json.specs.View.{view};
 ghost use Rattle.replay_run.specs.Expected.{IsExpectedOf, IsMet};
 ghost use Rattle.replay_run.specs.Growth.{Grows};
 ghost use Rattle.replay_run.specs.Checked.{CountsLines, ChecksCase, ChecksLine, most};
 
 use crate::expected::{Expected, expected_of, write_wanted};
-use crate::lines::{numbered_case, numbered_sources, value_of, write_line, write_outcome};
+use crate::lines::{numbered_case, numbered_sources, print, value_of, write_line, write_outcome};
 use crate::problem::{Line, Problem, wrong_line};
+use program::stream::Stream;
 use replay_answer::outcome::{Outcome, outcome_of};
 use serde_json::Value;
 use std::alloc::Global;
@@ -67,10 +69,10 @@ pub fn check_lines<B: BufRead + Drop, C: BufRead + Drop, W: Write>(
     alloc: Global,
     expected: B,
     cases: C,
-    out: &mut W,
+    out: &mut Stream<W>,
 ) -> Result<Counts, Problem>
     ensures counts { IfOk result (CountsLines (B.remaining expected) (C.remaining cases)) }
-    ensures added { OnOk result (Grows (W.contents out.old) (W.contents out.new)) }
+    ensures added { OnOk result (Grows (known W.contents out.old) (known W.contents out.new)) }
     ensures silent { IfOk result (λ counts. counts.failed ≡ 0 → out.new ≡ out.old) }
 {
     let mut answers = expected.lines(alloc);
@@ -95,11 +97,11 @@ fn check_line<W: Write>(
     number: u64,
     answer: io::Result<String>,
     line: io::Result<String>,
-    out: &mut W,
+    out: &mut Stream<W>,
 ) -> Result<bool, Problem>
     ensures checks { IfOk result (λ passes. IsOkAnd answer (λ answer. IsOkAnd line (λ line.
         ChecksLine (string_bytes answer) (string_bytes line) passes))) }
-    ensures added { OnOk result (Grows (W.contents out.old) (W.contents out.new)) }
+    ensures added { OnOk result (Grows (known W.contents out.old) (known W.contents out.new)) }
     ensures silent { IfOk result (λ passes. passes ≡ true → out.new ≡ out.old) }
 {
     let value = value_of(alloc, Line::Expected(number), answer)?;
@@ -125,10 +127,10 @@ fn compare_line<W: Write>(
     number: u64,
     expected: &Expected<'_>,
     line: io::Result<String>,
-    out: &mut W,
+    out: &mut Stream<W>,
 ) -> Result<bool, Problem>
     ensures checks { IfOk result (λ passes. IsOkAnd line (λ line. ChecksCase expected.now (string_bytes line) passes)) }
-    ensures added { OnOk result (Grows (W.contents out.old) (W.contents out.new)) }
+    ensures added { OnOk result (Grows (known W.contents out.old) (known W.contents out.new)) }
     ensures silent { IfOk result (λ passes. passes ≡ true → out.new ≡ out.old) }
 {
     let value = value_of(alloc, Line::Case(number), line)?;
@@ -145,34 +147,36 @@ pub fn check_case<W: Write>(
     expected: &Expected<'_>,
     id: &str,
     outcome: &Outcome,
-    out: &mut W,
+    out: &mut Stream<W>,
 ) -> Result<bool, Problem>
     ensures passes { IfOk result (λ passes. IsTrue passes ↔ IsMet expected.now id.now outcome.now) }
-    ensures added { OnOk result (Grows (W.contents out.old) (W.contents out.new)) }
+    ensures added { OnOk result (Grows (known W.contents out.old) (known W.contents out.new)) }
     ensures silent { IfOk result (λ passes. passes ≡ true → out.new ≡ out.old) }
 {
     if expected.is_met_by(id, outcome) {
         return Ok(true);
     }
-    let name = expected.id;
-    let head = format!(in alloc; "{id:?} differs\nexpected of {name:?}:")?;
-    write_difference(head.as_str(), expected, outcome, out).map_err(Problem::Write)?;
+    let Ok(text) = difference(alloc, expected, id, outcome) else {
+        return Err(Problem::Memory);
+    };
+    print(text.as_slice(), out)?;
     Ok(false)
 }
 
-/// Writes this head, what was expected, and what became of the case.
-fn write_difference<W: Write>(
-    head: &str,
+/// What tells what was expected, and what became of the case of this name.
+fn difference(
+    alloc: Global,
     expected: &Expected<'_>,
+    id: &str,
     outcome: &Outcome,
-    out: &mut W,
-) -> io::Result<()>
-    ensures added { OnOk result (Grows (W.contents out.old) (W.contents out.new)) }
-{
-    write_line(head, out)?;
-    write_wanted(&expected.wanted, out)?;
-    write_line("answered:", out)?;
-    write_outcome(outcome, out)?;
-    write_line("", out)?;
-    Ok(())
+) -> io::Result<Vec<u8>> {
+    let name = expected.id;
+    let head = format!(in alloc; "{id:?} differs\nexpected of {name:?}:")?;
+    let mut text = Vec::new(alloc);
+    write_line(head.as_str(), &mut text)?;
+    write_wanted(&expected.wanted, &mut text)?;
+    write_line("answered:", &mut text)?;
+    write_outcome(outcome, &mut text)?;
+    write_line("", &mut text)?;
+    Ok(text)
 }

@@ -3,7 +3,6 @@
 ghost use Rattle.std.specs.Prelude.{◌≡◌, ◌↔◌, IsTrue, IfOk, OnOk, map, string_bytes};
 ghost use Rattle.serde_json.specs.View.{view};
 ghost use Rattle.replay_run.specs.Expected.{IsExpectedOf, IsMet, IsWanted, IsWantedOf, texts_lent};
-ghost use Rattle.replay_run.specs.Growth.{Grows};
 
 use crate::lines::write_line;
 use json_node::fault::Fault;
@@ -15,7 +14,6 @@ use replay_read::shape::{Shape, has_shape};
 use serde_json::Value;
 use std::alloc::Global;
 use std::io;
-use std::io::Write;
 
 /// What is expected of a case.
 #[derive(Drop)]
@@ -112,9 +110,7 @@ fn is_text(wanted: &&str, text: &String) -> bool
 }
 
 /// Writes each text, or what the refusal prints.
-pub fn write_wanted<W: Write>(wanted: &Wanted<'_>, out: &mut W) -> io::Result<()>
-    ensures added { OnOk result (Grows (W.contents out.old) (W.contents out.new)) }
-{
+pub fn write_wanted(wanted: &Wanted<'_>, out: &mut Vec<u8>) -> io::Result<()> {
     match wanted {
         Wanted::Texts(texts) => {
             for text in texts {

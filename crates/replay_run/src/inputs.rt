@@ -2,6 +2,7 @@
 
 ghost use Rattle.std.specs.Prelude.{◌≡◌, ◌⊎◌, OnOk, IfErr, IfOk};
 ghost use Rattle.std.specs.Io.Buffered.{reader_inner, reader_remaining};
+ghost use Rattle.program.specs.Standing.{known};
 ghost use Rattle.replay_command.specs.Arguments.{arguments_at};
 ghost use Rattle.replay_run.specs.Answered.{AnswersInputs, AnswersReader, StopsAt, StopsAtInput, StopsInputs};
 ghost use Rattle.replay_run.specs.Checked.{CountsLines};
@@ -15,6 +16,7 @@ use crate::lines::{Way, answer_lines, either};
 use crate::problem::Problem;
 use crate::repeat::{Tally, repeat_lines};
 use crate::stop::Stop;
+use program::stream::Stream;
 use std::fs;
 use std::io::{BufRead, BufReader, Write};
 use std::rt::{Clock, Files};
@@ -34,12 +36,12 @@ pub fn answer_inputs<'a, R: Files + Input + AllocGlobal, W: Write>(
     rt: &R,
     way: Way,
     names: &[&'a str],
-    out: &mut W,
+    out: &mut Stream<W>,
 ) -> Result<bool, Stop<'a>>
     ensures answers { IfOk result (λ told. AnswersInputs R.File R.Reader (held_by R.File.remaining R.Reader.remaining)
-        way told (arguments_at names.now) (W.contents out.old) (W.contents out.new)) }
+        way told (arguments_at names.now) (known W.contents out.old) (known W.contents out.new)) }
     ensures stops { IfErr result (λ stop. StopsInputs R.File R.Reader (held_by R.File.remaining R.Reader.remaining)
-        way (arguments_at names.now) (W.contents out.old) (W.contents out.new) stop.file.now stop.problem) }
+        way (arguments_at names.now) (known W.contents out.old) (known W.contents out.new) stop.file.now stop.problem) }
 {
     let mut is_first = true;
     let mut told = false;
@@ -63,13 +65,13 @@ fn answer_named<R: Files + Input + AllocGlobal, W: Write>(
     way: Way,
     name: &str,
     is_first: &mut bool,
-    out: &mut W,
+    out: &mut Stream<W>,
 ) -> Result<bool, Problem>
     ensures answers { IfOk result (λ told. (input : NamedInput R.File R.Reader) × (input.name ≡ name.now)
         × AnswersReader way told is_first.old is_first.new (held_by R.File.remaining R.Reader.remaining input)
-        (W.contents out.old) (W.contents out.new)) }
+        (known W.contents out.old) (known W.contents out.new)) }
     ensures stops { IfErr result (StopsAtInput R.File R.Reader (held_by R.File.remaining R.Reader.remaining) name.now
-        way is_first.old (W.contents out.old) (W.contents out.new)) }
+        way is_first.old (known W.contents out.old) (known W.contents out.new)) }
 {
     if name == "-" {
         answer_standard(rt, way, is_first, out)
@@ -83,13 +85,13 @@ fn answer_standard<R: Input + AllocGlobal, W: Write>(
     rt: &R,
     way: Way,
     is_first: &mut bool,
-    out: &mut W,
+    out: &mut Stream<W>,
 ) -> Result<bool, Problem>
     ensures answers { IfOk result (λ told. (input : R.Reader)
         × AnswersReader way told is_first.old is_first.new (R.Reader.remaining input)
-        (W.contents out.old) (W.contents out.new)) }
-    ensures stops { IfErr result (StopsAt R.Reader R.Reader.remaining way is_first.old (W.contents out.old)
-        (W.contents out.new)) }
+        (known W.contents out.old) (known W.contents out.new)) }
+    ensures stops { IfErr result (StopsAt R.Reader R.Reader.remaining way is_first.old (known W.contents out.old)
+        (known W.contents out.new)) }
 {
     match opened_standard(rt) {
         Ok(input) => answer_lines(rt.alloc(), input, way, is_first, out),
@@ -103,13 +105,13 @@ fn answer_file<R: Files + AllocGlobal, W: Write>(
     way: Way,
     file: &str,
     is_first: &mut bool,
-    out: &mut W,
+    out: &mut Stream<W>,
 ) -> Result<bool, Problem>
     ensures answers { IfOk result (λ told. (input : R.File)
         × AnswersReader way told is_first.old is_first.new (R.File.remaining input)
-        (W.contents out.old) (W.contents out.new)) }
-    ensures stops { IfErr result (StopsAt R.File R.File.remaining way is_first.old (W.contents out.old)
-        (W.contents out.new)) }
+        (known W.contents out.old) (known W.contents out.new)) }
+    ensures stops { IfErr result (StopsAt R.File R.File.remaining way is_first.old (known W.contents out.old)
+        (known W.contents out.new)) }
 {
     match opened(rt, file) {
         Ok(input) => answer_lines(rt.alloc(), input, way, is_first, out),
@@ -149,11 +151,11 @@ pub fn check_pair<R: Files + AllocGlobal, W: Write>(
     rt: &R,
     expected: &str,
     cases: &str,
-    out: &mut W,
+    out: &mut Stream<W>,
 ) -> Result<Counts, Problem>
     ensures counts { IfOk result (λ counts. (answers : R.File) × (lines : R.File)
         × CountsLines (R.File.remaining answers) (R.File.remaining lines) counts) }
-    ensures added { OnOk result (Grows (W.contents out.old) (W.contents out.new)) }
+    ensures added { OnOk result (Grows (known W.contents out.old) (known W.contents out.new)) }
     ensures silent { IfOk result (λ counts. counts.failed ≡ 0 → out.new ≡ out.old) }
 {
     let expected = opened(rt, expected)?;

@@ -4,6 +4,7 @@ ghost use Rattle.std.specs.Prelude.{◌≡◌, ◌⊎◌, ℕ, Bool, ◌||◌, t
 ghost use Rattle.std.specs.Prelude.{codes, string_bytes};
 ghost use Rattle.std.specs.Io.KnownBytes.{Appends};
 ghost use Rattle.annotate_snippets.specs.Fits.{ReportFits};
+ghost use Rattle.program.specs.Standing.{known};
 ghost use Rattle.serde_json.specs.Errors.{IsMemory};
 ghost use Rattle.serde_json.specs.Read.{read};
 ghost use Rattle.serde_json.specs.View.{view};
@@ -23,7 +24,7 @@ ghost use Rattle.replay_answer.specs.declared.outcome.Outcome.{Outcome};
 
 use crate::problem::{Line, Problem, fault_words, wrong_line};
 use annotate_snippets::SourceLines;
-use program::line::write_whole;
+use program::stream::Stream;
 use replay_answer::answer::{answer_json, told_json};
 use replay_answer::case::Case;
 use replay_answer::outcome::{Outcome, outcome_of};
@@ -32,6 +33,9 @@ use serde_json::{Error, Value};
 use std::alloc::{AllocError, Global};
 use std::io;
 use std::io::{BufRead, Write};
+
+/// The bytes that end a line.
+const LINE_END: &[u8] = b"\n";
 
 /// How answers are written.
 #[derive(Clone, Copy)]
@@ -65,12 +69,12 @@ pub fn answer_lines<B: BufRead + Drop, W: Write>(
     input: B,
     way: Way,
     is_first: &mut bool,
-    out: &mut W,
+    out: &mut Stream<W>,
 ) -> Result<bool, Problem>
     ensures answers { IfOk result (λ told. AnswersReader way told is_first.old is_first.new (B.remaining input)
-        (W.contents out.old) (W.contents out.new)) }
-    ensures stops { IfErr result (StopsReader way is_first.old (B.remaining input) (W.contents out.old)
-        (W.contents out.new)) }
+        (known W.contents out.old) (known W.contents out.new)) }
+    ensures stops { IfErr result (StopsReader way is_first.old (B.remaining input) (known W.contents out.old)
+        (known W.contents out.new)) }
 {
     let mut number = 0u64;
     let mut told = false;
@@ -103,19 +107,40 @@ fn answer_line<W: Write>(
     number: u64,
     way: Way,
     is_first: bool,
-    out: &mut W,
+    out: &mut Stream<W>,
 ) -> Result<bool, Problem>
     ensures answers { IfOk result (λ told. IsOkAnd line (λ line. (text : List ℕ)
         × AnswersLine way told is_first (number, string_bytes line) text
-        × Appends (W.contents out.old) (W.contents out.new) text)) }
-    ensures stops { IfErr result (StopsLine way is_first number line (W.contents out.old) (W.contents out.new)) }
+        × Appends (known W.contents out.old).held (known W.contents out.new).held text)) }
+    ensures stops { IfErr result (StopsLine way is_first number line (known W.contents out.old)
+        (known W.contents out.new)) }
 {
     match answer_for(alloc, line, number, way, is_first) {
-        Ok(answer) => match write_whole(answer.text.as_slice(), out) {
+        Ok(answer) => match out.write(answer.text.as_slice()) {
             Ok(()) => Ok(answer.told),
             Err(error) => Err(Problem::Write(error)),
         },
         Err(problem) => Err(problem),
+    }
+}
+
+/// Writes a line.
+pub fn print_line<W: Write>(line: &str, out: &mut Stream<W>) -> Result<(), Problem>
+    ensures added { OnOk result
+        (Appends (known W.contents out.old).held (known W.contents out.new).held (ended_line line.now)) }
+{
+    print(line.as_bytes(), out)?;
+    print(LINE_END, out)
+}
+
+/// Writes these bytes.
+pub fn print<W: Write>(bytes: &[u8], out: &mut Stream<W>) -> Result<(), Problem>
+    ensures added { OnOk result
+        (Appends (known W.contents out.old).held (known W.contents out.new).held bytes.now) }
+{
+    match out.write(bytes) {
+        Ok(()) => Ok(()),
+        Err(error) => Err(Problem::Write(error)),
     }
 }
 

@@ -2,13 +2,13 @@
 
 ghost use Rattle.annotate_snippets.specs.Fits.{ReportFits};
 
-use crate::lines::{numbered_case, numbered_sources, value_of};
+use crate::lines::{numbered_case, numbered_sources, print_line, value_of};
 use crate::problem::{Line, Problem};
 use annotate_snippets::renderer::RenderError;
+use program::stream::Stream;
 use replay_answer::case::Case;
 use replay_answer::outcome::texts_of;
 use std::alloc::Global;
-use std::io;
 use std::io::{BufRead, Write};
 use std::rt::Clock;
 use std::time::{Duration, Instant};
@@ -82,8 +82,15 @@ fn draw_often(
 }
 
 /// Prints what was drawn, and in which time.
-pub fn write_tally<W: Write>(tally: &Tally, out: &mut W) -> io::Result<()> {
+pub fn print_tally<W: Write>(
+    alloc: Global,
+    tally: &Tally,
+    out: &mut Stream<W>,
+) -> Result<(), Problem> {
     let Tally { texts, bytes, time } = *tally;
     let (seconds, thousandths) = (time.as_secs(), time.subsec_millis());
-    out.writeln(format_args!("{texts} texts, {bytes} bytes, {seconds}.{thousandths:03} seconds"))
+    let line = format!(in alloc;
+        "{texts} texts, {bytes} bytes, {seconds}.{thousandths:03} seconds"
+    )?;
+    print_line(line.as_str(), out)
 }

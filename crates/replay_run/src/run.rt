@@ -5,6 +5,7 @@ ghost use Rattle.std.specs.Prelude.{OnOk};
 ghost use Rattle.std.specs.Io.KnownBytes.{Appends};
 ghost use Rattle.clap.specs.Words.{found_of, kind_of, rows_of};
 ghost use Rattle.clap.specs.declared.error.kind.ErrorKind.TheVariants as kind;
+ghost use Rattle.program.specs.Standing.{known};
 ghost use Rattle.program.specs.Stream.{Receives};
 ghost use Rattle.replay_command.specs.Arguments.{AsksToShow, Checks, IsCommandLine, Argument, asked, arguments_at};
 ghost use Rattle.replay_run.specs.Answered.{AnswersInputs, StopsInputs};
@@ -19,16 +20,15 @@ ghost use Rattle.replay_run.specs.declared.problem.Problem.{Problem};
 
 use crate::check::Counts;
 use crate::inputs::{answer_inputs, check_pair, repeat_named, shown_name};
-use crate::lines::{Form, Way};
+use crate::lines::{Form, Way, print, print_line};
 use crate::problem::Problem;
-use crate::repeat::{Tally, write_tally};
+use crate::repeat::{Tally, print_tally};
 use crate::stop::{Stop, or_stop, tell_stop, tell_usage_error};
 use clap::ArgMatches;
-use program::line::write_whole;
+use program::stream::Stream;
 use replay_command::arguments::matches_of;
 use replay_command::command::{Command, command_of};
 use std::alloc::Global;
-use std::io;
 use std::io::Write;
 use std::rt::{Clock, Files};
 
@@ -46,27 +46,29 @@ const OUTPUT: &str = "standard output";
 pub fn run<'w, R: Files + Input + Clock + AllocGlobal, W: Write, V: Write>(
     rt: &R,
     args: &'w [&'w str],
-    out: &mut W,
-    err: &mut V,
+    out: &mut Stream<W>,
+    err: &mut Stream<V>,
 ) -> u8
     ensures status { result ≤ 2 }
     ensures silent { result ≤ 1 → err.new ≡ err.old }
-    ensures told { result ≡ 2 → TellsUsageError (V.contents err.old) (V.contents err.new)
+    ensures told { result ≡ 2 → TellsUsageError (Receives V.contents err.old err.new)
         ⊎ ((name : Argument) × (problem : Problem) × TellsStop name problem (Receives V.contents err.old err.new)) }
     ensures usage { (IsCommandLine (arguments_at args.now) → ⊥) → result ≡ 2 }
     ensures no_answer { (IsCommandLine (arguments_at args.now) → ⊥) → out.new ≡ out.old }
     ensures differs { result ≡ 1 → Compares (arguments_at args.now) }
     ensures compares { result ≤ 1 → (files : List Argument) → AsksComparison (arguments_at args.now) files
-        → EndsComparison R.File R.File.remaining (length files) (W.contents out.old) (W.contents out.new) result }
+        → EndsComparison R.File R.File.remaining (length files) (known W.contents out.old) (known W.contents out.new)
+        result }
     ensures answers { result ≡ 0 → (way : Way) → (names : List Argument) → AsksAnswers (arguments_at args.now) way names
         → AnswersInputs R.File R.Reader (held_by R.File.remaining R.Reader.remaining) way false names
-        (W.contents out.old) (W.contents out.new) }
+        (known W.contents out.old) (known W.contents out.new) }
     ensures stops { result ≡ 2 → (way : Way) → (names : List Argument) → AsksAnswers (arguments_at args.now) way names
-        → ((out.new ≡ out.old) × TellsMemory (V.contents err.old) (V.contents err.new))
+        → ((out.new ≡ out.old) × TellsMemory (Receives V.contents err.old err.new))
         ⊎ ((name : Argument) × (problem : Problem) × TellsStop name problem (Receives V.contents err.old err.new)
         × StopsInputs R.File R.Reader (held_by R.File.remaining R.Reader.remaining) way names
-        (W.contents out.old) (W.contents out.new) name problem) }
-    ensures help { result ≡ 0 → AsksToShow (arguments_at args.now) → Grows (W.contents out.old) (W.contents out.new) }
+        (known W.contents out.old) (known W.contents out.new) name problem) }
+    ensures help { result ≡ 0 → AsksToShow (arguments_at args.now)
+        → Grows (known W.contents out.old) (known W.contents out.new) }
 {
     match matches_of(rt.alloc(), args) {
         Ok(matches) => run_matched(rt, &matches, out, err),
@@ -78,29 +80,30 @@ pub fn run<'w, R: Files + Input + Clock + AllocGlobal, W: Write, V: Write>(
 fn run_matched<R: Files + Input + Clock + AllocGlobal, W: Write, V: Write>(
     rt: &R,
     matches: &ArgMatches<'_>,
-    out: &mut W,
-    err: &mut V,
+    out: &mut Stream<W>,
+    err: &mut Stream<V>,
 ) -> u8
     ensures status { result ≤ 2 }
     ensures silent { result ≤ 1 → err.new ≡ err.old }
-    ensures told { result ≡ 2 → TellsUsageError (V.contents err.old) (V.contents err.new)
+    ensures told { result ≡ 2 → TellsUsageError (Receives V.contents err.old err.new)
         ⊎ ((name : Argument) × (problem : Problem) × TellsStop name problem (Receives V.contents err.old err.new)) }
     ensures usage { asked (rows_of (found_of matches.now)) ≡ None → (result ≡ 2) × (out.new ≡ out.old) }
     ensures differs { result ≡ 1 → (files : List Argument)
         × (asked (rows_of (found_of matches.now)) ≡ Some (Checks files)) }
     ensures compares { result ≤ 1 → (files : List Argument)
         → asked (rows_of (found_of matches.now)) ≡ Some (Checks files)
-        → EndsComparison R.File R.File.remaining (length files) (W.contents out.old) (W.contents out.new) result }
+        → EndsComparison R.File R.File.remaining (length files) (known W.contents out.old) (known W.contents out.new)
+        result }
     ensures answers { result ≡ 0 → (way : Way) → (names : List Argument)
         → asked (rows_of (found_of matches.now)) ≡ Some (answers way names)
         → AnswersInputs R.File R.Reader (held_by R.File.remaining R.Reader.remaining) way false names
-        (W.contents out.old) (W.contents out.new) }
+        (known W.contents out.old) (known W.contents out.new) }
     ensures stops { result ≡ 2 → (way : Way) → (names : List Argument)
         → asked (rows_of (found_of matches.now)) ≡ Some (answers way names)
-        → ((out.new ≡ out.old) × TellsMemory (V.contents err.old) (V.contents err.new))
+        → ((out.new ≡ out.old) × TellsMemory (Receives V.contents err.old err.new))
         ⊎ ((name : Argument) × (problem : Problem) × TellsStop name problem (Receives V.contents err.old err.new)
         × StopsInputs R.File R.Reader (held_by R.File.remaining R.Reader.remaining) way names
-        (W.contents out.old) (W.contents out.new) name problem) }
+        (known W.contents out.old) (known W.contents out.new) name problem) }
 {
     match command_of(rt.alloc(), matches) {
         Ok(command) => match finish(rt, &command, out) {
@@ -121,17 +124,17 @@ fn run_matched<R: Files + Input + Clock + AllocGlobal, W: Write, V: Write>(
 fn answer_error<W: Write, V: Write>(
     alloc: Global,
     error: &clap::Error,
-    out: &mut W,
-    err: &mut V,
+    out: &mut Stream<W>,
+    err: &mut Stream<V>,
 ) -> u8
     ensures status { (result ≡ 0) ⊎ (result ≡ 2) }
     ensures silent { result ≡ 0 → err.new ≡ err.old }
-    ensures told { result ≡ 2 → TellsUsageError (V.contents err.old) (V.contents err.new)
+    ensures told { result ≡ 2 → TellsUsageError (Receives V.contents err.old err.new)
         ⊎ ((name : Argument) × (problem : Problem) × TellsStop name problem (Receives V.contents err.old err.new)) }
     ensures usage { kind_of error.now ≢ kind.DisplayHelp → kind_of error.now ≢ kind.DisplayVersion
         → (result ≡ 2) × (out.new ≡ out.old) }
-    ensures memory { kind_of error.now ≡ kind.OutOfMemory → TellsMemory (V.contents err.old) (V.contents err.new) }
-    ensures shown { result ≡ 0 → Grows (W.contents out.old) (W.contents out.new) }
+    ensures memory { kind_of error.now ≡ kind.OutOfMemory → TellsMemory (Receives V.contents err.old err.new) }
+    ensures shown { result ≡ 0 → Grows (known W.contents out.old) (known W.contents out.new) }
 {
     if error.use_stderr() {
         tell_usage_error(alloc, error, err);
@@ -151,16 +154,14 @@ fn answer_error<W: Write, V: Write>(
 }
 
 /// Writes the help or the version.
-#[tactic(auto, using(crate::proofs::Growing::grows_kept, crate::proofs::Growing::grows_appended))]
-fn show<W: Write>(alloc: Global, error: &clap::Error, out: &mut W) -> Result<(), Problem>
-    ensures grows { OnOk result (Grows (W.contents out.old) (W.contents out.new)) }
+#[tactic(auto, using(crate::proofs::Growing::grows_flushed, crate::proofs::Growing::grows_appended))]
+fn show<W: Write>(alloc: Global, error: &clap::Error, out: &mut Stream<W>) -> Result<(), Problem>
+    ensures grows { OnOk result (Grows (known W.contents out.old) (known W.contents out.new)) }
 {
     let text = format!(in alloc; "{error}")?;
-    match write_whole(text.as_str().as_bytes(), out) {
-        Ok(()) => match out.flush() {
-            Ok(()) => Ok(()),
-            Err(error) => Err(Problem::Write(error)),
-        },
+    print(text.as_str().as_bytes(), out)?;
+    match out.flush() {
+        Ok(()) => Ok(()),
         Err(error) => Err(Problem::Write(error)),
     }
 }
@@ -169,18 +170,19 @@ fn show<W: Write>(alloc: Global, error: &clap::Error, out: &mut W) -> Result<(),
 fn finish<'a, R: Files + Input + Clock + AllocGlobal, W: Write>(
     rt: &R,
     command: &Command<'_, 'a>,
-    out: &mut W,
+    out: &mut Stream<W>,
 ) -> Result<u8, Stop<'a>>
     ensures status { IfOk result (λ status. status ≤ 1) }
     ensures differs { IfOk result (λ status. status ≡ 1 → IsComparison command.now) }
     ensures compares { IfOk result (λ status. IfComparison command.now (λ files.
-        EndsComparison R.File R.File.remaining (length files) (W.contents out.old) (W.contents out.new) status)) }
+        EndsComparison R.File R.File.remaining (length files) (known W.contents out.old) (known W.contents out.new)
+        status)) }
     ensures answers { OnOk result (IfAnswers command.now (λ way names.
         AnswersInputs R.File R.Reader (held_by R.File.remaining R.Reader.remaining) way false names
-        (W.contents out.old) (W.contents out.new))) }
+        (known W.contents out.old) (known W.contents out.new))) }
     ensures stops { IfErr result (λ stop. IfAnswers command.now (λ way names.
         StopsInputs R.File R.Reader (held_by R.File.remaining R.Reader.remaining) way names
-        (W.contents out.old) (W.contents out.new) stop.file.now stop.problem)) }
+        (known W.contents out.old) (known W.contents out.new) stop.file.now stop.problem)) }
 {
     match do_command(rt, command, out) {
         Ok(status) => match out.flush() {
@@ -201,18 +203,19 @@ fn finish<'a, R: Files + Input + Clock + AllocGlobal, W: Write>(
 fn do_command<'a, R: Files + Input + Clock + AllocGlobal, W: Write>(
     rt: &R,
     command: &Command<'_, 'a>,
-    out: &mut W,
+    out: &mut Stream<W>,
 ) -> Result<u8, Stop<'a>>
     ensures status { IfOk result (λ status. status ≤ 1) }
     ensures differs { IfOk result (λ status. status ≡ 1 → IsComparison command.now) }
     ensures compares { IfOk result (λ status. IfComparison command.now (λ files.
-        EndsComparison R.File R.File.remaining (length files) (W.contents out.old) (W.contents out.new) status)) }
+        EndsComparison R.File R.File.remaining (length files) (known W.contents out.old) (known W.contents out.new)
+        status)) }
     ensures answers { OnOk result (IfAnswers command.now (λ way names.
         AnswersInputs R.File R.Reader (held_by R.File.remaining R.Reader.remaining) way false names
-        (W.contents out.old) (W.contents out.new))) }
+        (known W.contents out.old) (known W.contents out.new))) }
     ensures stops { IfErr result (λ stop. IfAnswers command.now (λ way names.
         StopsInputs R.File R.Reader (held_by R.File.remaining R.Reader.remaining) way names
-        (W.contents out.old) (W.contents out.new) stop.file.now stop.problem)) }
+        (known W.contents out.old) (known W.contents out.new) stop.file.now stop.problem)) }
 {
     match *command {
         Command::Answer {
@@ -238,13 +241,13 @@ fn answer<'a, R: Files + Input + AllocGlobal, W: Write>(
     rt: &R,
     way: Way,
     names: &[&'a str],
-    out: &mut W,
+    out: &mut Stream<W>,
 ) -> Result<u8, Stop<'a>>
     ensures status { IfOk result (λ status. status ≡ 0) }
     ensures answers { OnOk result (AnswersInputs R.File R.Reader (held_by R.File.remaining R.Reader.remaining)
-        way false (arguments_at names.now) (W.contents out.old) (W.contents out.new)) }
+        way false (arguments_at names.now) (known W.contents out.old) (known W.contents out.new)) }
     ensures stops { IfErr result (λ stop. StopsInputs R.File R.Reader (held_by R.File.remaining R.Reader.remaining)
-        way (arguments_at names.now) (W.contents out.old) (W.contents out.new) stop.file.now stop.problem) }
+        way (arguments_at names.now) (known W.contents out.old) (known W.contents out.new) stop.file.now stop.problem) }
 {
     match answer_inputs(rt, way, names, out) {
         Ok(told) => ended(told),
@@ -273,11 +276,12 @@ fn ended<'a>(told: bool) -> Result<u8, Stop<'a>>
 fn check<'a, R: Files + AllocGlobal, W: Write>(
     rt: &R,
     files: &[&'a str],
-    out: &mut W,
+    out: &mut Stream<W>,
 ) -> Result<u8, Stop<'a>>
     ensures status { IfOk result (λ status. status ≤ 1) }
     ensures ends { IfOk result (λ status.
-        EndsComparison R.File R.File.remaining (length files.now) (W.contents out.old) (W.contents out.new) status) }
+        EndsComparison R.File R.File.remaining (length files.now) (known W.contents out.old) (known W.contents out.new)
+        status) }
 {
     let mut counts = Counts::NONE;
     for pair in 0..files.len() / 2 {
@@ -292,17 +296,18 @@ fn check<'a, R: Files + AllocGlobal, W: Write>(
             }
         }
     }
-    or_stop(OUTPUT, write_counts(counts, out).map_err(Problem::Write))?;
+    or_stop(OUTPUT, print_counts(rt.alloc(), counts, out))?;
     Ok(if counts.failed == 0 { DONE } else { DIFFERS })
 }
 
-/// Writes the line that tells the counts.
-fn write_counts<W: Write>(counts: Counts, out: &mut W) -> io::Result<()>
-    ensures line { OnOk result (Appends (W.contents out.old) (W.contents out.new) (count_line counts)) }
+/// Prints the line that tells the counts.
+fn print_counts<W: Write>(alloc: Global, counts: Counts, out: &mut Stream<W>) -> Result<(), Problem>
+    ensures line { OnOk result
+        (Appends (known W.contents out.old).held (known W.contents out.new).held (count_line counts)) }
 {
     let Counts { passed, failed } = counts;
-    out.writeln(format_args!("{passed} passed, {failed} failed"))?;
-    Ok(())
+    let line = format!(in alloc; "{passed} passed, {failed} failed")?;
+    print_line(line.as_str(), out)
 }
 
 /// Draws each case of the inputs this many times, and prints how long it took.
@@ -310,7 +315,7 @@ fn repeat<'a, R: Files + Input + Clock + AllocGlobal, W: Write>(
     rt: &R,
     times: u64,
     names: &[&'a str],
-    out: &mut W,
+    out: &mut Stream<W>,
 ) -> Result<u8, Stop<'a>>
     ensures status { IfOk result (λ status. status ≡ 0) }
 {
@@ -318,6 +323,6 @@ fn repeat<'a, R: Files + Input + Clock + AllocGlobal, W: Write>(
     for name in names {
         or_stop(shown_name(*name), repeat_named(rt, times, name, &mut tally))?;
     }
-    or_stop(OUTPUT, write_tally(&tally, out).map_err(Problem::Write))?;
+    or_stop(OUTPUT, print_tally(rt.alloc(), &tally, out))?;
     Ok(DONE)
 }

@@ -9,7 +9,8 @@ ghost use Rattle.replay_run.specs.Problem.{TellsMemory, TellsStop, TellsUsageErr
 use crate::problem::{Problem, words_of};
 use annotate_snippets::text::normalize_untrusted_str;
 use clap::error::ErrorKind;
-use program::line::{write_line, write_whole};
+use program::line::write_line;
+use program::stream::Stream;
 use std::alloc::{AllocError, Global};
 use std::io::Write;
 
@@ -34,7 +35,7 @@ pub fn or_stop<'a, T>(file: &'a str, tried: Result<T, Problem>) -> Result<T, Sto
 }
 
 /// Tells what stopped a run, or that there was no memory for that.
-pub fn tell_stop<V: Write>(alloc: Global, stop: &Stop<'_>, err: &mut V)
+pub fn tell_stop<V: Write>(alloc: Global, stop: &Stop<'_>, err: &mut Stream<V>)
     ensures told { TellsStop stop.now.file.now stop.now.problem (Receives V.contents err.old err.new) }
 {
     match stop_message(alloc, stop) {
@@ -55,22 +56,18 @@ fn stop_message(alloc: Global, stop: &Stop<'_>) -> Result<String, AllocError>
 }
 
 /// Tells what is wrong with the arguments, or that there was no memory for that.
-pub fn tell_usage_error<V: Write>(alloc: Global, error: &clap::Error, err: &mut V)
-    ensures told { TellsUsageError (V.contents err.old) (V.contents err.new) }
-    ensures memory { kind_of error.now ≡ ErrorKind.OutOfMemory
-        → TellsMemory (V.contents err.old) (V.contents err.new) }
+pub fn tell_usage_error<V: Write>(alloc: Global, error: &clap::Error, err: &mut Stream<V>)
+    ensures told { TellsUsageError (Receives V.contents err.old err.new) }
+    ensures memory { kind_of error.now ≡ ErrorKind.OutOfMemory → TellsMemory (Receives V.contents err.old err.new) }
 {
     match shown_error(alloc, error) {
-        Ok(text) => {
-            let _ = write_whole(text.as_str().as_bytes(), err);
-        }
-        Err(AllocError) => {
-            write_line(OUT_OF_MEMORY, err);
-        }
-    }
+        Ok(text) => write_line(text.as_str(), err),
+        Err(AllocError) => write_line(OUT_OF_MEMORY, err),
+    };
 }
 
-/// What is wrong with the arguments, as it may be shown, unless that is that there was no memory to match them.
+/// What is wrong with the arguments, as it may be shown, without the line's end; unless that is that there was no
+/// memory to match them.
 fn shown_error(alloc: Global, error: &clap::Error) -> Result<String, AllocError>
     ensures shown { IfOk result (λ text. (said : List ℕ) × (string_bytes text ≡ spec.normalized_text said)) }
     ensures memory { kind_of error.now ≡ ErrorKind.OutOfMemory → IsErr result }
@@ -79,5 +76,5 @@ fn shown_error(alloc: Global, error: &clap::Error) -> Result<String, AllocError>
         return Err(AllocError);
     }
     let message = format!(in alloc; "{error}")?;
-    normalize_untrusted_str(alloc, message.as_str())
+    normalize_untrusted_str(alloc, message.as_str().trim_end_matches('\n'))
 }

@@ -1,5 +1,5 @@
-use Rattle.std.proofs.Common.{refl, ◌∙◌, []}
-use Rattle.replay_run.proofs.Growing.{appends_none, grows_appended, grows_twice}
+use Rattle.std.proofs.Common.{refl, ◌∙◌}
+use Rattle.replay_run.proofs.Growing.{grows_none, grows_twice}
 use Rattle.replay_run.proofs.Checking.{ended, checked_all, checked_none, checked_step, passes_counted, passes_if_none}
 use Rattle.replay_run.proofs.check.check_lines.Goals as goal
 
@@ -7,7 +7,7 @@ pub loop-number-init : goal.loop-number-init
 loop-number-init g c = (
   refl,
   checked_none _ _ _ _ _ c.lines-answers.ensures c.lines-lines.ensures refl refl,
-  grows_appended _ _ [] (appends_none _),
+  grows_none _,
   λ _. refl,
 )
 

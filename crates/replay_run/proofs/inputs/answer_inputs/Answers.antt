@@ -3,6 +3,7 @@ use Rattle.replay_command.specs.Arguments.{Argument, arguments_at}
 use Rattle.replay_run.specs.Answered.{AnswersInputs}
 use Rattle.replay_run.specs.Inputs.{held_by}
 use Rattle.replay_run.proofs.AnsweredInputs.{HaveAnswered, names_all, names_at, names_more, none_answered, one_more_answered, stops_next}
+use Rattle.program.specs.Standing.{known}
 use Rattle.replay_run.proofs.inputs.answer_inputs.Goals as goal
 
 pub loop-name-init : goal.loop-name-init
@@ -16,7 +17,7 @@ loop-name-preserved g c =
     let more = one_more_answered held c.args.way c.loop-name.told c.in-Ok.here _ before c.loop-name.is_first c.answer_named.new.is_first _ _ _ input
     c.loop-name.invariant answered c.either-told.ensures.value in
     subst (λ (names : List Argument). HaveAnswered g.row.R-File.Denot g.row.R-Reader.Denot held c.args.way c.either-told.result names
-    c.answer_named.new.is_first (g.W.Write.contents c.args.out.now) (g.W.Write.contents c.answer_named.new.out))
+    c.answer_named.new.is_first (known g.W.Write.contents c.args.out.now) (known g.W.Write.contents c.answer_named.new.out))
     (ap (λ (name : Argument). before ++ name ∷ []) is ∙ sym (names_more c.args.names.now c.loop-name.name-index _ (omega (arith, c.loop-name-test.true)))) more
 
 pub returns-in-Err-clause-stops : goal.returns-in-Err-clause-stops
@@ -29,5 +30,5 @@ pub returns-clause-answers : goal.returns-clause-answers
 returns-clause-answers g c =
     let all : c.loop-name.name-index ≡ length c.args.names.now = omega arith in
     subst (λ (names : List Argument). AnswersInputs g.row.R-File.Denot g.row.R-Reader.Denot (held_by g.R.File.Read.remaining g.R.Reader.Read.remaining)
-    c.args.way c.loop-name.told names (g.W.Write.contents c.args.out.now) (g.W.Write.contents c.loop-name.out))
+    c.args.way c.loop-name.told names (known g.W.Write.contents c.args.out.now) (known g.W.Write.contents c.loop-name.out))
     (names_all c.args.names.now c.loop-name.name-index all) c.loop-name.invariant.all

@@ -1,4 +1,4 @@
-use Rattle.std.proofs.Common.{◌≡◌, ◌∙◌, Some, ap, false, inl, inr, length, refl}
+use Rattle.std.proofs.Common.{◌∙◌, Some, ap, false, inl, inr, length, refl}
 use Rattle.clap.specs.Words.{found_of, rows_of}
 use Rattle.replay_command.specs.Arguments.{Checks, asked, task_of}
 use Rattle.replay_run.specs.Answered.{AnswersInputs, StopsInputs}
@@ -6,6 +6,7 @@ use Rattle.replay_run.specs.Compared.{EndsComparison}
 use Rattle.replay_run.specs.Inputs.{answers, held_by}
 use Rattle.replay_run.proofs.Commands.{answers_asked, comparison_asked, files_compared, memory_asked, same_task}
 use Rattle.replay_run.proofs.Commands.{something_asked}
+use Rattle.program.specs.Standing.{known}
 use Rattle.replay_run.proofs.run.run_matched.Goals as goal
 
 pub returns-in-Ok-finish-clause-usage : goal.returns-in-Ok-finish-clause-usage
@@ -19,14 +20,15 @@ returns-in-Ok-finish-clause-differs g c = λ one.
 pub returns-in-Ok-finish-clause-compares : goal.returns-in-Ok-finish-clause-compares
 returns-in-Ok-finish-clause-compares g c = λ within files is.
     comparison_asked c.in-Ok.command (λ names. EndsComparison g.row.R-File.Denot g.R.File.Read.remaining (length names)
-    (g.W.Write.contents c.args.out.now) (g.W.Write.contents c.finish.new.out) c.in-Ok-finish.status) files
+    (known g.W.Write.contents c.args.out.now) (known g.W.Write.contents c.finish.new.out) c.in-Ok-finish.status) files
     (same_task (asked (rows_of (found_of c.args.matches.now))) (task_of c.in-Ok.command) (Checks files) c.in-Ok.ensures.command is)
     c.in-Ok-finish.ensures.compares
 
 pub returns-in-Ok-finish-clause-answers : goal.returns-in-Ok-finish-clause-answers
 returns-in-Ok-finish-clause-answers g c = λ done way names is.
     answers_asked c.in-Ok.command (λ w ns. AnswersInputs g.row.R-File.Denot g.row.R-Reader.Denot
-    (held_by g.R.File.Read.remaining g.R.Reader.Read.remaining) w false ns (g.W.Write.contents c.args.out.now) (g.W.Write.contents c.finish.new.out))
+    (held_by g.R.File.Read.remaining g.R.Reader.Read.remaining) w false ns (known g.W.Write.contents c.args.out.now)
+    (known g.W.Write.contents c.finish.new.out))
     way names (same_task (asked (rows_of (found_of c.args.matches.now))) (task_of c.in-Ok.command) (answers way names) c.in-Ok.ensures.command is)
     c.in-Ok-finish.ensures.answers
 
@@ -43,7 +45,7 @@ returns-in-Err-finish-clause-stops g c = λ stopped way names is.
       c.in-Err-finish.stop.problem,
       c.tell_stop.ensures.told,
       answers_asked c.in-Ok.command (λ w ns. StopsInputs g.row.R-File.Denot g.row.R-Reader.Denot
-          (held_by g.R.File.Read.remaining g.R.Reader.Read.remaining) w ns (g.W.Write.contents c.args.out.now) (g.W.Write.contents c.finish.new.out)
+          (held_by g.R.File.Read.remaining g.R.Reader.Read.remaining) w ns (known g.W.Write.contents c.args.out.now) (known g.W.Write.contents c.finish.new.out)
           c.in-Err-finish.stop.file.now c.in-Err-finish.stop.problem) way names
           (same_task (asked (rows_of (found_of c.args.matches.now))) (task_of c.in-Ok.command) (answers way names) c.in-Ok.ensures.command is)
           c.in-Err-finish.ensures.stops,

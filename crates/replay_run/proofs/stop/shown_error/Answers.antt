@@ -7,6 +7,6 @@ pub returns : goal.returns
 returns c =
     record {
       shown = IfOk-weaker c.normalize_untrusted_str.result _ _
-          (λ text value. (c.as_str.result.now, shown_message text _ _ value refl)) c.normalize_untrusted_str.ensures.value;
+          (λ text value. (c.trim_end_matches.result.now, shown_message text _ _ value refl)) c.normalize_untrusted_str.ensures.value;
       memory = search rules;
     }
