@@ -1,5 +1,6 @@
 //! Inputs of `redraw` drawn, with files in memory: what is told of an input, and what is drawn of the rest.
 use annotate_snippets::Renderer;
+use program::stream::Stream;
 use redraw_command::choice::{Choice, Form, Least};
 use redraw_command::seen::{Names, Seen};
 use redraw_command::tally::Tally;
@@ -77,7 +78,8 @@ fn draw_into(
         input: "in",
         line: 0,
     };
-    let is_whole = draw_opened(Ok(input), &mut drawing, out, err).unwrap_or(false);
+    let (mut out, mut err) = (Stream::new(out), Stream::new(err));
+    let is_whole = draw_opened(Ok(input), &mut drawing, &mut out, &mut err).unwrap_or(false);
     (is_whole, drawing.tally)
 }
 
@@ -338,7 +340,8 @@ const MISUSES: [(&[&str], &str); 6] = [
 fn the_argument_that_is_wrong_is_told(rt: HostRuntime) -> Result<(), Fail> {
     for (args, told) in &MISUSES {
         let (mut out, mut err) = (Vec::new(rt.alloc()), Vec::new(rt.alloc()));
-        assert_eq!(rt; run(&rt, args, NOWHERE, &mut out, &mut err), 2);
+        let (mut printed, mut told_to) = (Stream::new(&mut out), Stream::new(&mut err));
+        assert_eq!(rt; run(&rt, args, NOWHERE, &mut printed, &mut told_to), 2);
         assert!(rt; err.starts_with(told.as_bytes()));
         assert!(rt; out.is_empty());
     }

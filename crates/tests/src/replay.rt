@@ -6,6 +6,7 @@ use annotate_snippets::renderer::{
     AnsiColor, Color, DecorStyle, Effects, RenderError, Style, Stylesheet,
 };
 use annotate_snippets::{Annotation, AnnotationKind, Element, Group, OptionCow, Renderer, Snippet};
+use program::stream::Stream;
 use replay_answer::outcome::{Outcome, name_of, outcome_of};
 use replay_answer::read::{case_of, case_sources};
 use replay_run::check::check_lines;
@@ -180,7 +181,13 @@ fn answered(alloc: Global, lines: &str) -> Result<(Vec<u8>, String), Fail> {
     let mut out = Vec::new(alloc);
     let mut is_first = true;
     let way = stopping(Form::Json);
-    let told = match answer_lines(alloc, lines.as_bytes(), way, &mut is_first, &mut out) {
+    let told = match answer_lines(
+        alloc,
+        lines.as_bytes(),
+        way,
+        &mut is_first,
+        &mut Stream::new(&mut out),
+    ) {
         Ok(_) => String::new(alloc),
         Err(problem) => words_of(alloc, &problem)?,
     };
@@ -228,7 +235,13 @@ fn tells_the_span_that_is_refused(rt: HostRuntime) -> Result<(), Fail> {
     let mut is_first = true;
     let lines = WRONG_SPANS.as_bytes();
     let way = stopping(Form::Texts);
-    let answered = answer_lines(rt.alloc(), lines, way, &mut is_first, &mut out);
+    let answered = answer_lines(
+        rt.alloc(),
+        lines,
+        way,
+        &mut is_first,
+        &mut Stream::new(&mut out),
+    );
     assert!(rt; answered.is_ok());
     assert_eq!(rt; out.as_slice(), REFUSED_SPANS.as_bytes());
     Ok(())
@@ -269,7 +282,13 @@ fn keeps_going_past_lines_that_are_no_cases(rt: HostRuntime) -> Result<(), Fail>
             keep_going: true,
         };
         let (mut out, mut is_first) = (Vec::new(rt.alloc()), true);
-        match answer_lines(rt.alloc(), GAPPED.as_bytes(), way, &mut is_first, &mut out) {
+        match answer_lines(
+            rt.alloc(),
+            GAPPED.as_bytes(),
+            way,
+            &mut is_first,
+            &mut Stream::new(&mut out),
+        ) {
             Ok(told) => assert!(rt; told),
             Err(_) => return Err(Fail::new("stopped")),
         }
@@ -298,7 +317,13 @@ fn tells_a_failed_write(rt: HostRuntime) {
     for form in [Form::Json, Form::Texts] {
         let mut is_first = true;
         let way = stopping(form);
-        let answered = answer_lines(rt.alloc(), line.as_bytes(), way, &mut is_first, &mut Full);
+        let answered = answer_lines(
+            rt.alloc(),
+            line.as_bytes(),
+            way,
+            &mut is_first,
+            &mut Stream::new(Full),
+        );
         assert!(rt; answered.is_err());
     }
 }
@@ -333,7 +358,12 @@ const COMPARED: [(&str, (u64, u64), &str); 4] = [
 fn compared(alloc: Global, answer: &str) -> Result<((u64, u64), Vec<u8>), Fail> {
     let expected = format!(in alloc; "{{\"id\": \"a\", \"ok\": [\"error: e\"]}}\n{answer}\n")?;
     let mut out = Vec::new(alloc);
-    match check_lines(alloc, expected.as_bytes(), TITLES.as_bytes(), &mut out) {
+    match check_lines(
+        alloc,
+        expected.as_bytes(),
+        TITLES.as_bytes(),
+        &mut Stream::new(&mut out),
+    ) {
         Ok(counts) => Ok(((counts.passed, counts.failed), out)),
         Err(_) => Err(Fail::new("stopped")),
     }
@@ -468,7 +498,12 @@ const ROW_TEXTS: &str = concat!(
 #[test]
 fn every_row_renders(rt: HostRuntime) -> Result<(), Fail> {
     let mut told = Vec::new(rt.alloc());
-    match check_lines(rt.alloc(), ROW_TEXTS.as_bytes(), ROWS.as_bytes(), &mut told) {
+    match check_lines(
+        rt.alloc(),
+        ROW_TEXTS.as_bytes(),
+        ROWS.as_bytes(),
+        &mut Stream::new(&mut told),
+    ) {
         Ok(counts) => assert_eq!(rt; (counts.passed, counts.failed), (15, 0)),
         Err(_) => return Err(Fail::new("stopped")),
     }

@@ -1,5 +1,6 @@
 //! What `replay` does by its arguments: how it tells those that aren't of the form, files that aren't there, the help.
 
+use program::stream::Stream;
 use replay_run::run::run;
 use std::test::Fail;
 
@@ -72,7 +73,12 @@ const UNKNOWN: [(&[&str], &str); 4] = [
 /// The status of a run over these arguments, and what is written to standard output and to standard error.
 fn ran(rt: &HostRuntime, args: &'static [&'static str]) -> (u8, Vec<u8>, Vec<u8>) {
     let (mut out, mut err) = (Vec::new(rt.alloc()), Vec::new(rt.alloc()));
-    let status = run(rt, args, &mut out, &mut err);
+    let status = run(
+        rt,
+        args,
+        &mut Stream::new(&mut out),
+        &mut Stream::new(&mut err),
+    );
     (status, out, err)
 }
 

@@ -1,4 +1,5 @@
 //! Runs of `snip`, by arguments, the bytes of a file and two writers.
+use program::stream::Stream;
 use snip_run::run::run;
 use std::alloc::Global;
 use std::io;
@@ -162,7 +163,13 @@ fn does(alloc: Global, wanted: Run<'_>) -> bool {
     let (args, file, status, printed, told) = wanted;
     let mut out = Vec::new(alloc);
     let mut err = Vec::new(alloc);
-    run(alloc, args, file, &mut out, &mut err) == status
+    run(
+        alloc,
+        args,
+        file,
+        &mut Stream::new(&mut out),
+        &mut Stream::new(&mut err),
+    ) == status
         && out.as_slice() == printed.as_bytes()
         && err.as_slice() == told.as_bytes()
 }
@@ -196,8 +203,21 @@ impl Write for Full {
 fn tells_no_failed_write(rt: HostRuntime) {
     let alloc = rt.alloc();
     let mut err = Vec::new(alloc);
+    let mut full = Stream::new(Full);
     let args = ["a.rs", "4", "5", "unused"];
-    assert_eq!(rt; run(alloc, &args, Some(SOURCE), &mut Full, &mut err), 1);
+    assert_eq!(rt;
+        run(
+            alloc,
+            &args,
+            Some(SOURCE),
+            &mut full,
+            &mut Stream::new(&mut err)
+        ),
+        1
+    );
     assert!(rt; err.is_empty());
-    assert_eq!(rt; run(alloc, &[], None, &mut err, &mut Full), 2);
+    assert_eq!(rt;
+        run(alloc, &[], None, &mut Stream::new(&mut err), &mut full),
+        2
+    );
 }

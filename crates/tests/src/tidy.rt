@@ -1,4 +1,5 @@
 //! Runs of `tidy`, by arguments, the bytes of a file and three writers.
+use program::stream::Stream;
 use std::alloc::{AllocError, Global};
 use std::io::Write;
 use std::test::Fail;
@@ -143,7 +144,8 @@ fn status_of<W: Write, V: Write, L: Write>(
     rules.push(Box::new(alloc, TrailingBlanks)?)?;
     rules.push(Box::new(alloc, Tabs)?)?;
     rules.push(Box::new(alloc, FinalLine)?)?;
-    Ok(run(alloc, &rules, args, file, out, err, log))
+    let (mut out, mut err, mut log) = (Stream::new(out), Stream::new(err), Stream::new(log));
+    Ok(run(alloc, &rules, args, file, &mut out, &mut err, &mut log))
 }
 
 /// Whether the run does what is wanted: with LOG, `log` holds the report and a line feed, and `out` the same with
