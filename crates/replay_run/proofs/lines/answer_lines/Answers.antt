@@ -13,7 +13,8 @@ loop-line-init g c =
 pub loop-line-preserved : goal.loop-line-preserved
 loop-line-preserved g c =
     answered_step _ _ _ _ _ _ _ _ _ _ _ _ _ (known g.W.Write.contents c.answer_line.new.out) _ _ c.in-Some.line c.loop-line.invariant
-    c.saturating_add-number.ensures c.in-Some.is c.next.ensures.steps.1 c.in-Ok.ensures.answers (gets_none _ _ c.flush.ensures.either) c.either-told.ensures.value
+    c.saturating_add-number.ensures c.in-Some.is c.next.ensures.steps.1 c.in-Ok.ensures.answers
+    (gets_none _ _ c.flush.ensures.either) c.either-told.ensures.value
 
 pub returns-in-Err-clause-stops : goal.returns-in-Err-clause-stops
 returns-in-Err-clause-stops g c =
@@ -22,8 +23,9 @@ returns-in-Err-clause-stops g c =
 
 pub returns-in-Err-flush-clause-stops : goal.returns-in-Err-flush-clause-stops
 returns-in-Err-flush-clause-stops g c =
-    let more = answered_step _ _ _ _ _ _ _ _ _ _ _ _ _ (known g.W.Write.contents c.answer_line.new.out) (known g.W.Write.contents c.flush.new.self) _
-    c.in-Some.line c.loop-line.invariant c.saturating_add-number.ensures c.in-Some.is c.next.ensures.steps.1 c.in-Ok.ensures.answers (gets_none _ _ c.flush.ensures.either) c.either-told.ensures.value in
+    let more = answered_step _ _ _ _ _ _ _ _ _ _ _ _ _ (known g.W.Write.contents c.answer_line.new.out)
+    (known g.W.Write.contents c.flush.new.self) _ c.in-Some.line c.loop-line.invariant c.saturating_add-number.ensures c.in-Some.is
+    c.next.ensures.steps.1 c.in-Ok.ensures.answers (gets_none _ _ c.flush.ensures.either) c.either-told.ensures.value in
     stops_after _ _ _ _ _ _ _ _ _ _ _ more (Keeps-refl _) (c.in-Err-flush.ensures.cut.failed, c.in-Err-flush.error, refl)
 
 pub returns-clause-answers : goal.returns-clause-answers
