@@ -3,6 +3,7 @@
 
 use program::exit::exit_code;
 use program::input::given_arguments;
+use program::stream::Stream;
 use redraw_command::tally::FAILED;
 use redraw_command::terminal::Surroundings;
 use redraw_run::run::run;
@@ -40,8 +41,9 @@ fn answer(rt: &HostRuntime) -> io::Result<u8> {
         columns: columns(rt),
         folder: folder.as_ref().map(|path| path.as_str()),
     };
-    let mut out = BufWriter::new(alloc, rt.stdout())?;
-    Ok(run(rt, &args, around, &mut out, &mut rt.stderr()))
+    let mut out = Stream::new(BufWriter::new(alloc, rt.stdout())?);
+    let mut err = Stream::new(rt.stderr());
+    Ok(run(rt, &args, around, &mut out, &mut err))
 }
 
 fn main(rt: HostRuntime) -> ExitCode {

@@ -5,6 +5,7 @@ use Rattle.clap.specs.Faults.{fault_of}
 use Rattle.clap.specs.Simple.{App}
 use Rattle.clap.specs.declared.error.kind.ErrorKind.{ErrorKind}
 use Rattle.clap.specs.declared.error.kind.ErrorKind.TheVariants.{DisplayHelp, DisplayVersion, OutOfMemory}
+use Rattle.program.specs.Standing.{Standing}
 use Rattle.redraw_command.specs.Told.{TellsMemory, TellsOfArguments}
 use Rattle.redraw_command.specs.Arguments.{AsksToShow, Argument}
 use Rattle.redraw_command.specs.declared.terminal.Surroundings.{Surroundings}
@@ -30,7 +31,7 @@ pub memory_mistake : (kind : ErrorKind) → kind ≡ OutOfMemory → (kind ≢ D
 memory_mistake kind memory = ((λ help. cc (memory, help)), (λ version. cc (memory, version)))
 
 -- what becomes of a reason of this kind
-pub record EndsBy (kind : ErrorKind) (old_out old_err out err : Option (List ℕ)) (status : ℕ) : Type 0 where
+pub record EndsBy (kind : ErrorKind) (old_out old_err out err : Standing) (status : ℕ) : Type 0 where
   pub usage_error : kind ≢ DisplayHelp → kind ≢ DisplayVersion → (status ≡ 2) × (out ≡ old_out)
   pub told : kind ≢ DisplayHelp → kind ≢ DisplayVersion → TellsOfArguments old_err err
   pub memory : kind ≡ OutOfMemory → TellsMemory old_err err
@@ -38,7 +39,7 @@ pub record EndsBy (kind : ErrorKind) (old_out old_err out err : Option (List ℕ
   pub printed : IsShown kind → IsPrinted old_out out status
 
 by_kind : {File Standard : Type 0} (held : File ⊎ Standard → Option (List ℕ)) (app : App) (args : List Argument) (around : Surroundings) (kind : ErrorKind)
-    (old_out old_err out err : Option (List ℕ)) (status : ℕ) → EndsBy kind old_out old_err out err status → IsAmong kind (fault_of app args)
+    (old_out old_err out err : Standing) (status : ℕ) → EndsBy kind old_out old_err out err status → IsAmong kind (fault_of app args)
     → IsShown kind ⊎ ((kind ≢ DisplayHelp) × (kind ≢ DisplayVersion))
     → AnswersBy held app args around old_out old_err out err status
 by_kind held app args around kind old_out old_err out err status e found (inl shown) =
@@ -54,7 +55,7 @@ by_kind held app args around kind old_out old_err out err status e found (inr ot
 
 -- so a run answers
 pub answers_error : {File Standard : Type 0} (held : File ⊎ Standard → Option (List ℕ)) (app : App) (args : List Argument) (around : Surroundings)
-    (kind : ErrorKind) (old_out old_err out err : Option (List ℕ)) (status : ℕ) → EndsBy kind old_out old_err out err status
+    (kind : ErrorKind) (old_out old_err out err : Standing) (status : ℕ) → EndsBy kind old_out old_err out err status
     → (kind ≡ OutOfMemory) ⊎ IsAmong kind (fault_of app args) → AnswersBy held app args around old_out old_err out err status
 answers_error held app args around kind old_out old_err out err status e (inl memory) =
     let mistake = memory_mistake kind memory in

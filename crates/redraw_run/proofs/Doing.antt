@@ -1,11 +1,11 @@
 -- Things that are done one after the other are done together.
-use Rattle.std.proofs.Common.{◌≡◌, ◌⊎◌, ℕ, Bool, true, false, List, [], ◌∷◌, ◌++◌, Option, refl, ap, sym, ◌∙◌, subst, inl, inr, append_assoc, append-nil}
+use Rattle.std.proofs.Common.{◌≡◌, ◌⊎◌, ℕ, Bool, true, false, List, [], ◌∷◌, ◌++◌, refl, ap, sym, ◌∙◌, subst, inl, inr, append_assoc, append-nil}
 use Rattle.std.specs.Prelude.{Result, Ok, Err, IsErrAnd}
-use Rattle.std.specs.Io.KnownBytes.{Appends}
 use Rattle.std.specs.List.{flat_map}
-use Rattle.std.proofs.KnownBytes.{Appends-nil, Appends-trans}
 use Rattle.std.proofs.lemmas.List.Concat.{flat_map-append}
 use Rattle.redraw_run.specs.declared.look.ReportRenderer.{ReportRenderer}
+use Rattle.program.specs.Standing.{Adds, BreaksOff, Gets, Standing}
+use Rattle.program.proofs.Writing.{adds_breaks, adds_none, adds_twice, gets_twice}
 use Rattle.redraw_command.specs.Tally.{tallied}
 use Rattle.redraw_command.specs.Choice.{is_sum}
 use Rattle.redraw_command.specs.declared.choice.Choice.{Choice}
@@ -15,7 +15,7 @@ use Rattle.redraw_command.specs.declared.tally.Tally.{Tally}
 use Rattle.redraw_report.specs.declared.diagnostic.Severity.{Severity}
 use Rattle.redraw_report.specs.declared.diagnostic.Severity.TheVariants.{Error, Warning, Info, Note, Help, Plain}
 use Rattle.redraw_run.specs.Deeds.{State, Deed, Drawn, Commanded, HandedOn, Told, Refused, LeftOut, Repeated, BuildFailed, AreDeeds, printed, told}
-use Rattle.redraw_run.specs.Deeds.{tally_after, tally_by, with_files, Does, AppendsFirst, IsCutShort, IsPartOfDeeds, Stops, Goes}
+use Rattle.redraw_run.specs.Deeds.{tally_after, tally_by, with_files, Does, IsCutShort, IsPartOfDeeds, Stops, Goes}
 use Rattle.redraw_run.specs.Fates.{AreNone, Then}
 
 deeds_both : (r : ReportRenderer) (c : Choice) (ds es : List Deed) → AreDeeds r c ds → AreDeeds r c es → AreDeeds r c (ds ++ es)
@@ -36,7 +36,7 @@ files_after : (d : Deed) (t : Tally) (f : ℕ) → tally_after (with_files t f) 
 files_after (Drawn d text) t f = files_tallied d.severity (is_sum d) t f
 files_after (Commanded d line) t f = files_tallied d.severity (is_sum d) t f
 files_after (HandedOn line) t f = refl
-files_after (Told part) t f = refl
+files_after (Told line) t f = refl
 files_after (Refused d why) t f = refl
 files_after LeftOut t f = refl
 files_after Repeated t f = refl
@@ -64,8 +64,8 @@ does_nothing s =
       deeds = [];
       are = tt;
       fit = refl;
-      out = Appends-nil s.out;
-      err = Appends-nil s.err;
+      out = adds_none s.out;
+      err = inl (adds_none s.err);
       tally = refl;
       renderer = refl;
       choice = refl;
@@ -77,9 +77,13 @@ are_then a b c p es are =
     deeds_both a.renderer a.choice p.deeds es p.are
     (subst (λ r. AreDeeds r a.choice es) p.renderer (subst (λ ch. AreDeeds b.renderer ch es) p.choice are))
 
-added_then : (f : Deed → List ℕ) (a b c : Option (List ℕ)) (ds es : List Deed) → Appends a b (flat_map f ds) → Appends b c (flat_map f es)
-    → Appends a c (flat_map f (ds ++ es))
-added_then f a b c ds es p q = subst (Appends a c) (sym (flat_map-append f ds es)) (Appends-trans a b c (flat_map f ds) (flat_map f es) p q)
+added_then : (f : Deed → List ℕ) (a b c : Standing) (ds es : List Deed) → Adds a b (flat_map f ds) → Adds b c (flat_map f es)
+    → Adds a c (flat_map f (ds ++ es))
+added_then f a b c ds es p q = subst (Adds a c) (sym (flat_map-append f ds es)) (adds_twice a b c (flat_map f ds) (flat_map f es) p q)
+
+given_then : (f : Deed → List ℕ) (a b c : Standing) (ds es : List Deed) → Gets a b (flat_map f ds) → Gets b c (flat_map f es)
+    → Gets a c (flat_map f (ds ++ es))
+given_then f a b c ds es p q = subst (Gets a c) (sym (flat_map-append f ds es)) (gets_twice a b c (flat_map f ds) (flat_map f es) p q)
 
 -- what is done, and then what is done after it
 pub does_then : {P Q : Choice → List Deed → Type 0} {a b c : State} → Does P a b → Does Q b c → Does (Then P Q) a c
@@ -89,8 +93,8 @@ does_then {P} {Q} {a} {b} {c} p q =
       are = are_then {P = P} a b c p q.deeds q.are;
       fit = record { before = p.deeds; after = q.deeds; split = refl; first = p.fit; next = subst (λ ch. Q ch q.deeds) p.choice q.fit };
       out = added_then (printed a.renderer) a.out b.out c.out p.deeds q.deeds p.out
-          (subst (λ r. Appends b.out c.out (flat_map (printed r) q.deeds)) p.renderer q.out);
-      err = added_then told a.err b.err c.err p.deeds q.deeds p.err q.err;
+          (subst (λ r. Adds b.out c.out (flat_map (printed r) q.deeds)) p.renderer q.out);
+      err = given_then told a.err b.err c.err p.deeds q.deeds p.err q.err;
       tally = tally_then a.tally b.tally c.tally p.deeds q.deeds p.tally q.tally;
       renderer = q.renderer ∙ p.renderer;
       choice = q.choice ∙ p.choice;
@@ -108,34 +112,6 @@ does_as {P} {Q} {a} {b} f p =
       tally = p.tally;
       renderer = p.renderer;
       choice = p.choice;
-    }
-
--- all of some bytes is a first part of them
-pub first_all : (a b : Option (List ℕ)) (whole : List ℕ) → Appends a b whole → AppendsFirst a b whole
-first_all a b whole h = record { part = whole; first = record { rest = []; split = sym (append-nil whole) }; added = h }
-
--- some bytes, and a first part of others after them
-pub first_then : (a b c : Option (List ℕ)) (bs cs : List ℕ) → Appends a b bs → AppendsFirst b c cs → AppendsFirst a c (bs ++ cs)
-first_then a b c bs cs p q =
-    record {
-      part = bs ++ q.part;
-      first = record {
-        rest = q.first.rest;
-        split = ap (λ l. bs ++ l) q.first.split ∙ sym (append_assoc bs q.part q.first.rest);
-      };
-      added = Appends-trans a b c bs q.part p q.added;
-    }
-
--- a first part of some bytes is one of these and more
-pub first_more : (a b : Option (List ℕ)) (bs cs : List ℕ) → AppendsFirst a b bs → AppendsFirst a b (bs ++ cs)
-first_more a b bs cs p =
-    record {
-      part = p.part;
-      first = record {
-        rest = p.first.rest ++ cs;
-        split = ap (λ l. l ++ cs) p.first.split ∙ append_assoc p.part p.first.rest cs;
-      };
-      added = p.added;
     }
 
 part_either : (P Q : Choice → List Deed → Type 0) (c : Choice) (ds : List Deed) → ((ds : List Deed) → P c ds → Q c ds)
@@ -168,16 +144,6 @@ pub part_then : {P Q : Choice → List Deed → Type 0} (c : Choice) (ds : List 
     → IsPartOfDeeds (Then P Q) c ds
 part_then {P} {Q} c ds q h = part_next {P = P} {Q = Q} c ds q h.before h.after h.split h.first h.next.is
 
-pub cut_all : {P : Choice → List Deed → Type 0} {a b : State} → Does P a b → IsCutShort P a b
-cut_all {P} {a} {b} p =
-    record {
-      deeds = p.deeds;
-      are = p.are;
-      fit = p.fit;
-      out = first_all a.out b.out (flat_map (printed a.renderer) p.deeds) p.out;
-      err = p.err;
-    }
-
 pub cut_as : {P Q : Choice → List Deed → Type 0} {a b : State} → ((ds : List Deed) → P a.choice ds → Q a.choice ds) → IsCutShort P a b → IsCutShort Q a b
 cut_as {P} {Q} {a} {b} f p = record { deeds = p.deeds; are = p.are; fit = f p.deeds p.fit; out = p.out; err = p.err }
 
@@ -187,10 +153,10 @@ cut_then {P} {Q} {a} {b} {c} p q =
       deeds = p.deeds ++ q.deeds;
       are = are_then {P = P} a b c p q.deeds q.are;
       fit = record { before = p.deeds; after = q.deeds; split = refl; first = p.fit; next = subst (λ ch. Q ch q.deeds) p.choice q.fit };
-      out = subst (AppendsFirst a.out c.out) (sym (flat_map-append (printed a.renderer) p.deeds q.deeds))
-          (first_then a.out b.out c.out (flat_map (printed a.renderer) p.deeds) (flat_map (printed a.renderer) q.deeds) p.out
-          (subst (λ r. AppendsFirst b.out c.out (flat_map (printed r) q.deeds)) p.renderer q.out));
-      err = added_then told a.err b.err c.err p.deeds q.deeds p.err q.err;
+      out = subst (BreaksOff a.out c.out) (sym (flat_map-append (printed a.renderer) p.deeds q.deeds))
+          (adds_breaks a.out b.out c.out (flat_map (printed a.renderer) p.deeds) (flat_map (printed a.renderer) q.deeds) p.out
+          (subst (λ r. BreaksOff b.out c.out (flat_map (printed r) q.deeds)) p.renderer q.out));
+      err = given_then told a.err b.err c.err p.deeds q.deeds p.err q.err;
     }
 
 -- what is done may be all that is done before there is no memory

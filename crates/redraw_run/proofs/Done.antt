@@ -1,15 +1,16 @@
 -- One thing that is done.
-use Rattle.std.proofs.Common.{◌≡◌, ◌||◌, ◌<◌, ◌==◌, ◌≤◌, ℕ, Bool, arith, suc, zero, true, false, List, [], ◌∷◌, ◌++◌, Option, Some, refl, ap, sym}
-use Rattle.std.proofs.Common.{◌∙◌, subst, inl, inr, append_assoc}
-use Rattle.std.proofs.Common.{ap₂, append-nil, drop, take, take-append-drop}
+use Rattle.std.proofs.Common.{◌≡◌, ◌||◌, ◌<◌, ◌==◌, ◌≤◌, ℕ, Bool, arith, suc, zero, true, false, List, [], ◌∷◌, ◌++◌, Some, refl, ap, sym}
+use Rattle.std.proofs.Common.{◌∙◌, subst, inl, inr}
+use Rattle.std.proofs.Common.{ap₂, append-nil}
 use Rattle.std.specs.Prelude.{Result, Ok, Err, IfErr, IfOk, OnOk}
-use Rattle.std.specs.Io.KnownBytes.{Appends, Keeps}
-use Rattle.std.specs.List.{concat, flat_map}
+use Rattle.std.specs.List.{flat_map}
+use Rattle.std.proofs.lemmas.List.Concat.{flat_map-append}
 use Rattle.std.proofs.Math.Dec.{eqb-suc-zero}
-use Rattle.std.proofs.KnownBytes.{Appends-kept, Appends-nil, Appends-trans}
 use Rattle.redraw_run.specs.declared.look.ReportRenderer.{ReportRenderer}
 use Rattle.annotate_snippets.specs.declared.renderer.error.RenderError.{RenderError}
-use Rattle.program.specs.Stream.{AppendsPart}
+use Rattle.program.specs.Standing.{Adds, BreaksOff, Gets, Standing}
+use Rattle.program.specs.Stream.{ended_line}
+use Rattle.program.proofs.Writing.{adds_breaks, adds_none, adds_twice, breaks_stays, gets_twice}
 use Rattle.redraw_command.specs.Tally.{is_empty, one_more}
 use Rattle.redraw_command.specs.Told.{Tells}
 use Rattle.redraw_command.specs.Workflow.{command}
@@ -22,20 +23,24 @@ use Rattle.redraw_read.specs.declared.sources.File.{File}
 use Rattle.redraw_report.specs.declared.diagnostic.Diagnostic.{Diagnostic}
 use Rattle.redraw_run.specs.Deeds.{State, Deed, Drawn, Commanded, HandedOn, Told, Refused, LeftOut, Repeated, BuildFailed, AreDeeds, AreTold, TellsAll, printed}
 use Rattle.redraw_run.specs.Deeds.{told}
-use Rattle.redraw_run.specs.Deeds.{one_left_out, tally_by, with_files, repeated, Does, AppendsFirst, IsCutShort, IsUnwritable, Writes, Stops}
+use Rattle.redraw_run.specs.Deeds.{one_left_out, tally_by, with_files, repeated, Does, IsCutShort, IsUnwritable, Writes, Stops}
 use Rattle.redraw_run.specs.Deeds.{Goes}
 use Rattle.redraw_run.specs.DrawnFinding.{IsCounted, RefusesFinding, ShowsFinding, ending_after}
 use Rattle.redraw_run.specs.HtmlDocument.{handed}
 use Rattle.redraw_run.specs.ReadLines.{Prints, SumsUp, TellsUnless}
 use Rattle.redraw_run.specs.Fates.{AreMessages, AreNone, IsFailed, IsHandedOn, LeavesOut, IsRepeated, IsShown, IsTelling, IsWritten, IsWrong, Then}
-use Rattle.redraw_run.proofs.Doing.{does_as, does_then, first_more, first_then}
+use Rattle.redraw_run.proofs.Doing.{does_as, does_then}
 
 -- a tally is another, but for its files
 tally_is : (t u : Tally) → t ≡ u → t ≡ with_files u t.files
 tally_is t u is = is ∙ ap (λ (f : ℕ). with_files u f) (sym (ap (λ (x : Tally). x.files) is))
 
-same_appends : (a b : Option (List ℕ)) → b ≡ a → Appends a b []
-same_appends a b is = subst (λ x. Appends a x []) (sym is) (Appends-nil a)
+-- nothing is added, or given, where what is known stays
+same_added : (a b : Standing) → b ≡ a → Adds a b []
+same_added a b is = subst (λ (x : Standing). Adds a x []) (sym is) (adds_none a)
+
+same_given : (a b : Standing) → b ≡ a → Gets a b []
+same_given a b is = inl (same_added a b is)
 
 -- nothing is done, where what is known stays
 pub does_same : {a b : State} → b.out ≡ a.out → b.err ≡ a.err → b.tally ≡ a.tally → b.renderer ≡ a.renderer → b.choice ≡ a.choice → Does AreNone a b
@@ -44,25 +49,25 @@ does_same {a} {b} out err tally renderer choice =
       deeds = [];
       are = tt;
       fit = refl;
-      out = same_appends a.out b.out out;
-      err = same_appends a.err b.err err;
+      out = same_added a.out b.out out;
+      err = same_given a.err b.err err;
       tally = tally_is b.tally a.tally tally;
       renderer = renderer;
       choice = choice;
     }
 
-one_told : (a b : Option (List ℕ)) (part : List ℕ) → Appends a b part → Appends a b (part ++ [])
-one_told a b part h = subst (Appends a b) (sym (append-nil part)) h
+one_told : (a b : Standing) (line : List ℕ) → Gets a b (ended_line line) → Gets a b (ended_line line ++ [])
+one_told a b line h = subst (Gets a b) (sym (append-nil (ended_line line))) h
 
 -- something is told
 pub does_told : {a b : State} → Tells a.err b.err → b.out ≡ a.out → b.tally ≡ a.tally → b.renderer ≡ a.renderer → b.choice ≡ a.choice → Does IsTelling a b
 does_told {a} {b} t out tally renderer choice =
     record {
-      deeds = Told t.part ∷ [];
-      are = (t.told, tt);
-      fit = (t.part, refl);
-      out = same_appends a.out b.out out;
-      err = one_told a.err b.err t.part t.added;
+      deeds = Told t.line ∷ [];
+      are = (t.message, tt);
+      fit = (t.line, refl);
+      out = same_added a.out b.out out;
+      err = one_told a.err b.err t.line t.given;
       tally = tally_is b.tally a.tally tally;
       renderer = renderer;
       choice = choice;
@@ -71,43 +76,47 @@ does_told {a} {b} t out tally renderer choice =
 -- several things are told
 tellings : List (List ℕ) → List Deed
 tellings [] = []
-tellings (part ∷ parts) = Told part ∷ tellings parts
+tellings (line ∷ lines) = Told line ∷ tellings lines
 
-tellings_are : (r : ReportRenderer) (c : Choice) (parts : List (List ℕ)) → AreTold parts → AreDeeds r c (tellings parts)
+tellings_are : (r : ReportRenderer) (c : Choice) (lines : List (List ℕ)) → AreTold lines → AreDeeds r c (tellings lines)
 unfolding tellings
 tellings_are r c [] h = tt
-tellings_are r c (part ∷ parts) h = (h.0, tellings_are r c parts h.1)
+tellings_are r c (line ∷ lines) h = (h.0, tellings_are r c lines h.1)
 
-tellings_told : (parts : List (List ℕ)) → concat parts ≡ flat_map told (tellings parts)
+-- what messages give, each as a line
+abbrev lines_told : List (List ℕ) → List ℕ
+lines_told lines = flat_map (λ line. ended_line line) lines
+
+tellings_told : (lines : List (List ℕ)) → lines_told lines ≡ flat_map told (tellings lines)
 unfolding tellings
 tellings_told [] = refl
-tellings_told (part ∷ parts) = ap (λ l. part ++ l) (tellings_told parts)
+tellings_told (line ∷ lines) = ap (λ l. ended_line line ++ l) (tellings_told lines)
 
-tellings_printed : (r : ReportRenderer) (parts : List (List ℕ)) → [] ≡ flat_map (printed r) (tellings parts)
+tellings_printed : (r : ReportRenderer) (lines : List (List ℕ)) → [] ≡ flat_map (printed r) (tellings lines)
 unfolding tellings
 tellings_printed r [] = refl
-tellings_printed r (part ∷ parts) = tellings_printed r parts
+tellings_printed r (line ∷ lines) = tellings_printed r lines
 
-tellings_fit : (c : Choice) (parts : List (List ℕ)) → AreMessages c (tellings parts)
+tellings_fit : (c : Choice) (lines : List (List ℕ)) → AreMessages c (tellings lines)
 unfolding tellings
 tellings_fit c [] = tt
-tellings_fit c (part ∷ parts) = tellings_fit c parts
+tellings_fit c (line ∷ lines) = tellings_fit c lines
 
-tellings_tally : (t : Tally) (parts : List (List ℕ)) → t ≡ tally_by t (tellings parts)
+tellings_tally : (t : Tally) (lines : List (List ℕ)) → t ≡ tally_by t (tellings lines)
 unfolding tellings
 tellings_tally t [] = refl
-tellings_tally t (part ∷ parts) = tellings_tally t parts
+tellings_tally t (line ∷ lines) = tellings_tally t lines
 
 pub does_tell_all : {a b : State} → TellsAll a.err b.err → b.out ≡ a.out → b.tally ≡ a.tally → b.renderer ≡ a.renderer → b.choice ≡ a.choice
     → Does AreMessages a b
 does_tell_all {a} {b} t out tally renderer choice =
     record {
-      deeds = tellings t.parts;
-      are = tellings_are a.renderer a.choice t.parts t.told;
-      fit = tellings_fit a.choice t.parts;
-      out = subst (Appends a.out b.out) (tellings_printed a.renderer t.parts) (same_appends a.out b.out out);
-      err = subst (Appends a.err b.err) (tellings_told t.parts) t.added;
-      tally = tally_is b.tally (tally_by a.tally (tellings t.parts)) (tally ∙ tellings_tally a.tally t.parts);
+      deeds = tellings t.lines;
+      are = tellings_are a.renderer a.choice t.lines t.told;
+      fit = tellings_fit a.choice t.lines;
+      out = subst (Adds a.out b.out) (tellings_printed a.renderer t.lines) (same_added a.out b.out out);
+      err = subst (Gets a.err b.err) (tellings_told t.lines) t.given;
+      tally = tally_is b.tally (tally_by a.tally (tellings t.lines)) (tally ∙ tellings_tally a.tally t.lines);
       renderer = renderer;
       choice = choice;
     }
@@ -116,22 +125,19 @@ are_told_both : (ps qs : List (List ℕ)) → AreTold ps → AreTold qs → AreT
 are_told_both [] qs p q = q
 are_told_both (x ∷ ps) qs p q = (p.0, are_told_both ps qs p.1 q)
 
-concat_both : (ps qs : List (List ℕ)) → concat (ps ++ qs) ≡ concat ps ++ concat qs
-concat_both [] qs = refl
-concat_both (x ∷ ps) qs = ap (λ l. x ++ l) (concat_both ps qs) ∙ sym (append_assoc x (concat ps) (concat qs))
+pub tells_none : (a : Standing) → TellsAll a a
+tells_none a = record { lines = []; told = tt; given = inl (adds_none a) }
 
-pub tells_none : (a : Option (List ℕ)) → TellsAll a a
-tells_none a = record { parts = []; told = tt; added = Appends-nil a }
+pub tells_one : {a b : Standing} → Tells a b → TellsAll a b
+tells_one {a} {b} t = record { lines = t.line ∷ []; told = (t.message, tt); given = one_told a b t.line t.given }
 
-pub tells_one : {a b : Option (List ℕ)} → Tells a b → TellsAll a b
-tells_one {a} {b} t = record { parts = t.part ∷ []; told = (t.told, tt); added = one_told a b t.part t.added }
-
-pub tells_then : {a b c : Option (List ℕ)} → TellsAll a b → TellsAll b c → TellsAll a c
+pub tells_then : {a b c : Standing} → TellsAll a b → TellsAll b c → TellsAll a c
 tells_then {a} {b} {c} p q =
     record {
-      parts = p.parts ++ q.parts;
-      told = are_told_both p.parts q.parts p.told q.told;
-      added = subst (Appends a c) (sym (concat_both p.parts q.parts)) (Appends-trans a b c (concat p.parts) (concat q.parts) p.added q.added);
+      lines = p.lines ++ q.lines;
+      told = are_told_both p.lines q.lines p.told q.told;
+      given = subst (Gets a c) (sym (flat_map-append (λ line. ended_line line) p.lines q.lines))
+          (gets_twice a b c (lines_told p.lines) (lines_told q.lines) p.given q.given);
     }
 
 -- the report of a finding is refused
@@ -145,8 +151,8 @@ does_refused {a} {b} d why files form refuses out err tally renderer choice =
       deeds = Refused d why ∷ [];
       are = ((form, files, refuses), tt);
       fit = refl;
-      out = same_appends a.out b.out out;
-      err = same_appends a.err b.err err;
+      out = same_added a.out b.out out;
+      err = same_given a.err b.err err;
       tally = tally_is b.tally (one_left_out a.tally) tally;
       renderer = renderer;
       choice = choice;
@@ -165,8 +171,8 @@ does_left_out {a} {b} out err tally renderer choice =
       deeds = LeftOut ∷ [];
       are = (tt, tt);
       fit = refl;
-      out = same_appends a.out b.out out;
-      err = same_appends a.err b.err err;
+      out = same_added a.out b.out out;
+      err = same_given a.err b.err err;
       tally = tally_is b.tally (record a.tally { wrong = one_more a.tally.wrong }) tally;
       renderer = renderer;
       choice = choice;
@@ -187,8 +193,8 @@ does_failed {a} {b} out err tally renderer choice =
       deeds = BuildFailed ∷ [];
       are = (tt, tt);
       fit = refl;
-      out = same_appends a.out b.out out;
-      err = same_appends a.err b.err err;
+      out = same_added a.out b.out out;
+      err = same_given a.err b.err err;
       tally = tally_is b.tally (record a.tally { has_failed = true }) tally;
       renderer = renderer;
       choice = choice;
@@ -202,8 +208,8 @@ does_repeated {a} {b} once out err tally renderer choice =
       deeds = Repeated ∷ [];
       are = (tt, tt);
       fit = (once, refl);
-      out = same_appends a.out b.out out;
-      err = same_appends a.err b.err err;
+      out = same_added a.out b.out out;
+      err = same_given a.err b.err err;
       tally = tally_is b.tally (repeated a.tally) tally;
       renderer = renderer;
       choice = choice;
@@ -227,8 +233,8 @@ goes_drawn a b (Ok x) d text bytes files form shows counted renderer choice err 
       deeds = Drawn d text ∷ [];
       are = ((form, files, shows), tt);
       fit = (refl, refl);
-      out = subst (Appends a.out b.out) (all_printed a.renderer (Drawn d text) bytes is) writes;
-      err = same_appends a.err b.err err;
+      out = subst (Adds a.out b.out) (all_printed a.renderer (Drawn d text) bytes is) writes;
+      err = same_given a.err b.err err;
       tally = counted;
       renderer = renderer;
       choice = choice;
@@ -239,8 +245,8 @@ goes_drawn a b (Err s) d text bytes files form shows counted renderer choice err
       deeds = Drawn d text ∷ [];
       are = ((form, files, shows), tt);
       fit = record { is = inr ([], (refl, refl)) };
-      out = subst (AppendsFirst a.out b.out) (all_printed a.renderer (Drawn d text) bytes is) writes.1;
-      err = same_appends a.err b.err err;
+      out = subst (BreaksOff a.out b.out) (all_printed a.renderer (Drawn d text) bytes is) writes.1;
+      err = same_given a.err b.err err;
     }
 
 -- a finding is written as a command
@@ -252,8 +258,8 @@ goes_commanded a b (Ok x) d line bytes form made counted renderer choice err is 
       deeds = Commanded d line ∷ [];
       are = ((form, made), tt);
       fit = inl (line, refl);
-      out = subst (Appends a.out b.out) (all_printed a.renderer (Commanded d line) bytes is) writes;
-      err = same_appends a.err b.err err;
+      out = subst (Adds a.out b.out) (all_printed a.renderer (Commanded d line) bytes is) writes;
+      err = same_given a.err b.err err;
       tally = counted;
       renderer = renderer;
       choice = choice;
@@ -264,8 +270,8 @@ goes_commanded a b (Err s) d line bytes form made counted renderer choice err is
       deeds = Commanded d line ∷ [];
       are = ((form, made), tt);
       fit = record { is = inr ([], inl (line, refl)) };
-      out = subst (AppendsFirst a.out b.out) (all_printed a.renderer (Commanded d line) bytes is) writes.1;
-      err = same_appends a.err b.err err;
+      out = subst (BreaksOff a.out b.out) (all_printed a.renderer (Commanded d line) bytes is) writes.1;
+      err = same_given a.err b.err err;
     }
 
 -- a line is handed on
@@ -276,8 +282,8 @@ goes_handed a b (Ok x) line bytes tally renderer choice err is writes =
       deeds = HandedOn line ∷ [];
       are = (tt, tt);
       fit = refl;
-      out = subst (Appends a.out b.out) (all_printed a.renderer (HandedOn line) bytes is) writes;
-      err = same_appends a.err b.err err;
+      out = subst (Adds a.out b.out) (all_printed a.renderer (HandedOn line) bytes is) writes;
+      err = same_given a.err b.err err;
       tally = tally_is b.tally a.tally tally;
       renderer = renderer;
       choice = choice;
@@ -288,39 +294,30 @@ goes_handed a b (Err s) line bytes tally renderer choice err is writes =
       deeds = HandedOn line ∷ [];
       are = (tt, tt);
       fit = record { is = inr ([], refl) };
-      out = subst (AppendsFirst a.out b.out) (all_printed a.renderer (HandedOn line) bytes is) writes.1;
-      err = same_appends a.err b.err err;
+      out = subst (BreaksOff a.out b.out) (all_printed a.renderer (HandedOn line) bytes is) writes.1;
+      err = same_given a.err b.err err;
     }
 
 -- bytes that are written after others
-pub writes_then : {T : Type 0} (a b c : Option (List ℕ)) (r : Result T Stop) (bs cs whole : List ℕ) → whole ≡ bs ++ cs → Appends a b bs → Writes r b c cs
+pub writes_then : {T : Type 0} (a b c : Standing) (r : Result T Stop) (bs cs whole : List ℕ) → whole ≡ bs ++ cs → Adds a b bs → Writes r b c cs
     → Writes r a c whole
-writes_then a b c (Ok x) bs cs whole is p q = subst (Appends a c) (sym is) (Appends-trans a b c bs cs p q)
-writes_then a b c (Err s) bs cs whole is p q = (q.0, subst (AppendsFirst a c) (sym is) (first_then a b c bs cs p q.1))
+writes_then a b c (Ok x) bs cs whole is p q = subst (Adds a c) (sym is) (adds_twice a b c bs cs p q)
+writes_then a b c (Err s) bs cs whole is p q = (q.0, subst (BreaksOff a c) (sym is) (adds_breaks a b c bs cs p q.1))
 
 -- the same where it is only printed
-pub prints_then : {T E : Type 0} (a b c : Option (List ℕ)) (r : Result T E) (bs cs whole : List ℕ) → whole ≡ bs ++ cs → Appends a b bs → Prints r b c cs
+pub prints_then : {T E : Type 0} (a b c : Standing) (r : Result T E) (bs cs whole : List ℕ) → whole ≡ bs ++ cs → Adds a b bs → Prints r b c cs
     → Prints r a c whole
-prints_then a b c (Ok x) bs cs whole is p q = subst (Appends a c) (sym is) (Appends-trans a b c bs cs p q)
-prints_then a b c (Err e) bs cs whole is p q = subst (AppendsFirst a c) (sym is) (first_then a b c bs cs p q)
-
--- a flush adds nothing
-pub writes_none : (a b : Option (List ℕ)) → Keeps a b → Appends a b []
-writes_none a b kept = Appends-kept a a b [] (Appends-nil a) kept
-
--- a part that isn't all is a first part
-pub part_first : (a b : Option (List ℕ)) (bs : List ℕ) → AppendsPart a b bs → AppendsFirst a b bs
-part_first a b bs h =
-    record { part = take h.count bs; first = record { rest = drop h.count bs; split = sym (take-append-drop h.count bs) }; added = h.appended }
+prints_then a b c (Ok x) bs cs whole is p q = subst (Adds a c) (sym is) (adds_twice a b c bs cs p q)
+prints_then a b c (Err e) bs cs whole is p q = subst (BreaksOff a c) (sym is) (adds_breaks a b c bs cs p q)
 
 -- what is written to the end is written
-pub ok_written : {T : Type 0} (a b : Option (List ℕ)) (r : Result T Stop) (bs : List ℕ) → Writes r a b bs → OnOk r (Appends a b bs)
+pub ok_written : {T : Type 0} (a b : Standing) (r : Result T Stop) (bs : List ℕ) → Writes r a b bs → OnOk r (Adds a b bs)
 ok_written a b (Ok x) bs h = h
 ok_written a b (Err s) bs h = tt
 
 -- bytes of which only a first part is written, and others that aren't
-pub writes_cut : (a b : Option (List ℕ)) (bs cs whole : List ℕ) → whole ≡ bs ++ cs → AppendsFirst a b bs → AppendsFirst a b whole
-writes_cut a b bs cs whole is p = subst (AppendsFirst a b) (sym is) (first_more a b bs cs p)
+pub writes_cut : (a b : Standing) (bs cs whole : List ℕ) → whole ≡ bs ++ cs → BreaksOff a b bs → BreaksOff a b whole
+writes_cut a b bs cs whole is p = subst (BreaksOff a b) (sym is) (breaks_stays a b b bs cs p (λ failed. refl))
 
 -- what is known of an answer that is this
 pub at_ok : {T E : Type 0} (r : Result T E) (t : T) (P : T → Type 0) → r ≡ Ok t → IfOk r P → P t
@@ -339,17 +336,17 @@ on_ok (Ok x) f p = f p
 on_ok (Err e) f p = tt
 
 -- nothing sums up a run, and one message does
-pub sums_nothing : (is_quiet : Bool) (t : Tally) (a : Option (List ℕ)) → (is_quiet || is_empty t) ≡ true → SumsUp is_quiet t a a
+pub sums_nothing : (is_quiet : Bool) (t : Tally) (a : Standing) → (is_quiet || is_empty t) ≡ true → SumsUp is_quiet t a a
 sums_nothing is_quiet t a is = subst (λ (b : Bool). TellsUnless b a a) (sym is) refl
 
-pub sums_by_one : (is_quiet : Bool) (t : Tally) (a b : Option (List ℕ)) → (is_quiet || is_empty t) ≡ false → Tells a b → SumsUp is_quiet t a b
+pub sums_by_one : (is_quiet : Bool) (t : Tally) (a b : Standing) → (is_quiet || is_empty t) ≡ false → Tells a b → SumsUp is_quiet t a b
 sums_by_one is_quiet t a b is told = subst (λ (none : Bool). TellsUnless none a b) (sym is) told
 
 -- a count is told, unless it is nothing
-pub count_told : (n : ℕ) (a b : Option (List ℕ)) → 0 < n → Tells a b → TellsUnless (n == 0) a b
+pub count_told : (n : ℕ) (a b : Standing) → 0 < n → Tells a b → TellsUnless (n == 0) a b
 count_told zero a b some t = absurd (omega (arith, some))
 count_told (suc n) a b some t = subst (λ (is : Bool). TellsUnless is a b) (sym (eqb-suc-zero n)) t
 
-pub count_untold : (n : ℕ) (a b : Option (List ℕ)) → n ≤ 0 → b ≡ a → TellsUnless (n == 0) a b
+pub count_untold : (n : ℕ) (a b : Standing) → n ≤ 0 → b ≡ a → TellsUnless (n == 0) a b
 count_untold zero a b none same = same
 count_untold (suc n) a b none same = absurd (omega (arith, none))

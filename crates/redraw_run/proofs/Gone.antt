@@ -4,6 +4,7 @@ use Rattle.std.proofs.Common.{length, length-append, refl, subst, sym, true}
 use Rattle.std.specs.Prelude.{IfErr, IfOk, OnOk, Result, Ok, Err}
 use Rattle.std.specs.declared.io.Error.{Error}
 use Rattle.redraw_run.specs.declared.look.ReportRenderer.{ReportRenderer}
+use Rattle.program.specs.Standing.{Standing}
 use Rattle.redraw_command.specs.Tally.{no_tally, status_of}
 use Rattle.redraw_command.specs.declared.tally.Tally.{Tally}
 use Rattle.redraw_command.specs.Told.{Tells, TellsMemory}
@@ -165,17 +166,17 @@ pub came_unread : (error : Error) (s : State) → Came (Err (Unreadable error)) 
 came_unread error s = ([], refl, (None, does_nothing s))
 
 -- the same, with this on standard error
-abbrev pub then_told : State → Option (List ℕ) → State
+abbrev pub then_told : State → Standing → State
 then_told s err = record s { err = err }
 
-told_after : (s : State) (err : Option (List ℕ)) → Tells s.err err → Does IsTelling s (then_told s err)
+told_after : (s : State) (err : Standing) → Tells s.err err → Does IsTelling s (then_told s err)
 told_after s err t = does_told t refl refl refl refl
 
-ended_drawn : (r : Result Bool Stop) (result : Result Bool Error) (held : Option (Option (List ℕ))) (new : Option (List ℕ)) (a b : State)
+ended_drawn : (r : Result Bool Stop) (result : Result Bool Error) (held : Option (Option (List ℕ))) (new : Standing) (a b : State)
     → Came r held a b → EndsInput r result b.err new → IfOk result (λ is. IsDrawnFrom held is a (then_told b new))
 ended_drawn (Ok is) result held new a b (lines, all, d) h =
     subst (λ (x : Result Bool Error). IfOk x (λ is. IsDrawnFrom held is a (then_told b new))) (sym h.0)
-    (drawn_whole held lines is a (then_told b new) all (subst (λ (e : Option (List ℕ)). Does (IsInput lines) a (then_told b e)) (sym h.1) d))
+    (drawn_whole held lines is a (then_told b new) all (subst (λ (e : Standing). Does (IsInput lines) a (then_told b e)) (sym h.1) d))
 ended_drawn (Err Memory) result held new a b (lines, first, d) h =
     subst (λ (x : Result Bool Error). IfOk x (λ is. IsDrawnFrom held is a (then_told b new))) (sym h.0)
     (drawn_part held lines a b (then_told b new) first d (told_after b new h.1))
@@ -189,19 +190,19 @@ ended_drawn (Err Utf16) result held new a b (lines, first, (is, d)) h =
     subst (λ (x : Result Bool Error). IfOk x (λ is. IsDrawnFrom held is a (then_told b new))) (sym h.0)
     (drawn_part held lines a b (then_told b new) first (does_as (λ ds none. halted_utf16 lines a.choice ds is none) d) (told_after b new h.1))
 
-ended_cut : (r : Result Bool Stop) (result : Result Bool Error) (held : Option (Option (List ℕ))) (new : Option (List ℕ)) (a b : State) → Came r held a b
+ended_cut : (r : Result Bool Stop) (result : Result Bool Error) (held : Option (Option (List ℕ))) (new : Standing) (a b : State) → Came r held a b
     → EndsInput r result b.err new → IfErr result (λ error. IsCutFrom held a (then_told b new))
 ended_cut (Ok is) result held new a b came h = subst (λ (x : Result Bool Error). IfErr x (λ e. IsCutFrom held a (then_told b new))) (sym h.0) tt
 ended_cut (Err Memory) result held new a b came h = subst (λ (x : Result Bool Error). IfErr x (λ e. IsCutFrom held a (then_told b new))) (sym h.0) tt
 ended_cut (Err (Unwritable error)) result held new a b (lines, first, d) h =
     subst (λ (x : Result Bool Error). IfErr x (λ e. IsCutFrom held a (then_told b new))) (sym h.0)
-    (lines, first, subst (λ (e : Option (List ℕ)). IsCutShort (IsHalted lines) a (then_told b e)) (sym h.1) d)
+    (lines, first, subst (λ (e : Standing). IsCutShort (IsHalted lines) a (then_told b e)) (sym h.1) d)
 ended_cut (Err (Unreadable error)) result held new a b came h =
     subst (λ (x : Result Bool Error). IfErr x (λ e. IsCutFrom held a (then_told b new))) (sym h.0) tt
 ended_cut (Err Utf16) result held new a b came h = subst (λ (x : Result Bool Error). IfErr x (λ e. IsCutFrom held a (then_told b new))) (sym h.0) tt
 
 -- what became of an input whose end is this
-pub ended : (r : Result Bool Stop) (result : Result Bool Error) (held : Option (Option (List ℕ))) (new : Option (List ℕ)) (a b : State) → Came r held a b
+pub ended : (r : Result Bool Stop) (result : Result Bool Error) (held : Option (Option (List ℕ))) (new : Standing) (a b : State) → Came r held a b
     → EndsInput r result b.err new
     → IfOk result (λ is. IsDrawnFrom held is a (then_told b new)) × IfErr result (λ error. IsCutFrom held a (then_told b new))
 ended r result held new a b c h = (ended_drawn r result held new a b c h, ended_cut r result held new a b c h)
@@ -288,35 +289,35 @@ input_cut file input name (Err e) a b same (Some source, h) = (Some (inr source)
 
 -- it ends as it was summed up
 pub finishes : {File Standard : Type 0} (held : File ⊎ Standard → Option (List ℕ)) (names : List (List ℕ)) (a b : State) (is_whole : Bool)
-    (err : Option (List ℕ)) (status : ℕ) → ArePrinted File Standard held names is_whole a b
+    (err : Standing) (status : ℕ) → ArePrinted File Standard held names is_whole a b
     → SumsUp a.choice.is_quiet b.tally b.err err → status ≡ status_of b.tally is_whole → Runs held names a b.out err status
 finishes held names a b is_whole err status drawn sum ends =
     inl record { is_whole = is_whole; end = b; drawn = drawn; printed = refl; sum = sum; ends = ends }
 
-pub cut_run : {File Standard : Type 0} (held : File ⊎ Standard → Option (List ℕ)) (names : List (List ℕ)) (a b : State) (err : Option (List ℕ)) (status : ℕ)
+pub cut_run : {File Standard : Type 0} (held : File ⊎ Standard → Option (List ℕ)) (names : List (List ℕ)) (a b : State) (err : Standing) (status : ℕ)
     → ArePartlyPrinted held names a b → (err ≡ b.err) ⊎ Tells b.err err → status ≡ 2 → Runs held names a b.out err status
 cut_run held names a b err status drawn told ends = inr (inl record { end = b; drawn = drawn; printed = refl; told = told; ends = ends })
 
-pub unbegun : {File Standard : Type 0} (held : File ⊎ Standard → Option (List ℕ)) (names : List (List ℕ)) (a : State) (err : Option (List ℕ)) (status : ℕ)
+pub unbegun : {File Standard : Type 0} (held : File ⊎ Standard → Option (List ℕ)) (names : List (List ℕ)) (a : State) (err : Standing) (status : ℕ)
     → TellsMemory a.err err → status ≡ 2 → Runs held names a a.out err status
 unbegun held names a err status told ends = inr (inr record { unprinted = refl; told = told; ends = ends })
 
 -- what a run begins with
-pub run_from : (P : State → Type 0) (r looked : ReportRenderer) (c : Choice) (t : Tally) (out err : Option (List ℕ)) → r ≡ looked → t ≡ no_tally
+pub run_from : (P : State → Type 0) (r looked : ReportRenderer) (c : Choice) (t : Tally) (out err : Standing) → r ≡ looked → t ≡ no_tally
     → P record { renderer = r; choice = c; tally = t; out = out; err = err } → P (nothing_begun looked c out err)
 run_from P r looked c t out err is none h =
     subst P (ap₂ (λ (x : ReportRenderer) (y : Tally). record { renderer = x; choice = c; tally = y; out = out; err = err }) is none) h
 
 -- what sums up a run by what is asked for at its end
 pub finishes_by : {File Standard : Type 0} (held : File ⊎ Standard → Option (List ℕ)) (names : List (List ℕ)) (a b : State) (is_whole : Bool)
-    (err : Option (List ℕ)) (status : ℕ) → ArePrinted File Standard held names is_whole a b
+    (err : Standing) (status : ℕ) → ArePrinted File Standard held names is_whole a b
     → SumsUp b.choice.is_quiet b.tally b.err err → status ≡ status_of b.tally is_whole → Runs held names a b.out err status
 finishes_by held names a b is_whole err status drawn sum ends =
     let same : b.choice ≡ a.choice = ap (λ (s : State). s.choice) drawn.is ∙ drawn.drawn.does.choice in
     finishes held names a b is_whole err status drawn (subst (λ (c : Choice). SumsUp c.is_quiet b.tally b.err err) same sum) ends
 
 -- a closed pipe isn't told, and anything else is
-pub unwritten : {K : Type 0} (old new : Option (List ℕ)) → (K → new ≡ old) → K ⊎ Tells old new → (new ≡ old) ⊎ Tells old new
+pub unwritten : {K : Type 0} (old new : Standing) → (K → new ≡ old) → K ⊎ Tells old new → (new ≡ old) ⊎ Tells old new
 unwritten old new silent (inl closed) = inl (silent closed)
 unwritten old new silent (inr told) = inr told
 

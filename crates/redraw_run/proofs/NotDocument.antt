@@ -1,8 +1,9 @@
 -- What no document in HTML is: what wrong bodies print of small inputs contradicts what stands before and after it, and in it.
-use Rattle.std.proofs.Common.{◌≡◌, ◌⊎◌, ◌++◌, ℕ, List, [], ◌∷◌, Option, Some, ap, arith, codes, length, length-append, subst, sym, true}
+use Rattle.std.proofs.Common.{◌≡◌, ◌⊎◌, ◌++◌, ℕ, Bool, List, [], ◌∷◌, Option, Some, ap, arith, codes, length, length-append, subst, sym, true}
 use Rattle.std.specs.Io.KnownBytes.{Appends}
 use Rattle.std.specs.List.{flat_map}
-use Rattle.std.proofs.KnownBytes.{Appends-trans}
+use Rattle.program.specs.Standing.{Adds, Standing}
+use Rattle.program.proofs.Writing.{adds_twice}
 use Rattle.redraw_run.specs.Deeds.{State, printed}
 use Rattle.redraw_run.specs.HtmlDocument.{closing, handed, opening}
 use Rattle.redraw_run.specs.Run.{Finishes}
@@ -11,20 +12,24 @@ use Rattle.redraw_run.specs.Run.{Finishes}
 pub tag_handed_on : handed true (60 ∷ []) ≡ 60 ∷ [] → ⊥
 tag_handed_on is = cc is
 
+-- a stream that holds nothing, and to which a write has failed or not
+abbrev nothing : Bool → Standing
+nothing failed = record { held = Some []; has_failed = failed }
+
 -- a run that was to write a document, and ends with nothing written
-pub undocumented : {File Standard : Type 0} (held : File ⊎ Standard → Option (List ℕ)) (names : List (List ℕ)) (a : State) (err : Option (List ℕ))
-    (status : ℕ) → a.renderer.is_html ≡ true → a.out ≡ Some [] → Finishes File Standard held names a (Some []) err status → ⊥
-undocumented held names a err status html empty run =
+pub undocumented : {File Standard : Type 0} (held : File ⊎ Standard → Option (List ℕ)) (names : List (List ℕ)) (a : State) (failed : Bool) (err : Standing)
+    (status : ℕ) → a.renderer.is_html ≡ true → a.out.held ≡ Some [] → Finishes File Standard held names a (nothing failed) err status → ⊥
+undocumented held names a failed err status html empty run =
     let drawn = run.drawn in
     let within : List ℕ = flat_map (printed a.renderer) drawn.drawn.does.deeds in
     let html_is = a.renderer.is_html in
-    let opened : Appends a.out drawn.last.out (opening html_is ++ within) = Appends-trans a.out drawn.opened drawn.last.out (opening html_is) within
+    let opened : Adds a.out drawn.last.out (opening html_is ++ within) = adds_twice a.out drawn.opened drawn.last.out (opening html_is) within
     drawn.opens drawn.drawn.does.out in
-    let all : Appends a.out run.end.out ((opening html_is ++ within) ++ closing html_is) = Appends-trans a.out drawn.last.out run.end.out
+    let all : Adds a.out run.end.out ((opening html_is ++ within) ++ closing html_is) = adds_twice a.out drawn.last.out run.end.out
     (opening html_is ++ within) (closing html_is) opened drawn.closes in
-    let from : Appends (Some []) run.end.out ((opening html_is ++ within) ++ closing html_is) =
-    subst (λ (o : Option (List ℕ)). Appends o run.end.out ((opening html_is ++ within) ++ closing html_is)) empty all in
+    let from : Appends (Some []) run.end.out.held ((opening html_is ++ within) ++ closing html_is) =
+    subst (λ (o : Option (List ℕ)). Appends o run.end.out.held ((opening html_is ++ within) ++ closing html_is)) empty all.added in
     let to : Appends (Some []) (Some []) ((opening html_is ++ within) ++ closing html_is) =
-    subst (λ (o : Option (List ℕ)). Appends (Some []) o ((opening html_is ++ within) ++ closing html_is)) (sym run.printed) from in
+    subst (λ (o : Standing). Appends (Some []) o.held ((opening html_is ++ within) ++ closing html_is)) (sym run.printed) from in
     let end : length (closing html_is) ≡ length (codes "</pre>\n</body>\n</html>\n") = ap (λ h. length (closing h)) html in
     absurd (omega (arith, ap length to, length-append (opening html_is ++ within) (closing html_is), end))

@@ -20,6 +20,7 @@ use Rattle.annotate_snippets.specs.Settings.{plain_settings}
 use Rattle.annotate_snippets.specs.TextForm.{elements_form, group_form, text_form}
 use Rattle.annotate_snippets.specs.declared.renderer.Renderer.{Renderer}
 use Rattle.annotate_snippets.proofs.AsSetLemmas.{unset-shows}
+use Rattle.program.specs.Standing.{Standing}
 use Rattle.redraw_command.specs.Workflow.{command}
 use Rattle.redraw_command.specs.declared.choice.Choice.{Choice}
 use Rattle.redraw_command.specs.declared.choice.Form.TheVariants.{Report}
@@ -42,12 +43,17 @@ before_last [] (y ∷ ys) a b c d same = absurd (omega (arith, ap length same, l
 before_last (x ∷ xs) [] a b c d same = absurd (omega (arith, ap length same, length-append xs (a ∷ b ∷ [])))
 before_last (x ∷ xs) (y ∷ ys) a b c d same = before_last xs ys a b c d (ap (drop 1) same)
 
+-- standard output that holds this
+abbrev holding : List ℕ → Standing
+holding held = record { held = Some held; has_failed = false }
+
 -- no empty line after a report: it ends with a line feed alone, here `error: e`
 pub no_line_after : (r : ReportRenderer) (files : List File) (d : Diagnostic) (before after : Tally) → r.settings.short_message ≡ false → d.severity ≡ Error
-    → DrawsFinding Report r files d (Some []) (Some (codes "error: " ++ 101 ∷ 10 ∷ [])) (Some (codes "error: " ++ 101 ∷ 10 ∷ []) ≡ Some []) before after → ⊥
+    → DrawsFinding Report r files d (holding []) (holding (codes "error: " ++ 101 ∷ 10 ∷ []))
+    (Some (codes "error: " ++ 101 ∷ 10 ∷ []) ≡ Some []) before after → ⊥
 no_line_after r files d before after long severity (inr same) = let never = same.1 in cc
 no_line_after r files d before after long severity (inl drawn) =
-    let ends : codes "error: " ++ 101 ∷ 10 ∷ [] ≡ drawn.text ++ 10 ∷ 10 ∷ [] = drawn.written
+    let ends : codes "error: " ++ 101 ∷ 10 ∷ [] ≡ drawn.text ++ 10 ∷ 10 ∷ [] = drawn.written.added
     ∙ ap₂ (λ short s. drawn.text ++ (ending_after short s ++ 10 ∷ [])) long severity in
     let byte : ◌≡◌ {A = ℕ} 101 10 = before_last (codes "error: ") drawn.text 101 10 10 10 ends in
     absurd (omega (arith, byte))

@@ -6,6 +6,7 @@ use Rattle.clap.specs.Kinds.{IsAmong, Kinds}
 use Rattle.clap.specs.Simple.{App}
 use Rattle.clap.specs.declared.error.kind.ErrorKind.{ErrorKind}
 use Rattle.clap.specs.declared.error.kind.ErrorKind.TheVariants.{DisplayHelp, DisplayVersion}
+use Rattle.program.specs.Standing.{Standing}
 use Rattle.redraw_command.specs.Tally.{status_of}
 use Rattle.redraw_command.specs.declared.choice.Choice.{Choice}
 use Rattle.redraw_command.specs.declared.terminal.Surroundings.{Surroundings}
@@ -36,7 +37,7 @@ unread_all held (input ∷ inputs) name names c ds named each =
     ap (λ (b : Bool). b && are_whole inputs) (unread held input c each.before each.first)
 
 -- the status 0 of a run that was to read something, and read nothing
-pub unread_and_clean : (held : Nothing → Option (List ℕ)) (name : List ℕ) (names : List (List ℕ)) (a : State) (out err : Option (List ℕ))
+pub unread_and_clean : (held : Nothing → Option (List ℕ)) (name : List ℕ) (names : List (List ℕ)) (a : State) (out err : Standing)
     → Finishes ⊥ ⊥ held (name ∷ names) a out err 0 → ⊥
 unread_and_clean held name names a out err run =
     let drawn = run.drawn.drawn in
@@ -45,7 +46,7 @@ unread_and_clean held name names a out err run =
     let two : ◌≡◌ {A = ℕ} 0 2 = run.ends ∙ ap (λ (whole : Bool). status_of run.end.tally whole) partial in
     cc two
 
-unread_run : (held : Nothing → Option (List ℕ)) (names : List (List ℕ)) (name : List ℕ) (rest : List (List ℕ)) (a : State) (out err : Option (List ℕ))
+unread_run : (held : Nothing → Option (List ℕ)) (names : List (List ℕ)) (name : List ℕ) (rest : List (List ℕ)) (a : State) (out err : Standing)
     → names ≡ name ∷ rest → Runs held names a out err 0 → ⊥
 unread_run held names name rest a out err are (inl run) =
     unread_and_clean held name rest a out err (subst (λ (ns : List (List ℕ)). Finishes ⊥ ⊥ held ns a out err 0) are run)
@@ -65,7 +66,7 @@ no_kind : (kind : ErrorKind) (kinds : Kinds) → kinds ≡ [] → IsAmong kind k
 no_kind kind [] none h = h
 no_kind kind (k ∷ ks) none h = cc none
 
-by_answer : (held : Nothing → Option (List ℕ)) (app : App) (around : Surroundings) (out err : Option (List ℕ)) → fault_of app [] ≡ []
+by_answer : (held : Nothing → Option (List ℕ)) (app : App) (around : Surroundings) (out err : Standing) → fault_of app [] ≡ []
     → AnswersBy held app [] around out err out err 0 → ⊥
 by_answer held app around out err clean (inl h) = elim h.asked [
   | inl help ↦ no_kind DisplayHelp (fault_of app []) clean help
@@ -78,5 +79,5 @@ by_answer held app around out err clean (inr (inr (inl h))) =
 by_answer held app around out err clean (inr (inr (inr h))) = let two : ◌≡◌ {A = ℕ} 0 2 = h.ends in cc two
 
 -- the same where no arguments are given: a run that reads and writes nothing, and ends with the status 0
-pub nothing_done : (held : Nothing → Option (List ℕ)) (around : Surroundings) (out err : Option (List ℕ)) → Answers held [] around out err out err 0 → ⊥
+pub nothing_done : (held : Nothing → Option (List ℕ)) (around : Surroundings) (out err : Standing) → Answers held [] around out err out err 0 → ⊥
 nothing_done held around out err (app, is, h) = by_answer held app around out err (no_arguments app is) h

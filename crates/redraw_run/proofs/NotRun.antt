@@ -1,6 +1,7 @@
 -- What no run does: what wrong bodies do about small inputs contradicts what becomes of lines and of runs.
 use Rattle.std.proofs.Common.{◌≡◌, ◌⊎◌, ◌++◌, ◌∙◌, ◌||◌, ℕ, Bool, List, [], ◌∷◌, Option, None, Some, ap, false, if◌then◌else◌, inl, inr, refl, subst, sym, true}
 use Rattle.serde_json.specs.Data.{Data}
+use Rattle.program.specs.Standing.{Standing}
 use Rattle.redraw_command.specs.Choice.{is_sum}
 use Rattle.redraw_command.specs.Line.{begins_object}
 use Rattle.redraw_command.specs.Tally.{no_tally, status_of, tallied}
@@ -155,7 +156,7 @@ has_one t false = or_true t.has_error
 
 -- status 0 after an error was drawn
 pub clean_after_an_error : {File Standard : Type 0} (held : File ⊎ Standard → Option (List ℕ)) (names : List (List ℕ)) (r : ReportRenderer) (c : Choice)
-    (old_out old_err out err : Option (List ℕ)) (d : Diagnostic) (text : List ℕ) → d.severity ≡ Error
+    (old_out old_err out err : Standing) (d : Diagnostic) (text : List ℕ) → d.severity ≡ Error
     → (run : Finishes File Standard held names (nothing_begun r c old_out old_err) out err 0) → run.drawn.drawn.does.deeds ≡ Drawn d text ∷ [] → ⊥
 clean_after_an_error held names r c old_out old_err out err d text error run is =
     let last : Tally = run.drawn.last.tally in

@@ -1,8 +1,8 @@
 -- Why there is no text of a finding.
-use Rattle.std.proofs.Common.{◌≡◌, ◌≢◌, ◌++◌, List, [], ◌∷◌, Option, ap, inl, inr, refl, subst, sym, ℕ}
+use Rattle.std.proofs.Common.{◌≡◌, ◌≢◌, ◌++◌, List, [], ◌∷◌, ap, inl, inr, refl, subst, sym}
 use Rattle.std.specs.Global.{Global}
 use Rattle.std.specs.Prelude.{IfErr, IfOk, OnOk, Result, Ok, Err, String, alloc_error, map, string_bytes}
-use Rattle.std.specs.Io.KnownBytes.{Appends}
+use Rattle.program.specs.Standing.{Adds, Standing}
 use Rattle.redraw_command.specs.declared.choice.Form.TheVariants.{Report}
 use Rattle.redraw_command.specs.declared.stop.Stop.{Stop}
 use Rattle.redraw_command.specs.declared.tally.Tally.{Tally}
@@ -50,9 +50,9 @@ refused_by r files d why other (inr memory) = absurd (other memory)
 
 -- its text is, or nothing where its report is refused
 pub draws_report : {T : Type 0} (result : Result T Stop) (text : Result (String Global) RenderError) (r : ReportRenderer) (files : List File) (d : Diagnostic)
-    (old new : Option (List ℕ)) (Same : Type 0) (before after : Tally) → IfOk text (λ t. ShowsFinding r files d (string_bytes t))
+    (old new : Standing) (Same : Type 0) (before after : Tally) → IfOk text (λ t. ShowsFinding r files d (string_bytes t))
     → IfErr text (IsUndrawn r files d)
-    → OnOk result (IfOk text (λ t. Appends old new (string_bytes t ++ (ending_after r.settings.short_message d.severity ++ 10 ∷ []))))
+    → OnOk result (IfOk text (λ t. Adds old new (string_bytes t ++ (ending_after r.settings.short_message d.severity ++ 10 ∷ []))))
     → OnOk result (IfOk text (λ t. IsCounted d before after))
     → OnOk result (IfErr text (λ e. (e ≡ Memory alloc_error → ⊥) × Same × IsLeftOut before after))
     → OnOk result (DrawsFinding Report r files d old new Same before after)
@@ -63,7 +63,7 @@ draws_report (Ok done) (Err e) r files d old new Same before after shows undrawn
     inr (refused_by r files d e left.0 undrawn, left.1, left.2)
 
 -- the same in the same settings, of the same files, from the same tally
-pub draws_as : {T : Type 0} (result : Result T Stop) {r s : ReportRenderer} {files these : List File} (d : Diagnostic) (old new : Option (List ℕ))
+pub draws_as : {T : Type 0} (result : Result T Stop) {r s : ReportRenderer} {files these : List File} (d : Diagnostic) (old new : Standing)
     (Same : Type 0)
     {before first : Tally} (after : Tally) → r ≡ s → files ≡ these → before ≡ first → OnOk result (DrawsFinding Report r files d old new Same before after)
     → OnOk result (DrawsFinding Report s these d old new Same first after)
@@ -88,7 +88,7 @@ left_renderer {S} a b is = ap (λ (d : Drawing S). d.renderer) is
 left_choice : {S : Type 0} (a b : Drawing S) → Leaves a b → b.choice ≡ a.choice
 left_choice {S} a b is = ap (λ (d : Drawing S). d.choice) is
 
-pub shown_undrawn : {S : Type 0} (d : Diagnostic) (why : RenderError) (files : List File) (a b : Drawing S) (out old new : Option (List ℕ))
+pub shown_undrawn : {S : Type 0} (d : Diagnostic) (why : RenderError) (files : List File) (a b : Drawing S) (out old new : Standing)
     → a.choice.form ≡ Report → ((m : AllocError) → why ≢ Memory m) → IsUndrawn a.renderer files d why → Leaves a b → Tells old new
     → Does (IsShown d) (standing a out old) (standing b out new)
 shown_undrawn d why files a b out old new form other (inr memory) is t = absurd (other alloc_error memory)

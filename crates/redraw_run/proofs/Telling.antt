@@ -1,10 +1,11 @@
 -- Messages that are told beside a report.
-use Rattle.std.proofs.Common.{◌≡◌, ◌==◌, ◌+◌, ◌∙◌, ℕ, zero, suc, Bool, List, Option, ap, arith, inl, inr, length, refl, string_bytes, subst, sym}
+use Rattle.std.proofs.Common.{◌≡◌, ◌==◌, ◌+◌, ◌∙◌, ℕ, zero, suc, Bool, List, ap, arith, inl, inr, length, refl, string_bytes, subst, sym}
 use Rattle.std.specs.Global.{Global}
 use Rattle.std.specs.Prelude.{Result, Ok, Err, IfErr, IfOk, OnOk, String}
 use Rattle.std.proofs.Math.Dec.{eqb-suc-zero}
 use Rattle.std.proofs.lemmas.List.{length-map}
 use Rattle.annotate_snippets.specs.declared.renderer.error.RenderError.{RenderError}
+use Rattle.program.specs.Standing.{Standing}
 use Rattle.redraw_command.specs.Told.{Tells}
 use Rattle.redraw_command.specs.declared.stop.Stop.{Stop}
 use Rattle.redraw_read.specs.Counted.{capped, clamped_in, undrawn_in}
@@ -26,12 +27,12 @@ capped-none (suc n) zero is = absurd (omega (arith, is))
 capped-none (suc n) (suc k) is = eqb-suc-zero n ∙ sym (eqb-suc-zero k)
 
 -- so many messages, and one more
-pub many_more : (n : ℕ) (a b c : Option (List ℕ)) → TellsMany n a b → Tells b c → TellsMany (n + 1) a c
+pub many_more : (n : ℕ) (a b c : Standing) → TellsMany n a b → Tells b c → TellsMany (n + 1) a c
 many_more n a b c many one =
     let count : suc n ≡ n + 1 = omega arith in
     subst (λ k. TellsMany k a c) count (b, many, one)
 
-pub many_all : (n : ℕ) (a b : Option (List ℕ)) → TellsMany n a b → TellsAll a b
+pub many_all : (n : ℕ) (a b : Standing) → TellsMany n a b → TellsAll a b
 many_all zero a b same = subst (TellsAll a) (sym same) (tells_none a)
 many_all (suc n) a b many = tells_then (many_all n a many.0 many.1) (tells_one many.2)
 
@@ -54,7 +55,7 @@ told_err (Ok done) text why P is h = subst (λ (t : Result (String Global) Rende
 
 -- what is told of a finding, part by part
 pub tells_of : {r s : Bool} {first loaded these files : List File} {untold : List (List ℕ)} (names : List (String Global)) (d : Diagnostic)
-    (clamped undrawn : ℕ) (old named placed before : Option (List ℕ)) → r ≡ s → loaded ≡ these → these ≡ files
+    (clamped undrawn : ℕ) (old named placed before : Standing) → r ≡ s → loaded ≡ these → these ≡ files
     → Loads (home_of d.homes.items) (named_files d) first loaded untold (texts_of names) → TellsMany (length names) old named
     → clamped ≡ capped (clamped_in (hand_for these r d) d) → undrawn ≡ capped (undrawn_in (hand_for these r d) d)
     → TellsUnless (clamped == 0) named placed → TellsUnless (undrawn == 0) placed before → TellsOf s first files untold d old before
@@ -75,8 +76,8 @@ tells_of {r} {s} {first} {loaded} {these} {files} {untold} names d clamped undra
     }
 
 -- and then its report is printed, or why it is refused is told
-pub tells_about : {T E : Type 0} (contents : E → Option (List ℕ)) (result : Result T Stop) (text : Result (String Global) RenderError) {s : Bool}
-    {first files : List File} {untold : List (List ℕ)} (d : Diagnostic) (old : Option (List ℕ)) (before new : E)
+pub tells_about : {T E : Type 0} (contents : E → Standing) (result : Result T Stop) (text : Result (String Global) RenderError) {s : Bool}
+    {first files : List File} {untold : List (List ℕ)} (d : Diagnostic) (old : Standing) (before new : E)
     → TellsOf s first files untold d old (contents before) → OnOk result (IfOk text (λ t. new ≡ before))
     → OnOk result (IfErr text (λ e. Tells (contents before) (contents new)))
     → OnOk result (TellsAbout s first files untold d old (contents new))

@@ -1,6 +1,5 @@
 -- What is drawn of a finding, and what is written of it.
 use Rattle.std.specs.Prelude.{◌≡◌, ◌⊎◌, ℕ, Bool, true, false, List, [], ◌∷◌, ◌++◌, Option, Some, None, alloc_error, map, if◌then◌else◌}
-use Rattle.std.specs.Io.KnownBytes.{Appends}
 use Rattle.annotate_snippets.specs.FormLaws.{HasLaws}
 use Rattle.annotate_snippets.specs.Forms.{ShowsReport}
 use Rattle.annotate_snippets.specs.Fault.{first_refusal, refusal_in}
@@ -10,6 +9,7 @@ use Rattle.annotate_snippets.specs.declared.renderer.error.RenderError.{RenderEr
 use Rattle.annotate_snippets.specs.declared.renderer.error.RenderError.TheVariants.{Memory}
 use Rattle.annotate_snippets.specs.declared.renderer.form.Form.TheVariants.{Graphic}
 use Rattle.annotate_snippets.specs.declared.snippet.Group.{Group}
+use Rattle.program.specs.Standing.{Adds, Standing}
 use Rattle.redraw_command.specs.Choice.{is_sum}
 use Rattle.redraw_command.specs.Tally.{one_more, tallied}
 use Rattle.redraw_command.specs.Workflow.{command}
@@ -89,21 +89,21 @@ abbrev pub IsLeftOut : Tally → Tally → Type 0
 IsLeftOut old new = new ≡ record old { wrong = one_more old.wrong }
 
 -- a finding is drawn as a report: to what a writer held, a text that shows it is added, and what stands after it; and it is counted
-pub record IsDrawn (r : ReportRenderer) (files : List File) (d : Diagnostic) (old new : Option (List ℕ)) (before after : Tally) : Type 0 where
+pub record IsDrawn (r : ReportRenderer) (files : List File) (d : Diagnostic) (old new : Standing) (before after : Tally) : Type 0 where
   pub text : List ℕ
   pub shows : ShowsFinding r files d text
-  pub written : Appends old new (text ++ (ending_after r.settings.short_message d.severity ++ 10 ∷ []))
+  pub written : Adds old new (text ++ (ending_after r.settings.short_message d.severity ++ 10 ∷ []))
   pub counted : IsCounted d before after
 
 -- a finding is written as a command: to what a writer held, its command is added, as a line, and the finding is counted
-pub record IsCommanded (d : Diagnostic) (old new : Option (List ℕ)) (before after : Tally) : Type 0 where
+pub record IsCommanded (d : Diagnostic) (old new : Standing) (before after : Tally) : Type 0 where
   pub line : List ℕ
   pub is : command d ≡ Some line
-  pub written : Appends old new (line ++ 10 ∷ [])
+  pub written : Adds old new (line ++ 10 ∷ [])
   pub counted : IsCounted d before after
 
 -- what becomes of a finding, by the form that is asked for. As a report it is drawn, or refused: then nothing is written (Same), and
 -- it is counted as left out. As a command it is written, or it has none: then nothing is written, and nothing counted
-abbrev pub DrawsFinding : Form → ReportRenderer → List File → Diagnostic → Option (List ℕ) → Option (List ℕ) → Type 0 → Tally → Tally → Type 0
+abbrev pub DrawsFinding : Form → ReportRenderer → List File → Diagnostic → Standing → Standing → Type 0 → Tally → Tally → Type 0
 DrawsFinding Report r files d old new Same before after = IsDrawn r files d old new before after ⊎ (Refuses r files d × Same × IsLeftOut before after)
 DrawsFinding Workflow r files d old new Same before after = IsCommanded d old new before after ⊎ ((command d ≡ None) × Same × (after ≡ before))

@@ -41,7 +41,7 @@ Each Are (x ∷ xs) = Then (Are x) (Each Are xs)
 -- messages are told, and nothing else is done
 abbrev pub AreMessages : Choice → List Deed → Type 0
 AreMessages c [] = Unit {0}
-AreMessages c (Told part ∷ deeds) = AreMessages c deeds
+AreMessages c (Told line ∷ deeds) = AreMessages c deeds
 AreMessages c (_ ∷ deeds) = ⊥
 
 -- a part of the input is left out
@@ -50,11 +50,11 @@ LeavesOut c deeds = deeds ≡ LeftOut ∷ []
 
 -- one message is told
 abbrev pub IsTelling : Choice → List Deed → Type 0
-IsTelling c deeds = (part : List ℕ) × (deeds ≡ Told part ∷ [])
+IsTelling c deeds = (line : List ℕ) × (deeds ≡ Told line ∷ [])
 
 -- something wrong is left out, and one message says so
 abbrev pub IsWrong : Choice → List Deed → Type 0
-IsWrong c deeds = (part : List ℕ) × (deeds ≡ LeftOut ∷ Told part ∷ [])
+IsWrong c deeds = (line : List ℕ) × (deeds ≡ LeftOut ∷ Told line ∷ [])
 
 -- a line is handed on as it is, and nothing else is done
 abbrev pub IsHandedOn : List ℕ → Choice → List Deed → Type 0
@@ -72,9 +72,9 @@ IsFailed c deeds = deeds ≡ BuildFailed ∷ []
 -- says why
 abbrev pub IsShown : Diagnostic → Choice → List Deed → Type 0
 IsShown d c [] = ⊥
-IsShown d c (Told part ∷ deeds) = IsShown d c deeds
+IsShown d c (Told line ∷ deeds) = IsShown d c deeds
 IsShown d c (Drawn finding text ∷ deeds) = (finding ≡ d) × (deeds ≡ [])
-IsShown d c (Refused finding why ∷ deeds) = (finding ≡ d) × ((part : List ℕ) × (deeds ≡ Told part ∷ []))
+IsShown d c (Refused finding why ∷ deeds) = (finding ≡ d) × ((line : List ℕ) × (deeds ≡ Told line ∷ []))
 IsShown d c (_ ∷ deeds) = ⊥
 
 -- a finding is written as its command, once; or it has none, and nothing is done

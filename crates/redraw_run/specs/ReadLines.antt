@@ -1,12 +1,11 @@
 -- Lines that are read, the last line that is told, and texts that are printed.
 use Rattle.std.specs.Prelude.{◌≡◌, ℕ, ◌<◌, ◌≤◌, ◌-◌, ◌^◌, ◌⊎◌, ◌||◌, Bool, true, false, List, [], ◌∷◌, Option, Some, IfSome, Result, Ok, Err, length}
 use Rattle.std.specs.Io.BufRead.{drop_through, take_through}
-use Rattle.std.specs.Io.KnownBytes.{Appends}
 pub use Rattle.line_reader.specs.TakenLine.{TakesLine, TakesNext}
+use Rattle.program.specs.Standing.{Adds, BreaksOff, Standing}
 use Rattle.redraw_command.specs.Tally.{is_empty}
 use Rattle.redraw_command.specs.Told.{Tells}
 use Rattle.redraw_command.specs.declared.tally.Tally.{Tally}
-use Rattle.redraw_run.specs.Deeds.{AppendsFirst}
 
 -- these lines were read of some bytes, in order, and these bytes are left: each line is up to a line feed and with it, or all that there is
 abbrev pub AreTaken : List ℕ → List (List ℕ) → List ℕ → Type 0
@@ -30,19 +29,22 @@ abbrev pub AreAllOf : Option (List ℕ) → List (List ℕ) → Type 0
 AreAllOf held lines = AreReadLines held lines ⊎ (AreFirstOf held lines × (2 ^ 64 - 2 ≤ length lines))
 
 -- nothing is told, or one message is
-abbrev pub TellsUnless : Bool → Option (List ℕ) → Option (List ℕ) → Type 0
+abbrev pub TellsUnless : Bool → Standing → Standing → Type 0
 TellsUnless true old new = new ≡ old
 TellsUnless false old new = Tells old new
 
 -- a run is summed up by one message, unless that isn't wanted or there is nothing to tell
-abbrev pub SumsUp : Bool → Tally → Option (List ℕ) → Option (List ℕ) → Type 0
+abbrev pub SumsUp : Bool → Tally → Standing → Standing → Type 0
 SumsUp is_quiet t old new = TellsUnless (is_quiet || is_empty t) old new
 
--- a text is printed, with status 0; or a first part of it where it couldn't be, with status 2
-abbrev pub IsPrinted : Option (List ℕ) → Option (List ℕ) → ℕ → Type 0
-IsPrinted old new status = (text : List ℕ) × ((Appends old new text × (status ≡ 0)) ⊎ (AppendsFirst old new text × (status ≡ 2)))
+-- a text is printed, with status 0; or, with status 2, a first part of it where a write failed, or nothing for want of memory
+abbrev pub IsPrinted : Standing → Standing → ℕ → Type 0
+IsPrinted old new status =
+    ((text : List ℕ) × Adds old new text × (status ≡ 0))
+    ⊎ ((text : List ℕ) × BreaksOff old new text × (status ≡ 2))
+    ⊎ ((new ≡ old) × (status ≡ 2))
 
--- some bytes are printed: all of them, or a first part where output couldn't be written
-abbrev pub Prints : {T E : Type 0} → Result T E → (old new : Option (List ℕ)) → List ℕ → Type 0
-Prints (Ok done) old new bytes = Appends old new bytes
-Prints (Err error) old new bytes = AppendsFirst old new bytes
+-- some bytes are printed: all of them, or, only where a write failed, a first part
+abbrev pub Prints : {T E : Type 0} → Result T E → (old new : Standing) → List ℕ → Type 0
+Prints (Ok done) old new bytes = Adds old new bytes
+Prints (Err error) old new bytes = BreaksOff old new bytes

@@ -1,7 +1,7 @@
 -- What a run does about its inputs, and how it ends.
 use Rattle.std.specs.Prelude.{◌≡◌, ◌⊎◌, ℕ, Bool, false, List, Option, Result, Ok, Err}
-use Rattle.std.specs.Io.KnownBytes.{Appends}
 use Rattle.std.specs.declared.io.Error.{Error}
+use Rattle.program.specs.Standing.{Adds, BreaksOff, Standing}
 use Rattle.clap.specs.Simple.{App}
 use Rattle.redraw_command.specs.Tally.{no_tally, status_of}
 use Rattle.redraw_command.specs.Told.{Tells, TellsMemory, TellsOfArguments}
@@ -11,7 +11,7 @@ use Rattle.redraw_command.specs.declared.stop.Stop.{Stop}
 use Rattle.redraw_command.specs.declared.stop.Stop.TheVariants.{Memory, Unwritable, Unreadable, Utf16}
 use Rattle.redraw_command.specs.declared.terminal.Surroundings.{Surroundings}
 use Rattle.redraw_command.specs.declared.arguments.Request.{Request}
-use Rattle.redraw_run.specs.Deeds.{AppendsFirst, State}
+use Rattle.redraw_run.specs.Deeds.{State}
 use Rattle.redraw_run.specs.HtmlDocument.{closing, opening}
 use Rattle.redraw_run.specs.Inputs.{AreCut, AreDrawn, asked_names}
 use Rattle.redraw_run.specs.ReadLines.{IsPrinted, SumsUp}
@@ -20,46 +20,46 @@ use Rattle.redraw_run.specs.declared.look.ReportRenderer.{ReportRenderer}
 
 -- how an input ends, by what came of its lines: it is known, or not; or output couldn't be written, and nothing is told; or one message
 -- tells why it couldn't be read
-abbrev pub EndsInput : Result Bool Stop → Result Bool Error → (old new : Option (List ℕ)) → Type 0
+abbrev pub EndsInput : Result Bool Stop → Result Bool Error → (old new : Standing) → Type 0
 EndsInput (Ok is_known) result old new = (result ≡ Ok is_known) × (new ≡ old)
 EndsInput (Err Memory) result old new = (result ≡ Ok false) × Tells old new
 EndsInput (Err (Unwritable error)) result old new = (result ≡ Err error) × (new ≡ old)
 EndsInput (Err (Unreadable error)) result old new = (result ≡ Ok false) × Tells old new
 EndsInput (Err Utf16) result old new = (result ≡ Ok false) × Tells old new
 
--- the same is known, but standard output holds this
-abbrev pub with_out : State → Option (List ℕ) → State
+-- the same is known, but this of standard output
+abbrev pub with_out : State → Standing → State
 with_out a out = record a { out = out }
 
 -- inputs are gone through: in HTML after what a document begins with, and before what it ends with
 pub record ArePrinted (File Standard : Type 0) (held : File ⊎ Standard → Option (List ℕ)) (names : List (List ℕ)) (is_whole : Bool) (a b : State)
     : Type 0 where
-  pub opened : Option (List ℕ)
-  pub opens : Appends a.out opened (opening a.renderer.is_html)
+  pub opened : Standing
+  pub opens : Adds a.out opened (opening a.renderer.is_html)
   pub last : State
   pub drawn : AreDrawn File Standard held names is_whole (with_out a opened) last
-  pub closes : Appends last.out b.out (closing a.renderer.is_html)
+  pub closes : Adds last.out b.out (closing a.renderer.is_html)
   pub is : b ≡ with_out last b.out
 
 -- output couldn't be written where a document begins
 pub record IsCutAtFirst (a b : State) : Type 0 where
-  pub opens : AppendsFirst a.out b.out (opening a.renderer.is_html)
+  pub opens : BreaksOff a.out b.out (opening a.renderer.is_html)
   pub is : b ≡ with_out a b.out
 
 -- or where inputs were gone through
 pub record IsCutWithin (File Standard : Type 0) (held : File ⊎ Standard → Option (List ℕ)) (names : List (List ℕ)) (a b : State) : Type 0 where
-  pub opened : Option (List ℕ)
-  pub opens : Appends a.out opened (opening a.renderer.is_html)
+  pub opened : Standing
+  pub opens : Adds a.out opened (opening a.renderer.is_html)
   pub drawn : AreCut File Standard held names (with_out a opened) b
 
 -- or where a document ends
 pub record IsCutAtLast (File Standard : Type 0) (held : File ⊎ Standard → Option (List ℕ)) (names : List (List ℕ)) (a b : State) : Type 0 where
-  pub opened : Option (List ℕ)
-  pub opens : Appends a.out opened (opening a.renderer.is_html)
+  pub opened : Standing
+  pub opens : Adds a.out opened (opening a.renderer.is_html)
   pub is_whole : Bool
   pub last : State
   pub drawn : AreDrawn File Standard held names is_whole (with_out a opened) last
-  pub closes : AppendsFirst last.out b.out (closing a.renderer.is_html)
+  pub closes : BreaksOff last.out b.out (closing a.renderer.is_html)
   pub is : b ≡ with_out last b.out
 
 -- inputs are gone through up to where output couldn't be written
@@ -70,7 +70,7 @@ ArePartlyPrinted {File} {Standard} held names a b =
 -- a run goes through all of its inputs; then one message sums up what was done, unless that isn't wanted or there is nothing to tell; and
 -- the status is the one of what was counted
 pub record Finishes (File Standard : Type 0) (held : File ⊎ Standard → Option (List ℕ)) (names : List (List ℕ)) (a : State)
-    (out err : Option (List ℕ)) (status : ℕ) : Type 0 where
+    (out err : Standing) (status : ℕ) : Type 0 where
   pub is_whole : Bool
   pub end : State
   pub drawn : ArePrinted File Standard held names is_whole a end
@@ -80,7 +80,7 @@ pub record Finishes (File Standard : Type 0) (held : File ⊎ Standard → Optio
 
 -- a run ends where standard output can't be written: one message may tell why, and the status is 2
 pub record EndsCut (File Standard : Type 0) (held : File ⊎ Standard → Option (List ℕ)) (names : List (List ℕ)) (a : State)
-    (out err : Option (List ℕ)) (status : ℕ) : Type 0 where
+    (out err : Standing) (status : ℕ) : Type 0 where
   pub end : State
   pub drawn : ArePartlyPrinted held names a end
   pub printed : out ≡ end.out
@@ -88,34 +88,34 @@ pub record EndsCut (File Standard : Type 0) (held : File ⊎ Standard → Option
   pub ends : status ≡ 2
 
 -- a run doesn't begin, since there is no memory: that is told, and the status is 2
-pub record IsUnbegun (old_out old_err out err : Option (List ℕ)) (status : ℕ) : Type 0 where
+pub record IsUnbegun (old_out old_err out err : Standing) (status : ℕ) : Type 0 where
   pub unprinted : out ≡ old_out
   pub told : TellsMemory old_err err
   pub ends : status ≡ 2
 
 -- what a run does about the inputs of these names, and what it ends with
-abbrev pub Runs : {File Standard : Type 0} → (File ⊎ Standard → Option (List ℕ)) → List (List ℕ) → State → (out err : Option (List ℕ)) → ℕ → Type 0
+abbrev pub Runs : {File Standard : Type 0} → (File ⊎ Standard → Option (List ℕ)) → List (List ℕ) → State → (out err : Standing) → ℕ → Type 0
 Runs {File} {Standard} held names a out err status =
     Finishes File Standard held names a out err status ⊎ EndsCut File Standard held names a out err status ⊎ IsUnbegun a.out a.err out err status
 
 -- nothing is done yet, where reports look so, these are drawn, and both streams hold this
-abbrev pub nothing_begun : ReportRenderer → Choice → Option (List ℕ) → Option (List ℕ) → State
+abbrev pub nothing_begun : ReportRenderer → Choice → Standing → Standing → State
 nothing_begun r c out err = record { renderer = r; choice = c; tally = no_tally; out = out; err = err }
 
 -- a run draws what is asked for
 abbrev pub Draws : {File Standard : Type 0} → (File ⊎ Standard → Option (List ℕ)) → Request → Surroundings
-    → (old_out old_err out err : Option (List ℕ)) → ℕ → Type 0
+    → (old_out old_err out err : Standing) → ℕ → Type 0
 Draws held request around old_out old_err out err status =
     Runs held (asked_names request.inputs) (nothing_begun (looks request.look around) request.choice old_out old_err) out err status
 
 -- the arguments ask for the help or the version: a text is printed, and nothing is told
-pub record ShowsHelp (app : App) (args : List Argument) (old_out old_err out err : Option (List ℕ)) (status : ℕ) : Type 0 where
+pub record ShowsHelp (app : App) (args : List Argument) (old_out old_err out err : Standing) (status : ℕ) : Type 0 where
   pub asked : AsksToShow app args
   pub printed : IsPrinted old_out out status
   pub untold : err ≡ old_err
 
 -- the arguments are wrong: that is told, nothing is printed, and the status is 2
-pub record Misuses (app : App) (args : List Argument) (old_out old_err out err : Option (List ℕ)) (status : ℕ) : Type 0 where
+pub record Misuses (app : App) (args : List Argument) (old_out old_err out err : Standing) (status : ℕ) : Type 0 where
   pub wrong : AreWrong app args
   pub unprinted : out ≡ old_out
   pub told : TellsOfArguments old_err err
@@ -123,14 +123,14 @@ pub record Misuses (app : App) (args : List Argument) (old_out old_err out err :
 
 -- the arguments ask for inputs: these are drawn
 pub record DrawsAsked (File Standard : Type 0) (held : File ⊎ Standard → Option (List ℕ)) (app : App) (args : List Argument) (around : Surroundings)
-    (old_out old_err out err : Option (List ℕ)) (status : ℕ) : Type 0 where
+    (old_out old_err out err : Standing) (status : ℕ) : Type 0 where
   pub request : Request
   pub asked : AsksFor app args request
   pub draws : Draws held request around old_out old_err out err status
 
 -- what a run answers, by what its arguments ask for: one of these, or there is no memory to begin
 abbrev pub AnswersBy : {File Standard : Type 0} → (File ⊎ Standard → Option (List ℕ)) → App → List Argument → Surroundings
-    → (old_out old_err out err : Option (List ℕ)) → ℕ → Type 0
+    → (old_out old_err out err : Standing) → ℕ → Type 0
 AnswersBy {File} {Standard} held app args around old_out old_err out err status =
     ShowsHelp app args old_out old_err out err status
     ⊎ Misuses app args old_out old_err out err status
@@ -139,6 +139,6 @@ AnswersBy {File} {Standard} held app args around old_out old_err out err status 
 
 -- the same, where the arguments are read as those of this program
 abbrev pub Answers : {File Standard : Type 0} → (File ⊎ Standard → Option (List ℕ)) → List Argument → Surroundings
-    → (old_out old_err out err : Option (List ℕ)) → ℕ → Type 0
+    → (old_out old_err out err : Standing) → ℕ → Type 0
 Answers held args around old_out old_err out err status =
     (app : App) × IsRedraw app × AnswersBy held app args around old_out old_err out err status

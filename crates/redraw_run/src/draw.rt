@@ -2,7 +2,6 @@
 ghost use Rattle.std.specs.Prelude.{◌≡◌, ℕ, Bool, List, Option, option_map, ◌++◌, [], ◌∷◌, if◌then◌else◌, false, true};
 ghost use Rattle.std.specs.Prelude.{◌==◌, ◌≢◌, OnErr, OnOk, IfOk, IfErr, alloc_error};
 ghost use Rattle.std.specs.Prelude.{length, string_bytes};
-ghost use Rattle.std.specs.Io.KnownBytes.{Appends};
 ghost use Rattle.redraw_command.specs.Seen.{IsSeen, digests_of};
 ghost use Rattle.redraw_command.specs.Tally.{one_more};
 ghost use Rattle.redraw_command.specs.Told.{Tells};
@@ -17,6 +16,7 @@ ghost use Rattle.redraw_read.specs.Loaded.{texts_of};
 ghost use Rattle.serde_json.specs.View.{view};
 ghost use Rattle.redraw_read.specs.declared.sources.File.{File};
 ghost use Rattle.redraw_command.specs.declared.choice.Form.TheVariants.{Report, Workflow};
+ghost use Rattle.program.specs.Standing.{Adds, Standing, known};
 
 use crate::html::escaped;
 use crate::look::ReportRenderer;
@@ -24,6 +24,7 @@ use crate::text::drawn_of;
 use crate::write::{pass, print};
 use annotate_snippets::renderer::RenderError;
 use json_node::fault::Fault;
+use program::stream::Stream;
 use redraw_command::choice::{Choice, Form, is_sum};
 use redraw_command::relative::make_relative;
 use redraw_command::seen::{Names, Seen};
@@ -66,11 +67,11 @@ impl<S: SourceFiles + Drop> Drawing<'_, S> {
         &mut self,
         read: Result<Diagnostic, Fault>,
         message: Option<&Value>,
-        out: &mut W,
-        err: &mut V,
+        out: &mut Stream<W>,
+        err: &mut Stream<V>,
     ) -> Result<(), Stop>
-        ensures does { Goes result IsReported (standing self.old (W.contents out.old) (V.contents err.old))
-            (standing self.new (W.contents out.new) (V.contents err.new)) }
+        ensures does { Goes result IsReported (standing self.old (known W.contents out.old) (known V.contents err.old))
+            (standing self.new (known W.contents out.new) (known V.contents err.new)) }
     {
         match read {
             Ok(diagnostic) => self.take(diagnostic, message, out, err),
@@ -83,11 +84,11 @@ impl<S: SourceFiles + Drop> Drawing<'_, S> {
     }
 
     /// Tells that something is wrong with what is read, which is left out.
-    pub fn wrong<D: fmt::Display + Drop, V: Write>(&mut self, what: D, err: &mut V)
+    pub fn wrong<D: fmt::Display + Drop, V: Write>(&mut self, what: D, err: &mut Stream<V>)
         ensures counted { self.new
             ≡ record self.old { tally = record self.old.tally { wrong = one_more self.old.tally.wrong } } }
-        ensures does { (out : Option (List ℕ)) → Does IsWrong (standing self.old out (V.contents err.old))
-            (standing self.new out (V.contents err.new)) }
+        ensures does { (out : Standing) → Does IsWrong (standing self.old out (known V.contents err.old))
+            (standing self.new out (known V.contents err.new)) }
     {
         self.leave_out();
         self.tell(what, err);
@@ -97,25 +98,30 @@ impl<S: SourceFiles + Drop> Drawing<'_, S> {
     pub fn leave_out(&mut self)
         ensures counted { self.new
             ≡ record self.old { tally = record self.old.tally { wrong = one_more self.old.tally.wrong } } }
-        ensures does { (out err : Option (List ℕ)) → Does LeavesOut (standing self.old out err)
+        ensures does { (out err : Standing) → Does LeavesOut (standing self.old out err)
             (standing self.new out err) }
     {
         self.tally.wrong = self.tally.wrong.saturating_add(1);
     }
 
     /// Tells something of what is read.
-    pub fn tell<D: fmt::Display + Drop, V: Write>(&self, what: D, err: &mut V)
-        ensures told { Tells (V.contents err.old) (V.contents err.new) }
+    pub fn tell<D: fmt::Display + Drop, V: Write>(&self, what: D, err: &mut Stream<V>)
+        ensures told { Tells (known V.contents err.old) (known V.contents err.new) }
     {
         tell_of(self.alloc, self.input, self.line, what, err);
     }
 
     /// Tells where something that begins on this line isn't JSON, and leaves it out.
-    pub fn not_json<V: Write>(&mut self, begins: u64, error: &serde_json::Error, err: &mut V)
+    pub fn not_json<V: Write>(
+        &mut self,
+        begins: u64,
+        error: &serde_json::Error,
+        err: &mut Stream<V>,
+    )
         ensures counted { self.new
             ≡ record self.old { tally = record self.old.tally { wrong = one_more self.old.tally.wrong } } }
-        ensures does { (out : Option (List ℕ)) → Does IsWrong (standing self.old out (V.contents err.old))
-            (standing self.new out (V.contents err.new)) }
+        ensures does { (out : Standing) → Does IsWrong (standing self.old out (known V.contents err.old))
+            (standing self.new out (known V.contents err.new)) }
     {
         self.leave_out();
         let input = self.input;
@@ -131,9 +137,9 @@ impl<S: SourceFiles + Drop> Drawing<'_, S> {
     }
 
     /// Hands on a line of the input as it is; in HTML with escapes.
-    pub fn hand_on<W: Write>(&self, line: &[u8], out: &mut W) -> Result<(), Stop>
-        ensures does { (err : Option (List ℕ)) → Goes result (IsHandedOn line.now)
-            (standing self.now (W.contents out.old) err) (standing self.now (W.contents out.new) err) }
+    pub fn hand_on<W: Write>(&self, line: &[u8], out: &mut Stream<W>) -> Result<(), Stop>
+        ensures does { (err : Standing) → Goes result (IsHandedOn line.now)
+            (standing self.now (known W.contents out.old) err) (standing self.now (known W.contents out.new) err) }
     {
         if self.renderer.is_html {
             let escaped = escaped(self.alloc, line)?;
@@ -148,11 +154,11 @@ impl<S: SourceFiles + Drop> Drawing<'_, S> {
         &mut self,
         mut diagnostic: Diagnostic,
         message: Option<&Value>,
-        out: &mut W,
-        err: &mut V,
+        out: &mut Stream<W>,
+        err: &mut Stream<V>,
     ) -> Result<(), Stop>
-        ensures does { Goes result IsReported (standing self.old (W.contents out.old) (V.contents err.old))
-            (standing self.new (W.contents out.new) (V.contents err.new)) }
+        ensures does { Goes result IsReported (standing self.old (known W.contents out.old) (known V.contents err.old))
+            (standing self.new (known W.contents out.new) (known V.contents err.new)) }
     {
         if let Some(folder) = &self.folder {
             make_relative(self.alloc, &mut diagnostic, folder.as_str())?;
@@ -165,12 +171,12 @@ impl<S: SourceFiles + Drop> Drawing<'_, S> {
         &mut self,
         diagnostic: &Diagnostic,
         message: Option<&Value>,
-        out: &mut W,
-        err: &mut V,
+        out: &mut Stream<W>,
+        err: &mut Stream<V>,
     ) -> Result<(), Stop>
         ensures does { Goes result (IsTaking diagnostic.now)
-            (standing self.old (W.contents out.old) (V.contents err.old))
-            (standing self.new (W.contents out.new) (V.contents err.new)) }
+            (standing self.old (known W.contents out.old) (known V.contents err.old))
+            (standing self.new (known W.contents out.new) (known V.contents err.new)) }
     {
         if self.choice.takes(diagnostic) {
             self.draw_once(diagnostic, message, out, err)
@@ -184,19 +190,19 @@ impl<S: SourceFiles + Drop> Drawing<'_, S> {
         &mut self,
         diagnostic: &Diagnostic,
         message: Option<&Value>,
-        out: &mut W,
-        err: &mut V,
+        out: &mut Stream<W>,
+        err: &mut Stream<V>,
     ) -> Result<(), Stop>
         ensures once { OnOk result ((was : Bool)
             × IsSeen (option_map (λ m. view m.now) message.entry) self.old.choice.has_duplicates was
             (digests_of self.old.seen) (digests_of self.new.seen)
             × (was ≡ true → (out.new ≡ out.old) × (self.new.tally ≡ repeated self.old.tally))
             × (was ≡ false → DrawsFinding self.old.choice.form self.old.renderer self.new.sources.files.items
-            diagnostic.now (W.contents out.old) (W.contents out.new) (out.new ≡ out.old)
+            diagnostic.now (known W.contents out.old) (known W.contents out.new) (out.new ≡ out.old)
             self.old.tally self.new.tally)) }
         ensures does { Goes result (IsChosen diagnostic.now)
-            (standing self.old (W.contents out.old) (V.contents err.old))
-            (standing self.new (W.contents out.new) (V.contents err.new)) }
+            (standing self.old (known W.contents out.old) (known V.contents err.old))
+            (standing self.new (known W.contents out.new) (known V.contents err.new)) }
     {
         let is_seen = self.is_duplicate(message)?;
         if is_seen {
@@ -231,17 +237,17 @@ impl<S: SourceFiles + Drop> Drawing<'_, S> {
     fn draw<W: Write, V: Write>(
         &mut self,
         diagnostic: &Diagnostic,
-        out: &mut W,
-        err: &mut V,
+        out: &mut Stream<W>,
+        err: &mut Stream<V>,
     ) -> Result<(), Stop>
         ensures draws { OnOk result (DrawsFinding self.old.choice.form self.old.renderer self.new.sources.files.items
-            diagnostic.now (W.contents out.old) (W.contents out.new) (out.new ≡ out.old)
+            diagnostic.now (known W.contents out.old) (known W.contents out.new) (out.new ≡ out.old)
             self.old.tally self.new.tally) }
         ensures kept { (self.new.renderer ≡ self.old.renderer) × (self.new.choice ≡ self.old.choice) }
         ensures seen { self.new.seen ≡ self.old.seen }
         ensures does { Goes result (IsDrawing diagnostic.now)
-            (standing self.old (W.contents out.old) (V.contents err.old))
-            (standing self.new (W.contents out.new) (V.contents err.new)) }
+            (standing self.old (known W.contents out.old) (known V.contents err.old))
+            (standing self.new (known W.contents out.new) (known V.contents err.new)) }
     {
         match self.choice.form {
             Form::Report => self.draw_report(diagnostic, out, err),
@@ -253,19 +259,20 @@ impl<S: SourceFiles + Drop> Drawing<'_, S> {
     fn draw_report<W: Write, V: Write>(
         &mut self,
         diagnostic: &Diagnostic,
-        out: &mut W,
-        err: &mut V,
+        out: &mut Stream<W>,
+        err: &mut Stream<V>,
     ) -> Result<(), Stop>
         ensures draws { OnOk result (DrawsFinding Report self.old.renderer self.new.sources.files.items diagnostic.now
-            (W.contents out.old) (W.contents out.new) (out.new ≡ out.old) self.old.tally self.new.tally) }
+            (known W.contents out.old) (known W.contents out.new) (out.new ≡ out.old) self.old.tally self.new.tally) }
         ensures kept { (self.new.renderer ≡ self.old.renderer) × (self.new.choice ≡ self.old.choice) }
         ensures seen { self.new.seen ≡ self.old.seen }
         ensures does { self.old.choice.form ≡ Report
-            → Goes result (IsShown diagnostic.now) (standing self.old (W.contents out.old) (V.contents err.old))
-            (standing self.new (W.contents out.new) (V.contents err.new)) }
+            → Goes result (IsShown diagnostic.now)
+            (standing self.old (known W.contents out.old) (known V.contents err.old))
+            (standing self.new (known W.contents out.new) (known V.contents err.new)) }
         ensures tells { OnOk result (TellsAbout self.old.renderer.settings.short_message self.old.sources.files.items
             self.new.sources.files.items (texts_of self.old.sources.unread.items) diagnostic.now
-            (V.contents err.old) (V.contents err.new)) }
+            (known V.contents err.old) (known V.contents err.new)) }
         ensures told { OnOk result (self.new.sources.unread.items ≡ []) }
     {
         load_files(&mut self.sources, diagnostic)?;
@@ -276,14 +283,18 @@ impl<S: SourceFiles + Drop> Drawing<'_, S> {
     }
 
     /// Draws it as a workflow command, if it is one.
-    fn draw_command<W: Write>(&mut self, diagnostic: &Diagnostic, out: &mut W) -> Result<(), Stop>
+    fn draw_command<W: Write>(
+        &mut self,
+        diagnostic: &Diagnostic,
+        out: &mut Stream<W>,
+    ) -> Result<(), Stop>
         ensures draws { OnOk result (DrawsFinding Workflow self.old.renderer self.new.sources.files.items diagnostic.now
-            (W.contents out.old) (W.contents out.new) (out.new ≡ out.old) self.old.tally self.new.tally) }
+            (known W.contents out.old) (known W.contents out.new) (out.new ≡ out.old) self.old.tally self.new.tally) }
         ensures kept { (self.new.renderer ≡ self.old.renderer) × (self.new.choice ≡ self.old.choice) }
         ensures seen { self.new.seen ≡ self.old.seen }
-        ensures does { self.old.choice.form ≡ Workflow → (err : Option (List ℕ))
-            → Goes result (IsWritten diagnostic.now) (standing self.old (W.contents out.old) err)
-            (standing self.new (W.contents out.new) err) }
+        ensures does { self.old.choice.form ≡ Workflow → (err : Standing)
+            → Goes result (IsWritten diagnostic.now) (standing self.old (known W.contents out.old) err)
+            (standing self.new (known W.contents out.new) err) }
     {
         match command_of(self.alloc, diagnostic)? {
             Some(line) => {
@@ -295,14 +306,15 @@ impl<S: SourceFiles + Drop> Drawing<'_, S> {
     }
 
     /// Tells which files couldn't be read, each once.
-    fn tell_unread<V: Write>(&mut self, err: &mut V)
+    fn tell_unread<V: Write>(&mut self, err: &mut Stream<V>)
         ensures kept { (self.new.renderer ≡ self.old.renderer) × (self.new.choice ≡ self.old.choice)
             × (self.new.tally ≡ self.old.tally) }
         ensures seen { self.new.seen ≡ self.old.seen }
         ensures files { self.new.sources.files ≡ self.old.sources.files }
-        ensures does { (out : Option (List ℕ)) → Does AreMessages (standing self.old out (V.contents err.old))
-            (standing self.new out (V.contents err.new)) }
-        ensures each { TellsMany (length self.old.sources.unread.items) (V.contents err.old) (V.contents err.new) }
+        ensures does { (out : Standing) → Does AreMessages (standing self.old out (known V.contents err.old))
+            (standing self.new out (known V.contents err.new)) }
+        ensures each { TellsMany (length self.old.sources.unread.items) (known V.contents err.old)
+            (known V.contents err.new) }
         ensures none { self.new.sources.unread.items ≡ [] }
     {
         let unread = self.sources.take_unread();
@@ -314,12 +326,12 @@ impl<S: SourceFiles + Drop> Drawing<'_, S> {
     }
 
     /// Tells how many places aren't in their source, and how many edits aren't drawn.
-    fn tell_inexact<V: Write>(&self, clamped: u64, undrawn: u64, err: &mut V)
-        ensures does { (out : Option (List ℕ)) → Does AreMessages (standing self.now out (V.contents err.old))
-            (standing self.now out (V.contents err.new)) }
+    fn tell_inexact<V: Write>(&self, clamped: u64, undrawn: u64, err: &mut Stream<V>)
+        ensures does { (out : Standing) → Does AreMessages (standing self.now out (known V.contents err.old))
+            (standing self.now out (known V.contents err.new)) }
         ensures exact { clamped ≡ 0 → undrawn ≡ 0 → err.new ≡ err.old }
-        ensures each { (middle : Option (List ℕ)) × TellsUnless (clamped == 0) (V.contents err.old) middle
-            × TellsUnless (undrawn == 0) middle (V.contents err.new) }
+        ensures each { (middle : Standing) × TellsUnless (clamped == 0) (known V.contents err.old) middle
+            × TellsUnless (undrawn == 0) middle (known V.contents err.new) }
     {
         let clamped_places = "places that aren't in their source, drawn at the nearest one";
         self.tell_count(clamped, clamped_places, err);
@@ -328,10 +340,10 @@ impl<S: SourceFiles + Drop> Drawing<'_, S> {
     }
 
     /// Tells how many of these there are, if any.
-    fn tell_count<V: Write>(&self, count: u64, what: &str, err: &mut V)
-        ensures told { TellsAll (V.contents err.old) (V.contents err.new) }
+    fn tell_count<V: Write>(&self, count: u64, what: &str, err: &mut Stream<V>)
+        ensures told { TellsAll (known V.contents err.old) (known V.contents err.new) }
         ensures none { count ≡ 0 → err.new ≡ err.old }
-        ensures one { TellsUnless (count == 0) (V.contents err.old) (V.contents err.new) }
+        ensures one { TellsUnless (count == 0) (known V.contents err.old) (known V.contents err.new) }
     {
         if count > 0 {
             let told = format_args!("{what}: {count}");
@@ -344,25 +356,26 @@ impl<S: SourceFiles + Drop> Drawing<'_, S> {
         &mut self,
         text: Result<String, RenderError>,
         diagnostic: &Diagnostic,
-        out: &mut W,
-        err: &mut V,
+        out: &mut Stream<W>,
+        err: &mut Stream<V>,
     ) -> Result<(), Stop>
-        ensures drawn { OnOk result (IfOk text (λ t. Appends (W.contents out.old) (W.contents out.new)
+        ensures drawn { OnOk result (IfOk text (λ t. Adds (known W.contents out.old) (known W.contents out.new)
             (string_bytes t
             ++ (ending_after self.old.renderer.settings.short_message diagnostic.now.severity ++ 10 ∷ [])))) }
         ensures counted { OnOk result (IfOk text (λ t. IsCounted diagnostic.now self.old.tally self.new.tally)) }
         ensures untold { OnOk result (IfOk text (λ t. err.new ≡ err.old)) }
         ensures left_out { OnOk result (IfErr text (λ e. (e ≢ RenderError.Memory alloc_error)
             × (out.new ≡ out.old) × IsLeftOut self.old.tally self.new.tally)) }
-        ensures told { OnOk result (IfErr text (λ e. Tells (V.contents err.old) (V.contents err.new))) }
+        ensures told { OnOk result (IfErr text (λ e. Tells (known V.contents err.old) (known V.contents err.new))) }
         ensures kept { (self.new.renderer ≡ self.old.renderer) × (self.new.choice ≡ self.old.choice) }
         ensures seen { self.new.seen ≡ self.old.seen }
         ensures does { self.old.choice.form ≡ Report
             → (files : List File)
             → IfOk text (λ t. ShowsFinding self.old.renderer files diagnostic.now (string_bytes t))
             → IfErr text (IsUndrawn self.old.renderer files diagnostic.now)
-            → Goes result (IsShown diagnostic.now) (standing self.old (W.contents out.old) (V.contents err.old))
-            (standing self.new (W.contents out.new) (V.contents err.new)) }
+            → Goes result (IsShown diagnostic.now)
+            (standing self.old (known W.contents out.old) (known V.contents err.old))
+            (standing self.new (known W.contents out.new) (known V.contents err.new)) }
         ensures sources { self.new.sources ≡ self.old.sources }
     {
         match text {
@@ -379,17 +392,17 @@ impl<S: SourceFiles + Drop> Drawing<'_, S> {
         &mut self,
         error: &RenderError,
         diagnostic: &Diagnostic,
-        err: &mut V,
+        err: &mut Stream<V>,
     ) -> Result<(), Stop>
         ensures left_out { OnOk result ((error.now ≢ RenderError.Memory alloc_error)
             × IsLeftOut self.old.tally self.new.tally) }
-        ensures told { OnOk result (Tells (V.contents err.old) (V.contents err.new)) }
+        ensures told { OnOk result (Tells (known V.contents err.old) (known V.contents err.new)) }
         ensures kept { (self.new.renderer ≡ self.old.renderer) × (self.new.choice ≡ self.old.choice) }
         ensures seen { self.new.seen ≡ self.old.seen }
         ensures does { self.old.choice.form ≡ Report
             → (files : List File) → IsUndrawn self.old.renderer files diagnostic.now error.now
-            → (out : Option (List ℕ)) → Goes result (IsShown diagnostic.now)
-            (standing self.old out (V.contents err.old)) (standing self.new out (V.contents err.new)) }
+            → (out : Standing) → Goes result (IsShown diagnostic.now)
+            (standing self.old out (known V.contents err.old)) (standing self.new out (known V.contents err.new)) }
         ensures sources { self.new.sources ≡ self.old.sources }
     {
         match error {
@@ -434,9 +447,9 @@ fn tell_of<D: fmt::Display + Drop, V: Write>(
     input: &str,
     line: u64,
     what: D,
-    err: &mut V,
+    err: &mut Stream<V>,
 )
-    ensures told { Tells (V.contents err.old) (V.contents err.new) }
+    ensures told { Tells (known V.contents err.old) (known V.contents err.new) }
 {
     if line == 0 {
         tell(alloc, format_args!("{input}: {what}"), err);

@@ -3,9 +3,10 @@ ghost use Rattle.std.specs.Prelude.{◌≡◌, ◌++◌, [], IfOk, OnOk};
 ghost use Rattle.redraw_run.specs.HtmlDocument as spec;
 ghost use Rattle.redraw_run.specs.ReadLines.{Prints};
 ghost use Rattle.snippet_grid.specs.Html as html;
+ghost use Rattle.program.specs.Standing.{known};
 
 use annotate_snippets::renderer::HTML_STYLESHEET;
-use program::line::write_whole;
+use program::stream::Stream;
 use std::alloc::{AllocError, Global};
 use std::io::{self, Write};
 
@@ -33,52 +34,52 @@ const END: &str = "</pre>
 ";
 
 /// Begins a document, where HTML is written.
-pub fn begin<W: Write>(is_html: bool, out: &mut W) -> io::Result<()>
-    ensures prints { Prints result (W.contents out.old) (W.contents out.new) (spec.opening is_html) }
+pub fn begin<W: Write>(is_html: bool, out: &mut Stream<W>) -> io::Result<()>
+    ensures prints { Prints result (known W.contents out.old) (known W.contents out.new) (spec.opening is_html) }
 {
     if is_html { print_head(out) } else { Ok(()) }
 }
 
 /// Prints what stands before all that is drawn.
-fn print_head<W: Write>(out: &mut W) -> io::Result<()>
-    ensures prints { Prints result (W.contents out.old) (W.contents out.new) spec.head }
+fn print_head<W: Write>(out: &mut Stream<W>) -> io::Result<()>
+    ensures prints { Prints result (known W.contents out.old) (known W.contents out.new) spec.head }
 {
-    match write_whole(HEAD.as_bytes(), out) {
+    match out.write(HEAD.as_bytes()) {
         Ok(()) => print_styles(out),
         Err(error) => Err(error),
     }
 }
 
 /// Prints the stylesheet, and what stands after it.
-fn print_styles<W: Write>(out: &mut W) -> io::Result<()>
-    ensures prints { Prints result (W.contents out.old) (W.contents out.new) spec.styles }
+fn print_styles<W: Write>(out: &mut Stream<W>) -> io::Result<()>
+    ensures prints { Prints result (known W.contents out.old) (known W.contents out.new) spec.styles }
 {
-    match write_whole(HTML_STYLESHEET.as_bytes(), out) {
+    match out.write(HTML_STYLESHEET.as_bytes()) {
         Ok(()) => print(BODY, out),
         Err(error) => Err(error),
     }
 }
 
 /// Ends a document, where HTML is written.
-pub fn end<W: Write>(is_html: bool, out: &mut W) -> io::Result<()>
-    ensures prints { Prints result (W.contents out.old) (W.contents out.new) (spec.closing is_html) }
+pub fn end<W: Write>(is_html: bool, out: &mut Stream<W>) -> io::Result<()>
+    ensures prints { Prints result (known W.contents out.old) (known W.contents out.new) (spec.closing is_html) }
 {
     if is_html { print(END, out) } else { Ok(()) }
 }
 
 /// Prints a text, and hands on what was written.
-fn print<W: Write>(text: &str, out: &mut W) -> io::Result<()>
-    ensures prints { Prints result (W.contents out.old) (W.contents out.new) text.now }
+fn print<W: Write>(text: &str, out: &mut Stream<W>) -> io::Result<()>
+    ensures prints { Prints result (known W.contents out.old) (known W.contents out.new) text.now }
 {
-    match write_whole(text.as_bytes(), out) {
+    match out.write(text.as_bytes()) {
         Ok(()) => flush(out),
         Err(error) => Err(error),
     }
 }
 
 /// Hands on what was written.
-fn flush<W: Write>(out: &mut W) -> io::Result<()>
-    ensures prints { Prints result (W.contents out.old) (W.contents out.new) [] }
+fn flush<W: Write>(out: &mut Stream<W>) -> io::Result<()>
+    ensures prints { Prints result (known W.contents out.old) (known W.contents out.new) [] }
 {
     match out.flush() {
         Ok(()) => Ok(()),

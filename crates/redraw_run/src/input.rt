@@ -8,6 +8,7 @@ ghost use Rattle.redraw_run.specs.Fates.{Advances, Halts, IsDocumentLine, IsInpu
 ghost use Rattle.redraw_run.specs.Fates.{IsLast, IsSoFar, IsTextOf, IsUnknown, IsValue, IsWhole};
 ghost use Rattle.redraw_run.specs.Fates.{LeavesOpen, Reads, document_of};
 ghost use Rattle.redraw_run.specs.ReadLines.{AreAllOf, AreFirstOf, TakesNext, TellsUnless};
+ghost use Rattle.program.specs.Standing.{Standing, known};
 
 use crate::draw::Drawing;
 use crate::json::json_of;
@@ -16,6 +17,7 @@ use crate::report::{cargo_message, sarif_log};
 use json::Scratch;
 use json_node::node::Node;
 use json_node::place::Place;
+use program::stream::Stream;
 use redraw_command::line::{Line, is_utf16, line_of};
 use redraw_command::stop::Stop;
 use redraw_read::rustc::diagnostic_of;
@@ -65,13 +67,13 @@ impl Reading {
         bytes: &[u8],
         is_first: bool,
         drawing: &mut Drawing<'_, S>,
-        out: &mut W,
-        err: &mut V,
+        out: &mut Stream<W>,
+        err: &mut Stream<V>,
     ) -> Result<(), Stop>
         ensures advances { Advances result bytes.now
             (document_of self.old.document) (document_of self.new.document)
-            (standing drawing.old (W.contents out.old) (V.contents err.old))
-            (standing drawing.new (W.contents out.new) (V.contents err.new)) }
+            (standing drawing.old (known W.contents out.old) (known V.contents err.old))
+            (standing drawing.new (known W.contents out.new) (known V.contents err.new)) }
     {
         if self.document.is_some() {
             self.document_line(bytes, drawing, err)
@@ -86,13 +88,13 @@ impl Reading {
         bytes: &[u8],
         is_first: bool,
         drawing: &mut Drawing<'_, S>,
-        out: &mut W,
-        err: &mut V,
+        out: &mut Stream<W>,
+        err: &mut Stream<V>,
     ) -> Result<(), Stop>
         ensures advances { self.old.document ≡ None → Advances result bytes.now
             (document_of self.old.document) (document_of self.new.document)
-            (standing drawing.old (W.contents out.old) (V.contents err.old))
-            (standing drawing.new (W.contents out.new) (V.contents err.new)) }
+            (standing drawing.old (known W.contents out.old) (known V.contents err.old))
+            (standing drawing.new (known W.contents out.new) (known V.contents err.new)) }
     {
         match line_of(bytes, is_first) {
             Line::Object(line) => self.object(line, bytes, drawing, out, err),
@@ -115,14 +117,14 @@ impl Reading {
         line: &str,
         bytes: &[u8],
         drawing: &mut Drawing<'_, S>,
-        out: &mut W,
-        err: &mut V,
+        out: &mut Stream<W>,
+        err: &mut Stream<V>,
     ) -> Result<(), Stop>
         ensures advances { IsTextOf bytes.now line.now → begins_object line.now ≡ true → self.old.document ≡ None
             → Advances result bytes.now
             (document_of self.old.document) (document_of self.new.document)
-            (standing drawing.old (W.contents out.old) (V.contents err.old))
-            (standing drawing.new (W.contents out.new) (V.contents err.new)) }
+            (standing drawing.old (known W.contents out.old) (known V.contents err.old))
+            (standing drawing.new (known W.contents out.new) (known V.contents err.new)) }
     {
         let read = json_of(self.alloc, line, &mut self.scratch)?;
         match read {
@@ -138,14 +140,14 @@ impl Reading {
         bytes: &[u8],
         error: &serde_json::Error,
         drawing: &mut Drawing<'_, S>,
-        out: &mut W,
-        err: &mut V,
+        out: &mut Stream<W>,
+        err: &mut Stream<V>,
     ) -> Result<(), Stop>
         ensures advances { IsTextOf bytes.now line.now → begins_object line.now ≡ true → Reads line.now None
             → self.old.document ≡ None → Advances result bytes.now
             (document_of self.old.document) (document_of self.new.document)
-            (standing drawing.old (W.contents out.old) (V.contents err.old))
-            (standing drawing.new (W.contents out.new) (V.contents err.new)) }
+            (standing drawing.old (known W.contents out.old) (known V.contents err.old))
+            (standing drawing.new (known W.contents out.new) (known V.contents err.new)) }
     {
         if line.starts_with('{') {
             self.no_value(line, error, drawing, err)
@@ -162,11 +164,12 @@ impl Reading {
         line: &str,
         error: &serde_json::Error,
         drawing: &mut Drawing<'_, S>,
-        err: &mut V,
+        err: &mut Stream<V>,
     ) -> Result<(), Stop>
-        ensures leaves { (out : Option (List ℕ)) → LeavesOpen result line.now
+        ensures leaves { (out : Standing) → LeavesOpen result line.now
             (document_of self.old.document) (document_of self.new.document)
-            (standing drawing.old out (V.contents err.old)) (standing drawing.new out (V.contents err.new)) }
+            (standing drawing.old out (known V.contents err.old))
+            (standing drawing.new out (known V.contents err.new)) }
         ensures memory { IfErr result (λ stop. stop ≡ Stop.Memory) }
     {
         let at = drawing.line;
@@ -185,10 +188,11 @@ impl Reading {
         &mut self,
         bytes: &[u8],
         drawing: &mut Drawing<'_, S>,
-        err: &mut V,
+        err: &mut Stream<V>,
     ) -> Result<(), Stop>
-        ensures does { (out : Option (List ℕ)) → Does (IsDocumentLine bytes.now)
-            (standing drawing.old out (V.contents err.old)) (standing drawing.new out (V.contents err.new)) }
+        ensures does { (out : Standing) → Does (IsDocumentLine bytes.now)
+            (standing drawing.old out (known V.contents err.old))
+            (standing drawing.new out (known V.contents err.new)) }
         ensures grows { (document : List ℕ) → document_of self.old.document ≡ Some document
             → OnOk result (document_of self.new.document ≡ Some (document ++ bytes.now)) }
         ensures memory { IfErr result (λ stop. stop ≡ Stop.Memory) }
@@ -205,12 +209,12 @@ impl Reading {
     pub fn end<S: SourceFiles + Drop, W: Write, V: Write>(
         &mut self,
         drawing: &mut Drawing<'_, S>,
-        out: &mut W,
-        err: &mut V,
+        out: &mut Stream<W>,
+        err: &mut Stream<V>,
     ) -> Result<(), Stop>
         ensures does { Goes result (IsLast (document_of self.old.document))
-            (standing drawing.old (W.contents out.old) (V.contents err.old))
-            (standing drawing.new (W.contents out.new) (V.contents err.new)) }
+            (standing drawing.old (known W.contents out.old) (known V.contents err.old))
+            (standing drawing.new (known W.contents out.new) (known V.contents err.new)) }
     {
         match self.document.take() {
             Some(document) => self.document(&document, drawing, out, err),
@@ -222,11 +226,16 @@ impl Reading {
     }
 
     /// Tells of lines none of which begins as an object does, if one of them isn't blank.
-    fn end_lines<S: SourceFiles + Drop, V: Write>(&self, drawing: &mut Drawing<'_, S>, err: &mut V)
-        ensures does { (out : Option (List ℕ)) → Does (IsLast None)
-            (standing drawing.old out (V.contents err.old)) (standing drawing.new out (V.contents err.new)) }
-        ensures one { TellsUnless (self.now.has_objects || not self.now.has_others) (V.contents err.old)
-            (V.contents err.new) }
+    fn end_lines<S: SourceFiles + Drop, V: Write>(
+        &self,
+        drawing: &mut Drawing<'_, S>,
+        err: &mut Stream<V>,
+    )
+        ensures does { (out : Standing) → Does (IsLast None)
+            (standing drawing.old out (known V.contents err.old))
+            (standing drawing.new out (known V.contents err.new)) }
+        ensures one { TellsUnless (self.now.has_objects || not self.now.has_others) (known V.contents err.old)
+            (known V.contents err.new) }
     {
         let is_unknown = self.has_others && !self.has_objects;
         if is_unknown {
@@ -242,12 +251,12 @@ impl Reading {
         &mut self,
         document: &[u8],
         drawing: &mut Drawing<'_, S>,
-        out: &mut W,
-        err: &mut V,
+        out: &mut Stream<W>,
+        err: &mut Stream<V>,
     ) -> Result<(), Stop>
         ensures does { Goes result (IsWhole document.now)
-            (standing drawing.old (W.contents out.old) (V.contents err.old))
-            (standing drawing.new (W.contents out.new) (V.contents err.new)) }
+            (standing drawing.old (known W.contents out.old) (known V.contents err.old))
+            (standing drawing.new (known W.contents out.new) (known V.contents err.new)) }
     {
         match str::from_utf8(document) {
             Ok(text) => self.whole(text, drawing, out, err),
@@ -260,12 +269,12 @@ impl Reading {
         &mut self,
         text: &str,
         drawing: &mut Drawing<'_, S>,
-        out: &mut W,
-        err: &mut V,
+        out: &mut Stream<W>,
+        err: &mut Stream<V>,
     ) -> Result<(), Stop>
         ensures does { Goes result (IsWhole text.now)
-            (standing drawing.old (W.contents out.old) (V.contents err.old))
-            (standing drawing.new (W.contents out.new) (V.contents err.new)) }
+            (standing drawing.old (known W.contents out.old) (known V.contents err.old))
+            (standing drawing.new (known W.contents out.new) (known V.contents err.new)) }
     {
         let read = json_of(self.alloc, text, &mut self.scratch)?;
         match read {
@@ -283,13 +292,13 @@ impl Reading {
         value: &Value,
         line: Option<&[u8]>,
         drawing: &mut Drawing<'_, S>,
-        out: &mut W,
-        err: &mut V,
+        out: &mut Stream<W>,
+        err: &mut Stream<V>,
     ) -> Result<(), Stop>
         ensures same { self.new.document ≡ self.old.document }
         ensures does { Goes result (IsValue (option_map (λ bytes. bytes.now) line.entry) (view value.now))
-            (standing drawing.old (W.contents out.old) (V.contents err.old))
-            (standing drawing.new (W.contents out.new) (V.contents err.new)) }
+            (standing drawing.old (known W.contents out.old) (known V.contents err.old))
+            (standing drawing.new (known W.contents out.new) (known V.contents err.new)) }
     {
         self.has_objects = true;
         match kind_of(value) {
@@ -307,12 +316,12 @@ impl Reading {
         &self,
         line: Option<&[u8]>,
         drawing: &mut Drawing<'_, S>,
-        out: &mut W,
-        err: &mut V,
+        out: &mut Stream<W>,
+        err: &mut Stream<V>,
     ) -> Result<(), Stop>
         ensures does { Goes result (IsUnknown (option_map (λ bytes. bytes.now) line.entry))
-            (standing drawing.old (W.contents out.old) (V.contents err.old))
-            (standing drawing.new (W.contents out.new) (V.contents err.new)) }
+            (standing drawing.old (known W.contents out.old) (known V.contents err.old))
+            (standing drawing.new (known W.contents out.new) (known V.contents err.new)) }
     {
         match line {
             Some(line) if self.is_known => drawing.hand_on(line, out),
@@ -329,12 +338,13 @@ impl Reading {
         kind: Kind,
         value: &Value,
         drawing: &mut Drawing<'_, S>,
-        out: &mut W,
-        err: &mut V,
+        out: &mut Stream<W>,
+        err: &mut Stream<V>,
     ) -> Result<(), Stop>
         ensures same { self.new.document ≡ self.old.document }
-        ensures does { Goes result (IsKnown kind) (standing drawing.old (W.contents out.old) (V.contents err.old))
-            (standing drawing.new (W.contents out.new) (V.contents err.new)) }
+        ensures does { Goes result (IsKnown kind)
+            (standing drawing.old (known W.contents out.old) (known V.contents err.old))
+            (standing drawing.new (known W.contents out.new) (known V.contents err.new)) }
     {
         let node = Node {
             alloc: self.alloc,
@@ -358,10 +368,10 @@ impl Reading {
 fn check_text<S: SourceFiles + Drop, V: Write>(
     bytes: &[u8],
     drawing: &mut Drawing<'_, S>,
-    err: &mut V,
+    err: &mut Stream<V>,
 )
-    ensures does { (out : Option (List ℕ)) → Does (IsDocumentLine bytes.now)
-        (standing drawing.old out (V.contents err.old)) (standing drawing.new out (V.contents err.new)) }
+    ensures does { (out : Standing) → Does (IsDocumentLine bytes.now)
+        (standing drawing.old out (known V.contents err.old)) (standing drawing.new out (known V.contents err.new)) }
 {
     match str::from_utf8(bytes) {
         Ok(_) => {}
@@ -374,15 +384,15 @@ fn check_text<S: SourceFiles + Drop, V: Write>(
 pub fn draw_input<B: BufRead + Drop, S: SourceFiles + Drop, W: Write, V: Write>(
     input: B,
     drawing: &mut Drawing<'_, S>,
-    out: &mut W,
-    err: &mut V,
+    out: &mut Stream<W>,
+    err: &mut Stream<V>,
 ) -> Result<bool, Stop>
     ensures reads { OnOk result ((lines : List (List ℕ)) × AreAllOf (B.remaining input) lines × Does (IsInput lines)
-        (standing drawing.old (W.contents out.old) (V.contents err.old))
-        (standing drawing.new (W.contents out.new) (V.contents err.new))) }
+        (standing drawing.old (known W.contents out.old) (known V.contents err.old))
+        (standing drawing.new (known W.contents out.new) (known V.contents err.new))) }
     ensures halts { IfErr result (λ stop. (lines : List (List ℕ)) × AreFirstOf (B.remaining input) lines
-        × Halts stop lines (standing drawing.old (W.contents out.old) (V.contents err.old))
-        (standing drawing.new (W.contents out.new) (V.contents err.new))) }
+        × Halts stop lines (standing drawing.old (known W.contents out.old) (known V.contents err.old))
+        (standing drawing.new (known W.contents out.new) (known V.contents err.new))) }
 {
     let mut reading = Reading::new(drawing.alloc);
     draw_lines(input, &mut reading, drawing, out, err)?;
@@ -396,18 +406,18 @@ fn draw_lines<B: BufRead + Drop, S: SourceFiles + Drop, W: Write, V: Write>(
     mut input: B,
     reading: &mut Reading,
     drawing: &mut Drawing<'_, S>,
-    out: &mut W,
-    err: &mut V,
+    out: &mut Stream<W>,
+    err: &mut Stream<V>,
 ) -> Result<(), Stop>
     ensures reads { reading.old.document ≡ None → OnOk result ((lines : List (List ℕ))
         × AreAllOf (B.remaining input) lines
         × Does (IsSoFar lines (document_of reading.new.document))
-        (standing drawing.old (W.contents out.old) (V.contents err.old))
-        (standing drawing.new (W.contents out.new) (V.contents err.new))) }
+        (standing drawing.old (known W.contents out.old) (known V.contents err.old))
+        (standing drawing.new (known W.contents out.new) (known V.contents err.new))) }
     ensures halts { reading.old.document ≡ None → IfErr result (λ stop. (lines : List (List ℕ))
         × AreFirstOf (B.remaining input) lines
-        × Halts stop lines (standing drawing.old (W.contents out.old) (V.contents err.old))
-        (standing drawing.new (W.contents out.new) (V.contents err.new))) }
+        × Halts stop lines (standing drawing.old (known W.contents out.old) (known V.contents err.old))
+        (standing drawing.new (known W.contents out.new) (known V.contents err.new))) }
 {
     let mut line = Vec::new(drawing.alloc);
     for number in 1..u64::MAX {

@@ -1,11 +1,13 @@
 //! Values that hold what they report: a message of cargo, and a SARIF log.
 ghost use Rattle.redraw_run.specs.Deeds.{Goes, standing};
 ghost use Rattle.redraw_run.specs.Fates.{IsLog, IsReported};
+ghost use Rattle.program.specs.Standing.{known};
 
 use crate::draw::Drawing;
 use crate::sarif::draw_runs;
 use json_node::expectation::Expectation;
 use json_node::node::Node;
+use program::stream::Stream;
 use redraw_command::stop::Stop;
 use redraw_read::cargo::packaged_diagnostic_of;
 use redraw_read::json::listed;
@@ -16,11 +18,11 @@ use std::io::Write;
 pub fn cargo_message<S: SourceFiles + Drop, W: Write, V: Write>(
     node: &Node<'_, '_>,
     drawing: &mut Drawing<'_, S>,
-    out: &mut W,
-    err: &mut V,
+    out: &mut Stream<W>,
+    err: &mut Stream<V>,
 ) -> Result<(), Stop>
-    ensures does { Goes result IsReported (standing drawing.old (W.contents out.old) (V.contents err.old))
-        (standing drawing.new (W.contents out.new) (V.contents err.new)) }
+    ensures does { Goes result IsReported (standing drawing.old (known W.contents out.old) (known V.contents err.old))
+        (standing drawing.new (known W.contents out.new) (known V.contents err.new)) }
 {
     match node.needed("message", Expectation::Object) {
         Ok(message) => drawing.finding(packaged_diagnostic_of(node), Some(message.value), out, err),
@@ -32,11 +34,11 @@ pub fn cargo_message<S: SourceFiles + Drop, W: Write, V: Write>(
 pub fn sarif_log<S: SourceFiles + Drop, W: Write, V: Write>(
     node: &Node<'_, '_>,
     drawing: &mut Drawing<'_, S>,
-    out: &mut W,
-    err: &mut V,
+    out: &mut Stream<W>,
+    err: &mut Stream<V>,
 ) -> Result<(), Stop>
-    ensures does { Goes result IsLog (standing drawing.old (W.contents out.old) (V.contents err.old))
-        (standing drawing.new (W.contents out.new) (V.contents err.new)) }
+    ensures does { Goes result IsLog (standing drawing.old (known W.contents out.old) (known V.contents err.old))
+        (standing drawing.new (known W.contents out.new) (known V.contents err.new)) }
 {
     match listed(node, "runs") {
         Ok(runs) => draw_runs(runs, drawing, out, err),

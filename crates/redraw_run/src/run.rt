@@ -13,6 +13,7 @@ ghost use Rattle.redraw_run.specs.Inputs.{IsDrawnOf, asked_names, given_names, h
 ghost use Rattle.redraw_run.specs.ReadLines.{IsPrinted, SumsUp};
 ghost use Rattle.redraw_run.specs.Run.{Answers, ArePartlyPrinted, ArePrinted, Draws, EndsInput};
 ghost use Rattle.std.specs.Io.Buffered.{reader_inner, reader_remaining};
+ghost use Rattle.program.specs.Standing.{known};
 
 use crate::draw::Drawing;
 use crate::files::FilesUnder;
@@ -20,6 +21,7 @@ use crate::html;
 use crate::input::draw_input;
 use crate::look::renderer_for;
 use crate::write::pass;
+use program::stream::Stream;
 use redraw_command::arguments::{Request, matches_of, request_of};
 use redraw_command::relative::folder_of;
 use redraw_command::seen::{Names, Seen};
@@ -38,12 +40,13 @@ pub fn run<'w, R: Files + Input + AllocGlobal, W: Write, V: Write>(
     rt: &R,
     args: &'w [&'w str],
     around: Surroundings<'w>,
-    out: &mut W,
-    err: &mut V,
+    out: &mut Stream<W>,
+    err: &mut Stream<V>,
 ) -> u8
     ensures status { result ≤ 2 }
     ensures answers { Answers (held_by R.File.remaining R.Reader.remaining) (arguments_at args.now) around.entry
-        (W.contents out.old) (V.contents err.old) (W.contents out.new) (V.contents err.new) result }
+        (known W.contents out.old) (known V.contents err.old) (known W.contents out.new) (known V.contents err.new)
+        result }
 {
     match matches_of(rt.alloc(), args) {
         Ok(matches) => draw_all(rt, request_of(&matches), around, out, err),
@@ -55,19 +58,20 @@ pub fn run<'w, R: Files + Input + AllocGlobal, W: Write, V: Write>(
 fn answer_error<W: Write, V: Write>(
     alloc: Global,
     error: &clap::Error,
-    out: &mut W,
-    err: &mut V,
+    out: &mut Stream<W>,
+    err: &mut Stream<V>,
 ) -> u8
     ensures usage_error { kind_of error.now ≢ kind.DisplayHelp → kind_of error.now ≢ kind.DisplayVersion
         → (result ≡ 2) × (out.new ≡ out.old) }
     ensures told { kind_of error.now ≢ kind.DisplayHelp → kind_of error.now ≢ kind.DisplayVersion
-        → TellsOfArguments (V.contents err.old) (V.contents err.new) }
-    ensures memory { kind_of error.now ≡ kind.OutOfMemory → TellsMemory (V.contents err.old) (V.contents err.new) }
+        → TellsOfArguments (known V.contents err.old) (known V.contents err.new) }
+    ensures memory { kind_of error.now ≡ kind.OutOfMemory
+        → TellsMemory (known V.contents err.old) (known V.contents err.new) }
     ensures status { result ≤ 2 }
     ensures asked { (kind_of error.now ≡ kind.DisplayHelp) ⊎ (kind_of error.now ≡ kind.DisplayVersion) → err.new
         ≡ err.old }
     ensures printed { (kind_of error.now ≡ kind.DisplayHelp) ⊎ (kind_of error.now ≡ kind.DisplayVersion)
-        → IsPrinted (W.contents out.old) (W.contents out.new) result }
+        → IsPrinted (known W.contents out.old) (known W.contents out.new) result }
 {
     if error.use_stderr() {
         tell_error(alloc, error, err);
@@ -77,8 +81,8 @@ fn answer_error<W: Write, V: Write>(
 }
 
 /// Prints the help or the version.
-fn print_error<W: Write>(alloc: Global, error: &clap::Error, out: &mut W) -> u8
-    ensures printed { IsPrinted (W.contents out.old) (W.contents out.new) result }
+fn print_error<W: Write>(alloc: Global, error: &clap::Error, out: &mut Stream<W>) -> u8
+    ensures printed { IsPrinted (known W.contents out.old) (known W.contents out.new) result }
     ensures status { result ≤ 2 }
 {
     match format!(in alloc; "{error}") {
@@ -88,8 +92,8 @@ fn print_error<W: Write>(alloc: Global, error: &clap::Error, out: &mut W) -> u8
 }
 
 /// Prints a text.
-fn print_text<W: Write>(text: &str, out: &mut W) -> u8
-    ensures printed { IsPrinted (W.contents out.old) (W.contents out.new) result }
+fn print_text<W: Write>(text: &str, out: &mut Stream<W>) -> u8
+    ensures printed { IsPrinted (known W.contents out.old) (known W.contents out.new) result }
     ensures status { result ≤ 2 }
 {
     match pass(text.as_bytes(), out) {
@@ -103,12 +107,13 @@ fn draw_all<'w, R: Files + Input + AllocGlobal, W: Write, V: Write>(
     rt: &R,
     request: Request<'_, 'w>,
     around: Surroundings<'w>,
-    out: &mut W,
-    err: &mut V,
+    out: &mut Stream<W>,
+    err: &mut Stream<V>,
 ) -> u8
     ensures status { result ≤ 2 }
     ensures draws { Draws (held_by R.File.remaining R.Reader.remaining) request.entry around.entry
-        (W.contents out.old) (V.contents err.old) (W.contents out.new) (V.contents err.new) result }
+        (known W.contents out.old) (known V.contents err.old) (known W.contents out.new) (known V.contents err.new)
+        result }
 {
     let alloc = rt.alloc();
     let Ok(folder) = folder_of(alloc, request.root, around) else {
@@ -152,17 +157,17 @@ fn draw_document<'r, R: Files + Input + AllocGlobal, S: SourceFiles + Drop, W: W
     rt: &R,
     names: Option<&[&'r str]>,
     drawing: &mut Drawing<'r, S>,
-    out: &mut W,
-    err: &mut V,
+    out: &mut Stream<W>,
+    err: &mut Stream<V>,
 ) -> io::Result<bool>
     ensures drawn { IfOk result (λ is_whole. ArePrinted R.File R.Reader (held_by R.File.remaining R.Reader.remaining)
         (asked_names names.entry) is_whole
-        (standing drawing.old (W.contents out.old) (V.contents err.old))
-        (standing drawing.new (W.contents out.new) (V.contents err.new))) }
+        (standing drawing.old (known W.contents out.old) (known V.contents err.old))
+        (standing drawing.new (known W.contents out.new) (known V.contents err.new))) }
     ensures cut { IfErr result (λ error. ArePartlyPrinted (held_by R.File.remaining R.Reader.remaining)
         (asked_names names.entry)
-        (standing drawing.old (W.contents out.old) (V.contents err.old))
-        (standing drawing.new (W.contents out.new) (V.contents err.new))) }
+        (standing drawing.old (known W.contents out.old) (known V.contents err.old))
+        (standing drawing.new (known W.contents out.new) (known V.contents err.new))) }
 {
     let is_html = drawing.renderer.is_html;
     html::begin(is_html, out)?;
@@ -180,17 +185,17 @@ fn draw_inputs<'r, R: Files + Input + AllocGlobal, S: SourceFiles + Drop, W: Wri
     rt: &R,
     names: Option<&[&'r str]>,
     drawing: &mut Drawing<'r, S>,
-    out: &mut W,
-    err: &mut V,
+    out: &mut Stream<W>,
+    err: &mut Stream<V>,
 ) -> io::Result<bool>
     ensures drawn { IfOk result (λ is_whole. AreDrawn R.File R.Reader (held_by R.File.remaining R.Reader.remaining)
         (asked_names names.entry) is_whole
-        (standing drawing.old (W.contents out.old) (V.contents err.old))
-        (standing drawing.new (W.contents out.new) (V.contents err.new))) }
+        (standing drawing.old (known W.contents out.old) (known V.contents err.old))
+        (standing drawing.new (known W.contents out.new) (known V.contents err.new))) }
     ensures cut { IfErr result (λ error. AreCut R.File R.Reader (held_by R.File.remaining R.Reader.remaining)
         (asked_names names.entry)
-        (standing drawing.old (W.contents out.old) (V.contents err.old))
-        (standing drawing.new (W.contents out.new) (V.contents err.new))) }
+        (standing drawing.old (known W.contents out.old) (known V.contents err.old))
+        (standing drawing.new (known W.contents out.new) (known V.contents err.new))) }
 {
     match names {
         Some(names) => draw_given(rt, names, drawing, out, err),
@@ -203,17 +208,17 @@ fn draw_given<'r, R: Files + Input + AllocGlobal, S: SourceFiles + Drop, W: Writ
     rt: &R,
     names: &[&'r str],
     drawing: &mut Drawing<'r, S>,
-    out: &mut W,
-    err: &mut V,
+    out: &mut Stream<W>,
+    err: &mut Stream<V>,
 ) -> io::Result<bool>
     ensures drawn { IfOk result (λ is_whole. AreDrawn R.File R.Reader (held_by R.File.remaining R.Reader.remaining)
         (given_names names.now) is_whole
-        (standing drawing.old (W.contents out.old) (V.contents err.old))
-        (standing drawing.new (W.contents out.new) (V.contents err.new))) }
+        (standing drawing.old (known W.contents out.old) (known V.contents err.old))
+        (standing drawing.new (known W.contents out.new) (known V.contents err.new))) }
     ensures cut { IfErr result (λ error. AreCut R.File R.Reader (held_by R.File.remaining R.Reader.remaining)
         (given_names names.now)
-        (standing drawing.old (W.contents out.old) (V.contents err.old))
-        (standing drawing.new (W.contents out.new) (V.contents err.new))) }
+        (standing drawing.old (known W.contents out.old) (known V.contents err.old))
+        (standing drawing.new (known W.contents out.new) (known V.contents err.new))) }
 {
     if names.is_empty() {
         draw_standard(rt, drawing, out, err)
@@ -227,17 +232,17 @@ fn draw_each<'r, R: Files + Input + AllocGlobal, S: SourceFiles + Drop, W: Write
     rt: &R,
     names: &[&'r str],
     drawing: &mut Drawing<'r, S>,
-    out: &mut W,
-    err: &mut V,
+    out: &mut Stream<W>,
+    err: &mut Stream<V>,
 ) -> io::Result<bool>
     ensures drawn { IfOk result (λ is_whole. AreDrawn R.File R.Reader (held_by R.File.remaining R.Reader.remaining)
         (map (λ name. name.now) names.now) is_whole
-        (standing drawing.old (W.contents out.old) (V.contents err.old))
-        (standing drawing.new (W.contents out.new) (V.contents err.new))) }
+        (standing drawing.old (known W.contents out.old) (known V.contents err.old))
+        (standing drawing.new (known W.contents out.new) (known V.contents err.new))) }
     ensures cut { IfErr result (λ error. AreCut R.File R.Reader (held_by R.File.remaining R.Reader.remaining)
         (map (λ name. name.now) names.now)
-        (standing drawing.old (W.contents out.old) (V.contents err.old))
-        (standing drawing.new (W.contents out.new) (V.contents err.new))) }
+        (standing drawing.old (known W.contents out.old) (known V.contents err.old))
+        (standing drawing.new (known W.contents out.new) (known V.contents err.new))) }
 {
     let mut is_whole = true;
     for name in names {
@@ -259,17 +264,17 @@ fn draw_named<'r, R: Files + Input + AllocGlobal, S: SourceFiles + Drop, W: Writ
     rt: &R,
     name: &'r str,
     drawing: &mut Drawing<'r, S>,
-    out: &mut W,
-    err: &mut V,
+    out: &mut Stream<W>,
+    err: &mut Stream<V>,
 ) -> io::Result<bool>
     ensures drawn { IfOk result (λ is_whole. IsDrawnOf
         (held_by R.File.remaining R.Reader.remaining) name.now is_whole
-        (standing drawing.old (W.contents out.old) (V.contents err.old))
-        (standing drawing.new (W.contents out.new) (V.contents err.new))) }
+        (standing drawing.old (known W.contents out.old) (known V.contents err.old))
+        (standing drawing.new (known W.contents out.new) (known V.contents err.new))) }
     ensures cut { IfErr result (λ error. IsInputCut
         (held_by R.File.remaining R.Reader.remaining) name.now
-        (standing drawing.old (W.contents out.old) (V.contents err.old))
-        (standing drawing.new (W.contents out.new) (V.contents err.new))) }
+        (standing drawing.old (known W.contents out.old) (known V.contents err.old))
+        (standing drawing.new (known W.contents out.new) (known V.contents err.new))) }
 {
     if name == "-" {
         draw_standard(rt, drawing, out, err)
@@ -283,15 +288,15 @@ fn draw_named<'r, R: Files + Input + AllocGlobal, S: SourceFiles + Drop, W: Writ
 fn draw_standard<R: Files + Input + AllocGlobal, S: SourceFiles + Drop, W: Write, V: Write>(
     rt: &R,
     drawing: &mut Drawing<'_, S>,
-    out: &mut W,
-    err: &mut V,
+    out: &mut Stream<W>,
+    err: &mut Stream<V>,
 ) -> io::Result<bool>
     ensures drawn { IfOk result (λ is_whole. IsDrawnIn R.Reader.remaining is_whole
-        (standing drawing.old (W.contents out.old) (V.contents err.old))
-        (standing drawing.new (W.contents out.new) (V.contents err.new))) }
+        (standing drawing.old (known W.contents out.old) (known V.contents err.old))
+        (standing drawing.new (known W.contents out.new) (known V.contents err.new))) }
     ensures cut { IfErr result (λ error. IsCutIn R.Reader.remaining
-        (standing drawing.old (W.contents out.old) (V.contents err.old))
-        (standing drawing.new (W.contents out.new) (V.contents err.new))) }
+        (standing drawing.old (known W.contents out.old) (known V.contents err.old))
+        (standing drawing.new (known W.contents out.new) (known V.contents err.new))) }
 {
     drawing.input = INPUT;
     draw_opened(opened_standard(rt), drawing, out, err)
@@ -302,15 +307,15 @@ fn draw_file<R: Files + AllocGlobal, S: SourceFiles + Drop, W: Write, V: Write>(
     rt: &R,
     name: &str,
     drawing: &mut Drawing<'_, S>,
-    out: &mut W,
-    err: &mut V,
+    out: &mut Stream<W>,
+    err: &mut Stream<V>,
 ) -> io::Result<bool>
     ensures drawn { IfOk result (λ is_whole. IsDrawnIn R.File.remaining is_whole
-        (standing drawing.old (W.contents out.old) (V.contents err.old))
-        (standing drawing.new (W.contents out.new) (V.contents err.new))) }
+        (standing drawing.old (known W.contents out.old) (known V.contents err.old))
+        (standing drawing.new (known W.contents out.new) (known V.contents err.new))) }
     ensures cut { IfErr result (λ error. IsCutIn R.File.remaining
-        (standing drawing.old (W.contents out.old) (V.contents err.old))
-        (standing drawing.new (W.contents out.new) (V.contents err.new))) }
+        (standing drawing.old (known W.contents out.old) (known V.contents err.old))
+        (standing drawing.new (known W.contents out.new) (known V.contents err.new))) }
 {
     draw_opened(opened(rt, name), drawing, out, err)
 }
@@ -338,15 +343,15 @@ fn opened_standard<R: Input + AllocGlobal>(rt: &R) -> io::Result<BufReader<R::Re
 pub fn draw_opened<B: BufRead + Drop, S: SourceFiles + Drop, W: Write, V: Write>(
     input: io::Result<B>,
     drawing: &mut Drawing<'_, S>,
-    out: &mut W,
-    err: &mut V,
+    out: &mut Stream<W>,
+    err: &mut Stream<V>,
 ) -> io::Result<bool>
     ensures drawn { IfOk result (λ is_whole. IsDrawnFrom (held_in B.remaining input) is_whole
-        (standing drawing.old (W.contents out.old) (V.contents err.old))
-        (standing drawing.new (W.contents out.new) (V.contents err.new))) }
+        (standing drawing.old (known W.contents out.old) (known V.contents err.old))
+        (standing drawing.new (known W.contents out.new) (known V.contents err.new))) }
     ensures cut { IfErr result (λ error. IsCutFrom (held_in B.remaining input)
-        (standing drawing.old (W.contents out.old) (V.contents err.old))
-        (standing drawing.new (W.contents out.new) (V.contents err.new))) }
+        (standing drawing.old (known W.contents out.old) (known V.contents err.old))
+        (standing drawing.new (known W.contents out.new) (known V.contents err.new))) }
 {
     drawing.line = 0;
     match input {
@@ -360,9 +365,9 @@ pub fn draw_opened<B: BufRead + Drop, S: SourceFiles + Drop, W: Write, V: Write>
 fn end_input<S: SourceFiles + Drop, V: Write>(
     drawn: Result<bool, Stop>,
     drawing: &Drawing<'_, S>,
-    err: &mut V,
+    err: &mut Stream<V>,
 ) -> io::Result<bool>
-    ensures ends { EndsInput drawn result (V.contents err.old) (V.contents err.new) }
+    ensures ends { EndsInput drawn result (known V.contents err.old) (known V.contents err.new) }
 {
     match drawn {
         Ok(is_known) => Ok(is_known),
@@ -375,10 +380,10 @@ fn end_input<S: SourceFiles + Drop, V: Write>(
 }
 
 /// Tells why nothing can be written, unless whoever read it has closed the pipe, and answers the status to end with.
-fn end_unwritten<V: Write>(alloc: Global, error: io::Error, err: &mut V) -> u8
+fn end_unwritten<V: Write>(alloc: Global, error: io::Error, err: &mut Stream<V>) -> u8
     ensures status { result ≡ 2 }
     ensures silent { error_kind error ≡ BrokenPipe → err.new ≡ err.old }
-    ensures told { (error_kind error ≡ BrokenPipe) ⊎ Tells (V.contents err.old) (V.contents err.new) }
+    ensures told { (error_kind error ≡ BrokenPipe) ⊎ Tells (known V.contents err.old) (known V.contents err.new) }
 {
     if error.kind() == io::ErrorKind::BrokenPipe {
         return FAILED;
@@ -388,10 +393,16 @@ fn end_unwritten<V: Write>(alloc: Global, error: io::Error, err: &mut V) -> u8
 }
 
 /// Sums up what was drawn, and answers the status to end with.
-fn finish<V: Write>(alloc: Global, tally: &Tally, is_quiet: bool, is_whole: bool, err: &mut V) -> u8
+fn finish<V: Write>(
+    alloc: Global,
+    tally: &Tally,
+    is_quiet: bool,
+    is_whole: bool,
+    err: &mut Stream<V>,
+) -> u8
     ensures status { result ≡ status_of tally.now is_whole }
     ensures quiet { is_quiet ≡ true → err.new ≡ err.old }
-    ensures last { SumsUp is_quiet tally.now (V.contents err.old) (V.contents err.new) }
+    ensures last { SumsUp is_quiet tally.now (known V.contents err.old) (known V.contents err.new) }
 {
     if has_no_sum(tally, is_quiet) {
         return tally.status(is_whole);

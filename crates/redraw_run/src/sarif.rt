@@ -3,10 +3,12 @@ ghost use Rattle.std.specs.Prelude.{◌≡◌, IfErr, OnOk, map};
 ghost use Rattle.serde_json.specs.View.{view};
 ghost use Rattle.redraw_run.specs.Deeds.{Does, Goes, TellsAll, standing};
 ghost use Rattle.redraw_run.specs.Fates.{AreRuns, Each, IsResult, IsLogRun};
+ghost use Rattle.program.specs.Standing.{known};
 
 use crate::draw::Drawing;
 use json_node::lenient::{List, Node, Problems};
 use json_node::place::Place;
+use program::stream::Stream;
 use redraw_command::stop::Stop;
 use redraw_read::sources::SourceFiles;
 use redraw_sarif::sarif::Run;
@@ -17,14 +19,14 @@ use std::io::Write;
 pub fn draw_runs<S: SourceFiles + Drop, W: Write, V: Write>(
     runs: &[Value],
     drawing: &mut Drawing<'_, S>,
-    out: &mut W,
-    err: &mut V,
+    out: &mut Stream<W>,
+    err: &mut Stream<V>,
 ) -> Result<(), Stop>
-    ensures does { Goes result AreRuns (standing drawing.old (W.contents out.old) (V.contents err.old))
-        (standing drawing.new (W.contents out.new) (V.contents err.new)) }
+    ensures does { Goes result AreRuns (standing drawing.old (known W.contents out.old) (known V.contents err.old))
+        (standing drawing.new (known W.contents out.new) (known V.contents err.new)) }
     ensures each { OnOk result (Does (Each (λ run. IsLogRun) (map view runs.now))
-        (standing drawing.old (W.contents out.old) (V.contents err.old))
-        (standing drawing.new (W.contents out.new) (V.contents err.new))) }
+        (standing drawing.old (known W.contents out.old) (known V.contents err.old))
+        (standing drawing.new (known W.contents out.new) (known V.contents err.new))) }
 {
     let document = Place::Document;
     let runs = List {
@@ -41,11 +43,11 @@ pub fn draw_runs<S: SourceFiles + Drop, W: Write, V: Write>(
 fn draw_run<S: SourceFiles + Drop, W: Write, V: Write>(
     node: Node<'_, '_>,
     drawing: &mut Drawing<'_, S>,
-    out: &mut W,
-    err: &mut V,
+    out: &mut Stream<W>,
+    err: &mut Stream<V>,
 ) -> Result<(), Stop>
-    ensures does { Goes result IsLogRun (standing drawing.old (W.contents out.old) (V.contents err.old))
-        (standing drawing.new (W.contents out.new) (V.contents err.new)) }
+    ensures does { Goes result IsLogRun (standing drawing.old (known W.contents out.old) (known V.contents err.old))
+        (standing drawing.new (known W.contents out.new) (known V.contents err.new)) }
 {
     let mut problems = Problems::new(drawing.alloc);
     let run = Run::new(node, &mut problems);
@@ -62,11 +64,11 @@ fn draw_result<'v, S: SourceFiles + Drop, W: Write, V: Write>(
     run: &Run<'v, '_>,
     reported: &Node<'v, '_>,
     drawing: &mut Drawing<'_, S>,
-    out: &mut W,
-    err: &mut V,
+    out: &mut Stream<W>,
+    err: &mut Stream<V>,
 ) -> Result<(), Stop>
-    ensures does { Goes result IsResult (standing drawing.old (W.contents out.old) (V.contents err.old))
-        (standing drawing.new (W.contents out.new) (V.contents err.new)) }
+    ensures does { Goes result IsResult (standing drawing.old (known W.contents out.old) (known V.contents err.old))
+        (standing drawing.new (known W.contents out.new) (known V.contents err.new)) }
 {
     let mut problems = Problems::new(drawing.alloc);
     let found = run.finding(drawing.alloc, reported, &mut problems)?;
@@ -84,9 +86,9 @@ fn draw_result<'v, S: SourceFiles + Drop, W: Write, V: Write>(
 fn tell_all<S: SourceFiles + Drop, V: Write>(
     problems: &Problems,
     drawing: &Drawing<'_, S>,
-    err: &mut V,
+    err: &mut Stream<V>,
 ) -> Result<(), Stop>
-    ensures told { TellsAll (V.contents err.old) (V.contents err.new) }
+    ensures told { TellsAll (known V.contents err.old) (known V.contents err.new) }
     ensures memory { IfErr result (λ stop. stop ≡ Stop.Memory) }
 {
     for line in &problems.lines {

@@ -1,9 +1,9 @@
 //! What goes to standard output.
 ghost use Rattle.std.specs.Prelude.{◌++◌, [], ◌∷◌, OnOk};
-ghost use Rattle.std.specs.Io.KnownBytes.{Appends};
 ghost use Rattle.redraw_run.specs.Deeds.{Writes};
+ghost use Rattle.program.specs.Standing.{Adds, known};
 
-use program::line::write_whole;
+use program::stream::Stream;
 use redraw_command::stop::Stop;
 use std::io::Write;
 
@@ -11,10 +11,11 @@ use std::io::Write;
 const LINE_END: &[u8] = b"\n";
 
 /// Prints a text with its ending, and a line feed.
-pub fn print<W: Write>(text: &str, ending: &str, out: &mut W) -> Result<(), Stop>
+pub fn print<W: Write>(text: &str, ending: &str, out: &mut Stream<W>) -> Result<(), Stop>
     ensures printed { OnOk result
-        (Appends (W.contents out.old) (W.contents out.new) (text.now ++ (ending.now ++ 10 ∷ []))) }
-    ensures writes { Writes result (W.contents out.old) (W.contents out.new) (text.now ++ (ending.now ++ 10 ∷ [])) }
+        (Adds (known W.contents out.old) (known W.contents out.new) (text.now ++ (ending.now ++ 10 ∷ []))) }
+    ensures writes { Writes result (known W.contents out.old) (known W.contents out.new)
+        (text.now ++ (ending.now ++ 10 ∷ [])) }
 {
     match write(text.as_bytes(), out) {
         Ok(()) => end_line(ending, out),
@@ -23,8 +24,8 @@ pub fn print<W: Write>(text: &str, ending: &str, out: &mut W) -> Result<(), Stop
 }
 
 /// Prints what stands after a text, and a line feed.
-fn end_line<W: Write>(ending: &str, out: &mut W) -> Result<(), Stop>
-    ensures writes { Writes result (W.contents out.old) (W.contents out.new) (ending.now ++ 10 ∷ []) }
+fn end_line<W: Write>(ending: &str, out: &mut Stream<W>) -> Result<(), Stop>
+    ensures writes { Writes result (known W.contents out.old) (known W.contents out.new) (ending.now ++ 10 ∷ []) }
 {
     match write(ending.as_bytes(), out) {
         Ok(()) => pass(LINE_END, out),
@@ -33,9 +34,9 @@ fn end_line<W: Write>(ending: &str, out: &mut W) -> Result<(), Stop>
 }
 
 /// Hands on a part of the input as it is.
-pub fn pass<W: Write>(bytes: &[u8], out: &mut W) -> Result<(), Stop>
-    ensures passed { OnOk result (Appends (W.contents out.old) (W.contents out.new) bytes.now) }
-    ensures writes { Writes result (W.contents out.old) (W.contents out.new) bytes.now }
+pub fn pass<W: Write>(bytes: &[u8], out: &mut Stream<W>) -> Result<(), Stop>
+    ensures passed { OnOk result (Adds (known W.contents out.old) (known W.contents out.new) bytes.now) }
+    ensures writes { Writes result (known W.contents out.old) (known W.contents out.new) bytes.now }
 {
     match write(bytes, out) {
         Ok(()) => flush(out),
@@ -44,8 +45,8 @@ pub fn pass<W: Write>(bytes: &[u8], out: &mut W) -> Result<(), Stop>
 }
 
 /// Hands on what was written.
-fn flush<W: Write>(out: &mut W) -> Result<(), Stop>
-    ensures writes { Writes result (W.contents out.old) (W.contents out.new) [] }
+fn flush<W: Write>(out: &mut Stream<W>) -> Result<(), Stop>
+    ensures writes { Writes result (known W.contents out.old) (known W.contents out.new) [] }
 {
     match out.flush() {
         Ok(()) => Ok(()),
@@ -54,10 +55,10 @@ fn flush<W: Write>(out: &mut W) -> Result<(), Stop>
 }
 
 /// Writes these bytes.
-fn write<W: Write>(bytes: &[u8], out: &mut W) -> Result<(), Stop>
-    ensures writes { Writes result (W.contents out.old) (W.contents out.new) bytes.now }
+fn write<W: Write>(bytes: &[u8], out: &mut Stream<W>) -> Result<(), Stop>
+    ensures writes { Writes result (known W.contents out.old) (known W.contents out.new) bytes.now }
 {
-    match write_whole(bytes, out) {
+    match out.write(bytes) {
         Ok(()) => Ok(()),
         Err(error) => Err(Stop::Unwritable(error)),
     }

@@ -1,6 +1,6 @@
 use Rattle.std.proofs.Common.{◌++◌, ap, sym}
 use Rattle.redraw_run.specs.HtmlDocument.{head, styles}
-use Rattle.redraw_run.proofs.Done.{part_first, prints_then, writes_cut}
+use Rattle.redraw_run.proofs.Done.{prints_then, writes_cut}
 use Rattle.redraw_run.proofs.html.print_head.Goals as goal
 
 pub returns-in-Ok : goal.returns-in-Ok
@@ -14,4 +14,4 @@ returns-in-Ok g c =
 pub returns-in-Err : goal.returns-in-Err
 unfolding head
 returns-in-Err g c =
-    record { prints = writes_cut _ _ _ styles _ (ap (λ l. l ++ styles) (sym c.as_bytes.ensures.value)) (part_first _ _ _ c.in-Err.ensures.cut) }
+    record { prints = writes_cut _ _ _ styles _ (ap (λ l. l ++ styles) (sym c.as_bytes.ensures.value)) c.in-Err.ensures.cut.broken }

@@ -1,6 +1,6 @@
 use Rattle.std.proofs.Common.{◌++◌, ap, codes, sym}
 use Rattle.redraw_run.specs.HtmlDocument.{styles}
-use Rattle.redraw_run.proofs.Done.{part_first, prints_then, writes_cut}
+use Rattle.redraw_run.proofs.Done.{prints_then, writes_cut}
 use Rattle.redraw_run.proofs.html.print_styles.Goals as goal
 
 pub returns-in-Ok : goal.returns-in-Ok
@@ -16,4 +16,4 @@ pub returns-in-Err : goal.returns-in-Err
 unfolding styles
 returns-in-Err g c =
     let body = codes "</style>\n</head>\n<body>\n<pre>\n" in
-    record { prints = writes_cut _ _ _ body _ (ap (λ l. l ++ body) (sym c.as_bytes.ensures.value)) (part_first _ _ _ c.in-Err.ensures.cut) }
+    record { prints = writes_cut _ _ _ body _ (ap (λ l. l ++ body) (sym c.as_bytes.ensures.value)) c.in-Err.ensures.cut.broken }

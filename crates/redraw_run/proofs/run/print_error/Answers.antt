@@ -1,7 +1,5 @@
-use Rattle.std.proofs.Common.{[], inr, refl}
-use Rattle.std.proofs.KnownBytes.{Appends-nil}
-use Rattle.redraw_run.proofs.Doing.{first_all}
+use Rattle.std.proofs.Common.{inr, refl}
 use Rattle.redraw_run.proofs.run.print_error.Goals as goal
 
 pub returns-in-Err-clause-printed : goal.returns-in-Err-clause-printed
-returns-in-Err-clause-printed g c = ([], inr (first_all _ _ [] (Appends-nil _), refl))
+returns-in-Err-clause-printed g c = inr (inr (refl, refl))

@@ -4,6 +4,7 @@ use Rattle.clap.specs.Words.{kind_of}
 use Rattle.redraw_command.specs.Arguments.{IsRequestOf, arguments_at}
 use Rattle.redraw_run.specs.Inputs.{held_by}
 use Rattle.redraw_run.proofs.Asking.{answers_error}
+use Rattle.program.specs.Standing.{known}
 use Rattle.redraw_run.proofs.run.run.Goals as goal
 
 pub returns-in-Ok-clause-answers : goal.returns-in-Ok-clause-answers
@@ -28,10 +29,10 @@ returns-in-Err-clause-answers g c =
       answers_error (held_by g.R.File.Read.remaining g.R.Reader.Read.remaining) app (arguments_at c.args.args.now) c.args.around (kind_of c.in-Err.error)
           _ _ _ _ c.answer_error.result
           record {
-            usage_error = λ help version. let failed = ends.usage_error help version in (failed.0, ap g.W.Write.contents failed.1);
+            usage_error = λ help version. let failed = ends.usage_error help version in (failed.0, ap (known g.W.Write.contents) failed.1);
             told = ends.told;
             memory = ends.memory;
-            asked = λ shown. ap g.V.Write.contents (ends.asked shown);
+            asked = λ shown. ap (known g.V.Write.contents) (ends.asked shown);
             printed = ends.printed;
           }
           fails,

@@ -1,6 +1,7 @@
 use Rattle.std.proofs.Common.{inl, inr}
 use Rattle.redraw_run.specs.Fates.{IsDrawing, IsShown, IsWritten}
 use Rattle.redraw_run.proofs.Doing.{goes_as}
+use Rattle.program.specs.Standing.{known}
 use Rattle.redraw_run.proofs.draw.Drawing.draw.Goals as goal
 
 pub returns-in-Report-clause-does : goal.returns-in-Report-clause-does
@@ -12,4 +13,4 @@ pub returns-in-Workflow-clause-does : goal.returns-in-Workflow-clause-does
 returns-in-Workflow-clause-does g c =
     let d = c.args.diagnostic.now in
     goes_as (IsWritten d) (IsDrawing d) _ _ c.draw_command.result (λ ds h. inr (c.in-Workflow.is, h))
-    (c.draw_command.ensures.does c.in-Workflow.is (g.V.Write.contents c.args.err.now))
+    (c.draw_command.ensures.does c.in-Workflow.is (known g.V.Write.contents c.args.err.now))

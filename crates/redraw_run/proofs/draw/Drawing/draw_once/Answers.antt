@@ -16,6 +16,7 @@ use Rattle.redraw_run.specs.Fates.{IsChosen, IsDrawing}
 use Rattle.redraw_run.proofs.Doing.{does_as, goes_after, goes_as, goes_err, stops_none}
 use Rattle.redraw_run.proofs.Done.{does_repeated, does_same}
 use Rattle.redraw_run.proofs.Fated.{chosen_again}
+use Rattle.program.specs.Standing.{Standing}
 use Rattle.redraw_run.proofs.draw.Drawing.draw_once.Goals as goal
 
 pub returns-in_err-is_seen-clause-does : goal.returns-in_err-is_seen-clause-does
@@ -42,7 +43,7 @@ returns-then-is_seen-clause-does g c =
     (c.in_ok-is_seen.ensures.counted ∙ ap (λ (b : Bool). if b then repeated t else t) c.if-is_seen.true) kept.0 kept.1)
 
 -- what is drawn is drawn for the same choice, in the same settings, from the same tally
-drawn_for : {a b : Choice} {r s : ReportRenderer} {t u : Tally} (files : List File) (d : Diagnostic) (o n : Option (List ℕ)) (Same : Type 0) (after : Tally)
+drawn_for : {a b : Choice} {r s : ReportRenderer} {t u : Tally} (files : List File) (d : Diagnostic) (o n : Standing) (Same : Type 0) (after : Tally)
     → a ≡ b → r ≡ s → t ≡ u → DrawsFinding a.form r files d o n Same t after → DrawsFinding b.form s files d o n Same u after
 drawn_for {a} {b} {r} {s} {t} {u} files d o n Same after p q w h =
     subst (λ (x : Choice). DrawsFinding x.form s files d o n Same u after) p

@@ -9,6 +9,7 @@ use Rattle.redraw_run.proofs.Done.{does_same}
 use Rattle.redraw_run.proofs.Fated.{messages_then, shown_part, shown_some, shown_then}
 use Rattle.redraw_run.proofs.Refusing.{draws_as, draws_report}
 use Rattle.redraw_run.proofs.Telling.{done_so, same_files, same_unread, tells_about, tells_of}
+use Rattle.program.specs.Standing.{known}
 use Rattle.redraw_run.proofs.draw.Drawing.draw_report.Goals as goal
 
 pub returns-in_err-load_files-clause-does : goal.returns-in_err-load_files-clause-does
@@ -20,14 +21,14 @@ pub returns-in_err-drawn-clause-does : goal.returns-in_err-drawn-clause-does
 returns-in_err-drawn-clause-does g c = λ form.
     goes_err (IsShown c.args.diagnostic.now) _ _ c.from_residual-in_err-drawn.result c.from_residual-in_err-drawn.ensures.1
     (λ s q. stops_any s q
-    (does_as (shown_part c.args.diagnostic.now c.args.self.now.choice) (c.tell_unread.ensures.does (g.W.Write.contents c.args.out.now))))
+    (does_as (shown_part c.args.diagnostic.now c.args.self.now.choice) (c.tell_unread.ensures.does (known g.W.Write.contents c.args.out.now))))
 
 pub returns-clause-does : goal.returns-clause-does
 returns-clause-does g c = λ form.
     let d = c.args.diagnostic.now in
     goes_as (Then AreMessages (IsShown d)) (IsShown d) _ _ c.print_drawn.result (shown_then d _)
     (goes_then AreMessages (IsShown d) _ _ _ c.print_drawn.result (shown_some d)
-    (does_as (messages_then _) (does_then (c.tell_unread.ensures.does (g.W.Write.contents c.args.out.now)) (c.tell_inexact.ensures.does _)))
+    (does_as (messages_then _) (does_then (c.tell_unread.ensures.does (known g.W.Write.contents c.args.out.now)) (c.tell_inexact.ensures.does _)))
     (c.print_drawn.ensures.does (ap (λ (x : Choice). x.form) c.tell_unread.ensures.kept.1 ∙ form) _ c.in_ok-drawn.ensures.shows c.in_ok-drawn.ensures.refused))
 
 pub returns-clause-draws : goal.returns-clause-draws
@@ -42,10 +43,10 @@ pub returns-clause-tells : goal.returns-clause-tells
 returns-clause-tells g c =
     let kept = c.tell_unread.ensures.kept in
     let each = c.tell_inexact.ensures.each in
-    let old = g.V.Write.contents c.args.err.now in
-    let named = g.V.Write.contents c.tell_unread.new.err in
-    let before = g.V.Write.contents c.tell_inexact.new.err in
-    tells_about g.V.Write.contents c.print_drawn.result c.in_ok-drawn.drawn.text c.args.diagnostic.now old c.tell_inexact.new.err c.print_drawn.new.err
+    let old = known g.V.Write.contents c.args.err.now in
+    let named = known g.V.Write.contents c.tell_unread.new.err in
+    let before = known g.V.Write.contents c.tell_inexact.new.err in
+    tells_about (known g.V.Write.contents) c.print_drawn.result c.in_ok-drawn.drawn.text c.args.diagnostic.now old c.tell_inexact.new.err c.print_drawn.new.err
     (tells_of c.load_files.new.sources.unread.items c.args.diagnostic.now c.in_ok-drawn.drawn.clamped c.in_ok-drawn.drawn.undrawn old named each.0 before
     (ap (λ (r : ReportRenderer). r.settings.short_message) kept.0)
     (ap (λ (files : Vec File). files.items) (sym c.tell_unread.ensures.files)) (same_files _ _ c.print_drawn.ensures.sources)
