@@ -1,10 +1,13 @@
 pub mod After
 pub mod AllNext
 pub mod Counting
+pub mod GivenRoles
 pub mod Loading
 pub mod NotCounted
 pub mod NotLoaded
+pub mod NotShown
 pub mod Offered
 mod Rows
 pub mod Settled
+pub mod Shown
 pub mod Walked

@@ -1,4 +1,5 @@
 -- The vocabulary of what is read for a report.
+pub mod AsShown
 pub mod Counted
 pub mod Extract
 pub mod Loaded

@@ -1,50 +1,89 @@
 //! The columns of places in files that rustc hasn't at hand, as those of the standard library: its text has one that is
 //! less by one than its JSON's.
 
+ghost use Rattle.std.specs.Prelude.{◌≡◌, IfOk, map, string_bytes};
+ghost use Rattle.redraw_read.specs.AsShown.{place_shown};
+ghost use Rattle.redraw_read.specs.AsShown as spec;
+
+use crate::words::after_first;
 use redraw_report::diagnostic::{FileSpan, LineRegion, Region};
 use std::alloc::{AllocError, Global};
 
-/// Gives each of these places the column that a text has of it, where no lines came with it.
+/// These places, each from the column that a text has of it, where no lines came with it.
 pub fn show_columns(
     alloc: Global,
     text: &str,
-    spans: &mut Vec<FileSpan>,
-) -> Result<(), AllocError> {
-    for index in 0..spans.len() {
-        if let Some(span) = spans.get_mut(index) {
-            show_column(alloc, text, span)?;
+    spans: Vec<FileSpan>,
+) -> Result<Vec<FileSpan>, AllocError>
+    ensures each { IfOk result (λ shown. shown.items ≡ map (place_shown text.now) spans.items) }
+{
+    let mut shown = Vec::new(alloc);
+    for span in spans {
+        shown.push(show_column(alloc, text, span)?)?;
+    }
+    Ok(shown)
+}
+
+/// A place from the column that a text has of it, where no lines came with it.
+fn show_column(alloc: Global, text: &str, span: FileSpan) -> Result<FileSpan, AllocError>
+    ensures value { IfOk result (λ shown. shown ≡ place_shown text.now span) }
+{
+    let region = region_shown(alloc, text, &span)?;
+    Ok(FileSpan {
+        file: span.file,
+        region,
+        label: span.label,
+        is_primary: span.is_primary,
+        carried: span.carried,
+    })
+}
+
+/// The region of a place, from the column that a text has of it, where no lines came with it.
+fn region_shown(alloc: Global, text: &str, span: &FileSpan) -> Result<Region, AllocError>
+    ensures value { IfOk result (λ region. region
+        ≡ spec.region_shown text.now (string_bytes span.now.file) span.now.carried span.now.region) }
+{
+    match (&span.carried, span.region) {
+        (None, Region::Lines(lines)) => {
+            let start_column = column_shown(alloc, text, span.file.as_str(), lines)?;
+            Ok(Region::Lines(LineRegion {
+                start_column,
+                ..lines
+            }))
         }
+        (_, region) => Ok(region),
     }
-    Ok(())
 }
 
-/// Gives a place the column that a text has of it, where no lines came with it.
-fn show_column(alloc: Global, text: &str, span: &mut FileSpan) -> Result<(), AllocError> {
-    if span.carried.is_some() {
-        return Ok(());
-    }
-    if let Some(region) = region_before(span.region) {
-        if is_shown(alloc, text, span.file.as_str(), region)? {
-            span.region = Region::Lines(region);
+/// The column that a text has of a region of this file: the one before, where it names that.
+fn column_shown(
+    alloc: Global,
+    text: &str,
+    file: &str,
+    region: LineRegion,
+) -> Result<Option<usize>, AllocError>
+    ensures value { IfOk result (λ column.
+        column ≡ spec.column_shown text.now file.now region.start_line region.start_column) }
+{
+    match region.start_column {
+        Some(column) if column > 0 => {
+            let is_named = names_place(alloc, text, file, region.start_line, column - 1)?;
+            Ok(Some(if is_named { column - 1 } else { column }))
         }
-    }
-    Ok(())
-}
-
-/// A region that starts one column before this one.
-fn region_before(region: Region) -> Option<LineRegion> {
-    match region {
-        Region::Lines(lines) => Some(LineRegion {
-            start_column: Some(lines.start_column?.checked_sub(1)?),
-            ..lines
-        }),
-        _ => None,
+        column => Ok(column),
     }
 }
 
-/// Whether a line of a text ends with the place where a region of this file starts.
-fn is_shown(alloc: Global, text: &str, file: &str, region: LineRegion) -> Result<bool, AllocError> {
-    let (line, column) = (region.start_line, region.start_column.unwrap_or(0));
+/// Whether a line of a text ends with this place.
+fn names_place(
+    alloc: Global,
+    text: &str,
+    file: &str,
+    line: usize,
+    column: usize,
+) -> Result<bool, AllocError>
+    ensures value { IfOk result (λ is. is ≡ spec.names_place text.now file.now line column) }
+{
     let place = format!(in alloc; "{file}:{line}:{column}\n")?;
-    Ok(text.contains(place.as_str()))
+    Ok(after_first(text, place.as_str()).is_some())
 }

@@ -1,5 +1,9 @@
 //! A text without what a terminal takes for something else than text.
 
+ghost use Rattle.std.specs.Prelude.{◌≡◌, IfOk, false, string_bytes};
+ghost use Rattle.redraw_read.specs.AsShown as spec;
+
+use crate::words::after_first;
 use std::alloc::{AllocError, Global};
 
 /// Where in a text a character stands.
@@ -36,7 +40,25 @@ fn is_shown(state: State, character: char) -> bool {
 }
 
 /// A text without styles and addresses.
-pub fn without_styles(alloc: Global, text: &str) -> Result<String, AllocError> {
+pub fn without_styles(alloc: Global, text: &str) -> Result<String, AllocError>
+    ensures plain { spec.has_escape text.now ≡ false → IfOk result (λ shown. string_bytes shown ≡ text.now) }
+{
+    if has_escape(text) {
+        characters_shown(alloc, text)
+    } else {
+        String::from_str(alloc, text)
+    }
+}
+
+/// Whether there is an escape in a text.
+fn has_escape(text: &str) -> bool
+    ensures value { result ≡ spec.has_escape text.now }
+{
+    after_first(text, "\u{1b}").is_some()
+}
+
+/// The characters of a text that are shown.
+fn characters_shown(alloc: Global, text: &str) -> Result<String, AllocError> {
     let mut shown = String::new(alloc);
     let mut state = State::Shown;
     for character in text.chars() {

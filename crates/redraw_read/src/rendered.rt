@@ -1,8 +1,11 @@
 //! How a suggestion is shown, which rustc's own text of a diagnostic tells: its JSON says of each suggestion only what
 //! it changes.
 
-ghost use Rattle.std.specs.Prelude.{◌≡◌, ◌==◌, IfOk};
-ghost use Rattle.std.specs.List.{slice_split};
+ghost use Rattle.std.specs.Prelude.{◌≡◌, ◌==◌, ◌++◌, ℕ, List, [], IfOk, OnOk, false, map, string_bytes};
+ghost use Rattle.std.specs.List.{before_first, flat_map, list_any, slice_split};
+ghost use Rattle.redraw_read.specs.AsShown.{IsAsShown, child_seen, child_shown, has_escape, is_label};
+ghost use Rattle.redraw_read.specs.AsShown.{labels, place_shown};
+ghost use Rattle.redraw_read.specs.AsShown.{first_line as spec_first_line, suggestion_shown, with_first_line};
 ghost use Rattle.redraw_read.specs.Rendered as spec;
 ghost use Rattle.redraw_read.specs.Rendered.{way, way_of};
 ghost use Rattle.redraw_read.specs.Told.{KeepsHeading};
@@ -113,6 +116,8 @@ pub fn as_rendered(
     diagnostic: Diagnostic,
 ) -> Result<Diagnostic, AllocError>
     ensures headed { IfOk result (KeepsHeading diagnostic) }
+    ensures shown { IfOk result (λ shown. (plain : List ℕ) × (has_escape text.now ≡ false → plain ≡ text.now)
+        × IsAsShown plain diagnostic shown) }
 {
     let text = without_styles(alloc, text)?;
     as_shown(alloc, text.as_str(), diagnostic)
@@ -121,11 +126,11 @@ pub fn as_rendered(
 /// A diagnostic with its suggestions as they are shown in a text of it.
 fn as_shown(alloc: Global, text: &str, diagnostic: Diagnostic) -> Result<Diagnostic, AllocError>
     ensures headed { IfOk result (KeepsHeading diagnostic) }
+    ensures shown { IfOk result (IsAsShown text.now diagnostic) }
 {
-    let mut spans = diagnostic.spans;
-    show_columns(alloc, text, &mut spans)?;
+    let mut spans = show_columns(alloc, text, diagnostic.spans)?;
     let children = shown_children(alloc, text, diagnostic.children, &mut spans)?;
-    settle_roles(&mut spans);
+    let spans = settle_roles(alloc, spans)?;
     Ok(Diagnostic {
         severity: diagnostic.severity,
         message: diagnostic.message,
@@ -136,13 +141,18 @@ fn as_shown(alloc: Global, text: &str, diagnostic: Diagnostic) -> Result<Diagnos
     })
 }
 
-/// Of some children those that are shown, as they are; a suggestion that is shown as a label joins the places.
+/// What children become; a suggestion that is shown as a label joins the places.
 fn shown_children(
     alloc: Global,
     text: &str,
     children: Vec<Child>,
     spans: &mut Vec<FileSpan>,
-) -> Result<Vec<Child>, AllocError> {
+) -> Result<Vec<Child>, AllocError>
+    ensures each { IfOk result (λ shown. map child_seen shown.items
+        ≡ flat_map (child_shown text.now) (map child_seen children.items)) }
+    ensures kept { list_any (labels text.now) (map child_seen children.items) ≡ false
+        → OnOk result (spans.new.items ≡ spans.old.items) }
+{
     let mut shown = Vec::new(alloc);
     for child in children {
         show_child(alloc, text, child, spans, &mut shown)?;
@@ -150,40 +160,85 @@ fn shown_children(
     Ok(shown)
 }
 
-/// Shows a child as it is shown in a text.
+/// Adds what a child becomes.
 fn show_child(
     alloc: Global,
     text: &str,
-    mut child: Child,
+    child: Child,
     spans: &mut Vec<FileSpan>,
     shown: &mut Vec<Child>,
-) -> Result<(), AllocError> {
+) -> Result<(), AllocError>
+    ensures added { OnOk result (map child_seen shown.new.items
+        ≡ map child_seen shown.old.items ++ child_shown text.now (child_seen child)) }
+    ensures kept { labels text.now (child_seen child) ≡ false → OnOk result (spans.new.items ≡ spans.old.items) }
+{
     if child.alternatives.is_empty() {
-        show_columns(alloc, text, &mut child.spans)?;
-        shown.push(child)?;
-        return Ok(());
+        Ok(shown.push(with_columns(alloc, text, child)?)?)
+    } else {
+        show_suggestion(alloc, text, child, spans, shown)
     }
+}
+
+/// A child without edits, with its places as they are shown.
+fn with_columns(alloc: Global, text: &str, child: Child) -> Result<Child, AllocError>
+    ensures value { IfOk result (λ shown. child_seen shown
+        ≡ record (child_seen child) { spans = map (place_shown text.now) child.spans.items }) }
+{
+    let spans = show_columns(alloc, text, child.spans)?;
+    Ok(Child {
+        severity: child.severity,
+        message: child.message,
+        spans,
+        alternatives: child.alternatives,
+    })
+}
+
+/// Adds what a suggestion becomes.
+fn show_suggestion(
+    alloc: Global,
+    text: &str,
+    child: Child,
+    spans: &mut Vec<FileSpan>,
+    shown: &mut Vec<Child>,
+) -> Result<(), AllocError>
+    ensures added { OnOk result (map child_seen shown.new.items ≡ map child_seen shown.old.items
+        ++ suggestion_shown (way (spec_first_line (string_bytes child.message)) text.now) (child_seen child)) }
+    ensures kept { is_label (way (spec_first_line (string_bytes child.message)) text.now) ≡ false
+        → OnOk result (spans.new.items ≡ spans.old.items) }
+{
     let message = first_line(alloc, child.message.as_str())?;
     match manner_of(message.as_str(), text) {
-        Manner::Group(title) => shown.push(retitled(alloc, child, title)?)?,
-        Manner::Message(said) => shown.push(without_edits(alloc, child, said)?)?,
-        Manner::Label(label) => add_label(alloc, label, child, spans)?,
-        Manner::Nowhere => {}
+        Manner::Group(title) => Ok(shown.push(retitled(alloc, child, title)?)?),
+        Manner::Message(said) => Ok(shown.push(without_edits(alloc, child, said)?)?),
+        Manner::Label(label) => add_label(alloc, label, child, spans),
+        Manner::Nowhere => Ok(()),
     }
-    Ok(())
 }
 
 /// The first line of a message, as it is drawn.
-fn first_line(alloc: Global, message: &str) -> Result<String, AllocError> {
-    let line = match message.split_once('\n') {
-        Some((line, _)) => line,
-        None => message,
-    };
-    normalized(alloc, line)?.into_owned(alloc)
+fn first_line(alloc: Global, message: &str) -> Result<String, AllocError>
+    ensures value { IfOk result (λ line. string_bytes line ≡ spec_first_line message.now) }
+{
+    let drawn = normalized(alloc, before_feed(message))?;
+    let line = drawn.into_owned(alloc)?;
+    Ok(line)
 }
 
-/// A child with the first line of its message as it is drawn.
-fn retitled(alloc: Global, child: Child, line: &str) -> Result<Child, AllocError> {
+/// What of a message stands before its first line feed.
+fn before_feed(message: &str) -> &str
+    ensures value { result.now ≡ before_first (λ b. b == 10) message.now }
+{
+    match message.split_once('\n') {
+        Some((line, _)) => line,
+        None => message,
+    }
+}
+
+/// A child with this as the first line of its message.
+fn retitled(alloc: Global, child: Child, line: &str) -> Result<Child, AllocError>
+    ensures value { IfOk result (λ shown. child_seen shown
+        ≡ record (child_seen child) { message = with_first_line line.now (string_bytes child.message) }) }
+{
     let message = redrawn(alloc, child.message.as_str(), line)?;
     Ok(Child {
         severity: child.severity,
@@ -193,8 +248,15 @@ fn retitled(alloc: Global, child: Child, line: &str) -> Result<Child, AllocError
     })
 }
 
-/// A child as a message alone, with its first line as it is drawn.
-fn without_edits(alloc: Global, child: Child, line: &str) -> Result<Child, AllocError> {
+/// A child as a message alone, with this as its first line.
+fn without_edits(alloc: Global, child: Child, line: &str) -> Result<Child, AllocError>
+    ensures value { IfOk result (λ shown. child_seen shown ≡ record {
+      severity = child.severity;
+      message = with_first_line line.now (string_bytes child.message);
+      spans = [];
+      alternatives = [];
+    }) }
+{
     let message = redrawn(alloc, child.message.as_str(), line)?;
     Ok(Child {
         severity: child.severity,
@@ -205,7 +267,9 @@ fn without_edits(alloc: Global, child: Child, line: &str) -> Result<Child, Alloc
 }
 
 /// A message with this as its first line.
-fn redrawn(alloc: Global, message: &str, line: &str) -> Result<String, AllocError> {
+fn redrawn(alloc: Global, message: &str, line: &str) -> Result<String, AllocError>
+    ensures value { IfOk result (λ text. string_bytes text ≡ with_first_line line.now message.now) }
+{
     match message.split_once('\n') {
         Some((_, rest)) => format!(in alloc; "{line}\n{rest}"),
         None => String::from_str(alloc, line),

@@ -25,7 +25,7 @@ pub fn spans_of(node: &Node<'_, '_>) -> Result<Vec<FileSpan>, Fault> {
     let values = listed(node, "spans")?;
     let mut spans = each_span(&list, values)?;
     add_calls(&list, values, &mut spans)?;
-    settle_roles(&mut spans);
+    let mut spans = settle_roles(node.alloc, spans)?;
     settle_order(node.alloc, &mut spans)?;
     Ok(spans)
 }

@@ -1,0 +1,130 @@
+-- What rustc's own text of a diagnostic changes of it: the columns of its places, its children, and which places are its point.
+use Rattle.std.specs.Prelude.{◌≡◌, ℕ, ◌-◌, ◌++◌, ◌==◌, ◌&&◌, nat_lt, Bool, true, false, List, [], ◌∷◌, Option, Some, None, codes, drop, is_some, map}
+use Rattle.std.specs.Prelude.{string_bytes, if◌then◌else◌}
+use Rattle.std.specs.Fmt.{decimal}
+use Rattle.std.specs.Global.{Vec}
+use Rattle.std.specs.List.{before_first, flat_map, list_any, position_or_len}
+use Rattle.std.specs.Str.{bytes_eq, chars, encode_utf8_all}
+use Rattle.snippet_text.specs.Normalized.{norm}
+use Rattle.redraw_report.specs.contracts.diagnostic.RegionPartialEq.TheImpl as equality
+use Rattle.redraw_report.specs.declared.diagnostic.Carried.{Carried}
+use Rattle.redraw_report.specs.declared.diagnostic.Child.{Child}
+use Rattle.redraw_report.specs.declared.diagnostic.Diagnostic.{Diagnostic}
+use Rattle.redraw_report.specs.declared.diagnostic.Edit.{Edit}
+use Rattle.redraw_report.specs.declared.diagnostic.FileSpan.{FileSpan}
+use Rattle.redraw_report.specs.declared.diagnostic.Region.{Region}
+use Rattle.redraw_report.specs.declared.diagnostic.Region.TheVariants as region
+use Rattle.redraw_report.specs.declared.diagnostic.Severity.{Severity}
+use Rattle.redraw_read.specs.Rendered.{Way, Group, Message, Label, Nowhere, after_first, way}
+
+-- ---- columns
+
+-- how a text names a place at the end of a line: by its file, its line and its column
+abbrev pub named_place : List ℕ → (line column : ℕ) → List ℕ
+named_place file line column = file ++ (codes ":" ++ (decimal line ++ (codes ":" ++ (decimal column ++ codes "\n"))))
+
+-- whether a text names a place so
+abbrev pub names_place : List ℕ → List ℕ → (line column : ℕ) → Bool
+names_place text file line column = is_some (after_first (named_place file line column) text)
+
+-- the column that is shown for one: the column before it, where the text names that
+abbrev pub column_shown : List ℕ → List ℕ → ℕ → Option ℕ → Option ℕ
+column_shown text file line None = None
+column_shown text file line (Some column) =
+    if nat_lt 0 column && names_place text file line (column - 1) then Some (column - 1) else Some column
+
+-- the region that is shown for one: from the column that is shown, where no lines came with the place
+abbrev pub region_shown : List ℕ → List ℕ → Option Carried → Region → Region
+region_shown text file (Some lines) r = r
+region_shown text file None (region.Lines r) = region.Lines (record r { start_column = column_shown text file r.start_line r.start_column })
+region_shown text file None (region.Bytes start end) = region.Bytes start end
+region_shown text file None (region.Chars start end unit) = region.Chars start end unit
+
+-- a place as a text shows it: in the region that is shown
+abbrev pub place_shown : List ℕ → FileSpan → FileSpan
+place_shown text s = record s { region = region_shown text (string_bytes s.file) s.carried s.region }
+
+-- ---- children
+
+-- what a child says
+pub record ChildSeen : Type 0 where
+  pub severity : Severity
+  pub message : List ℕ
+  pub spans : List FileSpan
+  pub alternatives : List (Vec Edit)
+
+abbrev pub child_seen : Child → ChildSeen
+child_seen c =
+    record { severity = c.severity; message = string_bytes c.message; spans = c.spans.items; alternatives = c.alternatives.items }
+
+-- the first line of a message, as it is drawn
+abbrev pub first_line : List ℕ → List ℕ
+first_line message = encode_utf8_all (norm (chars (before_first (λ b. b == 10) message)))
+
+-- a message with this in place of its first line
+abbrev pub with_first_line : List ℕ → List ℕ → List ℕ
+with_first_line line message = line ++ drop (position_or_len (λ b. b == 10) message) message
+
+-- what a suggestion becomes that is shown in this way: a child with the title that is shown; or a message without edits. Of one that is
+-- shown as a label, or nowhere, no child is left
+abbrev pub suggestion_shown : Way → ChildSeen → List ChildSeen
+suggestion_shown (Group title) c = record c { message = with_first_line title c.message } ∷ []
+suggestion_shown (Message said) c = record c { message = with_first_line said c.message; spans = []; alternatives = [] } ∷ []
+suggestion_shown (Label label) c = []
+suggestion_shown Nowhere c = []
+
+-- what a child with these alternatives becomes: one without any stays, with its places as they are shown; a suggestion is shown as the
+-- text shows the first line of its message
+abbrev pub shown_with : List ℕ → List (Vec Edit) → ChildSeen → List ChildSeen
+shown_with text [] c = record c { spans = map (place_shown text) c.spans } ∷ []
+shown_with text (edits ∷ more) c = suggestion_shown (way (first_line c.message) text) c
+
+abbrev pub child_shown : List ℕ → ChildSeen → List ChildSeen
+child_shown text c = shown_with text c.alternatives c
+
+-- whether a suggestion is shown as a label
+abbrev pub is_label : Way → Bool
+is_label (Group title) = false
+is_label (Message said) = false
+is_label (Label label) = true
+is_label Nowhere = false
+
+-- whether a child with these alternatives becomes a label
+abbrev pub labels_with : List ℕ → List (Vec Edit) → ChildSeen → Bool
+labels_with text [] c = false
+labels_with text (edits ∷ more) c = is_label (way (first_line c.message) text)
+
+abbrev pub labels : List ℕ → ChildSeen → Bool
+labels text c = labels_with text c.alternatives c
+
+-- ---- roles
+
+-- whether two places are the same part of the same file
+abbrev pub are_one : FileSpan → FileSpan → Bool
+are_one a b = (equality.ghosts).eq a.region b.region && bytes_eq (string_bytes a.file) (string_bytes b.file)
+
+-- whether one of some places is primary that lies where this one does
+abbrev pub is_at_primary : List FileSpan → FileSpan → Bool
+is_at_primary spans s = list_any (λ (other : FileSpan). other.is_primary && are_one other s) spans
+
+-- some places with these roles, in order; those past the last role aren't primary
+abbrev pub with_roles : List Bool → List FileSpan → List FileSpan
+with_roles roles [] = []
+with_roles [] (s ∷ spans) = record s { is_primary = false } ∷ with_roles [] spans
+with_roles (is ∷ roles) (s ∷ spans) = record s { is_primary = is } ∷ with_roles roles spans
+
+-- some places, each primary exactly where a primary one of them lies
+abbrev pub settled : List FileSpan → List FileSpan
+settled spans = map (λ (s : FileSpan). record s { is_primary = is_at_primary spans s }) spans
+
+-- ---- a diagnostic
+
+-- whether an escape stands in a text, which begins what a terminal doesn't show
+abbrev pub has_escape : List ℕ → Bool
+has_escape text = is_some (after_first (27 ∷ []) text)
+
+-- a diagnostic is as a text shows it: its children are what the text makes of them; and where none of them becomes a label, its places are
+-- those that were given, as the text shows them, each primary where a primary one lies
+pub record IsAsShown (text : List ℕ) (old new : Diagnostic) : Type 0 where
+  pub children : map child_seen new.children.items ≡ flat_map (child_shown text) (map child_seen old.children.items)
+  pub places : list_any (labels text) (map child_seen old.children.items) ≡ false → new.spans.items ≡ settled (map (place_shown text) old.spans.items)
