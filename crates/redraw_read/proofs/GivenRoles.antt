@@ -1,5 +1,5 @@
 -- How roles are given to places one after another.
-use Rattle.std.proofs.Common.{◌≡◌, ◌∙◌, ℕ, ◌+◌, ◌<◌, ◌&&◌, ◌||◌, Bool, true, false, List, [], ◌∷◌, ◌++◌, ap, arith, get_or, length}
+use Rattle.std.proofs.Common.{◌≡◌, ◌∙◌, ℕ, suc, ◌+◌, ◌<◌, ◌&&◌, ◌||◌, Bool, true, false, List, [], ◌∷◌, ◌++◌, ap, arith, get_or, length}
 use Rattle.std.proofs.Common.{map, refl, string_bytes, sym}
 use Rattle.std.proofs.lemmas.Slice.Eq.{bytes_eq-Decides}
 use Rattle.redraw_report.specs.contracts.diagnostic.RegionEq.TheImpl.Laws.{laws-law}
@@ -15,8 +15,8 @@ with_roles-push (is ∷ roles) (t ∷ spans) s = ap (λ (l : List FileSpan). rec
 
 pub length-with_roles : (roles : List Bool) (spans : List FileSpan) → length (with_roles roles spans) ≡ length spans
 length-with_roles roles [] = refl
-length-with_roles [] (t ∷ spans) = ap (λ n. 1 + n) (length-with_roles [] spans)
-length-with_roles (is ∷ roles) (t ∷ spans) = ap (λ n. 1 + n) (length-with_roles roles spans)
+length-with_roles [] (t ∷ spans) = ap (λ n. suc n) (length-with_roles [] spans)
+length-with_roles (is ∷ roles) (t ∷ spans) = ap (λ n. suc n) (length-with_roles roles spans)
 
 -- the places so far with one more
 pub given-next : (roles : List Bool) (spans found new : List FileSpan) (s t : FileSpan) (n : ℕ) (is : Bool) → found ≡ with_roles roles spans

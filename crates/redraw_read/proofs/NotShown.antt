@@ -1,17 +1,18 @@
 -- What isn't as rustc's text shows it: what wrong bodies leave of small diagnostics contradicts what is said of showing them.
-use Rattle.std.proofs.Common.{◌≡◌, ◌∙◌, ℕ, true, false, List, [], ◌∷◌, Some, ap, arith, codes, get_or, length, refl, string_bytes}
+use Rattle.std.proofs.Common.{◌≡◌, ◌∙◌, ℕ, true, false, List, [], ◌∷◌, Option, Some, ap, arith, get_or, length, refl, string_bytes, unwrap_or}
 use Rattle.std.specs.Global.{Vec}
 use Rattle.redraw_report.specs.declared.diagnostic.Child.{Child}
 use Rattle.redraw_report.specs.declared.diagnostic.Diagnostic.{Diagnostic}
 use Rattle.redraw_report.specs.declared.diagnostic.Edit.{Edit}
 use Rattle.redraw_report.specs.declared.diagnostic.FileSpan.{FileSpan}
-use Rattle.redraw_read.specs.AsShown.{ChildSeen, IsAsShown, are_one, child_seen, child_shown, column_shown, first_line, settled, suggestion_shown}
+use Rattle.redraw_read.specs.AsShown.{ChildSeen, IsAsShown, are_one, child_seen, child_shown, column_shown, first_line, names_place, settled}
+use Rattle.redraw_read.specs.AsShown.{shown_with, suggestion_shown}
 use Rattle.redraw_read.specs.Rendered.{Nowhere, way}
 
 -- of a suggestion that is shown nowhere no child is left
 none_left : (text : List ℕ) (c : ChildSeen) (edits : Vec Edit) (more : List (Vec Edit)) → c.alternatives ≡ edits ∷ more
     → way (first_line c.message) text ≡ Nowhere → child_shown text c ≡ []
-none_left text c edits more has nowhere = rw has (ap (λ w. suggestion_shown w c) nowhere)
+none_left text c edits more has nowhere = ap (λ (a : List (Vec Edit)). shown_with text a c) has ∙ ap (λ w. suggestion_shown w c) nowhere
 
 -- the suggestion is still there
 pub suggestion_kept : (text : List ℕ) (old : Diagnostic) (c : Child) (edits : Vec Edit) (more : List (Vec Edit)) → old.children.items ≡ c ∷ []
@@ -22,8 +23,10 @@ suggestion_kept text old c edits more one has nowhere shown =
     absurd (omega (arith, ap length (rw none at all)))
 
 -- a column is still what it was, where the text has the one before it
-pub column_kept : Some 5 ≡ column_shown (codes "a.rs:1:4\n") (codes "a.rs") 1 (Some 5) → ⊥
-column_kept same = absurd (cc same)
+pub column_kept : (text file : List ℕ) (line : ℕ) → names_place text file line 4 ≡ true → Some 5 ≡ column_shown text file line (Some 5) → ⊥
+column_kept text file line named same =
+    let less : column_shown text file line (Some 5) ≡ Some 4 = rw named refl in
+    absurd (omega (arith, ap (λ (o : Option ℕ). unwrap_or o 0) (same ∙ less)))
 
 -- a place that isn't primary, where another one lies that is
 pub role_kept : (a b : FileSpan) → a.is_primary ≡ true → are_one a b ≡ true → b.is_primary ≡ false → a ∷ b ∷ [] ≡ settled (a ∷ b ∷ []) → ⊥

@@ -1,8 +1,12 @@
+use Rattle.std.proofs.Common.{map}
+use Rattle.redraw_read.specs.AsShown.{child_seen}
 use Rattle.redraw_read.proofs.Shown.{kept-next, shown-next}
 use Rattle.redraw_read.proofs.rendered.shown_children.Goals as goal
 
 pub loop-child-preserved : goal.loop-child-preserved
 loop-child-preserved c = record {
-  each = shown-next _ _ _ _ _ c.loop-child.invariant.each c.in_ok-show_child.ensures.added;
-  kept = kept-next _ _ _ _ _ _ c.loop-child.invariant.kept c.in_ok-show_child.ensures.kept;
+  each = shown-next c.args.text.now c.loop-child.yielded c.in-Some.child (map child_seen c.loop-child.shown.items)
+      (map child_seen c.show_child.new.shown.items) c.loop-child.invariant.each c.in_ok-show_child.ensures.added;
+  kept = kept-next c.args.text.now c.loop-child.yielded c.in-Some.child c.args.spans.now.items c.loop-child.spans.items c.show_child.new.spans.items
+      c.loop-child.invariant.kept c.in_ok-show_child.ensures.kept;
 }
