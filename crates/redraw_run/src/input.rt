@@ -11,7 +11,7 @@ ghost use Rattle.redraw_run.specs.ReadLines.{AreAllOf, AreFirstOf, TakesNext, Te
 ghost use Rattle.program.specs.Standing.{Standing, known};
 
 use crate::draw::Drawing;
-use crate::json::json_of;
+use crate::json_value::json_of;
 use crate::kind::{Kind, kind_of};
 use crate::report::{cargo_message, sarif_log};
 use json::Scratch;

@@ -5,7 +5,7 @@ pub mod draw;
 pub mod files;
 pub mod html;
 pub mod input;
-pub mod json;
+pub mod json_value;
 pub mod kind;
 pub mod look;
 pub mod report;
