@@ -26,6 +26,7 @@ pub mod RunExamples
 pub mod RunLemmas
 pub mod ShownLemmas
 pub mod SpanLemmas
+pub mod StoredLemmas
 pub mod StretchLemmas
 pub mod StretchPrinted
 pub mod TouchLemmas

@@ -9,5 +9,6 @@ pub mod LayoutOf
 pub mod Print
 pub mod RunBounds
 pub mod Runs
+pub mod Stored
 pub mod Stretch
 pub mod Woven

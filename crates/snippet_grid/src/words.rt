@@ -7,8 +7,10 @@ ghost use Rattle.std.specs.Str.{chars};
 ghost use Rattle.snippet_grid.specs.Grid.{cells_written};
 ghost use Rattle.snippet_style.specs.Cell.{text_cells};
 ghost use Rattle.snippet_grid.specs.Runs.{BeginsWith, IsRun, IsGrid, IsWord, IsWidened, run_chars, grid_shown};
+ghost use Rattle.snippet_grid.specs.Stored.{stored};
 ghost use Rattle.snippet_style.specs.Bounds.{HasNext, IsRowNumber, IsUsize};
 
+use crate::cells::Cells;
 use crate::put::{Spare, put_run};
 use crate::runs::Run;
 use snippet_style::{ElementStyle, char_count};
@@ -152,8 +154,8 @@ fn place_run<'a>(
     ensures grid { IsGrid (string_bytes text.new) runs.new.items widths.new.items }
     ensures runs_added { length runs.new.items ≤ length runs.old.items + 2 }
     ensures rows { IsRowNumber (length widths.old.items) → IsRowNumber (length widths.new.items) }
-    ensures err { OnErr result (grid_shown (string_bytes text.new) runs.new.items widths.new.items
-        ≡ grid_shown (string_bytes text.old) runs.old.items widths.old.items) }
+    ensures err { OnErr result (stored (string_bytes text.new) runs.new.items widths.new.items
+        ≡ stored (string_bytes text.old) runs.old.items widths.old.items) }
 {
     make_room(widths, run.row)?;
     put_run(text, spare, runs, run)?;
@@ -164,29 +166,28 @@ fn place_run<'a>(
 /// Writes a word that has a character into a row, from this cell on.
 #[inline(always)]
 pub(crate) fn write_word<'a>(
-    text: &mut String,
+    cells: &mut Cells<'a>,
     spare: &mut Spare<'a>,
-    runs: &mut Vec<Run<'a>>,
-    widths: &mut Vec<usize>,
     row: usize,
     at: usize,
     word: &str,
     role: ElementStyle,
 ) -> Result<(), AllocError>
-    requires grid { IsGrid (string_bytes text.old) runs.old.items widths.old.items }
     requires row { HasNext row }
     requires end { IsUsize (at + length (chars word.now)) }
     requires some { 0 < length (chars word.now) }
-    ensures ok { OnOk result (grid_shown (string_bytes text.new) runs.new.items widths.new.items
-        ≡ cells_written (grid_shown (string_bytes text.old) runs.old.items widths.old.items) row at
-        (text_cells role (chars word.now))) }
-    ensures grid { IsGrid (string_bytes text.new) runs.new.items widths.new.items }
-    ensures runs_added { length runs.new.items ≤ length runs.old.items + 2 }
-    ensures rows { IsRowNumber (length widths.old.items) → IsRowNumber (length widths.new.items) }
-    ensures err { OnErr result (grid_shown (string_bytes text.new) runs.new.items widths.new.items
-        ≡ grid_shown (string_bytes text.old) runs.old.items widths.old.items) }
+    ensures ok { OnOk result
+        (cells.new.rows ≡ cells_written cells.old.rows row at (text_cells role (chars word.now))) }
+    ensures runs_added { cells.new.num_runs ≤ cells.old.num_runs + 2 }
+    ensures err { OnErr result (cells.new ≡ cells.old) }
 {
-    make_first_room(text, runs, widths)?;
-    let run = push_word(text, row, at, word, role)?;
-    place_run(text, spare, runs, widths, &run)
+    make_first_room(&mut cells.text, &mut cells.runs, &mut cells.widths)?;
+    let run = push_word(&mut cells.text, row, at, word, role)?;
+    place_run(
+        &mut cells.text,
+        spare,
+        &mut cells.runs,
+        &mut cells.widths,
+        &run,
+    )
 }

@@ -5,7 +5,7 @@ ghost use Rattle.snippet_titles.specs.ShortRows.{short_rows};
 ghost use Rattle.snippet_style.specs.Bounds.{IsTextWidth};
 
 use crate::heading::{draw_label, draw_text};
-use crate::row::extend_row;
+use crate::row::{RowEnd, extend_row};
 use crate::style::{TitleStyle, roles_of};
 use snippet_grid::StyledBuffer;
 use snippet_model::MessageOrTitle;
@@ -40,15 +40,11 @@ pub fn draw_short<'a>(
         heading.allows_styling(),
     );
     extend_row(buffer, row, before, ElementStyle::LineAndColumn)?;
-    draw_label(
-        alloc,
-        buffer,
+    let end = RowEnd {
         row,
-        char_count(before),
-        hyperlink,
-        roles,
-        heading,
-    )?;
+        cell: char_count(before),
+    };
+    draw_label(alloc, buffer, end, hyperlink, roles, heading)?;
     draw_text(alloc, buffer, row, &TitleStyle::Short, roles.text, heading)?;
     extend_row(buffer, row, after, ElementStyle::NoStyle)
 }
