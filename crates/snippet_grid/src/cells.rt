@@ -5,9 +5,14 @@ ghost use Rattle.snippet_grid.specs.RunBounds.{fewest_runs, most_runs};
 ghost use Rattle.snippet_style.specs.Bounds.{IsRowNumber};
 
 use crate::runs::Run;
-use crate::words::width_of;
-use std::alloc::Global;
+use crate::words::{FIRST_ROWS, width_of};
+use std::alloc::{AllocError, Global};
 use std::marker::Model;
+
+/// What the row of a message takes: a sign, the name of a level and a line of text.
+const ROW_BYTES: usize = 80;
+
+const ROW_RUNS: usize = 3;
 
 /// The cells of a grid's rows.
 #[derive(Drop)]
@@ -61,6 +66,19 @@ impl<'a> Cells<'a> {
         self.runs.clear();
         self.widths.clear();
         self.text.clear();
+    }
+
+    /// Makes room for rows that are to come. For few of them nothing is done: the first write makes room for these.
+    pub(crate) fn reserve_rows(&mut self, rows: usize) -> Result<(), AllocError>
+        ensures same { self.new ≡ self.old }
+    {
+        if rows <= FIRST_ROWS {
+            return Ok(());
+        }
+        let rows = rows.saturating_add(FIRST_ROWS);
+        self.text.reserve(rows.saturating_mul(ROW_BYTES))?;
+        self.runs.reserve(rows.saturating_mul(ROW_RUNS))?;
+        self.widths.reserve(rows)
     }
 
     /// How many rows there are.

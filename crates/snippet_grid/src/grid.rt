@@ -88,6 +88,18 @@ impl<'a> StyledBuffer<'a> {
         self.cells.clear();
     }
 
+    /// Makes room for rows that are to be drawn, as many as messages of a line would take. It may be left out: then room
+    /// is made as the rows are written.
+    ///
+    /// # Errors
+    ///
+    /// There is no memory for the rows.
+    pub fn reserve_rows(&mut self, rows: usize) -> Result<(), AllocError>
+        ensures same { self.new ≡ self.old }
+    {
+        self.cells.reserve_rows(rows)
+    }
+
     /// How many rows there are.
     pub fn num_lines(&self) -> usize
         ensures count { result ≡ length self.now }

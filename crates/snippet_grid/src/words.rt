@@ -42,7 +42,7 @@ const FIRST_BYTES: usize = 384;
 
 const FIRST_RUNS: usize = 14;
 
-const FIRST_ROWS: usize = 16;
+pub(crate) const FIRST_ROWS: usize = 16;
 
 /// Makes room for a small report, if nothing was written yet.
 fn make_first_room(
