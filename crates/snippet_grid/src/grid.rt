@@ -88,8 +88,8 @@ impl<'a> StyledBuffer<'a> {
         self.cells.clear();
     }
 
-    /// Makes room for rows that are to be drawn, as many as messages of a line would take. It may be left out: then room
-    /// is made as the rows are written.
+    /// Makes room for rows that are to be drawn, each a message of a line or about as long. It may be left out: then
+    /// room is made as the rows are written.
     ///
     /// # Errors
     ///

@@ -12,7 +12,7 @@ use Rattle.snippet_grid.proofs.StretchLemmas.{stretch, BeginsWith-trans}
 use Rattle.snippet_grid.specs.Changes.{changed_by, ShowsSpan}
 use Rattle.snippet_grid.specs.Grid.{cells_changed}
 use Rattle.snippet_style.specs.Cell.{Cell}
-use Rattle.snippet_grid.specs.Runs.{IsRun, IsPut, FitIn, grid_shown, shown_cell}
+use Rattle.snippet_grid.specs.Runs.{IsRun, IsPut, FitIn, shown_cell}
 use Rattle.snippet_grid.specs.declared.runs.Run.{Run}
 use Rattle.std.proofs.Common.{◌++◌, ◌-◌, ◌*◌, take, drop}
 use Rattle.snippet_grid.proofs.GridChanged.{IsExchanged, IsGrid-put, FitIn-put, grid_changed}
