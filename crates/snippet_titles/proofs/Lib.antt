@@ -21,6 +21,8 @@ pub mod RowLemmas
 pub mod ShortExamples
 pub mod ShortLaws
 pub mod ShortLemmas
+pub mod ShortRowLemmas
 pub mod SignLemmas
 pub mod SplitLemmas
+pub mod StretchRow
 pub mod TextLemmas

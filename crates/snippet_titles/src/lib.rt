@@ -8,6 +8,7 @@ pub mod origin;
 mod row;
 pub mod separators;
 pub mod short;
+mod stretch;
 pub mod style;
 pub mod title;
 
@@ -16,6 +17,6 @@ pub use heading::{colon, draw_heading, is_hidden, label_width};
 pub use id::{address_of, is_set};
 pub use origin::{FileStart, OriginLayout, OriginLocation, draw_origin, origin_text};
 pub use separators::{draw_closing, draw_padding, draw_separator};
-pub use short::draw_short;
+pub use short::ShortTitle;
 pub use style::{HeadingRoles, MessageContext, TitleStyle, roles_of};
 pub use title::draw_title;

@@ -2,7 +2,7 @@ use Rattle.std.proofs.Common.{IfSome, subst, sym}
 use Rattle.snippet_model.specs.Fits.{AnnotationFits, SnippetFits}
 use Rattle.annotate_snippets.specs.PreparedReport.{IsDrawable}
 use Rattle.annotate_snippets.proofs.ShortLemmas.{first_cause-drawable, first_cause-fits}
-use Rattle.annotate_snippets.proofs.renderer.short.short_grid.Goals as goal
+use Rattle.annotate_snippets.proofs.renderer.short.short_form.Goals as goal
 
 pub place_before-requires-clause-drawable : goal.place_before-requires-clause-drawable
 place_before-requires-clause-drawable c =
