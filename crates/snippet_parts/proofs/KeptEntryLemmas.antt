@@ -1,5 +1,6 @@
 -- Lines that are given their entries one by one.
-use Rattle.std.proofs.Common.{◌≡◌, ◌≢◌, ℕ, ◌+◌, ◌-◌, ◌<◌, ◌≤◌, Bool, Err, nat_cmp, true, false, List, [], ◌∷◌, ◌++◌, cond, eqb, map, length, take, drop, get_or, set, inl, inr, sym, ap, subst, ◌∙◌, arith}
+use Rattle.std.proofs.Common.{◌≡◌, ◌≢◌, ℕ, ◌+◌, ◌-◌, ◌<◌, ◌≤◌, Bool, Err, nat_cmp, true, false, List, [], ◌∷◌, ◌++◌, cond, eqb, map}
+use Rattle.std.proofs.Common.{length, take, drop, get_or, set, inl, inr, sym, ap, subst, ◌∙◌, arith}
 use Rattle.std.specs.List.{All, AllPairs, filter, range_with_len}
 use Rattle.std.specs.List.Sorted.{IsBinarySearchResult}
 use Rattle.std.proofs.lemmas.List.FromFn.{length-range_with_len, get_or-range_with_len}
@@ -82,7 +83,14 @@ pub kept-rise : (p : ℕ → Bool) (n : ℕ) → AllPairs (λ (a b : ℕ). a < b
 kept-rise p n =
     AllPairs-filter (λ (a b : ℕ). a < b) p (range_with_len 0 n) (λ i j d before within.
     let len = length-range_with_len 0 n in
-    omega (arith, before, len, within, get_or-range_with_len 0 n i d (omega (arith, before, within, len)), get_or-range_with_len 0 n j d (omega (arith, within, len))))
+    omega (
+      arith,
+      before,
+      len,
+      within,
+      get_or-range_with_len 0 n i d (omega (arith, before, within, len)),
+      get_or-range_with_len 0 n j d (omega (arith, within, len)),
+    ))
 
 rises : (ks : List ℕ) → AllPairs (λ (a b : ℕ). a < b) ks → (i j : ℕ) → i ≤ j → j < length ks → get_or ks i 0 ≤ get_or ks j 0
 rises ks up i j le within =

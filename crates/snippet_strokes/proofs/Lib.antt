@@ -1,4 +1,6 @@
 pub mod AmongLaws
+pub mod ApartLemmas
+pub mod SwapLemmas
 pub mod BarLaws
 pub mod BarLemmas
 pub mod BarRows
