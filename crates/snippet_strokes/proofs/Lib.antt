@@ -56,6 +56,7 @@ pub mod StrokeWrites
 pub mod TextLemmas
 pub mod WholeLemmas
 pub mod WholeLineLemmas
+pub mod WholeMarks
 pub mod WindowTextLemmas
 pub mod WriteLaws
 pub mod WriteLemmas

@@ -99,6 +99,10 @@ fn paint_entry(
     }
     let first = first_glyph(layout.decor, placed);
     let cell = layout.code_cell(start);
+    if first == strokes.underline {
+        let whole = cell..layout.code_cell(end);
+        return draw_stretch(alloc, buffer, row, whole, first, strokes.style);
+    }
     buffer.putc(row, cell, first, strokes.style)?;
     let rest = cell + 1..layout.code_cell(end);
     draw_stretch(alloc, buffer, row, rest, strokes.underline, strokes.style)
