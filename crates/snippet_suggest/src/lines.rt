@@ -20,11 +20,15 @@ use snippet_splice::{LineRange, SubstitutionHighlight};
 use snippet_style::{ElementStyle, SuggestionGlyph};
 use std::alloc::{AllocError, Global};
 
-/// The lines of a text, without their ends.
-pub(crate) fn text_lines<'a>(alloc: Global, text: &'a str) -> Result<Vec<&'a str>, AllocError>
+/// The lines of a text, without their ends. There is room for so many from the beginning on.
+pub(crate) fn text_lines<'a>(
+    alloc: Global,
+    text: &'a str,
+    room: usize,
+) -> Result<Vec<&'a str>, AllocError>
     ensures lines { IfOk result (λ lines. map (λ l. l.now) lines.items ≡ texts_of (lines_of text.now)) }
 {
-    let mut lines = Vec::new(alloc);
+    let mut lines = Vec::with_capacity(alloc, room)?;
     for (line, _) in CursorLines::new(text) {
         lines.push(line)?;
     }
