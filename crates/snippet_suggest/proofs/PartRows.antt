@@ -1,5 +1,6 @@
 -- A line that is put into a row part by part, where some of it has a role.
-use Rattle.std.proofs.Common.{◌≡◌, ℕ, zero, suc, ◌+◌, ◌-◌, ◌≤◌, ◌<◌, ◌==◌, true, List, [], ◌∷◌, ◌++◌, length, map, max, take, drop, replicate, get_or, refl, sym}
+use Rattle.std.proofs.Common.{◌≡◌, ℕ, zero, suc, ◌+◌, ◌-◌, ◌≤◌, ◌<◌, ◌==◌, true, List, [], ◌∷◌, ◌++◌, length, map, max, take, drop, replicate, get_or, refl}
+use Rattle.std.proofs.Common.{sym}
 use Rattle.std.proofs.Common.{All, ap, ◌∙◌, arith, chars, count_by, subst}
 use Rattle.std.proofs.lemmas.Bool.Decides.{nat_tests}
 use Rattle.std.proofs.lemmas.List.{append-nil, get_or-drop, get_or-take, length-append, length-drop, length-map, length-take, places, same_lists, take_all}

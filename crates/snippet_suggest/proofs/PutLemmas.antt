@@ -124,7 +124,8 @@ placeholder_some Ascii = λ none. cc
 placeholder_some Unicode = λ none. cc
 
 -- two texts that are put into an empty row, the first of them left of the other
-swapped : (new first : List Cell) (at : ℕ) → length first ≤ at → written SPACE (written SPACE [] 0 first) at new ≡ written SPACE (written SPACE [] at new) 0 first
+swapped : (new first : List Cell) (at : ℕ) → length first ≤ at
+    → written SPACE (written SPACE [] 0 first) at new ≡ written SPACE (written SPACE [] at new) 0 first
 swapped new first at few =
     same_lists _ _ (unfold written in grind (arith, places)) (λ k d h. unfold written in grind (arith, places))
 

@@ -72,7 +72,8 @@ loop-stretch-preserved c =
     let at : ℕ = c.loop-stretch.at in
     let s : SubstitutionHighlight = get_or ss i none in
     let next = next_in_order (length line) at ss i none c.loop-stretch-test.true inv.ordered in
-    let pre : chars c.range.result.now ≡ take (s.start - at) (drop at line) = ap chars c.range.ensures.value ∙ plain_part line at (s.start - at) c.requires.plain in
+    let pre : chars c.range.result.now ≡ take (s.start - at) (drop at line) = ap chars c.range.ensures.value
+    ∙ plain_part line at (s.start - at) c.requires.plain in
     let mid : chars c.range-in-loop-stretch.result.now ≡ take (s.end - s.start) (drop s.start line) = ap chars c.range-in-loop-stretch.ensures.value
     ∙ plain_part line s.start (s.end - s.start) c.requires.plain in
     record {
