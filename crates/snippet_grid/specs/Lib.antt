@@ -6,6 +6,7 @@ pub mod HtmlLooks
 pub mod HtmlRead
 pub mod Layout
 pub mod LayoutOf
+pub mod OpenRow
 pub mod Print
 pub mod RunBounds
 pub mod Runs

@@ -25,9 +25,9 @@ use std::alloc::AllocError;
 
 /// How a cell looks: the place of its style in the sheet, and where its link leads.
 #[derive(Clone, Copy)]
-struct Look<'a> {
-    place: usize,
-    link: Option<&'a str>,
+pub(crate) struct Look<'a> {
+    pub(crate) place: usize,
+    pub(crate) link: Option<&'a str>,
 }
 
 /// How a cell looks in which nothing stands.
@@ -120,7 +120,7 @@ fn weave_row(
 
 /// Adds a text that looks like this, after what was printed and looks like `last`.
 #[inline(always)]
-fn weave_stretch(
+pub(crate) fn weave_stretch(
     out: &mut String,
     word: &str,
     codes: &mut SheetCodes,
@@ -142,7 +142,7 @@ fn weave_stretch(
 
 /// Adds unstyled spaces, after what was printed and looks like `last`.
 #[inline(always)]
-fn weave_gap(
+pub(crate) fn weave_gap(
     out: &mut String,
     count: usize,
     codes: &mut SheetCodes,
