@@ -17,6 +17,7 @@ pub mod OriginNumbers
 pub mod OriginRowText
 pub mod OriginText
 pub mod PlaceLemmas
+pub mod PrintedLemmas
 pub mod RowLemmas
 pub mod ShortExamples
 pub mod ShortLaws

@@ -98,7 +98,7 @@ pub(crate) fn draw_label<'a>(
 }
 
 /// A level's name as it is drawn, which is empty where it isn't shown.
-fn shown_name<'r>(alloc: Global, level: &'r Level<'_>) -> Result<CowStr<'r>, AllocError>
+pub(crate) fn shown_name<'r>(alloc: Global, level: &'r Level<'_>) -> Result<CowStr<'r>, AllocError>
     ensures value { IfOk result (λ name. chars (cow_str_bytes name) ≡ norm (chars (name_of level.now))) }
 {
     normalized(alloc, level.as_str())

@@ -60,7 +60,7 @@ pub(crate) fn draw_id<'a>(
 }
 
 /// An id's text as it is drawn.
-fn shown_text<'r>(alloc: Global, text: &'r CowStr<'_>) -> Result<CowStr<'r>, AllocError>
+pub(crate) fn shown_text<'r>(alloc: Global, text: &'r CowStr<'_>) -> Result<CowStr<'r>, AllocError>
     ensures value { IfOk result (λ shown. chars (cow_str_bytes shown) ≡ norm (chars (cow_str_bytes text.now))) }
 {
     normalized(alloc, text.as_str())
