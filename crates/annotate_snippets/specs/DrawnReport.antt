@@ -1,5 +1,5 @@
 -- What the grids of a report hold: for each group its title and its elements, one below the other.
-use Rattle.std.specs.Prelude.{◌≡◌, ℕ, ◌+◌, ◌-◌, ◌≤◌, Bool, true, false, not, if◌then◌else◌, List, [], ◌∷◌, ◌++◌, Option, None, Some, length, map}
+use Rattle.std.specs.Prelude.{◌≡◌, ℕ, ◌-◌, ◌≤◌, Bool, true, false, not, if◌then◌else◌, List, [], ◌∷◌, ◌++◌, Option, None, Some, length, map}
 use Rattle.std.specs.List.{flat_map, slice_get, slice_index_or}
 use Rattle.std.specs.Str.{IsUtf8}
 use Rattle.std.specs.Cow.{cow_str_bytes}
