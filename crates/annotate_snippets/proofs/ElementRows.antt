@@ -134,7 +134,7 @@ get-mapped f (y ∷ xs) zero x is =
 get-mapped f (y ∷ xs) (suc n) x is = get-mapped f xs n x is
 
 -- what stands around the next element
-turn_around : (place : GroupPosition) (file : Option (List ℕ)) (ps : List PreparedElement) (around : List ElementContext) (n i : ℕ)
+pub turn_around : (place : GroupPosition) (file : Option (List ℕ)) (ps : List PreparedElement) (around : List ElementContext) (n i : ℕ)
     (p : PreparedElement) (at : ElementContext) → AreAround place file (map element_of ps) around
     → (n < length (enumerate_from 0 ps)) × ((i, p) ≡ get_or (enumerate_from 0 ps) n (i, p)) → at ≡ slice_index_or around i at
     → at ≡ context_at place file (map element_of ps) n (element_of p)

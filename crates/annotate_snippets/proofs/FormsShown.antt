@@ -57,7 +57,9 @@ module _ (r : Renderer) (groups : List Group) where
   pub form-laws : (form : Form) (report : Drawn) → All IsGroupDrawable groups → IsDrawnAs form r groups report → FormLaws form r groups
   form-laws Graphic (drawn.Page grids) drawable are = page_laws r groups grids.items drawable are
   form-laws Graphic (drawn.Text form) drawable are = absurd are
-  form-laws Short (drawn.Page grids) drawable page = short-laws r groups grids.items drawable page
+  form-laws Graphic (drawn.Short form) drawable are = absurd are
+  form-laws Short (drawn.Page grids) drawable are = absurd are
+  form-laws Short (drawn.Short form) drawable is = short-laws r groups form drawable is
   form-laws Short (drawn.Text form) drawable are = absurd are
   form-laws Text report drawable are = text-laws r groups
 
@@ -86,11 +88,14 @@ module _ (r : Renderer) (groups : List Group) (sheets : List Stylesheet) (texts 
       → ShowsForm form r groups sheets texts
   shown-in Graphic (drawn.Page grids) drawable are printed =
       sheets_shown r groups grids.items drawable are sheets texts printed
+  shown-in Graphic (drawn.Short form) drawable are printed = absurd are
   shown-in Graphic (drawn.Text form) drawable are printed = absurd are
-  shown-in Short (drawn.Page grids) drawable are printed =
-      short-shown r groups grids.items sheets texts are printed
+  shown-in Short (drawn.Page grids) drawable are printed = absurd are
+  shown-in Short (drawn.Short form) drawable is printed =
+      short-shown r groups form sheets texts is printed
   shown-in Short (drawn.Text form) drawable are printed = absurd are
   shown-in Text (drawn.Page grids) drawable are printed = absurd are
+  shown-in Text (drawn.Short form) drawable are printed = absurd are
   shown-in Text (drawn.Text form) drawable is printed =
       text-shown r groups sheets texts (subst (λ (f : List FormPiece). AllZip (IsOfForm f) sheets texts) is printed)
 
@@ -107,13 +112,16 @@ module _ (r : Renderer) (groups : List Group) (sheets : List Stylesheet) (texts 
       let shown : SheetsShown r groups sheets texts = sheets_shown r groups grids.items drawable are sheets texts printed in
       AllZip-weaker (λ sheet text. PrintsPage sheet (levels_of groups) (graphic_form r groups) text) (LawsIn Graphic r groups)
       (page-law r groups laws) sheets texts shown.printed
+  laws-in Graphic (drawn.Short form) laws drawable are printed = absurd are
   laws-in Graphic (drawn.Text form) laws drawable are printed = absurd are
-  laws-in Short (drawn.Page grids) laws drawable page printed =
-      let shown = short-shown r groups grids.items sheets texts page printed in
+  laws-in Short (drawn.Page grids) laws drawable are printed = absurd are
+  laws-in Short (drawn.Short form) laws drawable is printed =
+      let shown = short-shown r groups form sheets texts is printed in
       AllZip-weaker _ (LawsIn Short r groups)
       (λ sheet text. short-law r groups laws sheet shown.group.level shown.group shown.title text shown.first shown.titled) sheets texts shown.printed
   laws-in Short (drawn.Text form) laws drawable are printed = absurd are
   laws-in Text (drawn.Page grids) laws drawable are printed = absurd are
+  laws-in Text (drawn.Short form) laws drawable are printed = absurd are
   laws-in Text (drawn.Text form) laws drawable is printed =
       let of_form : AllZip (IsFormText r groups) sheets texts = subst (λ (f : List FormPiece). AllZip (IsOfForm f) sheets texts) is printed in
       AllZip-weaker (IsFormText r groups) (LawsIn Text r groups) (text-law r groups) sheets texts of_form

@@ -61,6 +61,7 @@ pub mod PlainRows
 pub mod PreparedLemmas
 pub mod PrintLemmas
 pub mod PrintedText
+pub mod PrintingLemmas
 pub mod ReportLemmas
 pub mod ReportTexts
 pub mod RoomLemmas

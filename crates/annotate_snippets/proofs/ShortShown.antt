@@ -3,7 +3,7 @@ use Rattle.std.proofs.Common.{◌≡◌, ◌∙◌, ℕ, ◌<◌, ◌==◌, Bool
 use Rattle.std.proofs.Common.{filter, length, not, refl, sym, ap, subst}
 use Rattle.std.specs.Char.{is_whitespace}
 use Rattle.std.specs.Cow.{cow_str_bytes}
-use Rattle.std.specs.List.{AllZip, Contains, cons_option, filter_map, flat_map, join_with_byte, list_all, list_any, slice_get, slice_index_or}
+use Rattle.std.specs.List.{AllZip, Contains, cons_option, filter_map, flat_map, list_all, list_any, slice_get, slice_index_or}
 use Rattle.std.specs.Option.{option_map}
 use Rattle.std.specs.declared.alloc.Global.{Global}
 use Rattle.std.specs.declared.borrow.CowStr.{CowStr}
@@ -41,11 +41,10 @@ use Rattle.snippet_titles.specs.declared.origin.OriginLocation.{OriginLocation}
 use Rattle.snippet_titles.proofs.OriginText.{place_text-each}
 use Rattle.snippet_titles.proofs.OriginFree.{digit_unlisted}
 use Rattle.annotate_snippets.specs.Around.{path_bytes}
-use Rattle.annotate_snippets.specs.DrawnReport.{IsShortPage}
+use Rattle.annotate_snippets.specs.DrawnReport.{IsShortForm}
 use Rattle.annotate_snippets.specs.FormLaws.{BeginsWithPlace, LawsIn, ShortLaws, ShowsShort}
 use Rattle.annotate_snippets.specs.Forms.{ShortShown, short_links}
 use Rattle.annotate_snippets.specs.Gutter.{numbered_source}
-use Rattle.annotate_snippets.specs.Page.{PrintsGrids}
 use Rattle.annotate_snippets.specs.PreparedReport.{IsDrawable, IsGroupDrawable}
 use Rattle.annotate_snippets.specs.RowsWithoutSource.{place_found, place_named}
 use Rattle.annotate_snippets.specs.ShortForm.{before_title, after_title, first_cause, joined_labels, short_label, labels_of_cause, place_of_cause}
@@ -54,7 +53,7 @@ use Rattle.annotate_snippets.specs.ShortForm.{primary_labels, short_form, short_
 use Rattle.snippet_model.specs.AnnotationKind.{is_primary}
 use Rattle.annotate_snippets.specs.declared.renderer.Renderer.{Renderer}
 use Rattle.annotate_snippets.specs.declared.renderer.form.Form.TheVariants.{Short}
-use Rattle.annotate_snippets.specs.declared.renderer.graphic.GroupGrid.{GroupGrid}
+use Rattle.annotate_snippets.specs.declared.renderer.short.ShortForm.{ShortForm}
 use Rattle.annotate_snippets.proofs.CauseShown.{place_known}
 use Rattle.annotate_snippets.proofs.PrintLemmas.{AllZip-weaker}
 use Rattle.annotate_snippets.proofs.ShortLemmas.{first_cause-drawable}
@@ -204,59 +203,46 @@ rows_shown r g title rows are drawable =
           (before-free r (first_cause g.elements.items)) (after-free (first_cause g.elements.items)));
     }
 
--- a text that prints the one grid
-prints-first : (sheet : Stylesheet) (grid : GroupGrid) (level : LevelInner) (text : List ℕ) → grid.level ≡ level → PrintsGrids sheet (grid ∷ []) text
-    → Prints sheet level grid.buffer text
-prints-first sheet grid level text leveled prints = of_parts prints.parts prints.printed prints.joined
-  where
-    of_parts : (parts : List (List ℕ)) → AllZip (λ (d : GroupGrid) part. Prints sheet d.level d.buffer part) (grid ∷ []) parts → text ≡ join_with_byte 10 parts
-        → Prints sheet level grid.buffer text
-    of_parts [] printed joined = absurd printed
-    of_parts (part ∷ []) printed joined =
-        subst (λ l. Prints sheet l grid.buffer text) leveled (subst (Prints sheet grid.level grid.buffer) (sym joined) printed.0)
-    of_parts (part ∷ next ∷ parts) printed joined = absurd printed.1
+-- the text of a report's short form prints its rows
+prints-form : (r : Renderer) (groups : List Group) (form : ShortForm) (is : IsShortForm r groups form) (sheet : Stylesheet) (text : List ℕ)
+    → Prints sheet form.level form.rows text → Prints sheet is.group.level (short_form r is.group is.title) text
+prints-form r groups form is sheet text given =
+    subst (λ rows. Prints sheet is.group.level rows text) is.rows (subst (λ level. Prints sheet level form.rows text) is.level given)
 
--- a text that prints the grids of a report's short form prints its rows
-prints-page : (r : Renderer) (groups : List Group) (grids : List GroupGrid) (page : IsShortPage r groups grids) (sheet : Stylesheet) (text : List ℕ)
-    → PrintsGrids sheet grids text → Prints sheet page.group.level (short_form r page.group page.title) text
-prints-page r groups grids page sheet text given =
-    subst (λ rows. Prints sheet page.group.level rows text) page.rows
-    (prints-first sheet page.grid page.group.level text page.level (subst (λ gs. PrintsGrids sheet gs text) page.grids_are given))
-
--- the texts that print the one grid of a report's short form show it
-pub short-shown : (r : Renderer) (groups : List Group) (grids : List GroupGrid) (sheets : List Stylesheet) (texts : List (List ℕ))
-    → IsShortPage r groups grids → AllZip (λ sheet text. PrintsGrids sheet grids text) sheets texts → ShortShown r groups sheets texts
-short-shown r groups grids sheets texts page prints =
-    let g : Group = page.group in
-    let rows : List (List Cell) = short_form r g page.title in
+-- the texts of a report's short form show it
+pub short-shown : (r : Renderer) (groups : List Group) (form : ShortForm) (sheets : List Stylesheet) (texts : List (List ℕ))
+    → IsShortForm r groups form → AllZip (λ sheet text. Prints sheet form.level form.rows text) sheets texts → ShortShown r groups sheets texts
+short-shown r groups form sheets texts is prints =
+    let g : Group = is.group in
+    let rows : List (List Cell) = short_form r g is.title in
     record {
       group = g;
-      title = page.title;
-      first = page.first;
-      titled = page.titled;
-      printed = AllZip-weaker (λ sheet text. PrintsGrids sheet grids text) (λ sheet text.
-          Prints sheet g.level rows text) (prints-page r groups grids page) sheets texts prints;
+      title = is.title;
+      first = is.first;
+      titled = is.titled;
+      printed = AllZip-weaker (λ sheet text. Prints sheet form.level form.rows text) (λ sheet text.
+          Prints sheet g.level rows text) (prints-form r groups form is) sheets texts prints;
     }
 
--- a report's short form, whose one grid this is, has its laws
-pub short-laws : (r : Renderer) (groups : List Group) (grids : List GroupGrid) → All IsGroupDrawable groups → IsShortPage r groups grids → ShortLaws r groups
-short-laws r groups grids drawable page =
-    let g : Group = page.group in
-    let title : Title = page.title in
+-- a report's short form has its laws
+pub short-laws : (r : Renderer) (groups : List Group) (form : ShortForm) → All IsGroupDrawable groups → IsShortForm r groups form → ShortLaws r groups
+short-laws r groups form drawable is =
+    let g : Group = is.group in
+    let title : Title = is.title in
     let heading : Heading = heading_of_title title in
     let rows : List (List Cell) = short_form r g title in
-    let can : IsGroupDrawable g = subst IsGroupDrawable (get_or_from_slice_get groups 0 g g page.first)
-    (All-get_or IsGroupDrawable groups 0 g (slice_get_within groups 0 g page.first) drawable) in
+    let can : IsGroupDrawable g = subst IsGroupDrawable (get_or_from_slice_get groups 0 g g is.first)
+    (All-get_or IsGroupDrawable groups 0 g (slice_get_within groups 0 g is.first) drawable) in
     let shows : ShowsShort r g title rows = rows_shown r g title rows refl can in
     record {
       group = g;
       title = title;
-      first = page.first;
-      titled = page.titled;
+      first = is.first;
+      titled = is.titled;
       shows = shows;
       free = free_text (trusted_texts groups) rows (All-weaker (IsFreeButText heading) (IsFreeRow (trusted_texts groups))
-          (own_row (trusted_texts groups) heading (title-trusted groups g title page.first page.titled)) rows shows.free);
-      links = links_of-short_rows r.hyperlink (before_title r g) (after_title g) heading ∙ first-links r groups g title page.first page.titled;
+          (own_row (trusted_texts groups) heading (title-trusted groups g title is.first is.titled)) rows shows.free);
+      links = links_of-short_rows r.hyperlink (before_title r g) (after_title g) heading ∙ first-links r groups g title is.first is.titled;
     }
 
 -- the rows of the first group that has a title are all of the short form

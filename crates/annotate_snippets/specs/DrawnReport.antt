@@ -1,5 +1,5 @@
 -- What the grids of a report hold: for each group its title and its elements, one below the other.
-use Rattle.std.specs.Prelude.{◌≡◌, ℕ, ◌+◌, ◌-◌, ◌≤◌, Bool, true, false, not, if◌then◌else◌, List, [], ◌∷◌, ◌++◌, Option, None, Some, length, map}
+use Rattle.std.specs.Prelude.{◌≡◌, ℕ, ◌-◌, ◌≤◌, Bool, true, false, not, if◌then◌else◌, List, [], ◌∷◌, ◌++◌, Option, None, Some, length, map}
 use Rattle.std.specs.List.{flat_map, slice_get, slice_index_or}
 use Rattle.std.specs.Str.{IsUtf8}
 use Rattle.std.specs.Cow.{cow_str_bytes}
@@ -34,7 +34,7 @@ use Rattle.annotate_snippets.specs.Around.{closes_with, drawn_elements, file_of_
 use Rattle.annotate_snippets.specs.Gutter.{code_after, depth_of_element, layout_of_group, line_numbers, numbered_source, width_wanted}
 use Rattle.annotate_snippets.specs.RowsWithoutSource.{cause_head, message_rows, origin_rows, rows_after_cause, suggestion_head, title_part}
 use Rattle.snippet_model.specs.declared.snippet.Title.{Title}
-use Rattle.snippet_grid.specs.Woven.{IsWoven}
+use Rattle.snippet_grid.specs.Woven.{IsWoven, Prints}
 use Rattle.snippet_style.specs.declared.stylesheet.Stylesheet.{Stylesheet}
 use Rattle.snippet_text_form.specs.Form.{form_bytes, form_links, form_text}
 use Rattle.annotate_snippets.specs.Page.{PrintsGrids}
@@ -44,6 +44,7 @@ use Rattle.annotate_snippets.specs.declared.renderer.drawn.Drawn.{Drawn}
 use Rattle.annotate_snippets.specs.declared.renderer.drawn.Drawn.TheVariants.{Page}
 use Rattle.annotate_snippets.specs.declared.renderer.drawn.Drawn.TheVariants as drawn
 use Rattle.annotate_snippets.specs.declared.renderer.form.Form.{Form}
+use Rattle.annotate_snippets.specs.declared.renderer.short.ShortForm.{ShortForm}
 use Rattle.annotate_snippets.specs.declared.renderer.form.Form.TheVariants.{Graphic, Short, Text}
 
 -- the rows of an annotated snippet's lines, whose source is UTF-8: the lines that are shown, each with its entries, between the bounds
@@ -174,26 +175,25 @@ pub record AreGridsOf (r : Renderer) (groups : List Group) (grids : List GroupGr
   pub levels : map (λ grid. grid.level) grids ≡ map (λ g. g.level) groups
   pub each : (i : ℕ) (g : Group) (grid : GroupGrid) → slice_get groups i ≡ Some g → slice_get grids i ≡ Some grid → IsGridAt r groups i g grid
 
--- the one grid of the short form is that of the first group, which has a title
-pub record IsShortPage (r : Renderer) (groups : List Group) (grids : List GroupGrid) : Type 0 where
+-- the short form is that of the first group, which has a title
+pub record IsShortForm (r : Renderer) (groups : List Group) (form : ShortForm) : Type 0 where
   pub group : Group
   pub title : Title
-  pub grid : GroupGrid
   pub first : slice_get groups 0 ≡ Some group
   pub titled : group.title ≡ Some title
-  pub grids_are : grids ≡ grid ∷ []
-  pub level : grid.level ≡ group.level
-  pub rows : grid.buffer ≡ short_form r group title
+  pub level : form.level ≡ group.level
+  pub rows : form.rows ≡ short_form r group title
 
 -- a report is drawn in a form
 abbrev pub IsDrawnAs : Form → Renderer → List Group → Drawn → Type 0
 IsDrawnAs Graphic r groups (Page grids) = AreGridsOf r groups grids.items
-IsDrawnAs Short r groups (Page grids) = IsShortPage r groups grids.items
+IsDrawnAs Short r groups (drawn.Short form) = IsShortForm r groups form
 IsDrawnAs Text r groups (drawn.Text form) = form ≡ text_form r groups
 IsDrawnAs form r groups drawn = ⊥
 
 -- a text is that of a report that is drawn, under a sheet
 abbrev pub IsPrintedAs : Drawn → Stylesheet → List ℕ → Type 0
 IsPrintedAs (Page grids) sheet text = PrintsGrids sheet grids.items text
+IsPrintedAs (drawn.Short form) sheet text = Prints sheet form.level form.rows text
 IsPrintedAs (drawn.Text form) sheet text =
     (text ≡ form_bytes sheet form) × IsWoven sheet text (form_text form) (form_links form)

@@ -14,6 +14,7 @@ pub mod Numbers
 pub mod Page
 pub mod PageLaws
 pub mod PreparedReport
+pub mod Printing
 pub mod Refusal
 pub mod Rewrapped
 pub mod RowsWithoutSource

@@ -17,6 +17,7 @@ pub mod parts;
 mod paths;
 mod place;
 mod preprocess;
+mod printing;
 mod settings;
 mod short;
 mod shown;

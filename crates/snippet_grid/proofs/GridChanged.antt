@@ -123,12 +123,9 @@ grid_changed f old new runs now fresh w row start end last from to put is_last f
     grid_span f old new runs now w row start end last is_last fit_old fit_new there (λ r c other.
     put_elsewhere old new runs now fresh row from to r c put other)
 
--- the change of a grid whose lengths were lent, read cell by cell
-pub reads_changed : {T E : Type 0} (r : Result T E) (f : Cell → Cell) (grid : List (List Cell)) (old new : List ℕ) (runs now : List Run)
-    (w lent : List ℕ) (row start end : ℕ) → lent ≡ w → grid_shown old runs w ≡ grid
-    → OnOk r (grid_shown new now lent ≡ cells_changed f (grid_shown old runs lent) row start end)
-    → OnOk r (ChangesCells f grid (grid_shown new now w) row start end)
-reads_changed r f grid old new runs now w lent row start end same was is =
-    on_ok_weaker r (λ equal. ChangesCells-from_equal f grid (grid_shown new now w) row start end
-    (subst (λ (v : List ℕ). grid_shown new now v ≡ cells_changed f (grid_shown old runs v) row start end) same equal
-    ∙ ap (λ (rows : List (List Cell)). cells_changed f rows row start end) was)) is
+-- the change of a grid, read cell by cell
+pub reads_changed : {T E : Type 0} (r : Result T E) (f : Cell → Cell) (old grid new : List (List Cell)) (row start end : ℕ) → old ≡ grid
+    → OnOk r (new ≡ cells_changed f old row start end) → OnOk r (ChangesCells f grid new row start end)
+reads_changed r f old grid new row start end was is =
+    on_ok_weaker r (λ equal. ChangesCells-from_equal f grid new row start end
+    (equal ∙ ap (λ (rows : List (List Cell)). cells_changed f rows row start end) was)) is

@@ -10,6 +10,8 @@ pub mod HtmlLaws
 pub mod HtmlLemmas
 pub mod HtmlReads
 pub mod HtmlRows
+pub mod OpenRowLemmas
+pub mod LastLemmas
 pub mod OutcomeLemmas
 pub mod PieceLemmas
 pub mod PrintsOnce
@@ -26,6 +28,7 @@ pub mod RunExamples
 pub mod RunLemmas
 pub mod ShownLemmas
 pub mod SpanLemmas
+pub mod StoredLemmas
 pub mod StretchLemmas
 pub mod StretchPrinted
 pub mod TouchLemmas

@@ -12,6 +12,7 @@ use Rattle.snippet_style.proofs.StyleLemmas.{cases_style}
 use Rattle.snippet_style.specs.Codes.{reset}
 use Rattle.snippet_style.specs.Cell.{Cell}
 use Rattle.snippet_style.specs.Stylesheet.{style_of}
+pub use Rattle.snippet_grid.specs.OpenRow.{Completes, Goes}
 use Rattle.snippet_grid.specs.Woven.{Piece, Char, Opening, Reset, LinkTo, LinkEnd, piece_text, PrintsCells, PrintsRow, PrintsFurther, WeavesRow}
 use Rattle.snippet_style.specs.declared.role.LevelInner.{LevelInner}
 use Rattle.snippet_style.specs.declared.style.Style.{Style}
@@ -48,17 +49,6 @@ cases_link (Some a) (Some b) =
       | inl same ↦ inl (ap Some (same_text a b (sym same)))
       | inr other ↦ inr (λ h. false≢true (sym other ∙ ap (λ u. pointwise nat_eq a u) (sym (some_same h)) ∙ nat_list_eq_equiv.refl a))
     ]
-
--- these pieces and cells, printed from here on, complete what was printed of a row
-pub record Completes (sheet : Stylesheet) (level : LevelInner) (done : List Cell) (old now : List ℕ) (rest : List Piece) (more : List Cell) : Type 0 where
-  pub pieces : List Piece
-  pub text_is : now ++ flat_map piece_text rest ≡ old ++ flat_map piece_text pieces
-  pub prints : PrintsRow sheet level pieces (done ++ more)
-
--- whatever prints further cells from this style and link on completes the row
-abbrev pub Goes : Stylesheet → LevelInner → Option Style → Option Url → List Cell → List ℕ → List ℕ → Type 0
-Goes sheet level style link done old now =
-    (rest : List Piece) (more : List Cell) → PrintsCells sheet level style link rest more → Completes sheet level done old now rest more
 
 -- the same, where this cell comes next
 abbrev pub GoesTo : Stylesheet → LevelInner → Option Style → Option Url → List Cell → List ℕ → List ℕ → Cell → Type 0

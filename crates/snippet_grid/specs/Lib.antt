@@ -6,8 +6,10 @@ pub mod HtmlLooks
 pub mod HtmlRead
 pub mod Layout
 pub mod LayoutOf
+pub mod OpenRow
 pub mod Print
 pub mod RunBounds
 pub mod Runs
+pub mod Stored
 pub mod Stretch
 pub mod Woven

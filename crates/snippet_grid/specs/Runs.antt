@@ -243,3 +243,8 @@ pub record IsWidened (old new : List ℕ) (row end : ℕ) : Type 0 where
   pub count : length new ≡ max (length old) (row + 1)
   pub here : slice_index_or new row 0 ≡ max (slice_index_or old row 0) end
   pub others : (r : ℕ) → r ≢ row → slice_index_or new r 0 ≡ slice_index_or old r 0
+
+-- a run stands in the last row, and not left of its end
+pub record IsLast (widths : List ℕ) (run : Run) : Type 0 where
+  pub row : run.row + 1 ≡ length widths
+  pub cell : slice_index_or widths run.row 0 ≤ run.cell

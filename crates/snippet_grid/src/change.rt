@@ -2,10 +2,11 @@
 ghost use Rattle.std.specs.Prelude.{◌≡◌, ◌+◌, ◌-◌, ◌*◌, ◌<◌, ◌≤◌, ℕ, min, length, IfOk, OnOk, OnErr, string_bytes};
 ghost use Rattle.std.specs.List.{slice_index_or};
 ghost use Rattle.snippet_grid.specs.Grid.{cells_changed};
-ghost use Rattle.snippet_grid.specs.Runs.{IsRow, IsGrid, EndsBy, BeginsWith, shown_cell, grid_shown};
+ghost use Rattle.snippet_grid.specs.Runs.{IsRow, EndsBy, BeginsWith, shown_cell};
 ghost use Rattle.snippet_grid.specs.declared.runs.Run.{Run};
 ghost use Rattle.snippet_grid.specs.Changes.{changed_by, IsChanged, IsBlankRun, IsPartOfRow, ShowsSpan};
 
+use crate::cells::{Cells, RowCells};
 use crate::put::{Spare, exchange, put_run};
 use crate::runs::{Run, begun_by, clipped, row_bounds};
 use crate::spaces::push_spaces;
@@ -103,69 +104,66 @@ fn part_at<'a>(
     push_gap(text, row, from, gap_end(runs, next, to))
 }
 
-/// Changes the cells of a row from `start` to before `end`.
+/// Changes some cells of a row.
 fn change_row<'a>(
     text: &mut String,
     spare: &mut Spare<'a>,
     runs: &mut Vec<Run<'a>>,
-    row: usize,
-    start: usize,
-    end: usize,
+    cells: RowCells,
     change: Change<'a>,
 ) -> Result<(), AllocError>
-    requires runs { IsRow (string_bytes text.old) row runs.old.items }
-    requires some { start ≤ end }
+    requires runs { IsRow (string_bytes text.old) cells.row runs.old.items }
+    requires some { cells.start ≤ cells.end }
     ensures text { BeginsWith (string_bytes text.old) (string_bytes text.new) }
     ensures ok { OnOk result (ShowsSpan (string_bytes text.old)
-        (string_bytes text.new) runs.old.items runs.new.items row start end (λ c.
-        changed_by change.entry (shown_cell (string_bytes text.old) runs.old.items row c))) }
-    ensures row { OnOk result (IsRow (string_bytes text.new) row runs.new.items) }
-    ensures ends { (n : ℕ) → EndsBy n runs.old.items → end ≤ n → OnOk result (EndsBy n runs.new.items) }
-    ensures count { OnOk result (length runs.new.items ≤ length runs.old.items + 2 * (end - start)) }
+        (string_bytes text.new) runs.old.items runs.new.items cells.row cells.start cells.end (λ c.
+        changed_by change.entry (shown_cell (string_bytes text.old) runs.old.items cells.row c))) }
+    ensures row { OnOk result (IsRow (string_bytes text.new) cells.row runs.new.items) }
+    ensures ends { (n : ℕ) → EndsBy n runs.old.items → cells.end ≤ n → OnOk result (EndsBy n runs.new.items) }
+    ensures count { OnOk result (length runs.new.items ≤ length runs.old.items + 2 * (cells.end - cells.start)) }
 {
-    let mut col = start;
-    while col < end {
-        let part = part_at(text, runs.as_slice(), row, col, end)?;
+    let mut col = cells.start;
+    while col < cells.end {
+        let part = part_at(text, runs.as_slice(), cells.row, col, cells.end)?;
         put_run(text, spare, runs, &changed(change, &part))?;
         col += part.count;
     }
     Ok(())
 }
 
-/// Changes the cells of a row from `start` to before `end`, as far as they are there: where one run holds them all, or
-/// none does, at once; else in a copy of the row, for which `fresh` has room, and which is then put in its place.
+/// Changes some cells of a row, as far as they are there: where one run holds them all, or none does, at once; else in
+/// a copy of the row, for which `fresh` has room, and which is then put in its place.
 pub(crate) fn change_cells<'a>(
-    text: &mut String,
+    grid: &mut Cells<'a>,
     spare: &mut Spare<'a>,
     fresh: &mut Vec<Run<'a>>,
-    runs: &mut Vec<Run<'a>>,
-    widths: &[usize],
-    row: usize,
-    start: usize,
-    end: usize,
+    cells: RowCells,
     change: Change<'a>,
 ) -> Result<(), AllocError>
-    requires grid { IsGrid (string_bytes text.old) runs.old.items widths.now }
-    ensures ok { OnOk result (grid_shown (string_bytes text.new) runs.new.items widths.now
-        ≡ cells_changed (changed_by change.entry) (grid_shown
-        (string_bytes text.old) runs.old.items widths.now) row start end) }
-    ensures grid { IsGrid (string_bytes text.new) runs.new.items widths.now }
-    ensures runs_added { length runs.new.items ≤ length runs.old.items + 2 * (end - start) }
-    ensures err { OnErr result (grid_shown (string_bytes text.new) runs.new.items widths.now
-        ≡ grid_shown (string_bytes text.old) runs.old.items widths.now) }
+    ensures ok { OnOk result (grid.new.rows
+        ≡ cells_changed (changed_by change.entry) grid.old.rows cells.row cells.start cells.end) }
+    ensures runs_added { grid.new.num_runs ≤ grid.old.num_runs + 2 * (cells.end - cells.start) }
+    ensures err { OnErr result (grid.new ≡ grid.old) }
 {
-    let last = end.min(width_of(widths, row));
+    let RowCells { row, start, end } = cells;
+    let last = end.min(width_of(&grid.widths, row));
     if last <= start {
         return Ok(());
     }
-    let old = runs.as_slice();
+    let old = grid.runs.as_slice();
     let (from, to) = row_bounds(old, row);
-    let part = part_at(text, &old[from..to], row, start, last)?;
+    let part = part_at(&mut grid.text, &old[from..to], row, start, last)?;
     if part.count == last - start {
-        return put_run(text, spare, runs, &changed(change, &part));
+        return put_run(
+            &mut grid.text,
+            spare,
+            &mut grid.runs,
+            &changed(change, &part),
+        );
     }
     fresh.clear();
-    fresh.extend_from_slice(&runs.as_slice()[from..to])?;
-    change_row(text, spare, fresh, row, start, last, change)?;
-    exchange(runs, from, to, fresh)
+    fresh.extend_from_slice(&grid.runs.as_slice()[from..to])?;
+    let there = RowCells { end: last, ..cells };
+    change_row(&mut grid.text, spare, fresh, there, change)?;
+    exchange(&mut grid.runs, from, to, fresh)
 }

@@ -17,6 +17,7 @@ ghost use Rattle.snippet_grid.specs.Html.{AddsHtml, rows_html};
 ghost use Rattle.snippet_grid.specs.Woven.{WeavesRows, Prints, IsWoven, links_of};
 ghost use Rattle.snippet_style.specs.Bounds.{HasNext, IsRowNumber, IsUsize};
 
+use crate::cells::{Cells, RowCells};
 use crate::change::{Change, change_cells};
 use crate::codes::SheetCodes;
 use crate::html::push_html_rows;
@@ -24,7 +25,7 @@ use crate::put::Spare;
 use crate::replace::replace_cells;
 use crate::runs::Run;
 use crate::weave::weave_rows;
-use crate::words::{fits, width_of, write_word};
+use crate::words::{fits, write_word};
 use snippet_style::{ElementStyle, LevelInner, Stylesheet};
 use std::alloc::{AllocError, Global};
 use std::marker::Model;
@@ -48,12 +49,7 @@ const RUN_BYTES: usize = 16;
 /// ```
 #[derive(Drop)]
 pub struct StyledBuffer<'a> {
-    /// What is written, in order; a cell that no run holds is an unstyled space.
-    runs: Vec<Run<'a>>,
-    /// How many cells each row has.
-    widths: Vec<usize>,
-    /// The characters of the runs, and what they were copied from.
-    text: String,
+    cells: Cells<'a>,
     /// Room for what is put, and for the runs of a row that is changed.
     spare: Spare<'a>,
     fresh: Vec<Run<'a>>,
@@ -61,17 +57,12 @@ pub struct StyledBuffer<'a> {
 }
 
 impl<'a> Model for StyledBuffer<'a> {
-    ghost use Rattle.std.specs.Prelude.{List, length, string_bytes};
-    ghost use Rattle.snippet_style.specs.Bounds.{IsRowNumber};
+    ghost use Rattle.std.specs.Prelude.{List};
     ghost use Rattle.snippet_style.specs.Cell.{Cell};
-    ghost use Rattle.snippet_grid.specs.Runs.{grid_shown, IsGrid};
 
     ghost Value = { List (List Cell) };
 
-    ghost view = { λ b. grid_shown (string_bytes b.text) b.runs.items b.widths.items };
-
-    ghost invariant = { λ b. IsGrid (string_bytes b.text) b.runs.items b.widths.items
-        × IsRowNumber (length b.widths.items) };
+    ghost view = { λ b. b.cells.rows };
 }
 
 impl<'a> StyledBuffer<'a> {
@@ -80,9 +71,7 @@ impl<'a> StyledBuffer<'a> {
         ensures empty { result ≡ [] }
     {
         StyledBuffer {
-            runs: Vec::new(alloc),
-            widths: Vec::new(alloc),
-            text: String::new(alloc),
+            cells: Cells::new(alloc),
             spare: Spare {
                 text: String::new(alloc),
                 runs: Vec::new(alloc),
@@ -96,9 +85,7 @@ impl<'a> StyledBuffer<'a> {
     pub fn clear(&mut self)
         ensures empty { self.new ≡ [] }
     {
-        self.runs.clear();
-        self.widths.clear();
-        self.text.clear();
+        self.cells.clear();
     }
 
     /// How many rows there are.
@@ -106,7 +93,7 @@ impl<'a> StyledBuffer<'a> {
         ensures count { result ≡ length self.now }
         ensures small { IsRowNumber result }
     {
-        self.widths.len()
+        self.cells.num_rows()
     }
 
     /// How many runs of neighbouring cells with one role and one link are kept: as many as are
@@ -120,7 +107,7 @@ impl<'a> StyledBuffer<'a> {
         ensures enough { fewest_runs self.now ≤ result }
         ensures apart { result ≤ most_runs self.now }
     {
-        self.runs.len()
+        self.cells.num_runs()
     }
 
     /// Writes a character at this cell of this row.
@@ -173,16 +160,7 @@ impl<'a> StyledBuffer<'a> {
         if text.is_empty() {
             return Ok(());
         }
-        write_word(
-            &mut self.text,
-            &mut self.spare,
-            &mut self.runs,
-            &mut self.widths,
-            row,
-            cell,
-            text,
-            role,
-        )
+        write_word(&mut self.cells, &mut self.spare, row, cell, text, role)
     }
 
     /// Writes a text in this row, after its last cell, one cell for each character. An empty text
@@ -203,7 +181,7 @@ impl<'a> StyledBuffer<'a> {
         ensures empty_succeeds { text.now ≡ [] → IsOk result }
         ensures err { OnErr result (self.new ≡ self.old) }
     {
-        let end = width_of(&self.widths, row);
+        let end = self.cells.width(row);
         if !fits(text, usize::MAX - end) {
             return Err(AllocError);
         }
@@ -233,13 +211,9 @@ impl<'a> StyledBuffer<'a> {
         ensures err { OnErr result (self.new ≡ self.old) }
     {
         replace_cells(
-            &mut self.text,
+            &mut self.cells,
             &mut self.spare,
-            &mut self.runs,
-            &mut self.widths,
-            row,
-            start,
-            end,
+            RowCells { row, start, end },
             text,
             ElementStyle::LineNumber,
         )
@@ -264,7 +238,7 @@ impl<'a> StyledBuffer<'a> {
             (RestylesCells self.old self.new row cell (cell + 1) style overwrite) }
         ensures err { OnErr result (self.new ≡ self.old) }
     {
-        let width = width_of(&self.widths, row);
+        let width = self.cells.width(row);
         if cell >= width {
             return Ok(());
         }
@@ -292,14 +266,10 @@ impl<'a> StyledBuffer<'a> {
         ensures err { OnErr result (self.new ≡ self.old) }
     {
         change_cells(
-            &mut self.text,
+            &mut self.cells,
             &mut self.spare,
             &mut self.fresh,
-            &mut self.runs,
-            &self.widths,
-            row,
-            start,
-            end,
+            RowCells { row, start, end },
             Change::Restyle(style, overwrite),
         )
     }
@@ -319,14 +289,14 @@ impl<'a> StyledBuffer<'a> {
         ensures err { OnErr result (self.new ≡ self.old) }
     {
         change_cells(
-            &mut self.text,
+            &mut self.cells,
             &mut self.spare,
             &mut self.fresh,
-            &mut self.runs,
-            &self.widths,
-            row,
-            cells.start,
-            cells.end,
+            RowCells {
+                row,
+                start: cells.start,
+                end: cells.end,
+            },
             Change::Link(url),
         )
     }
@@ -366,13 +336,14 @@ impl<'a> StyledBuffer<'a> {
             (string_bytes text)) }
     {
         let mut text = before;
-        let codes_room = self.runs.len().saturating_mul(RUN_BYTES);
-        text.reserve(self.text.len().saturating_add(codes_room))?;
+        let cells = &self.cells;
+        let codes_room = cells.runs.len().saturating_mul(RUN_BYTES);
+        text.reserve(cells.text.len().saturating_add(codes_room))?;
         weave_rows(
             &mut text,
-            self.text.as_str(),
-            &self.runs,
-            &self.widths,
+            cells.text.as_str(),
+            &cells.runs,
+            &cells.widths,
             level,
             codes,
         )?;
@@ -391,11 +362,12 @@ impl<'a> StyledBuffer<'a> {
             (string_bytes html)) }
     {
         let mut html = before;
+        let cells = &self.cells;
         push_html_rows(
             &mut html,
-            self.text.as_str(),
-            &self.runs,
-            &self.widths,
+            cells.text.as_str(),
+            &cells.runs,
+            &cells.widths,
             level,
         )?;
         Ok(html)

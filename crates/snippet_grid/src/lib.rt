@@ -1,11 +1,13 @@
 //! The grid of styled cells that a report is drawn into, and its text.
 #![tactic(auto)]
 
+mod cells;
 mod change;
 pub mod codes;
 pub mod grid;
 mod html;
 pub mod layout;
+pub mod printed_row;
 mod put;
 mod replace;
 mod runs;
@@ -16,3 +18,4 @@ mod words;
 pub use codes::SheetCodes;
 pub use grid::StyledBuffer;
 pub use layout::Layout;
+pub use printed_row::PrintedRow;

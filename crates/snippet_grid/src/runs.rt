@@ -11,6 +11,7 @@ ghost use Rattle.std.specs.Str.{chars};
 ghost use Rattle.snippet_style.specs.Cell.{bytes_of};
 ghost use Rattle.snippet_style.specs.Bounds.{IsUsize};
 
+use crate::cells::RowCells;
 use snippet_style::ElementStyle;
 use std::alloc::AllocError;
 
@@ -202,37 +203,37 @@ pub(crate) fn clipped<'a>(text: &str, run: &Run<'a>, from: usize, to: usize) -> 
     }
 }
 
-/// Adds what some runs of a row hold from `from` to before `to`, so that it begins at the cell `at`.
+/// Adds what some runs of a row hold in these of its cells, so that it begins at the cell `at`.
 pub(crate) fn copy_cells<'a>(
     text: &mut String,
     copy: &mut String,
     out: &mut Vec<Run<'a>>,
     runs: &[Run<'a>],
-    row: usize,
-    from: usize,
-    to: usize,
+    cells: RowCells,
     at: usize,
 ) -> Result<(), AllocError>
-    requires out { IsRow (string_bytes text.old) row out.old.items }
+    requires out { IsRow (string_bytes text.old) cells.row out.old.items }
     requires before { EndsBy at out.old.items }
-    requires runs { IsRow (string_bytes text.old) row runs.now }
-    requires fits { All (λ x. FitsMoved from at x) runs.now }
+    requires runs { IsRow (string_bytes text.old) cells.row runs.now }
+    requires fits { All (λ x. FitsMoved cells.start at x) runs.now }
     ensures text { BeginsWith (string_bytes text.old) (string_bytes text.new) }
     ensures ok { OnOk result (ShowsCopy (string_bytes text.old)
-        (string_bytes text.new) out.old.items out.new.items runs.now from to at) }
-    ensures row { OnOk result (IsRow (string_bytes text.new) row out.new.items) }
-    ensures ends { OnOk result (EndsBy (at + (to - from)) out.new.items) }
-    ensures tight { (n : ℕ) → EndsBy n runs.now → OnOk result (EndsBy (at + (min n to - from)) out.new.items) }
-    ensures count { OnOk result (length out.new.items ≤ length out.old.items + num_touched from to runs.now) }
+        (string_bytes text.new) out.old.items out.new.items runs.now cells.start cells.end at) }
+    ensures row { OnOk result (IsRow (string_bytes text.new) cells.row out.new.items) }
+    ensures ends { OnOk result (EndsBy (at + (cells.end - cells.start)) out.new.items) }
+    ensures tight { (n : ℕ) → EndsBy n runs.now → OnOk result
+        (EndsBy (at + (min n cells.end - cells.start)) out.new.items) }
+    ensures count { OnOk result (length out.new.items
+        ≤ length out.old.items + num_touched cells.start cells.end runs.now) }
 {
     for run in runs {
-        let start = run.cell.max(from);
-        let end = (run.cell + run.count).min(to);
+        let start = run.cell.max(cells.start);
+        let end = (run.cell + run.count).min(cells.end);
         if start < end {
             let part = clipped(text.as_str(), run, start, end);
             let piece = Run {
-                row,
-                cell: at + (start - from),
+                row: cells.row,
+                cell: at + (start - cells.start),
                 ..part
             };
             add_run(text, copy, out, &piece)?;

@@ -25,9 +25,9 @@ use std::alloc::AllocError;
 
 /// How a cell looks: the place of its style in the sheet, and where its link leads.
 #[derive(Clone, Copy)]
-struct Look<'a> {
-    place: usize,
-    link: Option<&'a str>,
+pub(crate) struct Look<'a> {
+    pub(crate) place: usize,
+    pub(crate) link: Option<&'a str>,
 }
 
 /// How a cell looks in which nothing stands.
@@ -35,6 +35,13 @@ const SPACE: Look<'static> = Look {
     place: NONE,
     link: None,
 };
+
+/// The number of a row, and how many cells it has.
+#[derive(Clone, Copy)]
+struct Line {
+    row: usize,
+    width: usize,
+}
 
 /// Adds the rows to a text, one below another.
 pub(crate) fn weave_rows(
@@ -56,7 +63,11 @@ pub(crate) fn weave_rows(
             out.push('\n')?;
         }
         let to = row_end(runs, from, row);
-        weave_row(out, text, &runs[from..to], row, widths[row], level, codes)?;
+        let line = Line {
+            row,
+            width: widths[row],
+        };
+        weave_row(out, text, &runs[from..to], line, level, codes)?;
         from = to;
     }
     Ok(())
@@ -79,21 +90,20 @@ pub(crate) fn row_end(runs: &[Run<'_>], from: usize, row: usize) -> usize
     to
 }
 
-/// Adds a row of this many cells to a text: what its runs hold, and unstyled spaces between them.
+/// Adds a row to a text: what its runs hold, and unstyled spaces between them.
 fn weave_row(
     out: &mut String,
     text: &str,
     runs: &[Run<'_>],
-    row: usize,
-    width: usize,
+    line: Line,
     level: LevelInner,
     codes: &mut SheetCodes,
 ) -> Result<(), AllocError>
-    requires runs { IsRow text.now row runs.now }
-    requires ends { EndsBy width runs.now }
+    requires runs { IsRow text.now line.row runs.now }
+    requires ends { EndsBy line.width runs.now }
     ensures sheet { codes.new ≡ codes.old }
-    ensures text { OnOk result (WeavesRow codes.old level (cells_to text.now runs.now row width) (string_bytes out.old)
-        (string_bytes out.new)) }
+    ensures text { OnOk result (WeavesRow codes.old level (cells_to text.now runs.now line.row line.width)
+        (string_bytes out.old) (string_bytes out.new)) }
 {
     let mut last = SPACE;
     let mut col = 0;
@@ -110,8 +120,8 @@ fn weave_row(
         last = next;
         col = run.cell + run.count;
     }
-    if col < width {
-        weave_gap(out, width - col, codes, last)?;
+    if col < line.width {
+        weave_gap(out, line.width - col, codes, last)?;
         last = SPACE;
     }
     end_link(out, last.link, None)?;
@@ -120,7 +130,7 @@ fn weave_row(
 
 /// Adds a text that looks like this, after what was printed and looks like `last`.
 #[inline(always)]
-fn weave_stretch(
+pub(crate) fn weave_stretch(
     out: &mut String,
     word: &str,
     codes: &mut SheetCodes,
@@ -142,7 +152,7 @@ fn weave_stretch(
 
 /// Adds unstyled spaces, after what was printed and looks like `last`.
 #[inline(always)]
-fn weave_gap(
+pub(crate) fn weave_gap(
     out: &mut String,
     count: usize,
     codes: &mut SheetCodes,

@@ -1,16 +1,18 @@
 //! Words that are written into a grid of runs.
-ghost use Rattle.std.specs.Prelude.{◌≡◌, ◌↔◌, ◌+◌, ◌<◌, ◌≤◌, max, IsTrue, length, None, IfOk, OnOk, OnErr, IsOk};
+ghost use Rattle.std.specs.Prelude.{◌≡◌, ◌↔◌, ◌+◌, ◌<◌, ◌≤◌, max, true, IsTrue, length, None, IfOk, OnOk, OnErr, IsOk};
 ghost use Rattle.std.specs.Prelude.{string_bytes, vec_capacity};
 ghost use Rattle.std.specs.List.{slice_index_or};
 ghost use Rattle.std.specs.Option.{option_copied};
 ghost use Rattle.std.specs.Str.{chars};
 ghost use Rattle.snippet_grid.specs.Grid.{cells_written};
 ghost use Rattle.snippet_style.specs.Cell.{text_cells};
-ghost use Rattle.snippet_grid.specs.Runs.{BeginsWith, IsRun, IsGrid, IsWord, IsWidened, run_chars, grid_shown};
+ghost use Rattle.snippet_grid.specs.Runs.{BeginsWith, IsRun, IsGrid, IsLast, IsWord, IsWidened, run_chars, grid_shown};
+ghost use Rattle.snippet_grid.specs.Stored.{stored};
 ghost use Rattle.snippet_style.specs.Bounds.{HasNext, IsRowNumber, IsUsize};
 
+use crate::cells::Cells;
 use crate::put::{Spare, put_run};
-use crate::runs::Run;
+use crate::runs::{Run, add_run};
 use snippet_style::{ElementStyle, char_count};
 use std::alloc::AllocError;
 
@@ -133,7 +135,44 @@ pub(crate) fn push_word<'a>(
     })
 }
 
-/// Puts a run of cells with no link over what others hold, and makes its row reach to its end.
+/// Whether a run is to stand after all that is written: in the last row, and not left of its end.
+#[inline(always)]
+fn is_last(widths: &[usize], run: &Run<'_>) -> bool
+    ensures yes { result ≡ true → IsLast widths.now run.now }
+{
+    let row = run.row;
+    row < widths.len() && widths.len() - row == 1 && widths[row] <= run.cell
+}
+
+/// Puts a run of cells with no link after all that is written.
+#[inline(always)]
+fn place_last<'a>(
+    text: &mut String,
+    copy: &mut String,
+    runs: &mut Vec<Run<'a>>,
+    widths: &mut Vec<usize>,
+    run: &Run<'a>,
+) -> Result<(), AllocError>
+    requires grid { IsGrid (string_bytes text.old) runs.old.items widths.old.items }
+    requires run { IsRun (string_bytes text.old) run.now }
+    requires unlinked { option_copied run.now.link ≡ None }
+    requires last { IsLast widths.old.items run.now }
+    ensures ok { OnOk result (grid_shown (string_bytes text.new) runs.new.items widths.new.items
+        ≡ cells_written (grid_shown (string_bytes text.old) runs.old.items widths.old.items) run.now.row run.now.cell
+        (text_cells run.now.role (run_chars (string_bytes text.old) run.now))) }
+    ensures grid { IsGrid (string_bytes text.new) runs.new.items widths.new.items }
+    ensures runs_added { length runs.new.items ≤ length runs.old.items + 2 }
+    ensures rows { IsRowNumber (length widths.old.items) → IsRowNumber (length widths.new.items) }
+    ensures err { OnErr result (stored (string_bytes text.new) runs.new.items widths.new.items
+        ≡ stored (string_bytes text.old) runs.old.items widths.old.items) }
+{
+    add_run(text, copy, runs, run)?;
+    widths[run.row] = run.cell + run.count;
+    Ok(())
+}
+
+/// Puts a run of cells with no link over what others hold, and makes its row reach to its end. Most of what is written
+/// goes on where the last row ends.
 #[inline(always)]
 fn place_run<'a>(
     text: &mut String,
@@ -152,9 +191,12 @@ fn place_run<'a>(
     ensures grid { IsGrid (string_bytes text.new) runs.new.items widths.new.items }
     ensures runs_added { length runs.new.items ≤ length runs.old.items + 2 }
     ensures rows { IsRowNumber (length widths.old.items) → IsRowNumber (length widths.new.items) }
-    ensures err { OnErr result (grid_shown (string_bytes text.new) runs.new.items widths.new.items
-        ≡ grid_shown (string_bytes text.old) runs.old.items widths.old.items) }
+    ensures err { OnErr result (stored (string_bytes text.new) runs.new.items widths.new.items
+        ≡ stored (string_bytes text.old) runs.old.items widths.old.items) }
 {
+    if is_last(widths, run) {
+        return place_last(text, &mut spare.text, runs, widths, run);
+    }
     make_room(widths, run.row)?;
     put_run(text, spare, runs, run)?;
     widen(widths, run.row, run.cell + run.count)?;
@@ -164,29 +206,28 @@ fn place_run<'a>(
 /// Writes a word that has a character into a row, from this cell on.
 #[inline(always)]
 pub(crate) fn write_word<'a>(
-    text: &mut String,
+    cells: &mut Cells<'a>,
     spare: &mut Spare<'a>,
-    runs: &mut Vec<Run<'a>>,
-    widths: &mut Vec<usize>,
     row: usize,
     at: usize,
     word: &str,
     role: ElementStyle,
 ) -> Result<(), AllocError>
-    requires grid { IsGrid (string_bytes text.old) runs.old.items widths.old.items }
     requires row { HasNext row }
     requires end { IsUsize (at + length (chars word.now)) }
     requires some { 0 < length (chars word.now) }
-    ensures ok { OnOk result (grid_shown (string_bytes text.new) runs.new.items widths.new.items
-        ≡ cells_written (grid_shown (string_bytes text.old) runs.old.items widths.old.items) row at
-        (text_cells role (chars word.now))) }
-    ensures grid { IsGrid (string_bytes text.new) runs.new.items widths.new.items }
-    ensures runs_added { length runs.new.items ≤ length runs.old.items + 2 }
-    ensures rows { IsRowNumber (length widths.old.items) → IsRowNumber (length widths.new.items) }
-    ensures err { OnErr result (grid_shown (string_bytes text.new) runs.new.items widths.new.items
-        ≡ grid_shown (string_bytes text.old) runs.old.items widths.old.items) }
+    ensures ok { OnOk result
+        (cells.new.rows ≡ cells_written cells.old.rows row at (text_cells role (chars word.now))) }
+    ensures runs_added { cells.new.num_runs ≤ cells.old.num_runs + 2 }
+    ensures err { OnErr result (cells.new ≡ cells.old) }
 {
-    make_first_room(text, runs, widths)?;
-    let run = push_word(text, row, at, word, role)?;
-    place_run(text, spare, runs, widths, &run)
+    make_first_room(&mut cells.text, &mut cells.runs, &mut cells.widths)?;
+    let run = push_word(&mut cells.text, row, at, word, role)?;
+    place_run(
+        &mut cells.text,
+        spare,
+        &mut cells.runs,
+        &mut cells.widths,
+        &run,
+    )
 }

@@ -6,6 +6,7 @@ pub mod DepthLemmas
 pub mod DepthSearchLemmas
 pub mod EntryFacts
 pub mod EntryLemmas
+pub mod KeptEntryLemmas
 pub mod KeptLemmas
 pub mod KeptPartLemmas
 pub mod LeastLemmas

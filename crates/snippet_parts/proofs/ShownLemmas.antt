@@ -1,20 +1,15 @@
 -- The lines that are kept, each with its entries.
-use Rattle.std.proofs.Common.{None, ◌≡◌, ℕ, zero, suc, ◌+◌, ◌-◌, ◌<◌, ◌≤◌, Bool, true, false, ◌&&◌, ◌||◌, cond, not, eqb, List, [], ◌∷◌, ◌++◌, map, length}
+use Rattle.std.proofs.Common.{◌≡◌, ℕ, zero, suc, ◌+◌, ◌-◌, ◌<◌, ◌≤◌, Bool, true, false, ◌||◌, cond, eqb, List, [], ◌∷◌, ◌++◌, map, length}
 use Rattle.std.proofs.Common.{take, drop, get_or, inl, inr, refl, sym, ap, ◌∙◌, arith, leb, ltb}
 use Rattle.std.specs.List.{Contains, filter, list_any, range_with_len}
-use Rattle.std.specs.List.Sorted.{IsPartitionPoint, IsStableByKey, ties}
-use Rattle.std.specs.Ordering.{is_lt, nat_cmp}
+use Rattle.std.specs.List.Sorted.{IsPartitionPoint}
 use Rattle.std.proofs.lemmas.Bool.{cases_Bool, cases_lt, or_left, or_right, cond-true, cond-false, eq-eqb, ne_eqb, leb-true, leb-false, ltb-true, ltb-false}
-use Rattle.std.proofs.lemmas.Bool.Decides.{nat_tests}
 use Rattle.std.proofs.lemmas.List.{map-append, map-id, map_push, append-nil}
-use Rattle.std.proofs.lemmas.List.Elements.{filter-append, filter_agree}
+use Rattle.std.proofs.lemmas.List.Elements.{filter-append}
 use Rattle.std.proofs.lemmas.List.FromFn.{map-range_with_len_more}
 use Rattle.snippet_model.specs.declared.snippet.Annotation.{Annotation}
-use Rattle.snippet_model.specs.declared.snippet.AnnotationKind.TheVariants.{Primary}
 use Rattle.snippet_parts.specs.declared.entries.AnnotatedLineInfo.{AnnotatedLineInfo}
-use Rattle.snippet_parts.specs.declared.entries.LineAnnotation.{LineAnnotation}
-use Rattle.snippet_parts.specs.declared.entries.LineAnnotationType.TheVariants.{Singleline}
-use Rattle.snippet_parts.specs.Annotated.{is_long, long_entry, long_place, long_places, long_spans, stands_before, depth_of, PartEntry, seen_part, KeptLine}
+use Rattle.snippet_parts.specs.Annotated.{is_long, long_entry, long_place, long_places, long_spans, stands_before, depth_of, PartEntry, KeptLine}
 use Rattle.snippet_parts.specs.Annotated.{seen_kept}
 use Rattle.snippet_lines.specs.OrderedBy.{put_in, ordered_by}
 use Rattle.snippet_lines.specs.Lines.{Source}
@@ -64,33 +59,6 @@ on_line line (x ∷ xs) n zero to zero is below from' upto after =
     (ne_eqb (line x) n (λ same. absurd (omega (arith, same, after 0 x (omega arith) (omega arith))))))
 
 -- ---- a stable sort by lines
-
-ties-line : (n m : ℕ) → (not (is_lt (nat_cmp n m)) && not (is_lt (nat_cmp m n))) ≡ eqb m n
-ties-line n m = grind (arith, nat_tests)
-
--- an entry at the start of a line
-pub at-line : ℕ → LineAnnotation
-at-line n = record {
-  start = record { line = n; char = 0; display = 0; byte = 0 };
-  end = record
-      { line = n; char = 0; display = 0; byte = 0 };
-  kind = Primary;
-  label = None;
-  annotation_type = Singleline;
-  highlight_source = false;
-}
-
--- a stable sort by lines leaves the entries of one line in the order in which they were made
-pub stable-on-line : (made sorted : List LineAnnotation) (n : ℕ) → IsStableByKey (λ (e : LineAnnotation). e.start.line) nat_cmp made sorted
-    → filter (λ (p : PartEntry). eqb p.entry.start.line n) (map seen_part sorted) ≡ filter (λ (p : PartEntry). eqb p.entry.start.line n) (map seen_part made)
-unfolding at-line
-stable-on-line made sorted n stable =
-    filter-map (λ (p : PartEntry). eqb p.entry.start.line n) seen_part sorted
-    ∙ ap (map seen_part) (sym (filter_agree (ties (λ (x : LineAnnotation) (y : LineAnnotation). is_lt (nat_cmp x.start.line y.start.line)) (at-line
-    n)) (λ (e : LineAnnotation). eqb e.start.line n) (λ e. ties-line n e.start.line) sorted) ∙ stable (at-line n)
-    ∙ filter_agree (ties (λ (x : LineAnnotation) (y : LineAnnotation). is_lt (nat_cmp x.start.line y.start.line)) (at-line n))
-    (λ (e : LineAnnotation). eqb e.start.line n) (λ e. ties-line n e.start.line) made)
-    ∙ sym (filter-map (λ (p : PartEntry). eqb p.entry.start.line n) seen_part made)
 
 -- ---- lines so far
 

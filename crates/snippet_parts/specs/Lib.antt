@@ -4,6 +4,7 @@ pub mod Counted
 pub mod Depths
 pub mod Entries
 pub mod Kept
+pub mod KeptEntries
 pub mod Least
 pub mod LineTable
 pub mod Located

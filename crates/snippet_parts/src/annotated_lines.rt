@@ -1,9 +1,11 @@
 //! The lines of a snippet that are kept, each with its entries.
-ghost use Rattle.std.specs.Prelude.{◌≡◌, ℕ, ◌+◌, ◌-◌, ◌<◌, ◌≤◌, ◌==◌, take, drop, All, length};
-ghost use Rattle.std.specs.Prelude.{map, filter, IfOk};
+ghost use Rattle.std.specs.Prelude.{◌≡◌, ◌≢◌, ℕ, ◌+◌, ◌<◌, ◌++◌, ◌∷◌, [], List, All, length, map, IfOk, IfSome, OnOk};
+ghost use Rattle.std.specs.List.{AllPairs, slice_index_or};
 ghost use Rattle.std.specs.List.Sorted.{IsNonDecreasingBy};
+ghost use Rattle.std.specs.Option.{IfNone};
 ghost use Rattle.snippet_parts.specs.Annotated as spec;
-ghost use Rattle.snippet_parts.specs.Annotated.{seen_part, seen_kept};
+ghost use Rattle.snippet_parts.specs.Annotated.{PartEntry, seen_part, seen_kept};
+ghost use Rattle.snippet_parts.specs.KeptEntries.{line_with};
 ghost use Rattle.snippet_lines.specs.Lines.{source_lines, text_at};
 ghost use Rattle.snippet_lines.specs.Span.{IsSpan};
 ghost use Rattle.snippet_parts.specs.Located.{IsLocated, annotations_of};
@@ -46,95 +48,118 @@ fn located_lines<'a>(
     ensures lines { IfOk result (λ drawn. map seen_kept drawn.1.items
         ≡ spec.annotated_lines fold source.now (annotations_of located.now)) }
 {
-    let (greatest, entries) = sorted_entries(alloc, source, located)?;
+    let (greatest, entries) = made_entries(alloc, source, located)?;
     let kept = kept_lines(alloc, source, located, fold)?;
     let seen = seen_lines(alloc, source, located)?;
-    let mut lines = Vec::with_capacity(alloc, kept.len())?;
-    for line in &kept {
-        let index = *line;
-        lines.push(annotated_line(alloc, source, index, is_among(&seen, index), &entries)?)?;
-    }
+    let mut lines = bare_lines(alloc, source, &kept, &seen)?;
+    add_entries(&mut lines, source, &kept, &entries)?;
     Ok((greatest, lines))
 }
 
-/// The greatest depth, and all entries in the order of their lines.
-fn sorted_entries<'a>(
+/// These lines, from 0, without entries, where the lines that spans touch which aren't marked are those.
+fn bare_lines<'a>(
     alloc: Global,
     source: &SourceMap<'a>,
-    located: &[LocatedSpan<'a>],
-) -> Result<(usize, Vec<LineAnnotation<'a>>), AllocError>
-    requires located { All (IsLocated source.now) located.now }
-    ensures deepest { IfOk result (λ made. made.0 ≡ spec.deepest source.now (annotations_of located.now)) }
-    ensures sorted { IfOk result (λ made. IsNonDecreasingBy (λ e. e.start.line) made.1.items) }
-    ensures value { IfOk result (λ made. (k : ℕ) → filter (λ p.
-        p.entry.start.line == source.now.first + k) (map seen_part made.1.items)
-        ≡ spec.parts_on source.now (annotations_of located.now) k) }
+    kept: &[usize],
+    seen: &[usize],
+) -> Result<Vec<AnnotatedLineInfo<'a>>, AllocError>
+    requires within { All (λ k. k < length (source_lines source.now.text)) kept.now }
+    requires ascending { IsNonDecreasingBy (λ k. k) seen.now }
+    ensures value { IfOk result (λ lines. map seen_kept lines.items ≡ map (line_with source.now seen.now []) kept.now) }
 {
-    let (greatest, mut entries) = made_entries(alloc, source, located)?;
-    entries.sort_by_key(|entry| entry.start.line)?;
-    Ok((greatest, entries))
+    let mut lines = Vec::with_capacity(alloc, kept.len())?;
+    for line in kept {
+        let index = *line;
+        lines.push(bare_line(alloc, source, index, is_among(seen, index)))?;
+    }
+    Ok(lines)
 }
 
-/// Line `index`, from 0, of which the entries are those of a sorted list that stand on it.
-fn annotated_line<'a>(
+/// Line `index`, from 0, without entries.
+fn bare_line<'a>(
     alloc: Global,
     source: &SourceMap<'a>,
     index: usize,
     keep: bool,
-    entries: &[LineAnnotation<'a>],
-) -> Result<AnnotatedLineInfo<'a>, AllocError>
+) -> AnnotatedLineInfo<'a>
     requires within { index < length (source_lines source.now.text) }
-    requires sorted { IsNonDecreasingBy (λ e. e.start.line) entries.now }
-    ensures value { IfOk result (λ info. seen_kept info ≡ record {
+    ensures value { seen_kept result ≡ record {
       number = source.now.first + index;
       text = text_at (source_lines source.now.text) index;
-      parts = filter (λ p. p.entry.start.line == source.now.first + index) (map seen_part entries.now);
+      parts = [];
       keep = keep;
+    } }
+{
+    AnnotatedLineInfo {
+        line: source.text_of_line(index),
+        line_index: source.line_number_of(index),
+        annotations: Vec::new(alloc),
+        keep,
+    }
+}
+
+/// Gives each of these lines, from 0, its entries, in their order. Those of other lines are left out.
+fn add_entries<'a>(
+    lines: &mut [AnnotatedLineInfo<'a>],
+    source: &SourceMap<'a>,
+    kept: &[usize],
+    entries: &[LineAnnotation<'a>],
+) -> Result<(), AllocError>
+    requires ascending { AllPairs (λ a b. a < b) kept.now }
+    requires count { length lines.old ≡ length kept.now }
+    ensures count { length lines.new ≡ length lines.old }
+    ensures added { OnOk result ((seen : List ℕ) → map seen_kept lines.old ≡ map (line_with source.now seen []) kept.now
+        → map seen_kept lines.new ≡ map (line_with source.now seen (map seen_part entries.now)) kept.now) }
+{
+    for entry in entries {
+        add_entry(lines, source, kept, entry)?;
+    }
+    Ok(())
+}
+
+/// Gives the one of these lines on which an entry stands this entry too.
+fn add_entry<'a>(
+    lines: &mut [AnnotatedLineInfo<'a>],
+    source: &SourceMap<'a>,
+    kept: &[usize],
+    entry: &LineAnnotation<'a>,
+) -> Result<(), AllocError>
+    requires ascending { AllPairs (λ a b. a < b) kept.now }
+    requires count { length lines.old ≡ length kept.now }
+    ensures count { length lines.new ≡ length lines.old }
+    ensures added { OnOk result ((seen : List ℕ) (parts : List PartEntry)
+        → map seen_kept lines.old ≡ map (line_with source.now seen parts) kept.now
+        → map seen_kept lines.new ≡ map (line_with source.now seen (parts ++ seen_part entry.now ∷ [])) kept.now) }
+{
+    if let Some(at) = place_of(kept, source.line_start(), entry.start.line) {
+        push_entry(&mut lines[at], entry)?;
+    }
+    Ok(())
+}
+
+/// At which place the line of a number is among these lines, where they count from 0 and the first has this number.
+fn place_of(kept: &[usize], first: usize, number: usize) -> Option<usize>
+    requires ascending { AllPairs (λ a b. a < b) kept.now }
+    ensures found { IfSome result (λ at. at < length kept.now) }
+    ensures number { IfSome result (λ at. first + slice_index_or kept.now at 0 ≡ number) }
+    ensures none { IfNone result ((k : ℕ) → k < length kept.now → first + slice_index_or kept.now k 0 ≢ number) }
+{
+    let index = number.checked_sub(first)?;
+    match kept.binary_search(&index) {
+        Ok(at) => Some(at),
+        Err(_) => None,
+    }
+}
+
+/// Gives a line one entry more.
+fn push_entry<'a>(
+    line: &mut AnnotatedLineInfo<'a>,
+    entry: &LineAnnotation<'a>,
+) -> Result<(), AllocError>
+    ensures added { OnOk result (seen_kept line.new ≡ record (seen_kept line.old) {
+      parts = (seen_kept line.old).parts ++ seen_part entry.now ∷ [];
     }) }
 {
-    let number = source.line_number_of(index);
-    Ok(AnnotatedLineInfo {
-        line: source.text_of_line(index),
-        line_index: number,
-        annotations: entries_on(alloc, entries, number)?,
-        keep,
-    })
-}
-
-/// Those of a sorted list of entries that stand on the line of a number.
-fn entries_on<'a>(
-    alloc: Global,
-    entries: &[LineAnnotation<'a>],
-    number: usize,
-) -> Result<Vec<LineAnnotation<'a>>, AllocError>
-    requires sorted { IsNonDecreasingBy (λ e. e.start.line) entries.now }
-    ensures value { IfOk result (λ on. on.items ≡ filter (λ e. e.start.line == number) entries.now) }
-{
-    let (from, to) = range_on(entries, number);
-    copied(alloc, &entries[from..to])
-}
-
-/// From which to before which place those of a sorted list of entries stand that are on the line of a number.
-fn range_on(entries: &[LineAnnotation<'_>], number: usize) -> (usize, usize)
-    requires sorted { IsNonDecreasingBy (λ e. e.start.line) entries.now }
-    ensures ordered { result.0 ≤ result.1 }
-    ensures within { result.1 ≤ length entries.now }
-    ensures value { take (result.1 - result.0) (drop result.0 entries.now)
-        ≡ filter (λ e. e.start.line == number) entries.now }
-{
-    let from = entries.partition_point(|entry| entry.start.line < number);
-    let to = entries.partition_point(|entry| entry.start.line <= number);
-    (from, to)
-}
-
-/// Some entries in a list of their own.
-fn copied<'a>(
-    alloc: Global,
-    entries: &[LineAnnotation<'a>],
-) -> Result<Vec<LineAnnotation<'a>>, AllocError>
-    ensures value { IfOk result (λ copied. copied.items ≡ entries.now) }
-{
-    let mut copied = Vec::with_capacity(alloc, entries.len())?;
-    copied.extend_from_slice(entries)?;
-    Ok(copied)
+    line.annotations.push(*entry)?;
+    Ok(())
 }

@@ -1,12 +1,14 @@
 -- Tables of stretches, the pieces of a text, and what stands in a line before a byte.
-use Rattle.std.proofs.Common.{◌≡◌, ◌≢◌, ◌∙◌, ◌⊎◌, inl, inr, ℕ, zero, suc, ◌+◌, ◌-◌, ◌<◌, ◌==◌, cond, eqb, List, [], ◌∷◌, ◌++◌, Vec, count_by, length, map, take}
+use Rattle.std.proofs.Common.{◌≡◌, ◌≢◌, ◌∙◌, ◌⊎◌, inl, inr, ℕ, zero, suc, ◌+◌, ◌-◌, ◌<◌, ◌==◌, cond, eqb, List, [], ◌∷◌, ◌++◌, Vec, count_by, drop, length, map}
+use Rattle.std.proofs.Common.{take}
 use Rattle.std.proofs.Common.{◌≤◌, set, get_or, chars, lit<, refl, sym, ap, arith, if◌then◌else◌, subst}
 use Rattle.std.specs.List.{onto_first, slice_split}
 use Rattle.std.specs.Str.{IsUtf8}
 use Rattle.std.specs.declared.alloc.Global.{Global}
 use Rattle.std.proofs.lemmas.Bool.{eq-eqb, eqb-true, cond-true, cond-false, false_from_ne_true, cases_Bool, cases_eq}
 use Rattle.std.proofs.lemmas.Bool.Decides.{nat_tests}
-use Rattle.std.proofs.lemmas.List.{append-nil, get_or_default, get_or-map, get_or-set_other, get_or-set_same, length-append, length-map, map-set, places}
+use Rattle.std.proofs.lemmas.List.{append-nil, get_or_default, get_or-drop, get_or-map, get_or-set_other, get_or-set_same, length-append, length-drop}
+use Rattle.std.proofs.lemmas.List.{length-map, map-set, places}
 use Rattle.std.proofs.lemmas.List.{same_lists}
 use Rattle.std.proofs.lemmas.List.Splits.{slice_split_at, slice_split_none}
 use Rattle.std.proofs.lemmas.List.Sums.{sum_by-cons}
@@ -49,6 +51,25 @@ line_set lines i was now x k within is more =
           let there : get_or (set (map f lines) i (f now)) k [] ≡ line_stretches lines k = get_or-set_other (map f lines) i k (f now) [] (λ e. other (sym e)) in
           all ∙ there ∙ sym (append-nil (line_stretches lines k)) ∙ ap (λ ys.
           line_stretches lines k ++ ys) (sym (cond-false (eqb i k) (x ∷ []) [] (false_from_ne_true _ (λ t. other (eqb-true i k t)))))
+    ]
+
+-- a line more at the end has its own stretches, and each other has those that it had
+pub line_added : (lines : List Row) (row : Row) (k : ℕ)
+    → line_stretches (lines ++ row ∷ []) k ≡ line_stretches lines k ++ (if length lines == k then row.items else [])
+line_added [] row zero = refl
+line_added [] row (suc k) = sym (cond-false (eqb 0 (suc k)) row.items [] (false_from_ne_true _ (λ t.
+    let e : 0 ≡ suc k = eqb-true 0 (suc k) t in absurd (omega (arith, e)))))
+line_added (l ∷ lines) row zero =
+    sym (append-nil l.items) ∙ ap (λ ys. l.items ++ ys) (sym (cond-false (eqb (suc (length lines)) 0) row.items [] (false_from_ne_true _ (λ t.
+    let e : suc (length lines) ≡ 0 = eqb-true (suc (length lines)) 0 t in absurd (omega (arith, e))))))
+line_added (l ∷ lines) row (suc k) =
+    line_added lines row k ∙ ap (λ t. line_stretches lines k ++ cond t row.items []) (both (length lines) k)
+  where
+    both : (a b : ℕ) → eqb a b ≡ eqb (suc a) (suc b)
+    both a b = elim (cases_eq a b) [
+      | inl same ↦ eq-eqb a b same ∙ sym (eq-eqb (suc a) (suc b) (ap suc same))
+      | inr other ↦ false_from_ne_true _ (λ t. other (eqb-true a b t)) ∙ sym (false_from_ne_true _ (λ t.
+          let e : suc a ≡ suc b = eqb-true (suc a) (suc b) t in other (omega (arith, e))))
     ]
 
 -- ---- pieces
@@ -169,27 +190,32 @@ after_utf8 text utf8 = elim (zero_or (count_by is_lf text)) [
 
 -- ---- characters of a line
 
--- before the end of a text stand those of its last line, and if that is its only one, those that stand before it
-pub chars_on : (front text : List ℕ) (before : ℕ) → IsUtf8 front → before ≡ length (chars (after_last_lf front))
-    → (if count_by is_lf text == 0 then before else 0) + length (chars (after_last_lf text)) ≡ length (chars (after_last_lf (front ++ text)))
-chars_on front text before utf8 is =
-    elim (zero_or (count_by is_lf text)) [
-      | inl zeros ↦
-          let adds : (if count_by is_lf text == 0 then before else 0) ≡ before = cond-true (eqb (count_by is_lf text) 0) before 0 (eq-eqb _ 0 zeros) in
-          let all : after_last_lf (front ++ text) ≡ after_last_lf front ++ after_last_lf text = after_append front text zeros
-          ∙ ap (λ ys. after_last_lf front ++ ys) (sym (after_none text zeros)) in
-          let joined : chars (after_last_lf (front ++ text)) ≡ chars (after_last_lf front) ++ chars (after_last_lf text) = ap chars all
-          ∙ chars-append (after_last_lf front) (after_last_lf text) (after_utf8 front utf8) in
-          let total : length (chars (after_last_lf (front ++ text))) ≡ length (chars (after_last_lf front)) + length
-          (chars (after_last_lf text)) = ap length joined ∙ length-append (chars (after_last_lf front)) (chars (after_last_lf text)) in
-          omega (arith, adds, is, total)
-      | inr some ↦
-          let adds : (if count_by is_lf text == 0 then before else 0) ≡ 0 = cond-false (eqb (count_by is_lf text) 0) before 0
-          (false_from_ne_true _ (λ t. let none : count_by is_lf text ≡ 0 = eqb-true _ 0 t in omega (arith, none, some))) in
-          let total : length (chars (after_last_lf (front ++ text))) ≡ length (chars (after_last_lf text)) = ap (λ t.
-          length (chars t)) (after_other front text some) in
-          omega (arith, adds, total)
-    ]
+-- before the end of a text without LF stand those before it, and its own
+pub chars_more : (front text : List ℕ) (before : ℕ) → IsUtf8 front → before ≡ length (chars (after_last_lf front)) → HoldsNoLf text
+    → before + length (chars text) ≡ length (chars (after_last_lf (front ++ text)))
+chars_more front text before utf8 is none =
+    let joined : chars (after_last_lf (front ++ text)) ≡ chars (after_last_lf front) ++ chars text = ap chars (after_append front text (feeds_whole text none))
+    ∙ chars-append (after_last_lf front) text (after_utf8 front utf8) in
+    omega (arith, is, ap length joined, length-append (chars (after_last_lf front)) (chars text))
+
+-- no LF stands after this place
+abbrev pub HasNoLfAfter : List ℕ → ℕ → Type 0
+HasNoLfAfter text i = (k : ℕ) → i + 1 ≤ k → k < length text → get_or text k 0 ≢ 10
+
+cut_at : (text : List ℕ) (i : ℕ) → i < length text → text ≡ take i text ++ (get_or text i 0 ∷ drop (i + 1) text)
+cut_at text i within = same_lists _ _ (grind (arith, places)) (λ k d h. grind (arith, places))
+
+-- before the end of a text with LF stand those after the last of them
+pub chars_anew : (front text : List ℕ) (i : ℕ) → i < length text → get_or text i 0 ≡ 10 → HasNoLfAfter text i
+    → length (chars (drop (i + 1) text)) ≡ length (chars (after_last_lf (front ++ text)))
+chars_anew front text i within lf none =
+    let piece : List ℕ = take i text in
+    let after : List ℕ = drop (i + 1) text in
+    let whole : text ≡ piece ++ 10 ∷ after = cut_at text i within ∙ ap (λ b. piece ++ (b ∷ after)) lf in
+    let some : 0 < count_by is_lf text = omega (arith, ap (count_by is_lf) whole, feeds-append piece (10 ∷ after), one_lf after) in
+    let left : HoldsNoLf after = λ k h is. none (i + 1 + k) (omega arith) (omega (arith, h, length-drop (i + 1) text))
+    (sym (get_or-drop (i + 1) text k 0) ∙ is) in
+    ap (λ t. length (chars t)) (sym (after_other front text some ∙ after_piece text piece after whole ∙ after_whole after left))
 
 -- ---- pieces of the source
 

@@ -1,5 +1,6 @@
 -- Laws of what a replacement keeps.
-use Rattle.std.proofs.Common.{◌≡◌, ◌≢◌, ℕ, zero, suc, ◌+◌, ◌-◌, ◌<◌, ◌≤◌, Bool, true, false, cond, ◌||◌, ltb, leb, Option, Some, None, List, ◌++◌, length, take}
+use Rattle.std.proofs.Common.{◌≡◌, ◌≢◌, ℕ, zero, suc, ◌+◌, ◌-◌, ◌<◌, ◌≤◌, Bool, true, false, cond, ◌||◌, ltb, leb, Option, Some, None, List, [], ◌∷◌, ◌++◌}
+use Rattle.std.proofs.Common.{length, take}
 use Rattle.std.proofs.Common.{drop, get_or, refl, sym, ap, subst, ◌∙◌, ⊎_elim, arith, append_assoc, le_refl}
 use Rattle.std.proofs.lemmas.List.{append-nil, length-append, length-take-le, length-drop, take_at, drop_at, take_all, drop_all, take-append-drop, drop-drop}
 use Rattle.std.proofs.lemmas.List.{drop-append-le, get_or_past}
@@ -125,6 +126,17 @@ pub sandwiched-parts : (o r : List ℕ) (n : ℕ) (rest tail : List ℕ) → IsC
     → ((front : List ℕ) → tail ≢ front ++ rest) → (a : ℕ) (m : List ℕ) (b : ℕ) → IsSandwiched o r a m b → ⊥
 sandwiched-parts o r n rest tail common of_o of_r none =
     sandwiched-inside o r n common (λ front e. none front (of_r ∙ e ∙ ap (λ l. front ++ l) (sym of_o)))
+
+-- a replacement that isn't longer than the original, and doesn't begin with it, isn't the original with a text put in
+pub sandwiched-longer : (o r : List ℕ) → length r ≤ length o → ((rest : List ℕ) → r ≢ o ++ rest)
+    → (a : ℕ) (m : List ℕ) (b : ℕ) → IsSandwiched o r a m b → ⊥
+sandwiched-longer o r few other a [] b s =
+    let same : take a o ++ [] ++ drop a o ≡ o ++ [] = ap (λ l. l ++ drop a o) (append-nil (take a o))
+    ∙ take-append-drop a o ∙ sym (append-nil o) in
+    other [] (s.whole ∙ same)
+sandwiched-longer o r few other a (x ∷ m) b s =
+    let front : length (take a o) ≡ a = length-take-le a o (omega (arith, s.parts)) in
+    omega (arith, few, s.parts, ap length s.whole, length-append (take a o ++ x ∷ m) (drop a o), length-append (take a o) (x ∷ m), front, length-drop a o)
 
 -- ---- the test
 

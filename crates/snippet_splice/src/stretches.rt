@@ -17,6 +17,7 @@ ghost use Rattle.snippet_style.specs.Bounds.{IsUsize};
 
 use crate::copy::text_place;
 use crate::patches::TrimmedPatch;
+use memchr::memrchr;
 use snippet_lines::line_feed_count;
 use snippet_style::char_count;
 use std::alloc::{AllocError, Global};
@@ -73,7 +74,7 @@ pub(crate) fn patch_places<'s, 'a>(
             feeds: line_feed_count(between),
             text_start,
             start,
-            end: end_char(source, patch, start, chars),
+            end: end_char(source, patch, inside, start, chars),
             inside,
             replacement: patch.replacement,
         })?;
@@ -83,16 +84,23 @@ pub(crate) fn patch_places<'s, 'a>(
 }
 
 /// The character number of a patch's end: that of its start if its span is empty, and one more where it ends on a later
-/// line, after the text of that.
-fn end_char(source: &str, patch: &TrimmedPatch<'_>, start: usize, chars: usize) -> usize
-    requires span { IsSpan source.now patch.now.span.start patch.now.span.end }
-    ensures value { let e = trimmed_edit_of patch.now in (from : ℕ) → start ≡ start_character source.now from e.start
-        → chars ≡ characters_before source.now from e.end → result ≡ end_character source.now from e }
+/// line, after the text of that. The text `inside` is what its span stands over.
+fn end_char(
+    source: &str,
+    patch: &TrimmedPatch<'_>,
+    inside: &str,
+    start: usize,
+    chars: usize,
+) -> usize
+    ensures value { let e = trimmed_edit_of patch.now in (from : ℕ)
+        → inside.now ≡ slice_range source.now (in_text source.now e.start) (in_text source.now e.end)
+        → start ≡ start_character source.now from e.start → chars ≡ characters_before source.now from e.end
+        → result ≡ end_character source.now from e }
 {
     if patch.span.start == patch.span.end {
         return start;
     }
-    if line_feed_count(text_between(source, patch.span.start, patch.span.end)) == 0 {
+    if line_feed_count(inside) == 0 {
         chars
     } else {
         chars.saturating_add(steps_after_text(source, patch.span.end))
@@ -122,23 +130,10 @@ fn chars_after(before: usize, text: &str) -> usize
     ensures value { (front : List ℕ) → IsUtf8 front → before ≡ length (chars (after_last_lf front))
         → IsUsize (length (front ++ text.now)) → result ≡ length (chars (after_last_lf (front ++ text.now))) }
 {
-    let before = if line_feed_count(text) == 0 {
-        before
-    } else {
-        0
-    };
-    before.saturating_add(char_count(last_line(text)))
-}
-
-/// What stands after the last line feed of a text: all of it, if it has none.
-fn last_line(text: &str) -> &str
-    ensures value { result.now ≡ after_last_lf text.now }
-{
-    let mut rest = text;
-    while let Some((_, after)) = rest.split_once('\n') {
-        rest = after;
+    match memrchr(b'\n', text.as_bytes()) {
+        Some(at) => char_count(&text[at + 1..]),
+        None => before.saturating_add(char_count(text)),
     }
-    rest
 }
 
 /// The stretches that are written anew, by lines of the text; `feeds` more lines follow the last patch.
@@ -159,9 +154,10 @@ pub(crate) fn new_stretches(
     for place in places {
         line = line.saturating_add(place.feeds);
         let start = text_start(shown, end, place);
-        push_pieces(alloc, &mut lines, line, start, place.replacement)?;
-        line = line.saturating_add(line_feed_count(place.replacement));
-        shown = shown_end(start, place);
+        let last = push_pieces(alloc, &mut lines, line, start, place.replacement)?;
+        let feeds = line_feed_count(place.replacement);
+        line = line.saturating_add(feeds);
+        shown = shown_end(start, place, feeds, last);
         end = place.end;
     }
     open_lines(
@@ -184,31 +180,31 @@ fn text_start(shown: usize, end: usize, place: &PatchExtent<'_, '_>) -> usize
     }
 }
 
-/// As which character the end of a patch stands, whose text begins at character `start`: after that, but where the text
-/// has several lines, as in the source.
-fn shown_end(start: usize, place: &PatchExtent<'_, '_>) -> usize
+/// As which character the end of a patch stands, whose text begins at character `start` and has so many line feeds: as
+/// `last`, the end of its text, but where the text has several lines, as in the source.
+fn shown_end(start: usize, place: &PatchExtent<'_, '_>, feeds: usize, last: usize) -> usize
+    requires feeds { feeds ≡ count_by is_lf place.now.replacement.now }
+    requires last { feeds ≡ 0 → last ≡ capped (start + spec.stretch_width place.now.replacement.now) }
     ensures value { result ≡ spec.shown_end start (extent_of place.now) }
 {
-    if line_feed_count(place.replacement) == 0 {
-        start.saturating_add(stretch_width(place.replacement))
-    } else {
-        place.end
-    }
+    if feeds == 0 { last } else { place.end }
 }
 
 /// Adds a stretch for each piece of a replacement, cut at its line feeds: the first from character `from` on, on line
-/// `first`, each other from the beginning of the next line on.
+/// `first`, each other from the beginning of the next line on. It gives the end of the last one.
 fn push_pieces(
     alloc: Global,
     lines: &mut Vec<Vec<SubstitutionHighlight>>,
     first: usize,
     from: usize,
     replacement: &str,
-) -> Result<(), AllocError>
+) -> Result<usize, AllocError>
     ensures value { OnOk result ((k : ℕ) → line_stretches lines.new.items k
         ≡ line_stretches lines.old.items k ++ pieces_on k first from (pieces_of replacement.now)) }
     ensures lines { OnOk result (length lines.new.items
         ≡ max (length lines.old.items) (capped (first + count_by is_lf replacement.now + 1))) }
+    ensures end { IfOk result (λ end. count_by is_lf replacement.now ≡ 0
+        → end ≡ capped (from + spec.stretch_width replacement.now)) }
 {
     let mut start = from;
     let mut line = first;
@@ -221,7 +217,8 @@ fn push_pieces(
         rest = after;
     }
     let end = start.saturating_add(stretch_width(rest));
-    push_stretch(alloc, lines, line, SubstitutionHighlight { start, end })
+    push_stretch(alloc, lines, line, SubstitutionHighlight { start, end })?;
+    Ok(end)
 }
 
 /// Adds a stretch to a line.
@@ -235,10 +232,31 @@ fn push_stretch(
         ≡ line_stretches lines.old.items k ++ (if line == k then stretch ∷ [] else [])) }
     ensures lines { OnOk result (length lines.new.items ≡ max (length lines.old.items) (capped (line + 1))) }
 {
-    open_lines(alloc, lines, line.saturating_add(1))?;
+    if lines.len() <= line {
+        return push_line(alloc, lines, line, stretch);
+    }
     if let Some(stretches) = lines.get_mut(line) {
         stretches.push(stretch)?;
     }
+    Ok(())
+}
+
+/// Adds a line with a stretch, of this number, and those before it that aren't there, without stretches.
+fn push_line(
+    alloc: Global,
+    lines: &mut Vec<Vec<SubstitutionHighlight>>,
+    line: usize,
+    stretch: SubstitutionHighlight,
+) -> Result<(), AllocError>
+    requires new { length lines.old.items ≤ line }
+    ensures value { OnOk result ((k : ℕ) → line_stretches lines.new.items k
+        ≡ line_stretches lines.old.items k ++ (if line == k then stretch ∷ [] else [])) }
+    ensures lines { OnOk result (length lines.new.items ≡ max (length lines.old.items) (capped (line + 1))) }
+{
+    open_lines(alloc, lines, line)?;
+    let mut stretches = Vec::with_capacity(alloc, 1)?;
+    stretches.push(stretch)?;
+    lines.push(stretches)?;
     Ok(())
 }
 

@@ -19,6 +19,9 @@ pub fn as_substr<'a>(original: &str, replacement: &'a str) -> Option<(usize, &'a
     if let Some(middle) = replacement.strip_prefix(original) {
         return Some((original.len(), middle, 0));
     }
+    if replacement.len() <= original.len() {
+        return None;
+    }
     if let Some(middle) = replacement.strip_suffix(original) {
         return Some((0, middle, original.len()));
     }

@@ -1,4 +1,6 @@
 pub mod AmongLaws
+pub mod ApartLemmas
+pub mod SwapLemmas
 pub mod BarLaws
 pub mod BarLemmas
 pub mod BarRows
@@ -54,6 +56,7 @@ pub mod StrokeWrites
 pub mod TextLemmas
 pub mod WholeLemmas
 pub mod WholeLineLemmas
+pub mod WholeMarks
 pub mod WindowTextLemmas
 pub mod WriteLaws
 pub mod WriteLemmas

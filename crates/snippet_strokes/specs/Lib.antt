@@ -1,3 +1,4 @@
+pub mod Apart
 pub mod Bars
 pub mod Cuts
 pub mod Drawing

@@ -2,6 +2,7 @@
 //! labels.
 #![tactic(auto)]
 
+mod apart;
 mod bars;
 mod connectors;
 mod corners;

@@ -11,20 +11,32 @@ use snippet_text::CowStr;
 use std::alloc::{AllocError, Global};
 use std::ops::Range;
 
-/// How many glyphs each of the strips below has: few marks are longer.
-const STRIP: usize = 64;
+/// How many glyphs each of the strips below has: few marks are longer, and few lines have more bars beside them.
+const STRIP: usize = 128;
 
-const CARETS: &str = "^^^^^^^^^^^^^^^^^^^^^^^^^^^^^^^^^^^^^^^^^^^^^^^^^^^^^^^^^^^^^^^^";
+const CARETS: &str = concat!(
+    "^^^^^^^^^^^^^^^^^^^^^^^^^^^^^^^^^^^^^^^^^^^^^^^^^^^^^^^^^^^^^^^^",
+    "^^^^^^^^^^^^^^^^^^^^^^^^^^^^^^^^^^^^^^^^^^^^^^^^^^^^^^^^^^^^^^^^",
+);
 
-const DASHES: &str = "----------------------------------------------------------------";
+const DASHES: &str = concat!(
+    "----------------------------------------------------------------",
+    "----------------------------------------------------------------",
+);
 
-const CONNECTORS: &str = "________________________________________________________________";
+const CONNECTORS: &str = concat!(
+    "________________________________________________________________",
+    "________________________________________________________________",
+);
 
-const BARS: &str = "||||||||||||||||||||||||||||||||||||||||||||||||||||||||||||||||";
+const BARS: &str = concat!(
+    "||||||||||||||||||||||||||||||||||||||||||||||||||||||||||||||||",
+    "||||||||||||||||||||||||||||||||||||||||||||||||||||||||||||||||",
+);
 
 /// A strip of a glyph, if there is one.
 fn strip_of(glyph: char) -> Option<&'static str>
-    ensures value { IfSome result (λ strip. strip.now ≡ replicate 64 glyph) }
+    ensures value { IfSome result (λ strip. strip.now ≡ replicate 128 glyph) }
     ensures ascii { IfSome result (λ strip. glyph < 128) }
 {
     match glyph {
@@ -38,9 +50,9 @@ fn strip_of(glyph: char) -> Option<&'static str>
 
 /// The first glyphs of a strip.
 fn first_of(strip: &'static str, glyph: char, count: usize) -> &'static str
-    requires strip { strip.now ≡ replicate 64 glyph }
+    requires strip { strip.now ≡ replicate 128 glyph }
     requires ascii { glyph < 128 }
-    requires within { count ≤ 64 }
+    requires within { count ≤ 128 }
     ensures value { chars result.now ≡ replicate count glyph }
 {
     &strip[..count]

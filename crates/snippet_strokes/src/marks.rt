@@ -45,7 +45,7 @@ pub fn draw_marks(
 /// # Errors
 ///
 /// There is no memory to sort them.
-fn sort_for_painting(placed: &mut Vec<PlacedEntry>) -> Result<(), AllocError>
+pub(crate) fn sort_for_painting(placed: &mut Vec<PlacedEntry>) -> Result<(), AllocError>
     ensures order { OnOk result (placed.new.items ≡ painting_order placed.old.items) }
 {
     placed.sort_by_key(|p| (Reverse(entry_width(&p.entry)), is_primary(p.entry.kind)))
@@ -59,7 +59,7 @@ fn entry_width(entry: &LineAnnotation) -> usize
 }
 
 /// Paints the marks of entries into a row, each over those before it.
-fn paint_entries(
+pub(crate) fn paint_entries(
     alloc: Global,
     buffer: &mut StyledBuffer,
     layout: Layout,
@@ -99,6 +99,10 @@ fn paint_entry(
     }
     let first = first_glyph(layout.decor, placed);
     let cell = layout.code_cell(start);
+    if first == strokes.underline {
+        let whole = cell..layout.code_cell(end);
+        return draw_stretch(alloc, buffer, row, whole, first, strokes.style);
+    }
     buffer.putc(row, cell, first, strokes.style)?;
     let rest = cell + 1..layout.code_cell(end);
     draw_stretch(alloc, buffer, row, rest, strokes.underline, strokes.style)

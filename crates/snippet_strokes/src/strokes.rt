@@ -9,18 +9,20 @@ ghost use Rattle.snippet_style.specs.Cell.{Cell};
 ghost use Rattle.snippet_strokes.specs.Drawing as spec;
 ghost use Rattle.snippet_strokes.specs.Drawing.{AreEnough};
 ghost use Rattle.snippet_strokes.specs.StrokeRows.{AddsStrokes, HasNoBars};
-ghost use Rattle.snippet_strokes.specs.Strokes.{AddsPainted, strokes_under_marks};
+ghost use Rattle.snippet_strokes.specs.Strokes.{AddsPainted, line_strokes, strokes_under_marks};
+ghost use Rattle.snippet_strokes.specs.Painting.{painting_order};
 ghost use Rattle.snippet_strokes.specs.Writes.{painted};
 ghost use Rattle.snippet_style.specs.Separators.{closing_row};
 ghost use Rattle.snippet_grid.specs.Layout.{inner_cell};
 ghost use Rattle.snippet_text.specs.TextBounds.{TextFits};
 ghost use Rattle.snippet_style.specs.Bounds.{FitsRow, IsCount};
 
+use crate::apart::{draw_apart, stand_apart};
 use crate::connectors::draw_connectors;
 use crate::corners::draw_corners;
 use crate::cuts::{cut_wide, overlapping};
 use crate::labels::draw_labels;
-use crate::marks::draw_marks;
+use crate::marks::{draw_marks, sort_for_painting};
 use crate::row::{begin_closing_row, begin_rows};
 use crate::stems::draw_stems;
 use snippet_grid::{Layout, StyledBuffer};
@@ -87,9 +89,34 @@ pub(crate) fn draw_strokes(
     let mut placed = placed_entries(alloc, place.dropped, entries)?;
     let overlapped = overlapping(alloc, layout.decor, place.room, &placed)?;
     begin_rows(buffer, layout, place.closes, row_count(&placed))?;
-    draw_under_marks(alloc, buffer, layout, place.row, &placed)?;
-    draw_marks(alloc, buffer, layout, place.row + 1, &mut placed)?;
+    paint_strokes(alloc, buffer, layout, place.row, &mut placed)?;
     cut_wide(buffer, layout, place.row, place.room, &placed, &overlapped)
+}
+
+/// Draws the strokes of a line into the rows that are begun for them below its source row, which has this number, and
+/// puts its entries in the order of painting. Where strokes stand side by side they are drawn from left to right.
+fn paint_strokes(
+    alloc: Global,
+    buffer: &mut StyledBuffer,
+    layout: Layout,
+    row: usize,
+    placed: &mut Vec<PlacedEntry>,
+) -> Result<(), AllocError>
+    requires enough { AreEnough layout row (length buffer.old) placed.old.items }
+    requires labels { All HasItsLabel placed.old.items }
+    requires short { All (λ e. FitsRow (label_text e.entry)) placed.old.items }
+    ensures order { OnOk result (placed.new.items ≡ painting_order placed.old.items) }
+    ensures painted { OnOk result (buffer.new ≡ painted (line_strokes layout row
+        (length buffer.old) placed.old.items (painting_order placed.old.items)) buffer.old) }
+    ensures count { OnOk result (length buffer.new ≡ length buffer.old) }
+{
+    if stand_apart(placed) {
+        draw_apart(alloc, buffer, layout, row, placed)?;
+        return sort_for_painting(placed);
+    }
+    draw_under_marks(alloc, buffer, layout, row, placed)?;
+    draw_marks(alloc, buffer, layout, row + 1, placed)?;
+    Ok(())
 }
 
 /// Draws the strokes of a line but its marks into the rows that are begun for them below its source row, which has this

@@ -14,6 +14,7 @@ pub mod MarksDrawn
 pub mod NumberLaws
 pub mod OfferLaws
 pub mod OrderLaws
+pub mod PartRows
 pub mod PreparedLemmas
 pub mod PutLemmas
 pub mod PutRows

@@ -11,6 +11,7 @@ use Rattle.snippet_style.specs.declared.role.ElementStyle.{ElementStyle}
 use Rattle.snippet_style.specs.declared.role.ElementStyle.TheVariants.{Addition, LineNumber, NoStyle, Removal}
 use Rattle.snippet_style.specs.Cell.{Cell, SPACE, text_cells, written}
 use Rattle.snippet_style.specs.Glyphs.{placeholder_of, removed_sign_of}
+use Rattle.snippet_style.proofs.CellLemmas.{length-chars_le, length-text_cells}
 use Rattle.snippet_grid.specs.Grid.{cells_written, row_at}
 use Rattle.snippet_grid.proofs.GridLemmas.{cells_written_below, cells_written_last}
 use Rattle.snippet_text.specs.Normalized.{norm}
@@ -23,9 +24,15 @@ use Rattle.snippet_splice.specs.declared.stretches.SubstitutionHighlight.{Substi
 use Rattle.snippet_suggest.specs.declared.kind.DisplaySuggestion.{DisplaySuggestion}
 use Rattle.snippet_suggest.specs.declared.kind.DisplaySuggestion.TheVariants.{Diff}
 use Rattle.snippet_suggest.specs.declared.layout.SuggestionStart.TheVariants.{Next, Opening, Path}
-use Rattle.snippet_suggest.specs.Cells.{begin_cells, end_cells, gap_cells, line_cells, offered_cells, put, removed_cells, sign_of, with_stretches}
+use Rattle.snippet_suggest.specs.Cells.{begin_cells, begun_cells, end_cells, gap_cells, line_cells, lines_shown, offered_cells, put, removed_cells, row_shown}
+use Rattle.snippet_suggest.specs.Cells.{sign_of, with_stretches}
+use Rattle.snippet_suggest.specs.RowOrder.{number_after}
+use Rattle.snippet_suggest.specs.declared.lines.SuggestedText.{SuggestedText}
+use Rattle.snippet_suggest.specs.declared.shown.SuggestionLine.TheVariants.{Line}
+use Rattle.snippet_splice.specs.EditStretches.{line_stretches}
+use Rattle.std.specs.List.{slice_index_or}
 use Rattle.snippet_suggest.specs.SuggestionRows.{end_glyph}
-use Rattle.std.proofs.lemmas.List.{get_or_past, places, same_lists}
+use Rattle.std.proofs.lemmas.List.{get_or_past, length-map, places, same_lists}
 use Rattle.snippet_style.specs.Glyphs.{suggestion_glyph_of, suggestion_role_of}
 
 -- a text that isn't empty has characters
@@ -116,29 +123,77 @@ pub placeholder_some : (decor : DecorStyle) → placeholder_of decor ≢ []
 placeholder_some Ascii = λ none. cc
 placeholder_some Unicode = λ none. cc
 
--- the row of a line was drawn
-pub line_drawn : (layout : SuggestionLayout) (glyph : SuggestionGlyph) (number : ℕ) (line : List ℕ) (role : ElementStyle)
-    (signed digits text : List ℕ) (r : ℕ) (old one two new : List (List Cell)) → r ≡ length old → role ≡ suggestion_role_of glyph
+-- two texts that are put into an empty row, the first of them left of the other
+swapped : (new first : List Cell) (at : ℕ) → length first ≤ at
+    → written SPACE (written SPACE [] 0 first) at new ≡ written SPACE (written SPACE [] at new) 0 first
+swapped new first at few =
+    same_lists _ _ (unfold written in grind (arith, places)) (λ k d h. unfold written in grind (arith, places))
+
+-- it is the same in which order they are put
+put_swap : (role other : ElementStyle) (cs ds : List ℕ) (at : ℕ) → length ds ≤ at → put role cs at (put other ds 0 []) ≡ put other ds 0 (put role cs at [])
+unfolding put
+put_swap role other [] ds at few = refl
+put_swap role other (c ∷ cs) [] at few = refl
+put_swap role other (c ∷ cs) (d ∷ ds) at few =
+    swapped (text_cells role (c ∷ cs)) (text_cells other (d ∷ ds)) at (omega (arith, few, length-text_cells other (d ∷ ds)))
+
+-- what stands left of a line was drawn, from left to right
+pub begun_in_order : (layout : SuggestionLayout) (glyph : SuggestionGlyph) (number : ℕ) (role : ElementStyle)
+    (signed digits : List ℕ) (r : ℕ) (old one new : List (List Cell)) → r ≡ length old → role ≡ suggestion_role_of glyph
     → chars signed ≡ suggestion_glyph_of layout.base.decor glyph
-    → chars digits ≡ shown_number layout.numbers layout.base.gutter number → chars text ≡ norm (chars line)
-    → IsUtf8 digits → IsUtf8 text → one ≡ cells_written old r (layout.base.gutter + 1) (text_cells role (chars signed))
-    → (0 < length digits → two ≡ cells_written one r 0 (text_cells LineNumber (chars digits))) → (digits ≡ [] → two ≡ one)
-    → (0 < length text → new ≡ cells_written two r (layout.base.gutter + 3) (text_cells NoStyle (chars text))) → (text ≡ [] → new ≡ two)
+    → chars digits ≡ shown_number layout.numbers layout.base.gutter number → IsUtf8 digits → length digits ≤ layout.base.gutter + 1
+    → (0 < length digits → one ≡ cells_written old r 0 (text_cells LineNumber (chars digits))) → (digits ≡ [] → one ≡ old)
+    → new ≡ cells_written one r (layout.base.gutter + 1) (text_cells role (chars signed))
+    → new ≡ old ++ begun_cells layout glyph number ∷ []
+unfolding begun_cells
+begun_in_order layout glyph number role signed digits r old one new here role_is sign_is digits_are utf8 few numbers no_number signs =
+    let at = layout.base.gutter + 1 in
+    let k = suggestion_role_of glyph in
+    let sign = suggestion_glyph_of layout.base.decor glyph in
+    let first = put_over LineNumber digits 0 r old [] old one utf8 here (sym (append-nil old)) (omega arith) numbers no_number in
+    let second = put_begun k sign at r old first.tail one new (glyph_some layout.base.decor glyph) here first.is first.few
+    (signs ∙ ap (λ (t : ElementStyle). cells_written one r at (text_cells t (chars signed))) role_is
+    ∙ ap (λ (cs : List ℕ). cells_written one r at (text_cells k cs)) sign_is) in
+    second ∙ ap (λ (row : List Cell). old ++ put k sign at row ∷ []) first.row_is
+    ∙ ap (λ (row : List Cell). old ++ row ∷ []) (put_swap k LineNumber sign (chars digits) at (omega (arith, few, length-chars_le digits)))
+    ∙ ap (λ (cs : List ℕ). old ++ put LineNumber cs 0 (put k sign at []) ∷ []) digits_are
+
+-- the same where the number is put over the glyph
+pub begun_over : (layout : SuggestionLayout) (glyph : SuggestionGlyph) (number : ℕ) (role : ElementStyle)
+    (signed digits : List ℕ) (r : ℕ) (old one new : List (List Cell)) → r ≡ length old → role ≡ suggestion_role_of glyph
+    → chars signed ≡ suggestion_glyph_of layout.base.decor glyph
+    → chars digits ≡ shown_number layout.numbers layout.base.gutter number → IsUtf8 digits
+    → one ≡ cells_written old r (layout.base.gutter + 1) (text_cells role (chars signed))
+    → (0 < length digits → new ≡ cells_written one r 0 (text_cells LineNumber (chars digits))) → (digits ≡ [] → new ≡ one)
+    → new ≡ old ++ begun_cells layout glyph number ∷ []
+unfolding begun_cells
+begun_over layout glyph number role signed digits r old one new here role_is sign_is digits_are utf8 signs numbers no_number =
+    let at = layout.base.gutter + 1 in
+    let k = suggestion_role_of glyph in
+    let sign = suggestion_glyph_of layout.base.decor glyph in
+    let first : one ≡ old ++ put k sign at [] ∷ [] =
+    put_begun k sign at r old [] old one (glyph_some layout.base.decor glyph) here (sym (append-nil old)) (omega arith)
+    (signs ∙ ap (λ (t : ElementStyle). cells_written old r at (text_cells t (chars signed))) role_is
+    ∙ ap (λ (cs : List ℕ). cells_written old r at (text_cells k cs)) sign_is) in
+    put_more LineNumber digits 0 r old (put k sign at []) one new utf8 here first numbers no_number
+    ∙ ap (λ (cs : List ℕ). old ++ put LineNumber cs 0 (put k sign at []) ∷ []) digits_are
+
+-- the line after that is its row
+pub line_is : (layout : SuggestionLayout) (glyph : SuggestionGlyph) (number : ℕ) (line : List ℕ)
+    → put NoStyle (norm (chars line)) (layout.base.gutter + 3) (begun_cells layout glyph number) ≡ line_cells layout glyph number line
+unfolding begun_cells line_cells
+line_is layout glyph number line = refl
+
+-- the row of a line was drawn
+pub line_drawn : (layout : SuggestionLayout) (glyph : SuggestionGlyph) (number : ℕ) (line text : List ℕ) (r : ℕ) (old one new : List (List Cell))
+    → r ≡ length old → one ≡ old ++ begun_cells layout glyph number ∷ [] → chars text ≡ norm (chars line) → IsUtf8 text
+    → (0 < length text → new ≡ cells_written one r (layout.base.gutter + 3) (text_cells NoStyle (chars text))) → (text ≡ [] → new ≡ one)
     → new ≡ old ++ line_cells layout glyph number line ∷ []
-unfolding line_cells
-line_drawn layout glyph number line role signed digits text r old one two new here role_is sign_is digits_are text_is utf8_digits utf8_text signs numbers
-    no_number texts no_text =
+line_drawn layout glyph number line text r old one new here begun text_is utf8 texts no_text =
     let g = layout.base.gutter in
-    let sign_row = put (suggestion_role_of glyph) (suggestion_glyph_of layout.base.decor glyph) (g + 1) [] in
-    let first : one ≡ old ++ sign_row ∷ [] =
-    put_begun (suggestion_role_of glyph) (suggestion_glyph_of layout.base.decor glyph) (g + 1) r old [] old one (glyph_some layout.base.decor glyph) here
-    (sym (append-nil old))
-    (omega arith) (signs ∙ ap (λ (k : ElementStyle). cells_written old r (g + 1)
-    (text_cells k (chars signed))) role_is ∙ ap (λ (cs : List ℕ). cells_written old r (g + 1) (text_cells (suggestion_role_of glyph) cs)) sign_is) in
-    let second = put_more LineNumber digits 0 r old sign_row one two utf8_digits here first numbers no_number in
-    let third = put_more NoStyle text (g + 3) r old (put LineNumber (chars digits) 0 sign_row) two new utf8_text here second texts no_text in
-    third ∙ ap (λ (cs : List ℕ). old ++ put NoStyle cs (g + 3) (put LineNumber (chars digits) 0 sign_row) ∷ []) text_is
-    ∙ ap (λ (cs : List ℕ). old ++ put NoStyle (norm (chars line)) (g + 3) (put LineNumber cs 0 sign_row) ∷ []) digits_are
+    put_more NoStyle text (g + 3) r old (begun_cells layout glyph number) one new utf8 here begun texts no_text
+    ∙ ap (λ (cs : List ℕ). old ++ put NoStyle cs (g + 3) (begun_cells layout glyph number) ∷ []) text_is
+    ∙ ap (λ (row : List Cell). old ++ row ∷ []) (line_is layout glyph number line)
 
 -- the row of a line that is removed was drawn, over one that is there or not
 pub removed_drawn : (layout : SuggestionLayout) (role : ElementStyle) (number : ℕ) (line : List ℕ) (sign digits text : List ℕ) (r : ℕ)
@@ -189,6 +244,18 @@ offered_is layout kind glyph count counted number numbered line text ss new sign
     ∙ ap (sign_of kind counted text) stretches in
     ap (λ t. Row t ss glyph number) lines ∙ ap (λ es. Row text es glyph number) stretches ∙ ap (λ g. Row text new g number) signed
     ∙ ap (Row text new (sign_of kind counted text new)) numbers
+
+-- the row of a line of a text
+pub shown_is : (layout : SuggestionLayout) (text : SuggestedText) (k : ℕ) (glyph : SuggestionGlyph) (number : ℕ) (line : List ℕ)
+    (new : List SubstitutionHighlight) → glyph ≡ sign_of text.kind (length text.lines.now) line new → number ≡ number_after text.first k
+    → line ≡ slice_index_or (lines_shown text) k [] → new ≡ line_stretches text.stretches.now k
+    → with_stretches Addition layout.base.gutter (chars line) new (line_cells layout glyph number line) ≡ row_shown layout text (Line k)
+shown_is layout text k glyph number line new sign numbers lines stretches =
+    let count : ℕ = length text.lines.now in
+    offered_is layout text.kind glyph count count number (number_after text.first k) line (slice_index_or (lines_shown text) k []) new
+    (line_stretches text.stretches.now k) sign refl numbers lines stretches
+    ∙ ap (λ n. offered_cells layout text.kind n (number_after text.first k) (slice_index_or (lines_shown text) k []) (line_stretches text.stretches.now k))
+    (sym (length-map text.lines.now (λ l. l.now)))
 
 -- writing so many rows below all
 skipped_written : (rows : List (List Cell)) (skipped at : ℕ) (cells : List Cell)

@@ -119,7 +119,8 @@ pub with_none : (role : ElementStyle) (gutter : ℕ) (cs : List ℕ) (row : List
 unfolding with_stretches
 with_none role gutter cs row = refl
 
-with_append : (role : ElementStyle) (gutter : ℕ) (cs : List ℕ) (ss : List SubstitutionHighlight) (s : SubstitutionHighlight) (row : List Cell)
+-- and one more stretch at the end
+pub with_append : (role : ElementStyle) (gutter : ℕ) (cs : List ℕ) (ss : List SubstitutionHighlight) (s : SubstitutionHighlight) (row : List Cell)
     → with_stretches role gutter cs (ss ++ s ∷ []) row ≡ changed_within (restyled role true) (stretch_cell gutter cs s.start)
     (stretch_cell gutter cs s.end) (with_stretches role gutter cs ss row)
 unfolding with_stretches
@@ -128,7 +129,7 @@ with_append role gutter cs (t ∷ ss) s row =
     with_append role gutter cs ss s (changed_within (restyled role true) (stretch_cell gutter cs t.start) (stretch_cell gutter cs t.end) row)
 
 -- one that is empty changes nothing
-empty_stretch : (f : Cell → Cell) (at : ℕ) (row : List Cell) → changed_within f at at row ≡ row
+pub empty_stretch : (f : Cell → Cell) (at : ℕ) (row : List Cell) → changed_within f at at row ≡ row
 unfolding changed_within
 empty_stretch f at row = same_lists _ _ (grind (arith, places)) (λ k d h. grind (arith, places))
 

@@ -62,6 +62,12 @@ unfoldable pub sign_of : DisplaySuggestion → ℕ → List ℕ → List Substit
 sign_of kind count line stretches =
     if nat_le count 1 then sign_alone kind else sign_among line stretches
 
+-- what stands left of a line in its row: a glyph after the gutter, and the line's number from the first cell on
+unfoldable pub begun_cells : SuggestionLayout → SuggestionGlyph → ℕ → List Cell
+begun_cells layout glyph number =
+    put LineNumber (shown_number layout.numbers layout.base.gutter number) 0
+    (put (suggestion_role_of glyph) (suggestion_glyph_of layout.base.decor glyph) (separator_cell layout.base) [])
+
 -- the row of a line: a glyph after the gutter, the line's number from the first cell on, and the normalised line from three cells
 -- after the gutter on. A number that is too long for the gutter stands over the glyph
 unfoldable pub line_cells : SuggestionLayout → SuggestionGlyph → ℕ → List ℕ → List Cell

@@ -1,6 +1,7 @@
 pub mod Cells
 pub mod Cursor
 pub mod Given
+pub mod InOrder
 pub mod Kind
 pub mod Marks
 pub mod Moves

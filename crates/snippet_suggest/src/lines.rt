@@ -11,8 +11,8 @@ ghost use Rattle.snippet_suggest.specs.RowOrder.{number_after};
 
 use crate::kind::DisplaySuggestion;
 use crate::layout::SuggestionLayout;
-use crate::roles::{paint_stretches, stretches_of};
-use crate::row::{draw_gap, draw_line};
+use crate::roles::{are_in_order, paint_stretches, put_stretches, stretches_of};
+use crate::row::{begin_line, draw_gap, draw_line};
 use crate::shown::{SuggestionLine, shown_lines};
 use snippet_grid::StyledBuffer;
 use snippet_lines::CursorLines;
@@ -20,11 +20,15 @@ use snippet_splice::{LineRange, SubstitutionHighlight};
 use snippet_style::{ElementStyle, SuggestionGlyph};
 use std::alloc::{AllocError, Global};
 
-/// The lines of a text, without their ends.
-pub(crate) fn text_lines<'a>(alloc: Global, text: &'a str) -> Result<Vec<&'a str>, AllocError>
+/// The lines of a text, without their ends. There is room for so many from the beginning on.
+pub(crate) fn text_lines<'a>(
+    alloc: Global,
+    text: &'a str,
+    room: usize,
+) -> Result<Vec<&'a str>, AllocError>
     ensures lines { IfOk result (λ lines. map (λ l. l.now) lines.items ≡ texts_of (lines_of text.now)) }
 {
-    let mut lines = Vec::new(alloc);
+    let mut lines = Vec::with_capacity(alloc, room)?;
     for (line, _) in CursorLines::new(text) {
         lines.push(line)?;
     }
@@ -119,6 +123,10 @@ fn draw_text_line(
     let stretches = stretches_of(text.stretches, k);
     let glyph = glyph_of(text.kind, text.lines.len(), line, stretches);
     let number = number_after(text.first, k);
+    if are_in_order(line, stretches) {
+        let row = begin_line(alloc, buffer, layout, glyph, number)?;
+        return put_stretches(buffer, layout, row, line, stretches, ElementStyle::Addition);
+    }
     let row = draw_line(alloc, buffer, layout, glyph, number, line)?;
     paint_stretches(buffer, layout, row, line, stretches, ElementStyle::Addition)?;
     Ok(())

@@ -1,7 +1,13 @@
 //! The roles of what is new in a line, and of what is removed.
-ghost use Rattle.std.specs.Prelude.{◌≡◌, ◌==◌, ◌+◌, ◌*◌, ℕ, ◌++◌, ◌∷◌, [], List, OnOk, chars, count_by, length, take};
+ghost use Rattle.std.specs.Prelude.{◌≡◌, ◌==◌, ◌+◌, ◌*◌, ℕ, ◌++◌, ◌∷◌, [], All, List, OnOk, chars, count_by, length};
+ghost use Rattle.std.specs.Prelude.{take, true};
 ghost use Rattle.snippet_splice.specs.EditStretches.{capped, line_stretches};
-ghost use Rattle.snippet_suggest.specs.Cells.{with_stretches};
+ghost use Rattle.snippet_suggest.specs.Cells.{put, with_stretches};
+ghost use Rattle.snippet_suggest.specs.InOrder.{AreInOrder};
+ghost use Rattle.snippet_text.specs.Normalized.{norm};
+ghost use Rattle.snippet_text.specs.Plain.{IsPlain};
+ghost use Rattle.snippet_style.specs.declared.role.ElementStyle.TheVariants.{NoStyle};
+ghost use Rattle.snippet_style.specs.Bounds.{HasNext};
 ghost use Rattle.snippet_suggest.specs.Cursor.{IsCursor};
 ghost use Rattle.snippet_style.specs.Cell.{Cell};
 ghost use Rattle.snippet_grid.specs.Layout.{inner_cell};
@@ -10,6 +16,7 @@ use crate::layout::SuggestionLayout;
 use snippet_grid::StyledBuffer;
 use snippet_splice::SubstitutionHighlight;
 use snippet_style::ElementStyle;
+use snippet_text::is_plain;
 use std::alloc::AllocError;
 use std::str::Chars;
 
@@ -34,6 +41,54 @@ pub(crate) fn paint_stretches(
             buffer.set_style_range(row, start, end, role, true)?;
         }
     }
+    Ok(())
+}
+
+/// Whether a line is printable ASCII, and these stretches stand in it one after the other.
+pub(crate) fn are_in_order(line: &str, stretches: &[SubstitutionHighlight]) -> bool
+    ensures plain { result ≡ true → All IsPlain line.now }
+    ensures ordered { result ≡ true → AreInOrder (length line.now) 0 stretches.now }
+{
+    if !is_plain(line) {
+        return false;
+    }
+    let mut at = 0;
+    for stretch in stretches {
+        if stretch.start < at || stretch.end < stretch.start {
+            return false;
+        }
+        at = stretch.end;
+    }
+    at <= line.len()
+}
+
+/// Puts a line of printable ASCII into a row that is the last, after what stands left of it: these stretches of it in a
+/// role, the rest unstyled.
+pub(crate) fn put_stretches(
+    buffer: &mut StyledBuffer,
+    layout: &SuggestionLayout,
+    row: usize,
+    line: &str,
+    stretches: &[SubstitutionHighlight],
+    role: ElementStyle,
+) -> Result<(), AllocError>
+    requires row { HasNext row }
+    requires plain { All IsPlain line.now }
+    requires ordered { AreInOrder (length line.now) 0 stretches.now }
+    ensures cells { OnOk result ((above : List (List Cell)) (last : List Cell) → row ≡ length above → buffer.old
+        ≡ above ++ last ∷ []
+        → buffer.new ≡ above ++ with_stretches role layout.now.base.gutter (chars line.now) stretches.now
+        (put NoStyle (norm (chars line.now)) (inner_cell layout.now.base) last) ∷ []) }
+{
+    let cell = layout.base.inner_cell();
+    let mut at = 0;
+    for stretch in stretches {
+        let (start, end) = (stretch.start, stretch.end);
+        buffer.puts(row, cell + at, &line[at..start], ElementStyle::NoStyle)?;
+        buffer.puts(row, cell + start, &line[start..end], role)?;
+        at = end;
+    }
+    buffer.puts(row, cell + at, &line[at..], ElementStyle::NoStyle)?;
     Ok(())
 }
 

@@ -3,7 +3,7 @@ ghost use Rattle.std.specs.Prelude.{◌≡◌, ◌≤◌, ◌++◌, ◌∷◌, [
 ghost use Rattle.std.specs.Prelude.{length};
 ghost use Rattle.snippet_style.specs.Cell.{Cell};
 ghost use Rattle.snippet_grid.specs.Grid.{row_at};
-ghost use Rattle.snippet_suggest.specs.Cells.{gap_cells, line_cells, removed_cells};
+ghost use Rattle.snippet_suggest.specs.Cells.{begun_cells, gap_cells, line_cells, removed_cells};
 ghost use Rattle.snippet_grid.specs.Layout.{separator_cell};
 ghost use Rattle.snippet_style.specs.Bounds.{HasNext};
 
@@ -34,14 +34,40 @@ pub(crate) fn draw_line(
     ensures cells { OnOk result (buffer.new ≡ buffer.old ++ line_cells layout.now glyph number line.now ∷ []) }
     ensures row { IfOk result (λ row. row ≡ length buffer.old) }
 {
+    let row = begin_line(alloc, buffer, layout, glyph, number)?;
+    let text = normalized(alloc, line)?;
+    let cell = layout.base.inner_cell();
+    buffer.puts(row, cell, text.as_str(), ElementStyle::NoStyle)?;
+    Ok(row)
+}
+
+/// Draws what stands left of a line as it will be, below all that stands in the grid, and gives the row's number.
+///
+/// # Errors
+///
+/// There is no memory for the row or the number.
+pub(crate) fn begin_line(
+    alloc: Global,
+    buffer: &mut StyledBuffer,
+    layout: &SuggestionLayout,
+    glyph: SuggestionGlyph,
+    number: usize,
+) -> Result<usize, AllocError>
+    ensures cells { OnOk result (buffer.new ≡ buffer.old ++ begun_cells layout.now glyph number ∷ []) }
+    ensures row { IfOk result (λ row. (row ≡ length buffer.old) × HasNext row) }
+{
     let row = buffer.num_lines();
     let base = layout.base;
     let sign = glyph.text(base.decor);
-    buffer.puts(row, base.separator_cell(), sign, glyph.role())?;
     let number = number_text(alloc, layout.numbers, base.gutter, number)?;
+    // A row is written from left to right where it can be. A number that is too long stands over the sign.
+    if number.len() <= base.separator_cell() {
+        buffer.puts(row, 0, number.as_str(), ElementStyle::LineNumber)?;
+        buffer.puts(row, base.separator_cell(), sign, glyph.role())?;
+        return Ok(row);
+    }
+    buffer.puts(row, base.separator_cell(), sign, glyph.role())?;
     buffer.puts(row, 0, number.as_str(), ElementStyle::LineNumber)?;
-    let text = normalized(alloc, line)?;
-    buffer.puts(row, base.inner_cell(), text.as_str(), ElementStyle::NoStyle)?;
     Ok(row)
 }
 

@@ -28,7 +28,7 @@ pub(crate) fn shown_lines(
     ensures value { IfOk result (λ shown. shown.items ≡ spec.lines_suggested (spec.is_touched fold ranges.now) count) }
 {
     let touched = touched_table(alloc, count, ranges, fold)?;
-    let mut shown = Vec::new(alloc);
+    let mut shown = Vec::with_capacity(alloc, ranges.len())?;
     let mut after = 0;
     for line in 0..count {
         if touched[line] {

@@ -60,7 +60,8 @@ pub fn draw_suggestion(
         → OnOk result (buffer.new ≡ above ++ suggestion_cells layout.now start follows suggestion.now.snippet.now
         (row_at tail 0)) }
 {
-    let lines = text_lines(alloc, suggestion.splice.complete.as_str())?;
+    let splice = &suggestion.splice;
+    let lines = text_lines(alloc, splice.complete.as_str(), splice.highlights.len())?;
     let skipped = draw_body(alloc, buffer, layout, suggestion, &lines, start)?;
     let row = draw_end(buffer, layout, skipped, follows)?;
     if suggestion.kind == DisplaySuggestion::Underline {

@@ -15,7 +15,10 @@ ghost use Rattle.snippet_text_form.specs.Form.{bare};
 ghost use Rattle.snippet_text.specs.TextBounds.{IsOffset};
 
 use crate::form::TextForm;
-use crate::position::{add_line, add_place, add_place_in_file, add_place_on_line, add_to_line};
+use crate::position::{
+    LineStart, NamedSource, SpanEnds, add_line, add_place, add_place_in_file, add_place_on_line,
+    add_to_line,
+};
 use snippet_lines::Loc;
 use snippet_model::snippet::{Annotation, AnnotationKind, Snippet};
 use snippet_parts::{SourceMap, is_marking};
@@ -74,17 +77,13 @@ fn add_spans<'a>(
         form.add_text(" ")?;
         return add_place(alloc, form, anonymized, path, source.line_start(), None);
     };
-    let label = label_of(alloc, first.annotation)?;
-    add_span(
-        alloc,
-        form,
+    let named = NamedSource {
+        map: source,
         anonymized,
-        source,
-        " ",
-        path,
-        first.annotation,
-        label,
-    )?;
+    };
+    let start = LineStart { indent: " ", path };
+    let label = label_of(alloc, first.annotation)?;
+    add_span(alloc, form, &named, start, first.annotation, label)?;
     let indent = further_indent(path);
     for span in others {
         add_further_span(alloc, form, anonymized, source, indent, span.annotation)?;
@@ -174,7 +173,9 @@ fn add_further_span<'a>(
 {
     let label = label_of(alloc, span)?;
     if is_shown(&label) {
-        add_span(alloc, form, anonymized, map, indent, None, span, label)?;
+        let named = NamedSource { map, anonymized };
+        let start = LineStart { indent, path: None };
+        add_span(alloc, form, &named, start, span, label)?;
     }
     Ok(())
 }
@@ -190,22 +191,24 @@ fn is_shown(label: &CowStr<'_>) -> bool
 fn add_span<'a>(
     alloc: Global,
     form: &mut TextForm<'a>,
-    anonymized: bool,
-    map: &SourceMap<'a>,
-    indent: &'a str,
-    path: Option<&'a str>,
+    source: &NamedSource<'_, 'a>,
+    start: LineStart<'a>,
     span: &'a Annotation<'a>,
     label: CowStr<'a>,
 ) -> Result<(), AllocError>
-    requires span { IsSpan map.now.text span.now.span.start span.now.span.end }
+    requires span { IsSpan source.now.map.now.text span.now.span.start span.now.span.end }
     requires label { chars (cow_str_bytes label) ≡ spec.label_characters span.now }
-    ensures added { OnOk result (form.new ≡ form.old
-        ++ span_form anonymized map.now (chars indent.now) (option_copied path.entry) span.now) }
+    ensures added { OnOk result (form.new ≡ form.old ++ span_form source.now.anonymized source.now.map.now
+        (chars start.entry.indent.now) (option_copied start.entry.path) span.now) }
 {
     form.add_break()?;
-    form.add_text(indent)?;
-    let (start, end) = map.span_to_locations(span.span.start..span.span.end);
-    add_span_place(alloc, form, anonymized, map, path, start, end)?;
+    form.add_text(start.indent)?;
+    let (from, to) = source.map.span_to_locations(span.span.start..span.span.end);
+    let ends = SpanEnds {
+        start: from,
+        end: to,
+    };
+    add_span_place(alloc, form, source, start.path, ends)?;
     if is_shown(&label) {
         form.add_text(": ")?;
         form.add_shown(label)?;
@@ -217,19 +220,18 @@ fn add_span<'a>(
 fn add_span_place<'a>(
     alloc: Global,
     form: &mut TextForm<'a>,
-    anonymized: bool,
-    map: &SourceMap<'a>,
+    source: &NamedSource<'_, 'a>,
     path: Option<&'a str>,
-    start: Loc,
-    end: Loc,
+    ends: SpanEnds,
 ) -> Result<(), AllocError>
-    requires start { IsOffset start.char }
-    requires end { IsOffset end.char }
-    ensures added { OnOk result (form.new ≡ form.old
-        ++ bare (span_place anonymized map.now (option_copied path.entry) start end)) }
+    ensures added { OnOk result (form.new ≡ form.old ++ bare (span_place source.now.anonymized source.now.map.now
+        (option_copied path.entry) ends.start ends.end)) }
 {
+    let anonymized = source.anonymized;
+    let start = ends.start;
+    let end = ends.end;
     let Some(path) = path else {
-        return add_place_on_lines(form, anonymized, map, start, end);
+        return add_place_on_lines(form, anonymized, source.map, start, end);
     };
     let column = start.char + 1;
     add_place_in_file(

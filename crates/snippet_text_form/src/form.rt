@@ -4,20 +4,23 @@
 //! error E0308: mismatched types      the name, the id, `: ` and the text, each in its own style
 //!  at src/main.rs:3:5: here          text without codes, after a break
 //! ```
-ghost use Rattle.std.specs.Prelude.{◌≡◌, [], ◌∷◌, ◌++◌, chars, replicate, IfOk, OnOk, string_bytes};
+ghost use Rattle.std.specs.Prelude.{◌≡◌, [], ◌∷◌, ◌++◌, chars, encode_utf8_all, replicate, IfOk, OnErr, OnOk};
+ghost use Rattle.std.specs.Prelude.{string_bytes};
 ghost use Rattle.std.specs.Cow.{cow_str_bytes};
 ghost use Rattle.std.specs.Fmt.{decimal};
 ghost use Rattle.std.specs.List.{flat_map};
 ghost use Rattle.std.specs.Option.{option_copied};
 ghost use Rattle.snippet_grid.specs.Runs.{BeginsWith};
 ghost use Rattle.snippet_grid.specs.Woven.{IsWoven, piece_text};
+ghost use Rattle.snippet_style.specs.Codes.{opening, reset};
+ghost use Rattle.snippet_style.specs.Style.{is_plain_style};
 ghost use Rattle.snippet_text_form.specs.Form.{AreMarks, Break, Styled, bare, form_bytes, form_links, form_text};
 ghost use Rattle.snippet_text_form.specs.Form.{in_style, link_codes_after, link_codes_before, piece_of_kind};
 ghost use Rattle.snippet_text_form.specs.Form.{pieces_from, role_style, woven_from};
 ghost use Rattle.snippet_text_form.specs.declared.form.MarkKind.TheVariants as kinds;
 
 use itoa::Buffer;
-use snippet_style::{ElementStyle, LevelInner, Style, Stylesheet, reset_code, write_opening};
+use snippet_style::{ElementStyle, LevelInner, Style, Stylesheet, write_opening};
 use snippet_text::CowStr;
 use std::alloc::{AllocError, Global};
 use std::marker::Model;
@@ -163,7 +166,7 @@ impl<'a> TextForm<'a> {
         let text = self.text.as_str();
         let mut from = 0;
         for mark in &self.marks {
-            out.push_str(&text[from..mark.start])?;
+            push_some(&mut out, &text[from..mark.start])?;
             write_mark(
                 &mut out,
                 sheet,
@@ -173,7 +176,7 @@ impl<'a> TextForm<'a> {
             )?;
             from = mark.end;
         }
-        out.push_str(&text[from..text.len()])?;
+        push_some(&mut out, &text[from..text.len()])?;
         Ok(out)
     }
 }
@@ -193,10 +196,22 @@ fn push_mark<'a>(
 {
     make_first_room(text, marks)?;
     let start = text.len();
-    text.push_str(word)?;
+    push_some(text, word)?;
     let end = text.len();
     marks.push(Mark { start, end, kind })?;
     Ok(())
+}
+
+/// Adds a text, which is often empty: then nothing is done.
+#[inline(always)]
+fn push_some(out: &mut String, text: &str) -> Result<(), AllocError>
+    ensures bytes { OnOk result (string_bytes out.new ≡ string_bytes out.old ++ text.now) }
+    ensures kept { OnErr result (string_bytes out.new ≡ string_bytes out.old) }
+{
+    if text.is_empty() {
+        return Ok(());
+    }
+    out.push_str(text)
 }
 
 /// Makes room for a small form, if nothing is marked yet.
@@ -252,12 +267,36 @@ fn write_styled(
         (in_style (role_style sheet.now look.entry.role) (option_copied look.entry.link) (chars word.now))) }
 {
     let style = style_of(sheet, look.role);
-    write_opening(out, style)?;
+    let plain = style.is_plain();
+    begin_style(out, style, plain)?;
     begin_link(out, look.link)?;
     out.push_str(word)?;
     end_link(out, look.link)?;
-    out.push_str(reset_code(style))?;
-    Ok(())
+    end_style(out, style, plain)
+}
+
+/// Adds the code that opens a style, if it has one.
+#[inline(always)]
+fn begin_style(out: &mut String, style: Style, plain: bool) -> Result<(), AllocError>
+    requires plain { plain ≡ is_plain_style style }
+    ensures text { OnOk result (string_bytes out.new ≡ string_bytes out.old ++ encode_utf8_all (opening style)) }
+{
+    if plain {
+        return Ok(());
+    }
+    write_opening(out, style)
+}
+
+/// Adds the code that resets a style, if it has one.
+#[inline(always)]
+fn end_style(out: &mut String, style: Style, plain: bool) -> Result<(), AllocError>
+    requires plain { plain ≡ is_plain_style style }
+    ensures text { OnOk result (string_bytes out.new ≡ string_bytes out.old ++ encode_utf8_all (reset style)) }
+{
+    if plain {
+        return Ok(());
+    }
+    out.push_str("\u{1b}[0m")
 }
 
 /// Adds the code that begins a link, if there is one.

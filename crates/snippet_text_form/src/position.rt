@@ -1,14 +1,41 @@
 //! How a place is named.
 ghost use Rattle.std.specs.Prelude.{◌≡◌, ◌++◌, OnOk};
 ghost use Rattle.std.specs.Option.{option_copied};
+ghost use Rattle.snippet_text.specs.TextBounds.{IsOffset};
 ghost use Rattle.snippet_titles.specs.Origin as titles;
 ghost use Rattle.snippet_text_form.specs.Form.{bare};
 ghost use Rattle.snippet_text_form.specs.Position as spec;
 ghost use Rattle.snippet_text_form.specs.Position.{after_path, column_words, place_in_file, place_on_line, to_line};
 
 use crate::form::TextForm;
+use snippet_lines::Loc;
+use snippet_parts::SourceMap;
 use snippet_text::normalized;
 use std::alloc::{AllocError, Global};
+
+/// The source that spans stand in, and how its lines are named.
+#[derive(Clone, Copy)]
+pub(crate) struct NamedSource<'m, 'a> {
+    pub(crate) map: &'m SourceMap<'a>,
+    /// Whether each line is named `LL`.
+    pub(crate) anonymized: bool,
+}
+
+/// What the line of a span begins with: spaces, and the path of its file where that is named.
+#[derive(Clone, Copy)]
+pub(crate) struct LineStart<'a> {
+    pub(crate) indent: &'a str,
+    pub(crate) path: Option<&'a str>,
+}
+
+/// Where a span starts and ends.
+#[derive(Clone, Copy)]
+pub(crate) struct SpanEnds {
+    pub(crate) start: Loc,
+    pub(crate) end: Loc,
+    ghost start_fits: { IsOffset start.char },
+    ghost end_fits: { IsOffset end.char },
+}
 
 /// Adds a place on a line: in a file, if there is a path.
 pub(crate) fn add_place<'a>(

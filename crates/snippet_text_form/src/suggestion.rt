@@ -15,7 +15,7 @@ ghost use Rattle.snippet_text.specs.TextBounds.{IsOffset};
 
 use crate::cause::column_unless;
 use crate::form::TextForm;
-use crate::position::{add_place, add_to_line};
+use crate::position::{LineStart, NamedSource, SpanEnds, add_place, add_to_line};
 use snippet_lines::{Loc, newline_count};
 use snippet_model::snippet::{Patch, Snippet};
 use snippet_parts::SourceMap;
@@ -57,9 +57,13 @@ pub fn add_suggestion<'a>(
     let path = shown_path(place.names_path, suggestion.snippet);
     add_option(form, place.option)?;
     let indent = indent_below(place.option);
-    let map = &suggestion.map;
+    let start = LineStart { indent, path };
+    let source = NamedSource {
+        map: &suggestion.map,
+        anonymized,
+    };
     for patch in &suggestion.splice.patches {
-        add_patch(alloc, form, anonymized, map, indent, path, patch)?;
+        add_patch(alloc, form, &source, start, patch)?;
     }
     Ok(())
 }
@@ -100,41 +104,45 @@ fn indent_below<'a>(option: Option<usize>) -> &'a str
 fn add_patch<'a>(
     alloc: Global,
     form: &mut TextForm<'a>,
-    anonymized: bool,
-    map: &SourceMap<'a>,
-    indent: &'a str,
-    path: Option<&'a str>,
+    source: &NamedSource<'_, 'a>,
+    start: LineStart<'a>,
     patch: &TrimmedPatch<'a>,
 ) -> Result<(), AllocError>
-    requires span { IsSpan map.now.text patch.now.span.start patch.now.span.end }
-    ensures added { OnOk result (form.new ≡ form.old
-        ++ edit_form anonymized map.now (chars indent.now) (option_copied path.entry) (trimmed_edit_of patch.now)) }
+    requires span { IsSpan source.now.map.now.text patch.now.span.start patch.now.span.end }
+    ensures added { OnOk result (form.new ≡ form.old ++ edit_form source.now.anonymized source.now.map.now
+        (chars start.entry.indent.now) (option_copied start.entry.path) (trimmed_edit_of patch.now)) }
 {
     form.add_break()?;
-    form.add_text(indent)?;
-    let (start, end) = map.span_to_locations(patch.span.start..patch.span.end);
-    add_patch_place(alloc, form, anonymized, map, path, patch, start, end)?;
-    let source = map.source();
-    add_replacement(alloc, form, source, patch)
+    form.add_text(start.indent)?;
+    let (from, to) = source
+        .map
+        .span_to_locations(patch.span.start..patch.span.end);
+    let ends = SpanEnds {
+        start: from,
+        end: to,
+    };
+    add_patch_place(alloc, form, source, start.path, patch, ends)?;
+    let text = source.map.source();
+    add_replacement(alloc, form, text, patch)
 }
 
 /// Adds where a patch stands.
 fn add_patch_place<'a>(
     alloc: Global,
     form: &mut TextForm<'a>,
-    anonymized: bool,
-    map: &SourceMap<'a>,
+    source: &NamedSource<'_, 'a>,
     path: Option<&'a str>,
     patch: &TrimmedPatch<'a>,
-    start: Loc,
-    end: Loc,
+    ends: SpanEnds,
 ) -> Result<(), AllocError>
-    requires span { IsSpan map.now.text patch.now.span.start patch.now.span.end }
-    requires start { IsOffset start.char }
-    requires end { IsOffset end.char }
-    ensures added { OnOk result (form.new ≡ form.old
-        ++ bare (edit_place anonymized map.now (option_copied path.entry) (trimmed_edit_of patch.now) start end)) }
+    requires span { IsSpan source.now.map.now.text patch.now.span.start patch.now.span.end }
+    ensures added { OnOk result (form.new ≡ form.old ++ bare (edit_place source.now.anonymized source.now.map.now
+        (option_copied path.entry) (trimmed_edit_of patch.now) ends.start ends.end)) }
 {
+    let map = source.map;
+    let anonymized = source.anonymized;
+    let start = ends.start;
+    let end = ends.end;
     if overwrites(map.source(), patch) && !is_blank(patch.replacement) {
         let column = start.char + 1;
         add_place(alloc, form, anonymized, path, start.line, Some(column))?;

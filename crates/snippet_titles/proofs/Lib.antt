@@ -17,10 +17,13 @@ pub mod OriginNumbers
 pub mod OriginRowText
 pub mod OriginText
 pub mod PlaceLemmas
+pub mod PrintedLemmas
 pub mod RowLemmas
 pub mod ShortExamples
 pub mod ShortLaws
 pub mod ShortLemmas
+pub mod ShortRowLemmas
 pub mod SignLemmas
 pub mod SplitLemmas
+pub mod StretchRow
 pub mod TextLemmas

@@ -20,8 +20,8 @@ ghost use Rattle.snippet_text.specs.Width.{width_of};
 ghost use Rattle.snippet_model.specs.Level.{name_of};
 ghost use Rattle.snippet_style.specs.Bounds.{HasNext, IsAddable, IsColumn, IsRowNumber, IsTextWidth};
 
-use crate::id::{draw_id, is_set};
-use crate::row::{draw_indent, draw_sign, extend_row};
+use crate::id::{IdStyle, draw_id, is_set};
+use crate::row::{RowEnd, draw_indent, draw_sign, extend_row};
 use crate::style::{HeadingRoles, TitleStyle, roles_of};
 use snippet_grid::StyledBuffer;
 use snippet_model::MessageOrTitle;
@@ -56,49 +56,52 @@ pub fn draw_heading<'a>(
     let row = buffer.num_lines();
     let roles = roles_of(&style, heading.level().kind, heading.allows_styling());
     draw_sign(buffer, row, &style)?;
-    draw_label(alloc, buffer, row, style.start(), hyperlink, roles, heading)?;
+    let end = RowEnd {
+        row,
+        cell: style.start(),
+    };
+    draw_label(alloc, buffer, end, hyperlink, roles, heading)?;
     draw_text(alloc, buffer, row, &style, roles.text, heading)
 }
 
-/// Draws what stands before a heading's text after the cells of a row, of which there are `start`.
+/// Draws what stands before a heading's text after the cells of a row.
 #[inline(always)]
 pub(crate) fn draw_label<'a>(
     alloc: Global,
     buffer: &mut StyledBuffer<'a>,
-    row: usize,
-    start: usize,
+    end: RowEnd,
     hyperlink: bool,
     roles: HeadingRoles,
     heading: &'a dyn MessageOrTitle,
 ) -> Result<(), AllocError>
-    requires row { HasNext row }
-    requires start { length (row_at buffer.old row) ≡ start }
-    requires small { IsTextWidth start }
+    requires row { HasNext end.row }
+    requires end { length (row_at buffer.old end.row) ≡ end.cell }
+    requires small { IsTextWidth end.cell }
     requires fits { HeadingFits (heading_of heading.now) }
     ensures extended { OnOk result (buffer.new
-        ≡ appended buffer.old row (label_cells hyperlink roles (heading_of heading.now))) }
+        ≡ appended buffer.old end.row (label_cells hyperlink roles (heading_of heading.now))) }
 {
+    let row = end.row;
     let level = heading.level();
     let hidden = is_hidden(level);
     let name = shown_name(alloc, level)?;
     extend_row(buffer, row, name.as_str(), roles.label)?;
-    let start = start + char_count(name.as_str());
-    draw_id(
-        alloc,
-        buffer,
+    let end = RowEnd {
         row,
-        start,
-        roles.label,
+        cell: end.cell + char_count(name.as_str()),
+    };
+    let style = IdStyle {
+        role: roles.label,
         hyperlink,
         hidden,
-        heading.id(),
-    )?;
+    };
+    draw_id(alloc, buffer, end, style, heading.id())?;
     extend_row(buffer, row, colon(hidden, heading.id()), roles.colon)?;
     Ok(())
 }
 
 /// A level's name as it is drawn, which is empty where it isn't shown.
-fn shown_name<'r>(alloc: Global, level: &'r Level<'_>) -> Result<CowStr<'r>, AllocError>
+pub(crate) fn shown_name<'r>(alloc: Global, level: &'r Level<'_>) -> Result<CowStr<'r>, AllocError>
     ensures value { IfOk result (λ name. chars (cow_str_bytes name) ≡ norm (chars (name_of level.now))) }
 {
     normalized(alloc, level.as_str())

@@ -10,35 +10,48 @@ ghost use Rattle.snippet_titles.specs.HeadingRows.{id_cells};
 ghost use Rattle.snippet_titles.specs.HeadingRows as spec;
 ghost use Rattle.snippet_style.specs.Bounds.{HasNext, IsColumn};
 
-use crate::row::{extend_row, link_from};
+use crate::row::{RowEnd, extend_row, link_from};
 use snippet_grid::StyledBuffer;
 use snippet_model::snippet::Id;
 use snippet_style::ElementStyle;
 use snippet_text::{CowStr, normalized};
 use std::alloc::{AllocError, Global};
 
-/// Draws an id after a row's cells, of which there are `start`: in brackets, unless the level's name is hidden. Its
-/// text links to its URL where links are on.
+/// How an id is drawn.
+#[derive(Clone, Copy)]
+pub(crate) struct IdStyle {
+    /// The role of its cells.
+    pub(crate) role: ElementStyle,
+    /// Whether its text links to its URL.
+    pub(crate) hyperlink: bool,
+    /// Whether the name of its level is hidden: then it stands in no brackets.
+    pub(crate) hidden: bool,
+}
+
+/// Draws an id after a row's cells.
 ///
 ///     [E0308]
 ///
 pub(crate) fn draw_id<'a>(
     alloc: Global,
     buffer: &mut StyledBuffer<'a>,
-    row: usize,
-    start: usize,
-    role: ElementStyle,
-    hyperlink: bool,
-    hidden: bool,
+    end: RowEnd,
+    style: IdStyle,
     id: Option<&'a Id<'a>>,
 ) -> Result<(), AllocError>
-    requires row { HasNext row }
-    requires start { length (row_at buffer.old row) ≡ start }
-    requires short { IsColumn start }
+    requires row { HasNext end.row }
+    requires end { length (row_at buffer.old end.row) ≡ end.cell }
+    requires short { IsColumn end.cell }
     requires fits { IfSome (option_copied id) IdFits }
-    ensures extended { OnOk result (buffer.new
-        ≡ appended buffer.old row (id_cells hyperlink hidden role (option_copied id.entry))) }
+    ensures extended { OnOk result (buffer.new ≡ appended buffer.old end.row
+        (id_cells style.hyperlink style.hidden style.role (option_copied id.entry))) }
 {
+    let RowEnd { row, cell } = end;
+    let IdStyle {
+        role,
+        hyperlink,
+        hidden,
+    } = style;
     let Some(id) = id else {
         return Ok(());
     };
@@ -49,18 +62,13 @@ pub(crate) fn draw_id<'a>(
     let opening = opening_bracket(hidden);
     extend_row(buffer, row, opening, role)?;
     extend_row(buffer, row, shown.as_str(), role)?;
-    link_from(
-        buffer,
-        row,
-        start + opening.len(),
-        address_of(hyperlink, id),
-    )?;
+    link_from(buffer, row, cell + opening.len(), address_of(hyperlink, id))?;
     extend_row(buffer, row, closing_bracket(hidden), role)?;
     Ok(())
 }
 
 /// An id's text as it is drawn.
-fn shown_text<'r>(alloc: Global, text: &'r CowStr<'_>) -> Result<CowStr<'r>, AllocError>
+pub(crate) fn shown_text<'r>(alloc: Global, text: &'r CowStr<'_>) -> Result<CowStr<'r>, AllocError>
     ensures value { IfOk result (λ shown. chars (cow_str_bytes shown) ≡ norm (chars (cow_str_bytes text.now))) }
 {
     normalized(alloc, text.as_str())

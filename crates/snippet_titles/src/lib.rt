@@ -5,9 +5,11 @@ pub mod head;
 pub mod heading;
 mod id;
 pub mod origin;
+pub mod printed;
 mod row;
 pub mod separators;
 pub mod short;
+mod stretch;
 pub mod style;
 pub mod title;
 
@@ -15,7 +17,8 @@ pub use head::{draw_nameless_head, draw_opening_head, draw_primary_head, draw_se
 pub use heading::{colon, draw_heading, is_hidden, label_width};
 pub use id::{address_of, is_set};
 pub use origin::{FileStart, OriginLayout, OriginLocation, draw_origin, origin_text};
+pub use printed::{is_plain_heading, print_heading};
 pub use separators::{draw_closing, draw_padding, draw_separator};
-pub use short::draw_short;
+pub use short::ShortTitle;
 pub use style::{HeadingRoles, MessageContext, TitleStyle, roles_of};
 pub use title::draw_title;

@@ -12,6 +12,13 @@ use snippet_grid::StyledBuffer;
 use snippet_style::ElementStyle;
 use std::alloc::AllocError;
 
+/// Where a row ends, and what is added to it begins: its number, and how many cells it has.
+#[derive(Clone, Copy)]
+pub(crate) struct RowEnd {
+    pub(crate) row: usize,
+    pub(crate) cell: usize,
+}
+
 /// Adds a text after the cells of a row. An empty one makes no row.
 pub(crate) fn extend_row(
     buffer: &mut StyledBuffer,

@@ -1,26 +1,196 @@
-//! The rows of a report's short form.
-ghost use Rattle.std.specs.Prelude.{◌≡◌, ◌++◌, chars, length, OnOk};
-ghost use Rattle.snippet_model.specs.Heading.{HeadingFits};
-ghost use Rattle.snippet_titles.specs.ShortRows.{short_rows};
+//! A title in the short form.
+//!
+//! ```text
+//! src/main.rs:1:5: error: unused: here
+//! ```
+ghost use Rattle.std.specs.Prelude.{◌≡◌, ◌<◌, ◌++◌, [], All, chars, length, IfOk, OnOk, string_bytes, true};
+ghost use Rattle.std.specs.Cow.{cow_str_bytes};
+ghost use Rattle.std.specs.Option.{option_copied};
+ghost use Rattle.snippet_grid.specs.Woven.{Prints};
+ghost use Rattle.snippet_model.specs.Heading.{HeadingFits, heading_of_title};
 ghost use Rattle.snippet_style.specs.Bounds.{IsTextWidth};
+ghost use Rattle.snippet_style.specs.declared.role.ElementStyle.{ElementStyle};
+ghost use Rattle.snippet_text.specs.Plain.{IsPlain};
+ghost use Rattle.snippet_titles.specs.HeadingRows.{id_cells};
+ghost use Rattle.snippet_titles.specs.ShortParts.{rows_of, shown_id_cells};
+ghost use Rattle.snippet_titles.specs.ShortRows.{short_rows};
 
-use crate::heading::{draw_label, draw_text};
-use crate::row::extend_row;
+use crate::heading::{colon, draw_label, draw_text, is_hidden};
+use crate::id::{address_of, closing_bracket, opening_bracket};
+use crate::row::{RowEnd, extend_row};
+use crate::stretch::{Stretch, print_row};
 use crate::style::{TitleStyle, roles_of};
 use snippet_grid::StyledBuffer;
 use snippet_model::MessageOrTitle;
-use snippet_style::{ElementStyle, char_count};
+use snippet_model::snippet::{Id, Title};
+use snippet_style::{ElementStyle, LevelInner, Stylesheet, char_count};
+use snippet_text::{CowStr, is_plain, normalized};
 use std::alloc::{AllocError, Global};
+use std::marker::Model;
+
+/// A title in the short form, before any sheet is known: it stands after a text, and its first row goes on with
+/// another.
+#[derive(Drop)]
+pub struct ShortTitle<'a> {
+    parts: ShortParts<'a>,
+}
+
+/// What a title in the short form is made of.
+#[derive(Drop)]
+struct ShortParts<'a> {
+    /// Whether its id links to its URL.
+    hyperlink: bool,
+    /// What stands before it, and after its first row.
+    before: String,
+    after: String,
+    title: &'a Title<'a>,
+}
+
+impl<'a> Model for ShortTitle<'a> {
+    ghost use Rattle.std.specs.Prelude.{List, chars, length, string_bytes};
+    ghost use Rattle.snippet_model.specs.Heading.{HeadingFits, heading_of_title};
+    ghost use Rattle.snippet_style.specs.Bounds.{IsTextWidth};
+    ghost use Rattle.snippet_style.specs.Cell.{Cell};
+    ghost use Rattle.snippet_titles.specs.ShortParts.{rows_of};
+
+    ghost Value = { List (List Cell) };
+
+    ghost view = { λ s. rows_of s.parts };
+
+    ghost invariant = { λ s. HeadingFits (heading_of_title s.parts.title.now)
+        × IsTextWidth (length (chars (string_bytes s.parts.before))) };
+}
+
+impl<'a> ShortTitle<'a> {
+    /// A title between these texts.
+    pub fn new(hyperlink: bool, before: String, after: String, title: &'a Title<'a>) -> Self
+        requires fits { HeadingFits (heading_of_title title.now) }
+        requires short { IsTextWidth (length (chars (string_bytes before))) }
+        ensures rows { result ≡ short_rows hyperlink (chars (string_bytes before))
+            (chars (string_bytes after)) (heading_of_title title.now) }
+    {
+        ShortTitle {
+            parts: ShortParts {
+                hyperlink,
+                before,
+                after,
+                title,
+            },
+        }
+    }
+
+    /// Its text under a sheet, in a group of this level. A title of one row is printed as it is put together; any other
+    /// is drawn in a grid.
+    ///
+    /// # Errors
+    ///
+    /// There is no memory for the text.
+    pub fn render(
+        &self,
+        alloc: Global,
+        level: LevelInner,
+        sheet: &Stylesheet,
+    ) -> Result<String, AllocError>
+        ensures prints { IfOk result (λ text. Prints sheet.now level self.now (string_bytes text)) }
+    {
+        let parts = &self.parts;
+        let text = parts.title.text.as_str();
+        if !text.is_empty() && is_plain(text) {
+            return row_text(alloc, parts, level, sheet);
+        }
+        let mut buffer = StyledBuffer::new(alloc);
+        draw_short(
+            alloc,
+            &mut buffer,
+            parts.hyperlink,
+            parts.before.as_str(),
+            parts.after.as_str(),
+            parts.title,
+        )?;
+        buffer.render(level, sheet)
+    }
+}
+
+/// The text of a title whose own is printable ASCII: it is shown as it is, in one row.
+fn row_text(
+    alloc: Global,
+    parts: &ShortParts<'_>,
+    level: LevelInner,
+    sheet: &Stylesheet,
+) -> Result<String, AllocError>
+    requires plain { All IsPlain (cow_str_bytes parts.now.title.now.text) }
+    requires some { 0 < length (cow_str_bytes parts.now.title.now.text) }
+    ensures prints { IfOk result (λ text. Prints sheet.now level (rows_of parts.now) (string_bytes text)) }
+{
+    let title = parts.title;
+    let kind = title.level.kind;
+    let roles = roles_of(&TitleStyle::Short, kind, title.allows_styling);
+    let hidden = is_hidden(&title.level);
+    let name = normalized(alloc, title.level.as_str())?;
+    let given = title.id();
+    let id = shown_id(alloc, parts.hyperlink, hidden, given)?;
+    let colon = colon(hidden, given);
+    let stretches = [
+        Stretch::unlinked(parts.before.as_str(), ElementStyle::LineAndColumn),
+        Stretch::unlinked(name.as_str(), roles.label),
+        Stretch::unlinked(id.opening, roles.label),
+        Stretch::linked(id.text.as_str(), roles.label, id.address),
+        Stretch::unlinked(id.closing, roles.label),
+        Stretch::unlinked(colon, roles.colon),
+        Stretch::unlinked(title.text.as_str(), roles.text),
+        Stretch::unlinked(parts.after.as_str(), ElementStyle::NoStyle),
+    ];
+    print_row(alloc, &stretches, level, sheet)
+}
+
+/// An id as it is drawn: its text between brackets, and the address that it links to. Where there is none it is empty.
+#[derive(Drop)]
+struct ShownId<'r> {
+    opening: &'static str,
+    text: CowStr<'r>,
+    closing: &'static str,
+    address: Option<&'r str>,
+}
+
+/// An id as it is drawn.
+fn shown_id<'r>(
+    alloc: Global,
+    hyperlink: bool,
+    hidden: bool,
+    id: Option<&'r Id<'r>>,
+) -> Result<ShownId<'r>, AllocError>
+    ensures cells { IfOk result (λ shown. (role : ElementStyle) → shown_id_cells role shown
+        ≡ id_cells hyperlink hidden role (option_copied id.entry)) }
+{
+    let Some(id) = id else {
+        return Ok(no_id());
+    };
+    match &id.id {
+        Some(text) => Ok(ShownId {
+            opening: opening_bracket(hidden),
+            text: normalized(alloc, text.as_str())?,
+            closing: closing_bracket(hidden),
+            address: address_of(hyperlink, id),
+        }),
+        None => Ok(no_id()),
+    }
+}
+
+/// What stands where there is no id.
+fn no_id<'r>() -> ShownId<'r>
+    ensures cells { (role : ElementStyle) → shown_id_cells role result ≡ [] }
+{
+    ShownId {
+        opening: "",
+        text: CowStr::Borrowed(""),
+        closing: "",
+        address: None,
+    }
+}
 
 /// Draws a title in the short form below all that stands in the grid: after a text, and its first row goes on with
 /// another.
-///
-///     src/main.rs:1:5: error: unused: here
-///
-/// # Errors
-///
-/// There is no memory for the rows. The grid may then hold a part of them.
-pub fn draw_short<'a>(
+fn draw_short<'a>(
     alloc: Global,
     buffer: &mut StyledBuffer<'a>,
     hyperlink: bool,
@@ -40,15 +210,11 @@ pub fn draw_short<'a>(
         heading.allows_styling(),
     );
     extend_row(buffer, row, before, ElementStyle::LineAndColumn)?;
-    draw_label(
-        alloc,
-        buffer,
+    let end = RowEnd {
         row,
-        char_count(before),
-        hyperlink,
-        roles,
-        heading,
-    )?;
+        cell: char_count(before),
+    };
+    draw_label(alloc, buffer, end, hyperlink, roles, heading)?;
     draw_text(alloc, buffer, row, &TitleStyle::Short, roles.text, heading)?;
     extend_row(buffer, row, after, ElementStyle::NoStyle)
 }

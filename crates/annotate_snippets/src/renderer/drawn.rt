@@ -1,7 +1,7 @@
 //! A report before any sheet is known, in each form, and the texts that it gives under sheets.
 ghost use Rattle.std.specs.Prelude.{◌≡◌, All, None, IfOk, map, string_bytes};
 ghost use Rattle.std.specs.List.{AllZip};
-ghost use Rattle.annotate_snippets.specs.DrawnReport.{IsDrawnAs, IsPrintedAs, IsShortPage};
+ghost use Rattle.annotate_snippets.specs.DrawnReport.{IsDrawnAs, IsPrintedAs, IsShortForm};
 ghost use Rattle.annotate_snippets.specs.Fault as fault;
 ghost use Rattle.annotate_snippets.specs.FormLaws.{FormLaws};
 ghost use Rattle.annotate_snippets.specs.PreparedReport.{IsGroupDrawable};
@@ -10,7 +10,7 @@ ghost use Rattle.annotate_snippets.specs.declared.renderer.form.Form.TheVariants
 use crate::renderer::Renderer;
 use crate::renderer::form::Form;
 use crate::renderer::graphic::{GroupGrid, grids, printed};
-use crate::renderer::short::short_grid;
+use crate::renderer::short::{ShortForm, short_form};
 use crate::renderer::text_form::text_form;
 use snippet_model::snippet::Group;
 use snippet_style::Stylesheet;
@@ -20,8 +20,10 @@ use std::alloc::{AllocError, Global};
 /// A report before any sheet is known.
 #[derive(Drop)]
 pub enum Drawn<'a> {
-    /// The grids of its groups, or in the short form of its first title.
+    /// The grids of its groups.
     Page(Vec<GroupGrid<'a>>),
+    /// Its short form.
+    Short(ShortForm<'a>),
     /// Its text form.
     Text(TextForm<'a>),
 }
@@ -46,28 +48,28 @@ pub fn draw<'a>(
 {
     match form {
         Form::Graphic => Ok(Drawn::Page(grids(alloc, renderer, groups)?)),
-        Form::Short => Ok(Drawn::Page(short_page(alloc, renderer, groups)?)),
+        Form::Short => Ok(Drawn::Short(first_title(alloc, renderer, groups)?)),
         Form::Text => Ok(Drawn::Text(text_form(alloc, renderer, groups)?)),
     }
 }
 
-/// The one grid of the short form.
-fn short_page<'a>(
+/// The short form: that of the first group, which has a title.
+fn first_title<'a>(
     alloc: Global,
     renderer: &Renderer,
     groups: &'a [Group<'a>],
-) -> Result<Vec<GroupGrid<'a>>, AllocError>
+) -> Result<ShortForm<'a>, AllocError>
     requires drawable { All IsGroupDrawable groups.now }
     requires titled { fault.missing_title form.Short groups.now ≡ None }
-    ensures drawn { IfOk result (λ grids. IsShortPage renderer.now groups.now grids.items) }
+    ensures drawn { IfOk result (λ form. IsShortForm renderer.now groups.now form) }
 {
-    let mut grids = Vec::new(alloc);
-    if let Some(group) = groups.first()
-        && let Some(title) = &group.title
-    {
-        grids.push(short_grid(alloc, renderer, group, title)?)?;
+    match groups.first() {
+        Some(group) => match &group.title {
+            Some(title) => short_form(alloc, renderer, group, title),
+            None => unreachable!(),
+        },
+        None => unreachable!(),
     }
-    Ok(grids)
 }
 
 /// The text of a report under a sheet.
@@ -84,6 +86,7 @@ pub fn text_under(
 {
     match drawn {
         Drawn::Page(grids) => printed(alloc, grids, sheet),
+        Drawn::Short(form) => form.rows.render(alloc, form.level, sheet),
         Drawn::Text(form) => form.render(alloc, sheet),
     }
 }

@@ -144,7 +144,7 @@ pub fn contexts_of(
     ensures value { IfOk result (λ around. AreAround place (option_copied file.entry)
         (map element_of elements.now) around.items) }
 {
-    let mut around = Vec::new(alloc);
+    let mut around = Vec::with_capacity(alloc, elements.len())?;
     let mut primary = true;
     let mut shares = false;
     for (i, element) in elements.iter().enumerate() {

@@ -7,6 +7,7 @@ ghost use Rattle.annotate_snippets.specs.DrawnReport.{AddsElement, AddsElements,
 ghost use Rattle.annotate_snippets.specs.PreparedReport.{IsElementPrepared, element_of};
 ghost use Rattle.annotate_snippets.specs.RowsWithoutSource as spec;
 ghost use Rattle.annotate_snippets.specs.RowsWithoutSource.{message_rows, origin_rows};
+ghost use Rattle.annotate_snippets.specs.declared.renderer.Renderer.{Renderer};
 ghost use Rattle.snippet_model.specs.Fits.{MessageFits};
 
 use crate::renderer::Renderer;
@@ -47,7 +48,7 @@ pub fn draw_elements<'a>(
 }
 
 /// Draws an element below all that stands in the grid; but a suggestion may begin in the last row there.
-fn draw_element<'a>(
+pub fn draw_element<'a>(
     alloc: Global,
     buffer: &mut StyledBuffer<'a>,
     renderer: &Renderer,
@@ -108,6 +109,14 @@ fn draw_message<'a>(
         TitleStyle::Message(context),
         message,
     )
+}
+
+/// Where a message stands.
+pub fn message_style(layout: Layout, around: ElementContext) -> TitleStyle
+    ensures value { (r : Renderer) → result ≡ spec.message_style r layout around }
+{
+    let followed = !around.next.is_nothing();
+    TitleStyle::Message(MessageContext { layout, followed })
 }
 
 /// Draws a place without source below all that stands in the grid.

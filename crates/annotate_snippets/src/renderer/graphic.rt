@@ -6,11 +6,11 @@
 //! 1 | let x = 1;
 //!   |     ^
 //! ```
-ghost use Rattle.std.specs.Prelude.{◌≡◌, ◌+◌, ◌<◌, ◌≤◌, ◌^◌, [], All, IfOk, Some, slice_get, string_bytes};
+ghost use Rattle.std.specs.Prelude.{◌≡◌, ◌+◌, ◌<◌, ◌≤◌, ◌^◌, [], All, IfOk, Some, length, slice_get, string_bytes};
 ghost use Rattle.std.specs.Option.{option_copied};
-ghost use Rattle.annotate_snippets.specs.Around.{report_path};
+ghost use Rattle.annotate_snippets.specs.Around.{file_of_group, position_of_group, report_path};
 ghost use Rattle.annotate_snippets.specs.DrawnReport.{AreGridsOf, HasRoomFor, IsGridAt, IsGroupGrid};
-ghost use Rattle.annotate_snippets.specs.Gutter.{gutter_of_report};
+ghost use Rattle.annotate_snippets.specs.Gutter.{gutter_of_report, layout_of_group};
 ghost use Rattle.annotate_snippets.specs.Page.{PrintsGrids};
 ghost use Rattle.annotate_snippets.specs.PreparedReport.{IsGroupDrawable, IsGroupPrepared, element_of};
 
@@ -97,60 +97,49 @@ pub fn draw_at<'a>(
     ensures drawn { IfOk result (λ grid. IsGridAt renderer.now report.now.groups.now number
         group.entry.group.now grid) }
 {
-    let buffer = StyledBuffer::new(alloc);
-    draw_in(alloc, buffer, renderer, report, number, group)
+    let around = group_context(renderer, report, number, &group);
+    draw_group(alloc, renderer, &around, group)
 }
 
-/// The same, in an empty grid, which may have room of what stood in it before.
-///
-/// # Errors
-///
-/// There is no memory for the rows.
-pub fn draw_in<'a>(
-    alloc: Global,
-    buffer: StyledBuffer<'a>,
+/// What the rows of the report's group of this number, from 0, depend on beside the group.
+pub fn group_context<'r>(
     renderer: &Renderer,
-    report: &ReportContext<'_>,
+    report: &ReportContext<'r>,
     number: usize,
-    group: PreparedGroup<'a>,
-) -> Result<GroupGrid<'a>, AllocError>
-    requires empty { buffer ≡ [] }
-    requires drawable { All IsGroupDrawable report.now.groups.now }
-    requires prepared { IsGroupPrepared group }
-    requires here { slice_get report.now.groups.now number ≡ Some group.group.now }
+    group: &PreparedGroup<'r>,
+) -> GroupContext<'r>
+    requires prepared { IsGroupPrepared group.now }
     requires gutter { report.now.gutter ≡ gutter_of_report renderer.now report.now.groups.now }
     requires small { report.now.gutter ≤ 20 }
     requires file { option_copied report.now.file ≡ report_path report.now.groups.now }
-    ensures level { IfOk result (λ grid. grid.level ≡ group.entry.group.now.level) }
-    ensures drawn { IfOk result (λ grid. IsGridAt renderer.now report.now.groups.now number
-        group.entry.group.now grid) }
+    ensures layout { result.layout ≡ layout_of_group renderer.now report.now.groups.now group.now.group.now }
+    ensures place { result.place ≡ position_of_group (length report.now.groups.now) number }
+    ensures file { option_copied result.file ≡ file_of_group report.now.groups.now group.now.group.now }
 {
     let layout = layout_for(report.gutter, group.depth(), renderer.decor_style);
     let place = GroupPosition::at(report.groups.len(), number);
     let file = primary_path(group.group).or(report.file);
-    let around = GroupContext {
+    GroupContext {
         layout,
         place,
         file,
-    };
-    draw_group(alloc, buffer, renderer, &around, group)
+    }
 }
 
-/// The grid of a group, drawn in an empty one.
+/// The grid of a group.
 fn draw_group<'a>(
     alloc: Global,
-    mut buffer: StyledBuffer<'a>,
     renderer: &Renderer,
     around: &GroupContext<'_>,
     group: PreparedGroup<'a>,
 ) -> Result<GroupGrid<'a>, AllocError>
-    requires empty { buffer ≡ [] }
     requires prepared { IsGroupPrepared group }
     requires room { All (λ e. HasRoomFor renderer.now around.now.layout (element_of e)) group.elements.items }
     ensures level { IfOk result (λ grid. grid.level ≡ group.entry.group.now.level) }
     ensures drawn { IfOk result (λ grid. IsGroupGrid renderer.now around.now.layout around.now.place
         (option_copied around.now.file) group.entry.group.now grid.buffer) }
 {
+    let mut buffer = StyledBuffer::new(alloc);
     let level = group.group.level;
     if let Some(title) = &group.group.title {
         let next = next_of(&group.elements);
@@ -158,15 +147,6 @@ fn draw_group<'a>(
     }
     draw_elements(alloc, &mut buffer, renderer, around, group.elements)?;
     Ok(GroupGrid { level, buffer })
-}
-
-/// The grid that a group was drawn in, without its rows, for the next group.
-pub fn emptied<'a>(grid: GroupGrid<'a>) -> StyledBuffer<'a>
-    ensures empty { result ≡ [] }
-{
-    let mut buffer = grid.buffer;
-    buffer.clear();
-    buffer
 }
 
 /// The text that prints grids under a sheet, each in its level, joined by line feeds.

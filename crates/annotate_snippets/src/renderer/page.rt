@@ -4,16 +4,16 @@ ghost use Rattle.std.specs.Prelude.{◌≡◌, ◌++◌, [], ◌∷◌, All, IfO
 ghost use Rattle.annotate_snippets.specs.Fault as spec;
 ghost use Rattle.annotate_snippets.specs.FormLaws.{IsTextUnder};
 ghost use Rattle.annotate_snippets.specs.PreparedReport.{IsGroupDrawable};
-ghost use Rattle.annotate_snippets.specs.Written.{AddsGrid};
 ghost use Rattle.annotate_snippets.specs.declared.renderer.form.Form.TheVariants as form;
 
 use crate::renderer::Renderer;
 use crate::renderer::drawn::{draw, text_under};
 use crate::renderer::form::Form;
-use crate::renderer::graphic::{GroupGrid, ReportContext, draw_in, emptied};
+use crate::renderer::graphic::{ReportContext, group_context};
 use crate::renderer::gutter::gutter_of;
 use crate::renderer::paths::report_file;
 use crate::renderer::preprocess::prepare_groups;
+use crate::renderer::printing::{Printing, print_group};
 use crate::snippet::Report;
 use snippet_grid::{SheetCodes, StyledBuffer};
 use snippet_style::Stylesheet;
@@ -84,26 +84,18 @@ fn page_text(
     let mut text = String::new(alloc);
     let mut buffer = StyledBuffer::new(alloc);
     for (i, group) in prepared.into_iter().enumerate() {
-        let grid = draw_in(alloc, buffer, renderer, &report, i, group)?;
-        text = text_with(text, &grid, i == 0, &mut codes)?;
-        buffer = emptied(grid);
+        let around = group_context(renderer, &report, i, &group);
+        let mut page = Printing {
+            level: group.group.level,
+            text: fed(text, i == 0)?,
+            begun: false,
+            buffer,
+        };
+        print_group(alloc, &mut page, &mut codes, renderer, &around, group)?;
+        text = page.text;
+        buffer = page.buffer;
     }
     Ok(text)
-}
-
-/// A text, and after it the one that prints a group's grid, after a line feed unless it is the first.
-fn text_with(
-    before: String,
-    grid: &GroupGrid<'_>,
-    is_first: bool,
-    codes: &mut SheetCodes,
-) -> Result<String, AllocError>
-    ensures sheet { codes.new ≡ codes.old }
-    ensures added { IfOk result (λ text.
-        AddsGrid codes.old is_first grid.now (string_bytes before) (string_bytes text)) }
-{
-    let lead = fed(before, is_first)?;
-    grid.buffer.render_after(lead, grid.level, codes)
 }
 
 /// A text, and a line feed after it, unless what follows is the first group's.

@@ -10,51 +10,50 @@ ghost use Rattle.std.specs.Option.{option_copied};
 ghost use Rattle.snippet_model.specs.Fits.{AnnotationFits, SnippetFits};
 ghost use Rattle.annotate_snippets.specs.PreparedReport.{IsDrawable, IsGroupDrawable};
 ghost use Rattle.annotate_snippets.specs.ShortForm as spec;
-ghost use Rattle.annotate_snippets.specs.ShortForm.{joined_labels, place_of_cause, primary_labels, short_form};
+ghost use Rattle.annotate_snippets.specs.ShortForm.{joined_labels, place_of_cause, primary_labels};
 ghost use Rattle.snippet_style.specs.Bounds.{IsTextWidth};
 
 use crate::renderer::Renderer;
-use crate::renderer::graphic::GroupGrid;
 use crate::renderer::place::named_place;
-use snippet_grid::StyledBuffer;
 use snippet_model::snippet::{Annotation, AnnotationKind, Element, Group, Snippet, Title};
 use snippet_parts::map_of;
+use snippet_style::LevelInner;
 use snippet_suggest::is_blank;
 use snippet_text::normalized;
-use snippet_titles::{draw_short, origin_text};
+use snippet_titles::{ShortTitle, origin_text};
 use std::alloc::{AllocError, Global};
 
-/// The grid of the short form of a group that has this title.
+/// The short form of a report, before any sheet is known.
+#[derive(Drop)]
+pub struct ShortForm<'a> {
+    /// The kind of level whose style primary marks and labels take.
+    pub level: LevelInner,
+    /// Its rows.
+    pub rows: ShortTitle<'a>,
+}
+
+/// The short form of a group that has this title.
 ///
 /// # Errors
 ///
-/// There is no memory for the rows, or for what they are made of.
-pub fn short_grid<'a>(
+/// There is no memory for the texts around the title.
+pub fn short_form<'a>(
     alloc: Global,
     renderer: &Renderer,
     group: &'a Group<'a>,
     title: &'a Title<'a>,
-) -> Result<GroupGrid<'a>, AllocError>
+) -> Result<ShortForm<'a>, AllocError>
     requires drawable { IsGroupDrawable group.now }
     requires title { group.now.title ≡ Some title.now }
-    ensures level { IfOk result (λ grid. grid.level ≡ group.now.level) }
-    ensures rows { IfOk result (λ grid. grid.buffer ≡ short_form renderer.now group.now title.now) }
+    ensures level { IfOk result (λ form. form.level ≡ group.now.level) }
+    ensures rows { IfOk result (λ form. form.rows ≡ spec.short_form renderer.now group.now title.now) }
 {
     let cause = first_cause(group);
     let before = place_before(alloc, renderer, cause)?;
     let after = labels_after(alloc, cause)?;
-    let mut buffer = StyledBuffer::new(alloc);
-    draw_short(
-        alloc,
-        &mut buffer,
-        renderer.hyperlink,
-        before.as_str(),
-        after.as_str(),
-        title,
-    )?;
-    Ok(GroupGrid {
+    Ok(ShortForm {
         level: group.level,
-        buffer,
+        rows: ShortTitle::new(renderer.hyperlink, before, after, title),
     })
 }
 

@@ -1,7 +1,8 @@
 //! The rows of a group's title.
 ghost use Rattle.std.specs.Prelude.{◌≡◌, ◌≤◌, ◌++◌, OnOk, Some};
 ghost use Rattle.snippet_model.specs.Fits.{TitleFits};
-ghost use Rattle.annotate_snippets.specs.RowsWithoutSource.{title_part};
+ghost use Rattle.annotate_snippets.specs.RowsWithoutSource.{rows_after_title, title_part};
+ghost use Rattle.annotate_snippets.specs.declared.renderer.Renderer.{Renderer};
 
 use crate::renderer::Renderer;
 use crate::renderer::element_context::{GroupContext, Next};
@@ -34,6 +35,23 @@ pub fn draw_title<'a>(
         ++ title_part renderer.now group.now.layout group.now.place next (Some title.now)) }
 {
     snippet_titles::draw_title(alloc, buffer, renderer.hyperlink, title)?;
+    draw_below_title(buffer, group, next, title)
+}
+
+/// Draws what sets off a message that follows a group's title, or closes the group, below all that stands in the grid.
+///
+/// # Errors
+///
+/// There is no memory for the row.
+pub fn draw_below_title(
+    buffer: &mut StyledBuffer<'_>,
+    group: &GroupContext<'_>,
+    next: Next,
+    title: &Title<'_>,
+) -> Result<(), AllocError>
+    ensures rows { OnOk result ((r : Renderer) → buffer.new ≡ buffer.old
+        ++ rows_after_title r group.now.layout group.now.place next title.now.allows_styling) }
+{
     if next.is_message() {
         draw_separator(buffer, group.layout)
     } else if next.is_nothing() && group.place.is_first_of_several() && !title.allows_styling {

@@ -12,63 +12,106 @@ use Rattle.snippet_grid.proofs.StretchLemmas.{stretch, BeginsWith-trans}
 use Rattle.snippet_grid.specs.Changes.{changed_by, ShowsSpan}
 use Rattle.snippet_grid.specs.Grid.{cells_changed}
 use Rattle.snippet_style.specs.Cell.{Cell}
-use Rattle.snippet_grid.specs.Runs.{IsRun, IsPut, FitIn, grid_shown, shown_cell}
+use Rattle.snippet_grid.specs.Runs.{IsRun, IsPut, FitIn, shown_cell}
 use Rattle.snippet_grid.specs.declared.runs.Run.{Run}
 use Rattle.std.proofs.Common.{◌++◌, ◌-◌, ◌*◌, take, drop}
 use Rattle.snippet_grid.proofs.GridChanged.{IsExchanged, IsGrid-put, FitIn-put, grid_changed}
 use Rattle.snippet_grid.proofs.RowPut.{put_length, length-stretch}
 use Rattle.snippet_grid.specs.Runs.{IsRow, EndsBy}
+use Rattle.snippet_grid.proofs.StoredLemmas.{stored_grown}
+use Rattle.snippet_grid.specs.Grid.{row_at}
+use Rattle.snippet_grid.specs.Stored.{Stored}
 use Rattle.snippet_grid.proofs.change.change_cells.Goals as goal
 
 pub returns-then-last-start-clause-ok : goal.returns-then-last-start-clause-ok
 returns-then-last-start-clause-ok c =
-    let rows = grid_shown (string_bytes c.args.text.now) c.args.runs.now.items c.args.widths.now in
-    sym (cells_changed_none (changed_by c.args.change) rows c.args.row c.args.start c.args.end
+    let was : c.width_of.result ≡ get_or c.grid.inside.widths.items c.args.cells.row 0 = c.width_of.ensures.value
+    ∙ ap (λ (u : List ℕ). get_or u c.args.cells.row 0) c.deref.ensures.value in
+    sym (cells_changed_none (changed_by c.args.change) c.args.grid.now.rows c.args.cells.row c.args.cells.start c.args.cells.end
     (omega (
       arith,
       c.min-last.ensures,
-      c.width_of.ensures.value,
+      was,
       width_shown
-          (string_bytes c.args.text.now) c.args.runs.now.items c.args.widths.now c.args.row,
+          (string_bytes c.grid.inside.text) c.grid.inside.runs.items c.grid.inside.widths.items c.args.cells.row,
+      ap (λ (s : Stored). length (row_at s.rows c.args.cells.row)) c.grid.view_is,
     )))
 
 pub row_bounds-from-requires-clause-ordered : goal.row_bounds-from-requires-clause-ordered
 row_bounds-from-requires-clause-ordered c =
-    subst (λ (l : List Run). AreOrdered l) (sym c.as_slice-old.ensures.value) c.requires.grid.ordered
+    subst (λ (l : List Run). AreOrdered l) (sym c.as_slice-old.ensures.value) c.grid.invariant.0.ordered
 
 pub part_at-requires-clause-runs : goal.part_at-requires-clause-runs
 part_at-requires-clause-runs c =
     let is = sym c.as_slice-old.ensures.value in
-    let text = string_bytes c.args.text.now in
-    IsRow-stretch text c.args.row c.as_slice-old.result.now c.row_bounds-from.result.0 c.row_bounds-from.result.1 c.row_bounds-from.ensures.bounds.0
-    c.row_bounds-from.ensures.bounds.1 (subst (λ (l : List Run). All (λ x. IsRun text x) l) is c.requires.grid.are_runs)
-    (subst (λ (l : List Run). AreOrdered l) is c.requires.grid.ordered) (subst (λ (l : List Run). AreApart l) is c.requires.grid.apart)
+    let text = string_bytes c.grid.inside.text in
+    IsRow-stretch text c.args.cells.row c.as_slice-old.result.now c.row_bounds-from.result.0 c.row_bounds-from.result.1 c.row_bounds-from.ensures.bounds.0
+    c.row_bounds-from.ensures.bounds.1 (subst (λ (l : List Run). All (λ x. IsRun text x) l) is c.grid.invariant.0.are_runs)
+    (subst (λ (l : List Run). AreOrdered l) is c.grid.invariant.0.ordered) (subst (λ (l : List Run). AreApart l) is c.grid.invariant.0.apart)
     c.row_bounds-from.ensures.inside
 
-pub returns-in_err-part-clause-grid : goal.returns-in_err-part-clause-grid
-returns-in_err-part-clause-grid c =
-    IsGrid-grown (string_bytes c.args.text.now) (string_bytes c.part_at.new.text) c.args.runs.now.items c.args.runs.now.items c.args.widths.now
-    c.args.widths.now c.in_err-part.ensures.text refl refl c.requires.grid
+pub invariant_of-grid : goal.invariant_of-grid
+invariant_of-grid c = (
+  IsGrid-grown (string_bytes c.grid.inside.text) (string_bytes c.part_at.new.text) c.grid.inside.runs.items c.grid.inside.runs.items c.grid.inside.widths.items
+      c.grid.inside.widths.items c.in_err-part.ensures.text refl refl c.grid.invariant.0,
+  c.grid.invariant.1,
+)
 
 pub returns-in_err-part-clause-err : goal.returns-in_err-part-clause-err
 returns-in_err-part-clause-err c =
-    on_err_from c.from_residual.result (grid_grown (string_bytes c.args.text.now)
-    (string_bytes c.part_at.new.text) c.args.runs.now.items c.args.runs.now.items c.args.widths.now c.args.widths.now c.in_err-part.ensures.text refl refl
-    c.requires.grid)
+    on_err_from c.from_residual.result (stored_grown (string_bytes c.grid.inside.text)
+    (string_bytes c.part_at.new.text) c.grid.inside.runs.items c.grid.inside.runs.items c.grid.inside.widths.items c.grid.inside.widths.items
+    c.in_err-part.ensures.text refl refl
+    c.grid.invariant.0 ∙ c.grid.view_is)
 
 pub put_run-requires-clause-runs : goal.put_run-requires-clause-runs
 put_run-requires-clause-runs c =
-    All-IsRun-grown (string_bytes c.args.text.now) (string_bytes c.part_at.new.text) c.args.runs.now.items c.in_ok-part.ensures.text c.requires.grid.are_runs
+    All-IsRun-grown (string_bytes c.grid.inside.text) (string_bytes c.part_at.new.text) c.grid.inside.runs.items c.in_ok-part.ensures.text
+    c.grid.invariant.0.are_runs
+
+pub invariant_of-grid-then-part-last : goal.invariant_of-grid-then-part-last
+invariant_of-grid-then-part-last c =
+    let old = string_bytes c.grid.inside.text in
+    let mid = string_bytes c.part_at.new.text in
+    let new = string_bytes c.put_run.new.text in
+    let runs = c.grid.inside.runs.items in
+    let now = c.put_run.new.runs.items in
+    let w = c.grid.inside.widths.items in
+    let row = c.args.cells.row in
+    let was : c.width_of.result ≡ get_or c.grid.inside.widths.items c.args.cells.row 0 = c.width_of.ensures.value
+    ∙ ap (λ (u : List ℕ). get_or u c.args.cells.row 0) c.deref.ensures.value in
+    let part = c.in_ok-part.ensures.ok in
+    let all = BeginsWith-trans old mid new c.in_ok-part.ensures.text c.put_run.ensures.text in
+    let reach : c.changed.result.cell + c.changed.result.count ≤ get_or w c.changed.result.row 0 = omega (
+      arith,
+      c.changed.ensures.is.cell,
+      c.changed.ensures.is.count,
+      part.cell_is,
+      part.within,
+      c.min-last.ensures,
+      was,
+      ap (λ r. get_or w r 0) (c.changed.ensures.is.row ∙ part.row_is),
+    ) in (
+      on_either c.put_run.result
+          (on_ok_weaker c.put_run.result
+          (λ put. record { are_runs = put.are_runs; ordered = put.ordered; apart = put.apart; inside = put.inside w c.grid.invariant.0.inside reach })
+          c.put_run.ensures.ok) (on_err_weaker c.put_run.result (λ same. IsGrid-grown old new runs now w w all same refl c.grid.invariant.0)
+          c.put_run.ensures.err),
+      c.grid.invariant.1,
+    )
 
 pub returns-then-part-last : goal.returns-then-part-last
 returns-then-part-last c =
-    let old = string_bytes c.args.text.now in
+    let old = string_bytes c.grid.inside.text in
     let mid = string_bytes c.part_at.new.text in
     let new = string_bytes c.put_run.new.text in
-    let runs = c.args.runs.now.items in
+    let runs = c.grid.inside.runs.items in
     let now = c.put_run.new.runs.items in
-    let w = c.args.widths.now in
-    let row = c.args.row in
+    let w = c.grid.inside.widths.items in
+    let row = c.args.cells.row in
+    let was : c.width_of.result ≡ get_or c.grid.inside.widths.items c.args.cells.row 0 = c.width_of.ensures.value
+    ∙ ap (λ (u : List ℕ). get_or u c.args.cells.row 0) c.deref.ensures.value in
+    let count = ap (λ (s : Stored). s.num_runs) c.grid.view_is in
     let from = c.row_bounds-from.result.0 in
     let to = c.row_bounds-from.result.1 in
     let last = c.min-last.result in
@@ -83,13 +126,13 @@ returns-then-part-last c =
     } in
     let same : (k : ℕ) → shown_cell old (stretch c.as_slice-old.result.now from to) row k ≡ shown_cell old runs row k = λ k.
     ap (λ (l : List Run). shown_cell old (stretch l from to) row k) is ∙ row_shows old runs row from to k at in
-    let part = part_same mid row c.args.start last (λ k. shown_cell old (stretch c.as_slice-old.result.now from to) row k) (λ k.
+    let part = part_same mid row c.args.cells.start last (λ k. shown_cell old (stretch c.as_slice-old.result.now from to) row k) (λ k.
     shown_cell old runs row k) c.in_ok-part.part same c.in_ok-part.ensures.ok in
     let grows = c.in_ok-part.ensures.text in
     let all = BeginsWith-trans old mid new grows c.put_run.ensures.text in
     let same_row : c.changed.result.row ≡ row = c.changed.ensures.is.row ∙ c.in_ok-part.ensures.ok.row_is in
     let f = changed_by c.args.change in
-    let whole : c.args.start + c.in_ok-part.part.count ≡ last = omega (arith, c.if-part-last.true, c.if-last-start.false) in
+    let whole : c.args.cells.start + c.in_ok-part.part.count ≡ last = omega (arith, c.if-part-last.true, c.if-last-start.false) in
     let reach : c.changed.result.cell + c.changed.result.count ≤ get_or w c.changed.result.row 0 = omega (
       arith,
       c.changed.ensures.is.cell,
@@ -97,85 +140,91 @@ returns-then-part-last c =
       part.cell_is,
       part.within,
       c.min-last.ensures,
-      c.width_of.ensures.value,
+      was,
       ap (λ r.
           get_or w r 0) same_row,
     ) in
-    let fits : IsPut mid new runs now c.changed.result → FitIn w now = λ put. put.inside w c.requires.grid.inside reach in
+    let fits : IsPut mid new runs now c.changed.result → FitIn w now = λ put. put.inside w c.grid.invariant.0.inside reach in
     let span = λ (put : IsPut mid new runs now c.changed.result). subst
-    (λ n. ShowsSpan old new runs now row c.args.start n (λ k. f (shown_cell old runs row k)))
-    whole (put_span old mid new runs now c.in_ok-part.part c.changed.result row c.args.start last c.args.change grows c.requires.grid.are_runs
+    (λ n. ShowsSpan old new runs now row c.args.cells.start n (λ k. f (shown_cell old runs row k)))
+    whole (put_span old mid new runs now c.in_ok-part.part c.changed.result row c.args.cells.start last c.args.change grows c.grid.invariant.0.are_runs
     part c.changed.ensures.is put) in
     record {
       ok = on_ok_weaker c.put_run.result
-          (λ put. grid_span f old new runs now w row c.args.start c.args.end last (c.min-last.ensures ∙ ap (min c.args.end) c.width_of.ensures.value)
-          c.requires.grid.inside (fits put) (span put)
-          (λ r k other. put_stays old mid new runs now c.changed.result r k grows c.requires.grid.are_runs put (λ same. other (same ∙ same_row))))
+          (λ put. grid_span f old new runs now w row c.args.cells.start c.args.cells.end last (c.min-last.ensures ∙ ap (min c.args.cells.end) was)
+          c.grid.invariant.0.inside (fits put) (span put)
+          (λ r k other. put_stays old mid new runs now c.changed.result r k grows c.grid.invariant.0.are_runs put (λ same. other (same ∙ same_row)))
+          ∙ ap (λ (s : Stored). cells_changed f s.rows row c.args.cells.start c.args.cells.end) c.grid.view_is)
           c.put_run.ensures.ok;
-      grid = on_either c.put_run.result
-          (on_ok_weaker c.put_run.result (λ put. record { are_runs = put.are_runs; ordered = put.ordered; apart = put.apart; inside = fits put })
-          c.put_run.ensures.ok) (on_err_weaker c.put_run.result (λ same. IsGrid-grown old new runs now w w all same refl c.requires.grid)
-          c.put_run.ensures.err);
       runs_added = on_either c.put_run.result (on_ok_weaker c.put_run.result (λ put.
-          omega (arith, put.few, c.if-last-start.false, c.min-last.ensures)) c.put_run.ensures.ok)
-          (on_err_weaker c.put_run.result (λ same. omega (arith, ap length same)) c.put_run.ensures.err);
-      err = on_err_weaker c.put_run.result (λ same. grid_grown old new runs now w w all same refl c.requires.grid) c.put_run.ensures.err;
+          omega (arith, put.few, c.if-last-start.false, c.min-last.ensures, count)) c.put_run.ensures.ok)
+          (on_err_weaker c.put_run.result (λ same. omega (arith, ap length same, count)) c.put_run.ensures.err);
+      err = on_err_weaker c.put_run.result (λ same. stored_grown old new runs now w w all same refl c.grid.invariant.0 ∙ c.grid.view_is) c.put_run.ensures.err;
     }
 
 -- a call that fails after spaces were added to the text leaves the grid as it was
-pub returns-in_err-extend_from_slice-clause-grid : goal.returns-in_err-extend_from_slice-clause-grid
-returns-in_err-extend_from_slice-clause-grid c =
-    IsGrid-grown (string_bytes c.args.text.now) (string_bytes c.part_at.new.text) c.args.runs.now.items c.args.runs.now.items c.args.widths.now
-    c.args.widths.now c.in_ok-part.ensures.text refl refl c.requires.grid
+pub invariant_of-grid-in_err-extend_from_slice : goal.invariant_of-grid-in_err-extend_from_slice
+invariant_of-grid-in_err-extend_from_slice c = (
+  IsGrid-grown (string_bytes c.grid.inside.text) (string_bytes c.part_at.new.text) c.grid.inside.runs.items c.grid.inside.runs.items c.grid.inside.widths.items
+      c.grid.inside.widths.items c.in_ok-part.ensures.text refl refl c.grid.invariant.0,
+  c.grid.invariant.1,
+)
 
 pub returns-in_err-extend_from_slice-clause-err : goal.returns-in_err-extend_from_slice-clause-err
 returns-in_err-extend_from_slice-clause-err c =
-    on_err_from c.from_residual-in_err-extend_from_slice.result (grid_grown (string_bytes c.args.text.now)
-    (string_bytes c.part_at.new.text) c.args.runs.now.items c.args.runs.now.items c.args.widths.now c.args.widths.now c.in_ok-part.ensures.text refl refl
-    c.requires.grid)
+    on_err_from c.from_residual-in_err-extend_from_slice.result (stored_grown (string_bytes c.grid.inside.text)
+    (string_bytes c.part_at.new.text) c.grid.inside.runs.items c.grid.inside.runs.items c.grid.inside.widths.items c.grid.inside.widths.items
+    c.in_ok-part.ensures.text refl refl
+    c.grid.invariant.0 ∙ c.grid.view_is)
 
 pub change_row-requires-clause-runs : goal.change_row-requires-clause-runs
 change_row-requires-clause-runs c =
     let is = c.as_slice.ensures.value in
     let mid = string_bytes c.part_at.new.text in
-    let grid = IsGrid-grown (string_bytes c.args.text.now) mid c.args.runs.now.items c.args.runs.now.items c.args.widths.now c.args.widths.now
-    c.in_ok-part.ensures.text refl refl c.requires.grid in
+    let grid = IsGrid-grown (string_bytes c.grid.inside.text) mid c.grid.inside.runs.items c.grid.inside.runs.items c.grid.inside.widths.items
+    c.grid.inside.widths.items
+    c.in_ok-part.ensures.text refl refl c.grid.invariant.0 in
     let copied = c.in_ok-extend_from_slice.ensures.items ∙ ap (λ (l : List Run). l
     ++ stretch c.as_slice.result.now c.row_bounds-from.result.0 c.row_bounds-from.result.1) c.clear.ensures.items
     ∙ ap (λ (l : List Run). stretch l c.row_bounds-from.result.0 c.row_bounds-from.result.1) (is ∙ sym c.as_slice-old.ensures.value) in
-    subst (λ (l : List Run). IsRow mid c.args.row l) (sym copied)
-    (IsRow-stretch mid c.args.row c.as_slice-old.result.now c.row_bounds-from.result.0 c.row_bounds-from.result.1 c.row_bounds-from.ensures.bounds.0
+    subst (λ (l : List Run). IsRow mid c.args.cells.row l) (sym copied)
+    (IsRow-stretch mid c.args.cells.row c.as_slice-old.result.now c.row_bounds-from.result.0 c.row_bounds-from.result.1 c.row_bounds-from.ensures.bounds.0
     c.row_bounds-from.ensures.bounds.1
     (subst (λ (l : List Run). All (λ x. IsRun mid x) l) (sym c.as_slice-old.ensures.value) grid.are_runs)
     (subst (λ (l : List Run). AreOrdered l) (sym c.as_slice-old.ensures.value) grid.ordered)
     (subst (λ (l : List Run). AreApart l) (sym c.as_slice-old.ensures.value) grid.apart) c.row_bounds-from.ensures.inside)
 
-pub returns-in_err-change_row-clause-grid : goal.returns-in_err-change_row-clause-grid
-returns-in_err-change_row-clause-grid c =
-    IsGrid-grown (string_bytes c.args.text.now) (string_bytes c.change_row.new.text) c.args.runs.now.items c.args.runs.now.items c.args.widths.now
-    c.args.widths.now (BeginsWith-trans _ _ _ c.in_ok-part.ensures.text c.in_err-change_row.ensures.text) refl refl c.requires.grid
+pub invariant_of-grid-in_err-change_row : goal.invariant_of-grid-in_err-change_row
+invariant_of-grid-in_err-change_row c = (
+  IsGrid-grown (string_bytes c.grid.inside.text) (string_bytes c.change_row.new.text) c.grid.inside.runs.items c.grid.inside.runs.items
+      c.grid.inside.widths.items
+      c.grid.inside.widths.items (BeginsWith-trans _ _ _ c.in_ok-part.ensures.text c.in_err-change_row.ensures.text) refl refl c.grid.invariant.0,
+  c.grid.invariant.1,
+)
 
 pub returns-in_err-change_row-clause-err : goal.returns-in_err-change_row-clause-err
 returns-in_err-change_row-clause-err c =
-    on_err_from c.from_residual-in_err-change_row.result (grid_grown (string_bytes c.args.text.now)
-    (string_bytes c.change_row.new.text) c.args.runs.now.items c.args.runs.now.items c.args.widths.now c.args.widths.now
-    (BeginsWith-trans _ _ _ c.in_ok-part.ensures.text c.in_err-change_row.ensures.text) refl refl c.requires.grid)
+    on_err_from c.from_residual-in_err-change_row.result (stored_grown (string_bytes c.grid.inside.text)
+    (string_bytes c.change_row.new.text) c.grid.inside.runs.items c.grid.inside.runs.items c.grid.inside.widths.items c.grid.inside.widths.items
+    (BeginsWith-trans _ _ _ c.in_ok-part.ensures.text c.in_err-change_row.ensures.text) refl refl c.grid.invariant.0 ∙ c.grid.view_is)
 
-pub returns : goal.returns
-returns c =
+pub invariant_of-grid-2 : goal.invariant_of-grid-2
+invariant_of-grid-2 c =
     let is = c.as_slice-old.ensures.value in
     let from = c.row_bounds-from.result.0 in
     let to = c.row_bounds-from.result.1 in
-    let old = string_bytes c.args.text.now in
+    let old = string_bytes c.grid.inside.text in
     let mid = string_bytes c.part_at.new.text in
     let new = string_bytes c.change_row.new.text in
-    let row = c.args.row in
-    let runs = c.args.runs.now.items in
+    let row = c.args.cells.row in
+    let was : c.width_of.result ≡ get_or c.grid.inside.widths.items c.args.cells.row 0 = c.width_of.ensures.value
+    ∙ ap (λ (u : List ℕ). get_or u c.args.cells.row 0) c.deref.ensures.value in
+    let runs = c.grid.inside.runs.items in
     let now = c.exchange.new.runs.items in
     let fresh = c.change_row.new.runs.items in
-    let w = c.args.widths.now in
+    let w = c.grid.inside.widths.items in
     let f = changed_by c.args.change in
-    let grid = IsGrid-grown old mid runs runs w w c.in_ok-part.ensures.text refl refl c.requires.grid in
+    let grid = IsGrid-grown old mid runs runs w w c.in_ok-part.ensures.text refl refl c.grid.invariant.0 in
     let grows = c.in_ok-change_row.ensures.text in
     let all = BeginsWith-trans old mid new c.in_ok-part.ensures.text grows in
     let copied = c.in_ok-extend_from_slice.ensures.items ∙ ap (λ (l : List Run). l ++ stretch c.as_slice.result.now from to) c.clear.ensures.items
@@ -189,8 +238,61 @@ returns c =
       below = c.row_bounds-from.ensures.below;
     } in
     let width : ℕ = get_or w row 0 in
-    let high : c.min-last.result ≤ width = omega (arith, c.min-last.ensures, c.width_of.ensures.value) in
-    let shows = subst (λ (l : List Run). ShowsSpan mid new l fresh row c.args.start c.min-last.result (λ k.
+    let high : c.min-last.result ≤ width = omega (arith, c.min-last.ensures, was) in
+    let ends = λ (all : EndsBy width (stretch runs from to)). c.in_ok-change_row.ensures.ends width
+    (subst (λ (l : List Run). EndsBy width l) (sym copied) all) high in
+    let put : now ≡ take from runs ++ fresh ++ drop to runs → IsExchanged mid new runs now fresh row from to =
+    λ done. record {
+      at = at;
+      grows = grows;
+      are_runs = grid.are_runs;
+      ordered = grid.ordered;
+      apart =
+          grid.apart;
+      is_row = c.in_ok-change_row.ensures.row;
+      is = done;
+    } in
+    let fits : now ≡ take from runs ++ fresh ++ drop to runs → FitIn w now = λ done.
+    FitIn-put mid new runs now fresh w row from to (put done) grid.inside ends in (
+      on_either c.exchange.result
+          (on_ok_weaker c.exchange.result (λ done. IsGrid-put mid new runs now fresh w w row from to (put done) (fits done)) c.exchange.ensures.ok)
+          (on_err_weaker c.exchange.result (λ same. IsGrid-grown old new runs now w w all same refl c.grid.invariant.0) c.exchange.ensures.err),
+      c.grid.invariant.1,
+    )
+
+pub returns : goal.returns
+returns c =
+    let is = c.as_slice-old.ensures.value in
+    let from = c.row_bounds-from.result.0 in
+    let to = c.row_bounds-from.result.1 in
+    let old = string_bytes c.grid.inside.text in
+    let mid = string_bytes c.part_at.new.text in
+    let new = string_bytes c.change_row.new.text in
+    let row = c.args.cells.row in
+    let was : c.width_of.result ≡ get_or c.grid.inside.widths.items c.args.cells.row 0 = c.width_of.ensures.value
+    ∙ ap (λ (u : List ℕ). get_or u c.args.cells.row 0) c.deref.ensures.value in
+    let count = ap (λ (s : Stored). s.num_runs) c.grid.view_is in
+    let runs = c.grid.inside.runs.items in
+    let now = c.exchange.new.runs.items in
+    let fresh = c.change_row.new.runs.items in
+    let w = c.grid.inside.widths.items in
+    let f = changed_by c.args.change in
+    let grid = IsGrid-grown old mid runs runs w w c.in_ok-part.ensures.text refl refl c.grid.invariant.0 in
+    let grows = c.in_ok-change_row.ensures.text in
+    let all = BeginsWith-trans old mid new c.in_ok-part.ensures.text grows in
+    let copied = c.in_ok-extend_from_slice.ensures.items ∙ ap (λ (l : List Run). l ++ stretch c.as_slice.result.now from to) c.clear.ensures.items
+    ∙ ap (λ (l : List Run). stretch l from to) c.as_slice.ensures.value in
+    let at = RowAt-read runs c.as_slice-old.result.now row from to is record {
+      ordered = c.row_bounds-from.ensures.bounds.0;
+      within = c.row_bounds-from.ensures.bounds.1;
+      above = c.row_bounds-from.ensures.above;
+      inside =
+          c.row_bounds-from.ensures.inside;
+      below = c.row_bounds-from.ensures.below;
+    } in
+    let width : ℕ = get_or w row 0 in
+    let high : c.min-last.result ≤ width = omega (arith, c.min-last.ensures, was) in
+    let shows = subst (λ (l : List Run). ShowsSpan mid new l fresh row c.args.cells.start c.min-last.result (λ k.
     f (shown_cell mid l row k))) copied c.in_ok-change_row.ensures.ok in
     let ends = λ (all : EndsBy width (stretch runs from to)). c.in_ok-change_row.ensures.ends width
     (subst (λ (l : List Run). EndsBy width l) (sym copied) all) high in
@@ -207,30 +309,30 @@ returns c =
     } in
     let fits : now ≡ take from runs ++ fresh ++ drop to runs → FitIn w now = λ done.
     FitIn-put mid new runs now fresh w row from to (put done) grid.inside ends in
-    let long : length fresh ≤ length (stretch runs from to) + 2 * (c.args.end - c.args.start) = omega
+    let long : length fresh ≤ length (stretch runs from to) + 2 * (c.args.cells.end - c.args.cells.start) = omega
     (arith, c.in_ok-change_row.ensures.count, ap length copied, c.min-last.ensures) in
     record {
-      ok = on_ok_weaker c.exchange.result (λ done. grid_changed f mid new runs now fresh w row c.args.start c.args.end c.min-last.result from to (put done)
-          (c.min-last.ensures ∙ ap (min c.args.end) c.width_of.ensures.value) grid.inside (fits done) shows
-          ∙ ap (λ (rows : List (List Cell)). cells_changed f rows row c.args.start c.args.end)
-          (grid_grown old mid runs runs w w c.in_ok-part.ensures.text refl refl c.requires.grid)) c.exchange.ensures.ok;
-      grid = on_either c.exchange.result
-          (on_ok_weaker c.exchange.result (λ done. IsGrid-put mid new runs now fresh w w row from to (put done) (fits done)) c.exchange.ensures.ok)
-          (on_err_weaker c.exchange.result (λ same. IsGrid-grown old new runs now w w all same refl c.requires.grid) c.exchange.ensures.err);
+      ok = on_ok_weaker c.exchange.result (λ done. grid_changed f mid new runs now fresh w row c.args.cells.start c.args.cells.end c.min-last.result from
+          to (put done)
+          (c.min-last.ensures ∙ ap (min c.args.cells.end) was) grid.inside (fits done) shows
+          ∙ ap (λ (rows : List (List Cell)). cells_changed f rows row c.args.cells.start c.args.cells.end)
+          (grid_grown old mid runs runs w w c.in_ok-part.ensures.text refl refl c.grid.invariant.0)
+          ∙ ap (λ (s : Stored). cells_changed f s.rows row c.args.cells.start c.args.cells.end) c.grid.view_is) c.exchange.ensures.ok;
       runs_added = on_either c.exchange.result
           (on_ok_weaker c.exchange.result
-          (λ done. omega (arith, put_length runs now fresh row from to at done, long, length-stretch runs row from to at)) c.exchange.ensures.ok)
-          (on_err_weaker c.exchange.result (λ same. omega (arith, ap length same)) c.exchange.ensures.err);
-      err = on_err_weaker c.exchange.result (λ same. grid_grown old new runs now w w all same refl c.requires.grid) c.exchange.ensures.err;
+          (λ done. omega (arith, put_length runs now fresh row from to at done, long, length-stretch runs row from to at, count)) c.exchange.ensures.ok)
+          (on_err_weaker c.exchange.result (λ same. omega (arith, ap length same, count)) c.exchange.ensures.err);
+      err = on_err_weaker c.exchange.result (λ same. stored_grown old new runs now w w all same refl c.grid.invariant.0 ∙ c.grid.view_is)
+          c.exchange.ensures.err;
     }
 
 pub row_bounds-from-requires-clause-fits : goal.row_bounds-from-requires-clause-fits
 row_bounds-from-requires-clause-fits c =
     subst (λ (l : List Run). All (λ x. x.cell < 2 ^ 64) l) (sym c.as_slice-old.ensures.value)
-    (begins_fit (string_bytes c.args.text.now) c.args.runs.now.items c.requires.grid.are_runs)
+    (begins_fit (string_bytes c.grid.inside.text) c.grid.inside.runs.items c.grid.invariant.0.are_runs)
 
 pub put_run-requires-clause-ordered : goal.put_run-requires-clause-ordered
-put_run-requires-clause-ordered c = c.requires.grid.ordered
+put_run-requires-clause-ordered c = c.grid.invariant.0.ordered
 
 pub put_run-requires-clause-apart : goal.put_run-requires-clause-apart
-put_run-requires-clause-apart c = c.requires.grid.apart
+put_run-requires-clause-apart c = c.grid.invariant.0.apart

@@ -5,7 +5,7 @@ use Rattle.std.proofs.lemmas.List.{length-set, get_or-set_same, get_or-set_other
 use Rattle.std.specs.Str.{chars}
 use Rattle.snippet_grid.proofs.GridChanged.{IsExchanged, IsGrid-put}
 use Rattle.snippet_style.proofs.CellLemmas.{length-text_cells}
-use Rattle.snippet_grid.proofs.GridShown.{on_err_from, IsGrid-grown, grid_grown, width_shown}
+use Rattle.snippet_grid.proofs.GridShown.{on_err_from, IsGrid-grown, width_shown}
 use Rattle.snippet_grid.proofs.PutLemmas.{AreOrdered, AreApart, IsRow-stretch}
 use Rattle.snippet_grid.proofs.ReplaceLemmas.{cells_replaced_empty, cells_replaced_past}
 use Rattle.snippet_grid.proofs.ReplacedRow.{grid_replaced, FitIn-replaced}
@@ -13,82 +13,90 @@ use Rattle.snippet_grid.proofs.RowPut.{RowAt-read, begins_fit, row_ends, put_len
 use Rattle.snippet_grid.proofs.StretchLemmas.{stretch}
 use Rattle.snippet_grid.specs.Changes.{ShowsReplaced}
 use Rattle.snippet_style.specs.Cell.{text_cells}
-use Rattle.snippet_grid.specs.Runs.{IsRun, EndsBy, FitIn, grid_shown}
+use Rattle.snippet_grid.specs.Runs.{IsRun, EndsBy, FitIn}
 use Rattle.snippet_grid.specs.declared.runs.Run.{Run}
+use Rattle.snippet_grid.proofs.StoredLemmas.{stored_grown}
+use Rattle.snippet_grid.specs.Grid.{cells_replaced, row_at}
+use Rattle.snippet_grid.specs.Stored.{Stored}
 use Rattle.snippet_grid.proofs.replace.replace_cells.Goals as goal
 
 pub returns-then-end-start-clause-ok : goal.returns-then-end-start-clause-ok
 returns-then-end-start-clause-ok c =
-    let rows = grid_shown (string_bytes c.args.text.now) c.args.runs.now.items c.args.widths.now.items in
+    let rows = c.args.grid.now.rows in
     let cells = text_cells c.args.role (chars c.args.word.now) in
-    let width = width_shown (string_bytes c.args.text.now) c.args.runs.now.items c.args.widths.now.items c.args.row in
-    let lent = ap (λ (w : List ℕ). get_or w c.args.row 0) c.deref.ensures.value in
-    elim (cases_lt c.args.start c.args.end) [
-      | inr none ↦ sym (cells_replaced_empty rows c.args.row c.args.start c.args.end cells none)
-      | inl some ↦ sym (cells_replaced_past rows c.args.row c.args.start c.args.end cells
-          (omega (arith, c.then-end-start.either, c.width_of-width.ensures.value, width, lent)))
+    let width = width_shown (string_bytes c.grid.inside.text) c.grid.inside.runs.items c.grid.inside.widths.items c.args.cells.row in
+    let lent = ap (λ (w : List ℕ). get_or w c.args.cells.row 0) c.deref.ensures.value in
+    let seen = ap (λ (s : Stored). length (row_at s.rows c.args.cells.row)) c.grid.view_is in
+    elim (cases_lt c.args.cells.start c.args.cells.end) [
+      | inr none ↦ sym (cells_replaced_empty rows c.args.cells.row c.args.cells.start c.args.cells.end cells none)
+      | inl some ↦ sym (cells_replaced_past rows c.args.cells.row c.args.cells.start c.args.cells.end cells
+          (omega (arith, c.then-end-start.either, c.width_of-width.ensures.value, width, lent, seen)))
     ]
 
 pub row_bounds-from-requires : goal.row_bounds-from-requires
 row_bounds-from-requires c =
     let is = sym c.as_slice-old.ensures.value in
     record {
-      ordered = subst (λ (l : List Run). AreOrdered l) is c.requires.grid.ordered;
+      ordered = subst (λ (l : List Run). AreOrdered l) is c.grid.invariant.0.ordered;
       fits = subst (λ (l : List Run). All (λ x. x.cell < 2 ^ 64) l) is
-          (begins_fit (string_bytes c.args.text.now) c.args.runs.now.items c.requires.grid.are_runs);
+          (begins_fit (string_bytes c.grid.inside.text) c.grid.inside.runs.items c.grid.invariant.0.are_runs);
     }
 
 pub replaced_row-requires-clause-runs : goal.replaced_row-requires-clause-runs
 replaced_row-requires-clause-runs c =
     let is = c.as_slice-old.ensures.value in
-    let text = string_bytes c.args.text.now in
-    IsRow-stretch text c.args.row c.as_slice-old.result.now c.row_bounds-from.result.0 c.row_bounds-from.result.1 c.row_bounds-from.ensures.bounds.0
-    c.row_bounds-from.ensures.bounds.1 (subst (λ (l : List Run). All (λ x. IsRun text x) l) (sym is) c.requires.grid.are_runs)
-    (subst (λ (l : List Run). AreOrdered l) (sym is) c.requires.grid.ordered)
-    (subst (λ (l : List Run). AreApart l) (sym is) c.requires.grid.apart) c.row_bounds-from.ensures.inside
+    let text = string_bytes c.grid.inside.text in
+    IsRow-stretch text c.args.cells.row c.as_slice-old.result.now c.row_bounds-from.result.0 c.row_bounds-from.result.1 c.row_bounds-from.ensures.bounds.0
+    c.row_bounds-from.ensures.bounds.1 (subst (λ (l : List Run). All (λ x. IsRun text x) l) (sym is) c.grid.invariant.0.are_runs)
+    (subst (λ (l : List Run). AreOrdered l) (sym is) c.grid.invariant.0.ordered)
+    (subst (λ (l : List Run). AreApart l) (sym is) c.grid.invariant.0.apart) c.row_bounds-from.ensures.inside
 
-pub returns-in_err-replaced_row-clause-grid : goal.returns-in_err-replaced_row-clause-grid
-returns-in_err-replaced_row-clause-grid c =
-    IsGrid-grown (string_bytes c.args.text.now) (string_bytes c.replaced_row.new.text) c.args.runs.now.items c.args.runs.now.items c.args.widths.now.items
-    c.args.widths.now.items c.in_err-replaced_row.ensures.text refl refl c.requires.grid
+pub invariant_of-grid : goal.invariant_of-grid
+invariant_of-grid c = (
+  IsGrid-grown (string_bytes c.grid.inside.text) (string_bytes c.replaced_row.new.text) c.grid.inside.runs.items c.grid.inside.runs.items
+      c.grid.inside.widths.items
+      c.grid.inside.widths.items c.in_err-replaced_row.ensures.text refl refl c.grid.invariant.0,
+  c.grid.invariant.1,
+)
 
 pub returns-in_err-replaced_row-clause-err : goal.returns-in_err-replaced_row-clause-err
 returns-in_err-replaced_row-clause-err c =
-    on_err_from c.from_residual.result (grid_grown (string_bytes c.args.text.now)
-    (string_bytes c.replaced_row.new.text) c.args.runs.now.items c.args.runs.now.items c.args.widths.now.items c.args.widths.now.items
-    c.in_err-replaced_row.ensures.text refl refl c.requires.grid)
+    on_err_from c.from_residual.result (stored_grown (string_bytes c.grid.inside.text)
+    (string_bytes c.replaced_row.new.text) c.grid.inside.runs.items c.grid.inside.runs.items c.grid.inside.widths.items c.grid.inside.widths.items
+    c.in_err-replaced_row.ensures.text refl refl c.grid.invariant.0 ∙ c.grid.view_is)
 
-pub returns-in_err-exchange-clause-grid : goal.returns-in_err-exchange-clause-grid
-returns-in_err-exchange-clause-grid c =
-    IsGrid-grown (string_bytes c.args.text.now) (string_bytes c.replaced_row.new.text) c.args.runs.now.items c.exchange.new.runs.items c.args.widths.now.items
-    c.args.widths.now.items c.in_ok-replaced_row.ensures.text c.in_err-exchange.ensures.err refl c.requires.grid
+pub invariant_of-grid-in_err-exchange : goal.invariant_of-grid-in_err-exchange
+invariant_of-grid-in_err-exchange c = (
+  IsGrid-grown (string_bytes c.grid.inside.text) (string_bytes c.replaced_row.new.text) c.grid.inside.runs.items c.exchange.new.runs.items
+      c.grid.inside.widths.items
+      c.grid.inside.widths.items c.in_ok-replaced_row.ensures.text c.in_err-exchange.ensures.err refl c.grid.invariant.0,
+  c.grid.invariant.1,
+)
 
 pub returns-in_err-exchange-clause-err : goal.returns-in_err-exchange-clause-err
 returns-in_err-exchange-clause-err c =
     on_err_from c.from_residual-in_err-exchange.result
-    (grid_grown (string_bytes c.args.text.now) (string_bytes c.replaced_row.new.text)
-    c.args.runs.now.items c.exchange.new.runs.items c.args.widths.now.items c.args.widths.now.items c.in_ok-replaced_row.ensures.text
-    c.in_err-exchange.ensures.err refl c.requires.grid)
+    (stored_grown (string_bytes c.grid.inside.text) (string_bytes c.replaced_row.new.text)
+    c.grid.inside.runs.items c.exchange.new.runs.items c.grid.inside.widths.items c.grid.inside.widths.items c.in_ok-replaced_row.ensures.text
+    c.in_err-exchange.ensures.err refl c.grid.invariant.0 ∙ c.grid.view_is)
 
-pub returns : goal.returns
-returns c =
+pub invariant_of-grid-2 : goal.invariant_of-grid-2
+invariant_of-grid-2 c =
     let is = c.as_slice-old.ensures.value in
-    let old = string_bytes c.args.text.now in
+    let old = string_bytes c.grid.inside.text in
     let new = string_bytes c.replaced_row.new.text in
     let from = c.row_bounds-from.result.0 in
     let to = c.row_bounds-from.result.1 in
-    let row = c.args.row in
-    let runs = c.args.runs.now.items in
+    let row = c.args.cells.row in
+    let runs = c.grid.inside.runs.items in
     let now = c.exchange.new.runs.items in
     let fresh = c.replaced_row.new.spare.runs.items in
-    let w = c.args.widths.now.items in
+    let w = c.grid.inside.widths.items in
     let v = set w row c.in-Some.wide in
-    let cells = text_cells c.args.role (chars c.args.word.now) in
-    let long = length-text_cells c.args.role (chars c.args.word.now) in
     let was : c.width_of-width.result ≡ get_or w row 0 = c.width_of-width.ensures.value ∙ ap (λ (u : List ℕ). get_or u row 0) c.deref.ensures.value in
-    let some : c.args.start < c.args.end = omega (arith, c.if-end-start.false) in
-    let within : c.args.end ≤ get_or w row 0 = omega (arith, was, c.if-width-end.false) in
-    let wide : c.in-Some.wide ≡ c.args.start + length (chars c.args.word.now) + (get_or w row 0 - c.args.end) = omega
+    let some : c.args.cells.start < c.args.cells.end = omega (arith, c.if-end-start.false) in
+    let within : c.args.cells.end ≤ get_or w row 0 = omega (arith, was, c.if-width-end.false) in
+    let wide : c.in-Some.wide ≡ c.args.cells.start + length (chars c.args.word.now) + (get_or w row 0 - c.args.cells.end) = omega
     (arith, c.in-Some.ensures, c.char_count.ensures.value, was, some, within) in
     let there : row < length w = elim (cases_lt row (length w)) [
       | inl h ↦ h
@@ -107,24 +115,73 @@ returns c =
     let put : IsExchanged old new runs now fresh row from to = record {
       at = at;
       grows = c.in_ok-replaced_row.ensures.text;
-      are_runs = c.requires.grid.are_runs;
-      ordered = c.requires.grid.ordered;
-      apart = c.requires.grid.apart;
+      are_runs = c.grid.invariant.0.are_runs;
+      ordered = c.grid.invariant.0.ordered;
+      apart = c.grid.invariant.0.apart;
       is_row = c.in_ok-replaced_row.ensures.row;
       is = c.in_ok-exchange.ensures.ok;
     } in
     let ends : EndsBy (get_or w row 0) (stretch c.as_slice-old.result.now from to) = subst (λ (l : List Run). EndsBy (get_or w row 0) (stretch l from to))
-    (sym is) (row_ends w runs row from to at c.requires.grid.inside) in
+    (sym is) (row_ends w runs row from to at c.grid.invariant.0.inside) in
     let new_ends = c.in_ok-replaced_row.ensures.ends (get_or w row 0) ends in
     let all : EndsBy (get_or v row 0) fresh = λ k d inside. omega (arith, new_ends k d inside, wide, here) in
-    let fits : FitIn v now = FitIn-replaced old new runs now fresh w v row from to put c.requires.grid.inside all others in
-    let shows = subst (λ (l : List Run). ShowsReplaced old new (stretch l from to) fresh row c.args.start c.args.end cells) is
+    let fits : FitIn v now = FitIn-replaced old new runs now fresh w v row from to put c.grid.invariant.0.inside all others in
+    (IsGrid-put old new runs now fresh w v row from to put fits, omega (arith, c.grid.invariant.1, length-set w row c.in-Some.wide))
+
+pub returns : goal.returns
+returns c =
+    let is = c.as_slice-old.ensures.value in
+    let old = string_bytes c.grid.inside.text in
+    let new = string_bytes c.replaced_row.new.text in
+    let from = c.row_bounds-from.result.0 in
+    let to = c.row_bounds-from.result.1 in
+    let row = c.args.cells.row in
+    let runs = c.grid.inside.runs.items in
+    let now = c.exchange.new.runs.items in
+    let fresh = c.replaced_row.new.spare.runs.items in
+    let w = c.grid.inside.widths.items in
+    let v = set w row c.in-Some.wide in
+    let cells = text_cells c.args.role (chars c.args.word.now) in
+    let long = length-text_cells c.args.role (chars c.args.word.now) in
+    let was : c.width_of-width.result ≡ get_or w row 0 = c.width_of-width.ensures.value ∙ ap (λ (u : List ℕ). get_or u row 0) c.deref.ensures.value in
+    let some : c.args.cells.start < c.args.cells.end = omega (arith, c.if-end-start.false) in
+    let within : c.args.cells.end ≤ get_or w row 0 = omega (arith, was, c.if-width-end.false) in
+    let wide : c.in-Some.wide ≡ c.args.cells.start + length (chars c.args.word.now) + (get_or w row 0 - c.args.cells.end) = omega
+    (arith, c.in-Some.ensures, c.char_count.ensures.value, was, some, within) in
+    let there : row < length w = elim (cases_lt row (length w)) [
+      | inl h ↦ h
+      | inr past ↦ absurd (omega (arith, get_or_past w row 0 past))
+    ] in
+    let here : get_or v row 0 ≡ c.in-Some.wide = get_or-set_same w row c.in-Some.wide 0 there in
+    let others : (r : ℕ) → r ≢ row → get_or v r 0 ≡ get_or w r 0 = λ r other. get_or-set_other w row r c.in-Some.wide 0 other in
+    let at = RowAt-read runs c.as_slice-old.result.now row from to is record {
+      ordered = c.row_bounds-from.ensures.bounds.0;
+      within = c.row_bounds-from.ensures.bounds.1;
+      above = c.row_bounds-from.ensures.above;
+      inside =
+          c.row_bounds-from.ensures.inside;
+      below = c.row_bounds-from.ensures.below;
+    } in
+    let put : IsExchanged old new runs now fresh row from to = record {
+      at = at;
+      grows = c.in_ok-replaced_row.ensures.text;
+      are_runs = c.grid.invariant.0.are_runs;
+      ordered = c.grid.invariant.0.ordered;
+      apart = c.grid.invariant.0.apart;
+      is_row = c.in_ok-replaced_row.ensures.row;
+      is = c.in_ok-exchange.ensures.ok;
+    } in
+    let ends : EndsBy (get_or w row 0) (stretch c.as_slice-old.result.now from to) = subst (λ (l : List Run). EndsBy (get_or w row 0) (stretch l from to))
+    (sym is) (row_ends w runs row from to at c.grid.invariant.0.inside) in
+    let new_ends = c.in_ok-replaced_row.ensures.ends (get_or w row 0) ends in
+    let all : EndsBy (get_or v row 0) fresh = λ k d inside. omega (arith, new_ends k d inside, wide, here) in
+    let fits : FitIn v now = FitIn-replaced old new runs now fresh w v row from to put c.grid.invariant.0.inside all others in
+    let shows = subst (λ (l : List Run). ShowsReplaced old new (stretch l from to) fresh row c.args.cells.start c.args.cells.end cells) is
     c.in_ok-replaced_row.ensures.ok in
     record {
-      ok = grid_replaced old new runs now fresh w v row c.args.start c.args.end from to cells put some within c.requires.grid.inside fits
-          (length-set w row c.in-Some.wide) (omega (arith, here, wide, long, some, within)) others shows;
-      rows = length-set w row c.in-Some.wide;
-      grid = IsGrid-put old new runs now fresh w v row from to put fits;
+      ok = grid_replaced old new runs now fresh w v row c.args.cells.start c.args.cells.end from to cells put some within c.grid.invariant.0.inside fits
+          (length-set w row c.in-Some.wide) (omega (arith, here, wide, long, some, within)) others shows
+          ∙ ap (λ (s : Stored). cells_replaced s.rows row c.args.cells.start c.args.cells.end cells) c.grid.view_is;
       runs_added = omega (
         arith,
         put_length runs now fresh row from to at c.in_ok-exchange.ensures.ok,
@@ -132,6 +189,7 @@ returns c =
         ap
             (λ (l : List Run). length (stretch l from to)) is,
         length-stretch runs row from to at,
+        ap (λ (s : Stored). s.num_runs) c.grid.view_is,
       );
       empty_succeeds = search rules;
       past_succeeds = search rules;
@@ -141,9 +199,9 @@ returns c =
 pub replaced_row-requires-clause-moved : goal.replaced_row-requires-clause-moved
 replaced_row-requires-clause-moved c =
     let is = c.as_slice-old.ensures.value in
-    let runs = c.args.runs.now.items in
-    let w = c.args.widths.now.items in
-    let row = c.args.row in
+    let runs = c.grid.inside.runs.items in
+    let w = c.grid.inside.widths.items in
+    let row = c.args.cells.row in
     let from = c.row_bounds-from.result.0 in
     let to = c.row_bounds-from.result.1 in
     let at = RowAt-read runs c.as_slice-old.result.now row from to is record {
@@ -155,6 +213,42 @@ replaced_row-requires-clause-moved c =
       below = c.row_bounds-from.ensures.below;
     } in
     let ends : EndsBy (get_or w row 0) (stretch c.as_slice-old.result.now from to) = subst (λ (l : List Run). EndsBy (get_or w row 0) (stretch l from to))
-    (sym is) (row_ends w runs row from to at c.requires.grid.inside) in
+    (sym is) (row_ends w runs row from to at c.grid.invariant.0.inside) in
     let was : c.width_of-width.result ≡ get_or w row 0 = c.width_of-width.ensures.value ∙ ap (λ (u : List ℕ). get_or u row 0) c.deref.ensures.value in
     λ k d within. omega (arith, ends k d within, was, c.in-Some.ensures, c.char_count.ensures.value, c.if-end-start.false, c.if-width-end.false)
+
+pub returns-in_default-clause-past_succeeds : goal.returns-in_default-clause-past_succeeds
+returns-in_default-clause-past_succeeds c =
+    λ past. absurd (omega (
+      arith,
+      past,
+      c.if-width-end.false,
+      c.width_of-width.ensures.value,
+      ap (λ (u : List ℕ). get_or u c.args.cells.row 0) c.deref.ensures.value,
+      width_shown (string_bytes c.grid.inside.text) c.grid.inside.runs.items c.grid.inside.widths.items c.args.cells.row,
+      ap (λ (s : Stored). length (row_at s.rows c.args.cells.row)) c.grid.view_is,
+    ))
+
+pub returns-in_err-replaced_row-clause-past_succeeds : goal.returns-in_err-replaced_row-clause-past_succeeds
+returns-in_err-replaced_row-clause-past_succeeds c =
+    λ past. absurd (omega (
+      arith,
+      past,
+      c.if-width-end.false,
+      c.width_of-width.ensures.value,
+      ap (λ (u : List ℕ). get_or u c.args.cells.row 0) c.deref.ensures.value,
+      width_shown (string_bytes c.grid.inside.text) c.grid.inside.runs.items c.grid.inside.widths.items c.args.cells.row,
+      ap (λ (s : Stored). length (row_at s.rows c.args.cells.row)) c.grid.view_is,
+    ))
+
+pub returns-in_err-exchange-clause-past_succeeds : goal.returns-in_err-exchange-clause-past_succeeds
+returns-in_err-exchange-clause-past_succeeds c =
+    λ past. absurd (omega (
+      arith,
+      past,
+      c.if-width-end.false,
+      c.width_of-width.ensures.value,
+      ap (λ (u : List ℕ). get_or u c.args.cells.row 0) c.deref.ensures.value,
+      width_shown (string_bytes c.grid.inside.text) c.grid.inside.runs.items c.grid.inside.widths.items c.args.cells.row,
+      ap (λ (s : Stored). length (row_at s.rows c.args.cells.row)) c.grid.view_is,
+    ))

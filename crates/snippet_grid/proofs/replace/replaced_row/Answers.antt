@@ -17,7 +17,7 @@ use Rattle.snippet_grid.proofs.replace.replaced_row.Goals as goal
 pub copy_cells-requires-2-clause-runs : goal.copy_cells-requires-2-clause-runs
 copy_cells-requires-2-clause-runs c =
     IsRow-grown (string_bytes c.args.text.now) (string_bytes c.add_word.new.text)
-    c.args.row c.args.runs.now
+    c.args.cells.row c.args.runs.now
     (BeginsWith-trans (string_bytes c.args.text.now) (string_bytes c.copy_cells.new.text) (string_bytes c.add_word.new.text)
     c.in_ok-copy_cells.ensures.text c.in_ok-add_word.ensures.text) c.requires.runs
 
@@ -26,13 +26,14 @@ returns-clause-ok c =
     let cells = text_cells c.args.role (chars c.args.word.now) in
     let long = sym c.char_count.ensures.value in
     let word = subst (λ n. ShowsSpan (string_bytes c.copy_cells.new.text)
-    (string_bytes c.add_word.new.text) c.copy_cells.new.out.items c.add_word.new.out.items c.args.row c.args.start (c.args.start + n) (λ k.
-    slice_index_or cells (k - c.args.start) SPACE)) long c.in_ok-add_word.ensures.ok in
-    let ends = subst (λ n. EndsBy (c.args.start + n) c.add_word.new.out.items) long c.in_ok-add_word.ensures.ends in
+    (string_bytes c.add_word.new.text) c.copy_cells.new.out.items c.add_word.new.spare.runs.items c.args.cells.row c.args.cells.start
+    (c.args.cells.start + n) (λ k.
+    slice_index_or cells (k - c.args.cells.start) SPACE)) long c.in_ok-add_word.ensures.ok in
+    let ends = subst (λ n. EndsBy (c.args.cells.start + n) c.add_word.new.spare.runs.items) long c.in_ok-add_word.ensures.ends in
     on_ok_weaker c.copy_cells-2.result
     (λ copies. row_replaced (string_bytes c.args.text.now) (string_bytes c.copy_cells.new.text) (string_bytes c.add_word.new.text)
-    (string_bytes c.copy_cells-2.new.text) c.args.runs.now c.clear.new.self.items c.copy_cells.new.out.items c.add_word.new.out.items
-    c.copy_cells-2.new.out.items c.args.row c.args.start c.args.end (c.args.start + c.char_count.result)
+    (string_bytes c.copy_cells-2.new.text) c.args.runs.now c.clear.new.self.items c.copy_cells.new.out.items c.add_word.new.spare.runs.items
+    c.copy_cells-2.new.out.items c.args.cells.row c.args.cells.start c.args.cells.end (c.args.cells.start + c.char_count.result)
     _ cells c.requires.some (omega (arith, c.char_count.ensures.value, length-text_cells c.args.role (chars c.args.word.now))) (omega arith)
     c.requires.runs c.in_ok-copy_cells.ensures.text c.in_ok-add_word.ensures.text c.in_ok-copy_cells.ensures.ok word ends copies)
     c.copy_cells-2.ensures.ok
@@ -50,7 +51,7 @@ returns-clause-count c =
       c.in_ok-add_word.ensures.count,
       count,
       touched_outer (string_bytes c.args.text.now)
-          c.args.row c.args.start c.args.end 18446744073709551615 c.args.runs.now c.requires.some c.requires.runs,
+          c.args.cells.row c.args.cells.start c.args.cells.end 18446744073709551615 c.args.runs.now c.requires.some c.requires.runs,
       ap length c.clear.ensures.items,
     ))
     c.copy_cells-2.ensures.count
@@ -58,8 +59,8 @@ returns-clause-count c =
 -- the row is begun with no runs
 pub copy_cells-requires-clause-out : goal.copy_cells-requires-clause-out
 copy_cells-requires-clause-out c =
-    subst (λ (l : List Run). IsRow (string_bytes c.args.text.now) c.args.row l) (sym c.clear.ensures.items)
-    (IsRow-none (string_bytes c.args.text.now) c.args.row)
+    subst (λ (l : List Run). IsRow (string_bytes c.args.text.now) c.args.cells.row l) (sym c.clear.ensures.items)
+    (IsRow-none (string_bytes c.args.text.now) c.args.cells.row)
 
 pub copy_cells-requires-clause-before : goal.copy_cells-requires-clause-before
 copy_cells-requires-clause-before c =

@@ -9,7 +9,8 @@ use Rattle.snippet_grid.proofs.runs.copy_cells.Goals.{then-start-end+in_ok-add_r
 
 pub loop-run-init : goal.loop-run-init
 loop-run-init c =
-    copy_start (string_bytes c.args.text.now) c.args.out.now.items c.args.runs.now c.args.row c.args.from c.args.to c.args.at c.requires.out c.requires.before
+    copy_start (string_bytes c.args.text.now) c.args.out.now.items c.args.runs.now c.args.cells.row c.args.cells.start c.args.cells.end c.args.at
+    c.requires.out c.requires.before
 
 pub clipped-part-requires-clause-run : goal.clipped-part-requires-clause-run
 clipped-part-requires-clause-run c =
@@ -28,14 +29,14 @@ loop-run-preserved c =
           w.clipped-part.ensures.part in
           rw (w.text-is, w.out-is)
           (copy_next (string_bytes c.args.text.now) (string_bytes c.loop-run.text) (string_bytes w.add_run.new.text)
-          c.args.out.now.items c.loop-run.out.items w.add_run.new.runs.items c.args.runs.now run w.clipped-part.result _ c.args.row c.args.from
-          c.args.to c.args.at c.loop-run.run-index c.max-start.result c.min-end.result c.loop-run-test.true read c.requires.runs
+          c.args.out.now.items c.loop-run.out.items w.add_run.new.runs.items c.args.runs.now run w.clipped-part.result _ c.args.cells.row c.args.cells.start
+          c.args.cells.end c.args.at c.loop-run.run-index c.max-start.result c.min-end.result c.loop-run-test.true read c.requires.runs
           c.loop-run.invariant part c.max-start.ensures c.min-end.ensures w.if-start-end.true refl refl refl refl refl refl refl
           w.in_ok-add_run.ensures.text w.in_ok-add_run.ensures.ok w.in_ok-add_run.ensures.are_runs w.in_ok-add_run.ensures.adds)
       | else-start-end w ↦
           rw (w.text-is, w.out-is)
           (copy_past (string_bytes c.args.text.now) (string_bytes c.loop-run.text)
-          c.args.out.now.items c.loop-run.out.items c.args.runs.now run c.args.row c.args.from c.args.to c.args.at c.loop-run.run-index
+          c.args.out.now.items c.loop-run.out.items c.args.runs.now run c.args.cells.row c.args.cells.start c.args.cells.end c.args.at c.loop-run.run-index
           c.max-start.result c.min-end.result c.loop-run-test.true read c.loop-run.invariant c.max-start.ensures c.min-end.ensures
           w.if-start-end.false)
     ]

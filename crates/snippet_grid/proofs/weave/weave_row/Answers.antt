@@ -13,7 +13,7 @@ use Rattle.snippet_style.specs.declared.role.ElementStyle.TheVariants.{MainHeade
 use Rattle.snippet_style.specs.declared.style.Style.{Style}
 use Rattle.snippet_style.specs.declared.stylesheet.Stylesheet.{Stylesheet}
 use Rattle.snippet_grid.proofs.weave.weave_row.Goals as goal
-use Rattle.snippet_grid.proofs.weave.weave_row.Goals.{then-col-run+in_ok-weave_gap, else-col-run, then-col-width+in_ok-weave_gap-2, else-col-width}
+use Rattle.snippet_grid.proofs.weave.weave_row.Goals.{then-col-run+in_ok-weave_gap, else-col-run, then-col-line+in_ok-weave_gap-2, else-col-line}
 
 -- what stands where a list has no run
 abbrev none : Run
@@ -23,7 +23,7 @@ pub loop-run-init : goal.loop-run-init
 loop-run-init c =
     record {
       sheet = refl;
-      woven = woven_start c.args.codes.now c.args.level c.args.text.now c.args.runs.now c.args.row (string_bytes c.args.out.now);
+      woven = woven_start c.args.codes.now c.args.level c.args.text.now c.args.runs.now c.args.line.row (string_bytes c.args.out.now);
       placed = omega arith;
       inside = omega arith;
     }
@@ -33,12 +33,12 @@ loop-run-preserved c =
     let i = c.loop-run.run-index in
     let run : Run = get_or c.args.runs.now i none in
     let ahead : (k : ℕ) (d : Run) → i ≤ k → k < length c.args.runs.now
-    → run.cell ≤ (get_or c.args.runs.now k d).cell = first_ahead c.args.text.now c.args.row c.args.runs.now i none c.requires.runs c.loop-run-test.true in
+    → run.cell ≤ (get_or c.args.runs.now k d).cell = first_ahead c.args.text.now c.args.line.row c.args.runs.now i none c.requires.runs c.loop-run-test.true in
     let kept : c.if-col-run.codes ≡ c.args.codes.now = elim c.if-col-run.branch [
       | then-col-run+in_ok-weave_gap w ↦ w.codes-is ∙ w.in_ok-weave_gap.ensures.sheet ∙ c.loop-run.invariant.sheet
       | else-col-run w ↦ w.codes-is ∙ c.loop-run.invariant.sheet
     ] in
-    let before : WovenTo c.args.codes.now c.args.level c.args.text.now c.args.runs.now c.args.row i run.cell
+    let before : WovenTo c.args.codes.now c.args.level c.args.text.now c.args.runs.now c.args.line.row i run.cell
     (style_at c.args.codes.now c.if-col-run.last.place) (option_copied c.if-col-run.last.link) (string_bytes c.args.out.now)
     (string_bytes c.if-col-run.out) = elim c.if-col-run.branch [
       | then-col-run+in_ok-weave_gap w ↦
@@ -46,7 +46,7 @@ loop-run-preserved c =
           (option_copied c.loop-run.last.link) None (string_bytes c.loop-run.out)
           (string_bytes w.weave_gap.new.out)) c.loop-run.invariant.sheet w.in_ok-weave_gap.ensures.text in
           rw (w.out-is, w.last-is)
-          (woven_gap c.args.codes.now c.args.level c.args.text.now c.args.runs.now c.args.row i c.loop-run.col run.cell _
+          (woven_gap c.args.codes.now c.args.level c.args.text.now c.args.runs.now c.args.line.row i c.loop-run.col run.cell _
           (style_at c.args.codes.now c.loop-run.last.place)
           c.args.codes.now.none (option_copied c.loop-run.last.link) (string_bytes c.args.out.now) (string_bytes c.loop-run.out)
           (string_bytes w.weave_gap.new.out) w.if-col-run.true (omega arith) ahead refl gap c.loop-run.invariant.woven)
@@ -57,7 +57,7 @@ loop-run-preserved c =
             c.loop-run.invariant.woven.ahead i none
                 (omega arith) c.loop-run-test.true,
           ) in
-          rw (w.out-is, w.last-is) (subst (λ col. WovenTo c.args.codes.now c.args.level c.args.text.now c.args.runs.now c.args.row i col
+          rw (w.out-is, w.last-is) (subst (λ col. WovenTo c.args.codes.now c.args.level c.args.text.now c.args.runs.now c.args.line.row i col
           (style_at c.args.codes.now c.loop-run.last.place) (option_copied c.loop-run.last.link) (string_bytes c.args.out.now)
           (string_bytes c.loop-run.out)) here c.loop-run.invariant.woven)
     ] in
@@ -71,7 +71,7 @@ loop-run-preserved c =
     (option_copied c.if-col-run.last.link) (option_copied run.link) (string_bytes c.if-col-run.out) (string_bytes c.weave_stretch.new.out)) kept word in
     record {
       sheet = c.in_ok-weave_stretch.ensures.sheet ∙ kept;
-      woven = woven_run c.args.codes.now c.args.level c.args.text.now c.args.runs.now c.args.row i run.cell none
+      woven = woven_run c.args.codes.now c.args.level c.args.text.now c.args.runs.now c.args.line.row i run.cell none
           (style_at c.args.codes.now c.if-col-run.last.place)
           (style_at c.args.codes.now c.place_of.result) (option_copied c.if-col-run.last.link) (string_bytes c.args.out.now) (string_bytes c.if-col-run.out)
           (string_bytes c.weave_stretch.new.out) c.requires.runs c.loop-run-test.true refl
@@ -93,37 +93,37 @@ range-requires-clause-end_boundary c =
 pub returns-clause-text : goal.returns-clause-text
 returns-clause-text c =
     let n = c.loop-run.run-index in
-    let past : (k : ℕ) (d : Run) → n ≤ k → k < length c.args.runs.now → c.args.width ≤ (get_or c.args.runs.now k d).cell = λ k d after within.
+    let past : (k : ℕ) (d : Run) → n ≤ k → k < length c.args.runs.now → c.args.line.width ≤ (get_or c.args.runs.now k d).cell = λ k d after within.
     absurd (omega (arith, c.loop-run-test.false)) in
-    let kept : c.if-col-width.codes ≡ c.args.codes.now = elim c.if-col-width.branch [
-      | then-col-width+in_ok-weave_gap-2 w ↦ w.codes-is ∙ w.in_ok-weave_gap-2.ensures.sheet ∙ c.loop-run.invariant.sheet
-      | else-col-width w ↦ w.codes-is ∙ c.loop-run.invariant.sheet
+    let kept : c.if-col-line.codes ≡ c.args.codes.now = elim c.if-col-line.branch [
+      | then-col-line+in_ok-weave_gap-2 w ↦ w.codes-is ∙ w.in_ok-weave_gap-2.ensures.sheet ∙ c.loop-run.invariant.sheet
+      | else-col-line w ↦ w.codes-is ∙ c.loop-run.invariant.sheet
     ] in
-    let last : WovenTo c.args.codes.now c.args.level c.args.text.now c.args.runs.now c.args.row n c.args.width
-    (style_at c.args.codes.now c.if-col-width.last.place) (option_copied c.if-col-width.last.link) (string_bytes c.args.out.now)
-    (string_bytes c.if-col-width.out) = elim c.if-col-width.branch [
-      | then-col-width+in_ok-weave_gap-2 w ↦
-          let gap = subst (λ (s : Stylesheet). PrintsStretch (replicate (c.args.width - c.loop-run.col) 32) (style_at s c.loop-run.last.place) s.none
+    let last : WovenTo c.args.codes.now c.args.level c.args.text.now c.args.runs.now c.args.line.row n c.args.line.width
+    (style_at c.args.codes.now c.if-col-line.last.place) (option_copied c.if-col-line.last.link) (string_bytes c.args.out.now)
+    (string_bytes c.if-col-line.out) = elim c.if-col-line.branch [
+      | then-col-line+in_ok-weave_gap-2 w ↦
+          let gap = subst (λ (s : Stylesheet). PrintsStretch (replicate (c.args.line.width - c.loop-run.col) 32) (style_at s c.loop-run.last.place) s.none
           (option_copied c.loop-run.last.link) None (string_bytes c.loop-run.out)
-          (string_bytes w.weave_gap-then-col-width.new.out)) c.loop-run.invariant.sheet w.in_ok-weave_gap-2.ensures.text in
+          (string_bytes w.weave_gap-then-col-line.new.out)) c.loop-run.invariant.sheet w.in_ok-weave_gap-2.ensures.text in
           rw (w.out-is, w.last-is)
-          (woven_gap c.args.codes.now c.args.level c.args.text.now c.args.runs.now c.args.row n c.loop-run.col c.args.width _
+          (woven_gap c.args.codes.now c.args.level c.args.text.now c.args.runs.now c.args.line.row n c.loop-run.col c.args.line.width _
           (style_at c.args.codes.now c.loop-run.last.place)
           c.args.codes.now.none (option_copied c.loop-run.last.link) (string_bytes c.args.out.now) (string_bytes c.loop-run.out)
-          (string_bytes w.weave_gap-then-col-width.new.out) w.if-col-width.true (omega arith) past refl gap c.loop-run.invariant.woven)
-      | else-col-width w ↦
-          let here : c.loop-run.col ≡ c.args.width = omega (arith, w.if-col-width.false, c.loop-run.invariant.inside) in
-          rw (w.out-is, w.last-is) (subst (λ col. WovenTo c.args.codes.now c.args.level c.args.text.now c.args.runs.now c.args.row n col
+          (string_bytes w.weave_gap-then-col-line.new.out) w.if-col-line.true (omega arith) past refl gap c.loop-run.invariant.woven)
+      | else-col-line w ↦
+          let here : c.loop-run.col ≡ c.args.line.width = omega (arith, w.if-col-line.false, c.loop-run.invariant.inside) in
+          rw (w.out-is, w.last-is) (subst (λ col. WovenTo c.args.codes.now c.args.level c.args.text.now c.args.runs.now c.args.line.row n col
           (style_at c.args.codes.now c.loop-run.last.place) (option_copied c.loop-run.last.link) (string_bytes c.args.out.now)
           (string_bytes c.loop-run.out)) here c.loop-run.invariant.woven)
     ] in
-    let style = style_at c.if-col-width.codes c.if-col-width.last.place in
-    let worn : style ≡ style_at c.args.codes.now c.if-col-width.last.place = ap (λ s. style_at s c.if-col-width.last.place) kept in
+    let style = style_at c.if-col-line.codes c.if-col-line.last.place in
+    let worn : style ≡ style_at c.args.codes.now c.if-col-line.last.place = ap (λ s. style_at s c.if-col-line.last.place) kept in
     on_ok_weaker c.push_reset.result
-    (λ bytes. row_closed c.args.codes.now c.args.level style (option_copied c.if-col-width.last.link)
-    (cells_to c.args.text.now c.args.runs.now c.args.row c.args.width) (string_bytes c.args.out.now) (string_bytes c.if-col-width.out)
+    (λ bytes. row_closed c.args.codes.now c.args.level style (option_copied c.if-col-line.last.link)
+    (cells_to c.args.text.now c.args.runs.now c.args.line.row c.args.line.width) (string_bytes c.args.out.now) (string_bytes c.if-col-line.out)
     (string_bytes c.end_link.new.out) _ c.in_ok-end_link.ensures.none c.in_ok-end_link.ensures.ended bytes
-    (subst (λ (s : Style). Goes c.args.codes.now c.args.level (Some s) (option_copied c.if-col-width.last.link)
-    (cells_to c.args.text.now c.args.runs.now c.args.row c.args.width) (string_bytes c.args.out.now) (string_bytes c.if-col-width.out))
+    (subst (λ (s : Style). Goes c.args.codes.now c.args.level (Some s) (option_copied c.if-col-line.last.link)
+    (cells_to c.args.text.now c.args.runs.now c.args.line.row c.args.line.width) (string_bytes c.args.out.now) (string_bytes c.if-col-line.out))
     (sym worn) last.goes))
     c.push_reset.ensures.text

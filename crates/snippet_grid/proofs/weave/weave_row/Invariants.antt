@@ -9,8 +9,8 @@ abbrev pub invariant-loop-run : goal.invariant-loop-run
 invariant-loop-run l =
     record {
       sheet : l.codes ≡ l.initial.codes;
-      woven : WovenTo l.initial.codes l.level l.text l.runs l.row l.run-index l.col (style_at l.initial.codes l.last.place) (option_copied l.last.link)
+      woven : WovenTo l.initial.codes l.level l.text l.runs l.line.row l.run-index l.col (style_at l.initial.codes l.last.place) (option_copied l.last.link)
           (string_bytes l.initial.out) (string_bytes l.out);
       placed : l.last.place < 11;
-      inside : l.col ≤ l.width;
+      inside : l.col ≤ l.line.width;
     }

@@ -2,7 +2,8 @@ use Rattle.std.proofs.Common.{◌≡◌, ◌+◌, refl, arith, string_bytes, len
 use Rattle.std.specs.Str.{chars}
 use Rattle.snippet_grid.specs.Runs.{IsWidened, IsWord, FitIn, run_bytes}
 use Rattle.snippet_grid.proofs.StretchLemmas.{BeginsWith-same}
-use Rattle.snippet_grid.proofs.GridShown.{on_err_from, IsGrid-grown, grid_grown, grid_written, FitIn-widened, IsWidened-to, word_end}
+use Rattle.snippet_grid.proofs.GridShown.{on_err_from, IsGrid-grown, grid_written, FitIn-widened, IsWidened-to, word_end}
+use Rattle.snippet_grid.proofs.StoredLemmas.{stored_grown}
 use Rattle.snippet_grid.proofs.words.place_run.Goals as goal
 
 pub returns-in_err-put_run-clause-grid : goal.returns-in_err-put_run-clause-grid
@@ -13,7 +14,7 @@ returns-in_err-put_run-clause-grid c =
 pub returns-in_err-put_run-clause-err : goal.returns-in_err-put_run-clause-err
 returns-in_err-put_run-clause-err c =
     on_err_from c.from_residual-in_err-put_run.result
-    (grid_grown (string_bytes c.args.text.now) (string_bytes c.put_run.new.text)
+    (stored_grown (string_bytes c.args.text.now) (string_bytes c.put_run.new.text)
     c.args.runs.now.items c.put_run.new.runs.items c.args.widths.now.items c.make_room.new.widths.items c.in_err-put_run.ensures.text
     c.in_err-put_run.ensures.err c.in_ok-make_room.ensures.items c.requires.grid)
 

@@ -1,26 +1,42 @@
-use Rattle.std.proofs.Common.{◌≡◌, ◌∙◌, ◌++◌, ℕ, ap, arith, chars, cond, count_by, eqb, length, sym}
-use Rattle.std.proofs.lemmas.Bool.{cond-false, cond-true, eq-eqb, eqb-true, false_from_ne_true}
-use Rattle.snippet_lines.specs.Lines.{is_lf}
-use Rattle.snippet_splice.proofs.StretchLemmas.{after_few, chars_on}
+use Rattle.std.proofs.Common.{◌≡◌, ◌∙◌, ◌++◌, List, ℕ, ap, arith, chars, eq-eqb, get_or, length, sym}
+use Rattle.std.proofs.lemmas.Bool.{eqb-true}
+use Rattle.std.proofs.lemmas.Str.{IsCharBoundary-after_ascii}
+use Rattle.snippet_splice.proofs.StretchLemmas.{HasNoLfAfter, HoldsNoLf, after_few, chars_anew, chars_more}
 use Rattle.snippet_splice.proofs.stretches.chars_after.Goals as goal
-use Rattle.snippet_splice.proofs.stretches.chars_after.Goals.{then-line_feed_count-eq0, else-line_feed_count-eq0}
 
-pub returns : goal.returns
-returns c =
+pub range_from-requires : goal.range_from-requires
+range_from-requires c = λ some.
+    let text : List ℕ = c.args.text.now in
+    let at : ℕ = c.in-Some.at in
+    let same : c.as_bytes.result.now ≡ text = c.as_bytes.ensures.value in
+    let lf : get_or text at 0 ≡ 10 = ap (λ t. get_or t at 0) (sym same) ∙ eqb-true _ 10 c.in-Some.ensures.1 in
+    IsCharBoundary-after_ascii text at c.utf8.text (omega (arith, c.in-Some.ensures.0.high, ap length same)) (omega (arith, lf))
+
+pub returns-in-Some : goal.returns-in-Some
+returns-in-Some c =
+    let text : List ℕ = c.args.text.now in
+    let at : ℕ = c.in-Some.at in
+    let same : c.as_bytes.result.now ≡ text = c.as_bytes.ensures.value in
+    let lf : get_or text at 0 ≡ 10 = ap (λ t. get_or t at 0) (sym same) ∙ eqb-true _ 10 c.in-Some.ensures.1 in
+    let none : HasNoLfAfter text at = λ k low h e. c.in-Some.ensures.0.after k low (omega (arith, h, ap length same))
+    (eq-eqb _ 10 (ap (λ t. get_or t k 0) same ∙ e)) in
     record {
-      value = λ front utf8 is few.
-          let a = c.args in
-          let n : ℕ = count_by is_lf a.text.now in
-          let counted : c.line_feed_count.result ≡ n = c.line_feed_count.ensures.value in
-          let begun : ℕ = cond (eqb n 0) a.before 0 in
-          let before : c.if-line_feed_count-eq0.before ≡ begun = elim c.if-line_feed_count-eq0.branch [
-            | then-line_feed_count-eq0 w ↦
-                let none : n ≡ 0 = omega (arith, counted, w.if-line_feed_count-eq0.true) in
-                w.before-is ∙ sym (cond-true (eqb n 0) a.before 0 (eq-eqb n 0 none))
-            | else-line_feed_count-eq0 w ↦
-                w.before-is ∙ sym (cond-false (eqb n 0) a.before 0 (false_from_ne_true _ (λ t.
-                let none : n ≡ 0 = eqb-true n 0 t in absurd (omega (arith, counted, none, w.if-line_feed_count-eq0.false)))))
-          ] in
-          let count = c.char_count.ensures.value ∙ ap (λ t. length (chars t)) c.last_line.ensures.value in
-          omega (arith, c.saturating_add.ensures, before, count, chars_on front a.text.now a.before utf8 is, after_few (front ++ a.text.now), few);
+      value = λ front utf8 is few. c.char_count.ensures.value ∙ ap (λ t. length (chars t)) c.range_from.ensures.value
+          ∙ chars_anew front text at (omega (arith, c.in-Some.ensures.0.high, ap length same)) lf none;
+    }
+
+pub returns-in-None : goal.returns-in-None
+returns-in-None c =
+    let text : List ℕ = c.args.text.now in
+    let same : c.as_bytes.result.now ≡ text = c.as_bytes.ensures.value in
+    let none : HoldsNoLf text = λ k h e. c.in-None.ensures k (omega arith) (omega (arith, h, ap length same)) (eq-eqb _ 10 (ap (λ t. get_or t k 0) same ∙ e)) in
+    record {
+      value = λ front utf8 is few. omega (
+        arith,
+        c.saturating_add.ensures,
+        c.char_count-in-None.ensures.value,
+        chars_more front text c.args.before utf8 is none,
+        after_few (front ++ text),
+        few,
+      );
     }

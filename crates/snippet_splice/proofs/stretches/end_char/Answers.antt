@@ -10,12 +10,11 @@ use Rattle.snippet_splice.proofs.stretches.end_char.Goals as goal
 pub returns-then-line_feed_count-eq0 : goal.returns-then-line_feed_count-eq0
 returns-then-line_feed_count-eq0 c =
     record {
-      value = λ from starts counts.
+      value = λ from is starts counts.
           let source = c.args.source.now in
           let e = trimmed_edit_of c.args.patch.now in
           let n : ℕ = count_by is_lf (between source e.start e.end) in
-          let counted : c.line_feed_count.result ≡ n = c.line_feed_count.ensures.value
-          ∙ ap (count_by is_lf) (c.text_between.ensures.value c.requires.span.from c.requires.span.to) in
+          let counted : c.line_feed_count.result ≡ n = c.line_feed_count.ensures.value ∙ ap (count_by is_lf) is in
           let none : n ≡ 0 = omega (arith, counted, c.if-line_feed_count-eq0.true) in
           let other : e.start ≢ e.end = λ same. absurd (omega (arith, same, c.if-patch.false)) in
           let here : ℕ = characters_before source from e.end in
@@ -27,12 +26,11 @@ returns-then-line_feed_count-eq0 c =
 pub returns-else-line_feed_count-eq0 : goal.returns-else-line_feed_count-eq0
 returns-else-line_feed_count-eq0 c =
     record {
-      value = λ from starts counts.
+      value = λ from is starts counts.
           let source = c.args.source.now in
           let e = trimmed_edit_of c.args.patch.now in
           let n : ℕ = count_by is_lf (between source e.start e.end) in
-          let counted : c.line_feed_count.result ≡ n = c.line_feed_count.ensures.value
-          ∙ ap (count_by is_lf) (c.text_between.ensures.value c.requires.span.from c.requires.span.to) in
+          let counted : c.line_feed_count.result ≡ n = c.line_feed_count.ensures.value ∙ ap (count_by is_lf) is in
           let other : e.start ≢ e.end = λ same. absurd (omega (arith, same, c.if-patch.false)) in
           let here : ℕ = characters_before source from e.end in
           let later : ℕ = start_character source from e.end in

@@ -51,7 +51,7 @@ loop-patch-preserved c =
     c.chars_after-text_start.result c.chars_after-chars.result low apart.1 inside utf8 before c.chars_after-chars.ensures.value (omega arith) in
     let starts : c.saturating_add-start.result ≡ start_character source from e.start = omega
     (arith, c.saturating_add-start.ensures, before, c.steps_after_text.ensures.value, start_few source from e.start) in
-    let ends : c.end_char.result ≡ end_character source from e = c.end_char.ensures.value from starts counted in
+    let ends : c.end_char.result ≡ end_character source from e = c.end_char.ensures.value from inside starts counted in
     let feeds : c.line_feed_count.result ≡ count_by is_lf (between source at e.start) = c.line_feed_count.ensures.value ∙ ap (count_by is_lf) front in
     let x : Extent = record {
       feeds = count_by is_lf (between source at e.start);

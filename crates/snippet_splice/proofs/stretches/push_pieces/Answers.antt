@@ -1,6 +1,6 @@
-use Rattle.std.proofs.Common.{◌≡◌, ◌∙◌, ◌+◌, ℕ, List, [], ◌∷◌, ◌++◌, Some, None, ap, arith, if◌then◌else◌, ◌==◌, lit<, sym, append_assoc}
+use Rattle.std.proofs.Common.{◌≡◌, ◌∙◌, ◌+◌, ℕ, List, [], ◌∷◌, ◌++◌, Some, None, ap, arith, if◌then◌else◌, ◌==◌, count_by, lit<, sym, append_assoc}
+use Rattle.snippet_lines.specs.Lines.{is_lf}
 use Rattle.std.proofs.lemmas.List.{append-nil}
-use Rattle.std.proofs.lemmas.Result.{on_ok_weaker}
 use Rattle.std.proofs.lemmas.Str.Pattern.{split_parts}
 use Rattle.snippet_splice.specs.declared.stretches.SubstitutionHighlight.{SubstitutionHighlight}
 use Rattle.snippet_splice.specs.EditStretches.{capped, line_stretches, pieces_of, pieces_on, stretch_width}
@@ -44,6 +44,7 @@ loop-piece-preserved c =
         feeds_cut rest piece after parts.0
             parts.1,
       );
+      begun = λ none. absurd (omega (arith, none, ap (count_by is_lf) (c.loop-piece.invariant.begun none).1, feeds_cut rest piece after parts.0 parts.1));
     }
 
 pub returns : goal.returns
@@ -56,11 +57,12 @@ returns c =
     let end : c.saturating_add-end-2.result ≡ capped (start + stretch_width rest) = c.saturating_add-end-2.ensures
     ∙ ap (λ n. capped (start + n)) c.stretch_width-2.ensures.value in
     record {
-      value = on_ok_weaker c.push_stretch-2.result (λ adds k.
+      value = λ k.
           let one : List SubstitutionHighlight = added k line start (capped (start + stretch_width rest)) in
           let left : one ≡ pieces_on k line start (pieces_of rest) = sym (append-nil one) ∙ ap (pieces_on k line start) (sym (pieces_whole rest none)) in
-          adds k ∙ ap (λ n. line_stretches old k ++ added k line start n) end ∙ ap (λ ys. line_stretches old k ++ ys) left
-          ∙ c.loop-piece.invariant.whole k) c.push_stretch-2.ensures.value;
-      lines = on_ok_weaker c.push_stretch-2.result (λ more. omega (arith, more, c.loop-piece.invariant.lines, feeds_whole rest none))
-          c.push_stretch-2.ensures.lines;
+          c.in_ok-push_stretch-2.ensures.value k ∙ ap (λ n. line_stretches old k ++ added k line start n) end ∙ ap (λ ys. line_stretches old k ++ ys) left
+          ∙ c.loop-piece.invariant.whole k;
+      lines = omega (arith, c.in_ok-push_stretch-2.ensures.lines, c.loop-piece.invariant.lines, feeds_whole rest none);
+      end = λ one. let same = c.loop-piece.invariant.begun one in
+          end ∙ ap (λ n. capped (n + stretch_width rest)) same.0 ∙ ap (λ t. capped (c.args.from + stretch_width t)) same.1;
     }

@@ -14,6 +14,7 @@ invariant-loop-piece l = record {
       ++ pieces_on k l.first l.from (pieces_of l.replacement);
   lines : max (length l.lines.items) (capped (l.line + count_by is_lf l.rest + 1))
       ≡ max (length l.fn.lines.items) (capped (l.first + count_by is_lf l.replacement + 1));
+  begun : count_by is_lf l.replacement ≡ 0 → (l.start ≡ l.from) × (l.rest ≡ l.replacement);
 }
 
 abbrev pub decreases-loop-piece : goal.decreases-loop-piece

@@ -1,6 +1,7 @@
 use Rattle.std.proofs.Common.{◌≡◌, ℕ, List, ◌++◌, length, sym, ap, ◌∙◌}
 use Rattle.snippet_splice.specs.Trim.{IsSandwiched, IsSandwich}
-use Rattle.snippet_splice.proofs.TrimLemmas.{IsSandwich-begins, IsSandwich-ends, IsCommonPrefix, IsSandwich-parts, sandwiched-parts, sandwich-is, sandwich-none}
+use Rattle.snippet_splice.proofs.TrimLemmas.{IsSandwich-begins, IsSandwich-ends, IsCommonPrefix, IsSandwich-parts, sandwiched-longer}
+use Rattle.snippet_splice.proofs.TrimLemmas.{sandwiched-parts, sandwich-is, sandwich-none}
 use Rattle.snippet_splice.proofs.trim.as_substr.Goals as goal
 
 pub returns-in-Some-clause-value : goal.returns-in-Some-clause-value
@@ -86,3 +87,12 @@ returns-in-None-clause-value c =
     sandwiched-parts c.args.original.now c.args.replacement.now c.common_prefix-kept.result c.range_from-rest.result.now c.range_from.result.now
     common c.range_from-rest.ensures.value c.range_from.ensures.value c.in-None.ensures.cases in
     sym (sandwich-none c.args.original.now c.args.replacement.now none)
+
+pub returns-then-replacement-original-clause-none : goal.returns-then-replacement-original-clause-none
+returns-then-replacement-original-clause-none c =
+    sandwiched-longer c.args.original.now c.args.replacement.now c.if-replacement-original.true c.in_default.ensures.cases
+
+pub returns-then-replacement-original-clause-value : goal.returns-then-replacement-original-clause-value
+returns-then-replacement-original-clause-value c =
+    sym (sandwich-none c.args.original.now c.args.replacement.now
+    (sandwiched-longer c.args.original.now c.args.replacement.now c.if-replacement-original.true c.in_default.ensures.cases))

@@ -6,6 +6,7 @@ use Rattle.snippet_grid.specs.LayoutOf.{layout_of}
 use Rattle.snippet_strokes.specs.Painting.{mark_end}
 use Rattle.snippet_strokes.specs.Writes.{painted}
 use Rattle.snippet_style.specs.declared.glyphs.Strokes.{Strokes}
+use Rattle.snippet_strokes.proofs.WholeMarks.{mark_whole}
 use Rattle.snippet_strokes.proofs.WriteLemmas.{mark_of-none, mark_painted}
 use Rattle.snippet_strokes.proofs.marks.paint_entry.Goals as goal
 
@@ -17,6 +18,25 @@ returns-then-end-start c =
       painted = sym (ap (λ ws. painted ws c.args.buffer.now) (mark_of-none c.args.layout c.args.row placed (omega (arith, c.if-end-start.true, is_end))));
     }
 
+pub returns-then-first-strokes : goal.returns-then-first-strokes
+returns-then-first-strokes c =
+    let placed = c.args.placed.now in
+    let layout = layout_of c.layout.inside in
+    let strokes = c.underline-strokes in
+    let is_end : c.mark_end-end.result ≡ mark_end placed = c.mark_end-end.ensures.value in
+    let some : placed.entry.start.display < mark_end placed = omega (arith, c.if-end-start.false, is_end) in
+    let is_line = ap (λ (s : Strokes). s.underline) strokes.ensures.value ∙ ap (λ b. (strokes_of layout.decor b).underline) c.is_primary.ensures.value in
+    let is_role = ap (λ (s : Strokes). s.style) strokes.ensures.value ∙ ap underline_role c.is_primary.ensures.value in
+    let from = c.code_cell-cell.ensures.value ∙ ap (λ (l : Layout). code_cell l placed.entry.start.display) (sym c.layout.view_is) in
+    let to = c.code_cell.ensures.value ∙ ap (λ (l : Layout). code_cell l c.mark_end-end.result) (sym c.layout.view_is) in
+    let drawn = rw to at (rw from at c.draw_stretch.ensures.painted) in
+    rw (← c.layout.view_is) (record {
+      painted = on_ok_weaker c.draw_stretch.result
+          (λ drawn_now. mark_whole layout c.args.row placed c.first_glyph-first.result strokes.result.underline strokes.result.style
+          c.mark_end-end.result c.args.buffer.now c.draw_stretch.new.buffer some is_end c.first_glyph-first.ensures.value is_line
+          is_role c.if-first-strokes.true drawn_now) drawn;
+    })
+
 pub returns : goal.returns
 returns c =
     let placed = c.args.placed.now in
@@ -27,12 +47,12 @@ returns c =
     let is_line = ap (λ (s : Strokes). s.underline) strokes.ensures.value ∙ ap (λ b. (strokes_of layout.decor b).underline) c.is_primary.ensures.value in
     let is_role = ap (λ (s : Strokes). s.style) strokes.ensures.value ∙ ap underline_role c.is_primary.ensures.value in
     let from = c.code_cell-cell.ensures.value ∙ ap (λ (l : Layout). code_cell l placed.entry.start.display) (sym c.layout.view_is) in
-    let to = c.code_cell.ensures.value ∙ ap (λ (l : Layout). code_cell l c.mark_end-end.result) (sym c.layout.view_is) in
+    let to = c.code_cell-2.ensures.value ∙ ap (λ (l : Layout). code_cell l c.mark_end-end.result) (sym c.layout.view_is) in
     let begun = rw from at c.in_ok-putc.ensures.ok in
-    let drawn = rw to at (rw from at c.draw_stretch.ensures.painted) in
+    let drawn = rw to at (rw from at c.draw_stretch-2.ensures.painted) in
     rw (← c.layout.view_is) (record {
-      painted = on_ok_weaker c.draw_stretch.result
+      painted = on_ok_weaker c.draw_stretch-2.result
           (λ drawn_now. mark_painted layout c.args.row placed c.first_glyph-first.result strokes.result.underline strokes.result.style
-          c.mark_end-end.result c.args.buffer.now c.putc.new.self c.draw_stretch.new.buffer some is_end c.first_glyph-first.ensures.value is_line
+          c.mark_end-end.result c.args.buffer.now c.putc.new.self c.draw_stretch-2.new.buffer some is_end c.first_glyph-first.ensures.value is_line
           is_role begun drawn_now) drawn;
     })

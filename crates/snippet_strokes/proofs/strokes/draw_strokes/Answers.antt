@@ -5,8 +5,7 @@ use Rattle.std.proofs.lemmas.List.{length_push, length-map}
 use Rattle.std.proofs.lemmas.List.Sorted.{All-permutation, length_permutation}
 use Rattle.snippet_parts.specs.declared.entries.LineAnnotation.{LineAnnotation}
 use Rattle.snippet_labels.specs.declared.positions.PlacedEntry.{PlacedEntry}
-use Rattle.snippet_strokes.specs.Painting.{marks_of, painting_order}
-use Rattle.snippet_labels.specs.Positions.{HasItsLabel}
+use Rattle.snippet_strokes.specs.Painting.{painting_order}
 use Rattle.snippet_strokes.specs.Drawing.{AreEnough, row_count}
 use Rattle.snippet_style.specs.Cell.{Cell}
 use Rattle.snippet_labels.specs.PlacedEntries.{HasPlace, label_text, shifted}
@@ -19,12 +18,11 @@ use Rattle.snippet_strokes.proofs.PaintOrder.{IsPermutation-painting_order}
 use Rattle.snippet_labels.proofs.PlacedLemmas.{entries_all}
 use Rattle.snippet_strokes.proofs.PositionLemmas.{looked_of_placed, row_count_some, positions_of_placed}
 use Rattle.snippet_strokes.proofs.BegunLemmas.{rows_begun}
-use Rattle.snippet_strokes.proofs.ReadyRows.{count_marks, enough_after, enough_begun, strokes_added_whole}
+use Rattle.snippet_strokes.proofs.ReadyRows.{enough_begun, strokes_added_whole}
 use Rattle.snippet_strokes.proofs.NoStrokes.{strokes_none}
 use Rattle.snippet_strokes.proofs.TextLemmas.{labels_short}
-use Rattle.snippet_strokes.specs.Strokes.{line_strokes, strokes_under_marks}
+use Rattle.snippet_strokes.specs.Strokes.{line_strokes}
 use Rattle.snippet_strokes.specs.Writes.{painted}
-use Rattle.snippet_strokes.proofs.StrokeWrites.{marks_painted}
 use Rattle.snippet_strokes.proofs.LineRowLemmas.{painted_added}
 use Rattle.snippet_strokes.proofs.strokes.draw_strokes.Goals as goal
 
@@ -57,52 +55,42 @@ overlapping-requires c =
           ));
     }
 
-pub draw_under_marks-requires : goal.draw_under_marks-requires
-draw_under_marks-requires c =
+pub paint_strokes-requires : goal.paint_strokes-requires
+paint_strokes-requires c =
     let placed = c.in_ok-placed.placed.items in
     let Q : LineAnnotation → Type 0 = λ e. length (label_text e) < 2 ^ 60 in
     record {
-      enough = subst (AreEnough c.args.layout c.args.place.row (length c.begin_rows.new.buffer)) (sym c.deref-3.ensures.value)
-          (enough_begun c.args.layout c.args.place.dropped c.args.entries.now c.args.buffer.now c.begin_rows.new.buffer _ _
+      enough = enough_begun c.args.layout c.args.place.dropped c.args.entries.now c.args.buffer.now c.begin_rows.new.buffer _ _
           c.requires.columns c.requires.bar_cells c.in_ok-placed.ensures.placed (c.row_count.ensures.value ∙ ap row_count c.deref-2.ensures.value)
-          c.requires.last c.in_ok-begin_rows.ensures.added c.in_ok-begin_rows.ensures.small);
-      labels = subst (All HasItsLabel) (sym c.deref-3.ensures.value) c.in_ok-placed.ensures.placed.labels;
-      short = subst (All (λ (e : PlacedEntry). Q e.entry)) (sym c.deref-3.ensures.value)
-          (entries_all Q (map (shifted c.args.place.dropped) c.args.entries.now) placed c.in_ok-placed.ensures.placed.same
-          (labels_short c.args.place.dropped c.args.entries.now c.requires.labels));
+          c.requires.last c.in_ok-begin_rows.ensures.added c.in_ok-begin_rows.ensures.small;
+      labels = c.in_ok-placed.ensures.placed.labels;
+      short = entries_all Q (map (shifted c.args.place.dropped) c.args.entries.now) placed c.in_ok-placed.ensures.placed.same
+          (labels_short c.args.place.dropped c.args.entries.now c.requires.labels);
     }
-
-pub draw_marks-requires-clause-columns : goal.draw_marks-requires-clause-columns
-draw_marks-requires-clause-columns c =
-    let places = entries_all HasPlace (map (shifted c.args.place.dropped) c.args.entries.now) c.in_ok-placed.placed.items
-    c.in_ok-placed.ensures.placed.same (shifted_places c.args.place.dropped c.args.entries.now c.requires.columns) in
-    λ k d within. (places k d within).near
 
 -- the entries stand in the order of painting, and no row is added or taken after those that are begun
 pub cut_wide-requires : goal.cut_wide-requires
 cut_wide-requires c =
     let placed = c.in_ok-placed.placed.items in
     let begun = c.begin_rows.new.buffer in
-    let under = c.draw_under_marks.new.buffer in
     let enough = enough_begun c.args.layout c.args.place.dropped c.args.entries.now c.args.buffer.now begun _ _ c.requires.columns c.requires.bar_cells
     c.in_ok-placed.ensures.placed (c.row_count.ensures.value ∙ ap row_count c.deref-2.ensures.value) c.requires.last
     c.in_ok-begin_rows.ensures.added c.in_ok-begin_rows.ensures.small in
-    let drawn = enough_after begun under enough c.in_ok-draw_under_marks.ensures.count in
-    let marked = count_marks under c.draw_marks.new.buffer drawn c.draw_marks.new.placed.items c.in_ok-draw_marks.ensures.painted in
-    let ordered = c.deref-4.ensures.value ∙ c.in_ok-draw_marks.ensures.order in
+    let marked = c.in_ok-paint_strokes.ensures.count in
+    let ordered = c.deref-3.ensures.value ∙ c.in_ok-paint_strokes.ensures.order in
     record {
       columns = subst (All (λ (e : PlacedEntry). HasPlace e.entry)) (sym ordered)
           (All-permutation (λ (e : PlacedEntry). HasPlace e.entry) placed (painting_order placed) (IsPermutation-painting_order placed) enough.places);
       count = omega (
         arith,
-        ap length c.deref-5.ensures.value,
+        ap length c.deref-4.ensures.value,
         c.in_ok-overlapped.ensures.count,
         ap length c.deref.ensures.value,
         length_permutation placed (painting_order placed) (IsPermutation-painting_order placed),
         ap length ordered,
       );
-      rows = omega (arith, marked, drawn.marks);
-      small = omega (arith, marked, drawn.small);
+      rows = omega (arith, marked, enough.marks);
+      small = omega (arith, marked, enough.small);
     }
 
 pub returns-then-is_empty : goal.returns-then-is_empty
@@ -133,8 +121,7 @@ returns c =
     let some : 0 < length es = omega (arith, given, length-map c.args.entries.now (shifted c.args.place.dropped)) in
     let count : c.row_count.result ≡ row_count placed = c.row_count.ensures.value ∙ ap row_count c.deref-2.ensures.value in
     let begun = c.begin_rows.new.buffer in
-    let under = c.draw_under_marks.new.buffer in
-    let new = c.draw_marks.new.buffer in
+    let new = c.paint_strokes.new.buffer in
     let are = c.in_ok-placed.ensures.placed in
     let enough = enough_begun layout c.args.place.dropped c.args.entries.now old begun _ _ c.requires.columns c.requires.bar_cells are count c.requires.last
     c.in_ok-begin_rows.ensures.added c.in_ok-begin_rows.ensures.small in
@@ -142,16 +129,13 @@ returns c =
     let begun_is : begun ≡ rows = c.in_ok-begin_rows.ensures.added ∙ ap (λ n. old ++ replicate (n - 1) sep ++ end ∷ []) count in
     let all : ℕ = length old + row_count placed in
     let long : length begun ≡ all = rows_begun old begun sep end (row_count placed) (row_count_some placed) begun_is in
-    let new_is : new ≡ painted (line_strokes layout row (length begun) placed after) begun =
-    marks_painted layout row (length begun) placed after begun under new
-    (c.in_ok-draw_under_marks.ensures.painted ∙ ap (λ xs. painted (strokes_under_marks layout row (length begun) xs) begun) c.deref-3.ensures.value)
-    (c.in_ok-draw_marks.ensures.painted ∙ ap (λ xs. painted (marks_of layout (row + 1) xs) under) c.in_ok-draw_marks.ensures.order) in
+    let new_is : new ≡ painted (line_strokes layout row (length begun) placed after) begun = c.in_ok-paint_strokes.ensures.painted in
     let flags = c.in_ok-overlapped.overlapped.items in
     let final = c.cut_wide.new.buffer in
     let cut_to : List PlacedEntry → List Bool → List (List Cell) = λ ps fs. cut_rows layout.decor row (cuts_of layout c.args.place.room ps fs) new in
-    let final_is : final ≡ cut_to c.deref-4.result.now c.deref-5.result.now → final ≡ cut_to after flags = λ value.
-    value ∙ ap (λ ps. cut_to ps c.deref-5.result.now) (c.deref-4.ensures.value ∙ c.in_ok-draw_marks.ensures.order)
-    ∙ ap (cut_to after) c.deref-5.ensures.value in
+    let final_is : final ≡ cut_to c.deref-3.result.now c.deref-4.result.now → final ≡ cut_to after flags = λ value.
+    value ∙ ap (λ ps. cut_to ps c.deref-4.result.now) (c.deref-3.ensures.value ∙ c.in_ok-paint_strokes.ensures.order)
+    ∙ ap (cut_to after) c.deref-4.ensures.value in
     let last_row : (above : List (List Cell)) (plain : List Cell) → old ≡ above ++ plain ∷ [] → row ≡ length above = λ above plain old_is.
     omega (arith, c.requires.last, ap length old_is, length_push above plain) in
     record {
@@ -164,10 +148,7 @@ returns c =
           (final_is value ∙ ap (λ n. cut_rows layout.decor n (cuts_of layout c.args.place.room after flags) new) source_row)) c.cut_wide.ensures.value;
       none = on_ok_weaker c.cut_wide.result (λ _ none. absurd (omega (arith, given, none))) c.cut_wide.ensures.value;
       painted = on_ok_weaker c.cut_wide.result (λ value _ above plain old_is.
-          let all_rows : length new ≡ all =
-          count_marks under new (enough_after begun under enough c.in_ok-draw_under_marks.ensures.count) c.draw_marks.new.placed.items
-          c.in_ok-draw_marks.ensures.painted
-          ∙ c.in_ok-draw_under_marks.ensures.count ∙ long in
+          let all_rows : length new ≡ all = c.in_ok-paint_strokes.ensures.count ∙ long in
           let is_wide : PlacedEntry → Bool = is_wide_at c.args.place.room layout.decor in
           let flags_are : list_any is_wide placed ≡ true → flags ≡ overlapped placed =
           λ some_wide. c.in_ok-overlapped.ensures.value (ap (λ (l : Layout).

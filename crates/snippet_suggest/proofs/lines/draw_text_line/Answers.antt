@@ -1,11 +1,9 @@
-use Rattle.std.proofs.Common.{◌+◌, ◌∙◌, ◌++◌, ◌∷◌, [], List, ap, sym, length, refl}
-use Rattle.std.specs.List.{slice_index_or}
-use Rattle.std.proofs.lemmas.List.{length-map}
+use Rattle.std.proofs.Common.{◌∙◌, ◌++◌, ◌∷◌, [], List, ap, chars}
 use Rattle.snippet_style.specs.Cell.{Cell}
-use Rattle.snippet_splice.specs.EditStretches.{line_stretches}
-use Rattle.snippet_suggest.specs.Cells.{offered_cells, lines_shown}
-use Rattle.snippet_suggest.specs.RowOrder.{number_after}
-use Rattle.snippet_suggest.proofs.PutLemmas.{offered_is}
+use Rattle.snippet_suggest.specs.Cells.{begun_cells, with_stretches}
+use Rattle.std.proofs.lemmas.Result.{on_ok_weaker}
+use Rattle.snippet_style.specs.declared.role.ElementStyle.TheVariants.{Addition}
+use Rattle.snippet_suggest.proofs.PutLemmas.{line_is, shown_is}
 use Rattle.snippet_suggest.proofs.lines.draw_text_line.Goals as goal
 
 pub returns : goal.returns
@@ -15,12 +13,25 @@ returns c =
     record {
       cells =
           let a = c.args in
-          let drawn = c.in_ok-paint_stretches.ensures.cells a.buffer.now _ c.in_ok-row.ensures.row c.in_ok-row.ensures.cells in
-          drawn ∙ ap (λ (row : List Cell). a.buffer.now ++ row ∷ [])
-          (offered_is layout a.text.now.kind c.glyph_of-glyph.result (length a.text.now.lines.now) (length a.text.now.lines.now)
-          c.number_after-number.result (number_after a.text.now.first a.k) c.line_at-line.result.now (slice_index_or (lines_shown a.text.now) a.k [])
-          c.stretches_of-stretches.result.now (line_stretches a.text.now.stretches.now a.k)
-          c.glyph_of-glyph.ensures.value refl number c.line_at-line.ensures.value c.stretches_of-stretches.ensures.value
-          ∙ ap (λ n. offered_cells layout a.text.now.kind n (number_after a.text.now.first a.k) (slice_index_or (lines_shown a.text.now) a.k [])
-          (line_stretches a.text.now.stretches.now a.k)) (sym (length-map a.text.now.lines.now (λ l. l.now))));
+          let drawn = c.in_ok-paint_stretches.ensures.cells a.buffer.now _ c.in_ok-row-2.ensures.row c.in_ok-row-2.ensures.cells in
+          drawn ∙ ap (λ (row : List Cell). a.buffer.now ++ row ∷ []) (shown_is layout a.text.now a.k c.glyph_of-glyph.result c.number_after-number.result
+          c.line_at-line.result.now c.stretches_of-stretches.result.now c.glyph_of-glyph.ensures.value number c.line_at-line.ensures.value
+          c.stretches_of-stretches.ensures.value);
+    }
+
+pub returns-then-are_in_order : goal.returns-then-are_in_order
+returns-then-are_in_order c =
+    let a = c.args in
+    let layout = a.layout.now in
+    let glyph = c.glyph_of-glyph.result in
+    let line = c.line_at-line.result.now in
+    let new = c.stretches_of-stretches.result.now in
+    let begun = begun_cells layout glyph c.number_after-number.result in
+    record {
+      cells = on_ok_weaker c.put_stretches.result (λ puts. puts a.buffer.now begun c.in_ok-row.ensures.row.0 c.in_ok-row.ensures.cells
+          ∙ ap (λ (row : List Cell). a.buffer.now ++ with_stretches Addition layout.base.gutter (chars line) new row ∷ [])
+          (line_is layout glyph c.number_after-number.result line)
+          ∙ ap (λ (row : List Cell). a.buffer.now ++ row ∷ []) (shown_is layout a.text.now a.k glyph c.number_after-number.result line new
+          c.glyph_of-glyph.ensures.value c.number_after-number.ensures.value c.line_at-line.ensures.value c.stretches_of-stretches.ensures.value))
+          c.put_stretches.ensures.cells;
     }

@@ -10,7 +10,7 @@ unfolding chars
 returns-in_ok-add_shown c =
     let some = ap (λ label. ltb 0 (length label)) (sym c.requires.label) ∙ sym c.is_shown.ensures.value ∙ c.if-is_shown.true in
     record {
-      added = span-labelled c.args.anonymized c.args.map.now (chars c.args.indent.now) (option_copied c.args.path)
+      added = span-labelled c.args.source.now.anonymized c.args.source.now.map.now (chars c.args.start.indent.now) (option_copied c.args.start.path)
           c.args.span.now c.span_to_locations.result c.args.form.now c.add_break.new.self c.add_text.new.self c.add_span_place.new.form
           c.add_text-then-is_shown.new.self c.add_shown.new.self c.span_to_locations.ensures.value c.in_ok-add_break.ensures.added
           c.in_ok-add_text.ensures.added c.in_ok-add_span_place.ensures.added c.in_ok-add_text-2.ensures.added
@@ -21,7 +21,7 @@ pub returns-else-is_shown : goal.returns-else-is_shown
 returns-else-is_shown c =
     let none = ap (λ label. ltb 0 (length label)) (sym c.requires.label) ∙ sym c.is_shown.ensures.value ∙ c.if-is_shown.false in
     record {
-      added = span-plain c.args.anonymized c.args.map.now (chars c.args.indent.now) (option_copied c.args.path)
+      added = span-plain c.args.source.now.anonymized c.args.source.now.map.now (chars c.args.start.indent.now) (option_copied c.args.start.path)
           c.args.span.now c.span_to_locations.result c.args.form.now c.add_break.new.self c.add_text.new.self c.add_span_place.new.form
           c.span_to_locations.ensures.value c.in_ok-add_break.ensures.added c.in_ok-add_text.ensures.added c.in_ok-add_span_place.ensures.added none;
     }

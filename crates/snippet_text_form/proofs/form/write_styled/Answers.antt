@@ -1,4 +1,5 @@
 use Rattle.std.proofs.Common.{◌∙◌, ◌++◌, List, ℕ, ap, string_bytes, encode_utf8_all}
+use Rattle.std.proofs.lemmas.Result.{on_ok_weaker}
 use Rattle.std.specs.Option.{option_copied}
 use Rattle.snippet_style.specs.Codes.{opening, reset}
 use Rattle.snippet_style.specs.declared.style.Style.{Style}
@@ -10,10 +11,11 @@ pub returns : goal.returns
 returns c =
     let style : Style = role_style c.args.sheet.now c.args.look.role in
     let opened = ap (λ (s : Style). encode_utf8_all (opening s)) c.style_of-style.ensures.value in
-    let closed = c.reset_code.ensures.text ∙ ap (λ (s : Style). encode_utf8_all (reset s)) c.style_of-style.ensures.value in
-    let begun = c.in_ok-write_opening.ensures.text ∙ ap (λ (bs : List ℕ). string_bytes c.args.out.now ++ bs) opened in
-    let ended = c.in_ok-push_str-2.ensures.bytes ∙ ap (λ (bs : List ℕ). string_bytes c.end_link.new.out ++ bs) closed in
+    let closed = ap (λ (s : Style). encode_utf8_all (reset s)) c.style_of-style.ensures.value in
+    let begun = c.in_ok-begin_style.ensures.text ∙ ap (λ (bs : List ℕ). string_bytes c.args.out.now ++ bs) opened in
     record {
-      added = styled_added style (option_copied c.args.look.link) c.args.word.now _ _ _ _ _ _ c.utf8.word begun c.in_ok-begin_link.ensures.added
-          c.in_ok-push_str.ensures.bytes c.in_ok-end_link.ensures.added ended;
+      added = on_ok_weaker c.end_style.result (λ ended. styled_added style (option_copied c.args.look.link) c.args.word.now _ _ _ _ _ _
+          c.utf8.word begun c.in_ok-begin_link.ensures.added
+          c.in_ok-push_str.ensures.bytes c.in_ok-end_link.ensures.added
+          (ended ∙ ap (λ (bs : List ℕ). string_bytes c.end_link.new.out ++ bs) closed)) c.end_style.ensures.text;
     }

@@ -17,40 +17,48 @@ use Rattle.snippet_text_form.proofs.suggestion.add_patch_place.Goals.{else-overw
 pub returns-in_ok-add_place : goal.returns-in_ok-add_place
 returns-in_ok-add_place c =
     let a = c.args in
+    let map = a.source.now.map.now in
+    let anonymized = a.source.now.anonymized in
+    let start = a.ends.start in
+    let end = a.ends.end in
     let e : Edit = trimmed_edit_of a.patch.now in
     let path : Option (List ℕ) = option_copied a.path in
     let old : List FormPiece = a.form.now in
     let mid : List FormPiece = c.add_place.new.form in
     let new : List FormPiece = c.add_end.new.form in
-    let over : overwrites a.map.now.text e ≡ true = sym (seen_over c.source.result.now a.map.now.text e c.overwrites.result c.source.ensures.value
+    let over : overwrites map.text e ≡ true = sym (seen_over c.source.result.now map.text e c.overwrites.result c.source.ensures.value
     c.requires.span c.overwrites.ensures.value) ∙ c.if-overwrites.true in
     let given : is_blank_text e.text ≡ false = sym c.is_blank.ensures.value ∙ c.if-not-is_blank.true in
     record {
       added = on_ok_weaker c.add_end.result
-          (λ last. text-two old mid new (place a.anonymized path a.start.line (Some (a.start.char + 1))) (replaced_to a.anonymized a.start a.end)
+          (λ last. text-two old mid new (place anonymized path start.line (Some (start.char + 1))) (replaced_to anonymized start end)
           c.in_ok-add_place.ensures.added last ∙ ap (λ text. old ++ bare text)
-          (sym (replaced_place a.anonymized a.map.now path e a.start a.end over given))) c.add_end.ensures.added;
+          (sym (replaced_place anonymized map path e start end over given))) c.add_end.ensures.added;
     }
 
 pub returns-else-overwrites : goal.returns-else-overwrites
 returns-else-overwrites c =
     let a = c.args in
+    let map = a.source.now.map.now in
+    let anonymized = a.source.now.anonymized in
+    let start = a.ends.start in
+    let end = a.ends.end in
     let e : Edit = trimmed_edit_of a.patch.now in
     let path : Option (List ℕ) = option_copied a.path in
     let old : List FormPiece = a.form.now in
-    let over = overwrites a.map.now.text e in
-    let seen : c.overwrites.result ≡ over = seen_over c.source.result.now a.map.now.text e c.overwrites.result c.source.ensures.value c.requires.span
+    let over = overwrites map.text e in
+    let seen : c.overwrites.result ≡ over = seen_over c.source.result.now map.text e c.overwrites.result c.source.ensures.value c.requires.span
     c.overwrites.ensures.value in
-    let other : replaces a.map.now.text e ≡ false = elim c.else-overwrites.branch [
+    let other : replaces map.text e ≡ false = elim c.else-overwrites.branch [
       | else-overwrites-via-then-overwrites+else-not-is_blank w ↦
           and_right over (not (is_blank_text e.text)) (ap not (sym w.is_blank.ensures.value ∙ w.if-not-is_blank.false))
       | else-overwrites-via-else-overwrites w ↦
           and_left over (not (is_blank_text e.text)) (sym seen ∙ w.if-overwrites.false)
     ] in
-    let column : c.column_unless-column.result ≡ column_unless (replaces_whole_line a.map.now a.start a.end e) a.start = c.column_unless-column.ensures.value
-    ∙ ap (λ whole. column_unless whole a.start) c.is_whole_line-whole.ensures.value in
+    let column : c.column_unless-column.result ≡ column_unless (replaces_whole_line map start end e) start = c.column_unless-column.ensures.value
+    ∙ ap (λ whole. column_unless whole start) c.is_whole_line-whole.ensures.value in
     record {
       added = on_ok_weaker c.add_place-else-overwrites.result (λ added.
-          added ∙ ap (λ to. old ++ bare (place a.anonymized path a.start.line to)) column
-          ∙ ap (λ text. old ++ bare text) (sym (other_place a.anonymized a.map.now path e a.start a.end other))) c.add_place-else-overwrites.ensures.added;
+          added ∙ ap (λ to. old ++ bare (place anonymized path start.line to)) column
+          ∙ ap (λ text. old ++ bare text) (sym (other_place anonymized map path e start end other))) c.add_place-else-overwrites.ensures.added;
     }

@@ -3,8 +3,8 @@ use Rattle.snippet_titles.proofs.AddedLemmas.{added_free, added_links, added_tex
 use Rattle.snippet_titles.proofs.HeadingLemmas.{heading_drawn, label_begun, sign_begun}
 use Rattle.snippet_titles.proofs.heading.draw_heading.Goals as goal
 
-pub draw_label-requires-clause-start : goal.draw_label-requires-clause-start
-draw_label-requires-clause-start g c =
+pub draw_label-requires-clause-end : goal.draw_label-requires-clause-end
+draw_label-requires-clause-end g c =
     sign_begun _ _ _ _ _ c.num_lines-row.ensures.count c.in_ok-draw_sign.ensures.extended c.start.ensures.value
 
 pub draw_text-requires-clause-last : goal.draw_text-requires-clause-last

@@ -13,9 +13,9 @@ returns c =
     let opening = c.opening_bracket-opening.ensures in
     record {
       extended = rw c.in-Some.is
-          (id_drawn _ _ _ _ _ c.args.row c.args.start (c.args.start + length c.opening_bracket-opening.result.now)
-          c.args.hyperlink c.args.hidden c.args.role c.in-Some.id.now _ _ _ _ _ (ap (option_map cow_str_bytes) c.in-Some-id.is)
-          short c.requires.short c.requires.start (omega (arith, opening.length)) (omega (arith, opening.length, opening.short))
+          (id_drawn _ _ _ _ _ c.args.end.row c.args.end.cell (c.args.end.cell + length c.opening_bracket-opening.result.now)
+          c.args.style.hyperlink c.args.style.hidden c.args.style.role c.in-Some.id.now _ _ _ _ _ (ap (option_map cow_str_bytes) c.in-Some-id.is)
+          short c.requires.short c.requires.end (omega (arith, opening.length)) (omega (arith, opening.length, opening.short))
           opening.value shown c.closing_bracket.ensures.value c.address_of.ensures.value c.in_ok-extend_row.ensures.extended
           c.in_ok-extend_row-2.ensures.extended c.in_ok-link_from.ensures.linked c.in_ok-extend_row-3.ensures.extended);
     }

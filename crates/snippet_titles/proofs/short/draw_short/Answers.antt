@@ -6,8 +6,8 @@ use Rattle.snippet_titles.proofs.HeadingLemmas.{label_begun, sign_begun}
 use Rattle.snippet_titles.proofs.ShortLemmas.{short_drawn}
 use Rattle.snippet_titles.proofs.short.draw_short.Goals as goal
 
-pub draw_label-requires-clause-start : goal.draw_label-requires-clause-start
-draw_label-requires-clause-start g c =
+pub draw_label-requires-clause-end : goal.draw_label-requires-clause-end
+draw_label-requires-clause-end g c =
     sign_begun _ _ _ _ _ c.num_lines-row.ensures.count c.in_ok-extend_row.ensures.extended
     (c.char_count.ensures.value ∙ sym (length-text_cells LineAndColumn (chars c.args.before.now)))
 

@@ -11,10 +11,10 @@ returns-in_ok-grids-in-Graphic-clause-laws c =
     subst (λ (form : Form). FormLaws form c.args.renderer.now c.args.groups.now) (sym c.in-Graphic.is)
     (page_laws c.args.renderer.now c.args.groups.now c.in_ok-grids-in-Graphic.field-0.items c.requires.drawable c.in_ok-grids-in-Graphic.ensures.drawn)
 
-pub returns-in_ok-short_page-in-Short-clause-laws : goal.returns-in_ok-short_page-in-Short-clause-laws
-returns-in_ok-short_page-in-Short-clause-laws c =
+pub returns-in_ok-first_title-in-Short-clause-laws : goal.returns-in_ok-first_title-in-Short-clause-laws
+returns-in_ok-first_title-in-Short-clause-laws c =
     subst (λ (form : Form). FormLaws form c.args.renderer.now c.args.groups.now) (sym c.in-Short.is)
-    (short-laws c.args.renderer.now c.args.groups.now c.in_ok-short_page-in-Short.field-0.items c.requires.drawable c.in_ok-short_page-in-Short.ensures.drawn)
+    (short-laws c.args.renderer.now c.args.groups.now c.in_ok-first_title-in-Short.field-0 c.requires.drawable c.in_ok-first_title-in-Short.ensures.drawn)
 
 pub returns-in_ok-text_form-in-Text-clause-laws : goal.returns-in_ok-text_form-in-Text-clause-laws
 returns-in_ok-text_form-in-Text-clause-laws c =

@@ -11,7 +11,7 @@ use Rattle.annotate_snippets.proofs.renderer.element_context.contexts_of.Goals a
 pub loop-i-init : goal.loop-i-init
 loop-i-init c =
     subst (λ (around : List ElementContext). AreAroundBefore c.args.place (option_copied c.args.file) (map element_of c.args.elements.now) 0 true false around)
-    (sym c.new-around.ensures.items) (none_around c.args.place (option_copied c.args.file) (map element_of c.args.elements.now))
+    (sym c.in_ok-around.ensures.items) (none_around c.args.place (option_copied c.args.file) (map element_of c.args.elements.now))
 
 pub loop-i-preserved : goal.loop-i-preserved
 loop-i-preserved c =

@@ -2,13 +2,16 @@ use Rattle.std.proofs.Common.{◌≡◌, ◌∙◌, ◌==◌, ap, length, map, r
 use Rattle.std.proofs.lemmas.Iterator.Adapters.{YieldsList-from_vec}
 use Rattle.std.proofs.lemmas.Iterator.Consumers.{YieldsList-end, YieldsList-from_enumerate, YieldsList-turn}
 use Rattle.std.proofs.lemmas.List.{length_push}
+use Rattle.std.specs.Option.{option_copied}
+use Rattle.snippet_grid.specs.Woven.{WeavesRows}
 use Rattle.snippet_style.specs.declared.stylesheet.Stylesheet.{Stylesheet}
+use Rattle.annotate_snippets.specs.DrawnReport.{IsGridAt}
 use Rattle.annotate_snippets.specs.Gutter.{gutter_of_report}
-use Rattle.annotate_snippets.specs.Written.{AddsGrid}
+use Rattle.annotate_snippets.specs.declared.renderer.graphic.GroupGrid.{GroupGrid}
 use Rattle.annotate_snippets.proofs.ElementRows.{turn_item}
-use Rattle.annotate_snippets.proofs.GridRows.{turn_grid, turn_group, turn_prepared, turns_all}
+use Rattle.annotate_snippets.proofs.GridRows.{grid_at, room_at, turn_grid, turn_group, turn_prepared, turns_all}
 use Rattle.annotate_snippets.proofs.PreparedLemmas.{group_of}
-use Rattle.annotate_snippets.proofs.WriteLemmas.{printed_all, printed_more, printed_none}
+use Rattle.annotate_snippets.proofs.WriteLemmas.{grid_added, printed_all, printed_more, printed_none}
 use Rattle.annotate_snippets.proofs.renderer.page.page_text.Goals as goal
 
 pub loop-i-init : goal.loop-i-init
@@ -19,21 +22,32 @@ loop-i-init c =
       printed = printed_none c.args.renderer.now c.args.groups.now c.args.sheet.now (string_bytes c.new-text.result) c.new-text.ensures.bytes;
     }
 
-pub draw_in-requires : goal.draw_in-requires
-draw_in-requires c =
+pub group_context-around-requires : goal.group_context-around-requires
+group_context-around-requires c =
     let turn = YieldsList-turn (YieldsList-from_enumerate (YieldsList-from_vec c.in_ok-prepared.prepared.items (cc) (cc))
     (cc)) c.loop-i.yielded c.loop-i.i-iterator c.loop-i.yielded_by c.next.result c.next.new.self
     (c.in-Some.i, c.in-Some.group) c.in-Some.is c.next.ensures.steps in
     let same : map group_of c.deref.result.now ≡ c.args.groups.now = ap (map group_of) c.deref.ensures.value ∙ c.in_ok-prepared.ensures.groups in
     record {
-      empty = c.loop-i.invariant.empty;
-      drawable = c.requires.drawable;
       prepared = turn_prepared c.in_ok-prepared.prepared.items (length c.loop-i.yielded) c.in-Some.i c.in-Some.group c.in_ok-prepared.ensures.prepared turn;
-      here = turn_group c.args.groups.now c.in_ok-prepared.prepared.items (length c.loop-i.yielded) c.in-Some.i c.in-Some.group
-          c.in_ok-prepared.ensures.groups turn;
       gutter = c.gutter_of-gutter.ensures.value ∙ ap (gutter_of_report c.args.renderer.now) same;
       small = c.gutter_of-gutter.ensures.small;
       file = c.report_file-file.ensures.value;
+    }
+
+pub print_group-requires : goal.print_group-requires
+print_group-requires c =
+    let turn = YieldsList-turn (YieldsList-from_enumerate (YieldsList-from_vec c.in_ok-prepared.prepared.items (cc) (cc))
+    (cc)) c.loop-i.yielded c.loop-i.i-iterator c.loop-i.yielded_by c.next.result c.next.new.self
+    (c.in-Some.i, c.in-Some.group) c.in-Some.is c.next.ensures.steps in
+    let prepared = turn_prepared c.in_ok-prepared.prepared.items (length c.loop-i.yielded) c.in-Some.i c.in-Some.group c.in_ok-prepared.ensures.prepared turn in
+    record {
+      unbegun = refl;
+      empty = c.loop-i.invariant.empty;
+      prepared = prepared;
+      room = room_at c.args.renderer.now c.args.groups.now c.in-Some.i c.in-Some.group c.group_context-around.result.layout c.requires.drawable prepared
+          (turn_group c.args.groups.now c.in_ok-prepared.prepared.items (length c.loop-i.yielded) c.in-Some.i c.in-Some.group
+          c.in_ok-prepared.ensures.groups turn) c.group_context-around.ensures.layout;
     }
 
 pub loop-i-preserved : goal.loop-i-preserved
@@ -41,21 +55,29 @@ loop-i-preserved c =
     let r = c.args.renderer.now in
     let groups = c.args.groups.now in
     let sheet = c.args.sheet.now in
+    let g = c.in-Some.group.group.now in
+    let around = c.group_context-around.result in
     let before = c.loop-i.invariant.printed in
     let turn = YieldsList-turn (YieldsList-from_enumerate (YieldsList-from_vec c.in_ok-prepared.prepared.items (cc) (cc))
     (cc)) c.loop-i.yielded c.loop-i.i-iterator c.loop-i.yielded_by c.next.result c.next.new.self
     (c.in-Some.i, c.in-Some.group) c.in-Some.is c.next.ensures.steps in
     let at = (turn_item c.in_ok-prepared.prepared.items (length c.loop-i.yielded) c.in-Some.i c.in-Some.group turn).0 in
     let next = length_push c.loop-i.yielded (c.in-Some.i, c.in-Some.group) in
-    let so_far = turn_grid r groups c.in_ok-prepared.prepared.items (length c.loop-i.yielded) _ c.in-Some.i c.in-Some.group c.in_ok-grid.grid before.grids
-    _ c.in_ok-prepared.ensures.groups turn c.in_ok-grid.ensures.level c.in_ok-grid.ensures.drawn refl next before.so_far in
-    let added = subst (λ (s : Stylesheet). AddsGrid s (c.in-Some.i == 0) c.in_ok-grid.grid (string_bytes c.loop-i.text)
-    (string_bytes c.in_ok-text.text)) c.loop-i.invariant.sheet c.in_ok-text.ensures.added in
+    let group = c.in_ok-print_group.ensures.printed in
+    let grid : GroupGrid = record { level = g.level; buffer = group.rows } in
+    let drawn : IsGridAt r groups c.in-Some.i g grid = grid_at r groups c.in-Some.i g grid around.layout around.place (option_copied around.file)
+    c.group_context-around.ensures.layout c.group_context-around.ensures.place c.group_context-around.ensures.file group.is in
+    let so_far = turn_grid r groups c.in_ok-prepared.prepared.items (length c.loop-i.yielded) _ c.in-Some.i c.in-Some.group grid before.grids
+    _ c.in_ok-prepared.ensures.groups turn refl drawn refl next before.so_far in
+    let added = grid_added sheet grid (c.in-Some.i == 0) (string_bytes c.loop-i.text) (string_bytes c.in_ok-fed.field-0)
+    (string_bytes c.print_group.new.page.text)
+    c.in_ok-fed.ensures.value (subst (λ (s : Stylesheet). WeavesRows s g.level group.rows (string_bytes c.in_ok-fed.field-0)
+    (string_bytes c.print_group.new.page.text)) c.loop-i.invariant.sheet group.woven) in
     record {
-      sheet = c.text_with.ensures.sheet ∙ c.loop-i.invariant.sheet;
-      empty = c.emptied-buffer.ensures.empty;
-      printed = printed_more r groups (length c.loop-i.yielded) _ c.in_ok-grid.grid (c.in-Some.i == 0) sheet (string_bytes c.loop-i.text)
-          (string_bytes c.in_ok-text.text) before (ap (λ k. k == 0) at) added so_far;
+      sheet = c.print_group.ensures.sheet ∙ c.loop-i.invariant.sheet;
+      empty = c.in_ok-print_group.ensures.empty;
+      printed = printed_more r groups (length c.loop-i.yielded) _ grid (c.in-Some.i == 0) sheet (string_bytes c.loop-i.text)
+          (string_bytes c.print_group.new.page.text) before (ap (λ k. k == 0) at) added so_far;
     }
 
 pub returns : goal.returns

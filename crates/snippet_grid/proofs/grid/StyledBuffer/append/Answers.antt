@@ -1,12 +1,10 @@
-use Rattle.std.proofs.Common.{◌≡◌, ◌∙◌, ap, sym, subst, arith, length, string_bytes, List, ℕ}
+use Rattle.std.proofs.Common.{◌≡◌, ◌∙◌, ap, sym, subst, arith, length, List}
 use Rattle.std.proofs.lemmas.Bool.{false≢true}
 use Rattle.std.proofs.lemmas.Result.{on_ok_weaker}
-use Rattle.std.specs.List.{slice_index_or}
 use Rattle.std.specs.Str.{chars}
 use Rattle.snippet_grid.specs.Grid.{row_at, cells_written, WritesCells}
 use Rattle.snippet_style.specs.Cell.{Cell, text_cells}
 use Rattle.snippet_style.proofs.CellLemmas.{length-chars_le}
-use Rattle.snippet_grid.proofs.GridShown.{width_shown}
 use Rattle.snippet_grid.proofs.grid.StyledBuffer.append.Goals as goal
 
 pub puts-requires-clause-end : goal.puts-requires-clause-end
@@ -18,18 +16,14 @@ returns-then-not-fits-clause-empty_succeeds c =
 
 pub returns-clause-ok : goal.returns-clause-ok
 returns-clause-ok c =
-    let end : c.width_of-end.result ≡ length (row_at c.args.self.now c.args.row) =
-    c.width_of-end.ensures.value ∙ ap (λ (w : List ℕ). slice_index_or w c.args.row 0) c.deref.ensures.value
-    ∙ sym (width_shown (string_bytes c.self.inside.text) c.self.inside.runs.items c.self.inside.widths.items c.args.row)
-    ∙ ap (λ (rows : List (List Cell)). length (row_at rows c.args.row)) c.self.view_is in
+    let end : c.width-end.result ≡ length (row_at c.args.self.now c.args.row) =
+    c.width-end.ensures.value ∙ ap (λ (rows : List (List Cell)). length (row_at rows c.args.row)) c.self.view_is in
     on_ok_weaker c.puts.result (λ is some. is some ∙ ap (λ at. cells_written c.args.self.now c.args.row at
     (text_cells c.args.role (chars c.args.text.now))) end) c.puts.ensures.ok
 
 pub returns-clause-reads : goal.returns-clause-reads
 returns-clause-reads c =
-    let end : c.width_of-end.result ≡ length (row_at c.args.self.now c.args.row) =
-    c.width_of-end.ensures.value ∙ ap (λ (w : List ℕ). slice_index_or w c.args.row 0) c.deref.ensures.value
-    ∙ sym (width_shown (string_bytes c.self.inside.text) c.self.inside.runs.items c.self.inside.widths.items c.args.row)
-    ∙ ap (λ (rows : List (List Cell)). length (row_at rows c.args.row)) c.self.view_is in
+    let end : c.width-end.result ≡ length (row_at c.args.self.now c.args.row) =
+    c.width-end.ensures.value ∙ ap (λ (rows : List (List Cell)). length (row_at rows c.args.row)) c.self.view_is in
     on_ok_weaker c.puts.result (λ reads some. subst (λ at. WritesCells c.args.self.now c.puts.new.self c.args.row at
     (text_cells c.args.role (chars c.args.text.now))) end (reads some)) c.puts.ensures.reads

@@ -1,9 +1,8 @@
-use Rattle.std.proofs.Common.{◌∙◌, ap, arith, rules, string_bytes}
+use Rattle.std.proofs.Common.{◌∙◌, ap, arith, rules}
 use Rattle.std.proofs.lemmas.Result.{on_ok_weaker}
 use Rattle.std.specs.Str.{chars}
 use Rattle.snippet_grid.specs.Grid.{cells_written}
 use Rattle.snippet_style.specs.Cell.{text_cells}
-use Rattle.snippet_grid.specs.Runs.{grid_shown}
 use Rattle.snippet_grid.proofs.GridLemmas.{WritesCells-from_equal}
 use Rattle.snippet_grid.proofs.GridShown.{chars_some}
 use Rattle.snippet_grid.proofs.grid.StyledBuffer.puts.Goals as goal
@@ -15,6 +14,5 @@ pub returns-clause-reads : goal.returns-clause-reads
 returns-clause-reads c =
     let cells = text_cells c.args.role (chars c.args.text.now) in
     on_ok_weaker c.write_word.result
-    (λ is _. WritesCells-from_equal c.args.self.now
-    (grid_shown (string_bytes c.write_word.new.text) c.write_word.new.runs.items c.write_word.new.widths.items)
-    c.args.row c.args.cell cells (is ∙ ap (λ rows. cells_written rows c.args.row c.args.cell cells) c.self.view_is)) c.write_word.ensures.ok
+    (λ is _. WritesCells-from_equal c.args.self.now c.write_word.new.cells.rows c.args.row c.args.cell cells
+    (is ∙ ap (λ rows. cells_written rows c.args.row c.args.cell cells) c.self.view_is)) c.write_word.ensures.ok

@@ -1,4 +1,5 @@
-use Rattle.std.proofs.Common.{◌∙◌, string_bytes}
+use Rattle.std.proofs.Common.{◌∙◌, ap, string_bytes}
+use Rattle.snippet_grid.specs.Stored.{Stored}
 use Rattle.snippet_grid.proofs.GridShown.{IsGrid-read, grid_read}
 use Rattle.snippet_grid.proofs.WovenLemmas.{AddsRows-same}
 use Rattle.snippet_grid.proofs.grid.StyledBuffer.render_after.Goals as goal
@@ -6,14 +7,14 @@ use Rattle.snippet_grid.proofs.grid.StyledBuffer.render_after.Goals as goal
 pub weave_rows-requires : goal.weave_rows-requires
 weave_rows-requires c =
     record {
-      grid = IsGrid-read (string_bytes c.self.inside.text) c.as_str.result.now c.self.inside.runs.items c.deref.result.now c.self.inside.widths.items
-          c.deref-2.result.now c.as_str.ensures.value c.deref.ensures.value c.deref-2.ensures.value c.self.invariant.0;
+      grid = IsGrid-read (string_bytes c.cells.inside.text) c.as_str.result.now c.cells.inside.runs.items c.deref.result.now c.cells.inside.widths.items
+          c.deref-2.result.now c.as_str.ensures.value c.deref.ensures.value c.deref-2.ensures.value c.cells.invariant.0;
     }
 
 pub returns : goal.returns
 returns c =
-    let shown = grid_read (string_bytes c.self.inside.text) c.as_str.result.now c.self.inside.runs.items c.deref.result.now c.self.inside.widths.items
-    c.deref-2.result.now c.as_str.ensures.value c.deref.ensures.value c.deref-2.ensures.value ∙ c.self.view_is in
+    let shown = grid_read (string_bytes c.cells.inside.text) c.as_str.result.now c.cells.inside.runs.items c.deref.result.now c.cells.inside.widths.items
+    c.deref-2.result.now c.as_str.ensures.value c.deref.ensures.value c.deref-2.ensures.value ∙ ap (λ (s : Stored). s.rows) c.cells.view_is ∙ c.self.view_is in
     record {
       sheet = c.in_ok-weave_rows.ensures.sheet;
       added = AddsRows-same c.args.codes.now c.args.level c.args.self.now _ _ _ _ shown

@@ -45,10 +45,10 @@ loop-mark-preserved c =
     let before = subst (λ (ms : List Mark). IsRenderedTo c.args.sheet.now c.args.self.now text ms c.loop-mark.from (string_bytes c.loop-mark.out))
     (drop_more items i no_mark c.loop-mark-test.true) c.loop-mark.invariant in
     IsRenderedTo-mark c.args.sheet.now c.args.self.now text m (drop (i + 1) items) c.loop-mark.from (string_bytes c.loop-mark.out)
-    (string_bytes c.push_str.new.self) (string_bytes c.write_mark.new.out) c.as_str-text.utf8 before
-    (c.in_ok-push_str.ensures.bytes ∙ ap (λ (bs : List ℕ). string_bytes c.loop-mark.out ++ bs) c.range.ensures.value)
+    (string_bytes c.push_some.new.out) (string_bytes c.write_mark.new.out) c.as_str-text.utf8 before
+    (c.in_ok-push_some.ensures.bytes ∙ ap (λ (bs : List ℕ). string_bytes c.loop-mark.out ++ bs) c.range.ensures.value)
     (c.in_ok-write_mark.ensures.added
-    ∙ ap (λ (w : List ℕ). string_bytes c.push_str.new.self
+    ∙ ap (λ (w : List ℕ). string_bytes c.push_some.new.out
     ++ flat_map piece_text (woven_from c.args.sheet.now (nat_lt 0 m.start) (piece_of_kind (chars w) m.kind ∷ []))) c.range-in-loop-mark.ensures.value)
 
 pub range-requires-2-clause-start_boundary : goal.range-requires-2-clause-start_boundary
@@ -61,9 +61,9 @@ returns c =
     let text : List ℕ = c.as_str-text.result.now in
     let left = subst (λ (ms : List Mark). IsRenderedTo c.args.sheet.now c.args.self.now text ms c.loop-mark.from (string_bytes c.loop-mark.out))
     (drop_all c.loop-mark.mark-index c.deref-mark-items.result.now c.loop-mark-test.false) c.loop-mark.invariant in
-    let whole : string_bytes c.push_str-2.new.self ≡ form_bytes c.args.sheet.now c.args.self.now = IsRenderedTo-all c.args.sheet.now c.args.self.now text
-    c.loop-mark.from (string_bytes c.loop-mark.out) (string_bytes c.push_str-2.new.self) c.as_str-text.utf8 left
-    (c.in_ok-push_str-2.ensures.bytes ∙ ap (λ (bs : List ℕ). string_bytes c.loop-mark.out ++ bs) c.range-2.ensures.value) in
+    let whole : string_bytes c.push_some-2.new.out ≡ form_bytes c.args.sheet.now c.args.self.now = IsRenderedTo-all c.args.sheet.now c.args.self.now text
+    c.loop-mark.from (string_bytes c.loop-mark.out) (string_bytes c.push_some-2.new.out) c.as_str-text.utf8 left
+    (c.in_ok-push_some-2.ensures.bytes ∙ ap (λ (bs : List ℕ). string_bytes c.loop-mark.out ++ bs) c.range-2.ensures.value) in
     record {
       text = whole;
       woven = subst (λ (t : List ℕ). IsWoven c.args.sheet.now t (form_text c.args.self.now) (form_links c.args.self.now)) (sym whole)

@@ -1,0 +1,386 @@
+-- A group that is printed while it is drawn.
+use Rattle.std.proofs.Common.{◌≡◌, ℕ, ◌+◌, ◌<◌, Bool, true, false, not, All, List, [], ◌∷◌, ◌++◌, Option, Some, length, map, refl, sym, ap, ◌∙◌}
+use Rattle.std.proofs.Common.{subst, arith, cond, encode_utf8, get_or, string_bytes}
+use Rattle.std.specs.List.{enumerate_from, flat_map, slice_get, slice_index_or}
+use Rattle.std.proofs.lemmas.Bool.{false≢true}
+use Rattle.std.proofs.lemmas.Grind.{flat_map-append}
+use Rattle.std.proofs.lemmas.Str.{IsUtf8-from_ascii}
+use Rattle.std.proofs.lemmas.Str.Ascii.{IsAscii-from_all}
+use Rattle.std.proofs.lemmas.List.{append_assoc, append-nil, length-append}
+use Rattle.snippet_grid.proofs.WeaveLemmas.{further-append}
+use Rattle.snippet_grid.specs.Layout.{Layout}
+use Rattle.snippet_grid.specs.Woven.{Char, Piece, PrintsFurther, WeavesRows, piece_text}
+use Rattle.snippet_model.specs.Heading.{Heading, heading_of_message}
+use Rattle.snippet_model.specs.declared.snippet.Element.{Element}
+use Rattle.snippet_model.specs.declared.snippet.Element.TheVariants.{Message}
+use Rattle.snippet_model.specs.declared.snippet.Group.{Group}
+use Rattle.snippet_model.specs.declared.snippet.Message as message
+use Rattle.snippet_model.specs.declared.snippet.Title.{Title}
+use Rattle.snippet_style.specs.Cell.{Cell}
+use Rattle.snippet_style.specs.declared.role.LevelInner.{LevelInner}
+use Rattle.snippet_style.specs.declared.stylesheet.Stylesheet.{Stylesheet}
+use Rattle.snippet_titles.proofs.PrintedLemmas.{one_row}
+use Rattle.snippet_titles.specs.HeadingRows.{heading_rows}
+use Rattle.snippet_titles.specs.Title.{title_rows}
+use Rattle.snippet_titles.specs.PrintedHeading.{IsPlainHeading}
+use Rattle.snippet_titles.specs.declared.style.TitleStyle.{TitleStyle}
+use Rattle.annotate_snippets.specs.Around.{CanStandIn, begins_in_row_above, context_at, drawn_elements, is_end, next_of}
+use Rattle.annotate_snippets.specs.DrawnReport.{AddsElement, AreElementsDrawn, found_at, last_row, shared_row}
+use Rattle.annotate_snippets.specs.PreparedReport.{AreAround, element_of}
+use Rattle.annotate_snippets.specs.Printing.{IsGroupPrinted, IsPrinting, PrintsElements}
+use Rattle.annotate_snippets.specs.declared.renderer.Renderer.{Renderer}
+use Rattle.annotate_snippets.specs.declared.renderer.element_context.ElementContext.{ElementContext}
+use Rattle.annotate_snippets.specs.declared.renderer.element_context.GroupPosition.{GroupPosition}
+use Rattle.annotate_snippets.specs.declared.renderer.element_context.Next.{Next}
+use Rattle.annotate_snippets.specs.declared.renderer.printing.Printing.{Printing}
+use Rattle.annotate_snippets.specs.RowsWithoutSource.{message_rows, message_style, rows_after_title, title_part}
+use Rattle.annotate_snippets.specs.declared.renderer.preprocess.PreparedElement.{PreparedElement}
+use Rattle.annotate_snippets.proofs.AroundLaws.{begins_is, shares_after, shares_before}
+use Rattle.annotate_snippets.proofs.ElementRows.{DrawnSoFar, drawn_none, get-mapped, turn_around, turn_drawn, turn_item, turn_stands, turns_all}
+use Rattle.annotate_snippets.proofs.PlainRows.{plain_added}
+
+-- ---- rows below rows
+
+-- the bytes of a line feed
+line_feed : encode_utf8 10 ≡ 10 ∷ []
+unfolding lib.Utf8.encode
+line_feed = refl
+
+-- rows that are printed after a line feed below others
+weaves_below : (sheet : Stylesheet) (level : LevelInner) (old now fed new : List ℕ) (rows more : List (List Cell)) → 0 < length rows → 0 < length more
+    → fed ≡ now ++ encode_utf8 10 → WeavesRows sheet level rows old now → WeavesRows sheet level more fed new
+    → WeavesRows sheet level (rows ++ more) old new
+weaves_below sheet level old now fed new [] more some others broken above below = absurd (omega (arith, some))
+weaves_below sheet level old now fed new (head ∷ rows) [] some others broken above below = absurd (omega (arith, others))
+weaves_below sheet level old now fed new (head ∷ rows) (row ∷ more) some others broken above below =
+    let are = above.are in
+    let next = below.are in
+    let pieces : List Piece = Char 10 ∷ below.pieces in
+    let bytes : List ℕ = flat_map piece_text below.pieces in
+    let further : PrintsFurther sheet level pieces (row ∷ more) = (next.0, next.1, ap (λ (ps : List Piece). Char 10 ∷ ps) next.2, next.3, next.4) in
+    record {
+      pieces = above.pieces ++ pieces;
+      text_is = below.text_is ∙ ap (λ (t : List ℕ). t ++ bytes) (broken ∙ ap (λ (t : List ℕ). t ++ encode_utf8 10) above.text_is)
+          ∙ append_assoc (old ++ flat_map piece_text above.pieces) (encode_utf8 10) bytes
+          ∙ append_assoc old (flat_map piece_text above.pieces) (encode_utf8 10 ++ bytes)
+          ∙ ap (λ (t : List ℕ). old ++ t) (sym (flat_map-append piece_text above.pieces pieces));
+      are = (
+        are.0,
+        are.1 ++ pieces,
+        ap (λ (ps : List Piece). ps ++ pieces) are.2
+            ∙ append_assoc are.0 are.1 pieces,
+        are.3,
+        further-append sheet level are.1 pieces rows (row ∷ more) are.4 further,
+      );
+    }
+
+-- no rows are printed by nothing
+weaves_none : (sheet : Stylesheet) (level : LevelInner) (old now : List ℕ) → WeavesRows sheet level [] old now → now ≡ old
+weaves_none sheet level old now woven =
+    woven.text_is ∙ ap (λ (ps : List Piece). old ++ flat_map piece_text ps) woven.are ∙ append-nil old
+
+-- rows that are printed below those of a group, be there any or not: after a line feed where there are
+rows_below : (sheet : Stylesheet) (level : LevelInner) (begun : Bool) (old now lead new : List ℕ) (printed more : List (List Cell))
+    → (begun ≡ false → printed ≡ []) → (begun ≡ true → 0 < length printed) → lead ≡ cond (not begun) now (now ++ 10 ∷ [])
+    → 0 < length more → WeavesRows sheet level printed old now → WeavesRows sheet level more lead new
+    → WeavesRows sheet level (printed ++ more) old new
+rows_below sheet level true old now lead new printed more none some led others woven below =
+    weaves_below sheet level old now lead new printed more (some refl) others (led ∙ ap (λ (t : List ℕ). now ++ t) (sym line_feed)) woven below
+rows_below sheet level false old now lead new printed more none some led others woven below =
+    let nothing : printed ≡ [] = none refl in
+    let same : now ≡ old = weaves_none sheet level old now (subst (λ rows. WeavesRows sheet level rows old now) nothing woven) in
+    subst (λ (rows : List (List Cell)). WeavesRows sheet level (rows ++ more) old new) (sym nothing)
+    (subst (λ (t : List ℕ). WeavesRows sheet level more t new) (led ∙ same) below)
+
+-- ---- a group that is being printed
+
+-- a group of which nothing is printed has the rows of its grid
+pub printing_none : (sheet : Stylesheet) (level : LevelInner) (page : Printing) → page.begun ≡ false
+    → IsPrinting sheet level (string_bytes page.text) page page.buffer
+printing_none sheet level page unbegun =
+    record {
+      printed = [];
+      rows_are = refl;
+      unbegun = λ is. refl;
+      begun = λ is. never page.begun unbegun is;
+      woven = record { pieces = []; text_is = sym (append-nil (string_bytes page.text)); are = refl };
+    }
+  where
+    never : (begun : Bool) → begun ≡ false → begun ≡ true → 0 < length {A = List Cell} []
+    never b off on = absurd (false≢true (sym off ∙ on))
+
+-- all its rows are printed where its grid has none
+pub all_printed : (sheet : Stylesheet) (level : LevelInner) (old : List ℕ) (page : Printing) (rows : List (List Cell)) → page.buffer ≡ []
+    → IsPrinting sheet level old page rows → WeavesRows sheet level rows old (string_bytes page.text)
+all_printed sheet level old page rows empty printing =
+    subst (λ done. WeavesRows sheet level done old (string_bytes page.text))
+    (sym (printing.rows_are ∙ ap (λ (more : List (List Cell)). printing.printed ++ more) empty ∙ append-nil printing.printed)) printing.woven
+
+-- the rows of its grid were printed
+pub printing_flushed : (sheet : Stylesheet) (level : LevelInner) (old lead : List ℕ) (page done : Printing) (rows : List (List Cell))
+    → done.begun ≡ true → done.buffer ≡ [] → 0 < length page.buffer
+    → lead ≡ cond (not page.begun) (string_bytes page.text) (string_bytes page.text ++ 10 ∷ [])
+    → WeavesRows sheet level page.buffer lead (string_bytes done.text) → IsPrinting sheet level old page rows → IsPrinting sheet level old done rows
+printing_flushed sheet level old lead page done rows begun empty some led woven printing =
+    let all = rows_below sheet level page.begun old (string_bytes page.text) lead (string_bytes done.text) printing.printed page.buffer printing.unbegun
+    printing.begun led some printing.woven woven in
+    record {
+      printed = rows;
+      rows_are = sym (ap (λ (more : List (List Cell)). rows ++ more) empty ∙ append-nil rows);
+      unbegun = λ is. absurd (other done.begun begun is);
+      begun = λ is. omega (arith, some, ap length printing.rows_are, length-append printing.printed page.buffer);
+      woven = subst (λ done_rows. WeavesRows sheet level done_rows old (string_bytes done.text)) (sym printing.rows_are) all;
+    }
+  where
+    other : (b : Bool) → b ≡ true → b ≡ false → ⊥
+    other b on off = false≢true (sym off ∙ on)
+
+-- further rows were printed below all
+pub printing_more : (sheet now : Stylesheet) (level own : LevelInner) (old lead : List ℕ) (page done : Printing) (rows more : List (List Cell))
+    → now ≡ sheet → own ≡ level → done.begun ≡ true → done.buffer ≡ [] → page.buffer ≡ [] → 0 < length more
+    → lead ≡ cond (not page.begun) (string_bytes page.text) (string_bytes page.text ++ 10 ∷ [])
+    → WeavesRows now own more lead (string_bytes done.text) → IsPrinting sheet level old page rows
+    → IsPrinting sheet level old done (rows ++ more)
+printing_more sheet now level own old lead page done rows more same_sheet same_level begun empty flushed some led added printing =
+    let woven = subst (λ s. WeavesRows s level more lead (string_bytes done.text)) same_sheet
+    (subst (λ l. WeavesRows now l more lead (string_bytes done.text)) same_level added) in
+    let whole : rows ≡ printing.printed = printing.rows_are ∙ ap (λ (below : List (List Cell)). printing.printed ++ below) flushed
+    ∙ append-nil printing.printed in
+    let all = rows_below sheet level page.begun old (string_bytes page.text) lead (string_bytes done.text) printing.printed more printing.unbegun
+    printing.begun led some printing.woven woven in
+    record {
+      printed = rows ++ more;
+      rows_are = sym (ap (λ (below : List (List Cell)). (rows ++ more) ++ below) empty ∙ append-nil (rows ++ more));
+      unbegun = λ is. absurd (other done.begun begun is);
+      begun = λ is. omega (arith, some, length-append rows more);
+      woven = subst (λ (above : List (List Cell)). WeavesRows sheet level (above ++ more) old (string_bytes done.text)) (sym whole) all;
+    }
+  where
+    other : (b : Bool) → b ≡ true → b ≡ false → ⊥
+    other b on off = false≢true (sym off ∙ on)
+
+-- a plain heading has a row
+pub heading_some : (hyperlink : Bool) (style : TitleStyle) (heading : Heading) → IsPlainHeading hyperlink heading
+    → 0 < length (heading_rows hyperlink style heading)
+heading_some hyperlink style heading plain =
+    let ascii : All (λ b. b < 128) heading.text = λ k d within. omega (arith, plain.plain k d within) in
+    let one = one_row hyperlink style heading (IsUtf8-from_ascii heading.text (IsAscii-from_all heading.text ascii)) plain in
+    omega (arith, ap length one)
+
+-- ---- its elements
+
+-- the first n elements of a group are drawn or printed below some rows; the row in which the next one begins isn't printed yet
+pub record ElementsPrinted (sheet : Stylesheet) (level : LevelInner) (r : Renderer) (layout : Layout) (place : GroupPosition) (file : Option (List ℕ))
+    (es : List Element) (n : ℕ) (above : List (List Cell)) (old : List ℕ) (page : Printing) : Type 0 where
+  pub rows : List (List Cell)
+  pub drawn : DrawnSoFar r layout place file es n above rows
+  pub printing : IsPrinting sheet level old page rows
+  pub shared : shares_before es n ≡ true → 0 < length page.buffer
+
+-- the last of some rows is one of the later ones, where there are any
+last_of_later : {X : Type 0} (printed later above : List X) (x : X) → 0 < length later → printed ++ later ≡ above ++ x ∷ []
+    → (init : List X) × (later ≡ init ++ x ∷ []) × (above ≡ printed ++ init)
+last_of_later [] later above x some is = (above, is, refl)
+last_of_later (p ∷ printed) later [] x some is =
+    absurd (omega (arith, some, ap length is, length-append printed later))
+last_of_later (p ∷ printed) later (a ∷ above) x some is =
+    let rest : printed ++ later ≡ above ++ x ∷ [] = cc in
+    let first : a ≡ p = cc in
+    let split = last_of_later printed later above x some rest in
+    (split.0, split.1, ap (λ xs. a ∷ xs) split.2 ∙ ap (λ y. y ∷ (printed ++ split.0)) first)
+
+-- an element that is drawn in the grid is drawn below all rows of its group; where the next one shares its last row, the grid has that
+record DrawnBelow (r : Renderer) (layout : Layout) (at : ElementContext) (found : List Cell) (e : Element) (above printed new : List (List Cell))
+    : Type 0 where
+  pub adds : AddsElement r layout at found e above (printed ++ new)
+  pub some : at.shared ≡ true → 0 < length new
+
+drawn_below : (r : Renderer) (layout : Layout) (at : ElementContext) (e : Element) (printed mid new : List (List Cell))
+    → (begins_in_row_above at ≡ true → 0 < length mid)
+    → ((above : List (List Cell)) (found : List Cell) → mid ≡ above ++ shared_row (begins_in_row_above at) found
+    → AddsElement r layout at found e above new)
+    → (above : List (List Cell)) (found : List Cell) → printed ++ mid ≡ above ++ shared_row (begins_in_row_above at) found
+    → DrawnBelow r layout at found e above printed new
+drawn_below r layout at e printed mid new shares adds above found is =
+    by (begins_in_row_above at) refl
+  where
+    put : (first start : List (List Cell)) → start ≡ printed ++ first → AddsElement r layout at found e first new
+        → DrawnBelow r layout at found e start printed new
+    put first start whole added =
+        let tail : List (List Cell) = added.rows ++ shared_row at.shared (last_row r layout (not (is_end at.next)) (Some e)) in
+        record {
+          adds = record {
+            rows = added.rows;
+            is = added.is;
+            added = ap (λ (rs : List (List Cell)). printed ++ rs) added.added ∙ sym (append_assoc printed first tail)
+                ∙ ap (λ (rs : List (List Cell)). rs ++ tail) (sym whole);
+          };
+          some = λ shared. omega (
+            arith,
+            ap length added.added,
+            length-append first tail,
+            length-append added.rows (shared_row at.shared (last_row r layout (not (is_end at.next)) (Some e))),
+            ap (λ b. length (shared_row b (last_row r layout (not (is_end at.next)) (Some e)))) shared,
+          );
+        }
+
+    by : (begins : Bool) → begins ≡ begins_in_row_above at → DrawnBelow r layout at found e above printed new
+    by true starts =
+        let here : printed ++ mid ≡ above ++ found ∷ [] = is ∙ ap (λ b. above ++ shared_row b found) (sym starts) in
+        let split = last_of_later printed mid above found (shares (sym starts)) here in
+        put split.0 above split.2 (adds split.0 found (split.1 ∙ ap (λ b. split.0 ++ shared_row b found) starts))
+    by false starts =
+        put mid above (sym (is ∙ ap (λ b. above ++ shared_row b found) (sym starts) ∙ append-nil above))
+        (adds mid found (sym (ap (λ b. mid ++ shared_row b found) (sym starts) ∙ append-nil mid)))
+
+-- before the first element the group has the rows that it had
+pub elements_none : (sheet : Stylesheet) (level : LevelInner) (r : Renderer) (layout : Layout) (place : GroupPosition) (file : Option (List ℕ))
+    (es : List Element) (above : List (List Cell)) (old : List ℕ) (page : Printing) → IsPrinting sheet level old page above
+    → ElementsPrinted sheet level r layout place file es 0 above old page
+elements_none sheet level r layout place file es above old page printing =
+    record {
+      rows = above;
+      drawn = drawn_none r layout place file es above;
+      printing = printing;
+      shared = λ is. cc;
+    }
+
+-- one more, drawn in the grid
+pub elements_drawn : (sheet : Stylesheet) (level : LevelInner) (r : Renderer) (layout : Layout) (place : GroupPosition) (file : Option (List ℕ))
+    (ps : List PreparedElement) (around : List ElementContext) (n m i : ℕ) (p : PreparedElement) (at : ElementContext) (above : List (List Cell))
+    (old : List ℕ) (page after : Printing) → AreAround place file (map element_of ps) around
+    → (n < length (enumerate_from 0 ps)) × ((i, p) ≡ get_or (enumerate_from 0 ps) n (i, p)) → at ≡ slice_index_or around i at → m ≡ n + 1
+    → after.begun ≡ page.begun → string_bytes after.text ≡ string_bytes page.text
+    → ((front : List (List Cell)) (found : List Cell) → page.buffer ≡ front ++ shared_row (begins_in_row_above at) found
+    → AddsElement r layout at found (element_of p) front after.buffer)
+    → ElementsPrinted sheet level r layout place file (map element_of ps) n above old page
+    → ElementsPrinted sheet level r layout place file (map element_of ps) m above old after
+elements_drawn sheet level r layout place file ps around n m i p at above old page after are turn is next begun text adds before =
+    let es : List Element = map element_of ps in
+    let e : Element = element_of p in
+    let printing = before.printing in
+    let here : slice_get es n ≡ Some e = get-mapped element_of ps n p (turn_item ps n i p turn).1 in
+    let at_is : at ≡ context_at place file es n e = turn_around place file ps around n i p at are turn is in
+    let begins : begins_in_row_above at ≡ shares_before es n = ap begins_in_row_above at_is ∙ begins_is place file es n e here in
+    let below = drawn_below r layout at e printing.printed page.buffer after.buffer (λ starts. before.shared (sym begins ∙ starts)) adds in
+    let found : List Cell = found_at r layout es n in
+    let front : List (List Cell) = above ++ flat_map (λ part. part) before.drawn.parts in
+    let now = below front found (sym printing.rows_are ∙ before.drawn.added ∙ ap (λ b. front ++ shared_row b found) (sym begins)) in
+    record {
+      rows = printing.printed ++ after.buffer;
+      drawn = turn_drawn r layout place file ps around n m i p at above before.rows (printing.printed ++ after.buffer) are turn is next before.drawn
+          (λ start row ends. (below start row (sym printing.rows_are ∙ ends)).adds);
+      printing = record {
+        printed = printing.printed;
+        rows_are = refl;
+        unbegun = λ off. printing.unbegun (sym begun ∙ off);
+        begun = λ on. printing.begun (sym begun ∙ on);
+        woven = subst (λ (t : List ℕ). WeavesRows sheet level printing.printed old t) (sym text) printing.woven;
+      };
+      shared = λ shares. now.some (ap (λ (a : ElementContext). a.shared) at_is ∙ sym (shares_after es n) ∙ ap (shares_before es) (sym next) ∙ shares);
+    }
+
+-- one more, a message that is printed
+pub elements_printed : (sheet now : Stylesheet) (level own : LevelInner) (r : Renderer) (layout : Layout) (place : GroupPosition) (file : Option (List ℕ))
+    (ps : List PreparedElement) (around : List ElementContext) (n m i : ℕ) (p : PreparedElement) (at : ElementContext) (message : message.Message)
+    (style : TitleStyle) (above : List (List Cell)) (old : List ℕ) (page after : Printing) → AreAround place file (map element_of ps) around
+    → (n < length (enumerate_from 0 ps)) × ((i, p) ≡ get_or (enumerate_from 0 ps) n (i, p)) → at ≡ slice_index_or around i at → m ≡ n + 1
+    → element_of p ≡ Message message → style ≡ message_style r layout at → now ≡ sheet → own ≡ level
+    → ((rows : List (List Cell)) → IsPrinting now own old page rows
+    → IsPrinting now own old after (rows ++ heading_rows r.hyperlink style (heading_of_message message)))
+    → ElementsPrinted sheet level r layout place file (map element_of ps) n above old page
+    → ElementsPrinted sheet level r layout place file (map element_of ps) m above old after
+elements_printed sheet now level own r layout place file ps around n m i p at message style above old page after are turn is next of styled same_sheet
+    same_level prints before =
+    let here = subst (λ s. (rows : List (List Cell)) → IsPrinting s level old page rows
+    → IsPrinting s level old after (rows ++ heading_rows r.hyperlink style (heading_of_message message))) same_sheet
+    (subst (λ l. (rows : List (List Cell)) → IsPrinting now l old page rows
+    → IsPrinting now l old after (rows ++ heading_rows r.hyperlink style (heading_of_message message))) same_level prints) in
+    let es : List Element = map element_of ps in
+    let e : Element = element_of p in
+    let more : List (List Cell) = heading_rows r.hyperlink style (heading_of_message message) in
+    let at_is : at ≡ context_at place file es n e = turn_around place file ps around n i p at are turn is in
+    let stands = turn_stands place file ps around n i p at are turn is in
+    let alone : (begins_in_row_above at ≡ false) × (at.shared ≡ false) = subst (CanStandIn at) of stands in
+    let rows_are : more ≡ message_rows r layout at message = ap (λ s. heading_rows r.hyperlink s (heading_of_message message)) styled in
+    record {
+      rows = before.rows ++ more;
+      drawn = turn_drawn r layout place file ps around n m i p at above before.rows (before.rows ++ more) are turn is next before.drawn
+          (λ start row ends. plain_added r layout at row p (Message message) start before.rows (before.rows ++ more) more of stands (λ a. a) ends refl
+          rows_are);
+      printing = here before.rows before.printing;
+      shared = λ shares. absurd (never (shares_before es m) (ap (shares_before es) next ∙ shares_after es n
+          ∙ sym (ap (λ (a : ElementContext). a.shared) at_is) ∙ alone.1) shares);
+    }
+  where
+    never : (b : Bool) → b ≡ false → b ≡ true → ⊥
+    never b off on = false≢true (sym off ∙ on)
+
+-- all of them, and what isn't printed yet
+pub elements_all : (sheet now : Stylesheet) (level own : LevelInner) (r : Renderer) (layout : Layout) (place : GroupPosition) (file : Option (List ℕ))
+    (ps : List PreparedElement) (n : ℕ) (above : List (List Cell)) (old : List ℕ) (page after : Printing) → n ≡ length (enumerate_from 0 ps)
+    → now ≡ sheet → own ≡ level → ((rows : List (List Cell)) → IsPrinting now own old page rows → IsPrinting now own old after rows)
+    → after.buffer ≡ []
+    → ElementsPrinted sheet level r layout place file (map element_of ps) n above old page
+    → PrintsElements sheet level r layout place file (map element_of ps) above old (string_bytes after.text)
+elements_all sheet now level own r layout place file ps n above old page after all same_sheet same_level flushed empty before =
+    let here = subst (λ s. (rows : List (List Cell)) → IsPrinting s level old page rows → IsPrinting s level old after rows) same_sheet
+    (subst (λ l. (rows : List (List Cell)) → IsPrinting now l old page rows → IsPrinting now l old after rows) same_level flushed) in
+    record {
+      rows = before.rows;
+      are = turns_all r layout place file ps n above before.rows all before.drawn;
+      woven = all_printed sheet level old after before.rows empty (here before.rows before.printing);
+    }
+
+-- ---- a group
+
+-- the elements below the rows of the title are the group
+pub group_printed : (sheet now : Stylesheet) (level own : LevelInner) (r : Renderer) (layout : Layout) (place : GroupPosition) (file : Option (List ℕ))
+    (g : Group) (es : List Element) (page : Printing) (old new : List ℕ) → es ≡ drawn_elements g → now ≡ sheet → own ≡ level
+    → IsPrinting sheet level old page (title_part r layout place (next_of (drawn_elements g)) g.title)
+    → ((from : List ℕ) (above : List (List Cell)) → IsPrinting now own from page above → PrintsElements now own r layout place file es above from new)
+    → IsGroupPrinted sheet level r layout place file g old new
+group_printed sheet now level own r layout place file g es page old new drawn same_sheet same_level titled prints =
+    let title : List (List Cell) = title_part r layout place (next_of (drawn_elements g)) g.title in
+    let here = subst (λ s. IsPrinting s own old page title) (sym same_sheet) (subst (λ l. IsPrinting sheet l old page title) (sym same_level) titled) in
+    let printed = prints old title here in
+    record {
+      rows = printed.rows;
+      is = record {
+        parts = printed.are.parts;
+        rows_are = printed.are.added;
+        are = subst (λ elements. AreElementsDrawn r layout place file elements printed.are.parts) drawn printed.are.are;
+      };
+      woven = subst (λ s. WeavesRows s level printed.rows old new) same_sheet
+          (subst (λ l. WeavesRows now l printed.rows old new) same_level printed.woven);
+    }
+
+-- rows below those that are printed, drawn in the grid
+pub printing_drawn : (sheet : Stylesheet) (level : LevelInner) (old : List ℕ) (page after : Printing) (rows more : List (List Cell))
+    → after.begun ≡ page.begun → string_bytes after.text ≡ string_bytes page.text → after.buffer ≡ page.buffer ++ more
+    → IsPrinting sheet level old page rows → IsPrinting sheet level old after (rows ++ more)
+printing_drawn sheet level old page after rows more begun text added printing =
+    record {
+      printed = printing.printed;
+      rows_are = ap (λ (above : List (List Cell)). above ++ more) printing.rows_are ∙ append_assoc printing.printed page.buffer more
+          ∙ ap (λ (below : List (List Cell)). printing.printed ++ below) (sym added);
+      unbegun = λ off. printing.unbegun (sym begun ∙ off);
+      begun = λ on. printing.begun (sym begun ∙ on);
+      woven = subst (λ (t : List ℕ). WeavesRows sheet level printing.printed old t) (sym text) printing.woven;
+    }
+
+-- a title that is printed, and what stands below it
+pub title_printed : (sheet : Stylesheet) (level : LevelInner) (r : Renderer) (layout : Layout) (place : GroupPosition) (follows known : Next)
+    (title : Title) (given : Option Title) (page below after : Printing) → given ≡ Some title → follows ≡ known → page.begun ≡ false → page.buffer ≡ []
+    → after.begun ≡ below.begun → string_bytes after.text ≡ string_bytes below.text
+    → after.buffer ≡ below.buffer ++ rows_after_title r layout place follows title.allows_styling
+    → ((rows : List (List Cell)) → IsPrinting sheet level (string_bytes page.text) page rows
+    → IsPrinting sheet level (string_bytes page.text) below (rows ++ title_rows r.hyperlink title))
+    → IsPrinting sheet level (string_bytes page.text) after (title_part r layout place known given)
+title_printed sheet level r layout place follows known title given page below after is next unbegun empty begun text added headed =
+    let old : List ℕ = string_bytes page.text in
+    let none : IsPrinting sheet level old page [] = subst (λ rows. IsPrinting sheet level old page rows) empty (printing_none sheet level page unbegun) in
+    let drawn = printing_drawn sheet level old below after (title_rows r.hyperlink title) (rows_after_title r layout place follows title.allows_styling)
+    begun text added (headed [] none) in
+    subst (λ (t : Option Title). IsPrinting sheet level old after (title_part r layout place known t)) (sym is)
+    (subst (λ n. IsPrinting sheet level old after (title_part r layout place n (Some title))) next drawn)

@@ -1,0 +1,36 @@
+use Rattle.std.proofs.Common.{◌≡◌, ◌∙◌, List, Err, Ok, Result, Some, ap, sym}
+use Rattle.std.specs.List.{slice_get}
+use Rattle.std.specs.Option.{option_copied}
+use Rattle.std.specs.Result.{IfOk}
+use Rattle.std.specs.declared.alloc.AllocError.{AllocError}
+use Rattle.snippet_model.specs.declared.snippet.Group.{Group}
+use Rattle.snippet_model.specs.declared.snippet.Title.{Title}
+use Rattle.annotate_snippets.specs.DrawnReport.{IsShortForm}
+use Rattle.annotate_snippets.specs.ShortForm.{short_form}
+use Rattle.annotate_snippets.specs.declared.renderer.Renderer.{Renderer}
+use Rattle.annotate_snippets.specs.declared.renderer.short.ShortForm.{ShortForm}
+use Rattle.annotate_snippets.proofs.FaultLemmas.{first-there, title-there}
+use Rattle.annotate_snippets.proofs.renderer.drawn.first_title.Goals as goal
+
+-- the form of the first group and its title is that of the report
+of_first : (r : Renderer) (groups : List Group) (g : Group) (title : Title) (answer : Result ShortForm AllocError) → slice_get groups 0 ≡ Some g
+    → g.title ≡ Some title → IfOk answer (λ form. form.level ≡ g.level) → IfOk answer (λ form. form.rows ≡ short_form r g title)
+    → IfOk answer (λ form. IsShortForm r groups form)
+of_first r groups g title (Err e) first titled level rows = tt
+of_first r groups g title (Ok form) first titled level rows =
+    record { group = g; title = title; first = first; titled = titled; level = level; rows = rows }
+
+pub unreachable-requires-in-None : goal.unreachable-requires-in-None
+unreachable-requires-in-None c =
+    first-there c.args.groups.now c.requires.titled (sym c.first.ensures.value ∙ ap option_copied c.in-None.is)
+
+pub unreachable-requires : goal.unreachable-requires
+unreachable-requires c =
+    title-there c.args.groups.now c.in-Some.group.now c.requires.titled (sym c.first.ensures.value ∙ ap option_copied c.in-Some.is) c.in-None-title.is
+
+pub returns : goal.returns
+returns c =
+    record {
+      drawn = of_first c.args.renderer.now c.args.groups.now c.in-Some.group.now c.in-Some-title.title c.short_form.result
+          (sym c.first.ensures.value ∙ ap option_copied c.in-Some.is) c.in-Some-title.is c.short_form.ensures.level c.short_form.ensures.rows;
+    }

@@ -1,0 +1,21 @@
+use Rattle.std.specs.Option.{option_copied}
+use Rattle.std.proofs.lemmas.Result.{IfOk-weaker}
+use Rattle.annotate_snippets.specs.DrawnReport.{IsGridAt, IsGroupGrid}
+use Rattle.annotate_snippets.proofs.GridRows.{grid_at, room_at}
+use Rattle.annotate_snippets.proofs.renderer.graphic.draw_at.Goals as goal
+
+pub draw_group-requires-clause-room : goal.draw_group-requires-clause-room
+draw_group-requires-clause-room c =
+    room_at c.args.renderer.now c.args.report.now.groups.now c.args.number c.args.group c.group_context-around.result.layout c.requires.drawable
+    c.requires.prepared c.requires.here c.group_context-around.ensures.layout
+
+pub returns-clause-drawn : goal.returns-clause-drawn
+returns-clause-drawn c =
+    let r = c.args.renderer.now in
+    let groups = c.args.report.now.groups.now in
+    let g = c.args.group.group.now in
+    let around = c.group_context-around.result in
+    IfOk-weaker c.draw_group.result (λ grid. IsGroupGrid r around.layout around.place (option_copied around.file) g grid.buffer)
+    (IsGridAt r groups c.args.number g)
+    (λ grid drawn. grid_at r groups c.args.number g grid around.layout around.place (option_copied around.file) c.group_context-around.ensures.layout
+    c.group_context-around.ensures.place c.group_context-around.ensures.file drawn) c.draw_group.ensures.drawn

@@ -1,0 +1,17 @@
+use Rattle.std.proofs.Common.{◌∙◌, ap}
+use Rattle.std.specs.Option.{option_copied, option_or}
+use Rattle.annotate_snippets.specs.Around.{primary_path}
+use Rattle.annotate_snippets.proofs.GridRows.{copied_or, layout_is}
+use Rattle.annotate_snippets.proofs.renderer.graphic.group_context.Goals as goal
+
+pub returns-clause-layout : goal.returns-clause-layout
+returns-clause-layout c =
+    layout_is c.args.renderer.now c.args.report.now.groups.now c.args.group.now.group.now c.layout_for-layout.result c.args.report.now.gutter
+    c.depth.result c.requires.gutter c.depth.ensures.value c.layout_for-layout.ensures.gutter c.layout_for-layout.ensures.code
+    c.layout_for-layout.ensures.decor
+
+pub returns-clause-file : goal.returns-clause-file
+returns-clause-file c =
+    ap option_copied c.or-file.ensures ∙ copied_or c.primary_path.result c.args.report.now.file
+    ∙ ap (λ path. option_or path (option_copied c.args.report.now.file)) c.primary_path.ensures.value
+    ∙ ap (option_or (primary_path c.args.group.now.group.now)) c.requires.file

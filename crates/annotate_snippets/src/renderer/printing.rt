@@ -1,0 +1,268 @@
+//! The text of a group under one sheet. Rows that nothing changes any more are printed, and only those below them stand
+//! in a grid; so a title or message of plain text needs none.
+//!
+//! ```text
+//! error: unused                printed while it is written
+//!   |                          drawn in a grid, and printed before the message
+//! 1 | let x = 1;
+//!   |     ^
+//!   |
+//!   = note: `x` isn't read     printed while it is written
+//! ```
+ghost use Rattle.std.specs.Prelude.{◌≡◌, ◌++◌, [], All, Bool, IfOk, IfSome, List, OnOk, false, map, string_bytes};
+ghost use Rattle.std.specs.Prelude.{true, ℕ};
+ghost use Rattle.std.specs.Option.{option_copied};
+ghost use Rattle.snippet_grid.specs.Woven.{WeavesRows};
+ghost use Rattle.snippet_model.specs.Heading.{heading_of_message, heading_of_title};
+ghost use Rattle.snippet_model.specs.declared.snippet.Element.TheVariants as element;
+ghost use Rattle.snippet_style.specs.Cell.{Cell};
+ghost use Rattle.snippet_titles.specs.HeadingRows.{heading_rows};
+ghost use Rattle.snippet_titles.specs.PrintedHeading.{IsPlainHeading};
+ghost use Rattle.snippet_titles.specs.Title.{title_rows};
+ghost use Rattle.annotate_snippets.specs.Around as spec;
+ghost use Rattle.annotate_snippets.specs.Around.{drawn_elements};
+ghost use Rattle.annotate_snippets.specs.DrawnReport.{HasRoomFor};
+ghost use Rattle.annotate_snippets.specs.PreparedReport.{IsElementPrepared, IsGroupPrepared, element_of};
+ghost use Rattle.annotate_snippets.specs.Printing.{IsGroupPrinted, IsPrinting, PrintsElements};
+ghost use Rattle.annotate_snippets.specs.RowsWithoutSource.{title_part};
+
+use crate::renderer::Renderer;
+use crate::renderer::element_context::{GroupContext, contexts_of, next_of};
+use crate::renderer::elements::{draw_element, message_style};
+use crate::renderer::page::fed;
+use crate::renderer::preprocess::{PreparedElement, PreparedGroup};
+use crate::renderer::title::{draw_below_title, draw_title};
+use snippet_grid::{SheetCodes, StyledBuffer};
+use snippet_model::snippet::{Message, Title};
+use snippet_style::LevelInner;
+use snippet_titles::{TitleStyle, is_plain_heading, print_heading};
+use std::alloc::{AllocError, Global};
+use std::mem;
+
+/// A group that is being printed.
+#[derive(Drop)]
+pub struct Printing<'a> {
+    /// The level that it is printed in.
+    pub level: LevelInner,
+    /// What stood there before it, and those of its rows that are printed.
+    pub text: String,
+    /// Whether one is printed.
+    pub begun: bool,
+    /// The rows below these.
+    pub buffer: StyledBuffer<'a>,
+}
+
+/// Prints a group after what stands there before it, of which nothing is printed yet.
+///
+/// # Errors
+///
+/// There is no memory for the rows or for the text.
+pub fn print_group<'a>(
+    alloc: Global,
+    page: &mut Printing<'a>,
+    codes: &mut SheetCodes,
+    renderer: &Renderer,
+    around: &GroupContext<'_>,
+    group: PreparedGroup<'a>,
+) -> Result<(), AllocError>
+    requires unbegun { page.old.begun ≡ false }
+    requires empty { page.old.buffer ≡ [] }
+    requires prepared { IsGroupPrepared group }
+    requires room { All (λ e. HasRoomFor renderer.now around.now.layout (element_of e)) group.elements.items }
+    ensures sheet { codes.new ≡ codes.old }
+    ensures empty { OnOk result (page.new.buffer ≡ []) }
+    ensures printed { OnOk result (IsGroupPrinted codes.old page.old.level renderer.now around.now.layout
+        around.now.place (option_copied around.now.file) group.entry.group.now (string_bytes page.old.text)
+        (string_bytes page.new.text)) }
+{
+    add_title(alloc, page, codes, renderer, around, &group)?;
+    add_elements(alloc, page, codes, renderer, around, group.elements)
+}
+
+/// Adds a group's title, if it has one, and what stands below that. A title of plain text is printed.
+fn add_title<'a>(
+    alloc: Global,
+    page: &mut Printing<'a>,
+    codes: &mut SheetCodes,
+    renderer: &Renderer,
+    around: &GroupContext<'_>,
+    group: &PreparedGroup<'a>,
+) -> Result<(), AllocError>
+    requires unbegun { page.old.begun ≡ false }
+    requires empty { page.old.buffer ≡ [] }
+    requires prepared { IsGroupPrepared group.now }
+    ensures sheet { codes.new ≡ codes.old }
+    ensures level { OnOk result (page.new.level ≡ page.old.level) }
+    ensures printed { OnOk result (IsPrinting codes.old page.old.level (string_bytes page.old.text) page.new
+        (title_part renderer.now around.now.layout around.now.place (spec.next_of (drawn_elements group.now.group.now))
+        group.now.group.now.title)) }
+{
+    let Some(title) = &group.group.title else {
+        return Ok(());
+    };
+    let next = next_of(&group.elements);
+    if is_plain_title(renderer.hyperlink, title) {
+        add_plain_title(alloc, page, codes, title)?;
+        draw_below_title(&mut page.buffer, around, next, title)
+    } else {
+        draw_title(alloc, &mut page.buffer, renderer, around, next, title)
+    }
+}
+
+/// Whether a title stands in one row that links to nothing.
+fn is_plain_title(hyperlink: bool, title: &Title<'_>) -> bool
+    ensures yes { result ≡ true → IsPlainHeading hyperlink (heading_of_title title.now) }
+{
+    is_plain_heading(hyperlink, title)
+}
+
+/// Prints the one row of a title below all rows of its group.
+fn add_plain_title(
+    alloc: Global,
+    page: &mut Printing<'_>,
+    codes: &mut SheetCodes,
+    title: &Title<'_>,
+) -> Result<(), AllocError>
+    ensures sheet { codes.new ≡ codes.old }
+    ensures level { OnOk result (page.new.level ≡ page.old.level) }
+    ensures printed { OnOk result ((hyperlink : Bool) (old : List ℕ) (rows : List (List Cell))
+        → IsPlainHeading hyperlink (heading_of_title title.now)
+        → IsPrinting codes.old page.old.level old page.old rows
+        → IsPrinting codes.old page.old.level old page.new (rows ++ title_rows hyperlink title.now)) }
+{
+    flush(alloc, page, codes)?;
+    let text = mem::replace(&mut page.text, String::new(alloc));
+    let lead = fed(text, !page.begun)?;
+    page.text = print_title(alloc, lead, page.level, codes, title)?;
+    page.begun = true;
+    Ok(())
+}
+
+/// A text, and after it the one row of a title.
+fn print_title(
+    alloc: Global,
+    before: String,
+    level: LevelInner,
+    codes: &mut SheetCodes,
+    title: &Title<'_>,
+) -> Result<String, AllocError>
+    ensures sheet { codes.new ≡ codes.old }
+    ensures rows { IfOk result (λ text. (hyperlink : Bool) → IsPlainHeading hyperlink (heading_of_title title.now)
+        → WeavesRows codes.old level (title_rows hyperlink title.now) (string_bytes before) (string_bytes text)) }
+{
+    print_heading(alloc, before, level, codes, TitleStyle::Title, title)
+}
+
+/// Adds a group's elements below all its rows, and prints what isn't printed then.
+fn add_elements<'a>(
+    alloc: Global,
+    page: &mut Printing<'a>,
+    codes: &mut SheetCodes,
+    renderer: &Renderer,
+    group: &GroupContext<'_>,
+    elements: Vec<PreparedElement<'a>>,
+) -> Result<(), AllocError>
+    requires prepared { All IsElementPrepared elements.items }
+    requires room { All (λ e. HasRoomFor renderer.now group.now.layout (element_of e)) elements.items }
+    ensures sheet { codes.new ≡ codes.old }
+    ensures empty { OnOk result (page.new.buffer ≡ []) }
+    ensures printed { OnOk result ((old : List ℕ) (above : List (List Cell))
+        → IsPrinting codes.old page.old.level old page.old above
+        → PrintsElements codes.old page.old.level renderer.now group.now.layout group.now.place
+        (option_copied group.now.file) (map element_of elements.entry.items) above old (string_bytes page.new.text)) }
+{
+    let around = contexts_of(alloc, group.place, group.file, &elements)?;
+    for (i, element) in elements.into_iter().enumerate() {
+        let place = around[i];
+        if let Some(message) = plain_message(renderer.hyperlink, &element) {
+            let style = message_style(group.layout, place);
+            add_message(alloc, page, codes, style, message)?;
+        } else {
+            draw_element(
+                alloc,
+                &mut page.buffer,
+                renderer,
+                group.layout,
+                place,
+                element,
+            )?;
+        }
+    }
+    flush(alloc, page, codes)?;
+    Ok(())
+}
+
+/// The message that an element is, if it stands in one row that links to nothing.
+fn plain_message<'a>(hyperlink: bool, next: &PreparedElement<'a>) -> Option<&'a Message<'a>>
+    ensures is { IfSome result (λ message. element_of next.now ≡ element.Message message.now) }
+    ensures plain { IfSome result (λ message. IsPlainHeading hyperlink (heading_of_message message.now)) }
+{
+    match next {
+        PreparedElement::Message(message) if is_plain_heading(hyperlink, *message) => Some(
+            *message,
+        ),
+        _ => None,
+    }
+}
+
+/// Prints the one row of a message below all rows of its group.
+fn add_message(
+    alloc: Global,
+    page: &mut Printing<'_>,
+    codes: &mut SheetCodes,
+    style: TitleStyle,
+    message: &Message<'_>,
+) -> Result<(), AllocError>
+    ensures sheet { codes.new ≡ codes.old }
+    ensures level { OnOk result (page.new.level ≡ page.old.level) }
+    ensures printed { OnOk result ((hyperlink : Bool) (old : List ℕ) (rows : List (List Cell))
+        → IsPlainHeading hyperlink (heading_of_message message.now)
+        → IsPrinting codes.old page.old.level old page.old rows
+        → IsPrinting codes.old page.old.level old page.new
+        (rows ++ heading_rows hyperlink style (heading_of_message message.now))) }
+{
+    flush(alloc, page, codes)?;
+    let text = mem::replace(&mut page.text, String::new(alloc));
+    let lead = fed(text, !page.begun)?;
+    page.text = print_message(alloc, lead, page.level, codes, style, message)?;
+    page.begun = true;
+    Ok(())
+}
+
+/// A text, and after it the one row of a message.
+fn print_message(
+    alloc: Global,
+    before: String,
+    level: LevelInner,
+    codes: &mut SheetCodes,
+    style: TitleStyle,
+    message: &Message<'_>,
+) -> Result<String, AllocError>
+    ensures sheet { codes.new ≡ codes.old }
+    ensures rows { IfOk result (λ text. (hyperlink : Bool)
+        → IsPlainHeading hyperlink (heading_of_message message.now)
+        → WeavesRows codes.old level (heading_rows hyperlink style (heading_of_message message.now))
+        (string_bytes before) (string_bytes text)) }
+{
+    print_heading(alloc, before, level, codes, style, message)
+}
+
+/// Prints the rows of a group that stand in its grid.
+fn flush(alloc: Global, page: &mut Printing<'_>, codes: &mut SheetCodes) -> Result<(), AllocError>
+    ensures sheet { codes.new ≡ codes.old }
+    ensures level { OnOk result (page.new.level ≡ page.old.level) }
+    ensures empty { OnOk result (page.new.buffer ≡ []) }
+    ensures printed { OnOk result ((old : List ℕ) (rows : List (List Cell))
+        → IsPrinting codes.old page.old.level old page.old rows
+        → IsPrinting codes.old page.old.level old page.new rows) }
+{
+    if page.buffer.num_lines() == 0 {
+        return Ok(());
+    }
+    let text = mem::replace(&mut page.text, String::new(alloc));
+    let lead = fed(text, !page.begun)?;
+    page.text = page.buffer.render_after(lead, page.level, codes)?;
+    page.buffer.clear();
+    page.begun = true;
+    Ok(())
+}

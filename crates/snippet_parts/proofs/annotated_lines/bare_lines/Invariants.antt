@@ -1,0 +1,8 @@
+use Rattle.std.proofs.Common.{◌≡◌, [], map, take}
+use Rattle.snippet_parts.specs.Annotated.{seen_kept}
+use Rattle.snippet_parts.specs.KeptEntries.{line_with}
+use Rattle.snippet_parts.proofs.annotated_lines.bare_lines.Given as goal
+
+-- the lines so far
+abbrev pub invariant-loop-line : goal.invariant-loop-line
+invariant-loop-line l = map seen_kept l.lines.items ≡ map (line_with l.source l.seen []) (take l.line-index l.kept)

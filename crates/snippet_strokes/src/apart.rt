@@ -1,0 +1,131 @@
+//! Strokes that stand side by side in the row of the marks.
+ghost use Rattle.std.specs.Prelude.{◌≡◌, ◌-◌, ◌^◌, true, All, OnOk, length};
+ghost use Rattle.snippet_labels.specs.PlacedEntries.{HasPlace, label_text};
+ghost use Rattle.snippet_labels.specs.Positions.{HasItsLabel};
+ghost use Rattle.snippet_strokes.specs.Apart as spec;
+ghost use Rattle.snippet_strokes.specs.Apart.{FitsBefore, StandApart, strokes_apart, strokes_of_part};
+ghost use Rattle.snippet_strokes.specs.Drawing.{AreEnough};
+ghost use Rattle.snippet_strokes.specs.Writes.{painted};
+ghost use Rattle.snippet_style.specs.Bounds.{FitsRow};
+
+use crate::connectors::draw_connectors;
+use crate::corners::draw_corners;
+use crate::labels::draw_labels;
+use crate::marks::paint_entries;
+use snippet_grid::{Layout, StyledBuffer};
+use snippet_labels::PlacedEntry;
+use std::alloc::{AllocError, Global};
+
+/// How many columns there are at most between the end of a mark and its label.
+const GAP: usize = 2;
+
+/// Whether the strokes of each of some entries, which are given from right to left, stand in the row of the marks, and
+/// end before those of the one right of it begin.
+///
+/// ```text
+///       | ^^^^ a  -- b   ^ c
+/// ```
+pub(crate) fn stand_apart(placed: &[PlacedEntry]) -> bool
+    requires columns { All (λ e. HasPlace e.entry) placed.now }
+    ensures yes { result ≡ true → StandApart (2 ^ 64 - 1) placed.now }
+{
+    let mut free = usize::MAX;
+    for entry in placed {
+        if !fits_before(entry, free) {
+            return false;
+        }
+        free = free_before(entry, free);
+    }
+    true
+}
+
+/// Whether the strokes of an entry stand in the row of the marks, and end before this column.
+#[inline(always)]
+fn fits_before(placed: &PlacedEntry, free: usize) -> bool
+    requires columns { HasPlace placed.now.entry }
+    ensures yes { result ≡ true → FitsBefore free placed.now }
+{
+    placed.position == 0
+        && reach(placed) <= free
+        && (!placed.takes_space() || placed.entry.start.display < free)
+}
+
+/// Where nothing stands in the row of the marks before this column, how far that is so with the strokes of an entry.
+#[inline(always)]
+fn free_before(placed: &PlacedEntry, free: usize) -> usize
+    requires columns { HasPlace placed.now.entry }
+    ensures value { result ≡ spec.free_before placed.now free }
+{
+    if placed.takes_space() {
+        return 0;
+    }
+    if reach(placed) == 0 {
+        free
+    } else {
+        placed.entry.start.display
+    }
+}
+
+/// The column before which the strokes of an entry end, where they stand in the row of the marks.
+#[inline(always)]
+fn reach(placed: &PlacedEntry) -> usize
+    requires columns { HasPlace placed.now.entry }
+    ensures value { result ≡ spec.reach placed.now }
+{
+    let end = placed.entry.end.display;
+    if placed.has_label() {
+        end + (GAP + placed.label.as_str().len())
+    } else if placed.takes_space() {
+        end + 1
+    } else {
+        end
+    }
+}
+
+/// Draws the strokes of entries that stand apart, of which the source row has this number, from left to right: each is
+/// written after all that is drawn.
+///
+/// # Errors
+///
+/// There is no memory for the cells.
+pub(crate) fn draw_apart(
+    alloc: Global,
+    buffer: &mut StyledBuffer,
+    layout: Layout,
+    row: usize,
+    placed: &[PlacedEntry],
+) -> Result<(), AllocError>
+    requires enough { AreEnough layout row (length buffer.old) placed.now }
+    requires labels { All HasItsLabel placed.now }
+    requires short { All (λ e. FitsRow (label_text e.entry)) placed.now }
+    ensures painted { OnOk result (buffer.new ≡ painted (strokes_apart layout row (length buffer.old) placed.now)
+        buffer.old) }
+    ensures count { OnOk result (length buffer.new ≡ length buffer.old) }
+{
+    for i in (0..placed.len()).rev() {
+        draw_part(alloc, buffer, layout, row, &placed[i..i + 1])?;
+    }
+    Ok(())
+}
+
+/// Draws the strokes of some entries that have no stem: the bars beside them, the lines to these, the marks, and the
+/// labels.
+fn draw_part(
+    alloc: Global,
+    buffer: &mut StyledBuffer,
+    layout: Layout,
+    row: usize,
+    part: &[PlacedEntry],
+) -> Result<(), AllocError>
+    requires enough { AreEnough layout row (length buffer.old) part.now }
+    requires labels { All HasItsLabel part.now }
+    requires short { All (λ e. FitsRow (label_text e.entry)) part.now }
+    ensures painted { OnOk result (buffer.new ≡ painted (strokes_of_part layout row (length buffer.old) part.now)
+        buffer.old) }
+    ensures count { OnOk result (length buffer.new ≡ length buffer.old) }
+{
+    draw_corners(buffer, layout, row, part)?;
+    draw_connectors(alloc, buffer, layout, row + 1, part)?;
+    paint_entries(alloc, buffer, layout, row + 1, part)?;
+    draw_labels(buffer, layout, row + 1, part)
+}

@@ -1,0 +1,266 @@
+-- A line that is put into a row part by part, where some of it has a role.
+use Rattle.std.proofs.Common.{◌≡◌, ℕ, zero, suc, ◌+◌, ◌-◌, ◌≤◌, ◌<◌, ◌==◌, true, List, [], ◌∷◌, ◌++◌, length, map, max, take, drop, replicate, get_or, refl}
+use Rattle.std.proofs.Common.{sym}
+use Rattle.std.proofs.Common.{All, ap, ◌∙◌, arith, chars, count_by, subst}
+use Rattle.std.proofs.lemmas.Bool.Decides.{nat_tests}
+use Rattle.std.proofs.lemmas.List.{append-nil, get_or-drop, get_or-take, length-append, length-drop, length-map, length-take, places, same_lists, take_all}
+use Rattle.std.proofs.lemmas.List.{drop_more, take_more}
+use Rattle.std.specs.Str.{IsCharBoundary}
+use Rattle.snippet_style.specs.Bounds.{max_usize}
+use Rattle.snippet_style.specs.declared.role.ElementStyle.{ElementStyle}
+use Rattle.snippet_style.specs.declared.role.ElementStyle.TheVariants.{NoStyle}
+use Rattle.snippet_style.specs.Cell.{Cell, SPACE, text_cells, unlinked_cell, written}
+use Rattle.snippet_style.proofs.CellLemmas.{length-text_cells, length-written, text_cells-append}
+use Rattle.snippet_text.specs.Normalized.{norm}
+use Rattle.snippet_text.specs.Plain.{IsPlain}
+use Rattle.snippet_text.proofs.NormLemmas.{norm-unlisted}
+use Rattle.snippet_text.proofs.PlainLemmas.{chars-plain, list_any-plain}
+use Rattle.snippet_grid.specs.Grid.{changed_within, restyled}
+use Rattle.snippet_splice.specs.declared.stretches.SubstitutionHighlight.{SubstitutionHighlight}
+use Rattle.snippet_suggest.specs.Cells.{put, stretch_cell, with_stretches}
+use Rattle.snippet_suggest.specs.InOrder.{AreInOrder}
+use Rattle.snippet_suggest.proofs.StretchRows.{empty_stretch, with_append, with_none}
+
+-- ---- lists
+
+-- a list that is written in two parts
+written_append : (row xs ys : List Cell) (at : ℕ) → written SPACE row at (xs ++ ys) ≡ written SPACE (written SPACE row at xs) (at + length xs) ys
+written_append row xs ys at =
+    same_lists _ _ (unfold written in grind (arith, places)) (λ k d h. unfold written in grind (arith, places))
+
+front_of : (xs ys zs : List Cell) (n : ℕ) → n ≡ length xs → take n (xs ++ ys ++ zs) ≡ xs
+front_of xs ys zs n is = same_lists _ _ (grind (arith, places)) (λ k d h. grind (arith, places))
+
+middle_of : (xs ys zs : List Cell) (n m : ℕ) → n ≡ length xs → m ≡ length ys → take m (drop n (xs ++ ys ++ zs)) ≡ ys
+middle_of xs ys zs n m is count = same_lists _ _ (grind (arith, places)) (λ k d h. grind (arith, places))
+
+back_of : (xs ys zs : List Cell) (n : ℕ) → n ≡ length xs + length ys → drop n (xs ++ ys ++ zs) ≡ zs
+back_of xs ys zs n is = same_lists _ _ (grind (arith, places)) (λ k d h. grind (arith, places))
+
+-- the middle part of a list is changed
+changed_middle : (f : Cell → Cell) (xs ys zs : List Cell) (n m : ℕ) → n ≡ length xs → m ≡ length xs + length ys
+    → changed_within f n m (xs ++ ys ++ zs) ≡ xs ++ map f ys ++ zs
+unfolding changed_within
+changed_middle f xs ys zs n m from to =
+    let all = xs ++ ys ++ zs in
+    ap (λ t. t ++ map f (take (m - n) (drop n all)) ++ drop (max n m) all) (front_of xs ys zs n from)
+    ∙ ap (λ t. xs ++ map f t ++ drop (max n m) all) (middle_of xs ys zs n (m - n) from (omega (arith, from, to)))
+    ∙ ap (λ t. xs ++ map f ys ++ t) (back_of xs ys zs (max n m) (omega (arith, from, to)))
+
+-- what is written is changed
+changed_written : (f : Cell → Cell) (row cells : List Cell) (at : ℕ)
+    → changed_within f at (at + length cells) (written SPACE row at cells) ≡ written SPACE row at (map f cells)
+unfolding written
+changed_written f row cells at =
+    let front = take at (row ++ replicate (at - length row) SPACE) in
+    let long : at ≡ length front = grind (arith, places) in
+    changed_middle f front cells (drop (at + length cells) row) at (at + length cells) long (omega (arith, long))
+    ∙ ap (λ n. front ++ map f cells ++ drop (at + n) row) (sym (length-map cells f))
+
+-- a change before what is written
+changed_before : (f : Cell → Cell) (front middle back cells : List Cell) (n m : ℕ) → n ≡ length front → m ≡ length front + length middle
+    → changed_within f n m (written SPACE (front ++ middle ++ back) m cells) ≡ written SPACE (front ++ map f middle ++ back) m cells
+changed_before f front middle back cells n m from to =
+    let after = drop (length cells) back in
+    let was : written SPACE (front ++ middle ++ back) m cells ≡ front ++ middle ++ (cells ++ after) =
+    same_lists _ _ (unfold written in grind (arith, places)) (λ k d h. unfold written in grind (arith, places)) in
+    let now : (mid : List Cell) → length mid ≡ length middle → written SPACE (front ++ mid ++ back) m cells ≡ front ++ mid ++ (cells ++ after) = λ mid same.
+    same_lists _ _ (unfold written in grind (arith, places)) (λ k d h. unfold written in grind (arith, places)) in
+    ap (changed_within f n m) was ∙ changed_middle f front middle (cells ++ after) n m from to ∙ sym (now (map f middle) (length-map middle f))
+
+-- ---- texts
+
+-- unstyled cells take a role
+restyled_text : (role : ElementStyle) (cs : List ℕ) → map (restyled role true) (text_cells NoStyle cs) ≡ text_cells role cs
+restyled_text role [] = refl
+restyled_text role (c ∷ cs) = ap (λ (t : List Cell). unlinked_cell role c ∷ t) (restyled_text role cs)
+
+-- a text that is put in two parts
+put_append : (role : ElementStyle) (xs ys : List ℕ) (at : ℕ) (row : List Cell) → put role (xs ++ ys) at row ≡ put role ys (at + length xs) (put role xs at row)
+unfolding put
+put_append role [] ys at row = let same : at ≡ at + 0 = omega arith in ap (λ n. put role ys n row) same
+put_append role (x ∷ xs) [] at row = ap (λ t. put role t at row) (append-nil (x ∷ xs))
+put_append role (x ∷ xs) (y ∷ ys) at row =
+    let front = text_cells role (x ∷ xs) in
+    let back = text_cells role (y ∷ ys) in
+    ap (λ t. written SPACE row at t) (text_cells-append role (x ∷ xs) (y ∷ ys)) ∙ written_append row front back at
+    ∙ ap (λ n. written SPACE (written SPACE row at front) (at + n) back) (length-text_cells role (x ∷ xs))
+
+-- a text that takes a role was put in that role
+put_restyled : (role : ElementStyle) (cs : List ℕ) (at : ℕ) (row : List Cell)
+    → changed_within (restyled role true) at (at + length cs) (put NoStyle cs at row) ≡ put role cs at row
+unfolding put
+put_restyled role [] at row =
+    let same : at + 0 ≡ at = omega arith in
+    ap (λ n. changed_within (restyled role true) at n row) same ∙ empty_stretch (restyled role true) at row
+put_restyled role (c ∷ cs) at row =
+    let f = restyled role true in
+    let cells = text_cells NoStyle (c ∷ cs) in
+    ap (λ n. changed_within f at (at + n) (written SPACE row at cells)) (sym (length-text_cells NoStyle (c ∷ cs))) ∙ changed_written f row cells at
+    ∙ ap (λ t. written SPACE row at t) (restyled_text role (c ∷ cs))
+
+-- what stands before a text takes a role before that is put or after
+put_after : (f : Cell → Cell) (role : ElementStyle) (cs : List ℕ) (n m : ℕ) (row : List Cell) → n ≤ m → m ≤ length row
+    → changed_within f n m (put role cs m row) ≡ put role cs m (changed_within f n m row)
+unfolding put
+put_after f role [] n m row low within = refl
+put_after f role (c ∷ cs) n m row low within =
+    let cells = text_cells role (c ∷ cs) in
+    let front = take n row in
+    let middle = take (m - n) (drop n row) in
+    let back = drop m row in
+    let is : row ≡ front ++ middle ++ back = same_lists _ _ (grind (arith, places)) (λ k d h. grind (arith, places)) in
+    let from : n ≡ length front = omega (arith, length-take n row) in
+    let to : m ≡ length front + length middle = omega (arith, from, length-take (m - n) (drop n row), length-drop n row) in
+    ap (λ r. changed_within f n m (written SPACE r m cells)) is ∙ changed_before f front middle back cells n m from to
+    ∙ ap (λ r. written SPACE r m cells) (sym (ap (changed_within f n m) is ∙ changed_middle f front middle back n m from to))
+
+put_long : (role : ElementStyle) (c : ℕ) (cs : List ℕ) (at : ℕ) (row : List Cell) → at + length (c ∷ cs) ≤ length (put role (c ∷ cs) at row)
+unfolding put
+put_long role c cs at row = omega (arith, length-written SPACE row at (text_cells role (c ∷ cs)), length-text_cells role (c ∷ cs))
+
+put_nothing : (role : ElementStyle) (at : ℕ) (row : List Cell) → put role [] at row ≡ row
+unfolding put
+put_nothing role at row = refl
+
+-- three texts that are put one after another, the middle one in a role: as they are put at once, and then it takes the role
+parts_put : (role : ElementStyle) (pre mid post : List ℕ) (at s e : ℕ) (row : List Cell) → s ≡ at + length pre → e ≡ s + length mid
+    → changed_within (restyled role true) s e (put NoStyle (pre ++ mid ++ post) at row) ≡ put NoStyle post e (put role mid s (put NoStyle pre at row))
+parts_put role pre mid post at s e row from to =
+    let f = restyled role true in
+    let start = put NoStyle pre at row in
+    let far : at + length (pre ++ mid) ≡ e = omega (arith, from, to, length-append pre mid) in
+    let whole : put NoStyle (pre ++ mid ++ post) at row ≡ put NoStyle post e (put NoStyle mid s start) = put_append NoStyle (pre ++ mid) post at row
+    ∙ ap (λ n. put NoStyle post n (put NoStyle (pre ++ mid) at row)) far ∙ ap (λ r. put NoStyle post e r) (put_append NoStyle pre mid at row
+    ∙ ap (λ n. put NoStyle mid n start) (sym from)) in
+    ap (changed_within f s e) whole ∙ by_middle mid start to
+  where
+    by_middle : (mid : List ℕ) (start : List Cell) → e ≡ s + length mid
+        → changed_within (restyled role true) s e (put NoStyle post e (put NoStyle mid s start)) ≡ put NoStyle post e (put role mid s start)
+    by_middle [] start to =
+        let same : e ≡ s = omega (arith, to) in
+        ap (λ n. changed_within (restyled role true) s n (put NoStyle post e (put NoStyle [] s start))) same
+        ∙ empty_stretch (restyled role true) s (put NoStyle post e (put NoStyle [] s start))
+        ∙ ap (λ r. put NoStyle post e r) (put_nothing NoStyle s start ∙ sym (put_nothing role s start))
+    by_middle (c ∷ cs) start to =
+        let f = restyled role true in
+        put_after f NoStyle post s e (put NoStyle (c ∷ cs) s start) (omega (arith, to)) (omega (arith, to, put_long NoStyle c cs s start))
+        ∙ ap (λ r. put NoStyle post e r) (ap (λ n. changed_within f s n (put NoStyle (c ∷ cs) s start)) to ∙ put_restyled role (c ∷ cs) s start)
+
+-- ---- printable ASCII
+
+-- it holds no tab
+no_tabs : (cs : List ℕ) → All IsPlain cs → (k : ℕ) → count_by (λ c. c == 9) (take k cs) ≡ 0
+no_tabs [] all zero = refl
+no_tabs [] all (suc k) = refl
+no_tabs (c ∷ cs) all zero = refl
+no_tabs (c ∷ cs) all (suc k) =
+    let low : 32 ≤ c = (all 0 c (omega arith)).0 in
+    let rest : count_by (λ c. c == 9) (take k cs) ≡ 0 = no_tabs cs (λ j d h. all (suc j) d (omega (arith, h))) k in
+    grind (arith, nat_tests, low, rest)
+
+-- so that each character before a cell takes one
+plain_cell : (g : ℕ) (line : List ℕ) (k : ℕ) → All IsPlain line → g + 3 + k ≤ max_usize → stretch_cell g line k ≡ g + 3 + k
+plain_cell g line k all few = omega (arith, few, no_tabs line all k)
+
+-- each of its bytes is a character
+pub plain_border : (line : List ℕ) (k : ℕ) → All IsPlain line → k ≤ length line → IsCharBoundary line k
+plain_border line k all within = (within, λ inside high. let low : get_or line k 0 < 127 = (all k 0 inside).1 in absurd (omega (arith, low, high)))
+
+pub plain_part : (line : List ℕ) (from count : ℕ) → All IsPlain line → chars (take count (drop from line)) ≡ take count (drop from line)
+plain_part line from count all =
+    let part = take count (drop from line) in
+    chars-plain part (λ j d h.
+    let few : j < count = omega (arith, h, length-take count (drop from line)) in
+    let within : from + j < length line = omega (arith, h, length-take count (drop from line), length-drop from line) in
+    subst IsPlain (sym (get_or-take count (drop from line) j d few ∙ get_or-drop from line j d)) (all (from + j) d within))
+
+pub plain_rest : (line : List ℕ) (from : ℕ) → All IsPlain line → chars (drop from line) ≡ drop from line
+plain_rest line from all =
+    chars-plain (drop from line) (λ j d h.
+    subst IsPlain (sym (get_or-drop from line j d)) (all (from + j) d (omega (arith, h, length-drop from line))))
+
+norm-plain_line : (line : List ℕ) → All IsPlain line → norm (chars line) ≡ line
+norm-plain_line line all = norm-unlisted (chars line) (list_any-plain line all) ∙ chars-plain line all
+
+-- ---- stretches in order
+
+-- they end in the line
+in_order_within : (end at : ℕ) (ss : List SubstitutionHighlight) → AreInOrder end at ss → at ≤ end
+in_order_within end at [] order = order
+in_order_within end at (s ∷ ss) order = omega (arith, order.0, order.1, in_order_within end s.end ss order.2)
+
+-- the next of some, and those after it
+pub record NextInOrder (end at : ℕ) (s : SubstitutionHighlight) (ss : List SubstitutionHighlight) : Type 0 where
+  pub low : at ≤ s.start
+  pub high : s.start ≤ s.end
+  pub inside : s.end ≤ end
+  pub rest : AreInOrder end s.end ss
+
+pub next_in_order : (end at : ℕ) (ss : List SubstitutionHighlight) (i : ℕ) (d : SubstitutionHighlight) → i < length ss → AreInOrder end at (drop i ss)
+    → NextInOrder end at (get_or ss i d) (drop (i + 1) ss)
+next_in_order end at ss i d within order =
+    let next = subst (AreInOrder end at) (drop_more ss i d within) order in
+    record { low = next.0; high = next.1; inside = in_order_within end (get_or ss i d).end (drop (i + 1) ss) next.2; rest = next.2 }
+
+-- ---- the line
+
+-- some of a line's stretches were put into its row, up to a character: with the rest of the line after them the row is that of the
+-- line, with these stretches of it in their role
+pub record ArePut (role : ElementStyle) (g : ℕ) (line : List ℕ) (ss : List SubstitutionHighlight) (at : ℕ) (above : List (List Cell)) (last : List Cell)
+    (rows : List (List Cell)) : Type 0 where
+  pub row : List Cell
+  pub is : rows ≡ above ++ row ∷ []
+  pub left : put NoStyle (drop at line) (g + 3 + at) row ≡ with_stretches role g line ss (put NoStyle line (g + 3) last)
+
+-- none were
+pub put_none_yet : (role : ElementStyle) (g : ℕ) (line : List ℕ) (ss : List SubstitutionHighlight) (above : List (List Cell)) (last : List Cell)
+    (rows : List (List Cell)) → rows ≡ above ++ last ∷ [] → ArePut role g line (take 0 ss) 0 above last rows
+put_none_yet role g line ss above last rows is =
+    let same : g + 3 + 0 ≡ g + 3 = omega arith in
+    record {
+      row = last;
+      is = is;
+      left = ap (λ n. put NoStyle line n last) same ∙ sym (with_none role g line (put NoStyle line (g + 3) last));
+    }
+
+-- one more was
+pub put_one_more : (role : ElementStyle) (g : ℕ) (line : List ℕ) (ss : List SubstitutionHighlight) (i : ℕ) (d : SubstitutionHighlight) (at : ℕ)
+    (above : List (List Cell)) (last : List Cell) (old rows : List (List Cell)) (p : ArePut role g line (take i ss) at above last old) → i < length ss
+    → All IsPlain line → g + 3 + length line ≤ max_usize → at ≤ (get_or ss i d).start → (get_or ss i d).start ≤ (get_or ss i d).end
+    → (get_or ss i d).end ≤ length line
+    → rows ≡ above ++ put role (take ((get_or ss i d).end - (get_or ss i d).start) (drop (get_or ss i d).start line)) (g + 3 + (get_or ss i d).start)
+    (put NoStyle (take ((get_or ss i d).start - at) (drop at line)) (g + 3 + at) p.row) ∷ []
+    → ArePut role g line (take (i + 1) ss) (get_or ss i d).end above last rows
+put_one_more role g line ss i d at above last old rows p within all few low high inside is =
+    let s : SubstitutionHighlight = get_or ss i d in
+    let pre = take (s.start - at) (drop at line) in
+    let mid = take (s.end - s.start) (drop s.start line) in
+    let post = drop s.end line in
+    let f = restyled role true in
+    let from : ℕ = g + 3 + s.start in
+    let to : ℕ = g + 3 + s.end in
+    let first : from ≡ g + 3 + at + length pre = omega (arith, length-take (s.start - at) (drop at line), length-drop at line, low, high, inside) in
+    let second : to ≡ from + length mid = omega (arith, length-take (s.end - s.start) (drop s.start line), length-drop s.start line, high, inside) in
+    let whole : pre ++ mid ++ post ≡ drop at line = same_lists _ _ (grind (arith, places)) (λ k d h. grind (arith, places)) in
+    let so_far = with_stretches role g line (take i ss) (put NoStyle line (g + 3) last) in
+    record {
+      row = put role mid from (put NoStyle pre (g + 3 + at) p.row);
+      is = is;
+      left = sym (parts_put role pre mid post (g + 3 + at) from to p.row first second)
+          ∙ ap (λ t. changed_within f from to (put NoStyle t (g + 3 + at) p.row)) whole ∙ ap (changed_within f from to) p.left
+          ∙ ap (λ n. changed_within f n to so_far) (sym (plain_cell g line s.start all (omega (arith, few, high, inside))))
+          ∙ ap (λ n. changed_within f (stretch_cell g line s.start) n so_far) (sym (plain_cell g line s.end all (omega (arith, few, inside))))
+          ∙ sym (with_append role g line (take i ss) s (put NoStyle line (g + 3) last))
+          ∙ ap (λ t. with_stretches role g line t (put NoStyle line (g + 3) last)) (sym (take_more ss i d within));
+    }
+
+-- all were, and the rest after them
+pub put_all : (role : ElementStyle) (g : ℕ) (line : List ℕ) (ss : List SubstitutionHighlight) (i at : ℕ) (above : List (List Cell)) (last : List Cell)
+    (old rows : List (List Cell)) (p : ArePut role g line (take i ss) at above last old) → length ss ≤ i → All IsPlain line
+    → rows ≡ above ++ put NoStyle (drop at line) (g + 3 + at) p.row ∷ []
+    → rows ≡ above ++ with_stretches role g (chars line) ss (put NoStyle (norm (chars line)) (g + 3) last) ∷ []
+put_all role g line ss i at above last old rows p done all is =
+    is ∙ ap (λ (r : List Cell). above ++ r ∷ []) (p.left ∙ ap (λ t. with_stretches role g line t (put NoStyle line (g + 3) last)) (take_all i ss done)
+    ∙ ap (λ t. with_stretches role g line ss (put NoStyle t (g + 3) last)) (sym (norm-plain_line line all))
+    ∙ ap (λ t. with_stretches role g t ss (put NoStyle (norm (chars line)) (g + 3) last)) (sym (chars-plain line all)))

@@ -1,0 +1,7 @@
+use Rattle.std.proofs.Common.{◌++◌, ap, List, ℕ}
+use Rattle.std.proofs.lemmas.Str.{chars-nil}
+use Rattle.snippet_style.specs.Cell.{text_cells}
+use Rattle.snippet_titles.proofs.short.no_id.Goals as goal
+
+pub returns : goal.returns
+returns c = record { cells = λ role. ap (λ (cs : List ℕ). (text_cells role cs ++ text_cells role cs) ++ text_cells role cs) chars-nil }
