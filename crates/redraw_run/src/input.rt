@@ -111,7 +111,7 @@ impl Reading {
         }
     }
 
-    /// Takes a line that begins as an object does.
+    /// Takes a line that begins as an object does. One that isn't JSON and begins with blanks is handed on.
     fn object<S: SourceFiles + Drop, W: Write, V: Write>(
         &mut self,
         line: &str,
@@ -129,31 +129,11 @@ impl Reading {
         let read = json_of(self.alloc, line, &mut self.scratch)?;
         match read {
             Ok(value) => self.value(&value, Some(bytes), drawing, out, err),
-            Err(error) => self.not_json(line, bytes, &error, drawing, out, err),
-        }
-    }
-
-    /// Takes a line that begins as an object does and isn't JSON: one that begins with blanks is handed on.
-    fn not_json<S: SourceFiles + Drop, W: Write, V: Write>(
-        &mut self,
-        line: &str,
-        bytes: &[u8],
-        error: &serde_json::Error,
-        drawing: &mut Drawing<'_, S>,
-        out: &mut Stream<W>,
-        err: &mut Stream<V>,
-    ) -> Result<(), Stop>
-        ensures advances { IsTextOf bytes.now line.now → begins_object line.now ≡ true → Reads line.now None
-            → self.old.document ≡ None → Advances result bytes.now
-            (document_of self.old.document) (document_of self.new.document)
-            (standing drawing.old (known W.contents out.old) (known V.contents err.old))
-            (standing drawing.new (known W.contents out.new) (known V.contents err.new)) }
-    {
-        if line.starts_with('{') {
-            self.no_value(line, error, drawing, err)
-        } else {
-            self.has_others = true;
-            drawing.hand_on(bytes, out)
+            Err(error) if line.starts_with('{') => self.no_value(line, &error, drawing, err),
+            Err(_) => {
+                self.has_others = true;
+                drawing.hand_on(bytes, out)
+            }
         }
     }
 

@@ -1,9 +1,10 @@
-use Rattle.std.proofs.Common.{None, Some, refl, ◌∙◌}
+use Rattle.std.proofs.Common.{None, Some, inr, refl, ◌∙◌}
 use Rattle.serde_json.specs.View.{view}
-use Rattle.redraw_run.specs.Fates.{IsFateOfLine, IsValue, Reads}
+use Rattle.redraw_run.specs.Fates.{IsFateOfLine, IsHandedOn, IsValue, Reads}
 use Rattle.redraw_run.proofs.Doing.{goes_as}
 use Rattle.redraw_run.proofs.Done.{does_same}
-use Rattle.redraw_run.proofs.Lined.{advances_alone, advances_err, line_value, match_err, match_ok, no_document}
+use Rattle.program.specs.Standing.{known}
+use Rattle.redraw_run.proofs.Lined.{advances_alone, advances_err, advances_open, line_handed, line_value, match_err, match_ok, no_document}
 use Rattle.redraw_run.proofs.input.Reading.object.Goals as goal
 
 pub returns-in_err-read : goal.returns-in_err-read
@@ -34,5 +35,19 @@ returns-in-Err g c =
           let reads : Reads c.args.line.now None =
           match_err (λ v. Reads c.args.line.now (Some (view v))) (λ e. Reads c.args.line.now None) c.in_ok-read.read c.in-Err.error c.in-Err.is
           c.in_ok-read.ensures.reads in
-          c.not_json.ensures.advances is begins reads was;
+          advances_open c.no_value.result c.args.bytes.now c.args.line.now _ _ _ _ is begins (inr reads) (no_document _ was)
+          c.no_value.ensures.memory (c.no_value.ensures.leaves (known g.W.Write.contents c.args.out.now));
+    }
+
+pub returns-in-Err-2 : goal.returns-in-Err-2
+returns-in-Err-2 g c =
+    record {
+      advances = λ is begins was.
+          let reads : Reads c.args.line.now None =
+          match_err (λ v. Reads c.args.line.now (Some (view v))) (λ e. Reads c.args.line.now None) c.in_ok-read.read c.in-Err.error c.in-Err.is
+          c.in_ok-read.ensures.reads in
+          advances_alone c.hand_on.result c.args.bytes.now _ _ _ _ (no_document _ was) (no_document _ was)
+          (goes_as (IsHandedOn c.args.bytes.now) (IsFateOfLine c.args.bytes.now) _ _ c.hand_on.result
+          (λ ds h. line_handed c.args.bytes.now c.args.line.now _ ds is begins (inr reads) h)
+          (c.hand_on.ensures.does _));
     }
