@@ -10,7 +10,7 @@ use Rattle.std.specs.declared.borrow.CowStr.{CowStr}
 use Rattle.std.specs.declared.alloc.Global.{Global}
 use Rattle.std.specs.declared.ops.Range.{Range}
 use Rattle.snippet_context.specs.Context.{context_spans, visible_mark}
-use Rattle.snippet_context.specs.WithContext.{IsElementSound, IsElementWithContext, IsGroupSound, IsGroupWithContext, IsPartOf}
+use Rattle.snippet_context.specs.WithContext.{IsElementSound, IsElementWithContext, IsGroupSound, IsGroupWithContext, HoldsSpan}
 use Rattle.snippet_context.specs.WithContext.{IsSnippetWithContext}
 use Rattle.snippet_lines.proofs.LinesLemmas.{length-source_lines}
 use Rattle.snippet_model.specs.Fits.{AnnotationFits, ElementFits, GroupFits, ReportFits, TextFits, TitleFits}
@@ -44,16 +44,16 @@ module _ (group element : ℕ) (source : List ℕ) where
   faults_of n marks = faults_from (λ m (a : Annotation). span_faults group element source m a.span) n marks
 
   -- annotations of parts of the source have none
-  parts-clear : (n : ℕ) (spans : List (Range ℕ)) → All (IsPartOf source) spans → faults_of n (map visible_mark spans) ≡ []
+  parts-clear : (n : ℕ) (spans : List (Range ℕ)) → All (HoldsSpan source) spans → faults_of n (map visible_mark spans) ≡ []
   parts-clear n [] parts = refl
   parts-clear n (span ∷ spans) parts =
-      let part : IsPartOf source span = All-head (IsPartOf source) span spans parts in
+      let part : HoldsSpan source span = All-head (HoldsSpan source) span spans parts in
       ap (λ (fault : Option SpanFault). option_to_list (option_map (refusal_of group element n) fault) ++ faults_of (n + 1) (map visible_mark spans))
       (span-faultless source span.start span.end part.ordered part.from part.to)
-      ∙ parts-clear (n + 1) spans (All-tail (IsPartOf source) span spans parts)
+      ∙ parts-clear (n + 1) spans (All-tail (HoldsSpan source) span spans parts)
 
   -- so they add none to those before them
-  added-clear : (n : ℕ) (marks : List Annotation) (spans : List (Range ℕ)) → All (IsPartOf source) spans
+  added-clear : (n : ℕ) (marks : List Annotation) (spans : List (Range ℕ)) → All (HoldsSpan source) spans
       → faults_of n (marks ++ map visible_mark spans) ≡ faults_of n marks
   added-clear n [] spans parts = parts-clear n spans parts
   added-clear n (a ∷ marks) spans parts =

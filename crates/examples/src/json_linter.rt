@@ -25,19 +25,19 @@ struct Comma {
 
 /// Where a walk through a text is.
 #[derive(Clone, Copy)]
-enum Place {
+enum TextState {
     Outside,
     InString,
     AfterBackslash,
 }
 
 /// Where the walk is after this byte.
-fn place_after(place: Place, byte: u8) -> Place {
+fn place_after(place: TextState, byte: u8) -> TextState {
     match (place, byte) {
-        (Place::Outside, b'"') => Place::InString,
-        (Place::InString, b'"') => Place::Outside,
-        (Place::InString, b'\\') => Place::AfterBackslash,
-        (Place::AfterBackslash, _) => Place::InString,
+        (TextState::Outside, b'"') => TextState::InString,
+        (TextState::InString, b'"') => TextState::Outside,
+        (TextState::InString, b'\\') => TextState::AfterBackslash,
+        (TextState::AfterBackslash, _) => TextState::InString,
         (same, _) => same,
     }
 }
@@ -54,15 +54,15 @@ fn open_comma(before: Option<usize>, at: usize, byte: u8) -> Option<usize> {
 /// The commas of a text that stand before a closing bracket.
 fn commas_in(alloc: Global, text: &str) -> Result<Vec<Comma>, AllocError> {
     let mut found = Vec::new(alloc);
-    let mut place = Place::Outside;
+    let mut place = TextState::Outside;
     let mut comma = None;
     for (bracket, byte) in text.as_bytes().iter().enumerate() {
-        if let (Place::Outside, Some(at), b'}' | b']') = (place, comma, *byte) {
+        if let (TextState::Outside, Some(at), b'}' | b']') = (place, comma, *byte) {
             found.push(Comma { at, bracket })?;
         }
         comma = match place {
-            Place::Outside => open_comma(comma, bracket, *byte),
-            Place::InString | Place::AfterBackslash => None,
+            TextState::Outside => open_comma(comma, bracket, *byte),
+            TextState::InString | TextState::AfterBackslash => None,
         };
         place = place_after(place, *byte);
     }

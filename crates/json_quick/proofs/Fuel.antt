@@ -22,20 +22,20 @@ items_step-more : (v : Parse Json) (f g : Parse json.Items) → Extends f g → 
 items_step-more v f g h ts (Some rest) r e = e
 items_step-more v f g h ts None r e = then-more _ _ (v ts) r (λ p q i. map-more _ (f p.1) (g p.1) q (h p.1) i) e
 
-pub items-more : (v : Parse Json) (m n : ℕ) → m ≤ n → Extends (json.items v m) (json.items v n)
+pub more_items : (v : Parse Json) (m n : ℕ) → m ≤ n → Extends (json.items v m) (json.items v n)
 unfolding json.items
-items-more v zero n le ts r e = absurd (cc)
-items-more v (suc m) zero le ts r e = absurd (omega arith)
-items-more v (suc m) (suc n) le ts r e = items_step-more v (json.items v m) (json.items v n) (items-more v m n (omega arith)) ts (after_end_array ts) r e
+more_items v zero n le ts r e = absurd (cc)
+more_items v (suc m) zero le ts r e = absurd (omega arith)
+more_items v (suc m) (suc n) le ts r e = items_step-more v (json.items v m) (json.items v n) (more_items v m n (omega arith)) ts (after_end_array ts) r e
 
 members_step-more : (v : Parse Json) (f g : Parse json.Members) → Extends f g → (key : Option (List ℕ)) (ts : List Token) (r : json.Members × List Token)
     → json.members_step v f key ts ≡ Some r → json.members_step v g key ts ≡ Some r
 members_step-more v f g h None ts r e = e
 members_step-more v f g h (Some k) ts r e = then-more _ _ (v ts) r (λ p q i. map-more _ (f p.1) (g p.1) q (h p.1) i) e
 
-pub members-more : (v : Parse Json) (m n : ℕ) → m ≤ n → Extends (json.members v m) (json.members v n)
+pub more_members : (v : Parse Json) (m n : ℕ) → m ≤ n → Extends (json.members v m) (json.members v n)
 unfolding json.members
-members-more v zero n le ts r e = absurd (cc)
-members-more v (suc m) zero le ts r e = absurd (omega arith)
-members-more v (suc m) (suc n) le ts r e =
-    then-more _ _ (read_key ts) r (λ p q i. members_step-more v (json.members v m) (json.members v n) (members-more v m n (omega arith)) p.0 p.1 q i) e
+more_members v zero n le ts r e = absurd (cc)
+more_members v (suc m) zero le ts r e = absurd (omega arith)
+more_members v (suc m) (suc n) le ts r e =
+    then-more _ _ (read_key ts) r (λ p q i. members_step-more v (json.members v m) (json.members v n) (more_members v m n (omega arith)) p.0 p.1 q i) e

@@ -13,7 +13,7 @@ use Rattle.serde_json.specs.View.{view}
 use Rattle.serde_json.specs.declared.value.Value as value
 use Rattle.serde_json.specs.declared.value.Value.{Value, Null, the_lemmas}
 use Rattle.json_quick.specs.Quick.{Takes, TakesItems, TakesMembers}
-use Rattle.json_quick.proofs.Fuel.{items-more, members-more}
+use Rattle.json_quick.proofs.Fuel.{more_items, more_members}
 
 -- ---- what was read, under f
 
@@ -122,7 +122,7 @@ takes-item depth [] mid new d ds e here later = absurd (omega (arith, here.short
 takes-item depth (t ∷ ts) mid new d ds e here later =
     let a = source of_json (json.value depth (t ∷ ts)) d mid here.value in
     let b = source of_items (json.items (json.value depth) (length mid) mid) ds new later.items in
-    let more = items-more (json.value depth) (length mid) (length ts) (omega (arith, here.shorter)) mid (b.0, new) b.1 in
+    let more = more_items (json.value depth) (length mid) (length ts) (omega (arith, here.shorter)) mid (b.0, new) b.1 in
     let all = items-step (json.value depth) (length ts) (t ∷ ts) mid new a.0 b.0 e a.1 more in
     record { items = rw all (rw (a.2, b.2) refl); shorter = omega (arith, here.shorter, later.shorter) }
 
@@ -166,7 +166,7 @@ takes-member depth found (t ∷ ts) rest mid new k d ms e here later =
     let a = source of_json (json.value depth rest) d mid here.value in
     let b = source (λ js. of_members js (put k d found)) (json.members (json.value depth) (length mid) mid) ms new later.members in
     let less = key-shorter (t ∷ ts) rest (Some k) e in
-    let more = members-more (json.value depth) (length mid) (length ts) (omega (arith, less, here.shorter)) mid (b.0, new) b.1 in
+    let more = more_members (json.value depth) (length mid) (length ts) (omega (arith, less, here.shorter)) mid (b.0, new) b.1 in
     let all = members-step (json.value depth) (length ts) (t ∷ ts) rest mid new k a.0 b.0 e a.1 more in
     record { members = rw all (rw (a.2, b.2) refl); shorter = omega (arith, less, here.shorter, later.shorter) }
 

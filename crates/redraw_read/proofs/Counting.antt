@@ -7,7 +7,7 @@ use Rattle.std.specs.Str.{bytes_eq}
 use Rattle.std.proofs.lemmas.Bool.{cases_Bool, cases_lt, le-leb, leb-true}
 use Rattle.std.proofs.lemmas.Bool.Decides.{nat_tests}
 use Rattle.std.proofs.lemmas.List.Sums.{sum_by_more}
-use Rattle.snippet_places.specs.Places.{IsLocated, begins_char}
+use Rattle.snippet_places.specs.Places.{IsSpanBetween, begins_char}
 use Rattle.snippet_places.specs.declared.clamp.Place.{Place}
 use Rattle.snippet_places.specs.declared.clamp.SpanAt.{SpanAt}
 use Rattle.redraw_report.specs.declared.diagnostic.Edit.{Edit}
@@ -131,7 +131,7 @@ and-held true false c d e h = cc
 and-held false b c d e h = cc
 
 -- what is located is said not to be what was asked for just where the text doesn't hold that
-pub clamped-as : (text : List ℕ) (from to : Place) (at : SpanAt) → IsLocated text from to at → at.clamped ≡ not (holds text from to)
+pub clamped-as : (text : List ℕ) (from to : Place) (at : SpanAt) → IsSpanBetween text from to at → at.clamped ≡ not (holds text from to)
 clamped-as text from to at is = elim (cases_Bool at.clamped) [ inl clamped ↦ by_other clamped | inr exact ↦ by_exact exact ]
   where
     by_exact : at.clamped ≡ false → at.clamped ≡ not (holds text from to)

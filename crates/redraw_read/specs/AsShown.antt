@@ -58,8 +58,8 @@ child_seen c =
     record { severity = c.severity; message = string_bytes c.message; spans = c.spans.items; alternatives = c.alternatives.items }
 
 -- the first line of a message, as it is drawn
-abbrev pub first_line : List ℕ → List ℕ
-first_line message = encode_utf8_all (norm (chars (before_first (λ b. b == 10) message)))
+abbrev pub message_line : List ℕ → List ℕ
+message_line message = encode_utf8_all (norm (chars (before_first (λ b. b == 10) message)))
 
 -- a message with this in place of its first line
 abbrev pub with_first_line : List ℕ → List ℕ → List ℕ
@@ -77,7 +77,7 @@ suggestion_shown Nowhere c = []
 -- text shows the first line of its message
 abbrev pub shown_with : List ℕ → List (Vec Edit) → ChildSeen → List ChildSeen
 shown_with text [] c = record c { spans = map (place_shown text) c.spans } ∷ []
-shown_with text (edits ∷ more) c = suggestion_shown (way (first_line c.message) text) c
+shown_with text (edits ∷ more) c = suggestion_shown (way (message_line c.message) text) c
 
 abbrev pub child_shown : List ℕ → ChildSeen → List ChildSeen
 child_shown text c = shown_with text c.alternatives c
@@ -92,7 +92,7 @@ is_label Nowhere = false
 -- whether a child with these alternatives becomes a label
 abbrev pub labels_with : List ℕ → List (Vec Edit) → ChildSeen → Bool
 labels_with text [] c = false
-labels_with text (edits ∷ more) c = is_label (way (first_line c.message) text)
+labels_with text (edits ∷ more) c = is_label (way (message_line c.message) text)
 
 abbrev pub labels : List ℕ → ChildSeen → Bool
 labels text c = labels_with text c.alternatives c

@@ -3,7 +3,7 @@ use Rattle.std.specs.Prelude.{ℕ, zero, suc, ◌+◌, ◌-◌, ◌^◌, ◌==�
 use Rattle.std.specs.Global.{Vec}
 use Rattle.std.specs.List.{count_by, list_all, sum_by}
 use Rattle.std.specs.Str.{bytes_eq}
-use Rattle.redraw_report.specs.Region.{end_place, line_starts, start_place}
+use Rattle.redraw_report.specs.Region.{end_place, start_bytes, start_place}
 use Rattle.snippet_places.specs.Places.{is_border}
 use Rattle.snippet_places.specs.declared.clamp.Place.{Place}
 use Rattle.redraw_report.specs.declared.diagnostic.Child.{Child}
@@ -40,7 +40,7 @@ holds text from to =
 -- whether the lines in which a region is shown don't hold it as it was given. Where no lines are shown, none is missed
 abbrev pub is_clamped : Sight → Region → Bool
 is_clamped (Lines text first) r =
-    not (holds text (start_place text (line_starts text) first r) (end_place text (line_starts text) first r))
+    not (holds text (start_place text (start_bytes text) first r) (end_place text (start_bytes text) first r))
 is_clamped (Nothing line column) r = false
 is_clamped (Blank line column) r = false
 

@@ -3,7 +3,7 @@ use Rattle.std.specs.Prelude.{ℕ, ◌-◌, ◌==◌, ◌&&◌, ◌||◌, Bool, 
 use Rattle.std.specs.List.{find, slice_split}
 use Rattle.std.specs.Option.{option_and_then, option_map, option_map_or}
 use Rattle.std.specs.Str.{bytes_eq}
-use Rattle.redraw_report.specs.Region.{first_line, line_starts}
+use Rattle.redraw_report.specs.Region.{before_line_end, start_bytes}
 use Rattle.redraw_report.specs.declared.diagnostic.Carried.{Carried}
 use Rattle.redraw_read.specs.declared.hand.Extract as extract_type
 use Rattle.redraw_read.specs.declared.hand.Extract.TheVariants.{Whole, Part}
@@ -13,20 +13,20 @@ use Rattle.redraw_read.specs.declared.sources.File.{File}
 -- lines that are shown: a text, and the number of its first line
 pub record Extract : Type 0 where
   pub text : List ℕ
-  pub first_line : ℕ
+  pub before_line_end : ℕ
 
 -- all of a file
 abbrev pub whole : List ℕ → Extract
-whole text = record { text = text; first_line = 1 }
+whole text = record { text = text; before_line_end = 1 }
 
 -- lines that the input has of a file
 abbrev pub carried_lines : Carried → Extract
-carried_lines c = record { text = string_bytes c.text; first_line = c.first_line }
+carried_lines c = record { text = string_bytes c.text; before_line_end = c.first_line }
 
 -- where the lines of a text start that come after the first of those that start at these bytes, if that is this line
 abbrev pub after_line : List ℕ → List ℕ → List ℕ → Option (List ℕ)
 after_line text [] line = None
-after_line text (start ∷ starts) line = if bytes_eq (first_line (drop start text)) line then Some starts else None
+after_line text (start ∷ starts) line = if bytes_eq (before_line_end (drop start text)) line then Some starts else None
 
 -- whether these are the lines of a text that start at these bytes of it
 abbrev pub are_lines : List ℕ → List ℕ → List (List ℕ) → Bool
@@ -36,7 +36,7 @@ are_lines text starts (line ∷ lines) = option_map_or (λ rest. are_lines text 
 -- whether a text has these lines, from the one of this number on
 abbrev pub has_lines : List ℕ → ℕ → List ℕ → Bool
 has_lines text number lines =
-    nat_lt 0 number && are_lines text (drop (number - 1) (line_starts text)) (slice_split (λ b. b == 10) lines)
+    nat_lt 0 number && are_lines text (drop (number - 1) (start_bytes text)) (slice_split (λ b. b == 10) lines)
 
 -- the lines in which a part of a file is shown: those of the file, or those that the input has, where the file isn't at hand or has
 -- others there; parts of lines only where the file isn't at hand

@@ -21,7 +21,7 @@ use Rattle.redraw_report.specs.declared.finding.Mark.{Mark}
 use Rattle.redraw_report.specs.declared.finding.Offer.{Offer}
 use Rattle.redraw_report.specs.declared.finding.Remark.{Remark}
 use Rattle.redraw_report.specs.declared.finding.Shown.{Shown}
-use Rattle.redraw_report.specs.Region.{IsLocated, end_place, line_starts, start_place}
+use Rattle.redraw_report.specs.Region.{IsSpanBetween, end_place, start_bytes, start_place}
 use Rattle.snippet_places.specs.declared.clamp.SpanAt.{SpanAt}
 use Rattle.redraw_report.specs.Report.{edited_of, lent}
 use Rattle.redraw_report.specs.SameSource.{same_source}
@@ -96,19 +96,19 @@ blanks_in (Nothing line column) = 0
 blanks_in (Blank line column) = column - 1
 
 -- the part of what is shown that a region is: in lines where it is located; else an empty part after all that is there
-abbrev pub IsPartOf : Sight → Region → ℕ → ℕ → Type 0
-IsPartOf (Lines text first) r start end =
-    (at : SpanAt) × IsLocated text (start_place text (line_starts text) first r) (end_place text (line_starts text) first r) at
+abbrev pub IsPartOfSight : Sight → Region → ℕ → ℕ → Type 0
+IsPartOfSight (Lines text first) r start end =
+    (at : SpanAt) × IsSpanBetween text (start_place text (start_bytes text) first r) (end_place text (start_bytes text) first r) at
     × (start ≡ at.span.start) × (end ≡ at.span.end)
-IsPartOf (Nothing line column) r start end = (start ≡ 0) × (end ≡ 0)
-IsPartOf (Blank line column) r start end = (start ≡ column - 1) × (end ≡ column - 1)
+IsPartOfSight (Nothing line column) r start end = (start ≡ 0) × (end ≡ 0)
+IsPartOfSight (Blank line column) r start end = (start ≡ column - 1) × (end ≡ column - 1)
 
 -- where a region of a file is, of which this is to be shown: in a source that is of the file and shows that, and there the part that
 -- the region is
 pub record IsAt (file : List ℕ) (sight : Sight) (r : Region) (source : Shown) (start end : ℕ) : Type 0 where
   pub path : source.path.now ≡ file
   pub shows : sight_of source.content ≡ sight
-  pub part : IsPartOf sight r start end
+  pub part : IsPartOfSight sight r start end
 
 -- the same of a spot
 abbrev pub IsSpot : List ℕ → Sight → Region → Spot → Type 0

@@ -49,7 +49,7 @@ fn rest_after<'s>(text: &str, starts: &'s [usize], line: &str) -> Option<&'s [us
 
 /// Whether this is the line of a text that starts at this byte.
 fn is_line(text: &str, start: usize, line: &str) -> bool
-    ensures value { result ≡ bytes_eq (region.first_line (drop start text.now)) line.now }
+    ensures value { result ≡ bytes_eq (region.before_line_end (drop start text.now)) line.now }
 {
     let bytes = text.as_bytes();
     first_line(&bytes[start.min(bytes.len())..]) == line.as_bytes()

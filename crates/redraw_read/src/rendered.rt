@@ -5,7 +5,7 @@ ghost use Rattle.std.specs.Prelude.{◌≡◌, ◌==◌, ◌++◌, ℕ, List, []
 ghost use Rattle.std.specs.List.{before_first, flat_map, list_any, slice_split};
 ghost use Rattle.redraw_read.specs.AsShown.{IsAsShown, child_seen, child_shown, has_escape, is_label};
 ghost use Rattle.redraw_read.specs.AsShown.{labels, place_shown};
-ghost use Rattle.redraw_read.specs.AsShown.{first_line as spec_first_line, suggestion_shown, with_first_line};
+ghost use Rattle.redraw_read.specs.AsShown.{message_line, suggestion_shown, with_first_line};
 ghost use Rattle.redraw_read.specs.Rendered as spec;
 ghost use Rattle.redraw_read.specs.Rendered.{way, way_of};
 ghost use Rattle.redraw_read.specs.Told.{KeepsHeading};
@@ -202,8 +202,8 @@ fn show_suggestion(
     shown: &mut Vec<Child>,
 ) -> Result<(), AllocError>
     ensures added { OnOk result (map child_seen shown.new.items ≡ map child_seen shown.old.items
-        ++ suggestion_shown (way (spec_first_line (string_bytes child.message)) text.now) (child_seen child)) }
-    ensures kept { is_label (way (spec_first_line (string_bytes child.message)) text.now) ≡ false
+        ++ suggestion_shown (way (message_line (string_bytes child.message)) text.now) (child_seen child)) }
+    ensures kept { is_label (way (message_line (string_bytes child.message)) text.now) ≡ false
         → OnOk result (spans.new.items ≡ spans.old.items) }
 {
     let message = first_line(alloc, child.message.as_str())?;
@@ -217,7 +217,7 @@ fn show_suggestion(
 
 /// The first line of a message, as it is drawn.
 fn first_line(alloc: Global, message: &str) -> Result<String, AllocError>
-    ensures value { IfOk result (λ line. string_bytes line ≡ spec_first_line message.now) }
+    ensures value { IfOk result (λ line. string_bytes line ≡ message_line message.now) }
 {
     let drawn = normalized(alloc, before_feed(message))?;
     let line = drawn.into_owned(alloc)?;

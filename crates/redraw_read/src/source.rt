@@ -1,7 +1,7 @@
 //! A text that places are shown in.
 
 ghost use Rattle.std.specs.Prelude.{◌≡◌, IfOk};
-ghost use Rattle.redraw_report.specs.Region.{line_starts as starts_of};
+ghost use Rattle.redraw_report.specs.Region.{start_bytes as starts_of};
 
 use redraw_report::lines::line_starts;
 use snippet_lines::SourceLines;

@@ -4,7 +4,7 @@ ghost use Rattle.std.specs.Prelude.{◌≡◌, IfOk, OnOk, string_bytes};
 ghost use Rattle.redraw_read.specs.Counted.{adds, is_clamped, more, ones};
 ghost use Rattle.redraw_read.specs.Extract.{chosen};
 ghost use Rattle.redraw_read.specs.Placed as spec;
-ghost use Rattle.redraw_report.specs.Region.{line_starts as starts_of};
+ghost use Rattle.redraw_report.specs.Region.{start_bytes as starts_of};
 ghost use Rattle.redraw_report.specs.ShownText.{shown_text};
 ghost use Rattle.redraw_read.specs.Placed.{IsSpot, Lines, at_hand, sight_in, sight_of};
 

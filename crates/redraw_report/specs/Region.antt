@@ -9,8 +9,8 @@ use Rattle.redraw_report.specs.declared.diagnostic.Unit.TheVariants.{Utf16, Code
 use Rattle.redraw_report.specs.declared.locate.OnLine.{OnLine}
 use Rattle.redraw_report.specs.declared.locate.OnLine.TheVariants as on_line
 use Rattle.snippet_places.specs.declared.clamp.Place.{Place}
-pub use Rattle.snippet_places.specs.Places.{IsHeld, IsLocated}
-pub use Rattle.snippet_places.specs.TextLines.{start_at, starts_after, line_starts, begins_with_feed, ends_line, line_length, first_line}
+pub use Rattle.snippet_places.specs.Places.{IsHeld, IsSpanBetween}
+pub use Rattle.snippet_places.specs.TextLines.{line_start_after, starts_after, start_bytes, begins_with_feed, ends_line, line_length, before_line_end}
 
 -- whether some bytes are a line's end and nothing else
 abbrev pub is_line_end : List ℕ → Bool
@@ -22,7 +22,7 @@ is_line_end (b ∷ c ∷ d ∷ bs) = false
 -- the bytes in which columns of the first line of some bytes count: the line, and of the last line of a text its end too, so that a
 -- column may be the one after it
 abbrev pub counted_line : List ℕ → List ℕ
-counted_line bytes = if is_line_end (drop (line_length bytes) bytes) then bytes else first_line bytes
+counted_line bytes = if is_line_end (drop (line_length bytes) bytes) then bytes else before_line_end bytes
 
 -- how many units a character counts, told at its first byte; its other bytes, 128 to 191, count none. One that is written with four
 -- bytes in UTF-8 is two units of UTF-16

@@ -1,6 +1,6 @@
 //! Where in a text a region lies, as a tool counted it.
 ghost use Rattle.std.specs.Prelude.{◌≡◌, ◌≤◌, length, true};
-ghost use Rattle.redraw_report.specs.Region.{IsLocated, blanks_before, column_in, on_line_from, place_in_bytes};
+ghost use Rattle.redraw_report.specs.Region.{IsSpanBetween, blanks_before, column_in, on_line_from, place_in_bytes};
 ghost use Rattle.redraw_report.specs.Region.{place_on};
 ghost use Rattle.redraw_report.specs.Region as spec;
 

@@ -16,7 +16,7 @@ use std::alloc::{AllocError, Global};
 
 /// What was drawn of a finding.
 #[derive(Drop)]
-pub struct Drawn {
+pub struct FindingText {
     /// Its text, or why there is none.
     pub text: Result<String, RenderError>,
     /// How many places aren't in their source.
@@ -31,7 +31,7 @@ pub fn drawn_of<S: SourceFiles + Drop>(
     renderer: &ReportRenderer,
     sources: &Sources<S>,
     diagnostic: &Diagnostic,
-) -> Result<Drawn, AllocError>
+) -> Result<FindingText, AllocError>
     ensures shows { IfOk result (λ drawn. IfOk drawn.text (λ text.
         ShowsFinding renderer.now sources.now.files.items diagnostic.now (string_bytes text))) }
     ensures refused { IfOk result (λ drawn. IfErr drawn.text
@@ -46,7 +46,7 @@ pub fn drawn_of<S: SourceFiles + Drop>(
     let mut placing = Placing::new(alloc);
     let finding = placing.finding(sources, diagnostic, renderer.settings.short_message)?;
     let groups = report(alloc, &finding)?;
-    Ok(Drawn {
+    Ok(FindingText {
         text: render_fitting(alloc, renderer, &groups),
         clamped: placing.clamped,
         undrawn: placing.undrawn,

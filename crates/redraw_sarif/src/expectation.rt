@@ -4,7 +4,7 @@ use std::fmt;
 
 /// What is expected.
 #[derive(Clone, Copy)]
-pub enum Expectation {
+pub enum SarifExpectation {
     /// The level of a result.
     Level,
     /// What the columns of a run count.
@@ -19,15 +19,15 @@ pub enum Expectation {
     RegionStart,
 }
 
-impl fmt::Display for Expectation {
+impl fmt::Display for SarifExpectation {
     fn fmt<W: fmt::Write>(&self, f: &mut fmt::Formatter<W>) -> fmt::Result {
         f.write_str(match self {
-            Expectation::Level => "\"none\", \"note\", \"warning\" or \"error\"",
-            Expectation::ColumnKind => "\"utf16CodeUnits\" or \"unicodeCodePoints\"",
-            Expectation::Message => "a text, or the id of one of the rule's message strings",
-            Expectation::Rule => "the index of a rule of the run",
-            Expectation::Artifact => "a uri, or the index of an artifact of the run",
-            Expectation::RegionStart => "startLine, charOffset or byteOffset",
+            SarifExpectation::Level => "\"none\", \"note\", \"warning\" or \"error\"",
+            SarifExpectation::ColumnKind => "\"utf16CodeUnits\" or \"unicodeCodePoints\"",
+            SarifExpectation::Message => "a text, or the id of one of the rule's message strings",
+            SarifExpectation::Rule => "the index of a rule of the run",
+            SarifExpectation::Artifact => "a uri, or the index of an artifact of the run",
+            SarifExpectation::RegionStart => "startLine, charOffset or byteOffset",
         })
     }
 }

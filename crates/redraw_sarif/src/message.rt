@@ -1,6 +1,6 @@
 //! The texts of messages.
 
-use crate::expectation::Expectation;
+use crate::expectation::SarifExpectation;
 use crate::links::without_links;
 use crate::placeholders::filled;
 use crate::rule::Rule;
@@ -36,7 +36,7 @@ fn text_of(
     let own = message.text("text", problems);
     let Some(text) = own.or(text_by_id(message, rule, problems)) else {
         if problems.lines.len() == told {
-            message.tell(problems, Expectation::Message);
+            message.tell(problems, SarifExpectation::Message);
         }
         return Ok(None);
     };

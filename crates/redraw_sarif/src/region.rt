@@ -1,6 +1,6 @@
 //! The regions of files, and what a log itself holds of them.
 
-use crate::expectation::Expectation;
+use crate::expectation::SarifExpectation;
 use json_node::lenient::{Node, Problems};
 use redraw_report::diagnostic::{Carried, LineRegion, Region, Unit};
 use serde_json::Value;
@@ -12,7 +12,7 @@ pub fn region_of(region: &Node<'_, '_>, unit: Unit, problems: &mut Problems) -> 
     let told = problems.lines.len();
     let found = region_in(region, unit, problems);
     if found.is_none() && problems.lines.len() == told {
-        region.tell(problems, Expectation::RegionStart);
+        region.tell(problems, SarifExpectation::RegionStart);
     }
     found
 }

@@ -1,6 +1,6 @@
 //! The rule that a result breaks, and how severe that is.
 
-use crate::expectation::Expectation;
+use crate::expectation::SarifExpectation;
 use json_node::lenient::{Node, Problems, field_at, item_at, text_at, text_field};
 use redraw_report::diagnostic::{Code, Severity};
 use serde_json::Value;
@@ -54,7 +54,7 @@ pub fn rule_of<'v>(run: &'v Value, reported: &Node<'v, '_>, problems: &mut Probl
         None => rule_by_id(rules, id_of(reported.value).unwrap_or("")),
     };
     if index.is_some() && rule.is_none() {
-        reported.tell(problems, Expectation::Rule);
+        reported.tell(problems, SarifExpectation::Rule);
     }
     Rule { component, rule }
 }
@@ -159,7 +159,7 @@ pub fn severity_of(reported: &Node<'_, '_>, rule: &Rule<'_>, problems: &mut Prob
     if let Some(level) = reported.text("level", problems) {
         match severity_by_name(level) {
             Some(severity) => return severity,
-            None => reported.tell_field("level", problems, Expectation::Level),
+            None => reported.tell_field("level", problems, SarifExpectation::Level),
         }
     }
     match reported.text("kind", problems) {

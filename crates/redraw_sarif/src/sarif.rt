@@ -1,6 +1,6 @@
 //! The runs of a log, and the findings of their results.
 
-use crate::expectation::Expectation;
+use crate::expectation::SarifExpectation;
 use crate::fixes::add_fixes;
 use crate::flow::{Told, add_steps};
 use crate::location::{Context, add_spans};
@@ -61,7 +61,7 @@ fn unit_of(run: &Node<'_, '_>, problems: &mut Problems) -> Unit {
         Some("unicodeCodePoints") => Unit::CodePoints,
         Some("utf16CodeUnits") | None => Unit::Utf16,
         Some(_) => {
-            run.tell_field("columnKind", problems, Expectation::ColumnKind);
+            run.tell_field("columnKind", problems, SarifExpectation::ColumnKind);
             Unit::Utf16
         }
     }

@@ -1,6 +1,6 @@
 //! The files that a log names by addresses.
 
-use crate::expectation::Expectation;
+use crate::expectation::SarifExpectation;
 use json_node::lenient::{Node, Problems, field_at, item_at, text_at, text_field};
 use percent_encoding::percent_decode;
 use serde_json::Value;
@@ -34,7 +34,7 @@ pub fn path_in(
     match address_of(run, location.value) {
         Some(address) => Ok(Some(path_at(alloc, run, address)?)),
         None => {
-            location.tell(problems, Expectation::Artifact);
+            location.tell(problems, SarifExpectation::Artifact);
             Ok(None)
         }
     }

@@ -7,7 +7,7 @@ use Rattle.serde_json.specs.Data.{Data}
 use Rattle.serde_json.specs.Find.{as_str}
 use Rattle.json_node.specs.Field.{SaysAt, given, number_field}
 use Rattle.snippet_places.specs.Places.{place_from}
-use Rattle.snippet_places.specs.TextLines.{line_starts}
+use Rattle.snippet_places.specs.TextLines.{start_bytes}
 use Rattle.snippet_places.specs.declared.clamp.Place.{Place}
 use Rattle.snippet_places.specs.declared.columns.ColumnUnit.TheVariants as column
 use Rattle.snippet_places.specs.declared.columns.Position.{Position}
@@ -53,7 +53,7 @@ byte_in_line unit source units start =
 abbrev pub byte_at : SpanUnit → List ℕ → Position → Option ℕ
 byte_at unit source place =
     if place.line == 0 || place.column == 0 then None
-    else option_and_then (byte_in_line unit source (place.column - 1)) (slice_get (line_starts source) (place.line - 1))
+    else option_and_then (byte_in_line unit source (place.column - 1)) (slice_get (start_bytes source) (place.line - 1))
 
 -- the byte of a number, which counts bytes where no unit is said
 abbrev pub counted : List ℕ → Option SpanUnit → ℕ → Option ℕ

@@ -43,7 +43,7 @@ pub trait Part<'v> {
 }
 
 /// What an item of a list of markers may be read as, by the source that they mark.
-pub trait Marker<'v> {
+pub trait ReadMarker<'v> {
     /// What an item says of this source, in this unit, where it is read as this.
     ghost says: { List ℕ → Option SpanUnit → Data → Self → Type 0 };
 
@@ -145,7 +145,7 @@ fn parts_of<'v, T: Part<'v> + Drop>(
 }
 
 /// What the items of a list of markers are read as, in order.
-pub fn markers_of<'v, T: Marker<'v> + Drop>(
+pub fn markers_of<'v, T: ReadMarker<'v> + Drop>(
     list: &Node<'v, '_>,
     ruler: Ruler<'_>,
 ) -> Result<Vec<T>, Fault>

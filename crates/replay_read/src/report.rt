@@ -12,7 +12,7 @@ ghost use Rattle.replay_read.specs.Report.{IsMessageOf, IsNameOf};
 ghost use Rattle.replay_read.specs.Report.{IsOriginOf, IsPatchOf, IsSnippetOf, IsTitleOf};
 ghost use Rattle.replay_read.specs.Kinds.{kind_name, mark_name};
 
-use crate::list::{Marker, Part, markers_of, parts_at};
+use crate::list::{Part, ReadMarker, markers_of, parts_at};
 use crate::shape::{FormatValue, Shape, has_shape};
 use crate::source::source_in;
 use crate::span::{Ruler, span_of, unit_in};
@@ -216,7 +216,7 @@ fn message_of<'v>(node: &Node<'v, '_>) -> Result<Message<'v>, Fault>
 
 /// The snippet of this shape that is described, of a text or one of these sources, with the markers in the field of
 /// this name.
-fn snippet_of<'v, T: Marker<'v> + Drop>(
+fn snippet_of<'v, T: ReadMarker<'v> + Drop>(
     node: &Node<'v, '_>,
     shape: Shape,
     markers: &str,
@@ -241,7 +241,7 @@ fn snippet_of<'v, T: Marker<'v> + Drop>(
 }
 
 /// The markers of a snippet, in the field of this name, by the source that they mark.
-fn marked_in<'v, T: Marker<'v> + Drop>(
+fn marked_in<'v, T: ReadMarker<'v> + Drop>(
     snippet: &Node<'v, '_>,
     name: &str,
     source: &str,
@@ -270,7 +270,7 @@ fn lines_of(snippet: &Node<'_, '_>) -> Result<(usize, bool, bool), Fault>
     Ok((line_start, line_numbering, fold))
 }
 
-impl<'v> Marker<'v> for Annotation<'v> {
+impl<'v> ReadMarker<'v> for Annotation<'v> {
     ghost says = { IsAnnotationOf };
 
     ghost fits = { AnnotationFits };
@@ -302,7 +302,7 @@ fn mark_of(node: &Node<'_, '_>) -> Result<AnnotationKind, Fault>
     }
 }
 
-impl<'v> Marker<'v> for Patch<'v> {
+impl<'v> ReadMarker<'v> for Patch<'v> {
     ghost says = { IsPatchOf };
 
     ghost fits = { PatchFits };

@@ -14,12 +14,12 @@ use Rattle.replay_command.specs.declared.command.Command.{Command}
 use Rattle.replay_command.specs.declared.command.Command.TheVariants.{Answer, Check, Repeat}
 use Rattle.replay_run.specs.Compared.{EndsComparison}
 use Rattle.replay_run.specs.Inputs.{IfAnswers, IfComparison, IsComparison, answers, are_texts, form_asked, way_of}
-use Rattle.replay_run.specs.declared.lines.Form.{Form}
-use Rattle.replay_run.specs.declared.lines.Form.TheVariants.{Json, Texts}
+use Rattle.replay_run.specs.declared.lines.AnswerForm.{AnswerForm}
+use Rattle.replay_run.specs.declared.lines.AnswerForm.TheVariants.{Json, Texts}
 use Rattle.replay_run.specs.declared.lines.Way.{Way}
 
 -- the form of answers that are texts where this form is texts is this form
-same_form : (form : Form) → form_asked (are_texts form) ≡ form
+same_form : (form : AnswerForm) → form_asked (are_texts form) ≡ form
 same_form Json = refl
 same_form Texts = refl
 

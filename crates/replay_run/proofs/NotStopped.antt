@@ -13,7 +13,7 @@ use Rattle.program.specs.Standing.{Standing}
 use Rattle.program.specs.Stream.{Output, Receives}
 use Rattle.program.proofs.NotGiven.{sound, told_nothing}
 use Rattle.std.specs.declared.io.Error.{Error}
-use Rattle.replay_run.specs.declared.lines.Form.TheVariants.{Json}
+use Rattle.replay_run.specs.declared.lines.AnswerForm.TheVariants.{Json}
 use Rattle.replay_run.specs.declared.lines.Way.{Way}
 use Rattle.replay_run.specs.declared.problem.Line.{Line}
 use Rattle.replay_run.specs.declared.problem.Line.TheVariants.{Case, Expected}

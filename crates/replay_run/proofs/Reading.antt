@@ -7,14 +7,14 @@ use Rattle.serde_json.specs.Data.{Data}
 use Rattle.serde_json.specs.Read.{read}
 use Rattle.replay_run.specs.WrittenAnswer.{AnswersCaseAs, AnswersValue}
 use Rattle.replay_run.specs.Problem.{IsMisread, IsProblemWith}
-use Rattle.replay_run.specs.declared.lines.Form.{Form}
+use Rattle.replay_run.specs.declared.lines.AnswerForm.{AnswerForm}
 use Rattle.replay_run.specs.declared.problem.Line.{Line}
 use Rattle.replay_run.specs.declared.problem.Problem.{Problem}
 use Rattle.replay_run.specs.declared.problem.Problem.TheVariants.{NotText, NotJson, Wrong, Unpaired, TooManyLines, NotCases, Read, Clock, Write, Memory}
 use Rattle.replay_run.proofs.Checking.{ok_and}
 
 -- what answers the value answers the line
-pub line_answered : {E : Type 0} (form : Form) (is_first : Bool) (line : Result (String Global) E) (d : Data) (r : Result (Vec ℕ Global) Problem)
+pub line_answered : {E : Type 0} (form : AnswerForm) (is_first : Bool) (line : Result (String Global) E) (d : Data) (r : Result (Vec ℕ Global) Problem)
     → IsOkAnd line (λ text. read (string_bytes text) ≡ Some d) → IfOk r (λ text. AnswersValue form is_first d text.items)
     → IfOk r (λ text. IsOkAnd line (λ line. AnswersCaseAs form is_first (string_bytes line) text.items))
 line_answered form is_first line d (Ok text) reads h =

@@ -4,18 +4,18 @@ use Rattle.std.proofs.Common.{inl, inr}
 use Rattle.replay_command.specs.Arguments.{Answers, AsksFor, Checks, Task, Argument, hyphen, arguments_at}
 use Rattle.replay_command.specs.declared.command.Command.{Command}
 use Rattle.replay_command.specs.declared.command.Command.TheVariants.{Answer, Check, Repeat}
-use Rattle.replay_run.specs.declared.lines.Form.{Form}
-use Rattle.replay_run.specs.declared.lines.Form.TheVariants.{Json, Texts}
+use Rattle.replay_run.specs.declared.lines.AnswerForm.{AnswerForm}
+use Rattle.replay_run.specs.declared.lines.AnswerForm.TheVariants.{Json, Texts}
 use Rattle.replay_run.specs.declared.lines.Way.{Way}
 
 -- ---- what is asked for
 
 -- whether answers of this form are texts, and the form of answers that are texts or not
-abbrev pub are_texts : Form → Bool
+abbrev pub are_texts : AnswerForm → Bool
 are_texts Json = false
 are_texts Texts = true
 
-abbrev pub form_asked : Bool → Form
+abbrev pub form_asked : Bool → AnswerForm
 form_asked texts = if texts then Texts else Json
 
 -- how lines are answered as texts or not, and past lines that are no cases or not

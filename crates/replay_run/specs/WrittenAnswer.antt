@@ -12,8 +12,8 @@ use Rattle.replay_answer.specs.Case.{IsCaseOf}
 use Rattle.replay_run.specs.Checked.{most}
 use Rattle.replay_answer.specs.Outcome.{Becomes, IsOutcomeOf}
 use Rattle.replay_answer.specs.declared.case.Case.{Case}
-use Rattle.replay_run.specs.declared.lines.Form.{Form}
-use Rattle.replay_run.specs.declared.lines.Form.TheVariants as form
+use Rattle.replay_run.specs.declared.lines.AnswerForm.{AnswerForm}
+use Rattle.replay_run.specs.declared.lines.AnswerForm.TheVariants as form
 use Rattle.replay_run.specs.declared.lines.Way.{Way}
 use Rattle.replay_answer.specs.declared.outcome.Outcome.{Outcome}
 use Rattle.replay_answer.specs.declared.outcome.Outcome.TheVariants.{Texts, Refused}
@@ -29,12 +29,12 @@ outcome_text (Refused refusal words span) =
     ended_line (codes "refused: " ++ string_bytes words ++ string_bytes span)
 
 -- the answer to the case of this name, in this form
-abbrev pub answer_text : Form → Bool → List ℕ → Outcome → List ℕ
+abbrev pub answer_text : AnswerForm → Bool → List ℕ → Outcome → List ℕ
 answer_text form.Json is_first id outcome = ended_line (compact_text (answer_of id outcome))
 answer_text form.Texts is_first id outcome = gap is_first ++ outcome_text outcome
 
 -- the text answers a line that holds this value: it says what became of the case that the value describes
-pub record AnswersValue (form : Form) (is_first : Bool) (d : Data) (text : List ℕ) : Type 0 where
+pub record AnswersValue (form : AnswerForm) (is_first : Bool) (d : Data) (text : List ℕ) : Type 0 where
   pub case : Case
   pub outcome : Outcome
   pub case_is : IsCaseOf d case
@@ -42,14 +42,14 @@ pub record AnswersValue (form : Form) (is_first : Bool) (d : Data) (text : List 
   pub text_is : text ≡ answer_text form is_first case.id.now outcome
 
 -- the text answers the line: it says what became of the case that the line describes
-pub record AnswersCaseAs (form : Form) (is_first : Bool) (line text : List ℕ) : Type 0 where
+pub record AnswersCaseAs (form : AnswerForm) (is_first : Bool) (line text : List ℕ) : Type 0 where
   pub case : Case
   pub outcome : Outcome
   pub became : Becomes line case outcome
   pub text_is : text ≡ answer_text form is_first case.id.now outcome
 
 -- what is said of the line of a number that is no case, in this form
-abbrev pub told_text : Form → Bool → ℕ → List ℕ → List ℕ
+abbrev pub told_text : AnswerForm → Bool → ℕ → List ℕ → List ℕ
 told_text form.Json is_first n words = ended_line (compact_text (told_of n words))
 told_text form.Texts is_first n words = gap is_first ++ ended_line (codes "line " ++ (decimal n ++ (codes ": no case: " ++ words)))
 
@@ -58,7 +58,7 @@ abbrev pub Numbered : Type 0
 Numbered = ℕ × List ℕ
 
 -- the text tells that the line is no case
-pub record TellsLine (form : Form) (is_first : Bool) (line : Numbered) (text : List ℕ) : Type 0 where
+pub record TellsLine (form : AnswerForm) (is_first : Bool) (line : Numbered) (text : List ℕ) : Type 0 where
   pub words : List ℕ
   pub is : IsNoCase line.1 words
   pub text_is : text ≡ told_text form is_first line.0 words

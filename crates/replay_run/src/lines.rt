@@ -39,7 +39,7 @@ const LINE_END: &[u8] = b"\n";
 
 /// How answers are written.
 #[derive(Clone, Copy)]
-pub enum Form {
+pub enum AnswerForm {
     /// As JSON, one a line.
     Json,
     /// As texts, with a blank line between reports.
@@ -49,7 +49,7 @@ pub enum Form {
 /// How lines are answered.
 #[derive(Clone, Copy)]
 pub struct Way {
-    pub form: Form,
+    pub form: AnswerForm,
     /// Whether a line that is no case is answered by what is wrong with it, and the next one is read.
     pub keep_going: bool,
 }
@@ -174,7 +174,7 @@ fn told_for(
     alloc: Global,
     problem: Problem,
     number: u64,
-    form: Form,
+    form: AnswerForm,
     is_first: bool,
 ) -> Result<LineAnswer, Problem>
     ensures told { IfOk result (λ answer. answer.told ≡ true) }
@@ -196,20 +196,20 @@ fn told_line(
     alloc: Global,
     words: &str,
     number: u64,
-    form: Form,
+    form: AnswerForm,
     is_first: bool,
 ) -> Result<Vec<u8>, AllocError>
     ensures text { IfOk result (λ text. text.items ≡ told_text form is_first number words.now) }
 {
     match form {
-        Form::Json => told_as_json(alloc, words, number),
-        Form::Texts => told_as_text(alloc, words, number, is_first),
+        AnswerForm::Json => told_as_json(alloc, words, number),
+        AnswerForm::Texts => told_as_text(alloc, words, number, is_first),
     }
 }
 
 /// The same as a line of JSON.
 fn told_as_json(alloc: Global, words: &str, number: u64) -> Result<Vec<u8>, AllocError>
-    ensures text { IfOk result (λ text. text.items ≡ told_text Form.Json true number words.now) }
+    ensures text { IfOk result (λ text. text.items ≡ told_text AnswerForm.Json true number words.now) }
 {
     let mut text = Vec::new(alloc);
     match write_told_json(alloc, words, number, &mut text) {
@@ -225,7 +225,7 @@ fn told_as_text(
     number: u64,
     is_first: bool,
 ) -> Result<Vec<u8>, AllocError>
-    ensures text { IfOk result (λ text. text.items ≡ told_text Form.Texts is_first number words.now) }
+    ensures text { IfOk result (λ text. text.items ≡ told_text AnswerForm.Texts is_first number words.now) }
 {
     let mut text = Vec::new(alloc);
     match write_told_text(words, number, is_first, &mut text) {
@@ -242,7 +242,7 @@ fn write_told_json<W: Write>(
     out: &mut W,
 ) -> Result<(), Problem>
     ensures line { OnOk result (Appends (W.contents out.old) (W.contents out.new)
-        (told_text Form.Json true number words.now)) }
+        (told_text AnswerForm.Json true number words.now)) }
 {
     let line = told_json(alloc, words, number)?;
     write_line(line.as_str(), out).map_err(Problem::Write)
@@ -256,7 +256,7 @@ fn write_told_text<W: Write>(
     out: &mut W,
 ) -> Result<(), Problem>
     ensures line { OnOk result (Appends (W.contents out.old) (W.contents out.new)
-        (told_text Form.Texts is_first number words.now)) }
+        (told_text AnswerForm.Texts is_first number words.now)) }
 {
     write_gap(is_first, out).map_err(Problem::Write)?;
     out.writeln(format_args!("line {number}: no case: {words}"))
@@ -268,7 +268,7 @@ fn text_for(
     alloc: Global,
     line: io::Result<String>,
     number: u64,
-    form: Form,
+    form: AnswerForm,
     is_first: bool,
 ) -> Result<Vec<u8>, Problem>
     ensures answers { IfOk result (λ text. IsOkAnd line (λ line.
@@ -286,7 +286,7 @@ fn text_of(
     alloc: Global,
     value: &Value,
     number: u64,
-    form: Form,
+    form: AnswerForm,
     is_first: bool,
 ) -> Result<Vec<u8>, Problem>
     ensures answers { IfOk result (λ text. AnswersValue form is_first (view value.now) text.items) }
@@ -306,7 +306,7 @@ fn text_of(
 fn case_text(
     alloc: Global,
     case: &Case<'_>,
-    form: Form,
+    form: AnswerForm,
     is_first: bool,
 ) -> Result<Vec<u8>, AllocError>
     requires fits { ReportFits case.now.groups.items }
@@ -385,7 +385,7 @@ fn not_json(line: Line, error: Error) -> Problem
 fn write_answer<W: Write>(
     alloc: Global,
     case: &Case<'_>,
-    form: Form,
+    form: AnswerForm,
     is_first: bool,
     out: &mut W,
 ) -> Result<(), Problem>
@@ -394,7 +394,7 @@ fn write_answer<W: Write>(
         × Appends (W.contents out.old) (W.contents out.new) (answer_text form is_first case.now.id.now outcome)) }
 {
     let outcome = outcome_of(alloc, case)?;
-    if let Form::Texts = form {
+    if let AnswerForm::Texts = form {
         write_report(outcome, is_first, out)?;
         return Ok(());
     }

@@ -20,7 +20,7 @@ ghost use Rattle.replay_run.specs.declared.problem.Problem.{Problem};
 
 use crate::check::Counts;
 use crate::inputs::{answer_inputs, check_pair, repeat_named, shown_name};
-use crate::lines::{Form, Way, print, print_line};
+use crate::lines::{AnswerForm, Way, print, print_line};
 use crate::problem::Problem;
 use crate::repeat::{Tally, print_tally};
 use crate::stop::{Stop, or_stop, tell_stop, tell_usage_error};
@@ -232,7 +232,11 @@ fn do_command<'a, R: Files + Input + Clock + AllocGlobal, W: Write>(
 fn way_of(texts: bool, keep_going: bool) -> Way
     ensures value { result ≡ spec.way_of texts keep_going }
 {
-    let form = if texts { Form::Texts } else { Form::Json };
+    let form = if texts {
+        AnswerForm::Texts
+    } else {
+        AnswerForm::Json
+    };
     Way { form, keep_going }
 }
 

@@ -18,7 +18,7 @@ use Rattle.snippet_parts.specs.Mark.{touches}
 use Rattle.snippet_parts.specs.Marked.{Entry, first_line, last_line}
 use Rattle.snippet_parts.specs.Numbered.{numbered_source}
 use Rattle.snippet_context.proofs.SpanLemmas.{around-first, around-last}
-use Rattle.snippet_context.specs.Context.{context_spans, is_near, lines_around, span_around, visible_mark}
+use Rattle.snippet_context.specs.Context.{context_spans, is_line_near, lines_around, span_around, visible_mark}
 use Rattle.snippet_context.specs.WithContext.{IsSnippetWithContext, KeepsLinesAround}
 
 -- ---- the line of a range
@@ -57,7 +57,7 @@ keeps-seen true false false b = refl
 keeps-seen false f l b = refl
 
 -- the lines from `before` lines before one to `after` lines after it are those near it
-near-between : (before after n j k : ℕ) → j < n → k < n → (leb (j - before) k && leb k (min (j + after) (n - 1))) ≡ is_near before after k j
+near-between : (before after n j k : ℕ) → j < n → k < n → (leb (j - before) k && leb k (min (j + after) (n - 1))) ≡ is_line_near before after k j
 near-between before after n j k inside within = ap₂ (λ a b. a && b) first last
   where
     first : leb (j - before) k ≡ leb j (k + before)
@@ -73,7 +73,7 @@ near-between before after n j k inside within = ap₂ (λ a b. a && b) first las
     ]
 
 keeps-near : (before after : ℕ) (source : List ℕ) (j k : ℕ) → j < length (source_lines source) → k < length (source_lines source)
-    → keeps source k (visible_mark (span_around before after source j)) ≡ is_near before after k j
+    → keeps source k (visible_mark (span_around before after source j)) ≡ is_line_near before after k j
 keeps-near before after source j k inside within =
     let a : Annotation = visible_mark (span_around before after source j) in
     keeps-seen (touches source a k) (eqb k (first_line source a)) (eqb k (last_line source a)) (has_bar source a k)
@@ -90,26 +90,26 @@ module _ (before after : ℕ) (source : List ℕ) (marks : List Annotation) wher
   added = map visible_mark (map (span_around before after source) lines)
 
   -- the spans around those that are kept keep those near one
-  added-keep : (k : ℕ) → k < length (source_lines source) → list_any (keeps source k) added ≡ list_any (is_near before after k) lines
+  added-keep : (k : ℕ) → k < length (source_lines source) → list_any (keeps source k) added ≡ list_any (is_line_near before after k) lines
   added-keep k within =
       any-map visible_mark (keeps source k) (map (span_around before after source) lines)
       ∙ any-map (span_around before after source) (λ span. keeps source k (visible_mark span)) lines
-      ∙ any-same (λ j. keeps source k (visible_mark (span_around before after source j))) (is_near before after k) lines
+      ∙ any-same (λ j. keeps source k (visible_mark (span_around before after source j))) (is_line_near before after k) lines
       (λ i d inside. keeps-near before after source (get_or lines i d) k
       (kept-within (λ j. list_any (keeps source j) marks) (length (source_lines source)) i d inside) within)
 
   -- a line that is kept is near itself
-  kept-near : (k : ℕ) → k < length (source_lines source) → list_any (keeps source k) marks ≡ true → list_any (is_near before after k) lines ≡ true
+  kept-near : (k : ℕ) → k < length (source_lines source) → list_any (keeps source k) marks ≡ true → list_any (is_line_near before after k) lines ≡ true
   kept-near k within is =
-      any-later (λ j. eqb j k) (is_near before after k)
+      any-later (λ j. eqb j k) (is_line_near before after k)
       (λ j same. let at : j ≡ k = eqb-true j k same in ap₂ (λ a b. a && b) (le-leb j (k + before) (omega arith)) (le-leb k (j + after) (omega arith)))
       lines (among-kept (λ j. list_any (keeps source j) marks) (length (source_lines source)) k within ∙ is)
 
   folded-around : kept_lines true source (marks ++ added) ≡ lines_around before after (length (source_lines source)) lines
   folded-around =
-      range-same (λ k. list_any (keeps source k) (marks ++ added)) (λ k. list_any (is_near before after k) lines) 0 (length (source_lines source))
+      range-same (λ k. list_any (keeps source k) (marks ++ added)) (λ k. list_any (is_line_near before after k) lines) 0 (length (source_lines source))
       (λ k from to. list_any-append (keeps source k) marks added ∙ ap (λ b. list_any (keeps source k) marks || b) (added-keep k (omega arith))
-      ∙ absorbed (list_any (keeps source k) marks) (list_any (is_near before after k) lines) (kept-near k (omega arith)))
+      ∙ absorbed (list_any (keeps source k) marks) (list_any (is_line_near before after k) lines) (kept-near k (omega arith)))
     where
       absorbed : (a b : Bool) → (a ≡ true → b ≡ true) → (a || b) ≡ b
       absorbed true b later = sym (later refl)
@@ -119,8 +119,8 @@ module _ (before after : ℕ) (source : List ℕ) (marks : List Annotation) wher
 unfolded-around : (before after : ℕ) (source : List ℕ) (marks more : List Annotation)
     → kept_lines false source more ≡ lines_around before after (length (source_lines source)) (kept_lines false source marks)
 unfolded-around before after source marks more =
-    range-same (λ k. true) (λ k. list_any (is_near before after k) (kept_lines false source marks)) 0 (length (source_lines source))
-    (λ k from to. sym (any-later (λ j. eqb j k) (is_near before after k)
+    range-same (λ k. true) (λ k. list_any (is_line_near before after k) (kept_lines false source marks)) 0 (length (source_lines source))
+    (λ k from to. sym (any-later (λ j. eqb j k) (is_line_near before after k)
     (λ j same. let at : j ≡ k = eqb-true j k same in ap₂ (λ a b. a && b) (le-leb j (k + before) (omega arith)) (le-leb k (j + after) (omega arith)))
     (kept_lines false source marks) (among-kept (λ j. true) (length (source_lines source)) k (omega arith))))
 

@@ -20,7 +20,7 @@ use Rattle.snippet_parts.specs.Annotated.{KeptLine, annotated_lines, kept_line, 
 use Rattle.snippet_parts.specs.Kept.{kept_lines}
 use Rattle.snippet_parts.specs.declared.entries.AnnotatedLineInfo.{AnnotatedLineInfo}
 use Rattle.snippet_context.specs.Context.{close_of, span_around}
-use Rattle.snippet_context.specs.WithContext.{IsPartOf}
+use Rattle.snippet_context.specs.WithContext.{HoldsSpan}
 
 -- ---- where a line closes
 
@@ -132,7 +132,7 @@ around-last before after source j within = line_of-close source (min (j + after)
 
 -- it is a part of the source
 pub around-part : (before after : ℕ) (source : List ℕ) (j : ℕ) → IsUtf8 source → j < length (source_lines source)
-    → IsPartOf source (span_around before after source j)
+    → HoldsSpan source (span_around before after source j)
 around-part before after source j utf8 within =
     let ls : List Line = source_lines source in
     let last : ℕ = min (j + after) (length ls - 1) in
@@ -145,10 +145,10 @@ around-part before after source j utf8 within =
 
 -- and so is each
 pub around-parts : (before after : ℕ) (source : List ℕ) (js : List ℕ) → IsUtf8 source → All (λ j. j < length (source_lines source)) js
-    → All (IsPartOf source) (map (span_around before after source) js)
-around-parts before after source [] utf8 within = All-nil (IsPartOf source)
+    → All (HoldsSpan source) (map (span_around before after source) js)
+around-parts before after source [] utf8 within = All-nil (HoldsSpan source)
 around-parts before after source (j ∷ js) utf8 within =
-    All-cons (IsPartOf source) (span_around before after source j) (map (span_around before after source) js)
+    All-cons (HoldsSpan source) (span_around before after source j) (map (span_around before after source) js)
     (around-part before after source j utf8 (All-head (λ k. k < length (source_lines source)) j js within))
     (around-parts before after source js utf8 (All-tail (λ k. k < length (source_lines source)) j js within))
 

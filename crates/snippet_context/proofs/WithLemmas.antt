@@ -8,7 +8,7 @@ use Rattle.snippet_model.specs.declared.snippet.Annotation.{Annotation}
 use Rattle.snippet_model.specs.declared.snippet.Snippet.{Snippet}
 use Rattle.snippet_parts.specs.Kept.{kept_lines}
 use Rattle.snippet_context.specs.Context.{context_spans, span_around, visible_mark}
-use Rattle.snippet_context.specs.WithContext.{IsPartOf, IsSnippetWithContext}
+use Rattle.snippet_context.specs.WithContext.{HoldsSpan, IsSnippetWithContext}
 
 -- where lines aren't folded no span is added
 unfolded-spans : (before after : ℕ) (s : Snippet Annotation) → s.fold ≡ false → context_spans before after s ≡ []
@@ -26,5 +26,5 @@ unfolded-with before after s none =
       line_numbering = refl;
       fold = refl;
       markers = sym (append-nil s.markers.items) ∙ sym (ap (λ (spans : List (Range ℕ)). s.markers.items ++ map visible_mark spans) empty);
-      spans = subst (All (IsPartOf (cow_str_bytes s.source))) (sym empty) (All-nil (IsPartOf (cow_str_bytes s.source)));
+      spans = subst (All (HoldsSpan (cow_str_bytes s.source))) (sym empty) (All-nil (HoldsSpan (cow_str_bytes s.source)));
     }

@@ -10,12 +10,12 @@ use Rattle.snippet_model.specs.declared.snippet.Snippet.{Snippet}
 use Rattle.snippet_parts.specs.Kept.{kept_lines}
 
 -- whether line k is near line j: at most `before` lines before it, and at most `after` lines after it
-abbrev pub is_near : ℕ → ℕ → ℕ → ℕ → Bool
-is_near before after k j = nat_le j (k + before) && nat_le k (j + after)
+abbrev pub is_line_near : ℕ → ℕ → ℕ → ℕ → Bool
+is_line_near before after k j = nat_le j (k + before) && nat_le k (j + after)
 
 -- the lines near one of some lines, of a source of so many lines, each once and in order
 abbrev pub lines_around : ℕ → ℕ → ℕ → List ℕ → List ℕ
-lines_around before after count lines = filter (λ k. list_any (is_near before after k) lines) (range_with_len 0 count)
+lines_around before after count lines = filter (λ k. list_any (is_line_near before after k) lines) (range_with_len 0 count)
 
 -- the byte at which line k closes: the line feed that ends it, and of the last line the source's end
 abbrev pub close_of : List ℕ → ℕ → ℕ

@@ -41,7 +41,7 @@ IsGroupSound g = All IsElementSound g.elements.items
 -- ---- which reports are shown
 
 -- a part of a source: it starts and ends between characters, and doesn't end before it starts
-pub record IsPartOf (source : List ℕ) (span : Range ℕ) : Type 0 where
+pub record HoldsSpan (source : List ℕ) (span : Range ℕ) : Type 0 where
   pub ordered : span.start ≤ span.end
   pub from : IsCharBoundary source span.start
   pub to : IsCharBoundary source span.end
@@ -55,7 +55,7 @@ pub record IsSnippetWithContext (before after : ℕ) (a b : Snippet Annotation) 
   pub line_numbering : b.line_numbering ≡ a.line_numbering
   pub fold : b.fold ≡ a.fold
   pub markers : b.markers.items ≡ a.markers.items ++ context_marks before after a
-  pub spans : All (IsPartOf (cow_str_bytes a.source)) (context_spans before after a)
+  pub spans : All (HoldsSpan (cow_str_bytes a.source)) (context_spans before after a)
 
 -- the second element is the first with such lines; only an annotated snippet has any
 abbrev pub IsElementWithContext : ℕ → ℕ → Element → Element → Type 0

@@ -2,7 +2,7 @@
 ghost use Rattle.std.specs.Prelude.{◌≡◌, ◌<◌, length, map, All, IfOk, true};
 ghost use Rattle.std.specs.Cow.{cow_str_bytes};
 ghost use Rattle.snippet_context.specs.Context as spec;
-ghost use Rattle.snippet_context.specs.WithContext.{IsPartOf, IsSnippetSound};
+ghost use Rattle.snippet_context.specs.WithContext.{HoldsSpan, IsSnippetSound};
 ghost use Rattle.snippet_lines.specs.Starts.{line_starts as spec_starts};
 ghost use Rattle.snippet_parts.specs.Annotated.{annotated_lines, seen_kept};
 ghost use Rattle.snippet_parts.specs.Kept.{kept_lines};
@@ -26,7 +26,7 @@ pub fn spans_around(
     requires sound { IsSnippetSound snippet.now }
     requires folded { snippet.now.fold ≡ true }
     ensures value { IfOk result (λ spans. spans.items ≡ spec.context_spans before after snippet.now) }
-    ensures parts { IfOk result (λ spans. All (IsPartOf (cow_str_bytes snippet.now.source)) spans.items) }
+    ensures parts { IfOk result (λ spans. All (HoldsSpan (cow_str_bytes snippet.now.source)) spans.items) }
 {
     let map = map_of(alloc, snippet)?;
     let (_, kept) = map.annotated_lines(&snippet.markers, true)?;

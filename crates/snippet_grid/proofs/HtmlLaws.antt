@@ -10,7 +10,7 @@ use Rattle.std.specs.Str.{chars}
 use lib.Pointwise.{pointwise}
 use Rattle.snippet_grid.proofs.HtmlLemmas.{look_is}
 use Rattle.snippet_grid.proofs.HtmlReads.{html_says_pieces, is_made, lacks, piece_says, tags_are}
-use Rattle.snippet_grid.specs.Html.{HtmlLook, HtmlPiece, Text, anchor_ended, anchor_started, between, cells_html, class_of, ended}
+use Rattle.snippet_grid.specs.Html.{HtmlLook, HtmlPiece, Text, anchor_ended, anchor_started, tags_between, cells_html, class_of, ended}
 use Rattle.snippet_grid.specs.Html.{further_html, html_text, level_class, html_look_of, plain_look, row_html, rows_html, same_html_look, span_ended}
 use Rattle.snippet_grid.specs.Html.{span_started}
 use Rattle.snippet_grid.specs.Html.{started}
@@ -53,7 +53,7 @@ says_ended look = says_both (anchor_ended look.address) (span_ended look.class) 
 says_started : (look : HtmlLook) → flat_map piece_says (started look) ≡ []
 says_started look = says_both (span_started look.class) (anchor_started look.address) (says_span_started look.class) (says_anchor_started look.address)
 
-says_between : (last next : HtmlLook) → flat_map piece_says (between last next) ≡ []
+says_between : (last next : HtmlLook) → flat_map piece_says (tags_between last next) ≡ []
 says_between last next = elim (cases_Bool (same_html_look last next)) [
   | inl same ↦ ap (λ (b : Bool). flat_map piece_says (if b then [] else (ended last ++ started next))) same
   | inr other ↦ ap (λ (b : Bool). flat_map piece_says (if b then [] else (ended last ++ started next))) other
@@ -65,7 +65,7 @@ says_cells level last [] = says_ended last
 says_cells level last (cell ∷ cells) =
     let look = html_look_of level cell in
     let rest : List HtmlPiece = Text cell.ch ∷ cells_html level look cells in
-    flat_map-append piece_says (between last look) rest ∙ ap (λ (t : List ℕ). t ++ flat_map piece_says rest) (says_between last look)
+    flat_map-append piece_says (tags_between last look) rest ∙ ap (λ (t : List ℕ). t ++ flat_map piece_says rest) (says_between last look)
     ∙ ap (λ (t : List ℕ). cell.ch ∷ t) (says_cells level look cells)
 
 says_further : (level : LevelInner) (rows : List (List Cell)) → flat_map piece_says (further_html level rows) ≡ further_text rows
@@ -141,7 +141,7 @@ made_started level cell =
     made-append (span_started look.class) (anchor_started look.address) (made_span_started look.class (class_lacks level cell.role))
     (made_anchor_started look.address)
 
-made_between : (level : LevelInner) (last : HtmlLook) (cell : Cell) → list_all is_made (between last (html_look_of level cell)) ≡ true
+made_between : (level : LevelInner) (last : HtmlLook) (cell : Cell) → list_all is_made (tags_between last (html_look_of level cell)) ≡ true
 made_between level last cell =
     let next = html_look_of level cell in
     elim (cases_Bool (same_html_look last next)) [
@@ -154,7 +154,7 @@ made_cells : (level : LevelInner) (last : HtmlLook) (cells : List Cell) → list
 made_cells level last [] = made_ended last
 made_cells level last (cell ∷ cells) =
     let look = html_look_of level cell in
-    made-append (between last look) (Text cell.ch ∷ cells_html level look cells) (made_between level last cell) (made_cells level look cells)
+    made-append (tags_between last look) (Text cell.ch ∷ cells_html level look cells) (made_between level last cell) (made_cells level look cells)
 
 made_further : (level : LevelInner) (rows : List (List Cell)) → list_all is_made (further_html level rows) ≡ true
 made_further level [] = refl
@@ -212,7 +212,7 @@ same_is a b same =
     let parts = and_parts (pointwise nat_eq a.class b.class) (pointwise nat_eq a.address b.address) same in
     look_is a b.class b.address (same_text a.class b.class (sym parts.0)) (same_text a.address b.address (sym parts.1))
 
-read_between : (last next : HtmlLook) (ps : List HtmlPiece) → chars_read last (between last next ++ ps) ≡ chars_read next ps
+read_between : (last next : HtmlLook) (ps : List HtmlPiece) → chars_read last (tags_between last next ++ ps) ≡ chars_read next ps
 read_between last next ps = elim (cases_Bool (same_html_look last next)) [
   | inl same ↦ ap (λ (b : Bool). chars_read last ((if b then [] else (ended last ++ started next)) ++ ps)) same
       ∙ ap (λ (l : HtmlLook). chars_read l ps) (same_is last next same)
@@ -226,7 +226,7 @@ read_cells level last [] ps = read_ended last ps
 read_cells level last (cell ∷ cells) ps =
     let look = html_look_of level cell in
     let read : ReadChar = record { ch = cell.ch; look = look } in
-    ap (chars_read last) (append_assoc (between last look) (Text cell.ch ∷ cells_html level look cells) ps)
+    ap (chars_read last) (append_assoc (tags_between last look) (Text cell.ch ∷ cells_html level look cells) ps)
     ∙ read_between last look (Text cell.ch ∷ (cells_html level look cells ++ ps)) ∙ ap (λ (rs : List ReadChar). read ∷ rs) (read_cells level look cells ps)
 
 -- each character of a row stands in the class of its cell's role, and in the link of the cell, whatever follows

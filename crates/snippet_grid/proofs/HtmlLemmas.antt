@@ -10,7 +10,7 @@ use Rattle.std.specs.Str.{IsUtf8, chars}
 use lib.Pointwise.{pointwise}
 use Rattle.snippet_grid.proofs.StretchPrinted.{alike, space_bytes}
 use Rattle.snippet_grid.proofs.WeaveLemmas.{Url}
-use Rattle.snippet_grid.specs.Html.{AddsHtml, AnchorStart, HtmlLook, HtmlPiece, SpanStart, Text, anchor_started, between, cells_html, ended}
+use Rattle.snippet_grid.specs.Html.{AddsHtml, AnchorStart, HtmlLook, HtmlPiece, SpanStart, Text, anchor_started, tags_between, cells_html, ended}
 use Rattle.snippet_grid.specs.Html.{escape, escaped, further_html, html_bytes, span_started}
 use Rattle.snippet_grid.specs.Html.{html_text, look_at, piece_html, row_html, rows_html, same_html_look, started}
 use Rattle.snippet_style.specs.Cell.{Cell}
@@ -92,7 +92,7 @@ same_is_same look =
     ap (λ (b : Bool). b && pointwise nat_eq look.address look.address) (nat_list_eq_equiv.refl look.class) ∙ nat_list_eq_equiv.refl look.address
 
 -- no tags stand between neighbours that stand in the same
-between_same : (look : HtmlLook) → between look look ≡ []
+between_same : (look : HtmlLook) → tags_between look look ≡ []
 between_same look = ap (λ (b : Bool). if b then [] else (ended look ++ started look)) (same_is_same look)
 
 -- what has this class and this address
@@ -114,12 +114,12 @@ alike_html level role link (ch ∷ word) more =
 -- cells after one that stands in something else, or the same
 stretch_html : (level : LevelInner) (last : HtmlLook) (role : ElementStyle) (link : Option Url) (word : List ℕ) (more : List Cell) → 0 < length word
     → cells_html level last (alike role link word ++ more)
-    ≡ (between last (look_at level role link) ++ map Text word) ++ cells_html level (look_at level role link) more
+    ≡ (tags_between last (look_at level role link) ++ map Text word) ++ cells_html level (look_at level role link) more
 stretch_html level last role link [] more some = absurd (omega arith)
 stretch_html level last role link (ch ∷ word) more some =
     let look = look_at level role link in
-    ap (λ (ps : List HtmlPiece). between last look ++ (Text ch ∷ ps)) (alike_html level role link word more)
-    ∙ sym (append_assoc (between last look) (Text ch ∷ map Text word) (cells_html level look more))
+    ap (λ (ps : List HtmlPiece). tags_between last look ++ (Text ch ∷ ps)) (alike_html level role link word more)
+    ∙ sym (append_assoc (tags_between last look) (Text ch ∷ map Text word) (cells_html level look more))
 
 -- ---- a row
 
@@ -130,12 +130,12 @@ HtmlGoes level last done old now =
 
 -- a stretch was printed
 pub html_stretch : (level : LevelInner) (last : HtmlLook) (role : ElementStyle) (link : Option Url) (word : List ℕ) (done : List Cell) (old now new : List ℕ)
-    → 0 < length word → AddsHtml (between last (look_at level role link) ++ map Text word) now new → HtmlGoes level last done old now
+    → 0 < length word → AddsHtml (tags_between last (look_at level role link) ++ map Text word) now new → HtmlGoes level last done old now
     → HtmlGoes level (look_at level role link) (done ++ alike role link word) old new
 html_stretch level last role link word done old now new some added goes more =
     let look = look_at level role link in
     let cells = alike role link word in
-    let tags : List HtmlPiece = between last look ++ map Text word in
+    let tags : List HtmlPiece = tags_between last look ++ map Text word in
     let rest : List HtmlPiece = cells_html level look more in
     ap (λ (cs : List Cell). old ++ html_bytes (row_html level cs)) (append_assoc done cells more)
     ∙ goes (cells ++ more)

@@ -11,7 +11,7 @@ use Rattle.snippet_grid.proofs.RowsWoven.{cells_of_row}
 use Rattle.snippet_grid.proofs.StretchLemmas.{stretch}
 use Rattle.snippet_grid.proofs.StretchPrinted.{alike}
 use Rattle.snippet_grid.specs.Grid.{row_at}
-use Rattle.snippet_grid.specs.Html.{AddsHtml, HtmlLook, Text, between, look_at, plain_look, row_html, rows_html}
+use Rattle.snippet_grid.specs.Html.{AddsHtml, HtmlLook, Text, tags_between, look_at, plain_look, row_html, rows_html}
 use Rattle.snippet_grid.specs.HtmlLooks.{IsHtmlGap}
 use Rattle.snippet_grid.specs.Runs.{IsRow, IsRun, Precedes, cells_to, grid_shown, run_chars}
 use Rattle.snippet_grid.specs.declared.runs.Run.{Run}
@@ -35,7 +35,7 @@ html_start level text runs row old =
 -- spaces were printed
 html_spaces : (level : LevelInner) (text : List ℕ) (runs : List Run) (row n col to : ℕ) (last : HtmlLook) (old now new : List ℕ) → col < to
     → ((k : ℕ) (d : Run) → n ≤ k → k < length runs → to ≤ (get_or runs k d).cell)
-    → AddsHtml (between last plain_look ++ map Text (replicate (to - col) 32)) now new → HtmlTo level text runs row n col last old now
+    → AddsHtml (tags_between last plain_look ++ map Text (replicate (to - col) 32)) now new → HtmlTo level text runs row n col last old now
     → HtmlTo level text runs row n to plain_look old new
 html_spaces level text runs row n col to last old now new some before added so_far =
     let count = to - col in
@@ -74,7 +74,7 @@ html_gap level text runs row n col to last next old now new reaches before gap s
 pub html_run : (level : LevelInner) (text : List ℕ) (runs : List Run) (row n col : ℕ) (d : Run) (last : HtmlLook) (old now new : List ℕ)
     → IsRow text row runs → n < length runs
     → (let run = get_or runs n d in col ≡ run.cell
-    → AddsHtml (between last (look_at level run.role (option_copied run.link)) ++ map Text (run_chars text run)) now new
+    → AddsHtml (tags_between last (look_at level run.role (option_copied run.link)) ++ map Text (run_chars text run)) now new
     → HtmlTo level text runs row n col last old now
     → HtmlTo level text runs row (n + 1) (run.cell + run.count) (look_at level run.role (option_copied run.link)) old new)
 html_run level text runs row n col d last old now new is_row within =

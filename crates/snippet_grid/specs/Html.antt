@@ -62,13 +62,13 @@ abbrev pub has_scheme : List ℕ → List ℕ → Bool
 has_scheme scheme address = pointwise nat_eq (map to_ascii_lowercase (take (length scheme) address)) scheme
 
 -- whether each character of an address is an ASCII character that is seen: no blank, no control character
-abbrev pub is_seen : List ℕ → Bool
-is_seen address = list_all is_ascii_graphic address
+abbrev pub is_graphic_address : List ℕ → Bool
+is_graphic_address address = list_all is_ascii_graphic address
 
 -- whether an address may be a link: it is of the web or of mail, and each of its characters is seen
 abbrev pub is_link_address : List ℕ → Bool
 is_link_address address =
-    (has_scheme (codes "http:") address || has_scheme (codes "https:") address || has_scheme (codes "mailto:") address) && is_seen address
+    (has_scheme (codes "http:") address || has_scheme (codes "https:") address || has_scheme (codes "mailto:") address) && is_graphic_address address
 
 -- the address that a link leads to in HTML; empty where it leads nowhere
 abbrev pub link_address : Option (List ℕ) → List ℕ
@@ -137,13 +137,13 @@ abbrev pub ended : HtmlLook → List HtmlPiece
 ended look = anchor_ended look.address ++ span_ended look.class
 
 -- the tags between two neighbours: none where they stand in the same
-abbrev pub between : HtmlLook → HtmlLook → List HtmlPiece
-between last next = if same_html_look last next then [] else ended last ++ started next
+abbrev pub tags_between : HtmlLook → HtmlLook → List HtmlPiece
+tags_between last next = if same_html_look last next then [] else ended last ++ started next
 
 -- cells after one that stands in this
 abbrev pub cells_html : LevelInner → HtmlLook → List Cell → List HtmlPiece
 cells_html level last [] = ended last
-cells_html level last (cell ∷ cells) = between last (html_look_of level cell) ++ (Text cell.ch ∷ cells_html level (html_look_of level cell) cells)
+cells_html level last (cell ∷ cells) = tags_between last (html_look_of level cell) ++ (Text cell.ch ∷ cells_html level (html_look_of level cell) cells)
 
 -- a row
 abbrev pub row_html : LevelInner → List Cell → List HtmlPiece

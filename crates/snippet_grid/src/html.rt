@@ -12,7 +12,7 @@ ghost use Rattle.std.specs.Option.{option_copied};
 ghost use Rattle.std.specs.Str.{chars};
 ghost use Rattle.snippet_grid.specs.Runs.{IsGrid, IsRow, EndsBy, cells_to, grid_shown};
 ghost use Rattle.snippet_grid.specs.Html as spec;
-ghost use Rattle.snippet_grid.specs.Html.{AddsHtml, Text, anchor_ended, anchor_started, between, ended, escape};
+ghost use Rattle.snippet_grid.specs.Html.{AddsHtml, Text, anchor_ended, anchor_started, tags_between, ended, escape};
 ghost use Rattle.snippet_grid.specs.Html.{look_at, row_html, rows_html, span_ended, span_started, started};
 ghost use Rattle.snippet_grid.specs.HtmlLooks.{IsHtmlGap, look_seen};
 
@@ -116,7 +116,7 @@ fn is_link_address(address: &str) -> bool
 
 /// Whether each character of an address is an ASCII character that is seen.
 fn is_seen(address: &str) -> bool
-    ensures value { result ≡ spec.is_seen address.now }
+    ensures value { result ≡ spec.is_graphic_address address.now }
 {
     address.as_bytes().iter().all(|b| b.is_ascii_graphic())
 }
@@ -205,7 +205,7 @@ fn start_look(out: &mut String, look: Look<'_>) -> Result<(), AllocError>
 
 /// Adds the tags between two neighbours: none where they stand in the same.
 fn change_look(out: &mut String, last: Look<'_>, next: Look<'_>) -> Result<(), AllocError>
-    ensures added { OnOk result (AddsHtml (between (look_seen last.entry) (look_seen next.entry))
+    ensures added { OnOk result (AddsHtml (tags_between (look_seen last.entry) (look_seen next.entry))
         (string_bytes out.old) (string_bytes out.new)) }
 {
     if last.class == next.class && last.address == next.address {
@@ -222,7 +222,7 @@ fn push_stretch(
     last: Look<'_>,
     next: Look<'_>,
 ) -> Result<(), AllocError>
-    ensures added { OnOk result (AddsHtml (between (look_seen last.entry) (look_seen next.entry)
+    ensures added { OnOk result (AddsHtml (tags_between (look_seen last.entry) (look_seen next.entry)
         ++ map Text (chars word.now)) (string_bytes out.old) (string_bytes out.new)) }
 {
     change_look(out, last, next)?;

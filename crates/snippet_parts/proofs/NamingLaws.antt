@@ -75,8 +75,8 @@ first_is place_on line_at (j ∷ ks) k place rises among has none =
 -- ---- the places of bytes
 
 -- a text has no more characters up to a byte than up to a later one
-chars-more : (text : List ℕ) (m n : ℕ) → IsUtf8 (take m text) → m ≤ n → length (chars (take m text)) ≤ length (chars (take n text))
-chars-more text m n utf8 upto =
+length-chars-more : (text : List ℕ) (m n : ℕ) → IsUtf8 (take m text) → m ≤ n → length (chars (take m text)) ≤ length (chars (take n text))
+length-chars-more text m n utf8 upto =
     let rest : List ℕ = take (n - m) (drop m text) in
     let parts : take n text ≡ take m text ++ rest = ap (λ k. take k text) (let e : n ≡ m + (n - m) = omega arith in e) ∙ take-add m (n - m) text in
     omega (arith, ap (λ t. length (chars t)) parts, ap length (chars-append (take m text) rest utf8), length-append (chars (take m text)) (chars rest))
@@ -125,7 +125,7 @@ place-by s a b utf8 border upto = (
         let text : List ℕ = text_at ls k in
         let cut : IsUtf8 (take (a - start_of ls k) text) = prefix-utf8 text (a - start_of ls k) (IsUtf8-text_at s.text k utf8)
         (IsUtf8-take text (min (a - start_of ls k) (length text)) (IsUtf8-text_at s.text k utf8) (IsCharBoundary-prefix s.text a border)) in
-        let more = chars-more text (a - start_of ls k) (b - start_of ls k) cut (omega arith) in
+        let more = length-chars-more text (a - start_of ls k) (b - start_of ls k) cut (omega arith) in
         let later : (place_of s.text b).character ≡ length (chars (take (b - start_of ls k) text)) = place_of-character s.text b
         ∙ ap (λ n. length (chars (prefix_at ls n b))) (sym one) in
         omega (

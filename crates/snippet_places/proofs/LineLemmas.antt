@@ -5,7 +5,7 @@ use Rattle.std.proofs.Common.{if◌then◌else◌}
 use Rattle.std.proofs.lemmas.Bool.Decides.{nat_tests}
 use Rattle.std.proofs.lemmas.Str.{IsCharBoundary-after_ascii}
 use Rattle.std.specs.Str.{IsCharBoundary, IsUtf8}
-use Rattle.snippet_places.specs.TextLines.{begins_with_feed, ends_line, line_length, start_at, starts_after}
+use Rattle.snippet_places.specs.TextLines.{begins_with_feed, ends_line, line_length, line_start_after, starts_after}
 
 -- a byte before which a line ends is a line feed or a carriage return
 line_end-small : (b : ℕ) (feed : Bool) → (b == 10 || b == 13 && feed) ≡ true → b ≤ 13
@@ -40,10 +40,10 @@ line_length-border bytes =
 
 -- the bytes at which lines start from here on: of this byte, and of those after it
 pub starts_after-next : (text : List ℕ) (at : ℕ) → at < length text
-    → starts_after at (drop at text) ≡ start_at at (get_or text at 0) ++ starts_after (at + 1) (drop (at + 1) text)
+    → starts_after at (drop at text) ≡ line_start_after at (get_or text at 0) ++ starts_after (at + 1) (drop (at + 1) text)
 starts_after-next text at within =
     let count : at + 1 ≡ suc at = omega arith in
-    ap (starts_after at) (drop-cons text at 0 within) ∙ ap (λ n. start_at at (get_or text at 0) ++ starts_after (at + 1) (drop n text)) (sym count)
+    ap (starts_after at) (drop-cons text at 0 within) ∙ ap (λ n. line_start_after at (get_or text at 0) ++ starts_after (at + 1) (drop n text)) (sym count)
 
 -- the line that is so many lines further on, of those that start at this byte, and from here on
 abbrev pub found : List ℕ → ℕ → ℕ → ℕ → Option ℕ

@@ -6,7 +6,7 @@ use Rattle.std.specs.Char.{len_utf8}
 use Rattle.std.specs.Option.{option_map_or}
 use Rattle.std.specs.Str.{IsCharBoundary}
 use Rattle.snippet_text.specs.Width.{char_width}
-use Rattle.snippet_places.specs.TextLines.{first_line, line_starts}
+use Rattle.snippet_places.specs.TextLines.{before_line_end, start_bytes}
 use Rattle.snippet_places.specs.declared.clamp.Place.{Place}
 use Rattle.snippet_places.specs.declared.clamp.SpanAt.{SpanAt}
 use Rattle.snippet_places.specs.declared.columns.ColumnUnit as unit_type
@@ -28,10 +28,10 @@ place_from unit at (c ∷ cs) units =
     else place_from unit (at + len_utf8 c) cs (units - units_of unit c)
 
 -- the place of a column, counted from 1, in the line that starts at this byte of a source
-abbrev pub place_on_line : unit_type.ColumnUnit → List ℕ → ℕ → ℕ → Place
-place_on_line unit source zero start = record { byte = start; exact = false }
-place_on_line unit source (suc units) start =
-    let within = place_from unit 0 (chars (first_line (drop start source))) units in
+abbrev pub place_on_its_line : unit_type.ColumnUnit → List ℕ → ℕ → ℕ → Place
+place_on_its_line unit source zero start = record { byte = start; exact = false }
+place_on_its_line unit source (suc units) start =
+    let within = place_from unit 0 (chars (before_line_end (drop start source))) units in
     record { byte = start + within.byte; exact = within.exact }
 
 -- the place of a column in the line of a number, counted from 1: before the first line it is the source's start, and after the last its
@@ -39,7 +39,7 @@ place_on_line unit source (suc units) start =
 abbrev pub place_in : unit_type.ColumnUnit → List ℕ → ℕ → ℕ → Place
 place_in unit source column zero = record { byte = 0; exact = false }
 place_in unit source column (suc index) =
-    option_map_or (place_on_line unit source column) (slice_get (line_starts source) index) record { byte = length source; exact = false }
+    option_map_or (place_on_its_line unit source column) (slice_get (start_bytes source) index) record { byte = length source; exact = false }
 
 -- the place of a position
 abbrev pub place_of : unit_type.ColumnUnit → List ℕ → Position → Place
@@ -60,8 +60,8 @@ border_before text (suc k) = if is_border text (suc k) then suc k else border_be
 
 -- the span between two places of a text: from the last border at the one or before it to the last border at the other or before it, or
 -- to its own start where that is later; and whether it differs from what was asked for
-abbrev pub between : List ℕ → Place → Place → SpanAt
-between text from to =
+abbrev pub clamped_between : List ℕ → Place → Place → SpanAt
+clamped_between text from to =
     let start = border_before text from.byte in
     let end = max (border_before text to.byte) start in
     record { span = record { start = start; end = end }; clamped = not (from.exact && to.exact && start == from.byte && end == to.byte) }
@@ -73,7 +73,7 @@ pub record IsHeld (text : List ℕ) (p : Place) : Type 0 where
 
 -- what is returned for two places: a part of the text between characters, from the one to the other where the text holds both, in that
 -- order; and only where it is said not to be does it differ
-pub record IsLocated (text : List ℕ) (from to : Place) (r : SpanAt) : Type 0 where
+pub record IsSpanBetween (text : List ℕ) (from to : Place) (r : SpanAt) : Type 0 where
   pub ordered : r.span.start ≤ r.span.end
   pub starts : IsCharBoundary text r.span.start
   pub ends : IsCharBoundary text r.span.end

@@ -2,7 +2,7 @@
 ghost use Rattle.std.specs.Prelude.{◌≡◌, ℕ, ◌<◌, ◌≤◌, length};
 ghost use Rattle.std.specs.Str.{IsCharBoundary};
 ghost use Rattle.snippet_places.specs.Places as spec;
-ghost use Rattle.snippet_places.specs.Places.{IsLocated};
+ghost use Rattle.snippet_places.specs.Places.{IsSpanBetween};
 
 use std::ops::Range;
 
@@ -26,10 +26,10 @@ pub struct SpanAt {
 pub fn between(text: &str, from: Place, to: Place) -> SpanAt
     // It starts at the last border at or before the one place, and ends at the last at or before the other, or at its
     // start where that is later.
-    ensures value { result ≡ spec.between text.now from to }
+    ensures value { result ≡ spec.clamped_between text.now from to }
 
     // So where the text holds both places, in that order, it goes from the one to the other.
-    ensures located { IsLocated text.now from to result }
+    ensures located { IsSpanBetween text.now from to result }
 {
     let start = border_before(text, from.byte);
     let end = border_before(text, to.byte).max(start);

@@ -2,8 +2,8 @@
 ghost use Rattle.std.specs.Prelude.{◌≡◌, ◌+◌, ◌^◌, ◌<◌, ◌≤◌, IfSome, chars, length, slice_get};
 ghost use Rattle.std.specs.Str.{IsCharBoundary};
 ghost use Rattle.snippet_places.specs.Places as spec;
-ghost use Rattle.snippet_places.specs.Places.{IsLocated};
-ghost use Rattle.snippet_places.specs.TextLines.{first_line, line_starts};
+ghost use Rattle.snippet_places.specs.Places.{IsSpanBetween};
+ghost use Rattle.snippet_places.specs.TextLines.{before_line_end, start_bytes};
 
 use crate::clamp::{Place, SpanAt, between};
 use crate::lines::line_length;
@@ -46,12 +46,12 @@ pub struct Position {
 /// let at = span_at("a\nlet é = 1;\n", from, to, ColumnUnit::Chars);
 /// ```
 pub fn span_at(source: &str, from: Position, to: Position, unit: ColumnUnit) -> SpanAt
-    ensures located { IsLocated source.now
+    ensures located { IsSpanBetween source.now
         (spec.place_of unit source.now from) (spec.place_of unit source.now to) result }
 
     // Whatever is asked for, it starts at the last border of characters at or before the place of `from`, and ends at
     // the last at or before that of `to`, or at its start where that is later.
-    ensures value { result ≡ spec.between source.now
+    ensures value { result ≡ spec.clamped_between source.now
         (spec.place_of unit source.now from) (spec.place_of unit source.now to) }
 {
     between(
@@ -82,7 +82,7 @@ fn place_of(source: &str, position: Position, unit: ColumnUnit) -> Place
 
 /// The byte at which the line of an index, from 0, starts; `None` where the source has no such line.
 pub fn line_start(source: &str, index: usize) -> Option<usize>
-    ensures value { result ≡ slice_get (line_starts source.now) index }
+    ensures value { result ≡ slice_get (start_bytes source.now) index }
     ensures border { IfSome result (λ start. IsCharBoundary source.now start) }
 {
     let mut start = 0;
@@ -102,7 +102,7 @@ pub fn line_start(source: &str, index: usize) -> Option<usize>
 /// The place of a column, counted from 1, on the line that starts at this byte.
 fn place_on_line(source: &str, start: usize, column: usize, unit: ColumnUnit) -> Place
     requires border { IsCharBoundary source.now start }
-    ensures value { result ≡ spec.place_on_line unit source.now column start }
+    ensures value { result ≡ spec.place_on_its_line unit source.now column start }
 {
     if column == 0 {
         return Place {
@@ -119,7 +119,7 @@ fn place_on_line(source: &str, start: usize, column: usize, unit: ColumnUnit) ->
 
 /// The first line of a text, without its end.
 fn line_text(text: &str) -> &str
-    ensures value { result.now ≡ first_line text.now }
+    ensures value { result.now ≡ before_line_end text.now }
     ensures within { length result.now ≤ length text.now }
 {
     &text[..line_length(text.as_bytes())]

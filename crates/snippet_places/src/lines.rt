@@ -7,7 +7,7 @@ use std::alloc::{AllocError, Global};
 
 /// The bytes of a text at which its lines start: 0, and each byte after a line feed.
 pub fn line_starts(alloc: Global, text: &str) -> Result<Vec<usize>, AllocError>
-    ensures value { IfOk result (λ starts. starts.items ≡ spec.line_starts text.now) }
+    ensures value { IfOk result (λ starts. starts.items ≡ spec.start_bytes text.now) }
 {
     let mut starts = Vec::new(alloc);
     starts.push(0)?;
@@ -20,7 +20,7 @@ pub fn line_starts(alloc: Global, text: &str) -> Result<Vec<usize>, AllocError>
 /// Adds the byte after this one, if a line starts there.
 fn add_start(starts: &mut Vec<usize>, at: usize, byte: u8) -> Result<(), AllocError>
     requires fits { at < max_usize }
-    ensures added { OnOk result (starts.new.items ≡ starts.old.items ++ spec.start_at at byte) }
+    ensures added { OnOk result (starts.new.items ≡ starts.old.items ++ spec.line_start_after at byte) }
 {
     if byte == b'\n' {
         starts.push(at + 1)?;
@@ -30,7 +30,7 @@ fn add_start(starts: &mut Vec<usize>, at: usize, byte: u8) -> Result<(), AllocEr
 
 /// The first line of some bytes, without its end, which is a line feed or a carriage return and a line feed.
 pub fn first_line(bytes: &[u8]) -> &[u8]
-    ensures value { result.now ≡ spec.first_line bytes.now }
+    ensures value { result.now ≡ spec.before_line_end bytes.now }
 {
     &bytes[..line_length(bytes)]
 }

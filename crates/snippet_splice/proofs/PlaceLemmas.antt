@@ -36,8 +36,8 @@ between_reversed source from to i j is js none =
     ]
 
 -- what stands between a place and itself is UTF-8
-pub between_utf8 : (source : List ℕ) (from : ℕ) → IsUtf8 (between source from from)
-between_utf8 source from = subst IsUtf8 (sym (between_none source from from (omega arith))) IsUtf8-nil
+pub empty_part_utf8 : (source : List ℕ) (from : ℕ) → IsUtf8 (between source from from)
+empty_part_utf8 source from = subst IsUtf8 (sym (between_none source from from (omega arith))) IsUtf8-nil
 
 nothing : length (chars (after_last_lf [])) ≡ 0
 unfolding chars

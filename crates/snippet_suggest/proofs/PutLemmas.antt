@@ -24,7 +24,7 @@ use Rattle.snippet_splice.specs.declared.stretches.SubstitutionHighlight.{Substi
 use Rattle.snippet_suggest.specs.declared.kind.DisplaySuggestion.{DisplaySuggestion}
 use Rattle.snippet_suggest.specs.declared.kind.DisplaySuggestion.TheVariants.{Diff}
 use Rattle.snippet_suggest.specs.declared.layout.SuggestionStart.TheVariants.{Next, Opening, Path}
-use Rattle.snippet_suggest.specs.Cells.{begin_cells, begun_cells, end_cells, gap_cells, line_cells, lines_shown, offered_cells, put, removed_cells, row_shown}
+use Rattle.snippet_suggest.specs.Cells.{begin_cells, opened_cells, end_cells, gap_cells, line_cells, lines_shown, offered_cells, put, removed_cells, row_shown}
 use Rattle.snippet_suggest.specs.Cells.{sign_of, with_stretches}
 use Rattle.snippet_suggest.specs.RowOrder.{number_after}
 use Rattle.snippet_suggest.specs.declared.lines.SuggestedText.{SuggestedText}
@@ -144,8 +144,8 @@ pub begun_in_order : (layout : SuggestionLayout) (glyph : SuggestionGlyph) (numb
     → chars digits ≡ shown_number layout.numbers layout.base.gutter number → IsUtf8 digits → length digits ≤ layout.base.gutter + 1
     → (0 < length digits → one ≡ cells_written old r 0 (text_cells LineNumber (chars digits))) → (digits ≡ [] → one ≡ old)
     → new ≡ cells_written one r (layout.base.gutter + 1) (text_cells role (chars signed))
-    → new ≡ old ++ begun_cells layout glyph number ∷ []
-unfolding begun_cells
+    → new ≡ old ++ opened_cells layout glyph number ∷ []
+unfolding opened_cells
 begun_in_order layout glyph number role signed digits r old one new here role_is sign_is digits_are utf8 few numbers no_number signs =
     let at = layout.base.gutter + 1 in
     let k = suggestion_role_of glyph in
@@ -165,8 +165,8 @@ pub begun_over : (layout : SuggestionLayout) (glyph : SuggestionGlyph) (number :
     → chars digits ≡ shown_number layout.numbers layout.base.gutter number → IsUtf8 digits
     → one ≡ cells_written old r (layout.base.gutter + 1) (text_cells role (chars signed))
     → (0 < length digits → new ≡ cells_written one r 0 (text_cells LineNumber (chars digits))) → (digits ≡ [] → new ≡ one)
-    → new ≡ old ++ begun_cells layout glyph number ∷ []
-unfolding begun_cells
+    → new ≡ old ++ opened_cells layout glyph number ∷ []
+unfolding opened_cells
 begun_over layout glyph number role signed digits r old one new here role_is sign_is digits_are utf8 signs numbers no_number =
     let at = layout.base.gutter + 1 in
     let k = suggestion_role_of glyph in
@@ -180,19 +180,19 @@ begun_over layout glyph number role signed digits r old one new here role_is sig
 
 -- the line after that is its row
 pub line_is : (layout : SuggestionLayout) (glyph : SuggestionGlyph) (number : ℕ) (line : List ℕ)
-    → put NoStyle (norm (chars line)) (layout.base.gutter + 3) (begun_cells layout glyph number) ≡ line_cells layout glyph number line
-unfolding begun_cells line_cells
+    → put NoStyle (norm (chars line)) (layout.base.gutter + 3) (opened_cells layout glyph number) ≡ line_cells layout glyph number line
+unfolding opened_cells line_cells
 line_is layout glyph number line = refl
 
 -- the row of a line was drawn
 pub line_drawn : (layout : SuggestionLayout) (glyph : SuggestionGlyph) (number : ℕ) (line text : List ℕ) (r : ℕ) (old one new : List (List Cell))
-    → r ≡ length old → one ≡ old ++ begun_cells layout glyph number ∷ [] → chars text ≡ norm (chars line) → IsUtf8 text
+    → r ≡ length old → one ≡ old ++ opened_cells layout glyph number ∷ [] → chars text ≡ norm (chars line) → IsUtf8 text
     → (0 < length text → new ≡ cells_written one r (layout.base.gutter + 3) (text_cells NoStyle (chars text))) → (text ≡ [] → new ≡ one)
     → new ≡ old ++ line_cells layout glyph number line ∷ []
 line_drawn layout glyph number line text r old one new here begun text_is utf8 texts no_text =
     let g = layout.base.gutter in
-    put_more NoStyle text (g + 3) r old (begun_cells layout glyph number) one new utf8 here begun texts no_text
-    ∙ ap (λ (cs : List ℕ). old ++ put NoStyle cs (g + 3) (begun_cells layout glyph number) ∷ []) text_is
+    put_more NoStyle text (g + 3) r old (opened_cells layout glyph number) one new utf8 here begun texts no_text
+    ∙ ap (λ (cs : List ℕ). old ++ put NoStyle cs (g + 3) (opened_cells layout glyph number) ∷ []) text_is
     ∙ ap (λ (row : List Cell). old ++ row ∷ []) (line_is layout glyph number line)
 
 -- the row of a line that is removed was drawn, over one that is there or not

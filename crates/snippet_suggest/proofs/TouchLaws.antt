@@ -93,10 +93,10 @@ none-left-out kind folds ranges lines last none =
     ap (λ b. if b then [] else numbers_shown (lines_suggested (is_touched folds ranges) (length lines))) none
 
 -- where the line of a text is left out, it is blank or the text is as it was
-one-left-out : (s : Snippet Patch) → HaveSpans s → AreDisjoint (edits_of s) → s.markers.items ≢ [] → IsOfferable s → 0 < length (given_lines s)
+lone_patch_left_out : (s : Snippet Patch) → HaveSpans s → AreDisjoint (edits_of s) → s.markers.items ≢ [] → IsOfferable s → 0 < length (given_lines s)
     → is_left_out (shown_kind s) (given_lines s) (last_reached s) ≡ true
     → (length (given_lines s) ≤ 1) × ((is_blank_text (get_or (given_lines s) 0 []) ≡ true) ⊎ IsAsItWas s)
-one-left-out s spans disjoint some offerable first is =
+lone_patch_left_out s spans disjoint some offerable first is =
     let source : List ℕ = cow_str_bytes s.source in
     let why = left_out (shown_kind s) (given_lines s) (last_reached s) is in
     let one : length (given_lines s) ≤ 1 = omega (
@@ -133,7 +133,7 @@ touched-offered s spans disjoint offerable j touched filled =
     let low : k < length (given_lines s) = omega (arith, bounds.0, bounds.1, count) in
     let is_j : base + k ≡ j = omega (arith, bounds.0) in
     ⊎_elim
-    (λ out. let why = one-left-out s spans disjoint some offerable (omega (arith, low)) out in
+    (λ out. let why = lone_patch_left_out s spans disjoint some offerable (omega (arith, low)) out in
     ⊎_elim
     (λ blank. let zero_k : k ≡ 0 = omega (arith, low, why.0) in
     let at : get_or (given_lines s) 0 [] ≡ text_at ls j = ap (λ n. get_or (given_lines s) n []) (sym zero_k)

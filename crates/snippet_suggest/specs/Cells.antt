@@ -63,8 +63,8 @@ sign_of kind count line stretches =
     if nat_le count 1 then sign_alone kind else sign_among line stretches
 
 -- what stands left of a line in its row: a glyph after the gutter, and the line's number from the first cell on
-unfoldable pub begun_cells : SuggestionLayout → SuggestionGlyph → ℕ → List Cell
-begun_cells layout glyph number =
+unfoldable pub opened_cells : SuggestionLayout → SuggestionGlyph → ℕ → List Cell
+opened_cells layout glyph number =
     put LineNumber (shown_number layout.numbers layout.base.gutter number) 0
     (put (suggestion_role_of glyph) (suggestion_glyph_of layout.base.decor glyph) (separator_cell layout.base) [])
 

@@ -3,7 +3,7 @@ ghost use Rattle.std.specs.Prelude.{◌≡◌, ◌≤◌, ◌++◌, ◌∷◌, [
 ghost use Rattle.std.specs.Prelude.{length};
 ghost use Rattle.snippet_style.specs.Cell.{Cell};
 ghost use Rattle.snippet_grid.specs.Grid.{row_at};
-ghost use Rattle.snippet_suggest.specs.Cells.{begun_cells, gap_cells, line_cells, removed_cells};
+ghost use Rattle.snippet_suggest.specs.Cells.{opened_cells, gap_cells, line_cells, removed_cells};
 ghost use Rattle.snippet_grid.specs.Layout.{separator_cell};
 ghost use Rattle.snippet_style.specs.Bounds.{HasNext};
 
@@ -53,7 +53,7 @@ pub(crate) fn begin_line(
     glyph: SuggestionGlyph,
     number: usize,
 ) -> Result<usize, AllocError>
-    ensures cells { OnOk result (buffer.new ≡ buffer.old ++ begun_cells layout.now glyph number ∷ []) }
+    ensures cells { OnOk result (buffer.new ≡ buffer.old ++ opened_cells layout.now glyph number ∷ []) }
     ensures row { IfOk result (λ row. (row ≡ length buffer.old) × HasNext row) }
 {
     let row = buffer.num_lines();

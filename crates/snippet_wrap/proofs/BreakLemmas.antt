@@ -10,7 +10,7 @@ use Rattle.snippet_style.specs.Cell.{bytes_of}
 use Rattle.std.specs.Str.{IsCharBoundary, IsUtf8}
 use Rattle.snippet_style.proofs.CutLemmas.{IsNext, bytes-push, bytes_within, cut_back, cut_boundary, cut_front, drop-next, take-next}
 use Rattle.snippet_text.specs.Width.{char_width}
-use Rattle.snippet_wrap.specs.Wrapped.{IsBreakIn, break_after, break_before, first_break, first_row, fitting, gap_at, is_blank, last_blank, seam_at}
+use Rattle.snippet_wrap.specs.Wrapped.{IsBreakIn, break_after, break_before, first_break, first_row, fitting_on_row, gap_at, is_blank, last_blank, seam_at}
 use Rattle.snippet_wrap.specs.declared.row.Break.{Break}
 use Rattle.snippet_wrap.proofs.FitLemmas.{no_feed}
 
@@ -35,13 +35,13 @@ last_blank-no (d ∷ cs) c other = ap (onto d) (last_blank-no cs c other)
 
 -- ---- how many characters fit
 
-pub fitting-feed : (left c : ℕ) (cs : List ℕ) → c ≡ 10 → fitting left (c ∷ cs) ≡ 0
+pub fitting-feed : (left c : ℕ) (cs : List ℕ) → c ≡ 10 → fitting_on_row left (c ∷ cs) ≡ 0
 fitting-feed left c cs feed = grind (arith, nat_tests, feed)
 
-pub fitting-wide : (left c : ℕ) (cs : List ℕ) → left < char_width c → fitting left (c ∷ cs) ≡ 0
+pub fitting-wide : (left c : ℕ) (cs : List ℕ) → left < char_width c → fitting_on_row left (c ∷ cs) ≡ 0
 fitting-wide left c cs wide = grind (arith, nat_tests, wide)
 
-pub fitting-next : (left c w : ℕ) (cs : List ℕ) → (c ≡ 10 → ⊥) → w ≡ char_width c → w ≤ left → fitting left (c ∷ cs) ≡ fitting (left - w) cs + 1
+pub fitting-next : (left c w : ℕ) (cs : List ℕ) → (c ≡ 10 → ⊥) → w ≡ char_width c → w ≤ left → fitting_on_row left (c ∷ cs) ≡ fitting_on_row (left - w) cs + 1
 fitting-next left c w cs other is fits = grind (arith, nat_tests, other, is, fits)
 
 -- ---- so far
@@ -59,7 +59,7 @@ pub record BlankSoFar (cs : List ℕ) (n : ℕ) (blank : Option Break) : Type 0 
 -- the characters so far fit, and so much is left after them
 pub record FitsSoFar (room : ℕ) (cs : List ℕ) (n at left : ℕ) : Type 0 where
   pub bytes : at ≡ bytes_of (take n cs)
-  pub rest : fitting room cs ≡ n + fitting left (drop n cs)
+  pub rest : fitting_on_row room cs ≡ n + fitting_on_row left (drop n cs)
 
 pub BlankSoFar-none : (cs : List ℕ) → BlankSoFar cs 0 None
 BlankSoFar-none cs = record { is = refl }
@@ -100,8 +100,8 @@ pub FitsSoFar-next : (room : ℕ) (cs : List ℕ) (n at left c w len : ℕ) → 
     → len ≡ length (encode_utf8 c)
     → FitsSoFar room cs n at left → FitsSoFar room cs (n + 1) (at + len) (left - w)
 FitsSoFar-next room cs n at left c w len next other is fits is_len so_far =
-    let goes : fitting left (drop n cs) ≡ fitting (left - w) (drop (n + 1) cs) + 1 =
-    ap (fitting left) (drop-next cs n c next) ∙ fitting-next left c w (drop (n + 1) cs) other is fits in
+    let goes : fitting_on_row left (drop n cs) ≡ fitting_on_row (left - w) (drop (n + 1) cs) + 1 =
+    ap (fitting_on_row left) (drop-next cs n c next) ∙ fitting-next left c w (drop (n + 1) cs) other is fits in
     record {
       bytes = omega (arith, so_far.bytes, ap bytes_of (take-next cs n c next), bytes-push (take n cs) c, is_len);
       rest = omega (arith, so_far.rest, goes);
@@ -115,23 +115,23 @@ unless b found = if b then None else found
 -- all characters fit
 pub break-none : (room : ℕ) (cs : List ℕ) (n at left : ℕ) → n ≡ length cs → FitsSoFar room cs n at left → first_break room cs ≡ None
 break-none room cs n at left all so_far =
-    let stop : fitting left (drop n cs) ≡ 0 = ap (fitting left) (drop_all n cs (omega (arith, all))) in
-    let whole : fitting room cs ≡ length cs = omega (arith, so_far.rest, stop, all) in
-    let holds : (fitting room cs == length cs) ≡ true = grind (arith, nat_tests, whole) in
-    ap (λ (b : Bool). unless b (Some (break_after (fitting room cs) cs))) holds
+    let stop : fitting_on_row left (drop n cs) ≡ 0 = ap (fitting_on_row left) (drop_all n cs (omega (arith, all))) in
+    let whole : fitting_on_row room cs ≡ length cs = omega (arith, so_far.rest, stop, all) in
+    let holds : (fitting_on_row room cs == length cs) ≡ true = grind (arith, nat_tests, whole) in
+    ap (λ (b : Bool). unless b (Some (break_after (fitting_on_row room cs) cs))) holds
 
 -- so many characters fit, and there are more
-break-some : (room n : ℕ) (cs : List ℕ) → fitting room cs ≡ n → n < length cs → first_break room cs ≡ Some (break_after n cs)
+break-some : (room n : ℕ) (cs : List ℕ) → fitting_on_row room cs ≡ n → n < length cs → first_break room cs ≡ Some (break_after n cs)
 break-some room n cs is less =
-    let more : (fitting room cs == length cs) ≡ false = grind (arith, nat_tests, is, less) in
-    ap (λ (b : Bool). unless b (Some (break_after (fitting room cs) cs))) more ∙ ap (λ (k : ℕ). Some (break_after k cs)) is
+    let more : (fitting_on_row room cs == length cs) ≡ false = grind (arith, nat_tests, is, less) in
+    ap (λ (b : Bool). unless b (Some (break_after (fitting_on_row room cs) cs))) more ∙ ap (λ (k : ℕ). Some (break_after k cs)) is
 
 -- the next character is a line feed
 pub break-feed : (room : ℕ) (cs : List ℕ) (n at left c : ℕ) → IsNext cs n c → c ≡ 10 → FitsSoFar room cs n at left
     → IsSomeAnd (first_break room cs) (IsBreakIn cs (gap_at at))
 break-feed room cs n at left c next feed so_far =
-    let stop : fitting left (drop n cs) ≡ 0 = ap (fitting left) (drop-next cs n c next) ∙ fitting-feed left c (drop (n + 1) cs) feed in
-    let fits : fitting room cs ≡ n = omega (arith, so_far.rest, stop) in
+    let stop : fitting_on_row left (drop n cs) ≡ 0 = ap (fitting_on_row left) (drop-next cs n c next) ∙ fitting-feed left c (drop (n + 1) cs) feed in
+    let fits : fitting_on_row room cs ≡ n = omega (arith, so_far.rest, stop) in
     let is : (get_or cs n 0 == 10) ≡ true = ap (λ d. d == 10) (at_any cs n 0 c next.0 ∙ sym next.1 ∙ feed) in
     let gap : break_after n cs ≡ gap_at n = ap (λ b. if b then gap_at n else break_before (last_blank (take (n + 1) cs)) n) is in
     let found : first_break room cs ≡ Some (gap_at n) = break-some room n cs fits next.0 ∙ ap (λ (b : Break). Some b) gap in
@@ -149,8 +149,8 @@ seam_in_bytes cs n at (Some k) (Some b) is found = found
 pub break-wide : (room : ℕ) (cs : List ℕ) (n at left c : ℕ) (blank : Option Break) → IsNext cs n c → (c ≡ 10 → ⊥) → left < char_width c
     → FitsSoFar room cs n at left → BlankSoFar cs (n + 1) blank → IsSomeAnd (first_break room cs) (IsBreakIn cs (unwrap_or blank (seam_at at)))
 break-wide room cs n at left c blank next other wide so_far blanks =
-    let stop : fitting left (drop n cs) ≡ 0 = ap (fitting left) (drop-next cs n c next) ∙ fitting-wide left c (drop (n + 1) cs) wide in
-    let fits : fitting room cs ≡ n = omega (arith, so_far.rest, stop) in
+    let stop : fitting_on_row left (drop n cs) ≡ 0 = ap (fitting_on_row left) (drop-next cs n c next) ∙ fitting-wide left c (drop (n + 1) cs) wide in
+    let fits : fitting_on_row room cs ≡ n = omega (arith, so_far.rest, stop) in
     let plain : (c == 10) ≡ false = no_feed c other in
     let is : (get_or cs n 0 == 10) ≡ false = ap (λ d. d == 10) (at_any cs n 0 c next.0 ∙ sym next.1) ∙ plain in
     let seam : break_after n cs ≡ break_before (last_blank (take (n + 1) cs)) n =

@@ -9,7 +9,7 @@ use Rattle.std.proofs.lemmas.List.Elements.{All-cons, All-nil}
 use Rattle.std.proofs.lemmas.List.Sums.{sum_by-cons}
 use Rattle.snippet_text.specs.Width.{char_width, width_of}
 use Rattle.snippet_text.proofs.WidthBounds.{char_width-bound}
-use Rattle.snippet_wrap.specs.Wrapped.{break_after, break_before, first_break, fitting, gap_at, is_blank, last_blank, seam_at}
+use Rattle.snippet_wrap.specs.Wrapped.{break_after, break_before, first_break, fitting_on_row, gap_at, is_blank, last_blank, seam_at}
 use Rattle.snippet_wrap.specs.WrapLaws.{is_gap}
 use Rattle.snippet_wrap.specs.declared.row.Break.{Break}
 use Rattle.snippet_wrap.proofs.BreakLemmas.{fitting-next, onto}
@@ -118,9 +118,9 @@ within_one : (b : Bool) (n : ℕ) (cs : List ℕ) (c : ℕ) → n ≤ length cs 
 within_one true n cs c within = omega (arith, within)
 within_one false n cs c within = omega arith
 
-pub fitting_within : (room : ℕ) (cs : List ℕ) → fitting room cs ≤ length cs
+pub fitting_within : (room : ℕ) (cs : List ℕ) → fitting_on_row room cs ≤ length cs
 fitting_within room [] = omega arith
-fitting_within room (c ∷ cs) = within_one (fits room c) (fitting (room - char_width c) cs) cs c (fitting_within (room - char_width c) cs)
+fitting_within room (c ∷ cs) = within_one (fits room c) (fitting_on_row (room - char_width c) cs) cs c (fitting_within (room - char_width c) cs)
 
 -- they are no wider than the room
 width_one : (room c : ℕ) (cs : List ℕ) (b : Bool) (n : ℕ) → fits room c ≡ b → width_of (take n cs) ≤ room - char_width c
@@ -130,9 +130,9 @@ width_one room c cs true n is rest =
     omega (arith, ap width_of (take_suc n c cs), width-cons c (take n cs), rest, fit)
 width_one room c cs false n is rest = omega arith
 
-pub fitting_width : (room : ℕ) (cs : List ℕ) → width_of (take (fitting room cs) cs) ≤ room
+pub fitting_width : (room : ℕ) (cs : List ℕ) → width_of (take (fitting_on_row room cs) cs) ≤ room
 fitting_width room [] = omega arith
-fitting_width room (c ∷ cs) = width_one room c cs (fits room c) (fitting (room - char_width c) cs) refl (fitting_width (room - char_width c) cs)
+fitting_width room (c ∷ cs) = width_one room c cs (fits room c) (fitting_on_row (room - char_width c) cs) refl (fitting_width (room - char_width c) cs)
 
 -- none of them is a line feed
 abbrev pub IsOther : ℕ → Type 0
@@ -144,9 +144,9 @@ line_one room c cs true n is rest =
     subst (All IsOther) (sym (take_suc n c cs)) (All-cons IsOther c (take n cs) other rest)
 line_one room c cs false n is rest = All-nil IsOther
 
-pub fitting_line : (room : ℕ) (cs : List ℕ) → All IsOther (take (fitting room cs) cs)
+pub fitting_line : (room : ℕ) (cs : List ℕ) → All IsOther (take (fitting_on_row room cs) cs)
 fitting_line room [] = All-nil IsOther
-fitting_line room (c ∷ cs) = line_one room c cs (fits room c) (fitting (room - char_width c) cs) refl (fitting_line (room - char_width c) cs)
+fitting_line room (c ∷ cs) = line_one room c cs (fits room c) (fitting_on_row (room - char_width c) cs) refl (fitting_line (room - char_width c) cs)
 
 -- with the next one, if that is no line feed, they are wider
 abbrev IsTooWide : ℕ → List ℕ → ℕ → Type 0
@@ -161,45 +161,45 @@ stop_one room c cs false n is rest less other =
     let wide : room < char_width c = grind (arith, nat_tests, is, other) in
     omega (arith, wide, ap width_of (take_suc 0 c cs), width-cons c [])
 
-pub fitting_stops : (room : ℕ) (cs : List ℕ) → fitting room cs < length cs → (get_or cs (fitting room cs) 0 ≡ 10 → ⊥)
-    → room < width_of (take (fitting room cs + 1) cs)
+pub fitting_stops : (room : ℕ) (cs : List ℕ) → fitting_on_row room cs < length cs → (get_or cs (fitting_on_row room cs) 0 ≡ 10 → ⊥)
+    → room < width_of (take (fitting_on_row room cs + 1) cs)
 fitting_stops room [] less other = absurd (omega (arith, less))
 fitting_stops room (c ∷ cs) less other =
-    stop_one room c cs (fits room c) (fitting (room - char_width c) cs) refl (fitting_stops (room - char_width c) cs) less other
+    stop_one room c cs (fits room c) (fitting_on_row (room - char_width c) cs) refl (fitting_stops (room - char_width c) cs) less other
 
 -- one at least fits in a room of the widest character
-pub fitting_some : (room : ℕ) (cs : List ℕ) → 4 ≤ room → 0 < length cs → (get_or cs 0 0 ≡ 10 → ⊥) → 0 < fitting room cs
+pub fitting_some : (room : ℕ) (cs : List ℕ) → 4 ≤ room → 0 < length cs → (get_or cs 0 0 ≡ 10 → ⊥) → 0 < fitting_on_row room cs
 fitting_some room [] enough some other = absurd (omega (arith, some))
 fitting_some room (c ∷ cs) enough some other =
     omega (arith, fitting-next room c (char_width c) cs other refl (omega (arith, enough, char_width-bound c)))
 
 -- a text that is no wider, of one line, fits whole
-pub fitting_all : (room : ℕ) (cs : List ℕ) → fitting room cs ≡ length cs → (All IsOther cs) × (width_of cs ≤ room)
+pub fitting_all : (room : ℕ) (cs : List ℕ) → fitting_on_row room cs ≡ length cs → (All IsOther cs) × (width_of cs ≤ room)
 fitting_all room cs all =
-    let whole : take (fitting room cs) cs ≡ cs = take_all (fitting room cs) cs (omega (arith, all)) in
+    let whole : take (fitting_on_row room cs) cs ≡ cs = take_all (fitting_on_row room cs) cs (omega (arith, all)) in
     (subst (All IsOther) whole (fitting_line room cs), omega (arith, ap width_of whole, fitting_width room cs))
 
 -- ---- the first break
 
-either_break : (room : ℕ) (cs : List ℕ) (whole : Bool) (at : Break) → (fitting room cs == length cs) ≡ whole
-    → (let found : Option Break = if whole then None else Some (break_after (fitting room cs) cs) in found ≡ Some at)
-    → (fitting room cs < length cs) × (at ≡ break_after (fitting room cs) cs)
+either_break : (room : ℕ) (cs : List ℕ) (whole : Bool) (at : Break) → (fitting_on_row room cs == length cs) ≡ whole
+    → (let found : Option Break = if whole then None else Some (break_after (fitting_on_row room cs) cs) in found ≡ Some at)
+    → (fitting_on_row room cs < length cs) × (at ≡ break_after (fitting_on_row room cs) cs)
 either_break room cs true at is found = absurd (false≢true (ap (λ (o : Option Break). is_some o) found))
 either_break room cs false at is found =
-    let less : fitting room cs < length cs = grind (arith, nat_tests, is, fitting_within room cs) in
+    let less : fitting_on_row room cs < length cs = grind (arith, nat_tests, is, fitting_within room cs) in
     (less, sym (ap (λ (o : Option Break). unwrap_or o at) found))
 
 pub break_found : (room : ℕ) (cs : List ℕ) (at : Break) → first_break room cs ≡ Some at
-    → (fitting room cs < length cs) × (at ≡ break_after (fitting room cs) cs)
-break_found room cs at found = either_break room cs (fitting room cs == length cs) at refl found
+    → (fitting_on_row room cs < length cs) × (at ≡ break_after (fitting_on_row room cs) cs)
+break_found room cs at found = either_break room cs (fitting_on_row room cs == length cs) at refl found
 
-none_break : (room : ℕ) (cs : List ℕ) (whole : Bool) → (fitting room cs == length cs) ≡ whole
-    → (let found : Option Break = if whole then None else Some (break_after (fitting room cs) cs) in found ≡ None) → fitting room cs ≡ length cs
+none_break : (room : ℕ) (cs : List ℕ) (whole : Bool) → (fitting_on_row room cs == length cs) ≡ whole
+    → (let found : Option Break = if whole then None else Some (break_after (fitting_on_row room cs) cs) in found ≡ None) → fitting_on_row room cs ≡ length cs
 none_break room cs true is found = grind (arith, nat_tests, is)
 none_break room cs false is found = absurd (false≢true (sym (ap (λ (o : Option Break). is_some o) found)))
 
-pub break_missing : (room : ℕ) (cs : List ℕ) → first_break room cs ≡ None → fitting room cs ≡ length cs
-break_missing room cs found = none_break room cs (fitting room cs == length cs) refl found
+pub break_missing : (room : ℕ) (cs : List ℕ) → first_break room cs ≡ None → fitting_on_row room cs ≡ length cs
+break_missing room cs found = none_break room cs (fitting_on_row room cs == length cs) refl found
 
 positive : (n : ℕ) → (n ≡ 0 → ⊥) → 0 < n
 positive zero other = absurd (other refl)
@@ -211,15 +211,15 @@ pub record IsWithin (cs : List ℕ) (at : Break) : Type 0 where
   pub some : 0 < at.next
   pub end : at.next ≤ length cs
 
-within_at : (room : ℕ) (cs : List ℕ) (at : Break) → 4 ≤ room → fitting room cs < length cs → Ends cs (fitting room cs) at → IsWithin cs at
+within_at : (room : ℕ) (cs : List ℕ) (at : Break) → 4 ≤ room → fitting_on_row room cs < length cs → Ends cs (fitting_on_row room cs) at → IsWithin cs at
 within_at room cs at enough less (at_gap k up_to gap is) =
     let e : at.end ≡ k = ap (λ (b : Break). b.end) is in
     let n : at.next ≡ k + 1 = ap (λ (b : Break). b.next) is in
     record { order = omega (arith, e, n); some = omega (arith, n); end = omega (arith, n, up_to, less) }
 within_at room cs at enough less (at_seam other blanks is) =
-    let e : at.end ≡ fitting room cs = ap (λ (b : Break). b.end) is in
-    let n : at.next ≡ fitting room cs = ap (λ (b : Break). b.next) is in
-    let none : fitting room cs ≡ 0 → ⊥ = λ nothing. (
+    let e : at.end ≡ fitting_on_row room cs = ap (λ (b : Break). b.end) is in
+    let n : at.next ≡ fitting_on_row room cs = ap (λ (b : Break). b.next) is in
+    let none : fitting_on_row room cs ≡ 0 → ⊥ = λ nothing. (
     let first : get_or cs 0 0 ≡ 10 → ⊥ = λ feed. other (ap (λ (j : ℕ). get_or cs j 0) nothing ∙ feed) in
     absurd (omega (arith, nothing, fitting_some room cs enough (omega (arith, less)) first))) in
     record { order = omega (arith, e, n); some = positive at.next (λ nothing. none (sym n ∙ nothing)); end = omega (arith, n, less) }
@@ -227,4 +227,4 @@ within_at room cs at enough less (at_seam other blanks is) =
 pub break_within : (room : ℕ) (cs : List ℕ) (at : Break) → 4 ≤ room → first_break room cs ≡ Some at → IsWithin cs at
 break_within room cs at enough found =
     let is = break_found room cs at found in
-    within_at room cs at enough is.0 (subst (Ends cs (fitting room cs)) (sym is.1) (ends cs (fitting room cs) is.0))
+    within_at room cs at enough is.0 (subst (Ends cs (fitting_on_row room cs)) (sym is.1) (ends cs (fitting_on_row room cs) is.0))

@@ -11,7 +11,7 @@ use Rattle.std.proofs.lemmas.List.Elements.{filter-append}
 use Rattle.std.proofs.lemmas.List.Splits.{length-slice_split, slice_split-cons_no, slice_split-cons_yes, slice_split_at, slice_split_none}
 use Rattle.std.proofs.lemmas.List.Sums.{sum_by-append}
 use Rattle.snippet_text.specs.Width.{char_width, width_of}
-use Rattle.snippet_wrap.specs.Wrapped.{break_before, first_break, fitting, gap_at, is_blank, last_blank, lines_fit, rows_joined, wrapped}
+use Rattle.snippet_wrap.specs.Wrapped.{break_before, first_break, fitting_on_row, gap_at, is_blank, last_blank, lines_fit, rows_joined, wrapped}
 use Rattle.snippet_wrap.specs.WrapLaws.{AreWithin, IsAmong, IsRewrapped, is_gap, is_inside, lines_in, words_of}
 use Rattle.snippet_wrap.specs.declared.row.Break.{Break}
 use Rattle.snippet_wrap.proofs.EndLemmas.{Ends, IsOther, at_gap, at_seam, break_found, break_missing, break_within, ends, fitting_all, fitting_line}
@@ -62,7 +62,7 @@ kept_found : (more room : ℕ) (cs : List ℕ) (found : Option Break) → first_
 kept_found more room cs None is below = refl
 kept_found more room cs (Some at) is below =
     let there = break_found room cs at is in
-    kept_at more room (fitting room cs) cs at there.0 (subst (Ends cs (fitting room cs)) (sym there.1) (ends cs (fitting room cs) there.0))
+    kept_at more room (fitting_on_row room cs) cs at there.0 (subst (Ends cs (fitting_on_row room cs)) (sym there.1) (ends cs (fitting_on_row room cs) there.0))
     (below (drop at.next cs))
 
 rows-kept : (more room : ℕ) (cs : List ℕ) → filter is_inside (rows_joined more room cs) ≡ filter is_inside cs
@@ -122,10 +122,10 @@ inside_all (c ∷ cs) lines blanks =
     let here : IsInside c = grind (arith, line, blank) in
     All-cons IsInside c cs here (inside_all cs (All-tail (λ c. (c == 10) ≡ false) c cs lines) (All-tail (λ c. is_blank c ≡ false) c cs blanks))
 
-no_seam : (room : ℕ) (cs : List ℕ) → fitting room cs < length cs → (get_or cs (fitting room cs) 0 ≡ 10 → ⊥)
-    → All (λ c. is_blank c ≡ false) (take (fitting room cs + 1) cs) → AreWithin room (words_of cs) → ⊥
+no_seam : (room : ℕ) (cs : List ℕ) → fitting_on_row room cs < length cs → (get_or cs (fitting_on_row room cs) 0 ≡ 10 → ⊥)
+    → All (λ c. is_blank c ≡ false) (take (fitting_on_row room cs + 1) cs) → AreWithin room (words_of cs) → ⊥
 no_seam room cs less other blanks within =
-    let n = fitting room cs in
+    let n = fitting_on_row room cs in
     let next : take (n + 1) cs ≡ take n cs ++ get_or cs n 0 ∷ [] = take_more cs n 0 less in
     let last : IsOther (get_or cs n 0) = no_feed (get_or cs n 0) other in
     let lines : All IsOther (take (n + 1) cs) = subst (All IsOther) (sym next)
@@ -135,7 +135,7 @@ no_seam room cs less other blanks within =
     (omega (arith, length-slice_split is_gap (drop (n + 1) cs))) (inside_all (take (n + 1) cs) lines blanks) all in
     absurd (omega (arith, narrow, fitting_stops room cs less other))
 
-words_at : (more room : ℕ) (cs : List ℕ) (at : Break) → fitting room cs < length cs → Ends cs (fitting room cs) at
+words_at : (more room : ℕ) (cs : List ℕ) (at : Break) → fitting_on_row room cs < length cs → Ends cs (fitting_on_row room cs) at
     → ((rest : List ℕ) → AreWithin room (words_of rest) → words_of (rows_joined more room rest) ≡ words_of rest) → AreWithin room (words_of cs)
     → words_of (take at.end cs ++ 10 ∷ rows_joined more room (drop at.next cs)) ≡ words_of cs
 words_at more room cs at less (at_seam other blanks is) below within = absurd (no_seam room cs less other blanks within)
@@ -154,7 +154,7 @@ words_found : (more room : ℕ) (cs : List ℕ) (found : Option Break) → first
 words_found more room cs None is below within = refl
 words_found more room cs (Some at) is below within =
     let there = break_found room cs at is in
-    words_at more room cs at there.0 (subst (Ends cs (fitting room cs)) (sym there.1) (ends cs (fitting room cs) there.0)) below within
+    words_at more room cs at there.0 (subst (Ends cs (fitting_on_row room cs)) (sym there.1) (ends cs (fitting_on_row room cs) there.0)) below within
 
 rows-words : (more room : ℕ) (cs : List ℕ) → AreWithin room (words_of cs) → words_of (rows_joined more room cs) ≡ words_of cs
 rows-words zero room cs within = refl
@@ -196,10 +196,10 @@ fit_found more room cs None is enough many below =
     one_line room cs all.0 all.1
 fit_found more room cs (Some at) is enough many below =
     let there = break_found room cs at is in
-    let by = ends_by cs (fitting room cs) at (subst (Ends cs (fitting room cs)) (sym there.1) (ends cs (fitting room cs) there.0)) in
+    let by = ends_by cs (fitting_on_row room cs) at (subst (Ends cs (fitting_on_row room cs)) (sym there.1) (ends cs (fitting_on_row room cs) there.0)) in
     let within = break_within room cs at enough is in
     let some = within.some in
-    let front = fewer_fit room (fitting room cs) at.end cs by (fitting_line room cs) (fitting_width room cs) in
+    let front = fewer_fit room (fitting_on_row room cs) at.end cs by (fitting_line room cs) (fitting_width room cs) in
     line_before room (take at.end cs) (rows_joined more room (drop at.next cs)) front.0 front.1
     (below (drop at.next cs) (omega (arith, length-drop at.next cs, some, many)))
 
@@ -242,16 +242,16 @@ stops_one room left c cs false n is all below less =
     let here = stops_here room left c cs (c == 10) refl is all in
     (here.0, ap (lines_fit room room) (drop_suc 0 c cs) ∙ here.1)
 
-stops : (room left : ℕ) (cs : List ℕ) → lines_fit room left cs ≡ true → StopsAtFeed room left cs (fitting left cs)
+stops : (room left : ℕ) (cs : List ℕ) → lines_fit room left cs ≡ true → StopsAtFeed room left cs (fitting_on_row left cs)
 stops room left [] all less = absurd (omega (arith, less))
 stops room left (c ∷ cs) all less =
-    stops_one room left c cs (fits left c) (fitting (left - char_width c) cs) refl all (stops room (left - char_width c) cs) less
+    stops_one room left c cs (fits left c) (fitting_on_row (left - char_width c) cs) refl all (stops room (left - char_width c) cs) less
 
 same_found : (more room : ℕ) (cs : List ℕ) (found : Option Break) → first_break room cs ≡ found → lines_fit room room cs ≡ true
     → ((rest : List ℕ) → lines_fit room room rest ≡ true → rows_joined more room rest ≡ rest) → joined more room cs found ≡ cs
 same_found more room cs None is all below = refl
 same_found more room cs (Some at) is all below =
-    let n = fitting room cs in
+    let n = fitting_on_row room cs in
     let there = break_found room cs at is in
     let feed = stops room room cs all there.0 in
     let holds : (get_or cs n 0 == 10) ≡ true = ap (λ (d : ℕ). d == 10) feed.0 in

@@ -13,9 +13,9 @@ is_blank c = (c == 32) || (c == 9)
 
 -- how many of a text's first characters stand side by side in so many columns: those before a line feed, and before the first that has no
 -- room
-abbrev pub fitting : ℕ → List ℕ → ℕ
-fitting room [] = 0
-fitting room (c ∷ cs) = if not (c == 10) && nat_le (char_width c) room then fitting (room - char_width c) cs + 1 else 0
+abbrev pub fitting_on_row : ℕ → List ℕ → ℕ
+fitting_on_row room [] = 0
+fitting_on_row room (c ∷ cs) = if not (c == 10) && nat_le (char_width c) room then fitting_on_row (room - char_width c) cs + 1 else 0
 
 -- how many characters stand before the last blank of some, if there is one
 abbrev pub last_blank : List ℕ → Option ℕ
@@ -43,7 +43,7 @@ break_after n cs =
 
 -- where the row ends with which a text begins in a room of so many columns; nowhere if all of the text is one row
 abbrev pub first_break : ℕ → List ℕ → Option Break
-first_break room cs = if fitting room cs == length cs then None else Some (break_after (fitting room cs) cs)
+first_break room cs = if fitting_on_row room cs == length cs then None else Some (break_after (fitting_on_row room cs) cs)
 
 -- that row, and the text after it
 abbrev pub first_row : ℕ → List ℕ → Option (List ℕ × List ℕ)

@@ -15,8 +15,8 @@ use Rattle.tidy_run.specs.Report.{IsReportOf, Told}
 use Rattle.tidy_run.specs.Arguments.{CommandLine, Argument, command_line_of}
 use Rattle.tidy_run.specs.declared.run.Failure.{Failure}
 use Rattle.tidy_run.specs.declared.run.Failure.TheVariants.{Unreadable, Unwritable, Memory}
-use Rattle.tidy_run.specs.declared.run.Written.{Written}
-use Rattle.tidy_run.specs.declared.run.Written.TheVariants as written
+use Rattle.tidy_run.specs.declared.run.WriteOutcome.{WriteOutcome}
+use Rattle.tidy_run.specs.declared.run.WriteOutcome.TheVariants as written
 
 -- what a file has to hold so that it is looked through: UTF-8 within the library's limit
 abbrev pub IsSource : List ℕ → Type 0
@@ -161,7 +161,7 @@ AreKept log name Out Log (shown ∷ plain ∷ more ∷ texts) = ⊥
 
 -- what became of texts: there are none; all are written, LOG's first; what is for LOG of this name couldn't be written; or what is for
 -- standard output couldn't be printed
-abbrev pub Becomes : Written → Option Argument → List (List ℕ) → (Output → Type 0) → (Output → Type 0) → Type 0
+abbrev pub Becomes : WriteOutcome → Option Argument → List (List ℕ) → (Output → Type 0) → (Output → Type 0) → Type 0
 Becomes written.Nothing log texts Out Log = (texts ≡ []) × Out Silent × Log Silent
 Becomes written.All log texts Out Log = AreGiven log (λ shown. Out (Whole shown)) Log texts
 Becomes written.Unprinted log texts Out Log = AreGiven log (λ shown. Out (CutShort shown)) Log texts

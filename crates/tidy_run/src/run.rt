@@ -156,7 +156,7 @@ fn texts_of<'a>(
 
 /// What became of a command's texts.
 #[derive(Clone, Copy, Debug, PartialEq, Eq)]
-enum Written<'a> {
+enum WriteOutcome<'a> {
     /// There are none.
     Nothing,
     /// They were written.
@@ -173,23 +173,23 @@ fn write_texts<'a, W: Write, L: Write>(
     texts: &[String],
     out: &mut Stream<W>,
     log: &mut Stream<L>,
-) -> Written<'a>
+) -> WriteOutcome<'a>
     requires count { (texts.now ≡ []) ⊎ (length texts.now ≡ length (sheets_for (said command.now).log)) }
     ensures written { Becomes result (said command.now).log (map string_bytes texts.now)
         (Receives W.contents out.old out.new) (Receives L.contents log.old log.new) }
 {
     let (Some(shown), Some(plain)) = (texts.first(), texts.last()) else {
-        return Written::Nothing;
+        return WriteOutcome::Nothing;
     };
     if let Some(name) = command.log {
         if !write_line(plain.as_str(), log) {
-            return Written::Unlogged(name);
+            return WriteOutcome::Unlogged(name);
         }
     }
     if write_line(shown.as_str(), out) {
-        Written::All
+        WriteOutcome::All
     } else {
-        Written::Unprinted
+        WriteOutcome::Unprinted
     }
 }
 
@@ -271,12 +271,12 @@ pub fn run<W: Write, V: Write, L: Write>(
         }
     };
     match write_texts(&command, &texts, out, log) {
-        Written::Nothing => CLEAN,
-        Written::All => FOUND,
-        Written::Unlogged(name) => {
+        WriteOutcome::Nothing => CLEAN,
+        WriteOutcome::All => FOUND,
+        WriteOutcome::Unlogged(name) => {
             tell(alloc, Failure::Unwritable(name), err);
             FAILED
         }
-        Written::Unprinted => FAILED,
+        WriteOutcome::Unprinted => FAILED,
     }
 }

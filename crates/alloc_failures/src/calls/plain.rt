@@ -54,15 +54,20 @@ impl PlainGrid {
             Call::Replace(row, start, end, text) => replace(alloc, rows, row, (start, end), text),
             Call::SetStyle(row, cell, role, overwrite) => {
                 let end = cell.saturating_add(1);
-                change_row(rows, row, cell, end, Change::Restyle(role, overwrite));
+                change_row(rows, row, cell, end, CellChange::Restyle(role, overwrite));
                 Ok(())
             }
             Call::SetStyleRange(row, start, end, role, overwrite) => {
-                change_range(rows, row, (start, end), Change::Restyle(role, overwrite));
+                change_range(
+                    rows,
+                    row,
+                    (start, end),
+                    CellChange::Restyle(role, overwrite),
+                );
                 Ok(())
             }
             Call::Link(row, start, end, url) => {
-                change_range(rows, row, (start, end), Change::Link(url));
+                change_range(rows, row, (start, end), CellChange::Link(url));
                 Ok(())
             }
         }
@@ -219,13 +224,13 @@ fn add_numbers(row: &mut Vec<PlainCell>, text: &str) -> Result<(), AllocError> {
 
 /// What becomes of cells.
 #[derive(Clone, Copy)]
-enum Change {
+enum CellChange {
     Restyle(ElementStyle, bool),
     Link(&'static str),
 }
 
 /// Changes the cells of a row that are there, from the first number of a range to before the second.
-fn change_range(rows: &mut Vec<Vec<PlainCell>>, row: u8, range: (u8, u8), change: Change) {
+fn change_range(rows: &mut Vec<Vec<PlainCell>>, row: u8, range: (u8, u8), change: CellChange) {
     let (start, end) = (usize::from(range.0), usize::from(range.1));
     change_row(rows, usize::from(row), start, end, change);
 }
@@ -236,7 +241,7 @@ fn change_row(
     row: usize,
     start: usize,
     end: usize,
-    change: Change,
+    change: CellChange,
 ) {
     if row < rows.len() {
         for (index, cell) in rows[row].iter_mut().enumerate() {
@@ -248,13 +253,13 @@ fn change_row(
 }
 
 /// The cell changed.
-fn changed(cell: PlainCell, change: Change) -> PlainCell {
+fn changed(cell: PlainCell, change: CellChange) -> PlainCell {
     match change {
-        Change::Link(url) => PlainCell {
+        CellChange::Link(url) => PlainCell {
             link: Some(url),
             ..cell
         },
-        Change::Restyle(role, overwrite) => match cell.role {
+        CellChange::Restyle(role, overwrite) => match cell.role {
             ElementStyle::NoStyle | ElementStyle::Quotation => PlainCell { role, ..cell },
             _ if overwrite => PlainCell { role, ..cell },
             _ => cell,
@@ -264,7 +269,7 @@ fn changed(cell: PlainCell, change: Change) -> PlainCell {
 
 /// What is in force at a cell.
 #[derive(Clone, Copy)]
-struct Look {
+struct PlainLook {
     style: Style,
     link: Option<&'static str>,
 }
@@ -278,10 +283,10 @@ fn add_row(
     sheet: &Stylesheet,
 ) -> Result<(), AllocError> {
     let (style, link) = (sheet.none, None);
-    let mut last = Look { style, link };
+    let mut last = PlainLook { style, link };
     for cell in cells {
         let (style, link) = (sheet.style_of(level, cell.role), cell.link);
-        let next = Look { style, link };
+        let next = PlainLook { style, link };
         change_look(alloc, text, last, next)?;
         text.push(cell.ch)?;
         last = next;
@@ -291,7 +296,12 @@ fn add_row(
 }
 
 /// Adds the codes between two cells. A link ends before the codes of styles, and the next one starts after them.
-fn change_look(alloc: Global, text: &mut String, last: Look, next: Look) -> Result<(), AllocError> {
+fn change_look(
+    alloc: Global,
+    text: &mut String,
+    last: PlainLook,
+    next: PlainLook,
+) -> Result<(), AllocError> {
     let same_link = last.link == next.link;
     if !same_link {
         end_link(text, last.link)?;

@@ -112,7 +112,7 @@ fn sheet() -> Stylesheet {
 
 /// What was seen of the lists.
 #[derive(Clone, Copy, Default)]
-struct Seen {
+struct CountedLists {
     lists: u64,
     other_texts: u64,
     too_many_runs: u64,
@@ -183,9 +183,9 @@ fn is_same_twice(
 }
 
 /// Counts what is seen of the lists.
-fn count_lists(alloc: Global) -> Result<Seen, AllocError> {
+fn count_lists(alloc: Global) -> Result<CountedLists, AllocError> {
     let mut numbers = Numbers { state: 1 };
-    let mut seen = Seen::default();
+    let mut seen = CountedLists::default();
     for _ in 0..LISTS {
         let (few, same) = list(alloc, &mut numbers)?;
         seen.lists = seen.lists.saturating_add(1);
@@ -198,7 +198,7 @@ fn count_lists(alloc: Global) -> Result<Seen, AllocError> {
 /// Prints in how many lists of calls a grid differs from plain rows of cells.
 pub fn print(rt: &(impl Print + AllocGlobal)) -> io::Result<()> {
     print_heading(rt, "a thousand lists of calls, beside plain rows of cells")?;
-    let Seen {
+    let CountedLists {
         lists,
         other_texts,
         too_many_runs,

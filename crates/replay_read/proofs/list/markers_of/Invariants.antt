@@ -5,5 +5,5 @@ use Rattle.replay_read.proofs.list.markers_of.Given as goal
 
 -- the items so far say what was read
 abbrev pub invariant-loop-index : goal.invariant-loop-index
-invariant-loop-index g l = AllZip (g.T.Marker.says l.ruler.source.now l.ruler.unit) (map view (take l.index l.value-items)) l.items.items
-    × All g.T.Marker.fits l.items.items
+invariant-loop-index g l = AllZip (g.T.ReadMarker.says l.ruler.source.now l.ruler.unit) (map view (take l.index l.value-items)) l.items.items
+    × All g.T.ReadMarker.fits l.items.items

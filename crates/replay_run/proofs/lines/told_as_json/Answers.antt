@@ -1,6 +1,6 @@
 use Rattle.std.proofs.Common.{List, ℕ, ◌++◌, true, ap, ◌∙◌}
 use Rattle.replay_run.specs.WrittenAnswer.{told_text}
-use Rattle.replay_run.specs.declared.lines.Form.TheVariants.{Json}
+use Rattle.replay_run.specs.declared.lines.AnswerForm.TheVariants.{Json}
 use Rattle.replay_run.proofs.lines.told_as_json.Goals as goal
 
 pub returns-in-Ok : goal.returns-in-Ok

@@ -1,12 +1,12 @@
 use Rattle.std.proofs.Common.{◌≡◌, refl, subst, sym}
 use Rattle.std.specs.Io.KnownBytes.{Appends}
 use Rattle.replay_run.specs.WrittenAnswer.{answer_text}
-use Rattle.replay_run.specs.declared.lines.Form.{Form}
-use Rattle.replay_run.specs.declared.lines.Form.TheVariants.{Json, Texts}
+use Rattle.replay_run.specs.declared.lines.AnswerForm.{AnswerForm}
+use Rattle.replay_run.specs.declared.lines.AnswerForm.TheVariants.{Json, Texts}
 use Rattle.replay_run.proofs.lines.write_answer.Goals as goal
 
 -- there are two forms
-not_texts : (form : Form) → (form ≡ Texts → ⊥) → form ≡ Json
+not_texts : (form : AnswerForm) → (form ≡ Texts → ⊥) → form ≡ Json
 not_texts Json never = refl
 not_texts Texts never = absurd (never refl)
 

@@ -2,7 +2,7 @@ use Rattle.std.proofs.Common.{◌∙◌, ℕ, ◌++◌, All, List, map, refl, ap
 use Rattle.std.specs.Cow.{cow_str_bytes}
 use Rattle.std.specs.declared.ops.Range.{Range}
 use Rattle.snippet_context.specs.Context.{visible_mark}
-use Rattle.snippet_context.specs.WithContext.{IsPartOf}
+use Rattle.snippet_context.specs.WithContext.{HoldsSpan}
 use Rattle.snippet_context.proofs.WithLemmas.{unfolded-with}
 use Rattle.snippet_context.proofs.snippets.cause_with_context.Goals as goal
 
@@ -21,6 +21,6 @@ returns c =
         fold = refl;
         markers = c.in_ok-add_visible.ensures.added
             ∙ ap (λ (spans : List (Range ℕ)). s.markers.items ++ map visible_mark spans) c.in_ok-spans.ensures.value;
-        spans = subst (All (IsPartOf (cow_str_bytes s.source))) c.in_ok-spans.ensures.value c.in_ok-spans.ensures.parts;
+        spans = subst (All (HoldsSpan (cow_str_bytes s.source))) c.in_ok-spans.ensures.value c.in_ok-spans.ensures.parts;
       };
     }

@@ -1,6 +1,6 @@
 use Rattle.std.proofs.Common.{arith, map, refl, replicate, string_bytes, ◌-◌}
 use Rattle.snippet_grid.proofs.HtmlLemmas.{adds_both, adds_spaces}
-use Rattle.snippet_grid.specs.Html.{Text, between, plain_look}
+use Rattle.snippet_grid.specs.Html.{Text, tags_between, plain_look}
 use Rattle.snippet_grid.specs.HtmlLooks.{look_seen}
 use Rattle.snippet_grid.proofs.html.push_gap.Goals as goal
 
@@ -10,7 +10,7 @@ returns c =
     record {
       gap = record {
         look = λ some. refl;
-        spaces = λ some. adds_both (between (look_seen c.args.last) plain_look) (map Text (replicate count 32)) (string_bytes c.args.out.now)
+        spaces = λ some. adds_both (tags_between (look_seen c.args.last) plain_look) (map Text (replicate count 32)) (string_bytes c.args.out.now)
             (string_bytes c.change_look.new.out) (string_bytes c.push_spaces.new.out) c.in_ok-change_look.ensures.added
             (adds_spaces count (string_bytes c.change_look.new.out) (string_bytes c.push_spaces.new.out) c.in_ok-push_spaces.ensures.text);
         same = λ none. absurd (omega arith);

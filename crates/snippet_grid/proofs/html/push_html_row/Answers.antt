@@ -6,7 +6,7 @@ use Rattle.snippet_grid.proofs.HtmlLemmas.{html_closed}
 use Rattle.snippet_grid.proofs.HtmlRows.{HtmlTo, html_start, html_gap, html_run}
 use Rattle.snippet_grid.proofs.RowWoven.{first_ahead}
 use Rattle.snippet_grid.proofs.RunLemmas.{starts_at_boundary, ends_at_boundary}
-use Rattle.snippet_grid.specs.Html.{AddsHtml, HtmlLook, Text, between, look_at}
+use Rattle.snippet_grid.specs.Html.{AddsHtml, HtmlLook, Text, tags_between, look_at}
 use Rattle.snippet_grid.specs.HtmlLooks.{look_seen}
 use Rattle.snippet_grid.specs.Runs.{run_chars, cells_to}
 use Rattle.snippet_grid.specs.declared.runs.Run.{Run}
@@ -36,9 +36,9 @@ loop-run-preserved c =
     (look_seen c.loop-run.last) begun (string_bytes c.args.out.now) (string_bytes c.loop-run.out) (string_bytes c.push_gap.new.out)
     (c.loop-run.invariant.printed.ahead i none (omega arith) c.loop-run-test.true) ahead c.in_ok-begun.ensures.gap c.loop-run.invariant.printed in
     let look : HtmlLook = look_at c.args.level run.role (option_copied run.link) in
-    let word = subst (λ (t : List ℕ). AddsHtml (between begun (look_seen c.look_of-next.result) ++ map Text (chars t))
+    let word = subst (λ (t : List ℕ). AddsHtml (tags_between begun (look_seen c.look_of-next.result) ++ map Text (chars t))
     (string_bytes c.push_gap.new.out) (string_bytes c.push_stretch.new.out)) c.range.ensures.value c.in_ok-push_stretch.ensures.added in
-    let added = subst (λ (l : HtmlLook). AddsHtml (between begun l ++ map Text (run_chars c.args.text.now run))
+    let added = subst (λ (l : HtmlLook). AddsHtml (tags_between begun l ++ map Text (run_chars c.args.text.now run))
     (string_bytes c.push_gap.new.out) (string_bytes c.push_stretch.new.out)) c.look_of-next.ensures.value word in
     record {
       printed = subst (λ (l : HtmlLook). HtmlTo c.args.level c.args.text.now c.args.runs.now c.args.row (i + 1) (run.cell + run.count) l

@@ -4,7 +4,7 @@ use Rattle.snippet_lines.specs.Lines.{is_lf}
 use Rattle.snippet_splice.specs.declared.patches.TrimmedPatch.{TrimmedPatch}
 use Rattle.snippet_splice.specs.Edits.{AreApart, Edit, trimmed_edit_of}
 use Rattle.snippet_splice.specs.EditStretches.{Extent, characters_before, end_character, extent_of, extents_from, start_character}
-use Rattle.snippet_splice.proofs.PlaceLemmas.{between, between_utf8, counted_more, extent_is, none_before, places_more, start_few, utf8_more}
+use Rattle.snippet_splice.proofs.PlaceLemmas.{between, empty_part_utf8, counted_more, extent_is, none_before, places_more, start_few, utf8_more}
 use Rattle.snippet_splice.proofs.stretches.patch_places.Goals as goal
 
 pub loop-patch-init : goal.loop-patch-init
@@ -13,7 +13,7 @@ loop-patch-init c =
     record {
       border = c.requires.from;
       after = omega arith;
-      utf8 = between_utf8 a.source.now a.from;
+      utf8 = empty_part_utf8 a.source.now a.from;
       counted = none_before a.source.now a.from;
       apart = c.requires.apart;
       whole = ap (λ ps. map extent_of ps ++ extents_from a.source.now a.from a.from (map trimmed_edit_of a.patches.now)) c.in_ok-places.ensures.items;

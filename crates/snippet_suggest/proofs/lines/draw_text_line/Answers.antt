@@ -1,6 +1,6 @@
 use Rattle.std.proofs.Common.{◌∙◌, ◌++◌, ◌∷◌, [], List, ap, chars}
 use Rattle.snippet_style.specs.Cell.{Cell}
-use Rattle.snippet_suggest.specs.Cells.{begun_cells, with_stretches}
+use Rattle.snippet_suggest.specs.Cells.{opened_cells, with_stretches}
 use Rattle.std.proofs.lemmas.Result.{on_ok_weaker}
 use Rattle.snippet_style.specs.declared.role.ElementStyle.TheVariants.{Addition}
 use Rattle.snippet_suggest.proofs.PutLemmas.{line_is, shown_is}
@@ -26,7 +26,7 @@ returns-then-are_in_order c =
     let glyph = c.glyph_of-glyph.result in
     let line = c.line_at-line.result.now in
     let new = c.stretches_of-stretches.result.now in
-    let begun = begun_cells layout glyph c.number_after-number.result in
+    let begun = opened_cells layout glyph c.number_after-number.result in
     record {
       cells = on_ok_weaker c.put_stretches.result (λ puts. puts a.buffer.now begun c.in_ok-row.ensures.row.0 c.in_ok-row.ensures.cells
           ∙ ap (λ (row : List Cell). a.buffer.now ++ with_stretches Addition layout.base.gutter (chars line) new row ∷ [])

@@ -1,5 +1,5 @@
 use Rattle.std.proofs.Common.{◌≡◌, ◌∙◌, List, ap, not, sym, ℕ}
-use Rattle.redraw_report.specs.Region.{end_place, line_starts, start_place}
+use Rattle.redraw_report.specs.Region.{end_place, start_bytes, start_place}
 use Rattle.redraw_read.specs.Counted.{holds, is_clamped, more, ones}
 use Rattle.redraw_read.specs.Placed.{Lines}
 use Rattle.redraw_read.proofs.Counting.{clamped-as}
@@ -15,7 +15,7 @@ returns-clause-counted c =
     clamped-as text (start_place text c.args.starts.now first r) (end_place text c.args.starts.now first r) c.locate-located.result
     c.locate-located.ensures.located
     ∙ ap (λ (s : List ℕ). not (holds text (start_place text s first r) (end_place text s first r)))
-    (c.requires.lined ∙ ap line_starts (sym shown)) in
+    (c.requires.lined ∙ ap start_bytes (sym shown)) in
     ap (λ n. record c.args.self.now { clamped = n })
     (c.counted-self.ensures.value
     ∙ ap (λ b. more c.args.self.now.clamped (ones b)) (is ∙ ap (λ (t : List ℕ). is_clamped (Lines t first) r) shown))
