@@ -287,6 +287,10 @@ impl<'a> SourceMap<'a> {
         if span.start == span.end {
             return (start, start);
         }
+        // Most spans end on the line on which they start: then it needn't be looked for again.
+        if span.end < line.end_byte {
+            return (start, self.locate_later(&line, at, span.end));
+        }
         let last = self.line_holding(span.end);
         if last.line_index == line.line_index {
             return (start, self.locate_later(&line, at, span.end));
