@@ -9,6 +9,7 @@ pub mod HeadFacts
 pub mod HeadLemmas
 pub mod HeadingLemmas
 pub mod LabelLemmas
+pub mod LevelNames
 pub mod LineLemmas
 pub mod LinkLemmas
 pub mod OriginExamples

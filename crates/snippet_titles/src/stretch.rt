@@ -130,7 +130,8 @@ fn weave_stretch(
     next: Look<'_>,
 ) -> Result<(), AllocError>
     ensures text { OnOk result (PrintsStretch (chars word.now) (style_of sheet.now level last.entry.role)
-        (style_of sheet.now level next.entry.role) (option_copied last.entry.link) (option_copied next.entry.link) (string_bytes out.old) (string_bytes out.new)) }
+        (style_of sheet.now level next.entry.role) (option_copied last.entry.link) (option_copied next.entry.link)
+        (string_bytes out.old) (string_bytes out.new)) }
 {
     end_link(out, last.link, next.link)?;
     change_style(out, level, sheet, last.role, next.role)?;

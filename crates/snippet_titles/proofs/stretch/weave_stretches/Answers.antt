@@ -44,7 +44,8 @@ loop-stretch-preserved c = elim c.if-has_cells.branch [
       rw (w.out-is, w.last-is)
       (record {
         goes = stretch_empty c.args.sheet.now c.args.level c.args.stretches.now i none
-            (style_of c.args.sheet.now c.args.level c.loop-stretch.last.role) (option_copied c.loop-stretch.last.link) (string_bytes c.args.out.now) (string_bytes c.loop-stretch.out) c.loop-stretch-test.true
+            (style_of c.args.sheet.now c.args.level c.loop-stretch.last.role) (option_copied c.loop-stretch.last.link) (string_bytes c.args.out.now)
+            (string_bytes c.loop-stretch.out) c.loop-stretch-test.true
             (no_cells s (c.has_cells.ensures.no w.if-has_cells.false)) c.loop-stretch.invariant.goes;
       })
 ]
