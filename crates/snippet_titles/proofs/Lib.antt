@@ -9,9 +9,9 @@ pub mod HeadFacts
 pub mod HeadLemmas
 pub mod HeadingLemmas
 pub mod LabelLemmas
-pub mod LevelNames
 pub mod LineLemmas
 pub mod LinkLemmas
+pub mod NameLemmas
 pub mod OriginExamples
 pub mod OriginFree
 pub mod OriginNumbers

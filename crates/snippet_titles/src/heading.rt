@@ -106,8 +106,9 @@ pub fn shown_name<'r>(alloc: Global, level: &'r Level<'_>) -> Result<CowStr<'r>,
 {
     match &level.name {
         LevelName::Own(name) => normalized(alloc, name.as_str()),
-        // The name of a kind holds no listed character.
-        LevelName::Standard | LevelName::Hidden => Ok(CowStr::Borrowed(level.as_str())),
+        // Nothing in the name of a kind is listed.
+        LevelName::Standard => Ok(CowStr::Borrowed(level.as_str())),
+        LevelName::Hidden => Ok(CowStr::Borrowed("")),
     }
 }
 

@@ -63,7 +63,8 @@ invariant_of-result-2 c =
     ∙ omega (arith, within, length-take n (drop k ls), length-drop k ls) in
     let skipped : c.line_index-skipped.result ≡ k = c.line_index-skipped.ensures.value in
     record {
-      starts_are = are ∙ sym (ap (λ m. starts_from 0 (take m (drop c.line_index-skipped.result ls))) size ∙ ap (λ m. starts_from 0 (take n (drop m ls))) skipped);
+      starts_are = are ∙ sym (ap (λ m. starts_from 0 (take m (drop c.line_index-skipped.result ls))) size
+          ∙ ap (λ m. starts_from 0 (take n (drop m ls))) skipped);
       some = omega (arith, size);
       from_is = c.line_bounds-first.ensures.start ∙ sym (ap (start_of ls) skipped);
       end_is = end ∙ sym (ap (λ m. start_of ls (c.line_index-skipped.result + m)) size ∙ ap (λ m. start_of ls (m + n)) skipped);
