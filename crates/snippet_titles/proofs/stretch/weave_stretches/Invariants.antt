@@ -1,5 +1,5 @@
 -- The row is printed up to the next stretch.
-use Rattle.std.proofs.Common.{◌≡◌, Some, string_bytes}
+use Rattle.std.proofs.Common.{Some, string_bytes}
 use Rattle.std.specs.Option.{option_copied}
 use Rattle.snippet_titles.proofs.StretchRow.{cells_before}
 use Rattle.snippet_grid.proofs.WeaveLemmas.{Goes}
