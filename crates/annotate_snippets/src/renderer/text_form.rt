@@ -67,7 +67,7 @@ pub fn text_form<'a>(
     ensures form { IfOk result (λ form. form ≡ spec.text_form renderer.now groups.now) }
 {
     let file = report_file(groups);
-    let mut form = TextForm::new(alloc);
+    let mut form = TextForm::new(alloc)?;
     for group in groups {
         let file = primary_path(group).or(file);
         add_group(alloc, &mut form, renderer, file, group)?;
