@@ -1,30 +1,32 @@
 -- The text form of a group's elements, and that of a report's groups, are made one by one.
-use Rattle.std.proofs.Common.{◌≡◌, ◌∙◌, ℕ, ◌+◌, ◌^◌, ◌<◌, ◌≤◌, suc, Bool, true, false, List, [], ◌∷◌, ◌++◌, Option, None, Some, IfSome, if◌then◌else◌, length}
+use Rattle.std.proofs.Common.{◌≡◌, ◌≢◌, ◌∙◌, ℕ, ◌+◌, ◌^◌, ◌<◌, ◌≤◌, ◌==◌, cond, not, suc, Bool, true, false, List}
+use Rattle.std.proofs.Common.{[], ◌∷◌, ◌++◌, Option, None, Some, IfSome, if◌then◌else◌, length}
 use Rattle.std.proofs.Common.{take, drop, get_or, refl, sym, ap, subst, arith}
-use Rattle.std.specs.List.{flat_map, slice_get}
+use Rattle.std.specs.List.{filter, flat_map}
 use Rattle.std.specs.Option.{option_to_list}
 use Rattle.std.proofs.Math.Seq.{drop-cons}
+use Rattle.std.proofs.lemmas.Bool.{both_ways}
 use Rattle.std.proofs.lemmas.Grind.{flat_map-append}
 use Rattle.std.proofs.lemmas.List.{append-nil, append_assoc, drop_all, take_more}
-use Rattle.std.proofs.lemmas.Option.{get_or_from_slice_get, slice_get_within}
 use Rattle.snippet_model.specs.declared.snippet.Element.{Element}
 use Rattle.snippet_model.specs.declared.snippet.Element.TheVariants.{Message, Cause, Suggestion, Origin, Padding}
 use Rattle.snippet_model.specs.Heading.{heading_of_title}
+use Rattle.snippet_model.specs.declared.snippet.Patch.{Patch}
 use Rattle.snippet_model.specs.declared.snippet.Group.{Group}
 use Rattle.snippet_model.specs.declared.snippet.Title.{Title}
 use Rattle.snippet_text_form.specs.Form.{FormPiece}
 use Rattle.snippet_text_form.specs.HeadingForm.{heading_form}
 use Rattle.snippet_text_form.specs.declared.heading.HeadingKind.TheVariants as kind
-use Rattle.annotate_snippets.specs.Around.{drawn_elements, file_of_group, first_two_share, is_same_file, path_bytes}
+use Rattle.annotate_snippets.specs.Around.{drawn_elements, file_of_group, first_two_share, is_drawn, is_same_file, path_bytes}
 use Rattle.annotate_snippets.specs.TextForm.{PreviousSuggestion, before_next, before_seen, element_form, elements_form, group_form, option_number}
 use Rattle.annotate_snippets.specs.declared.renderer.Renderer.{Renderer}
 use Rattle.annotate_snippets.specs.declared.renderer.text_form.PreviousSuggestion as code
 
--- the elements before this one were added: with those that are left, the form is what all are after the old one. The suggestion
--- right before has at most as large a number as there are elements before
+-- the elements before this one were added, as far as they are drawn: with those that are left, the form is what all are after the
+-- old one. The suggestion right before has at most as large a number as there are elements before
 pub record ElementsSoFar (r : Renderer) (file : Option (List ℕ)) (es : List Element) (i : ℕ) (old form : List FormPiece)
     (before : Option PreviousSuggestion) : Type 0 where
-  pub left : form ++ elements_form r file before (drop i es) ≡ old ++ elements_form r file None es
+  pub left : form ++ elements_form r file before (filter is_drawn (drop i es)) ≡ old ++ elements_form r file None (filter is_drawn es)
   pub numbered : IfSome before (λ (b : PreviousSuggestion). b.number ≤ i)
 
 -- none of them
@@ -49,32 +51,63 @@ next_within before (Suggestion s) i small = number_within before (path_bytes s.p
 next_within before (Origin o) i small = tt
 next_within before (Padding p) i small = tt
 
+-- what is left from an element on: that element, where it is drawn
+drawn_left : (es : List Element) (i : ℕ) (e : Element) (drawn : Bool) → i < length es → e ≡ get_or es i e → is_drawn e ≡ drawn
+    → filter is_drawn (drop i es) ≡ cond drawn (e ∷ filter is_drawn (drop (i + 1) es)) (filter is_drawn (drop (i + 1) es))
+drawn_left es i e drawn within is tests =
+    let next : suc i ≡ i + 1 = omega arith in
+    let rest : drop i es ≡ e ∷ drop (i + 1) es = drop-cons es i e within ∙ ap (λ (x : Element). x ∷ drop (suc i) es) (sym is)
+    ∙ ap (λ n. e ∷ drop n es) next in
+    let later : List Element = filter is_drawn (drop (i + 1) es) in
+    ap (filter is_drawn) rest ∙ ap (λ (b : Bool). cond b (e ∷ later) later) tests
+
 -- one more of them
 pub element_added : (r : Renderer) (file : Option (List ℕ)) (es : List Element) (i : ℕ) (e : Element) (old form new : List FormPiece)
-    (before after : Option PreviousSuggestion) (followed : Bool) → slice_get es i ≡ Some e → followed ≡ first_two_share (drop i es)
+    (before after : Option PreviousSuggestion) (followed : Bool) → i < length es → e ≡ get_or es i e → is_drawn e ≡ true
+    → followed ≡ first_two_share (e ∷ filter is_drawn (drop (i + 1) es))
     → new ≡ form ++ element_form r file before followed e → after ≡ before_next before e → ElementsSoFar r file es i old form before
     → ElementsSoFar r file es (i + 1) old new after
-element_added r file es i e old form new before after followed at shares added follows so_far =
-    let next : suc i ≡ i + 1 = omega arith in
-    let rest : drop i es ≡ e ∷ drop (i + 1) es = drop-cons es i e (slice_get_within es i e at)
-    ∙ ap (λ (x : Element). x ∷ drop (suc i) es) (get_or_from_slice_get es i e e at) ∙ ap (λ n. e ∷ drop n es) next in
-    let later : List FormPiece = elements_form r file (before_next before e) (drop (i + 1) es) in
-    let own : element_form r file before followed e ≡ element_form r file before (first_two_share (e ∷ drop (i + 1) es)) e = ap (λ b.
-    element_form r file before b e) (shares ∙ ap first_two_share rest) in
+element_added r file es i e old form new before after followed within is drawn shares added follows so_far =
+    let others : List Element = filter is_drawn (drop (i + 1) es) in
+    let rest : filter is_drawn (drop i es) ≡ e ∷ others = drawn_left es i e true within is drawn in
+    let later : List FormPiece = elements_form r file (before_next before e) others in
+    let own : element_form r file before followed e ≡ element_form r file before (first_two_share (e ∷ others)) e = ap (λ b.
+    element_form r file before b e) shares in
     record {
-      left = ap (λ (b : Option PreviousSuggestion). new ++ elements_form r file b (drop (i + 1) es)) follows
+      left = ap (λ (b : Option PreviousSuggestion). new ++ elements_form r file b others) follows
           ∙ ap (λ (x : List FormPiece). x ++ later) (added ∙ ap (λ (x : List FormPiece). form ++ x) own)
-          ∙ append_assoc form (element_form r file before (first_two_share (e ∷ drop (i + 1) es)) e) later
+          ∙ append_assoc form (element_form r file before (first_two_share (e ∷ others)) e) later
           ∙ ap (λ (xs : List Element). form ++ elements_form r file before xs) (sym rest) ∙ so_far.left;
       numbered = subst (λ (b : Option PreviousSuggestion). IfSome b (λ (x : PreviousSuggestion). x.number ≤ i + 1)) (sym follows)
           (next_within before e i so_far.numbered);
     }
 
+-- one that isn't drawn
+pub element_passed : (r : Renderer) (file : Option (List ℕ)) (es : List Element) (i : ℕ) (e : Element) (old form : List FormPiece)
+    (before : Option PreviousSuggestion) → i < length es → e ≡ get_or es i e → is_drawn e ≡ false → ElementsSoFar r file es i old form before
+    → ElementsSoFar r file es (i + 1) old form before
+element_passed r file es i e old form before within is passed so_far =
+    record {
+      left = ap (λ (xs : List Element). form ++ elements_form r file before xs) (sym (drawn_left es i e false within is passed)) ∙ so_far.left;
+      numbered = still before so_far.numbered;
+    }
+  where
+    still : (b : Option PreviousSuggestion) → IfSome b (λ (x : PreviousSuggestion). x.number ≤ i)
+        → IfSome b (λ (x : PreviousSuggestion). x.number ≤ i + 1)
+    still None small = tt
+    still (Some b) small = omega (arith, small)
+
 -- all of them
 pub all_added : (r : Renderer) (file : Option (List ℕ)) (es : List Element) (i : ℕ) (old form : List FormPiece) (before : Option PreviousSuggestion)
-    → length es ≤ i → ElementsSoFar r file es i old form before → form ≡ old ++ elements_form r file None es
+    → length es ≤ i → ElementsSoFar r file es i old form before → form ≡ old ++ elements_form r file None (filter is_drawn es)
 all_added r file es i old form before past so_far =
-    sym (append-nil form) ∙ ap (λ (xs : List Element). form ++ elements_form r file before xs) (sym (drop_all i es past)) ∙ so_far.left
+    sym (append-nil form) ∙ ap (λ (xs : List Element). form ++ elements_form r file before (filter is_drawn xs)) (sym (drop_all i es past))
+    ∙ so_far.left
+
+-- a suggestion that is drawn has patches
+pub has_patches : (patches : List Patch) → not (length patches == 0) ≡ true → patches ≢ []
+has_patches patches drawn none =
+    both_ways (not (length patches == 0)) (ap (λ (ps : List Patch). not (length ps == 0)) none) drawn
 
 -- so the number of the suggestion right before is small
 pub number_small : (before : Option code.PreviousSuggestion) (i count : ℕ) → IfSome (before_seen before) (λ (b : PreviousSuggestion). b.number ≤ i) → i < count

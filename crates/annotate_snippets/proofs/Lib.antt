@@ -10,7 +10,6 @@ pub mod ContextLemmas
 pub mod ContextShown
 pub mod ContextTexts
 pub mod DisjointLemmas
-pub mod DrawnElementLemmas
 pub mod DrawnLines
 pub mod ElementRows
 pub mod ElementShown

@@ -5,7 +5,7 @@ ghost use Rattle.snippet_text.specs.Width.{width_of};
 ghost use Rattle.snippet_text.specs.TextBounds.{TextFits};
 
 use snippet_style::char_count;
-use snippet_text::str_width;
+use snippet_text::{is_plain, str_width};
 
 /// A place in a source.
 #[derive(Clone, Copy, Debug, PartialEq, Eq)]
@@ -36,10 +36,11 @@ impl Loc {
         ensures display_bound { result.display ≤ 4 * length text.now }
     {
         let before = &text[..(byte - start).min(text.len())];
+        let (char, display) = characters_and_columns(before);
         Loc {
             line: number,
-            char: char_count(before),
-            display: str_width(before),
+            char,
+            display,
             byte,
         }
     }
@@ -65,11 +66,25 @@ impl Loc {
         let from = (self.byte - start).min(text.len());
         let to = (byte - start).min(text.len());
         let between = &text[from..to];
+        let (char, display) = characters_and_columns(between);
         Loc {
             line: self.line,
-            char: self.char + char_count(between),
-            display: self.display + str_width(between),
+            char: self.char + char,
+            display: self.display + display,
             byte,
         }
     }
+}
+
+/// How many characters a text has, and how many columns it takes: of most texts both are its bytes.
+fn characters_and_columns(text: &str) -> (usize, usize)
+    requires fits { TextFits text.now }
+    ensures characters { result.0 ≡ length (chars text.now) }
+    ensures columns { result.1 ≡ width_of (chars text.now) }
+    ensures bound { result.1 ≤ 4 * length text.now }
+{
+    if is_plain(text) {
+        return (text.len(), text.len());
+    }
+    (char_count(text), str_width(text))
 }

@@ -141,6 +141,41 @@ table-all source starts first is utf8 fits numbers =
       numbers = omega (arith, length-source_lines source, numbers);
     }
 
+-- one line, the one that holds a byte
+pub table-alone : (source : List ℕ) (first skipped from end byte : ℕ) → skipped ≡ line_of (source_lines source) byte
+    → from ≡ start_of (source_lines source) (line_of (source_lines source) byte)
+    → end ≡ start_of (source_lines source) (line_of (source_lines source) byte + 1) → IsUtf8 source → TextFits source
+    → HasNext (first + newline_count source) → IsLineTable source first skipped from end (0 ∷ [])
+table-alone source first skipped from end byte is from_is end_is utf8 fits numbers =
+    let ls : List Line = source_lines source in
+    let k : ℕ = line_of ls byte in
+    record {
+      starts_are = alone (drop skipped ls) (omega (arith, length-drop skipped ls, is, line_of-within source byte));
+      some = omega arith;
+      from_is = from_is ∙ sym (ap (start_of ls) is);
+      end_is = end_is ∙ sym (ap (λ m. start_of ls (m + 1)) is);
+      utf8 = utf8;
+      short = fits;
+      numbers = omega (arith, length-source_lines source, numbers);
+    }
+  where
+    alone : (ls : List Line) → 0 < length ls → 0 ∷ [] ≡ starts_from 0 (take 1 ls)
+    alone [] some = absurd (omega arith)
+    alone (l ∷ ls) some = refl
+
+-- a later byte that stands before the next line is on the same line
+pub line_of-later : (source : List ℕ) (byte later : ℕ) → byte ≤ later → later < start_of (source_lines source) (line_of (source_lines source) byte + 1)
+    → line_of (source_lines source) byte ≡ line_of (source_lines source) later
+line_of-later source byte later ordered before =
+    let ls : List Line = source_lines source in
+    let holds : HoldsByte ls byte (line_of ls byte) = HoldsByte-source source byte in
+    let same : HoldsByte ls later (line_of ls byte) = record {
+      within = holds.within;
+      from = omega (arith, holds.from);
+      to = λ _. before;
+    } in
+    sym (line_of-is ls later (line_of ls byte) same)
+
 -- the entry of a line by its parts
 pub entry_at-is : (info : LineInfo) (first : ℕ) (ls : List Line) (k : ℕ) → info.line.now ≡ text_at ls k → info.line_index ≡ first + k
     → info.start_byte ≡ start_of ls k → info.end_byte ≡ start_of ls (k + 1) → table_entry info ≡ entry_at first ls k

@@ -50,6 +50,9 @@ pub struct LineInfo<'a> {
     pub end_byte: usize,
 }
 
+/// Where the line starts that is the only one kept, counted from that line.
+const ALONE: [usize; 1] = [0];
+
 /// A source, cut into lines that have numbers.
 ///
 /// Where lines start is kept for some lines that follow one another, all of them or those that are shown; any other
@@ -115,12 +118,26 @@ impl<'a> SourceMap<'a> {
         requires ordered { bytes.start ≤ bytes.end }
         ensures ok { IfOk result (λ m. m ≡ record { text = source.now; first = line_start }) }
     {
-        let from = line_bounds(source, bytes.start).start;
+        let first = line_bounds(source, bytes.start);
+        let from = first.start;
+        let skipped = line_index(source, bytes.start);
+        // Most ranges end on the line on which they start: then no other has to be looked for.
+        if bytes.end < first.end {
+            return Ok(SourceMap {
+                alloc,
+                starts: Starts::Lent(&ALONE),
+                skipped,
+                from,
+                end: first.end,
+                source,
+                line_start,
+            });
+        }
         let end = line_bounds(source, bytes.end).end;
         Ok(SourceMap {
             alloc,
             starts: Starts::Found(line_starts(alloc, &source[from..end])?),
-            skipped: line_index(source, bytes.start),
+            skipped,
             from,
             end,
             source,
@@ -269,6 +286,10 @@ impl<'a> SourceMap<'a> {
         };
         if span.start == span.end {
             return (start, start);
+        }
+        // Most spans end on the line on which they start: then it needn't be looked for again.
+        if span.end < line.end_byte {
+            return (start, self.locate_later(&line, at, span.end));
         }
         let last = self.line_holding(span.end);
         if last.line_index == line.line_index {

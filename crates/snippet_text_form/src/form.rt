@@ -83,14 +83,18 @@ impl<'a> Model for TextForm<'a> {
 }
 
 impl<'a> TextForm<'a> {
-    /// An empty text form.
-    pub fn new(alloc: Global) -> Self
-        ensures empty { result ≡ [] }
+    /// An empty text form, with room for a small one.
+    ///
+    /// # Errors
+    ///
+    /// There is no memory for that room.
+    pub fn new(alloc: Global) -> Result<Self, AllocError>
+        ensures empty { IfOk result (λ form. form ≡ []) }
     {
-        TextForm {
-            text: String::new(alloc),
-            marks: Vec::new(alloc),
-        }
+        Ok(TextForm {
+            text: String::with_capacity(alloc, FIRST_BYTES)?,
+            marks: Vec::with_capacity(alloc, FIRST_MARKS)?,
+        })
     }
 
     /// Begins a new line. Where no text stands before it, nothing is written.
@@ -194,7 +198,6 @@ fn push_mark<'a>(
         ≡ pieces_from (string_bytes text.old) 0 marks.old.items ++ piece_of_kind (chars word.now) kind.entry ∷ []) }
     ensures marks { AreMarks (string_bytes text.new) 0 marks.new.items }
 {
-    make_first_room(text, marks)?;
     let start = text.len();
     push_some(text, word)?;
     let end = text.len();
@@ -212,18 +215,6 @@ fn push_some(out: &mut String, text: &str) -> Result<(), AllocError>
         return Ok(());
     }
     out.push_str(text)
-}
-
-/// Makes room for a small form, if nothing is marked yet.
-fn make_first_room(text: &mut String, marks: &mut Vec<Mark<'_>>) -> Result<(), AllocError>
-    ensures text { string_bytes text.new ≡ string_bytes text.old }
-    ensures marks { marks.new.items ≡ marks.old.items }
-{
-    if !marks.is_empty() {
-        return Ok(());
-    }
-    text.reserve(FIRST_BYTES)?;
-    marks.reserve(FIRST_MARKS)
 }
 
 /// Adds a mark with these characters to a text; `begun` says whether plain text stands before it.

@@ -21,7 +21,7 @@ use snippet_model::level::Level;
 use snippet_model::snippet::Id;
 use snippet_style::{ElementStyle, LevelInner};
 use snippet_text::{CowStr, is_plain, normalized, str_width};
-use snippet_titles::{HeadingRoles, TitleStyle, address_of, colon, is_hidden, is_set};
+use snippet_titles::{HeadingRoles, TitleStyle, address_of, colon, is_hidden, is_set, shown_name};
 use std::alloc::{AllocError, Global};
 
 /// Whether a heading is a title or a message.
@@ -119,7 +119,7 @@ fn add_name<'a>(
         return Ok(());
     }
     form.add_text(kind.before_name())?;
-    form.add_styled(role, None, normalized(alloc, level.as_str())?)
+    form.add_styled(role, None, shown_name(alloc, level)?)
 }
 
 /// Adds an id, where there is one that has a text.

@@ -14,7 +14,7 @@ pub mod style;
 pub mod title;
 
 pub use head::{draw_nameless_head, draw_opening_head, draw_primary_head, draw_secondary_head};
-pub use heading::{colon, draw_heading, is_hidden, label_width};
+pub use heading::{colon, draw_heading, is_hidden, label_width, shown_name};
 pub use id::{address_of, is_set};
 pub use origin::{FileStart, OriginLayout, OriginLocation, draw_origin, origin_text};
 pub use printed::{is_plain_heading, print_heading};

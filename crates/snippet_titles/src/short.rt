@@ -15,7 +15,7 @@ ghost use Rattle.snippet_titles.specs.HeadingRows.{id_cells};
 ghost use Rattle.snippet_titles.specs.ShortParts.{rows_of, shown_id_cells};
 ghost use Rattle.snippet_titles.specs.ShortRows.{short_rows};
 
-use crate::heading::{colon, draw_label, draw_text, is_hidden};
+use crate::heading::{colon, draw_label, draw_text, is_hidden, shown_name};
 use crate::id::{address_of, closing_bracket, opening_bracket};
 use crate::row::{RowEnd, extend_row};
 use crate::stretch::{Stretch, print_row};
@@ -126,7 +126,7 @@ fn row_text(
     let kind = title.level.kind;
     let roles = roles_of(&TitleStyle::Short, kind, title.allows_styling);
     let hidden = is_hidden(&title.level);
-    let name = normalized(alloc, title.level.as_str())?;
+    let name = shown_name(alloc, &title.level)?;
     let given = title.id();
     let id = shown_id(alloc, parts.hyperlink, hidden, given)?;
     let colon = colon(hidden, given);

@@ -7,9 +7,10 @@ ghost use Rattle.std.specs.Str.{chars};
 ghost use Rattle.snippet_grid.specs.Stretch.{PrintsStretch};
 ghost use Rattle.snippet_titles.specs.StretchCells.{cells_alike, stretch_cells};
 ghost use Rattle.snippet_style.specs.Cell.{text_cells};
+ghost use Rattle.snippet_style.specs.Stylesheet.{style_of};
 ghost use Rattle.snippet_grid.specs.Woven.{Opening, Reset, LinkTo, LinkEnd, Prints, WeavesRow, piece_text};
 
-use snippet_style::{ElementStyle, LevelInner, Style, Stylesheet, reset_code, write_opening};
+use snippet_style::{ElementStyle, LevelInner, Stylesheet, reset_code, write_opening};
 use std::alloc::{AllocError, Global};
 
 /// The bytes that a printed row has room for at first, for each stretch, beside those of its characters: for the codes
@@ -47,11 +48,10 @@ impl<'a> Stretch<'a> {
     }
 }
 
-/// How a cell looks under a sheet: its role, the style of that, and where its link leads.
+/// How a cell looks: its role, and where its link leads.
 #[derive(Clone, Copy)]
 struct Look<'a> {
     role: ElementStyle,
-    style: Style,
     link: Option<&'a str>,
 }
 
@@ -96,22 +96,20 @@ fn weave_stretches(
 {
     let mut last = Look {
         role: ElementStyle::NoStyle,
-        style: sheet.none,
         link: None,
     };
     for stretch in stretches {
         if has_cells(stretch.text) {
             let next = Look {
                 role: stretch.role,
-                style: sheet.style_of(level, stretch.role),
                 link: stretch.link,
             };
-            weave_stretch(out, stretch.text, last, next)?;
+            weave_stretch(out, stretch.text, level, sheet, last, next)?;
             last = next;
         }
     }
     end_link(out, last.link, None)?;
-    out.push_str(reset_code(last.style))
+    out.push_str(reset_code(sheet.style_of(level, last.role)))
 }
 
 /// Whether a text has cells.
@@ -126,37 +124,49 @@ fn has_cells(text: &str) -> bool
 fn weave_stretch(
     out: &mut String,
     word: &str,
+    level: LevelInner,
+    sheet: &Stylesheet,
     last: Look<'_>,
     next: Look<'_>,
 ) -> Result<(), AllocError>
-    requires alike { last.role ≡ next.role → last.style ≡ next.style }
-    ensures text { OnOk result (PrintsStretch (chars word.now) last.entry.style next.entry.style
-        (option_copied last.entry.link) (option_copied next.entry.link) (string_bytes out.old) (string_bytes out.new)) }
+    ensures text { OnOk result (PrintsStretch (chars word.now) (style_of sheet.now level last.entry.role)
+        (style_of sheet.now level next.entry.role) (option_copied last.entry.link) (option_copied next.entry.link)
+        (string_bytes out.old) (string_bytes out.new)) }
 {
     end_link(out, last.link, next.link)?;
-    change_style(out, last, next)?;
+    change_style(out, level, sheet, last.role, next.role)?;
     begin_link(out, last.link, next.link)?;
     out.push_str(word)
 }
 
 /// Resets the style that is open and opens the next one, unless they are the same.
-fn change_style(out: &mut String, last: Look<'_>, next: Look<'_>) -> Result<(), AllocError>
-    requires alike { last.role ≡ next.role → last.style ≡ next.style }
-    ensures kept { OnOk result (last.entry.style ≡ next.entry.style → string_bytes out.new ≡ string_bytes out.old) }
-    ensures changed { OnOk result (last.entry.style ≢ next.entry.style → string_bytes out.new
-        ≡ string_bytes out.old ++ flat_map piece_text (Reset last.entry.style ∷ Opening next.entry.style ∷ [])) }
+fn change_style(
+    out: &mut String,
+    level: LevelInner,
+    sheet: &Stylesheet,
+    last: ElementStyle,
+    next: ElementStyle,
+) -> Result<(), AllocError>
+    ensures kept { OnOk result (style_of sheet.now level last ≡ style_of sheet.now level next
+        → string_bytes out.new ≡ string_bytes out.old) }
+    ensures changed { OnOk result (style_of sheet.now level last ≢ style_of sheet.now level next
+        → string_bytes out.new ≡ string_bytes out.old
+        ++ flat_map piece_text (Reset (style_of sheet.now level last) ∷ Opening (style_of sheet.now level next) ∷ [])) }
 {
-    if last.role == next.role {
+    if last == next {
         return Ok(());
     }
-    if last.style != next.style {
-        out.push_str(reset_code(last.style))?;
-        write_opening(out, next.style)?;
+    let before = sheet.style_of(level, last);
+    let after = sheet.style_of(level, next);
+    if before != after {
+        out.push_str(reset_code(before))?;
+        write_opening(out, after)?;
     }
     Ok(())
 }
 
 /// Ends the link that is open, unless it goes on.
+#[inline(always)]
 fn end_link(out: &mut String, last: Option<&str>, next: Option<&str>) -> Result<(), AllocError>
     ensures kept { OnOk result (option_copied last.entry ≡ option_copied next.entry → string_bytes out.new
         ≡ string_bytes out.old) }
@@ -171,6 +181,7 @@ fn end_link(out: &mut String, last: Option<&str>, next: Option<&str>) -> Result<
 }
 
 /// Begins the next link, if there is one, unless it was open before.
+#[inline(always)]
 fn begin_link(out: &mut String, last: Option<&str>, next: Option<&str>) -> Result<(), AllocError>
     ensures kept { OnOk result (option_copied last.entry ≡ option_copied next.entry → string_bytes out.new
         ≡ string_bytes out.old) }
@@ -179,12 +190,12 @@ fn begin_link(out: &mut String, last: Option<&str>, next: Option<&str>) -> Resul
         → option_copied last.entry ≢ Some url → string_bytes out.new ≡ string_bytes out.old
         ++ flat_map piece_text (LinkTo url ∷ [])) }
 {
-    if last == next {
-        return Ok(());
-    }
     let Some(url) = next else {
         return Ok(());
     };
+    if last == next {
+        return Ok(());
+    }
     out.push_str("\u{1b}]8;;")?;
     out.push_str(url)?;
     out.push_str("\u{1b}\\")

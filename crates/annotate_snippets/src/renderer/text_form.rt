@@ -4,13 +4,14 @@
 //! error: unused
 //!  at src/main.rs:1:5: here
 //! ```
-ghost use Rattle.std.specs.Prelude.{◌≡◌, ◌≢◌, ◌++◌, [], All, List, None, IfOk, IfSome, OnOk, filter};
-ghost use Rattle.std.specs.Prelude.{map, true};
+ghost use Rattle.std.specs.Prelude.{◌≡◌, ◌≢◌, ◌++◌, ◌∷◌, [], All, List, None, IfOk, IfSome, OnOk, filter};
+ghost use Rattle.std.specs.Prelude.{true};
 ghost use Rattle.std.specs.Option.{option_copied};
 ghost use Rattle.annotate_snippets.specs.Around as around;
 ghost use Rattle.annotate_snippets.specs.PreparedReport.{IsDrawable, IsElementDrawable, IsGroupDrawable};
 ghost use Rattle.annotate_snippets.specs.TextForm as spec;
 ghost use Rattle.annotate_snippets.specs.TextForm.{before_seen, element_form, elements_form, group_form};
+ghost use Rattle.snippet_model.specs.declared.snippet.Element.TheVariants.{Suggestion};
 ghost use Rattle.snippet_model.specs.declared.snippet.Group.{Group};
 ghost use Rattle.annotate_snippets.specs.Around.{file_of_group};
 ghost use Rattle.snippet_model.specs.Fits.{MessageFits, TitleFits};
@@ -66,7 +67,7 @@ pub fn text_form<'a>(
     ensures form { IfOk result (λ form. form ≡ spec.text_form renderer.now groups.now) }
 {
     let file = report_file(groups);
-    let mut form = TextForm::new(alloc);
+    let mut form = TextForm::new(alloc)?;
     for group in groups {
         let file = primary_path(group).or(file);
         add_group(alloc, &mut form, renderer, file, group)?;
@@ -90,30 +91,7 @@ fn add_group<'a>(
     if let Some(title) = &group.title {
         add_title(alloc, form, renderer, title)?;
     }
-    let elements = drawn_elements(alloc, &group.elements)?;
-    add_elements(alloc, form, renderer, file, &elements)
-}
-
-/// An element that is drawn. It is a struct of its own since a list of references to an enum can't be proved yet.
-#[derive(Clone, Copy)]
-struct DrawnElement<'a> {
-    element: &'a Element<'a>,
-}
-
-/// Those of some elements that are drawn, in order.
-fn drawn_elements<'a>(
-    alloc: Global,
-    elements: &'a [Element<'a>],
-) -> Result<Vec<DrawnElement<'a>>, AllocError>
-    ensures value { IfOk result (λ drawn. map (λ d. d.element.now) drawn.items ≡ filter around.is_drawn elements.now) }
-{
-    let mut drawn = Vec::new(alloc);
-    for element in elements {
-        if is_drawn(element) {
-            drawn.push(DrawnElement { element })?;
-        }
-    }
-    Ok(drawn)
+    add_elements(alloc, form, renderer, file, &group.elements)
 }
 
 /// Whether an element is drawn: a snippet of patches without patches is left out.
@@ -140,45 +118,56 @@ fn add_title<'a>(
     add_heading(alloc, form, renderer.hyperlink, HeadingKind::Title, title)
 }
 
-/// Adds a group's elements, in order.
+/// Adds those of a group's elements that are drawn, in order.
 fn add_elements<'a>(
     alloc: Global,
     form: &mut TextForm<'a>,
     renderer: &Renderer,
     file: Option<&str>,
-    elements: &[DrawnElement<'a>],
+    elements: &'a [Element<'a>],
 ) -> Result<(), AllocError>
-    requires drawable { All (λ d. IsElementDrawable d.element.now) elements.now }
-    requires drawn { All (λ d. around.is_drawn d.element.now ≡ true) elements.now }
+    requires drawable { All IsElementDrawable elements.now }
     ensures added { OnOk result (form.new
         ≡ form.old ++ elements_form renderer.now (option_copied file.entry) None
-        (map (λ d. d.element.now) elements.now)) }
+        (filter around.is_drawn elements.now)) }
 {
     let mut before = None;
-    for (i, drawn) in elements.iter().enumerate() {
-        let followed = first_two_share(&elements[i..]);
-        let context = TextContext {
-            file,
-            before,
-            followed,
-        };
-        add_element(alloc, form, renderer, context, drawn.element)?;
-        before = before_next(before, drawn.element);
+    for (i, element) in elements.iter().enumerate() {
+        if is_drawn(element) {
+            let followed = is_followed(element, &elements[i + 1..]);
+            let context = TextContext {
+                file,
+                before,
+                followed,
+            };
+            add_element(alloc, form, renderer, context, element)?;
+            before = before_next(before, element);
+        }
     }
     Ok(())
 }
 
-/// Whether the first two of some elements are suggestions for one file.
-fn first_two_share(elements: &[DrawnElement<'_>]) -> bool
-    ensures value { result ≡ around.first_two_share (map (λ d. d.element.now) elements.now) }
+/// Whether the next of the later elements that is drawn is a suggestion for the file of this one.
+fn is_followed(element: &Element<'_>, later: &[Element<'_>]) -> bool
+    ensures value { result ≡ around.first_two_share (element.now ∷ filter around.is_drawn later.now) }
 {
-    match elements {
-        [first, second, ..] => match (first.element, second.element) {
-            (Element::Suggestion(first), Element::Suggestion(second)) => is_for_same_file(
-                first, second,
-            ),
-            _ => false,
-        },
+    let Element::Suggestion(first) = element else {
+        return false;
+    };
+    for other in later {
+        if is_drawn(other) {
+            return is_for_file_of(first, other);
+        }
+    }
+    false
+}
+
+/// Whether an element is a suggestion for the file of this one.
+fn is_for_file_of(first: &Snippet<'_, Patch<'_>>, other: &Element<'_>) -> bool
+    ensures value { result ≡ around.share_file (Suggestion first.now) other.now }
+{
+    match other {
+        Element::Suggestion(second) => is_for_same_file(first, second),
         _ => false,
     }
 }

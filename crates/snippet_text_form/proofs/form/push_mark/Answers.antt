@@ -10,23 +10,18 @@ pub returns-in_err-push-clause-marks : goal.returns-in_err-push-clause-marks
 returns-in_err-push-clause-marks c =
     let old : List ℕ = string_bytes c.args.text.now in
     let new : List ℕ = string_bytes c.push_some.new.out in
-    let grown : new ≡ old ++ c.args.word.now = c.in_ok-push_some.ensures.bytes
-    ∙ ap (λ (t : List ℕ). t ++ c.args.word.now) c.in_ok-make_first_room.ensures.text in
-    subst (λ (ms : List Mark). AreMarks new 0 ms) (sym (c.in_err-push.ensures.items ∙ c.in_ok-make_first_room.ensures.marks))
-    (AreMarks-grown old new 0 c.args.marks.now.items (BeginsWith-added old c.args.word.now new grown) c.requires.marks)
+    subst (λ (ms : List Mark). AreMarks new 0 ms) (sym c.in_err-push.ensures.items)
+    (AreMarks-grown old new 0 c.args.marks.now.items (BeginsWith-added old c.args.word.now new c.in_ok-push_some.ensures.bytes) c.requires.marks)
 
 pub returns : goal.returns
 returns c =
     let old : List ℕ = string_bytes c.args.text.now in
     let new : List ℕ = string_bytes c.push_some.new.out in
     let mark : Mark = record { start = c.len-start.result; end = c.len-end.result; kind = c.args.kind } in
-    let grown : new ≡ old ++ c.args.word.now = c.in_ok-push_some.ensures.bytes
-    ∙ ap (λ (t : List ℕ). t ++ c.args.word.now) c.in_ok-make_first_room.ensures.text in
-    let roomy : c.len-start.result ≡ length (string_bytes c.make_first_room.new.text) = search (rules, c.len-start.ensures) in
-    let start : c.len-start.result ≡ length old = roomy ∙ ap length c.in_ok-make_first_room.ensures.text in
+    let grown : new ≡ old ++ c.args.word.now = c.in_ok-push_some.ensures.bytes in
+    let start : c.len-start.result ≡ length old = search (rules, c.len-start.ensures) in
     let end : c.len-end.result ≡ length new = search (rules, c.len-end.ensures) in
-    let items : c.push.new.self.items ≡ c.args.marks.now.items ++ mark ∷ [] = c.in_ok-push.ensures.items
-    ∙ ap (λ (ms : List Mark). ms ++ mark ∷ []) c.in_ok-make_first_room.ensures.marks in
+    let items : c.push.new.self.items ≡ c.args.marks.now.items ++ mark ∷ [] = c.in_ok-push.ensures.items in
     record {
       added = ap (λ (ms : List Mark). pieces_from new 0 ms) items
           ∙ pieces-mark old new c.args.word.now 0 c.args.marks.now.items mark (IsUtf8-string_bytes c.args.text.now) grown start end c.requires.marks;

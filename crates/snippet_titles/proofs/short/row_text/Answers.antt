@@ -8,7 +8,6 @@ use Rattle.snippet_grid.specs.Woven.{Prints}
 use Rattle.snippet_model.specs.Heading.{Heading, heading_of_title, is_hidden}
 use Rattle.snippet_style.specs.Cell.{Cell, text_cells}
 use Rattle.snippet_style.specs.declared.role.ElementStyle.TheVariants.{LineAndColumn, NoStyle}
-use Rattle.snippet_text.specs.Normalized.{norm}
 use Rattle.snippet_titles.specs.HeadingRows.{colon_of, id_cells, linked_to}
 use Rattle.snippet_titles.specs.StretchCells.{stretch_cells}
 use Rattle.snippet_titles.specs.declared.style.HeadingRoles.{HeadingRoles}
@@ -20,15 +19,15 @@ returns c =
     let p = c.args.parts.now in
     let heading : Heading = heading_of_title p.title.now in
     let text : List ℕ = cow_str_bytes p.title.now.text in
-    let utf8 : IsUtf8 text = subst IsUtf8 c.as_str-5.ensures.value c.as_str-5.utf8 in
+    let utf8 : IsUtf8 text = subst IsUtf8 c.as_str-4.ensures.value c.as_str-4.utf8 in
     let roles : HeadingRoles = c.roles_of-roles.result in
     let id = c.in_ok-id.id in
     let given = option_copied c.id-given.result in
     let hidden = is_hidden heading.level.name in
     let hides = c.is_hidden-hidden.ensures.value in
-    let name = ap chars c.as_str-3.ensures.value ∙ c.in_ok-name.ensures.value ∙ ap (λ (t : List ℕ). norm (chars t)) c.as_str.ensures.value in
-    let linked = c.linked.ensures.cells ∙ alike-linked roles.label (option_copied id.address) (chars c.as_str-4.result.now)
-    ∙ ap (λ (t : List ℕ). linked_to (option_copied id.address) (text_cells roles.label (chars t))) c.as_str-4.ensures.value in
+    let name = ap chars c.as_str-2.ensures.value ∙ c.in_ok-name.ensures.value in
+    let linked = c.linked.ensures.cells ∙ alike-linked roles.label (option_copied id.address) (chars c.as_str-3.result.now)
+    ∙ ap (λ (t : List ℕ). linked_to (option_copied id.address) (text_cells roles.label (chars t))) c.as_str-3.ensures.value in
     let before : List Cell = stretch_cells c.unlinked.result in
     let opening : List Cell = stretch_cells c.unlinked-3.result in
     let address : List Cell = stretch_cells c.linked.result in
@@ -39,10 +38,10 @@ returns c =
     let row = row_is p.hyperlink (chars (string_bytes p.before)) (chars (string_bytes p.after)) (chars text) heading roles
     before (stretch_cells c.unlinked-2.result) opening address closing _ _ _
     c.roles_of-roles.ensures.value (plain_lines heading text utf8 refl c.requires.plain) (chars_some text utf8 c.requires.some)
-    (c.unlinked.ensures.cells ∙ ap (λ (t : List ℕ). text_cells LineAndColumn (chars t)) c.as_str-2.ensures.value)
+    (c.unlinked.ensures.cells ∙ ap (λ (t : List ℕ). text_cells LineAndColumn (chars t)) c.as_str.ensures.value)
     (c.unlinked-2.ensures.cells ∙ ap (text_cells roles.label) name) shown (c.unlinked-5.ensures.cells ∙ ap (text_cells roles.colon) dots)
-    (c.unlinked-6.ensures.cells ∙ ap (λ (t : List ℕ). text_cells roles.text (chars t)) c.as_str-5.ensures.value)
-    (c.unlinked-7.ensures.cells ∙ ap (λ (t : List ℕ). text_cells NoStyle (chars t)) c.as_str-6.ensures.value) in
+    (c.unlinked-6.ensures.cells ∙ ap (λ (t : List ℕ). text_cells roles.text (chars t)) c.as_str-4.ensures.value)
+    (c.unlinked-7.ensures.cells ∙ ap (λ (t : List ℕ). text_cells NoStyle (chars t)) c.as_str-5.ensures.value) in
     record {
       prints = IfOk-weaker c.print_row.result _ _ (λ given. subst (λ (rows : List (List Cell)).
           Prints c.args.sheet.now c.args.level rows (string_bytes given)) row) c.print_row.ensures.prints;

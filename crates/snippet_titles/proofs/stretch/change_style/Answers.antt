@@ -1,17 +1,23 @@
-use Rattle.std.proofs.Common.{◌∙◌, string_bytes, sym}
+use Rattle.std.proofs.Common.{◌++◌, ◌∙◌, ap, encode_utf8_all, string_bytes, sym}
 use Rattle.snippet_style.proofs.StyleLemmas.{differs_told, same_told}
+use Rattle.snippet_style.specs.Codes.{opening, reset}
+use Rattle.snippet_style.specs.Stylesheet.{style_of}
+use Rattle.snippet_style.specs.declared.style.Style.{Style}
 use Rattle.snippet_grid.proofs.StretchPrinted.{codes_added}
 use Rattle.snippet_titles.proofs.stretch.change_style.Goals as goal
 
 pub returns-in_ok-write_opening-clause-kept : goal.returns-in_ok-write_opening-clause-kept
 returns-in_ok-write_opening-clause-kept c =
-    λ same. absurd (differs_told _ _ (sym c.if-ne.true ∙ c.ne.ensures) same)
+    λ same. absurd (differs_told _ _ (sym c.if-ne.true ∙ c.ne.ensures)
+    (c.style_of-before.ensures.value ∙ same ∙ sym c.style_of-after.ensures.value))
 
 pub returns-in_ok-write_opening-clause-changed : goal.returns-in_ok-write_opening-clause-changed
 returns-in_ok-write_opening-clause-changed c =
-    λ differs. codes_added c.args.last.style c.args.next.style (string_bytes c.args.out.now) (string_bytes c.push_str.new.self) _ _
-    c.reset_code.ensures.text c.in_ok-push_str.ensures.bytes c.in_ok-write_opening.ensures.text
+    λ differs. codes_added (style_of c.args.sheet.now c.args.level c.args.last) (style_of c.args.sheet.now c.args.level c.args.next)
+    (string_bytes c.args.out.now) (string_bytes c.push_str.new.self) _ _
+    (c.reset_code.ensures.text ∙ ap (λ (s : Style). encode_utf8_all (reset s)) c.style_of-before.ensures.value) c.in_ok-push_str.ensures.bytes
+    (c.in_ok-write_opening.ensures.text ∙ ap (λ (s : Style). string_bytes c.push_str.new.self ++ encode_utf8_all (opening s)) c.style_of-after.ensures.value)
 
 pub returns-else-ne-clause-changed : goal.returns-else-ne-clause-changed
 returns-else-ne-clause-changed c =
-    λ differs. absurd (differs (same_told _ _ (sym c.if-ne.false ∙ c.ne.ensures)))
+    λ differs. absurd (differs (sym c.style_of-before.ensures.value ∙ same_told _ _ (sym c.if-ne.false ∙ c.ne.ensures) ∙ c.style_of-after.ensures.value))

@@ -1,4 +1,4 @@
-use Rattle.std.proofs.Common.{◌∙◌, ap, refl, subst, sym, arith, get_or, None, Some, string_bytes, List, [], ℕ, ◌++◌}
+use Rattle.std.proofs.Common.{◌∙◌, ap, refl, subst, arith, encode_utf8_all, get_or, None, Some, string_bytes, List, [], ℕ, ◌++◌}
 use Rattle.std.proofs.lemmas.Result.{on_ok_weaker}
 use Rattle.std.specs.List.{flat_map}
 use Rattle.std.specs.Option.{option_copied}
@@ -8,6 +8,8 @@ use Rattle.snippet_grid.proofs.WeaveLemmas.{Goes, row_closed}
 use Rattle.snippet_titles.specs.StretchCells.{stretch_cells}
 use Rattle.snippet_titles.specs.declared.stretch.Stretch.{Stretch}
 use Rattle.snippet_style.specs.Cell.{Cell}
+use Rattle.snippet_style.specs.Codes.{reset}
+use Rattle.snippet_style.specs.declared.style.Style.{Style}
 use Rattle.snippet_style.specs.Stylesheet.{style_of}
 use Rattle.snippet_style.specs.declared.role.ElementStyle.TheVariants.{MainHeaderMsg}
 use Rattle.snippet_titles.proofs.stretch.weave_stretches.Goals as goal
@@ -21,13 +23,6 @@ pub loop-stretch-init : goal.loop-stretch-init
 loop-stretch-init c =
     record {
       goes = none_printed c.args.sheet.now c.args.level c.args.stretches.now (string_bytes c.args.out.now);
-      styled = refl;
-    }
-
-pub weave_stretch-requires : goal.weave_stretch-requires
-weave_stretch-requires c =
-    record {
-      alike = λ same. c.loop-stretch.invariant.styled ∙ ap (style_of c.args.sheet.now c.args.level) same ∙ sym c.style_of.ensures.value;
     }
 
 pub loop-stretch-preserved : goal.loop-stretch-preserved
@@ -37,21 +32,21 @@ loop-stretch-preserved c = elim c.if-has_cells.branch [
       let s : Stretch = get_or c.args.stretches.now i none in
       rw (w.out-is, w.last-is)
       (record {
-        goes = stretch_woven c.args.sheet.now c.args.level c.args.stretches.now i none c.loop-stretch.last.style w.style_of.result
+        goes = stretch_woven c.args.sheet.now c.args.level c.args.stretches.now i none
+            (style_of c.args.sheet.now c.args.level c.loop-stretch.last.role) (style_of c.args.sheet.now c.args.level s.role)
             (option_copied c.loop-stretch.last.link) (string_bytes c.args.out.now) (string_bytes c.loop-stretch.out) (string_bytes w.weave_stretch.new.out)
-            c.loop-stretch-test.true (c.has_cells.ensures.yes w.if-has_cells.true) w.style_of.ensures.value w.in_ok-weave_stretch.ensures.text
+            c.loop-stretch-test.true (c.has_cells.ensures.yes w.if-has_cells.true) refl w.in_ok-weave_stretch.ensures.text
             c.loop-stretch.invariant.goes;
-        styled = w.style_of.ensures.value;
       })
   | else-has_cells w ↦
       let i = c.loop-stretch.stretch-index in
       let s : Stretch = get_or c.args.stretches.now i none in
       rw (w.out-is, w.last-is)
       (record {
-        goes = stretch_empty c.args.sheet.now c.args.level c.args.stretches.now i none c.loop-stretch.last.style (option_copied c.loop-stretch.last.link)
-            (string_bytes c.args.out.now) (string_bytes c.loop-stretch.out) c.loop-stretch-test.true
+        goes = stretch_empty c.args.sheet.now c.args.level c.args.stretches.now i none
+            (style_of c.args.sheet.now c.args.level c.loop-stretch.last.role) (option_copied c.loop-stretch.last.link) (string_bytes c.args.out.now)
+            (string_bytes c.loop-stretch.out) c.loop-stretch-test.true
             (no_cells s (c.has_cells.ensures.no w.if-has_cells.false)) c.loop-stretch.invariant.goes;
-        styled = c.loop-stretch.invariant.styled;
       })
 ]
 
@@ -60,11 +55,13 @@ returns c =
     let old = string_bytes c.args.out.now in
     let now = string_bytes c.loop-stretch.out in
     let cells = cells_all c.args.stretches.now c.loop-stretch.stretch-index (omega (arith, c.loop-stretch-test.false)) in
+    let last = style_of c.args.sheet.now c.args.level c.loop-stretch.last.role in
+    let code = c.reset_code.ensures.text ∙ ap (λ (s : Style). encode_utf8_all (reset s)) c.style_of.ensures.value in
     record {
-      text = on_ok_weaker c.push_str.result (λ bytes. row_closed c.args.sheet.now c.args.level c.loop-stretch.last.style
+      text = on_ok_weaker c.push_str.result (λ bytes. row_closed c.args.sheet.now c.args.level last
           (option_copied c.loop-stretch.last.link) (flat_map stretch_cells c.args.stretches.now) old now (string_bytes c.end_link.new.out) _
           c.in_ok-end_link.ensures.none c.in_ok-end_link.ensures.ended
-          (bytes ∙ ap (λ (t : List ℕ). string_bytes c.end_link.new.out ++ t) c.reset_code.ensures.text)
-          (subst (λ (cs : List Cell). Goes c.args.sheet.now c.args.level (Some c.loop-stretch.last.style) (option_copied c.loop-stretch.last.link) cs old now)
+          (bytes ∙ ap (λ (t : List ℕ). string_bytes c.end_link.new.out ++ t) code)
+          (subst (λ (cs : List Cell). Goes c.args.sheet.now c.args.level (Some last) (option_copied c.loop-stretch.last.link) cs old now)
           cells c.loop-stretch.invariant.goes)) (on_ok_value c.push_str.result _ _ _ c.push_str.ensures.bytes);
     }

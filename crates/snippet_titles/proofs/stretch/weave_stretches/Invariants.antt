@@ -1,5 +1,5 @@
 -- The row is printed up to the next stretch.
-use Rattle.std.proofs.Common.{◌≡◌, Some, string_bytes}
+use Rattle.std.proofs.Common.{Some, string_bytes}
 use Rattle.std.specs.Option.{option_copied}
 use Rattle.snippet_titles.proofs.StretchRow.{cells_before}
 use Rattle.snippet_grid.proofs.WeaveLemmas.{Goes}
@@ -9,7 +9,6 @@ use Rattle.snippet_titles.proofs.stretch.weave_stretches.Given as goal
 abbrev pub invariant-loop-stretch : goal.invariant-loop-stretch
 invariant-loop-stretch l =
     record {
-      goes : Goes l.sheet l.level (Some l.last.style) (option_copied l.last.link) (cells_before l.stretches l.stretch-index)
+      goes : Goes l.sheet l.level (Some (style_of l.sheet l.level l.last.role)) (option_copied l.last.link) (cells_before l.stretches l.stretch-index)
           (string_bytes l.initial.out) (string_bytes l.out);
-      styled : l.last.style ≡ style_of l.sheet l.level l.last.role;
     }

@@ -1,6 +1,6 @@
 use Rattle.std.proofs.Common.{◌∙◌, ap, sym}
 use Rattle.annotate_snippets.specs.Around.{is_drawn}
-use Rattle.annotate_snippets.proofs.DrawnElementLemmas.{has_patches}
+use Rattle.annotate_snippets.proofs.FormSteps.{has_patches}
 use Rattle.annotate_snippets.proofs.renderer.text_form.add_element.Goals as goal
 
 pub add_patches-requires-clause-some : goal.add_patches-requires-clause-some

@@ -1,28 +1,16 @@
-use Rattle.std.proofs.Common.{◌≡◌, ◌∙◌, map, length, true, ap, arith, subst, sym}
+use Rattle.std.proofs.Common.{◌∙◌, ◌+◌, ◌-◌, ◌∷◌, arith, ap, drop, length, sym, take, true}
+use Rattle.std.specs.List.{filter}
 use Rattle.std.specs.Option.{option_copied}
-use Rattle.std.proofs.lemmas.List.{length-map}
-use Rattle.annotate_snippets.specs.Around.{first_two_share}
-use Rattle.annotate_snippets.specs.Around.{is_drawn}
-use Rattle.annotate_snippets.specs.PreparedReport.{IsElementDrawable}
-use Rattle.annotate_snippets.specs.declared.renderer.text_form.DrawnElement.{DrawnElement}
+use Rattle.std.proofs.lemmas.List.{length-drop, take_all}
+use Rattle.annotate_snippets.specs.Around.{first_two_share, is_drawn}
 use Rattle.annotate_snippets.specs.TextForm.{before_seen}
-use Rattle.annotate_snippets.proofs.FormSteps.{all_added, element_added, none_added, number_small}
-use Rattle.annotate_snippets.proofs.DrawnElementLemmas.{drawn_from, drawn_read, seen}
+use Rattle.annotate_snippets.proofs.FormSteps.{all_added, element_added, element_passed, none_added, number_small}
 use Rattle.annotate_snippets.proofs.renderer.text_form.add_elements.Goals as goal
+use Rattle.annotate_snippets.proofs.renderer.text_form.add_elements.Goals.{then-is_drawn+in_ok-add_element, else-is_drawn}
 
 pub loop-i-init : goal.loop-i-init
 loop-i-init c =
-    none_added c.args.renderer.now (option_copied c.args.file) (map seen c.args.elements.now) c.args.form.now
-
-pub add_element-requires-clause-drawable : goal.add_element-requires-clause-drawable
-add_element-requires-clause-drawable c =
-    subst (λ (d : DrawnElement). IsElementDrawable (seen d)) (sym c.index-elements-i.is)
-    (c.requires.drawable c.loop-i.i c.index-elements-i.result c.loop-i-test.true)
-
-pub add_element-requires-clause-drawn : goal.add_element-requires-clause-drawn
-add_element-requires-clause-drawn c =
-    subst (λ (d : DrawnElement). is_drawn (seen d) ≡ true) (sym c.index-elements-i.is)
-    (c.requires.drawn c.loop-i.i c.index-elements-i.result c.loop-i-test.true)
+    none_added c.args.renderer.now (option_copied c.args.file) c.args.elements.now c.args.form.now
 
 pub add_element-requires-clause-small : goal.add_element-requires-clause-small
 add_element-requires-clause-small c =
@@ -30,16 +18,27 @@ add_element-requires-clause-small c =
 
 pub loop-i-preserved : goal.loop-i-preserved
 loop-i-preserved c =
-    element_added c.args.renderer.now (option_copied c.args.file) (map seen c.args.elements.now) c.loop-i.i (seen c.index-elements-i.result)
-    c.args.form.now c.loop-i.form c.add_element.new.form (before_seen c.loop-i.before) (before_seen c.before_next-before.result)
-    c.first_two_share-followed.result
-    (drawn_read c.args.elements.now c.loop-i.i c.index-elements-i.result c.loop-i-test.true c.index-elements-i.is)
-    (c.first_two_share-followed.ensures.value ∙ ap first_two_share (drawn_from c.args.elements.now c.loop-i.i))
-    c.in_ok-add_element.ensures.added c.before_next-before.ensures.value c.loop-i.invariant
+    let es = c.args.elements.now in
+    let i = c.loop-i.i in
+    let e = c.index-elements-i.result in
+    elim c.if-is_drawn.branch [
+      | then-is_drawn+in_ok-add_element w ↦
+          let later = take_all (length es - (i + 1)) (drop (i + 1) es) (omega (arith, length-drop (i + 1) es)) in
+          rw (w.form-is, w.before-is)
+          (element_added c.args.renderer.now (option_copied c.args.file) es i e c.args.form.now c.loop-i.form w.add_element.new.form
+          (before_seen c.loop-i.before) (before_seen w.before_next-before.result) w.is_followed-followed.result c.loop-i-test.true c.index-elements-i.is
+          (sym c.is_drawn.ensures.value ∙ w.if-is_drawn.true)
+          (w.is_followed-followed.ensures.value ∙ ap (λ xs. first_two_share (e ∷ filter is_drawn xs)) later)
+          w.in_ok-add_element.ensures.added w.before_next-before.ensures.value c.loop-i.invariant)
+      | else-is_drawn w ↦
+          rw (w.form-is, w.before-is)
+          (element_passed c.args.renderer.now (option_copied c.args.file) es i e c.args.form.now c.loop-i.form (before_seen c.loop-i.before)
+          c.loop-i-test.true c.index-elements-i.is (sym c.is_drawn.ensures.value ∙ w.if-is_drawn.false) c.loop-i.invariant)
+    ]
 
 pub returns : goal.returns
 returns c =
     record {
-      added = all_added c.args.renderer.now (option_copied c.args.file) (map seen c.args.elements.now) c.loop-i.i c.args.form.now c.loop-i.form
-          (before_seen c.loop-i.before) (omega (arith, length-map c.args.elements.now seen, c.loop-i-test.false, c.loop-i.auto.i-end)) c.loop-i.invariant;
+      added = all_added c.args.renderer.now (option_copied c.args.file) c.args.elements.now c.loop-i.i c.args.form.now c.loop-i.form
+          (before_seen c.loop-i.before) (omega (arith, c.loop-i-test.false, c.loop-i.auto.i-end)) c.loop-i.invariant;
     }

@@ -1,31 +1,12 @@
-use Rattle.std.proofs.Common.{◌≡◌, ◌++◌, ◌∙◌, List, ap, map, true}
+use Rattle.std.proofs.Common.{◌≡◌, ◌++◌, ◌∙◌, List, ap}
 use Rattle.std.specs.List.{filter}
 use Rattle.std.specs.Option.{option_copied}
-use Rattle.std.proofs.lemmas.List.Elements.{All-filter, filter_passes}
 use Rattle.std.proofs.lemmas.Result.{on_ok_weaker}
 use Rattle.snippet_text_form.specs.Form.{FormPiece}
 use Rattle.annotate_snippets.specs.Around.{is_drawn}
-use Rattle.annotate_snippets.specs.PreparedReport.{IsElementDrawable}
-use Rattle.annotate_snippets.proofs.DrawnElementLemmas.{drawn_all, seen}
 use Rattle.annotate_snippets.proofs.FormSteps.{group_added, no_title_added, title_added, title_form}
 use Rattle.annotate_snippets.proofs.renderer.text_form.add_group.Goals as goal
 use Rattle.annotate_snippets.proofs.renderer.text_form.add_group.Goals.{in-Some+in_ok-add_title, in_default}
-
-pub add_elements-requires-clause-drawable : goal.add_elements-requires-clause-drawable
-add_elements-requires-clause-drawable c =
-    let es = c.args.group.now.elements.items in
-    let ds = c.deref-2.result.now in
-    let drawn : map seen ds ≡ filter is_drawn es = ap (map seen) c.deref-2.ensures.value ∙ c.in_ok-elements.ensures.value
-    ∙ ap (filter is_drawn) c.deref.ensures.value in
-    drawn_all IsElementDrawable ds (filter is_drawn es) drawn (All-filter is_drawn IsElementDrawable es c.requires.drawable.1)
-
-pub add_elements-requires-clause-drawn : goal.add_elements-requires-clause-drawn
-add_elements-requires-clause-drawn c =
-    let es = c.args.group.now.elements.items in
-    let ds = c.deref-2.result.now in
-    let drawn : map seen ds ≡ filter is_drawn es = ap (map seen) c.deref-2.ensures.value ∙ c.in_ok-elements.ensures.value
-    ∙ ap (filter is_drawn) c.deref.ensures.value in
-    drawn_all (λ e. is_drawn e ≡ true) ds (filter is_drawn es) drawn (filter_passes is_drawn es)
 
 pub returns : goal.returns
 returns c =
@@ -36,10 +17,10 @@ returns c =
       | in-Some+in_ok-add_title w ↦ title_added r g.title w.in-Some.title old c.match-group.form w.in-Some.is (w.form-is ∙ w.in_ok-add_title.ensures.added)
       | in_default w ↦ no_title_added r g.title old c.match-group.form w.in_default.is w.form-is
     ] in
-    let drawn : map seen c.deref-2.result.now ≡ filter is_drawn g.elements.items = ap (map seen) c.deref-2.ensures.value ∙ c.in_ok-elements.ensures.value
-    ∙ ap (filter is_drawn) c.deref.ensures.value in
+    let drawn = ap (filter is_drawn) c.deref.ensures.value in
     record {
       added = λ groups file. on_ok_weaker c.add_elements.result (λ added.
-          group_added r groups g (option_copied c.args.file) (map seen c.deref-2.result.now) old c.match-group.form c.add_elements.new.form file drawn titled
+          group_added r groups g (option_copied c.args.file) (filter is_drawn c.deref.result.now) old c.match-group.form c.add_elements.new.form
+          file drawn titled
           added) c.add_elements.ensures.added;
     }

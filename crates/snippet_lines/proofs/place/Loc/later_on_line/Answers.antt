@@ -18,17 +18,19 @@ walked c =
     (c.args.byte - c.args.start) c.min-from.result c.min-to.result c.utf8.text c.requires.here_border order c.min-from.ensures c.min-to.ensures
     c.range-between.ensures.value
 
-characters : (c : goal.After-struct_known-3-1) → c.args.self.char + c.char_count.result ≡ length (chars (take (c.args.byte - c.args.start) c.args.text.now))
+characters : (c : goal.After-struct_known-3-1)
+    → c.args.self.char + c.characters_and_columns-char.result.0 ≡ length (chars (take (c.args.byte - c.args.start) c.args.text.now))
 characters c =
     let before : List ℕ = chars (take (c.args.self.byte - c.args.start) c.args.text.now) in
     let both = ap length (walked c) ∙ length-append before (chars c.range-between.result.now) in
-    omega (arith, c.requires.here_char, c.char_count.ensures.value, both)
+    omega (arith, c.requires.here_char, c.characters_and_columns-char.ensures.characters, both)
 
-columns : (c : goal.After-struct_known-3-1) → c.args.self.display + c.str_width.result ≡ width_of (chars (take (c.args.byte - c.args.start) c.args.text.now))
+columns : (c : goal.After-struct_known-3-1)
+    → c.args.self.display + c.characters_and_columns-char.result.1 ≡ width_of (chars (take (c.args.byte - c.args.start) c.args.text.now))
 columns c =
     let before : List ℕ = chars (take (c.args.self.byte - c.args.start) c.args.text.now) in
     let both = ap width_of (walked c) ∙ sum_by-append char_width before (chars c.range-between.result.now) in
-    omega (arith, c.requires.here_display, c.str_width.ensures.value, both)
+    omega (arith, c.requires.here_display, c.characters_and_columns-char.ensures.columns, both)
 
 -- what stands before a byte of a text has no more characters than the text has bytes, and at most four columns for each
 short : (n : ℕ) (text : List ℕ) → length (chars (take n text)) ≤ length text
@@ -44,7 +46,7 @@ overflow_add-result c =
       arith,
       c.requires.fits,
       c.requires.here_char,
-      c.char_count.ensures.value,
+      c.characters_and_columns-char.ensures.characters,
       short
           (c.args.self.byte - c.args.start) c.args.text.now,
       length-chars_le c.range-between.result.now,
@@ -54,7 +56,14 @@ overflow_add-result c =
 pub overflow_add-result-2 : goal.overflow_add-result-2
 overflow_add-result-2 c =
     let few : length c.range-between.result.now ≤ length c.args.text.now = grind (arith, common_steps) in
-    omega (arith, c.requires.fits, c.requires.here_display, c.str_width.ensures.bound, narrow (c.args.self.byte - c.args.start) c.args.text.now, few)
+    omega (
+      arith,
+      c.requires.fits,
+      c.requires.here_display,
+      c.characters_and_columns-char.ensures.bound,
+      narrow (c.args.self.byte - c.args.start) c.args.text.now,
+      few,
+    )
 
 pub returns-clause-char : goal.returns-clause-char
 returns-clause-char c = characters c

@@ -1,4 +1,4 @@
-use Rattle.std.proofs.Common.{◌≡◌, ◌<◌, ◌≤◌, ◌+◌, ◌-◌, ◌∙◌, ap, sym, subst, List, ℕ, length, take, drop, arith}
+use Rattle.std.proofs.Common.{◌≡◌, ◌≤◌, ◌+◌, ◌-◌, ◌∙◌, ap, sym, subst, List, ℕ, length, take, drop, arith}
 use Rattle.std.specs.Str.{IsCharBoundary}
 use Rattle.std.proofs.lemmas.List.{length-drop, length-take}
 use Rattle.snippet_lines.specs.Lines.{Line, source_lines, start_of}
@@ -8,7 +8,7 @@ use Rattle.snippet_lines.proofs.LinesLemmas.{length-source_lines, start_of-le}
 use Rattle.snippet_lines.proofs.PlaceLemmas.{line_of-mono, line_of-within}
 use Rattle.snippet_lines.specs.Starts.{starts_from}
 use Rattle.snippet_parts.proofs.PartLines.{lines-of-part}
-use Rattle.snippet_parts.proofs.TableLemmas.{length-starts_from}
+use Rattle.snippet_parts.proofs.TableLemmas.{length-starts_from, table-alone}
 use Rattle.snippet_parts.proofs.source_map.SourceMap.near.Goals as goal
 
 -- the line of the start doesn't stand after that of the end
@@ -22,7 +22,7 @@ range-requires-clause-start_le_end c =
     let ls : List Line = source_lines source in
     omega (
       arith,
-      c.line_bounds-from.ensures.start,
+      c.line_bounds-first.ensures.start,
       c.line_bounds-end.ensures.end,
       start_of-le ls (line_of ls c.args.bytes.start) (line_of ls c.args.bytes.end + 1)
           (omega (arith, ordered source c.args.bytes.start c.args.bytes.end c.requires.ordered)),
@@ -30,7 +30,7 @@ range-requires-clause-start_le_end c =
 
 pub range-requires-clause-start_boundary : goal.range-requires-clause-start_boundary
 range-requires-clause-start_boundary c = λ _.
-    subst (IsCharBoundary c.args.source.now) (sym c.line_bounds-from.ensures.start)
+    subst (IsCharBoundary c.args.source.now) (sym c.line_bounds-first.ensures.start)
     (IsCharBoundary-start_of c.args.source.now (line_of (source_lines c.args.source.now) c.args.bytes.start) c.utf8.source)
 
 pub range-requires-clause-end_boundary : goal.range-requires-clause-end_boundary
@@ -40,6 +40,12 @@ range-requires-clause-end_boundary c =
 
 pub invariant_of-result : goal.invariant_of-result
 invariant_of-result c =
+    table-alone c.args.source.now c.args.line_start c.line_index-skipped.result c.line_bounds-first.result.start c.line_bounds-first.result.end
+    c.args.bytes.start c.line_index-skipped.ensures.value c.line_bounds-first.ensures.start c.line_bounds-first.ensures.end c.utf8.source
+    c.requires.fits c.requires.numbers
+
+pub invariant_of-result-2 : goal.invariant_of-result-2
+invariant_of-result-2 c =
     let source : List ℕ = c.args.source.now in
     let ls : List Line = source_lines source in
     let k : ℕ = line_of ls c.args.bytes.start in
@@ -50,17 +56,18 @@ invariant_of-result c =
     let after : k + n ≡ j + 1 = omega arith in
     let within : k + n ≤ length ls = omega (arith, line_of-within source c.args.bytes.end) in
     let end : c.line_bounds-end.result.end ≡ start_of ls (k + n) = c.line_bounds-end.ensures.end ∙ ap (start_of ls) (sym after) in
-    let part : source_lines c.range.result.now ≡ take n (drop k ls) = lines-of-part source c.range.result.now k n c.line_bounds-from.result.start
-    c.line_bounds-end.result.end (omega arith) within c.line_bounds-from.ensures.start end c.range.ensures.value in
+    let part : source_lines c.range.result.now ≡ take n (drop k ls) = lines-of-part source c.range.result.now k n c.line_bounds-first.result.start
+    c.line_bounds-end.result.end (omega arith) within c.line_bounds-first.ensures.start end c.range.ensures.value in
     let are : starts ≡ starts_from 0 (take n (drop k ls)) = c.in_ok-line_starts.ensures.starts ∙ ap (starts_from 0) part in
     let size : length starts ≡ n = ap length are ∙ length-starts_from 0 (take n (drop k ls))
     ∙ omega (arith, within, length-take n (drop k ls), length-drop k ls) in
-    let skipped : c.line_index.result ≡ k = c.line_index.ensures.value in
+    let skipped : c.line_index-skipped.result ≡ k = c.line_index-skipped.ensures.value in
     record {
-      starts_are = are ∙ sym (ap (λ m. starts_from 0 (take m (drop c.line_index.result ls))) size ∙ ap (λ m. starts_from 0 (take n (drop m ls))) skipped);
+      starts_are = are ∙ sym (ap (λ m. starts_from 0 (take m (drop c.line_index-skipped.result ls))) size
+          ∙ ap (λ m. starts_from 0 (take n (drop m ls))) skipped);
       some = omega (arith, size);
-      from_is = c.line_bounds-from.ensures.start ∙ sym (ap (start_of ls) skipped);
-      end_is = end ∙ sym (ap (λ m. start_of ls (c.line_index.result + m)) size ∙ ap (λ m. start_of ls (m + n)) skipped);
+      from_is = c.line_bounds-first.ensures.start ∙ sym (ap (start_of ls) skipped);
+      end_is = end ∙ sym (ap (λ m. start_of ls (c.line_index-skipped.result + m)) size ∙ ap (λ m. start_of ls (m + n)) skipped);
       utf8 = c.utf8.source;
       short = c.requires.fits;
       numbers = omega (arith, length-source_lines source, c.requires.numbers);
