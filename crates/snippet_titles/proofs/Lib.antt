@@ -11,6 +11,7 @@ pub mod HeadingLemmas
 pub mod LabelLemmas
 pub mod LineLemmas
 pub mod LinkLemmas
+pub mod NameLemmas
 pub mod OriginExamples
 pub mod OriginFree
 pub mod OriginNumbers

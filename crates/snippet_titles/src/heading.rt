@@ -104,7 +104,12 @@ pub(crate) fn draw_label<'a>(
 pub(crate) fn shown_name<'r>(alloc: Global, level: &'r Level<'_>) -> Result<CowStr<'r>, AllocError>
     ensures value { IfOk result (λ name. chars (cow_str_bytes name) ≡ norm (chars (name_of level.now))) }
 {
-    normalized(alloc, level.as_str())
+    match &level.name {
+        LevelName::Own(name) => normalized(alloc, name.as_str()),
+        // Nothing in the name of a kind is listed.
+        LevelName::Standard => Ok(CowStr::Borrowed(level.as_str())),
+        LevelName::Hidden => Ok(CowStr::Borrowed("")),
+    }
 }
 
 /// Whether a level's name isn't shown.
