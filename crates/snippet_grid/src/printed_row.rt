@@ -43,6 +43,7 @@ impl PrintedRow {
     }
 
     /// How the last cell looks.
+    #[inline(always)]
     fn last(&self) -> Look<'static>
         ensures place { (sheet : Stylesheet) → style_at sheet result.place
             ≡ style_of sheet self.now.level self.now.role }
