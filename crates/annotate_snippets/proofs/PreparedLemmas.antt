@@ -1,9 +1,8 @@
 -- What is prepared so far of a report's groups, and of the elements of a group.
-use Rattle.std.proofs.Common.{◌≡◌, ℕ, ◌+◌, ◌<◌, All, map, take, Bool, true, false, cond, List, [], ◌∷◌, ◌++◌, Option, Some, None, length, get_or, refl, sym, ap}
-use Rattle.std.proofs.Common.{◌∙◌, IfSome}
+use Rattle.std.proofs.Common.{◌≡◌, ℕ, ◌+◌, ◌<◌, All, map, take, List, [], ◌∷◌, ◌++◌, length, get_or, sym, ap}
+use Rattle.std.proofs.Common.{◌∙◌}
 use Rattle.std.specs.List.{filter}
-use Rattle.std.specs.Option.{option_map, option_to_list}
-use Rattle.std.proofs.lemmas.List.{append-nil, map-append, take_more}
+use Rattle.std.proofs.lemmas.List.{map-append, take_more}
 use Rattle.std.proofs.lemmas.List.Elements.{All-push, All-same, filter_more}
 use Rattle.snippet_model.specs.declared.snippet.Element.{Element}
 use Rattle.snippet_model.specs.declared.snippet.Group.{Group}
@@ -35,31 +34,12 @@ pub record AreDrawnPrepared (es : List Element) (ps : List PreparedElement) : Ty
   pub elements : map element_of ps ≡ filter is_drawn es
   pub prepared : All IsElementPrepared ps
 
--- what is drawn of one more element
-prepared_one : (e : Element) (p : Option PreparedElement) → option_map element_of p ≡ cond (is_drawn e) (Some e) None
-    → map element_of (option_to_list p) ≡ cond (is_drawn e) (e ∷ []) []
-prepared_one e p is = mapped p ∙ ap option_to_list is ∙ listed (is_drawn e)
-  where
-    mapped : (q : Option PreparedElement) → map element_of (option_to_list q) ≡ option_to_list (option_map element_of q)
-    mapped None = refl
-    mapped (Some q) = refl
-
-    listed : (drawn : Bool) → option_to_list (cond drawn (Some e) None) ≡ cond drawn (e ∷ []) []
-    listed true = refl
-    listed false = refl
-
-All-option : (ps : List PreparedElement) (p : Option PreparedElement) → All IsElementPrepared ps → IfSome p IsElementPrepared
-    → All IsElementPrepared (ps ++ option_to_list p)
-All-option ps None all one = All-same IsElementPrepared (ps ++ []) ps (append-nil ps) all
-All-option ps (Some p) all one = All-push IsElementPrepared ps p all one
-
 -- one more element is prepared where it is drawn, and else nothing is added
-pub AreDrawnPrepared-push : (es : List Element) (i : ℕ) (e : Element) (ps new : List PreparedElement) (p : Option PreparedElement)
-    → new ≡ ps ++ option_to_list p → i < length es → e ≡ get_or es i e → option_map element_of p ≡ cond (is_drawn e) (Some e) None
-    → IfSome p IsElementPrepared → AreDrawnPrepared (take i es) ps → AreDrawnPrepared (take (i + 1) es) new
-AreDrawnPrepared-push es i e ps new p pushed within is drawn prepared before = record {
-  elements = ap (map element_of) pushed ∙ map-append element_of ps (option_to_list p)
-      ∙ ap (λ ds. ds ++ map element_of (option_to_list p)) before.elements ∙ ap (λ ds. filter is_drawn (take i es) ++ ds) (prepared_one e p drawn)
-      ∙ ap (λ d. filter is_drawn (take i es) ++ cond (is_drawn d) (d ∷ []) []) is ∙ sym (filter_more is_drawn es i e within);
-  prepared = All-same IsElementPrepared new (ps ++ option_to_list p) pushed (All-option ps p before.prepared prepared);
+pub AreDrawnPrepared-more : (es : List Element) (i : ℕ) (e : Element) (ps new : List PreparedElement) → i < length es → e ≡ get_or es i e
+    → map element_of new ≡ map element_of ps ++ filter is_drawn (e ∷ []) → (All IsElementPrepared ps → All IsElementPrepared new)
+    → AreDrawnPrepared (take i es) ps → AreDrawnPrepared (take (i + 1) es) new
+AreDrawnPrepared-more es i e ps new within is added prepared before = record {
+  elements = added ∙ ap (λ ds. ds ++ filter is_drawn (e ∷ [])) before.elements
+      ∙ ap (λ d. filter is_drawn (take i es) ++ filter is_drawn (d ∷ [])) is ∙ sym (filter_more is_drawn es i e within);
+  prepared = prepared before.prepared;
 }

@@ -81,7 +81,14 @@ impl SheetCodes {
         ensures yes { result ≡ true → style_at self.now a ≢ style_at self.now b }
         ensures no { result ≡ false → style_at self.now a ≡ style_at self.now b }
     {
-        a != b && self.styles[a] != self.styles[b]
+        if a == b {
+            return false;
+        }
+        // Most that meet are a plain one and another: these are told apart without a look at colours and effects.
+        if self.is_plain(a) {
+            return !self.is_plain(b);
+        }
+        self.is_plain(b) || self.styles[a] != self.styles[b]
     }
 
     /// Adds the code that switches the style at a place off, if it has one.
@@ -176,6 +183,7 @@ fn opening(alloc: Global, style: Style) -> Result<String, AllocError>
 pub(crate) const NONE: usize = 7;
 
 /// The place of the style of a cell of this role, in a group of this level.
+#[inline(always)]
 pub(crate) fn place_of(level: LevelInner, role: ElementStyle) -> usize
     ensures place { (sheet : Stylesheet) (d : Style) → slice_index_or (styles_in sheet) result d
         ≡ spec.style_of sheet level role }

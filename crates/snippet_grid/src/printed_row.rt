@@ -43,6 +43,7 @@ impl PrintedRow {
     }
 
     /// How the last cell looks.
+    #[inline(always)]
     fn last(&self) -> Look<'static>
         ensures place { (sheet : Stylesheet) → style_at sheet result.place
             ≡ style_of sheet self.now.level self.now.role }
@@ -56,6 +57,7 @@ impl PrintedRow {
     }
 
     /// Adds unstyled spaces to the row.
+    #[inline(always)]
     pub fn add_spaces(&mut self, count: usize, codes: &mut SheetCodes) -> Result<(), AllocError>
         requires some { 0 < count }
         ensures sheet { codes.new ≡ codes.old }
@@ -68,6 +70,7 @@ impl PrintedRow {
     }
 
     /// Adds a text in a role to the row.
+    #[inline(always)]
     pub fn add_word(
         &mut self,
         word: &str,
@@ -91,6 +94,7 @@ impl PrintedRow {
     }
 
     /// Ends the row: the text, and the row after it.
+    #[inline(always)]
     pub fn end(self, codes: &mut SheetCodes) -> Result<String, AllocError>
         ensures sheet { codes.new ≡ codes.old }
         ensures row { IfOk result (λ text. (cells : List Cell) (old : List ℕ) → IsPrinted codes.old cells old self

@@ -20,6 +20,7 @@ fn push_part(out: &mut String, spaces: &str, count: usize) -> Result<(), AllocEr
 }
 
 /// Adds spaces.
+#[inline(always)]
 pub(crate) fn push_spaces(out: &mut String, count: usize) -> Result<(), AllocError>
     ensures text { OnOk result (string_bytes out.new ≡ string_bytes out.old ++ replicate count 32) }
     ensures grows { BeginsWith (string_bytes out.old) (string_bytes out.new) }

@@ -216,12 +216,12 @@ fn begin_link(out: &mut String, last: Option<&str>, next: Option<&str>) -> Resul
         → option_copied last.entry ≢ Some url → string_bytes out.new ≡ string_bytes out.old
         ++ flat_map piece_text (LinkTo url ∷ [])) }
 {
-    if last == next {
-        return Ok(());
-    }
     let Some(url) = next else {
         return Ok(());
     };
+    if last == next {
+        return Ok(());
+    }
     out.push_str("\u{1b}]8;;")?;
     out.push_str(url)?;
     out.push_str("\u{1b}\\")

@@ -42,6 +42,7 @@ fn is_linked(hyperlink: bool, id: Option<&Id>) -> bool
 /// # Errors
 ///
 /// There is no memory for the text.
+#[inline(always)]
 pub fn print_heading(
     alloc: Global,
     before: String,
@@ -64,6 +65,7 @@ pub fn print_heading(
 }
 
 /// Adds what a heading's row begins with.
+#[inline(always)]
 fn print_sign(
     row: &mut PrintedRow,
     codes: &mut SheetCodes,
@@ -81,6 +83,7 @@ fn print_sign(
 }
 
 /// Adds what stands before a heading's text.
+#[inline(always)]
 fn print_label(
     alloc: Global,
     row: &mut PrintedRow,

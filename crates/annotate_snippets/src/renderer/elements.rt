@@ -6,9 +6,11 @@ ghost use Rattle.annotate_snippets.specs.Around.{CanStandIn, begins_in_row_above
 ghost use Rattle.annotate_snippets.specs.DrawnReport.{AddsElement, AddsElements, HasRoomFor, shared_row};
 ghost use Rattle.annotate_snippets.specs.PreparedReport.{IsElementPrepared, element_of};
 ghost use Rattle.annotate_snippets.specs.RowsWithoutSource as spec;
-ghost use Rattle.annotate_snippets.specs.RowsWithoutSource.{message_rows, origin_rows};
+ghost use Rattle.annotate_snippets.specs.RowsWithoutSource.{origin_rows};
 ghost use Rattle.annotate_snippets.specs.declared.renderer.Renderer.{Renderer};
 ghost use Rattle.snippet_model.specs.Fits.{MessageFits};
+ghost use Rattle.snippet_model.specs.Heading.{heading_of_message};
+ghost use Rattle.snippet_titles.specs.HeadingRows.{heading_rows};
 
 use crate::renderer::Renderer;
 use crate::renderer::cause::draw_cause;
@@ -65,7 +67,8 @@ pub fn draw_element<'a>(
 {
     match element {
         PreparedElement::Message(message) => {
-            draw_message(alloc, buffer, renderer, layout, around, message)
+            let style = message_style(layout, around);
+            draw_message(alloc, buffer, renderer.hyperlink, style, message)
         }
         PreparedElement::Cause(cause) => draw_cause(alloc, buffer, renderer, layout, around, cause),
         PreparedElement::Suggestion(suggestion) => {
@@ -87,28 +90,18 @@ pub fn draw_element<'a>(
 ///    = note: first line
 ///            second line
 /// ```
-fn draw_message<'a>(
+pub fn draw_message<'a>(
     alloc: Global,
     buffer: &mut StyledBuffer<'a>,
-    renderer: &Renderer,
-    layout: Layout,
-    around: ElementContext,
+    hyperlink: bool,
+    style: TitleStyle,
     message: &'a Message<'a>,
 ) -> Result<(), AllocError>
     requires fits { MessageFits message.now }
-    ensures rows { OnOk result (buffer.new ≡ buffer.old ++ message_rows renderer.now layout around message.now) }
+    ensures rows { OnOk result (buffer.new ≡ buffer.old
+        ++ heading_rows hyperlink style (heading_of_message message.now)) }
 {
-    let context = MessageContext {
-        layout,
-        followed: !around.next.is_nothing(),
-    };
-    draw_heading(
-        alloc,
-        buffer,
-        renderer.hyperlink,
-        TitleStyle::Message(context),
-        message,
-    )
+    draw_heading(alloc, buffer, hyperlink, style, message)
 }
 
 /// Where a message stands.

@@ -61,6 +61,9 @@ pub fn drawn_text(
     text_under(alloc, &drawn, sheet)
 }
 
+/// Room for the text of a report of everyday size, in bytes. A longer one grows from there.
+const ROOM: usize = 1024;
+
 /// The text of a report's graphic form, a group at a time.
 fn page_text(
     alloc: Global,
@@ -81,7 +84,7 @@ fn page_text(
         file,
     };
     let mut codes = SheetCodes::new(alloc, sheet);
-    let mut text = String::new(alloc);
+    let mut text = String::with_capacity(alloc, ROOM)?;
     let mut buffer = StyledBuffer::new(alloc);
     for (i, group) in prepared.into_iter().enumerate() {
         let around = group_context(renderer, &report, i, &group);

@@ -1,7 +1,6 @@
 //! What is known of a report before any row is drawn: the lines of each source, the entries on them, the patched texts.
 //! Each is found once, and the gutter's width needs them all.
-ghost use Rattle.std.specs.Prelude.{◌≡◌, All, IfOk, IfSome, None, Some, filter, map, if◌then◌else◌};
-ghost use Rattle.std.specs.Option.{option_map};
+ghost use Rattle.std.specs.Prelude.{◌≡◌, ◌∷◌, ◌++◌, [], All, IfOk, OnOk, filter, map};
 ghost use Rattle.annotate_snippets.specs.Around as spec;
 ghost use Rattle.annotate_snippets.specs.Around.{is_drawn, share_file};
 ghost use Rattle.annotate_snippets.specs.Gutter.{depth_of_group};
@@ -136,34 +135,38 @@ fn prepare_elements<'a>(
 {
     let mut prepared = Vec::with_capacity(alloc, elements.len())?;
     for element in elements {
-        if let Some(element) = prepare_element(alloc, element)? {
-            prepared.push(element)?;
-        }
+        add_prepared(alloc, &mut prepared, element)?;
     }
     Ok(prepared)
 }
 
-/// Prepares an element, if it is drawn.
-fn prepare_element<'a>(
+/// Adds what is prepared of an element, if it is drawn: each kind where it is made, since one has much to move.
+fn add_prepared<'a>(
     alloc: Global,
+    prepared: &mut Vec<PreparedElement<'a>>,
     element: &'a Element<'a>,
-) -> Result<Option<PreparedElement<'a>>, AllocError>
+) -> Result<(), AllocError>
     requires drawable { IsElementDrawable element.now }
-    ensures drawn { IfOk result (λ p. option_map element_of p
-        ≡ (if is_drawn element.now then Some element.now else None)) }
-    ensures prepared { IfOk result (λ p. IfSome p IsElementPrepared) }
+    ensures added { OnOk result (map element_of prepared.new.items ≡ map element_of prepared.old.items
+        ++ filter is_drawn (element.now ∷ [])) }
+    ensures prepared { OnOk result (All IsElementPrepared prepared.old.items
+        → All IsElementPrepared prepared.new.items) }
 {
-    let prepared = match element {
-        Element::Message(message) => PreparedElement::Message(message),
-        Element::Cause(snippet) => PreparedElement::Cause(prepare_cause(alloc, snippet)?),
-        Element::Suggestion(snippet) => {
-            let suggestion = prepare_suggestion(alloc, snippet)?;
-            return Ok(suggestion.map(PreparedElement::Suggestion));
+    match element {
+        Element::Message(message) => prepared.push(PreparedElement::Message(message))?,
+        Element::Cause(snippet) => {
+            let cause = prepare_cause(alloc, snippet)?;
+            prepared.push(PreparedElement::Cause(cause))?;
         }
-        Element::Origin(origin) => PreparedElement::Origin(origin),
-        Element::Padding(padding) => PreparedElement::Padding(padding),
-    };
-    Ok(Some(prepared))
+        Element::Suggestion(snippet) => {
+            if let Some(suggestion) = prepare_suggestion(alloc, snippet)? {
+                prepared.push(PreparedElement::Suggestion(suggestion))?;
+            }
+        }
+        Element::Origin(origin) => prepared.push(PreparedElement::Origin(origin))?,
+        Element::Padding(padding) => prepared.push(PreparedElement::Padding(padding))?,
+    }
+    Ok(())
 }
 
 /// Prepares an annotated snippet.

@@ -9,12 +9,12 @@
 //!   |
 //!   = note: `x` isn't read     printed while it is written
 //! ```
-ghost use Rattle.std.specs.Prelude.{◌≡◌, ◌++◌, [], All, Bool, IfOk, IfSome, List, OnOk, false, map, string_bytes};
+ghost use Rattle.std.specs.Prelude.{◌≡◌, ◌++◌, [], All, Bool, IfOk, List, OnOk, false, map, string_bytes};
 ghost use Rattle.std.specs.Prelude.{true, ℕ};
 ghost use Rattle.std.specs.Option.{option_copied};
 ghost use Rattle.snippet_grid.specs.Woven.{WeavesRows};
+ghost use Rattle.snippet_model.specs.Fits.{MessageFits};
 ghost use Rattle.snippet_model.specs.Heading.{heading_of_message, heading_of_title};
-ghost use Rattle.snippet_model.specs.declared.snippet.Element.TheVariants as element;
 ghost use Rattle.snippet_style.specs.Cell.{Cell};
 ghost use Rattle.snippet_titles.specs.HeadingRows.{heading_rows};
 ghost use Rattle.snippet_titles.specs.PrintedHeading.{IsPlainHeading};
@@ -28,7 +28,7 @@ ghost use Rattle.annotate_snippets.specs.RowsWithoutSource.{title_part};
 
 use crate::renderer::Renderer;
 use crate::renderer::element_context::{GroupContext, contexts_of, next_of};
-use crate::renderer::elements::{draw_element, message_style};
+use crate::renderer::elements::{draw_element, draw_message, message_style};
 use crate::renderer::page::fed;
 use crate::renderer::preprocess::{PreparedElement, PreparedGroup};
 use crate::renderer::title::{draw_below_title, draw_title};
@@ -174,9 +174,9 @@ fn add_elements<'a>(
     let around = contexts_of(alloc, group.place, group.file, &elements)?;
     for (i, element) in elements.into_iter().enumerate() {
         let place = around[i];
-        if let Some(message) = plain_message(renderer.hyperlink, &element) {
+        if let PreparedElement::Message(message) = element {
             let style = message_style(group.layout, place);
-            add_message(alloc, page, codes, style, message)?;
+            add_message(alloc, page, codes, renderer.hyperlink, style, message)?;
         } else {
             draw_element(
                 alloc,
@@ -192,21 +192,39 @@ fn add_elements<'a>(
     Ok(())
 }
 
-/// The message that an element is, if it stands in one row that links to nothing.
-fn plain_message<'a>(hyperlink: bool, next: &PreparedElement<'a>) -> Option<&'a Message<'a>>
-    ensures is { IfSome result (λ message. element_of next.now ≡ element.Message message.now) }
-    ensures plain { IfSome result (λ message. IsPlainHeading hyperlink (heading_of_message message.now)) }
+/// Adds a message below all rows of its group. One of plain text is printed.
+fn add_message<'a>(
+    alloc: Global,
+    page: &mut Printing<'a>,
+    codes: &mut SheetCodes,
+    hyperlink: bool,
+    style: TitleStyle,
+    message: &'a Message<'a>,
+) -> Result<(), AllocError>
+    requires fits { MessageFits message.now }
+    ensures sheet { codes.new ≡ codes.old }
+    ensures level { OnOk result (page.new.level ≡ page.old.level) }
+    ensures printed { OnOk result ((old : List ℕ) (rows : List (List Cell))
+        → IsPrinting codes.old page.old.level old page.old rows
+        → IsPrinting codes.old page.old.level old page.new
+        (rows ++ heading_rows hyperlink style (heading_of_message message.now))) }
 {
-    match next {
-        PreparedElement::Message(message) if is_plain_heading(hyperlink, *message) => Some(
-            *message,
-        ),
-        _ => None,
+    if is_plain_message(hyperlink, message) {
+        add_plain_message(alloc, page, codes, style, message)
+    } else {
+        draw_message(alloc, &mut page.buffer, hyperlink, style, message)
     }
 }
 
+/// Whether a message stands in one row that links to nothing.
+fn is_plain_message(hyperlink: bool, message: &Message<'_>) -> bool
+    ensures yes { result ≡ true → IsPlainHeading hyperlink (heading_of_message message.now) }
+{
+    is_plain_heading(hyperlink, message)
+}
+
 /// Prints the one row of a message below all rows of its group.
-fn add_message(
+fn add_plain_message(
     alloc: Global,
     page: &mut Printing<'_>,
     codes: &mut SheetCodes,
@@ -247,7 +265,8 @@ fn print_message(
     print_heading(alloc, before, level, codes, style, message)
 }
 
-/// Prints the rows of a group that stand in its grid.
+/// Prints the rows of a group that stand in its grid, if there are any.
+#[inline(always)]
 fn flush(alloc: Global, page: &mut Printing<'_>, codes: &mut SheetCodes) -> Result<(), AllocError>
     ensures sheet { codes.new ≡ codes.old }
     ensures level { OnOk result (page.new.level ≡ page.old.level) }

@@ -1,6 +1,8 @@
 use Rattle.std.proofs.Common.{[], ◌∷◌, ap, refl}
 use Rattle.std.proofs.lemmas.Result.{on_ok_weaker}
+use Rattle.snippet_model.specs.Heading.{heading_of_message}
 use Rattle.snippet_model.specs.declared.snippet.Element.TheVariants.{Cause, Message, Origin, Padding}
+use Rattle.snippet_titles.specs.HeadingRows.{heading_rows}
 use Rattle.snippet_titles.specs.Origin.{padding_row}
 use Rattle.annotate_snippets.specs.PreparedReport.{element_of}
 use Rattle.annotate_snippets.proofs.PlainRows.{plain_added}
@@ -12,7 +14,8 @@ returns-in-Message c = record {
       on_ok_weaker c.draw_message.result
       (λ drawn. plain_added c.args.renderer.now c.args.layout c.args.around found c.args.element (Message c.in-Message.message.now)
       above c.args.buffer.now c.draw_message.new.buffer _ (ap element_of c.in-Message.is) c.requires.around (λ alone. alone)
-      is drawn refl) c.draw_message.ensures.rows;
+      is drawn (ap (λ s. heading_rows c.args.renderer.now.hyperlink s (heading_of_message c.in-Message.message.now))
+      (c.message_style-style.ensures.value c.args.renderer.now))) c.draw_message.ensures.rows;
 }
 
 pub returns-in-Cause : goal.returns-in-Cause

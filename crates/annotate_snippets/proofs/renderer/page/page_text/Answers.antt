@@ -19,7 +19,7 @@ loop-i-init c =
     record {
       sheet = c.new-codes.ensures.sheet;
       empty = c.new-buffer.ensures.empty;
-      printed = printed_none c.args.renderer.now c.args.groups.now c.args.sheet.now (string_bytes c.new-text.result) c.new-text.ensures.bytes;
+      printed = printed_none c.args.renderer.now c.args.groups.now c.args.sheet.now (string_bytes c.in_ok-text.text) c.in_ok-text.ensures.bytes;
     }
 
 pub group_context-around-requires : goal.group_context-around-requires

@@ -1,4 +1,4 @@
-use Rattle.std.proofs.Common.{◌∙◌, length, map, refl, subst}
+use Rattle.std.proofs.Common.{◌∙◌, ap, length, map, refl, subst}
 use Rattle.std.specs.Option.{option_copied}
 use Rattle.std.proofs.lemmas.Iterator.Adapters.{YieldsList-from_vec}
 use Rattle.std.proofs.lemmas.Iterator.Consumers.{YieldsList-end, YieldsList-from_enumerate, YieldsList-turn}
@@ -28,14 +28,14 @@ draw_element-requires-clause-around c =
     (subst (λ xs. AreAround c.args.group.now.place (option_copied c.args.group.now.file) (map element_of xs) c.in_ok-around.around.items)
     c.deref.ensures.value c.in_ok-around.ensures.value) turn c.index-place.ensures
 
-pub loop-i-preserved-in_ok-add_message-3 : goal.loop-i-preserved-in_ok-add_message-3
-loop-i-preserved-in_ok-add_message-3 c =
+pub loop-i-preserved-in-Continue-branch-2 : goal.loop-i-preserved-in-Continue-branch-2
+loop-i-preserved-in-Continue-branch-2 c =
     let turn = YieldsList-turn (YieldsList-from_enumerate (YieldsList-from_vec c.args.elements.items (cc) (cc))
     (cc)) c.loop-i.yielded c.loop-i.i-iterator c.loop-i.yielded_by c.next.result c.next.new.self
     (c.in-Some.i, c.in-Some.element) c.in-Some.is c.next.ensures.steps in
     let are = subst (λ xs. AreAround c.args.group.now.place (option_copied c.args.group.now.file) (map element_of xs) c.in_ok-around.around.items)
     c.deref.ensures.value c.in_ok-around.ensures.value in
-    let message = c.in-Some-plain_message.message.now in
+    let message = c.in-Message.message.now in
     record {
       sheet = c.in_ok-add_message.ensures.sheet ∙ c.loop-i.invariant.sheet;
       level = c.in_ok-add_message.ensures.level ∙ c.loop-i.invariant.level;
@@ -43,8 +43,8 @@ loop-i-preserved-in_ok-add_message-3 c =
           c.args.group.now.layout c.args.group.now.place (option_copied c.args.group.now.file) c.args.elements.items c.in_ok-around.around.items
           (length c.loop-i.yielded) _ c.in-Some.i c.in-Some.element c.index-place.result.now message c.message_style-style.result above old c.loop-i.page
           c.add_message.new.page are turn c.index-place.ensures (length_push c.loop-i.yielded (c.in-Some.i, c.in-Some.element))
-          c.in-Some-plain_message.ensures.is (c.message_style-style.ensures.value c.args.renderer.now) c.loop-i.invariant.sheet c.loop-i.invariant.level
-          (λ rows. c.in_ok-add_message.ensures.printed c.args.renderer.now.hyperlink old rows c.in-Some-plain_message.ensures.plain)
+          (ap element_of c.in-Message.is) (c.message_style-style.ensures.value c.args.renderer.now) c.loop-i.invariant.sheet c.loop-i.invariant.level
+          (λ rows. c.in_ok-add_message.ensures.printed old rows)
           (c.loop-i.invariant.printed old above printing);
     }
 

@@ -1,0 +1,15 @@
+use Rattle.std.proofs.Common.{◌∷◌, ◌++◌, [], IfSome, Option, subst}
+use Rattle.std.proofs.lemmas.List.Elements.{All-push, All-same}
+use Rattle.snippet_suggest.specs.PreparedSuggestion.{IsPrepared}
+use Rattle.snippet_suggest.specs.declared.prepared.PreparedSuggestion.{PreparedSuggestion}
+use Rattle.annotate_snippets.specs.PreparedReport.{IsElementPrepared}
+use Rattle.annotate_snippets.specs.declared.renderer.preprocess.PreparedElement.TheVariants.{Suggestion}
+use Rattle.annotate_snippets.proofs.renderer.preprocess.add_prepared.Goals as goal
+
+pub returns-in_ok-push-in-Suggestion-clause-prepared : goal.returns-in_ok-push-in-Suggestion-clause-prepared
+returns-in_ok-push-in-Suggestion-clause-prepared c = λ before.
+    let old = c.args.prepared.now.items in
+    let made = c.in-Some.suggestion in
+    let prepared = subst (λ (s : Option PreparedSuggestion). IfSome s IsPrepared) c.in-Some.is c.in_ok-suggestion-in-Suggestion.ensures.prepared in
+    All-same IsElementPrepared c.push-in-Some.new.self.items (old ++ Suggestion made ∷ []) c.in_ok-push-in-Suggestion.ensures.items
+    (All-push IsElementPrepared old (Suggestion made) before prepared)
