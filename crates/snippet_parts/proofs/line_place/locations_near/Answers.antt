@@ -1,0 +1,44 @@
+use Rattle.std.proofs.Common.{sym, ap, ◌∙◌}
+use Rattle.std.proofs.lemmas.Bool.{ne_eqb}
+use Rattle.snippet_lines.specs.Place.{location_of}
+use Rattle.snippet_parts.proofs.SpanPlaces.{span_below, span_empty, span_on_line}
+use Rattle.snippet_parts.proofs.TableLemmas.{located-line}
+use Rattle.snippet_parts.proofs.line_place.locations_near.Goals as goal
+
+pub steps_after_text-requires-clause-short : goal.steps_after_text-requires-clause-short
+steps_after_text-requires-clause-short c = c.place_near-first.ensures.place.short
+
+pub steps_after_text-steps-requires-clause-short : goal.steps_after_text-steps-requires-clause-short
+steps_after_text-steps-requires-clause-short c = c.place_near-first.ensures.place.short
+
+pub returns-then-span-clause-value : goal.returns-then-span-clause-value
+returns-then-span-clause-value c =
+    let s = c.args.source.now in
+    let first = c.place_near-first in
+    span_empty s c.args.span.start c.args.span.end c.steps_after_text.result first.result.at c.if-span.true
+    (first.ensures.place.at ∙ ap (location_of s) first.ensures.byte) c.steps_after_text.ensures.value
+
+pub returns-then-last-first-clause-value : goal.returns-then-last-first-clause-value
+returns-then-last-first-clause-value c =
+    let s = c.args.source.now in
+    let first = c.place_near-first in
+    let last = c.place_near-last in
+    let some = ne_eqb c.args.span.start c.args.span.end c.if-span.false in
+    let from = located-line s first.result.at.byte first.result.line first.ensures.place.line first.result.at first.ensures.place.at in
+    let to = located-line s last.result.at.byte last.result.line last.ensures.place.line last.result.at last.ensures.place.at in
+    span_on_line s c.args.span.start c.args.span.end c.steps_after_text.result first.result.at last.result.at some
+    (first.ensures.place.at ∙ ap (location_of s) first.ensures.byte) c.steps_after_text.ensures.value
+    (last.ensures.place.at ∙ ap (location_of s) last.ensures.byte) (to ∙ c.if-last-first.true ∙ sym from)
+
+pub returns-clause-value : goal.returns-clause-value
+returns-clause-value c =
+    let s = c.args.source.now in
+    let first = c.place_near-first in
+    let last = c.place_near-last in
+    let some = ne_eqb c.args.span.start c.args.span.end c.if-span.false in
+    let from = located-line s first.result.at.byte first.result.line first.ensures.place.line first.result.at first.ensures.place.at in
+    let to = located-line s last.result.at.byte last.result.line last.ensures.place.line last.result.at last.ensures.place.at in
+    let other = ne_eqb first.result.at.line last.result.at.line (λ same. c.if-last-first.false (sym to ∙ sym same ∙ from)) in
+    span_below s c.args.span.start c.args.span.end c.steps_after_text.result first.result.at last.result.at some
+    (first.ensures.place.at ∙ ap (location_of s) first.ensures.byte) c.steps_after_text.ensures.value
+    (last.ensures.place.at ∙ ap (location_of s) last.ensures.byte) c.steps_after_text-steps.result c.steps_after_text-steps.ensures.value other
