@@ -284,7 +284,8 @@ module _ (s : Source) (byte : ℕ) (info : LineInfo) (entry : table_entry info
       is ∙ ap (λ n. cond {A = ℕ} (ltb n byte) 1 0) end
 
 -- the line that holds a byte holds each after it up to its end
-pub located-near : (s : Source) (info : LineInfo) (known byte : ℕ) → table_entry info ≡ entry_at s.first (source_lines s.text) (line_of (source_lines s.text) known)
+pub located-near : (s : Source) (info : LineInfo) (known byte : ℕ)
+    → table_entry info ≡ entry_at s.first (source_lines s.text) (line_of (source_lines s.text) known)
     → known ≤ byte → byte < info.end_byte → table_entry info ≡ entry_at s.first (source_lines s.text) (line_of (source_lines s.text) byte)
 located-near s info known byte is later before =
     let ls = source_lines s.text in
