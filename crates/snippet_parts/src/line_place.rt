@@ -35,7 +35,7 @@ pub(crate) fn locations_near<'a>(
     ensures start_char { IsOffset result.0.char }
     ensures end_char { IsOffset result.1.char }
 {
-    let first = place_near(source, *known, span.start);
+    let first = place_near(source, known, span.start);
     *known = Some(first);
     let start = Loc {
         char: first.at.char + source.steps_after_text(&first.line, span.start),
@@ -44,7 +44,10 @@ pub(crate) fn locations_near<'a>(
     if span.start == span.end {
         return (start, start);
     }
-    let last = place_near(source, Some(first), span.end);
+    if span.end < first.line.end_byte {
+        return (start, source.locate_later(&first.line, first.at, span.end));
+    }
+    let last = place_at(source, span.end);
     if last.line.line_index == first.line.line_index {
         return (start, last.at);
     }
@@ -60,10 +63,10 @@ pub(crate) fn locations_near<'a>(
 /// The place of a byte. Where one is known that stands before it on its line, only what lies between them is walked.
 fn place_near<'a>(
     source: &SourceMap<'a>,
-    known: Option<LinePlace<'a>>,
+    known: &Option<LinePlace<'a>>,
     byte: usize,
 ) -> LinePlace<'a>
-    requires known { IfSome known (IsLinePlace source.now) }
+    requires known { IfSome known.now (IsLinePlace source.now) }
     requires border { IsSpanBorder source.now.text byte }
     ensures place { IsLinePlace source.now result }
     ensures byte { result.at.byte ≡ byte }
