@@ -18,8 +18,10 @@ use Rattle.snippet_parts.specs.declared.entries.LineAnnotationType.{LineAnnotati
 use Rattle.snippet_parts.specs.declared.entries.LineAnnotationType.TheVariants.{Singleline, MultilineStart, MultilineEnd, MultilineLine}
 use Rattle.snippet_labels.specs.declared.positions.PlacedEntry.{PlacedEntry}
 use Rattle.snippet_labels.specs.PlacedEntries.{is_end_part}
-use Rattle.snippet_labels.specs.Positions.{ArePlaced, FitsLeftOf, HasItsBytes, HasItsLabel, IsFromRight, StandInRow, StandsLeft, are_starts, blocks, crosses, crowds}
-use Rattle.snippet_labels.specs.Positions.{do_overlap, ends_no_later, flipped, has_label, is_placed_before, is_same_place, is_start_part, label_reach, line_positions}
+use Rattle.snippet_labels.specs.Positions.{ArePlaced, FitsLeftOf, HasItsBytes, HasItsLabel, IsFromRight, StandInRow, StandsLeft}
+use Rattle.snippet_labels.specs.Positions.{are_starts, blocks, crosses, crowds}
+use Rattle.snippet_labels.specs.Positions.{do_overlap, ends_no_later, flipped, has_label}
+use Rattle.snippet_labels.specs.Positions.{is_placed_before, is_same_place, is_start_part, label_reach, line_positions}
 use Rattle.snippet_labels.specs.Positions.{look_counts, looked_after, position_after, position_at, positions, reaches, takes_space, up_to}
 use Rattle.snippet_labels.proofs.PlacedLemmas.{position-none}
 
@@ -83,7 +85,8 @@ after_0 : (column : ℕ) (e : PlacedEntry) (left : List PlacedEntry) → StandIn
 after_0 column e left stand = ap (λ b. cond b 1 0) (uncrowded column e left stand)
 
 -- so all stand at position 0
-positions_0 : (column : ℕ) (ps : List PlacedEntry) → StandInRow column ps → All (λ e. e.position ≡ 0) ps → map (λ (e : PlacedEntry). e.position) ps ≡ positions 0 ps
+positions_0 : (column : ℕ) (ps : List PlacedEntry) → StandInRow column ps → All (λ e. e.position ≡ 0) ps
+    → map (λ (e : PlacedEntry). e.position) ps ≡ positions 0 ps
 positions_0 column [] stand none = refl
 positions_0 column (e ∷ left) stand none =
     let at : PlacedEntry → ℕ = λ e. e.position in
@@ -155,7 +158,8 @@ put_all column (e ∷ left) given ordered stand right is =
     let f : PlacedEntry → LineAnnotation = entry_of in
     let start = e.entry.start.display in
     let less : All (λ (y : LineAnnotation). start < y.start.display) ordered = λ k d within. omega (arith, right k d within, stand.0.begins) in
-    let put : ordered_by is_placed_before (e.entry ∷ given) ≡ ordered ++ e.entry ∷ [] = ap (put_in is_placed_before e.entry) is ∙ put_last e.entry ordered less in
+    let put : ordered_by is_placed_before (e.entry ∷ given) ≡ ordered ++ e.entry ∷ [] =
+    ap (put_in is_placed_before e.entry) is ∙ put_last e.entry ordered less in
     let all : All (λ (y : LineAnnotation). start ≤ y.start.display) (ordered ++ e.entry ∷ []) =
     All-append (λ (y : LineAnnotation). start ≤ y.start.display) ordered (e.entry ∷ []) (λ k d within. omega (arith, less k d within))
     (All-cons (λ (y : LineAnnotation). start ≤ y.start.display) e.entry [] (omega arith) (All-nil (λ (y : LineAnnotation). start ≤ y.start.display))) in

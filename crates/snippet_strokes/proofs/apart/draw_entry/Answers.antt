@@ -42,7 +42,8 @@ draw_connector-requires-clause-rows c =
     let e = c.args.placed.now in
     let old = c.args.buffer.now in
     let cornered = c.draw_corner.new.buffer in
-    (enough_after old cornered c.requires.enough (count_corner c.args.layout c.args.row e old cornered c.requires.enough c.in_ok-draw_corner.ensures.painted)).rows
+    (enough_after old cornered c.requires.enough
+    (count_corner c.args.layout c.args.row e old cornered c.requires.enough c.in_ok-draw_corner.ensures.painted)).rows
     0 e (omega arith)
 
 -- there is enough before the label is drawn
