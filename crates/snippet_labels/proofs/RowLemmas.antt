@@ -23,7 +23,7 @@ use Rattle.snippet_labels.specs.Positions.{are_starts, blocks, crosses, crowds}
 use Rattle.snippet_labels.specs.Positions.{do_overlap, ends_no_later, flipped, has_label}
 use Rattle.snippet_labels.specs.Positions.{is_placed_before, is_same_place, is_start_part, label_reach, line_positions}
 use Rattle.snippet_labels.specs.Positions.{look_counts, looked_after, position_after, position_at, positions, reaches, takes_space, up_to}
-use Rattle.snippet_labels.proofs.PlacedLemmas.{position-none}
+use Rattle.snippet_labels.proofs.PlacedLemmas.{no_position}
 
 entry_of : PlacedEntry → LineAnnotation
 entry_of e = e.entry
@@ -42,18 +42,19 @@ all_fit column (e ∷ left) stand (suc k) d within =
 
 -- ---- no label is in the way
 
-apart : (a b c d more : ℕ) → a < c → b + more ≤ c → ((nat_le c a && nat_lt a d) || (nat_le a c && nat_lt c (b + more))) ≡ false
-apart a b c d more left ends = grind (arith, nat_tests)
+row_apart : (a b c d more : ℕ) → a < c → b + more ≤ c → ((nat_le c a && nat_lt a d) || (nat_le a c && nat_lt c (b + more))) ≡ false
+row_apart a b c d more left ends = grind (arith, nat_tests)
 
-over : (b : Bool) (end more : ℕ) → end + 0 ≤ cond b (end + more) end
-over true end more = omega arith
-over false end more = omega arith
+reach_over : (b : Bool) (end more : ℕ) → end + 0 ≤ cond b (end + more) end
+reach_over true end more = omega arith
+reach_over false end more = omega arith
 
 not_crossed : (e other : PlacedEntry) → FitsLeftOf e.entry.start.display other → crosses e other ≡ false
 not_crossed e other fits =
-    let ends : other.entry.end.display + 0 ≤ label_reach other = over (has_label other) other.entry.end.display (length (cow_str_bytes other.label) + 2) in
+    let ends : other.entry.end.display + 0 ≤ label_reach other =
+    reach_over (has_label other) other.entry.end.display (length (cow_str_bytes other.label) + 2) in
     ap (λ b. b && (has_label other || not (is_same_place e other)))
-    (apart other.entry.start.display other.entry.end.display e.entry.start.display e.entry.end.display 0 fits.begins (omega (arith, ends, fits.ends)))
+    (row_apart other.entry.start.display other.entry.end.display e.entry.start.display e.entry.end.display 0 fits.begins (omega (arith, ends, fits.ends)))
 
 not_reached : (label overlap wide : Bool) → (label ≡ true → overlap ≡ false) → (label && overlap && wide) ≡ false
 not_reached true overlap wide none = ap (λ b. b && wide) (none refl)
@@ -66,23 +67,24 @@ not_crowded column e other own fits =
     ∙ ap (λ b. has_label e && b) fits.single ∙ and-false (has_label e) in
     let meets : has_label other ≡ true → do_overlap other more e ≡ false = λ has.
     let ends : label_reach other ≡ other.entry.end.display + more = ap (λ b. cond b (other.entry.end.display + more) other.entry.end.display) has in
-    apart other.entry.start.display other.entry.end.display e.entry.start.display e.entry.end.display more fits.begins (omega (arith, ends, fits.ends)) in
+    row_apart other.entry.start.display other.entry.end.display e.entry.start.display e.entry.end.display more fits.begins (omega (arith, ends, fits.ends)) in
     ap (λ b. b || reaches 0 e other) unblocked
     ∙ not_reached (has_label other) (do_overlap other more e) (has_label e || ((0 == 0) && ends_no_later other e)) meets
 
-uncrossed : (e : PlacedEntry) (left : List PlacedEntry) → StandInRow e.entry.start.display left → list_any (crosses e) left ≡ false
-uncrossed e left stand = list_any_none (crosses e) left (λ k d within. not_crossed e (get_or left k d) (all_fit e.entry.start.display left stand k d within))
+row_uncrossed : (e : PlacedEntry) (left : List PlacedEntry) → StandInRow e.entry.start.display left → list_any (crosses e) left ≡ false
+row_uncrossed e left stand =
+    list_any_none (crosses e) left (λ k d within. not_crossed e (get_or left k d) (all_fit e.entry.start.display left stand k d within))
 
-uncrowded : (column : ℕ) (e : PlacedEntry) (left : List PlacedEntry) → StandInRow column (e ∷ left) → list_any (crowds 0 e) left ≡ false
-uncrowded column e left stand =
+row_uncrowded : (column : ℕ) (e : PlacedEntry) (left : List PlacedEntry) → StandInRow column (e ∷ left) → list_any (crowds 0 e) left ≡ false
+row_uncrowded column e left stand =
     list_any_none (crowds 0 e) left (λ k d within. not_crowded column e (get_or left k d) stand.0 (all_fit e.entry.start.display left stand.1 k d within))
 
 here_0 : (e : PlacedEntry) (left : List PlacedEntry) → StandInRow e.entry.start.display left → position_at 0 e left ≡ 0
 here_0 e left stand =
-    ap (λ b. cond ((0 == 0) && (has_label e && b)) 1 0) (uncrossed e left stand) ∙ ap (λ b. cond b 1 0) (and-false (has_label e))
+    ap (λ b. cond ((0 == 0) && (has_label e && b)) 1 0) (row_uncrossed e left stand) ∙ ap (λ b. cond b 1 0) (and-false (has_label e))
 
 after_0 : (column : ℕ) (e : PlacedEntry) (left : List PlacedEntry) → StandInRow column (e ∷ left) → position_after 0 e left ≡ 0
-after_0 column e left stand = ap (λ b. cond b 1 0) (uncrowded column e left stand)
+after_0 column e left stand = ap (λ b. cond b 1 0) (row_uncrowded column e left stand)
 
 -- so all stand at position 0
 positions_0 : (column : ℕ) (ps : List PlacedEntry) → StandInRow column ps → All (λ e. e.position ≡ 0) ps
@@ -114,7 +116,7 @@ line_positions_0 column (e ∷ left) stand none =
 -- and all that stand left of one are looked at
 looked_all : (e : PlacedEntry) (left : List PlacedEntry) → StandInRow e.entry.start.display left → looked_after 0 e left ≡ length left
 looked_all e left stand =
-    ap (λ at. cond ((0 == 0) && has_label e) (up_to at (length left)) (length left)) (position-none (crosses e) left (uncrossed e left stand))
+    ap (λ at. cond ((0 == 0) && has_label e) (up_to at (length left)) (length left)) (no_position (crosses e) left (row_uncrossed e left stand))
     ∙ both (has_label e) (length left)
   where
     both : (b : Bool) (n : ℕ) → cond b n n ≡ n
@@ -150,11 +152,11 @@ put_last x (y ∷ ys) right =
     before a b c d less = grind (arith, nat_tests)
 
 -- those left of a list in order are put after it
-put_all : (column : ℕ) (ps : List PlacedEntry) (given ordered : List LineAnnotation) → StandInRow column ps → All (λ y. column ≤ y.start.display) ordered
+put_left : (column : ℕ) (ps : List PlacedEntry) (given ordered : List LineAnnotation) → StandInRow column ps → All (λ y. column ≤ y.start.display) ordered
     → ordered_by is_placed_before given ≡ ordered → ordered_by is_placed_before (reverse (map entry_of ps) ++ given) ≡ ordered ++ map entry_of ps
 unfolding entry_of
-put_all column [] given ordered stand right is = is ∙ sym (append-nil ordered)
-put_all column (e ∷ left) given ordered stand right is =
+put_left column [] given ordered stand right is = is ∙ sym (append-nil ordered)
+put_left column (e ∷ left) given ordered stand right is =
     let f : PlacedEntry → LineAnnotation = entry_of in
     let start = e.entry.start.display in
     let less : All (λ (y : LineAnnotation). start < y.start.display) ordered = λ k d within. omega (arith, right k d within, stand.0.begins) in
@@ -165,23 +167,23 @@ put_all column (e ∷ left) given ordered stand right is =
     (All-cons (λ (y : LineAnnotation). start ≤ y.start.display) e.entry [] (omega arith) (All-nil (λ (y : LineAnnotation). start ≤ y.start.display))) in
     ap (λ l. ordered_by is_placed_before (l ++ given)) (reverse-append (e.entry ∷ []) (map f left))
     ∙ ap (ordered_by is_placed_before) (append_assoc (reverse (map f left)) (e.entry ∷ []) given)
-    ∙ put_all start left (e.entry ∷ given) (ordered ++ e.entry ∷ []) stand.1 all put ∙ append_assoc ordered (e.entry ∷ []) (map f left)
+    ∙ put_left start left (e.entry ∷ given) (ordered ++ e.entry ∷ []) stand.1 all put ∙ append_assoc ordered (e.entry ∷ []) (map f left)
 
 StandsLeft-far : (e f : LineAnnotation) → f.start.display < e.start.display → StandsLeft e f
 StandsLeft-far e f left = record { column = omega (arith, left); character = λ same. absurd (omega (arith, left, same)) }
 
-from_right : (column : ℕ) (ps : List PlacedEntry) → StandInRow column ps → IsFromRight (map entry_of ps)
+row_from_right : (column : ℕ) (ps : List PlacedEntry) → StandInRow column ps → IsFromRight (map entry_of ps)
 unfolding entry_of
-from_right column [] stand i j d before within = absurd (omega (arith, within))
-from_right column (e ∷ left) stand zero zero d before within = record { column = omega arith; character = λ same. omega arith }
-from_right column (e ∷ left) stand zero (suc j) d before within =
+row_from_right column [] stand i j d before within = absurd (omega (arith, within))
+row_from_right column (e ∷ left) stand zero zero d before within = record { column = omega arith; character = λ same. omega arith }
+row_from_right column (e ∷ left) stand zero (suc j) d before within =
     let f : PlacedEntry → LineAnnotation = entry_of in
     let fits : j < length left = omega (arith, within, length-map left f) in
     subst (StandsLeft e.entry) (sym (get_or-map f left j e d fits))
     (StandsLeft-far e.entry (get_or left j e).entry (all_fit e.entry.start.display left stand.1 j e fits).begins)
-from_right column (e ∷ left) stand (suc i) zero d before within = absurd (omega (arith, before))
-from_right column (e ∷ left) stand (suc i) (suc j) d before within =
-    from_right e.entry.start.display left stand.1 i j d (omega (arith, before)) (omega (arith, within))
+row_from_right column (e ∷ left) stand (suc i) zero d before within = absurd (omega (arith, before))
+row_from_right column (e ∷ left) stand (suc i) (suc j) d before within =
+    row_from_right e.entry.start.display left stand.1 i j d (omega (arith, before)) (omega (arith, within))
 
 -- ---- how they are listed
 
@@ -220,10 +222,10 @@ ArePlaced-row es column ps are labels bytes none looked stand =
     let given : reverse (map f ps) ≡ es = ap reverse are ∙ reverse-reverse es in
     let count : length es ≡ length ps = sym (length-reverse es) ∙ ap length (sym are) ∙ length-map ps f in
     record {
-      order = sym (put_all column ps [] [] stand (All-nil (λ (y : LineAnnotation). column ≤ y.start.display)) refl)
+      order = sym (put_left column ps [] [] stand (All-nil (λ (y : LineAnnotation). column ≤ y.start.display)) refl)
           ∙ ap (ordered_by is_placed_before) (append-nil (reverse (map f ps)) ∙ given);
       same = subst (IsPermutation es) (sym are) (IsPermutation-reverse es);
-      from_right = from_right column ps stand;
+      from_right = row_from_right column ps stand;
       labels = labels;
       bytes = bytes;
       positions_are = line_positions_0 column ps stand none;

@@ -415,10 +415,10 @@ filter-cut q n m le none =
     ∙ append-nil (filter q (range_with_len 0 n))
 
 -- a list has an element that passes where one at a place does
-any-at : {X : Type 0} (p : X → Bool) (xs : List X) (n : ℕ) (d : X) → n < length xs → p (get_or xs n d) ≡ true → list_any p xs ≡ true
-any-at p [] n d within is = absurd (omega (arith, within))
-any-at p (x ∷ xs) zero d within is = ap (λ b. b || list_any p xs) is
-any-at p (x ∷ xs) (suc n) d within is = ap (λ b. p x || b) (any-at p xs n d (omega (arith, within)) is) ∙ or-true (p x)
+passes-at : {X : Type 0} (p : X → Bool) (xs : List X) (n : ℕ) (d : X) → n < length xs → p (get_or xs n d) ≡ true → list_any p xs ≡ true
+passes-at p [] n d within is = absurd (omega (arith, within))
+passes-at p (x ∷ xs) zero d within is = ap (λ b. b || list_any p xs) is
+passes-at p (x ∷ xs) (suc n) d within is = ap (λ b. p x || b) (passes-at p xs n d (omega (arith, within)) is) ∙ or-true (p x)
   where
     or-true : (b : Bool) → (b || true) ≡ true
     or-true true = refl
@@ -427,7 +427,7 @@ any-at p (x ∷ xs) (suc n) d within is = ap (λ b. p x || b) (any-at p xs n d (
 -- a stretch that is there already holds no other line
 pub held-again : (stretches : List Stretch) (s last : Stretch) (n k : ℕ) → n < length stretches → last ≡ get_or stretches n s
     → holds_line last k ≡ holds_line s k → is_held stretches k ≡ (is_held stretches k || holds_line s k)
-held-again stretches s last n k within is same = by_test (holds_line s k) (λ holds. any-at (λ (t : Stretch). holds_line t k) stretches n s within
+held-again stretches s last n k within is same = by_test (holds_line s k) (λ holds. passes-at (λ (t : Stretch). holds_line t k) stretches n s within
     (ap (λ (t : Stretch). holds_line t k) (sym is) ∙ same ∙ holds))
   where
     by_test : (b : Bool) → (b ≡ true → is_held stretches k ≡ true) → is_held stretches k ≡ (is_held stretches k || b)

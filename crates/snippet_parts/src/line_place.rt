@@ -47,7 +47,7 @@ pub(crate) fn locations_near<'a>(
     if span.end < first.line.end_byte {
         return (start, source.locate_later(&first.line, first.at, span.end));
     }
-    let last = place_at(source, span.end);
+    let last = placed_byte(source, span.end);
     if last.line.line_index == first.line.line_index {
         return (start, last.at);
     }
@@ -78,12 +78,12 @@ fn place_near<'a>(
             line: near.line,
             at: source.locate_later(&near.line, near.at, byte),
         },
-        _ => place_at(source, byte),
+        _ => placed_byte(source, byte),
     }
 }
 
 /// The place of a byte, where none is known that is near.
-fn place_at<'a>(source: &SourceMap<'a>, byte: usize) -> LinePlace<'a>
+fn placed_byte<'a>(source: &SourceMap<'a>, byte: usize) -> LinePlace<'a>
     requires border { IsSpanBorder source.now.text byte }
     ensures place { IsLinePlace source.now result }
     ensures byte { result.at.byte ≡ byte }

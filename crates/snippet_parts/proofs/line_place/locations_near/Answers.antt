@@ -47,7 +47,7 @@ pub returns-then-last-first-clause-value : goal.returns-then-last-first-clause-v
 returns-then-last-first-clause-value c =
     let s = c.args.source.now in
     let first = c.place_near-first in
-    let last = c.place_at-last in
+    let last = c.placed_byte-last in
     let some = ne_eqb c.args.span.start c.args.span.end c.if-span.false in
     let from = located-line s first.result.at.byte first.result.line first.ensures.place.line first.result.at first.ensures.place.at in
     let to = located-line s last.result.at.byte last.result.line last.ensures.place.line last.result.at last.ensures.place.at in
@@ -59,7 +59,7 @@ pub returns-clause-value : goal.returns-clause-value
 returns-clause-value c =
     let s = c.args.source.now in
     let first = c.place_near-first in
-    let last = c.place_at-last in
+    let last = c.placed_byte-last in
     let some = ne_eqb c.args.span.start c.args.span.end c.if-span.false in
     let from = located-line s first.result.at.byte first.result.line first.ensures.place.line first.result.at first.ensures.place.at in
     let to = located-line s last.result.at.byte last.result.line last.ensures.place.line last.result.at last.ensures.place.at in
