@@ -1,3 +1,4 @@
 pub mod CharLemmas
 pub mod OrderLemmas
 pub mod PlacedLemmas
+pub mod RowLemmas

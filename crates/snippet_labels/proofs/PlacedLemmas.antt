@@ -121,6 +121,10 @@ any_at_none p xs is = any-position p xs ∙ found (nat_lt (position_or_len p xs)
     found true at = cc at
     found false at = refl
 
+-- there is no first element that passes a test where none does
+pub no_position : {X : Type 0} (p : X → Bool) (xs : List X) → list_any p xs ≡ false → position p xs ≡ None
+no_position p xs none = ap (λ b. cond b (Some (position_or_len p xs)) None) (sym (any-position p xs) ∙ none)
+
 -- ---- positions and counts
 
 -- entries changed in what the rule of positions doesn't look at have the same positions

@@ -131,6 +131,26 @@ flipped ps = map (λ p. greatest ps - p) ps
 abbrev pub line_positions : List PlacedEntry → List ℕ
 line_positions es = if are_starts es then flipped (positions 0 es) else positions 0 es
 
+-- ---- entries that need one row
+
+-- the column before which an entry ends: its mark, or its label after it and the two columns after that
+abbrev pub label_reach : PlacedEntry → ℕ
+label_reach e =
+    if has_label e then e.entry.end.display + (length (cow_str_bytes e.label) + 2) else e.entry.end.display
+
+-- an entry begins before a column, and ends before it with its label; no line leads from it to a bar
+pub record FitsLeftOf (column : ℕ) (e : PlacedEntry) : Type 0 where
+  pub single : takes_space e ≡ false
+  pub begins : e.entry.start.display < column
+  pub ends : label_reach e ≤ column
+
+-- entries, from right to left, each of which does so before the one right of it begins, and the first before this column
+abbrev pub StandInRow : ℕ → List PlacedEntry → Type 0
+StandInRow column [] = Unit {0}
+StandInRow column (e ∷ left) = FitsLeftOf column e × StandInRow e.entry.start.display left
+
+-- ----
+
 -- where the label of an entry begins: how many rows below the row of the marks, and at which column; a mark that ends at
 -- column 0 still takes that column
 abbrev pub label_place : PlacedEntry → ℕ × ℕ

@@ -1,9 +1,11 @@
 //! Where the labels of a line stand: how far below the row of its marks each hangs.
-ghost use Rattle.std.specs.Prelude.{◌≡◌, ◌+◌, ◌<◌, ◌≤◌, ◌&&◌, ◌||◌, All, IfOk, IfSome, chars, length, map};
-ghost use Rattle.std.specs.List.{list_any, position};
+ghost use Rattle.std.specs.Prelude.{◌≡◌, ◌+◌, ◌-◌, ◌^◌, ◌<◌, ◌≤◌, ◌&&◌, ◌||◌, true, All, IfOk, IfSome, chars, length};
+ghost use Rattle.std.specs.Prelude.{map, reverse};
+ghost use Rattle.std.specs.List.{list_any, position, range_with_len};
 ghost use Rattle.std.specs.Cow.{cow_str_bytes};
 ghost use Rattle.snippet_labels.specs.Positions as spec;
-ghost use Rattle.snippet_labels.specs.Positions.{ArePlaced, AsksBefore, HasItsBytes, HasItsLabel};
+ghost use Rattle.snippet_labels.specs.Positions.{ArePlaced, AsksBefore, FitsLeftOf, HasItsBytes, HasItsLabel};
+ghost use Rattle.snippet_labels.specs.Positions.{StandInRow};
 ghost use Rattle.snippet_labels.specs.PlacedEntries.{label_text, shifted};
 ghost use Rattle.snippet_parts.specs.Least.{greatest};
 ghost use Rattle.snippet_style.specs.Bounds.{HasNext, IsColumn, IsUsize};
@@ -89,13 +91,18 @@ pub fn placed_entries<'a>(
     ensures placed { IfOk result (λ placed. ArePlaced (map (shifted dropped) entries.now) placed.items) }
 {
     let mut placed = labelled_entries(alloc, dropped, entries)?;
+    if stand_in_row(&placed) {
+        return Ok(placed);
+    }
+    placed.reverse();
     placed.sort_by_key(|p| Reverse((p.entry.start.display, p.entry.start.char)))?;
     let found = line_positions(alloc, &placed)?;
     set_positions(&mut placed, &found);
     Ok(placed)
 }
 
-/// The entries as they are given, each with its label normalised, and none placed yet.
+/// The entries from the last that is given to the first, each with its label normalised. They are placed as those are
+/// that need one row: each at position 0, with all that were given before it looked at.
 ///
 /// # Errors
 ///
@@ -105,12 +112,17 @@ fn labelled_entries<'a>(
     dropped: usize,
     entries: &[LineAnnotation<'a>],
 ) -> Result<Vec<PlacedEntry<'a>>, AllocError>
-    ensures entries { IfOk result (λ labelled. map (λ e. e.entry) labelled.items ≡ map (shifted dropped) entries.now) }
+    ensures entries { IfOk result (λ labelled. map (λ e. e.entry) labelled.items
+        ≡ reverse (map (shifted dropped) entries.now)) }
     ensures labels { IfOk result (λ labelled. All HasItsLabel labelled.items) }
     ensures bytes { IfOk result (λ labelled. All HasItsBytes labelled.items) }
+    ensures positions { IfOk result (λ labelled. All (λ e. e.position ≡ 0) labelled.items) }
+    ensures looked { IfOk result (λ labelled. map (λ e. e.looked) labelled.items
+        ≡ reverse (range_with_len 0 (length entries.now))) }
 {
     let mut labelled = Vec::with_capacity(alloc, entries.len())?;
-    for entry in entries {
+    for i in (0..entries.len()).rev() {
+        let entry = &entries[i];
         let label = shown_label(alloc, entry)?;
         // it is a text, so its bytes are those of its characters
         let _text = label.as_str();
@@ -118,10 +130,52 @@ fn labelled_entries<'a>(
             entry: shifted(entry, dropped),
             label,
             position: 0,
-            looked: 0,
+            looked: i,
         })?;
     }
     Ok(labelled)
+}
+
+/// Whether entries, which are given from right to left, need one row for their marks and labels: each ends, with its
+/// label after its mark, before the one right of it begins.
+///
+/// ```text
+///       | ^^^^ a  -- b   ^ c
+/// ```
+fn stand_in_row(entries: &[PlacedEntry]) -> bool
+    requires columns { All (λ e. IsColumn e.entry.end.display) entries.now }
+    ensures yes { result ≡ true → StandInRow (2 ^ 64 - 1) entries.now }
+{
+    let mut free = usize::MAX;
+    for entry in entries {
+        if !fits_left_of(free, entry) {
+            return false;
+        }
+        free = entry.entry.start.display;
+    }
+    true
+}
+
+/// Whether an entry begins before this column, and ends before it with its label after its mark. Starts and ends of
+/// spans of several lines do not.
+fn fits_left_of(column: usize, placed: &PlacedEntry) -> bool
+    requires columns { IsColumn placed.now.entry.end.display }
+    ensures yes { result ≡ true → FitsLeftOf column placed.now }
+{
+    !placed.takes_space() && placed.entry.start.display < column && label_reach(placed) <= column
+}
+
+/// The column before which an entry ends: its mark, or its label after this and the columns that stand free after it.
+fn label_reach(placed: &PlacedEntry) -> usize
+    requires columns { IsColumn placed.now.entry.end.display }
+    ensures value { result ≡ spec.label_reach placed.now }
+{
+    let end = placed.entry.end.display;
+    if placed.has_label() {
+        end + (placed.label.as_str().len() + GAP)
+    } else {
+        end
+    }
 }
 
 /// An entry, where this many columns of its line are dropped on the left.

@@ -307,11 +307,11 @@ held-push stretches s k =
 
 -- the two stretches of one more span
 pub held-two : {A : Type 0} (p : ℕ → A → Bool) (spans : List A) (i : ℕ) (x : A) (old mid new : List Stretch) (s t : Stretch) → i < length spans
-    → mid ≡ old ++ s ∷ [] → new ≡ mid ++ t ∷ [] → ((k : ℕ) → (holds_line s k || holds_line t k) ≡ p k (get_or spans i x))
+    → ((k : ℕ) → is_held mid k ≡ (is_held old k || holds_line s k)) → ((k : ℕ) → is_held new k ≡ (is_held mid k || holds_line t k))
+    → ((k : ℕ) → (holds_line s k || holds_line t k) ≡ p k (get_or spans i x))
     → ((k : ℕ) → is_held old k ≡ list_any (p k) (take i spans)) → (k : ℕ) → is_held new k ≡ list_any (p k) (take (i + 1) spans)
 held-two p spans i x old mid new s t within first second are so_far k =
-    ap (λ ss. is_held ss k) second ∙ held-push mid t k ∙ ap (λ ss. is_held ss k || holds_line t k) first
-    ∙ ap (λ b. b || holds_line t k) (held-push old s k) ∙ or-assoc (is_held old k) (holds_line s k) (holds_line t k)
+    second k ∙ ap (λ b. b || holds_line t k) (first k) ∙ or-assoc (is_held old k) (holds_line s k) (holds_line t k)
     ∙ ap (λ b. is_held old k || b) (are k) ∙ ap (λ b. b || p k (get_or spans i x)) (so_far k) ∙ sym (list_any_more (p k) spans i x within)
   where
     or-assoc : (a b c : Bool) → (a || b || c) ≡ (a || (b || c))
@@ -413,3 +413,23 @@ filter-cut q n m le none =
     ∙ filter-append q (range_with_len 0 n) (range_with_len n (m - n))
     ∙ ap (λ ks. filter q (range_with_len 0 n) ++ ks) (range-none q n (m - n) (λ k from to. none k from))
     ∙ append-nil (filter q (range_with_len 0 n))
+
+-- a list has an element that passes where one at a place does
+passes-at : {X : Type 0} (p : X → Bool) (xs : List X) (n : ℕ) (d : X) → n < length xs → p (get_or xs n d) ≡ true → list_any p xs ≡ true
+passes-at p [] n d within is = absurd (omega (arith, within))
+passes-at p (x ∷ xs) zero d within is = ap (λ b. b || list_any p xs) is
+passes-at p (x ∷ xs) (suc n) d within is = ap (λ b. p x || b) (passes-at p xs n d (omega (arith, within)) is) ∙ or-true (p x)
+  where
+    or-true : (b : Bool) → (b || true) ≡ true
+    or-true true = refl
+    or-true false = refl
+
+-- a stretch that is there already holds no other line
+pub held-again : (stretches : List Stretch) (s last : Stretch) (n k : ℕ) → n < length stretches → last ≡ get_or stretches n s
+    → holds_line last k ≡ holds_line s k → is_held stretches k ≡ (is_held stretches k || holds_line s k)
+held-again stretches s last n k within is same = by_test (holds_line s k) (λ holds. passes-at (λ (t : Stretch). holds_line t k) stretches n s within
+    (ap (λ (t : Stretch). holds_line t k) (sym is) ∙ same ∙ holds))
+  where
+    by_test : (b : Bool) → (b ≡ true → is_held stretches k ≡ true) → is_held stretches k ≡ (is_held stretches k || b)
+    by_test true held = held refl ∙ sym (ap (λ b. b || true) (held refl))
+    by_test false held = sym (or-false (is_held stretches k))

@@ -317,3 +317,19 @@ module _ (s : Source) (byte : ℕ) (info : LineInfo) (entry : table_entry info
       let end : info.start_byte + length info.line.now ≡ start_of (source_lines s.text) (line_of (source_lines s.text) byte) + length
       (text_at (source_lines s.text) (line_of (source_lines s.text) byte)) = omega (arith, located-start, ap length located-text) in
       is ∙ ap (λ n. cond {A = ℕ} (ltb n byte) 1 0) end
+
+-- the line that holds a byte holds each after it up to its end
+pub located-near : (s : Source) (info : LineInfo) (known byte : ℕ)
+    → table_entry info ≡ entry_at s.first (source_lines s.text) (line_of (source_lines s.text) known)
+    → known ≤ byte → byte < info.end_byte → table_entry info ≡ entry_at s.first (source_lines s.text) (line_of (source_lines s.text) byte)
+located-near s info known byte is later before =
+    let ls = source_lines s.text in
+    let k = line_of ls known in
+    let held : HoldsByte ls known k = HoldsByte-source s.text known in
+    let end : info.end_byte ≡ start_of ls (k + 1) = ap (λ (e : LineEntry). e.next) is in
+    let here : HoldsByte ls byte k = record {
+      within = held.within;
+      from = omega (arith, held.from, later);
+      to = λ more. omega (arith, before, end);
+    } in
+    is ∙ ap (entry_at s.first ls) (sym (line_of-is ls byte k here))

@@ -6,6 +6,7 @@ pub mod Entries
 pub mod Kept
 pub mod KeptEntries
 pub mod Least
+pub mod LinePlaces
 pub mod LineTable
 pub mod Located
 pub mod Location

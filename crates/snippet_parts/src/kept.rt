@@ -73,10 +73,30 @@ fn folded_lines(
     let mut stretches = Vec::with_capacity(alloc, located.len().saturating_mul(2))?;
     for span in located {
         let (head, tail) = kept_stretches(span);
-        stretches.push(head)?;
-        stretches.push(tail)?;
+        push_stretch(&mut stretches, head)?;
+        push_stretch(&mut stretches, tail)?;
     }
     held_lines(alloc, stretches, most_lines(source))
+}
+
+/// Adds a stretch, unless it is the last one again: of many spans on a line one says which line is kept.
+fn push_stretch(stretches: &mut Vec<Stretch>, stretch: Stretch) -> Result<(), AllocError>
+    ensures held { OnOk result ((k : ℕ) → is_held stretches.new.items k
+        ≡ (is_held stretches.old.items k || holds_line stretch k)) }
+{
+    let len = stretches.len();
+    if len > 0 && is_same(stretches[len - 1], stretch) {
+        return Ok(());
+    }
+    stretches.push(stretch)?;
+    Ok(())
+}
+
+/// Whether two stretches are one.
+fn is_same(a: Stretch, b: Stretch) -> bool
+    ensures same { result ≡ true → (k : ℕ) → holds_line a k ≡ holds_line b k }
+{
+    a.first == b.first && a.last == b.last
 }
 
 /// The lines that spans touch which aren't marked, in order.

@@ -9,6 +9,7 @@ pub mod depths;
 pub mod entries;
 mod kept;
 pub mod least;
+mod line_place;
 mod located;
 pub mod location;
 mod long_spans;

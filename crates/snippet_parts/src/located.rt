@@ -1,11 +1,13 @@
 //! Spans, each with its place in a source, which is looked for once.
-ghost use Rattle.std.specs.Prelude.{◌≡◌, ◌<◌, ◌≤◌, All, IfOk, length, true};
+ghost use Rattle.std.specs.Prelude.{◌≡◌, ◌<◌, ◌≤◌, All, IfOk, IfSome, length, true};
 ghost use Rattle.snippet_lines.specs.Lines.{source_lines};
 ghost use Rattle.snippet_lines.specs.Span.{IsSpan};
+ghost use Rattle.snippet_parts.specs.LinePlaces.{IsLinePlace};
 ghost use Rattle.snippet_parts.specs.Located.{AreBars, IsLocated, annotations_of};
 ghost use Rattle.snippet_parts.specs.Mark as mark;
 
 use crate::bars::{Bars, bars_between};
+use crate::line_place::{LinePlace, locations_near};
 use crate::location::is_marking;
 use crate::source_map::SourceMap;
 use snippet_lines::place::Loc;
@@ -39,19 +41,26 @@ pub(crate) fn located_spans<'a>(
     ensures located { IfOk result (λ located. All (IsLocated source.now) located.items) }
 {
     let mut located = Vec::with_capacity(alloc, annotations.len())?;
+    let mut known = None;
     for annotation in annotations {
-        located.push(located_span(source, annotation))?;
+        located.push(located_span(source, &mut known, annotation))?;
     }
     Ok(located)
 }
 
-/// The span of an annotation, with its place.
-fn located_span<'a>(source: &SourceMap<'a>, annotation: &'a Annotation<'a>) -> LocatedSpan<'a>
+/// The span of an annotation, with its place. A place before it may be known; that of its start is known then.
+fn located_span<'a>(
+    source: &SourceMap<'a>,
+    known: &mut Option<LinePlace<'a>>,
+    annotation: &'a Annotation<'a>,
+) -> LocatedSpan<'a>
+    requires known { IfSome known.old (IsLinePlace source.now) }
     requires span { IsSpan source.now.text annotation.now.span.start annotation.now.span.end }
+    ensures known { IfSome known.new (IsLinePlace source.now) }
     ensures annotation { result.annotation.now ≡ annotation.now }
     ensures located { IsLocated source.now result }
 {
-    let (start, end) = source.span_to_locations(annotation.span.start..annotation.span.end);
+    let (start, end) = locations_near(source, known, annotation.span.start..annotation.span.end);
     let first = start.line - source.line_start();
     let last = end.line - source.line_start();
     LocatedSpan {

@@ -26,6 +26,7 @@ ghost use Rattle.snippet_style.specs.Bounds.{HasNext, IsSourceColumn, IsSourceEn
 
 use crate::annotated_lines::annotated_lines;
 use crate::entries::AnnotatedLineInfo;
+use crate::line_place::locations_near;
 use crate::starts::Starts;
 use snippet_lines::line_bounds::{line_bounds, line_index};
 use snippet_lines::lines::{newline_count, without_line_end};
@@ -278,31 +279,7 @@ impl<'a> SourceMap<'a> {
         ensures start_char { IsOffset result.0.char }
         ensures end_char { IsOffset result.1.char }
     {
-        let line = self.line_holding(span.start);
-        let at = self.locate(&line, span.start);
-        let start = Loc {
-            char: at.char + self.steps_after_text(&line, span.start),
-            ..at
-        };
-        if span.start == span.end {
-            return (start, start);
-        }
-        // Most spans end on the line on which they start: then it needn't be looked for again.
-        if span.end < line.end_byte {
-            return (start, self.locate_later(&line, at, span.end));
-        }
-        let last = self.line_holding(span.end);
-        if last.line_index == line.line_index {
-            return (start, self.locate_later(&line, at, span.end));
-        }
-        let end = self.locate(&last, span.end);
-        let steps = self.steps_after_text(&last, span.end);
-        let end = Loc {
-            char: end.char + steps,
-            display: end.display + steps,
-            ..end
-        };
-        (start, end)
+        locations_near(self, &mut None, span)
     }
 
     /// The lines that a span of bytes touches, in order: from the one that holds its start to the one that holds its
@@ -345,7 +322,7 @@ impl<'a> SourceMap<'a> {
     }
 
     /// The location of a byte of this line.
-    fn locate(&self, line: &LineInfo<'_>, byte: usize) -> Loc
+    pub(crate) fn locate(&self, line: &LineInfo<'_>, byte: usize) -> Loc
         requires border { IsSpanBorder self.now.text byte }
         requires line { let ls = source_lines self.now.text in
             table_entry line.now ≡ entry_at self.now.first ls (line_of ls byte) }
@@ -359,7 +336,7 @@ impl<'a> SourceMap<'a> {
     }
 
     /// The location of a byte of this line that stands after one whose location is known.
-    fn locate_later(&self, line: &LineInfo<'_>, known: Loc, byte: usize) -> Loc
+    pub(crate) fn locate_later(&self, line: &LineInfo<'_>, known: Loc, byte: usize) -> Loc
         requires known_border { IsSpanBorder self.now.text known.byte }
         requires border { IsSpanBorder self.now.text byte }
         requires known { known ≡ location_of self.now known.byte }
@@ -370,6 +347,7 @@ impl<'a> SourceMap<'a> {
         requires later { known.byte ≤ byte }
         requires short { TextFits self.now.text }
         ensures location { result ≡ location_of self.now byte }
+        ensures byte { result.byte ≡ byte }
         ensures char_bound { IsInText result.char }
         ensures display_bound { IsSourceColumn result.display }
     {
@@ -377,7 +355,7 @@ impl<'a> SourceMap<'a> {
     }
 
     /// 1 if a byte of this line lies after the end of the line's text, else 0.
-    fn steps_after_text(&self, line: &LineInfo<'_>, byte: usize) -> usize
+    pub(crate) fn steps_after_text(&self, line: &LineInfo<'_>, byte: usize) -> usize
         requires line { let ls = source_lines self.now.text in
             table_entry line.now ≡ entry_at self.now.first ls (line_of ls byte) }
         requires short { TextFits self.now.text }
@@ -468,7 +446,7 @@ impl<'a> SourceMap<'a> {
     }
 
     /// The line that holds a byte.
-    fn line_holding(&self, byte: usize) -> LineInfo<'a>
+    pub(crate) fn line_holding(&self, byte: usize) -> LineInfo<'a>
         ensures entry { let ls = source_lines self.now.text in
             table_entry result ≡ entry_at self.now.first ls (line_of ls byte) }
         ensures short { TextFits self.now.text }

@@ -1,13 +1,12 @@
 -- The strokes of entries that stand side by side make the same whether they are painted one entry after another, from left to right, or
 -- one list of strokes after another.
 use Rattle.std.proofs.Common.{◌≡◌, ℕ, ◌+◌, ◌-◌, ◌<◌, ◌≤◌, ◌==◌, ◌&&◌, ◌||◌, nat_lt, cond, Bool, true, false, List, [], ◌∷◌, ◌++◌, length, map, replicate}
-use Rattle.std.proofs.Common.{take, drop, get_or}
 use Rattle.std.proofs.Common.{inl, inr, refl, sym, ap, subst, ◌∙◌, arith, All}
 use Rattle.std.specs.Cow.{cow_str_bytes}
 use Rattle.std.specs.List.{range_with_len}
 use Rattle.std.proofs.lemmas.Bool.{cases_Bool, eq-eqb, eqb-true}
 use Rattle.std.proofs.lemmas.Bool.Decides.{nat_tests}
-use Rattle.std.proofs.lemmas.List.{append-nil, drop_more, length-replicate}
+use Rattle.std.proofs.lemmas.List.{append-nil, length-replicate}
 use Rattle.std.proofs.lemmas.List.Elements.{All-append, All-cons, All-head, All-nil, All-tail, All-weaker}
 use Rattle.std.proofs.lemmas.List.Sorted.{All-permutation}
 use Rattle.snippet_lines.specs.OrderedBy.{put_in}
@@ -428,14 +427,3 @@ module _ (layout : Layout) (row count : ℕ) where
       ∙ ap (λ v. painted order (painted (labels_of layout (row + 1) placed) v)) (sym hung)
       ∙ marks_painted layout row count placed (painting_order placed) rows labelled (painted order labelled)
       (under_painted layout row count count placed rows joined barred stemmed labelled refl refl refl refl refl) refl
-
--- a part of one entry, and all from there on
-pub one_from : {X : Type 0} (xs : List X) (j : ℕ) → j < length xs → (x : X) × ((drop j xs ≡ x ∷ drop (j + 1) xs) × (take (j + 1 - j) (drop j xs) ≡ x ∷ []))
-one_from xs j within = two xs j within
-  where
-    two : {X : Type 0} (xs : List X) (j : ℕ) → j < length xs → (x : X) × ((drop j xs ≡ x ∷ drop (j + 1) xs) × (take (j + 1 - j) (drop j xs) ≡ x ∷ []))
-    two [] j within = absurd (omega (arith, within))
-    two (x ∷ xs) j within =
-        let from = drop_more (x ∷ xs) j x within in
-        let one : j + 1 - j ≡ 1 = omega arith in
-        (get_or (x ∷ xs) j x, (from, ap (λ n. take n (drop j (x ∷ xs))) one ∙ ap (take 1) from))

@@ -15,6 +15,7 @@ pub mod ElisionLemmas
 pub mod EndBarLaws
 pub mod EntryBarLaws
 pub mod Examples
+pub mod HangingLemmas
 pub mod HeldLemmas
 pub mod HeldStrokes
 pub mod HighlightLaws
@@ -48,6 +49,7 @@ pub mod SourceCellLaws
 pub mod SourceRowLemmas
 pub mod StemCells
 pub mod StemLaws
+pub mod StemRowLemmas
 pub mod StemWrites
 pub mod StrokeCells
 pub mod StrokeGlyphs

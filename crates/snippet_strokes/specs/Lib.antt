@@ -8,6 +8,7 @@ pub mod Labels
 pub mod LineRows
 pub mod Painting
 pub mod Reach
+pub mod StemRows
 pub mod StrokeRows
 pub mod Snippet
 pub mod SourceRows

@@ -1,5 +1,5 @@
 //! Strokes that stand side by side in the row of the marks.
-ghost use Rattle.std.specs.Prelude.{◌≡◌, ◌-◌, ◌^◌, true, All, OnOk, length};
+ghost use Rattle.std.specs.Prelude.{◌≡◌, ◌-◌, ◌^◌, ◌∷◌, [], true, All, OnOk, length};
 ghost use Rattle.snippet_labels.specs.PlacedEntries.{HasPlace, label_text};
 ghost use Rattle.snippet_labels.specs.Positions.{HasItsLabel};
 ghost use Rattle.snippet_strokes.specs.Apart as spec;
@@ -8,10 +8,10 @@ ghost use Rattle.snippet_strokes.specs.Drawing.{AreEnough};
 ghost use Rattle.snippet_strokes.specs.Writes.{painted};
 ghost use Rattle.snippet_style.specs.Bounds.{FitsRow};
 
-use crate::connectors::draw_connectors;
-use crate::corners::draw_corners;
-use crate::labels::draw_labels;
-use crate::marks::paint_entries;
+use crate::connectors::draw_connector;
+use crate::corners::draw_corner;
+use crate::labels::draw_label;
+use crate::marks::paint_entry;
 use snippet_grid::{Layout, StyledBuffer};
 use snippet_labels::PlacedEntry;
 use std::alloc::{AllocError, Global};
@@ -103,29 +103,28 @@ pub(crate) fn draw_apart(
     ensures count { OnOk result (length buffer.new ≡ length buffer.old) }
 {
     for i in (0..placed.len()).rev() {
-        draw_part(alloc, buffer, layout, row, &placed[i..i + 1])?;
+        draw_entry(alloc, buffer, layout, row, &placed[i])?;
     }
     Ok(())
 }
 
-/// Draws the strokes of some entries that have no stem: the bars beside them, the lines to these, the marks, and the
-/// labels.
-fn draw_part(
+/// Draws the strokes of an entry that has no stem: the bar beside it, the line to this, the mark, and the label.
+fn draw_entry(
     alloc: Global,
     buffer: &mut StyledBuffer,
     layout: Layout,
     row: usize,
-    part: &[PlacedEntry],
+    placed: &PlacedEntry,
 ) -> Result<(), AllocError>
-    requires enough { AreEnough layout row (length buffer.old) part.now }
-    requires labels { All HasItsLabel part.now }
-    requires short { All (λ e. FitsRow (label_text e.entry)) part.now }
-    ensures painted { OnOk result (buffer.new ≡ painted (strokes_of_part layout row (length buffer.old) part.now)
-        buffer.old) }
+    requires enough { AreEnough layout row (length buffer.old) (placed.now ∷ []) }
+    requires label { HasItsLabel placed.now }
+    requires short { FitsRow (label_text placed.now.entry) }
+    ensures painted { OnOk result (buffer.new ≡ painted (strokes_of_part layout row
+        (length buffer.old) (placed.now ∷ [])) buffer.old) }
     ensures count { OnOk result (length buffer.new ≡ length buffer.old) }
 {
-    draw_corners(buffer, layout, row, part)?;
-    draw_connectors(alloc, buffer, layout, row + 1, part)?;
-    paint_entries(alloc, buffer, layout, row + 1, part)?;
-    draw_labels(buffer, layout, row + 1, part)
+    draw_corner(buffer, layout, row, placed)?;
+    draw_connector(alloc, buffer, layout, row + 1, placed)?;
+    paint_entry(alloc, buffer, layout, row + 1, placed)?;
+    draw_label(buffer, layout, row + 1, placed)
 }

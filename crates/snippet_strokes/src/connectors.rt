@@ -47,7 +47,7 @@ pub(crate) fn draw_connectors(
 }
 
 /// Draws the line from the bar of an entry to its start, if it is the start or the end of a span of several lines.
-fn draw_connector(
+pub(crate) fn draw_connector(
     alloc: Global,
     buffer: &mut StyledBuffer,
     layout: Layout,

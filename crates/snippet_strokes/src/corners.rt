@@ -48,7 +48,7 @@ pub(crate) fn draw_corners(
 }
 
 /// Draws the bar of an entry, with its corner, if it is the start or the end of a span of several lines.
-fn draw_corner(
+pub(crate) fn draw_corner(
     buffer: &mut StyledBuffer,
     layout: Layout,
     row: usize,

@@ -44,7 +44,7 @@ pub(crate) fn draw_labels(
 }
 
 /// Draws the label of an entry.
-fn draw_label(
+pub(crate) fn draw_label(
     buffer: &mut StyledBuffer,
     layout: Layout,
     row: usize,

@@ -16,6 +16,7 @@ mod roles;
 mod row;
 mod snippet;
 mod source_row;
+mod stem_rows;
 mod stems;
 mod strokes;
 mod whole_line;

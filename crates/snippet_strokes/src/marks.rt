@@ -81,7 +81,7 @@ pub(crate) fn paint_entries(
 /// ```text
 ///       |       ^^^^^         ┯━━━━
 /// ```
-fn paint_entry(
+pub(crate) fn paint_entry(
     alloc: Global,
     buffer: &mut StyledBuffer,
     layout: Layout,

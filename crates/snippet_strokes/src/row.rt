@@ -91,7 +91,11 @@ pub fn begin_rows(
 }
 
 /// Begins the last row of a line's strokes below all that stands in the grid.
-fn begin_last_row(buffer: &mut StyledBuffer, layout: Layout, closes: bool) -> Result<(), AllocError>
+pub(crate) fn begin_last_row(
+    buffer: &mut StyledBuffer,
+    layout: Layout,
+    closes: bool,
+) -> Result<(), AllocError>
     ensures added { OnOk result (buffer.new ≡ buffer.old ++ bare_row layout.decor layout.gutter closes ∷ []) }
     ensures small { IsRowNumber (length buffer.old) }
     ensures place { inner_cell layout ≤ layout.code }

@@ -47,7 +47,7 @@ pub(crate) fn draw_stems(
 
 /// Whether the stem of the next of some later entries covers that of an entry: it stands in the same column, and
 /// reaches as far down. So of many labels below one column the lowest alone has a stem.
-fn is_stem_covered(placed: &PlacedEntry, later: &[PlacedEntry]) -> bool
+pub(crate) fn is_stem_covered(placed: &PlacedEntry, later: &[PlacedEntry]) -> bool
     ensures value { result ≡ is_stem_covered placed.now later.now }
 {
     match later {
@@ -87,7 +87,7 @@ fn draw_stem(
 }
 
 /// The glyph of an entry's stem, this many rows below the row of the marks; at its foot it is another one.
-fn stem_glyph(placed: &PlacedEntry, foot: char, stem: char, below: usize) -> char
+pub(crate) fn stem_glyph(placed: &PlacedEntry, foot: char, stem: char, below: usize) -> char
     ensures value { result ≡ (if below == placed.now.position then foot else stem) }
 {
     if below == placed.position { foot } else { stem }
@@ -95,7 +95,7 @@ fn stem_glyph(placed: &PlacedEntry, foot: char, stem: char, below: usize) -> cha
 
 /// The glyph at the foot of a stem: where a line leads to a bar, the corner at which it begins, or where a label
 /// follows below it the branch.
-fn foot_glyph(decor: DecorStyle, placed: &PlacedEntry) -> char
+pub(crate) fn foot_glyph(decor: DecorStyle, placed: &PlacedEntry) -> char
     ensures value { result ≡ foot_glyph decor placed.now }
 {
     let strokes = decor.underline(is_primary(placed.entry.kind));

@@ -1,21 +1,23 @@
 //! All that stands below the source row of a line, and the bars beside it of spans that begin or end there.
 ghost use Rattle.std.specs.Prelude.{◌≡◌, ◌+◌, ◌<◌, ◌≤◌, ◌++◌, ◌∷◌, [], if◌then◌else◌, All, IfSome, List, OnOk};
-ghost use Rattle.std.specs.Prelude.{false, length, map, true};
+ghost use Rattle.std.specs.Prelude.{◌-◌, false, length, map, replicate, true};
+ghost use Rattle.std.specs.List.{list_any};
 ghost use Rattle.snippet_labels.specs.PlacedEntries.{HasPlace, label_text, shifted};
-ghost use Rattle.snippet_labels.specs.Positions.{HasItsLabel};
+ghost use Rattle.snippet_labels.specs.Positions.{HasItsLabel, takes_space};
 ghost use Rattle.snippet_strokes.specs.EntryMarks.{HasBarCell};
 ghost use Rattle.snippet_parts.specs.Entries.{is_bar};
 ghost use Rattle.snippet_style.specs.Cell.{Cell};
 ghost use Rattle.snippet_strokes.specs.Drawing as spec;
-ghost use Rattle.snippet_strokes.specs.Drawing.{AreEnough};
+ghost use Rattle.snippet_strokes.specs.Drawing.{AreEnough, HasRows};
+ghost use Rattle.snippet_strokes.specs.SourceRows.{bare_row};
 ghost use Rattle.snippet_strokes.specs.StrokeRows.{AddsStrokes, HasNoBars};
 ghost use Rattle.snippet_strokes.specs.Strokes.{AddsPainted, line_strokes, strokes_under_marks};
 ghost use Rattle.snippet_strokes.specs.Painting.{painting_order};
 ghost use Rattle.snippet_strokes.specs.Writes.{painted};
-ghost use Rattle.snippet_style.specs.Separators.{closing_row};
+ghost use Rattle.snippet_style.specs.Separators.{closing_row, separator_row};
 ghost use Rattle.snippet_grid.specs.Layout.{inner_cell};
 ghost use Rattle.snippet_text.specs.TextBounds.{TextFits};
-ghost use Rattle.snippet_style.specs.Bounds.{FitsRow, IsCount};
+ghost use Rattle.snippet_style.specs.Bounds.{AreRows, FitsRow, IsCount};
 
 use crate::apart::{draw_apart, stand_apart};
 use crate::connectors::draw_connectors;
@@ -24,6 +26,7 @@ use crate::cuts::{cut_wide, overlapping};
 use crate::labels::draw_labels;
 use crate::marks::{draw_marks, sort_for_painting};
 use crate::row::{begin_closing_row, begin_rows};
+use crate::stem_rows::begin_stem_rows;
 use crate::stems::draw_stems;
 use snippet_grid::{Layout, StyledBuffer};
 use snippet_labels::{PlacedEntry, are_starts, placed_entries};
@@ -88,9 +91,90 @@ pub(crate) fn draw_strokes(
     }
     let mut placed = placed_entries(alloc, place.dropped, entries)?;
     let overlapped = overlapping(alloc, layout.decor, place.room, &placed)?;
-    begin_rows(buffer, layout, place.closes, row_count(&placed))?;
-    paint_strokes(alloc, buffer, layout, place.row, &mut placed)?;
+    let count = row_count(&placed);
+    draw_rows(alloc, buffer, layout, place, count, &mut placed)?;
     cut_wide(buffer, layout, place.row, place.room, &placed, &overlapped)
+}
+
+/// Begins so many rows for the strokes of a line below its source row, which is the last one, and draws the strokes.
+/// The entries are put in the order of painting.
+///
+/// # Errors
+///
+/// There is no memory for the rows, or to sort the entries.
+fn draw_rows(
+    alloc: Global,
+    buffer: &mut StyledBuffer,
+    layout: Layout,
+    place: StrokePlace,
+    count: usize,
+    placed: &mut Vec<PlacedEntry>,
+) -> Result<(), AllocError>
+    requires some { 0 < count }
+    requires last { length buffer.old ≡ place.row + 1 }
+    requires rows { All (HasRows (place.row + 1) (length buffer.old + count)) placed.old.items }
+    requires columns { All (λ e. HasPlace e.entry) placed.old.items }
+    requires bar_cells { All (λ e. HasBarCell layout e.entry) placed.old.items }
+    requires labels { All HasItsLabel placed.old.items }
+    requires short { All (λ e. FitsRow (label_text e.entry)) placed.old.items }
+    ensures order { OnOk result (placed.new.items ≡ painting_order placed.old.items) }
+    ensures painted { OnOk result (buffer.new ≡ painted (line_strokes layout place.row
+        (length buffer.old + count) placed.old.items (painting_order placed.old.items))
+        (buffer.old ++ replicate (count - 1) (separator_row layout.decor layout.gutter)
+        ++ bare_row layout.decor layout.gutter place.closes ∷ [])) }
+    ensures small { OnOk result (AreRows (length buffer.old + count)) }
+    ensures count { OnOk result (length buffer.new ≡ length buffer.old + count) }
+    ensures place { OnOk result (inner_cell layout ≤ layout.code) }
+{
+    if count > 1 && !has_lines(placed) {
+        return draw_hanging(alloc, buffer, layout, place, count, placed);
+    }
+    begin_rows(buffer, layout, place.closes, count)?;
+    paint_strokes(alloc, buffer, layout, place.row, placed)
+}
+
+/// Whether a line leads to a bar from one of these entries.
+fn has_lines(placed: &[PlacedEntry]) -> bool
+    ensures value { result ≡ list_any takes_space placed.now }
+{
+    placed.iter().any(|entry| entry.takes_space())
+}
+
+/// Does the same where no line leads to a bar. Then the stems are below all other strokes, and stand in the rows as
+/// they are begun: what is drawn into an upper row moves all that stands in the rows below it.
+///
+/// # Errors
+///
+/// There is no memory for the rows, or to sort the entries.
+fn draw_hanging(
+    alloc: Global,
+    buffer: &mut StyledBuffer,
+    layout: Layout,
+    place: StrokePlace,
+    count: usize,
+    placed: &mut Vec<PlacedEntry>,
+) -> Result<(), AllocError>
+    requires some { 0 < count }
+    requires last { length buffer.old ≡ place.row + 1 }
+    requires rows { All (HasRows (place.row + 1) (length buffer.old + count)) placed.old.items }
+    requires columns { All (λ e. HasPlace e.entry) placed.old.items }
+    requires bar_cells { All (λ e. HasBarCell layout e.entry) placed.old.items }
+    requires labels { All HasItsLabel placed.old.items }
+    requires short { All (λ e. FitsRow (label_text e.entry)) placed.old.items }
+    requires lines { list_any takes_space placed.old.items ≡ false }
+    ensures order { OnOk result (placed.new.items ≡ painting_order placed.old.items) }
+    ensures painted { OnOk result (buffer.new ≡ painted (line_strokes layout place.row
+        (length buffer.old + count) placed.old.items (painting_order placed.old.items))
+        (buffer.old ++ replicate (count - 1) (separator_row layout.decor layout.gutter)
+        ++ bare_row layout.decor layout.gutter place.closes ∷ [])) }
+    ensures small { OnOk result (AreRows (length buffer.old + count)) }
+    ensures count { OnOk result (length buffer.new ≡ length buffer.old + count) }
+    ensures place { OnOk result (inner_cell layout ≤ layout.code) }
+{
+    begin_stem_rows(alloc, buffer, layout, place.closes, count, placed)?;
+    draw_labels(buffer, layout, place.row + 1, placed)?;
+    draw_marks(alloc, buffer, layout, place.row + 1, placed)?;
+    Ok(())
 }
 
 /// Draws the strokes of a line into the rows that are begun for them below its source row, which has this number, and

@@ -1,17 +1,33 @@
-use Rattle.std.proofs.Common.{arith, ◌∷◌, ◌++◌, [], ap, sym, subst, All, ◌∙◌}
-use Rattle.std.proofs.lemmas.Grind.{common_steps}
+use Rattle.std.proofs.Common.{arith, ◌≡◌, ◌-◌, ◌∷◌, ◌++◌, [], ℕ, ap, sym, subst, All, map, length, refl, ◌∙◌}
+use Rattle.std.proofs.lemmas.List.{map_push}
 use Rattle.std.proofs.lemmas.List.Elements.{All-append, All-cons, All-nil}
+use Rattle.snippet_parts.specs.declared.entries.LineAnnotation.{LineAnnotation}
 use Rattle.snippet_labels.specs.declared.positions.PlacedEntry.{PlacedEntry}
-use Rattle.snippet_labels.specs.PlacedEntries.{label_text}
-use Rattle.snippet_labels.specs.Positions.{HasItsBytes}
+use Rattle.snippet_labels.specs.PlacedEntries.{label_text, shifted}
+use Rattle.snippet_labels.specs.Positions.{HasItsBytes, HasItsLabel}
 use Rattle.snippet_labels.proofs.CharLemmas.{bytes_of_chars}
+use Rattle.snippet_labels.proofs.RowLemmas.{counts_more, entries_more}
 use Rattle.snippet_labels.proofs.positions.labelled_entries.Goals as goal
 
-pub loop-entry-preserved : goal.loop-entry-preserved
-loop-entry-preserved c =
-    let e : PlacedEntry = record { entry = c.shifted.result; label = c.in_ok-label.label; position = 0; looked = 0 } in
-    let own : HasItsBytes e = bytes_of_chars _ c.as_str-text.result.now _ c.as_str-text.utf8 c.as_str-text.ensures.value
-    (c.in_ok-label.ensures.shows ∙ ap label_text (sym c.shifted.ensures.value)) in
-    let all : All HasItsBytes (c.loop-entry.labelled.items ++ e ∷ []) = All-append HasItsBytes c.loop-entry.labelled.items (e ∷ []) c.loop-entry.invariant.2
-    (All-cons HasItsBytes e [] own (All-nil HasItsBytes)) in
-    (grind (arith, common_steps), grind (arith, common_steps), subst (All HasItsBytes) (sym c.in_ok-push.ensures.items) all)
+pub loop-i-preserved : goal.loop-i-preserved
+loop-i-preserved c =
+    let i = c.loop-i.i in
+    let j : ℕ = i - 1 in
+    let es = c.args.entries.now in
+    let sh = shifted c.args.dropped in
+    let done = c.loop-i.labelled.items in
+    let e : PlacedEntry = record { entry = c.shifted.result; label = c.in_ok-label.label; position = 0; looked = j } in
+    let entry : PlacedEntry → LineAnnotation = λ e. e.entry in
+    let looked : PlacedEntry → ℕ = λ e. e.looked in
+    let all : (P : PlacedEntry → Type 0) → All P done → P e → All P (c.push.new.self.items) = λ P have own.
+    subst (All P) (sym c.in_ok-push.ensures.items) (All-append P done (e ∷ []) have (All-cons P e [] own (All-nil P))) in
+    record {
+      entries = ap (map entry) c.in_ok-push.ensures.items ∙ map_push entry done e ∙ ap (λ l. l ++ e.entry ∷ []) c.loop-i.invariant.entries
+          ∙ entries_more sh es i e.entry _ (omega (arith, c.loop-i-test.true)) (omega (arith, c.loop-i.auto.i)) c.shifted.ensures.value;
+      labels = all HasItsLabel c.loop-i.invariant.labels (c.in_ok-label.ensures.shows ∙ ap label_text (sym c.shifted.ensures.value));
+      bytes = all HasItsBytes c.loop-i.invariant.bytes (bytes_of_chars _ c.as_str-text.result.now _ c.as_str-text.utf8 c.as_str-text.ensures.value
+          (c.in_ok-label.ensures.shows ∙ ap label_text (sym c.shifted.ensures.value)));
+      positions = all (λ (e : PlacedEntry). e.position ≡ 0) c.loop-i.invariant.positions refl;
+      looked = ap (map looked) c.in_ok-push.ensures.items ∙ map_push looked done e ∙ ap (λ l. l ++ j ∷ []) c.loop-i.invariant.looked
+          ∙ counts_more (length es) i (omega (arith, c.loop-i-test.true)) (omega (arith, c.loop-i.auto.i));
+    }

@@ -1,10 +1,15 @@
-use Rattle.std.proofs.Common.{◌≡◌, All, map, take}
+use Rattle.std.proofs.Common.{◌≡◌, ◌-◌, All, drop, length, map, reverse}
+use Rattle.std.specs.List.{range_with_len}
 use Rattle.snippet_labels.specs.PlacedEntries.{shifted}
 use Rattle.snippet_labels.specs.Positions.{HasItsBytes, HasItsLabel}
 use Rattle.snippet_labels.proofs.positions.labelled_entries.Given as goal
 
--- the entries so far have their labels
-abbrev pub invariant-loop-entry : goal.invariant-loop-entry
-invariant-loop-entry l =
-    (map (λ e. e.entry) l.labelled.items ≡ map (shifted l.dropped) (take l.entry-index l.entries)) × All HasItsLabel l.labelled.items
-    × All HasItsBytes l.labelled.items
+-- the entries from this one on have their labels, the last one first
+abbrev pub invariant-loop-i : goal.invariant-loop-i
+invariant-loop-i l = record {
+  entries : map (λ e. e.entry) l.labelled.items ≡ reverse (map (shifted l.dropped) (drop l.i l.entries));
+  labels : All HasItsLabel l.labelled.items;
+  bytes : All HasItsBytes l.labelled.items;
+  positions : All (λ e. e.position ≡ 0) l.labelled.items;
+  looked : map (λ e. e.looked) l.labelled.items ≡ reverse (range_with_len l.i (length l.entries - l.i));
+}

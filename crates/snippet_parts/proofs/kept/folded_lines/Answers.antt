@@ -15,8 +15,9 @@ loop-span-preserved c k =
     let at : IsLocated c.args.source.now c.span-item.result =
     subst (IsLocated c.args.source.now) (sym c.span-item.is) (c.requires.located c.loop-span.span-index c.span-item.result c.loop-span-test.true) in
     held-two (λ j (x : LocatedSpan). keeps c.args.source.now.text j x.annotation.now) c.args.located.now c.loop-span.span-index c.span-item.result
-    c.loop-span.stretches.items c.push.new.self.items c.push-in-loop-span.new.self.items c.kept_stretches.result.0 c.kept_stretches.result.1
-    c.loop-span-test.true c.in_ok-push.ensures.items c.in_ok-push-2.ensures.items
+    c.loop-span.stretches.items c.push_stretch.new.stretches.items c.push_stretch-in-loop-span.new.stretches.items
+    c.kept_stretches.result.0 c.kept_stretches.result.1
+    c.loop-span-test.true c.in_ok-push_stretch.ensures.held c.in_ok-push_stretch-2.ensures.held
     (λ j. c.kept_stretches.ensures.value c.args.source.now j at ∙ ap (λ (x : LocatedSpan). keeps c.args.source.now.text j x.annotation.now) c.span-item.is)
     c.loop-span.invariant k
 

@@ -19,13 +19,13 @@ overflow_sub-first c =
     omega (
       arith,
       c.line_start.ensures.value,
-      first_line-from c.args.source.now c.args.annotation.now c.span_to_locations.result
-          c.span_to_locations.ensures.value,
+      first_line-from c.args.source.now c.args.annotation.now c.locations_near.result
+          c.locations_near.ensures.value,
     )
 
 pub overflow_sub-last : goal.overflow_sub-last
 overflow_sub-last c =
-    omega (arith, c.line_start-2.ensures.value, last-from c.args.source.now c.args.annotation.now c.span_to_locations.result c.span_to_locations.ensures.value)
+    omega (arith, c.line_start-2.ensures.value, last-from c.args.source.now c.args.annotation.now c.locations_near.result c.locations_near.ensures.value)
 
 -- of lines in order that differ the first comes before the last
 marked-longer : (marked : Bool) (first last : ℕ) → first ≤ last → (marked && not (eqb last first)) ≡ true → (marked ≡ true) × (first < last)
@@ -42,7 +42,7 @@ span_bars-requires c =
       within = omega (
         arith,
         c.line_start-2.ensures.value,
-        last-from c.args.source.now c.args.annotation.now c.span_to_locations.result c.span_to_locations.ensures.value,
+        last-from c.args.source.now c.args.annotation.now c.locations_near.result c.locations_near.ensures.value,
         line_of-within c.args.source.now.text c.args.annotation.now.span.end,
       );
     }
@@ -51,12 +51,12 @@ pub returns : goal.returns
 returns c =
     let s = c.args.source.now in
     let a = c.args.annotation.now in
-    let first : ℕ = c.span_to_locations.result.0.line - c.line_start.result in
-    let last : ℕ = c.span_to_locations.result.1.line - c.line_start-2.result in
+    let first : ℕ = c.locations_near.result.0.line - c.line_start.result in
+    let last : ℕ = c.locations_near.result.1.line - c.line_start-2.result in
     let first_is : first ≡ first_line s.text a =
-    omega (arith, c.line_start.ensures.value, first_line-from s a c.span_to_locations.result c.span_to_locations.ensures.value) in
+    omega (arith, c.line_start.ensures.value, first_line-from s a c.locations_near.result c.locations_near.ensures.value) in
     let last_is : last ≡ last_line s.text a =
-    omega (arith, c.line_start-2.ensures.value, last-from s a c.span_to_locations.result c.span_to_locations.ensures.value) in
+    omega (arith, c.line_start-2.ensures.value, last-from s a c.locations_near.result c.locations_near.ensures.value) in
     let ordered : first ≤ last = omega (
       arith,
       first_is,
@@ -65,15 +65,16 @@ returns c =
       line_of-mono (source_lines s.text) a.span.start a.span.end (omega (arith, line_of-within s.text 0)) c.requires.span.ordered,
     ) in
     record {
+      known = c.locations_near.ensures.known;
       annotation = refl;
       located = record {
         span = c.requires.span;
         first = first_is;
         last = last_is;
-        locations = c.span_to_locations.ensures.value;
-        start_display = c.span_to_locations.ensures.start_bound;
-        end_display = c.span_to_locations.ensures.end_bound;
-        start_char = c.span_to_locations.ensures.start_char;
+        locations = c.locations_near.ensures.value;
+        start_display = c.locations_near.ensures.start_bound;
+        end_display = c.locations_near.ensures.end_bound;
+        start_char = c.locations_near.ensures.start_char;
         bars = λ long. let parts = marked-longer (is_marking a.kind) first last ordered long in c.span_bars.ensures.value parts.0 parts.1;
       };
     }

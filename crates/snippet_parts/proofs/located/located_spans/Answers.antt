@@ -10,4 +10,4 @@ loop-annotation-preserved c =
     let P : LocatedSpan → Type 0 = IsLocated c.args.source.now in
     let all : All P (c.loop-annotation.located.items ++ c.located_span.result ∷ []) = All-append P c.loop-annotation.located.items
     (c.located_span.result ∷ []) c.loop-annotation.invariant.1 (All-cons P c.located_span.result [] c.located_span.ensures.located (All-nil P)) in
-    (grind (arith, common_steps), subst (All P) (sym {A = List LocatedSpan} c.in_ok-push.ensures.items) all)
+    (grind (arith, common_steps), subst (All P) (sym {A = List LocatedSpan} c.in_ok-push.ensures.items) all, c.located_span.ensures.known)

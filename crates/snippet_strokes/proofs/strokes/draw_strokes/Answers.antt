@@ -1,4 +1,4 @@
-use Rattle.std.proofs.Common.{◌≡◌, ◌∙◌, ◌+◌, ◌-◌, ◌<◌, ◌^◌, List, ◌++◌, ◌∷◌, [], Bool, true, ℕ, All, map, replicate, ap, sym, subst, arith, length}
+use Rattle.std.proofs.Common.{◌≡◌, ◌∙◌, ◌+◌, ◌-◌, ◌<◌, ◌≤◌, ◌^◌, List, ◌++◌, ◌∷◌, [], Bool, true, ℕ, All, map, replicate, ap, sym, subst, refl, arith, length}
 use Rattle.std.proofs.lemmas.Result.{on_ok_weaker}
 use Rattle.snippet_grid.specs.Layout.{Layout}
 use Rattle.std.proofs.lemmas.List.{length_push, length-map}
@@ -6,10 +6,12 @@ use Rattle.std.proofs.lemmas.List.Sorted.{All-permutation, length_permutation}
 use Rattle.snippet_parts.specs.declared.entries.LineAnnotation.{LineAnnotation}
 use Rattle.snippet_labels.specs.declared.positions.PlacedEntry.{PlacedEntry}
 use Rattle.snippet_strokes.specs.Painting.{painting_order}
-use Rattle.snippet_strokes.specs.Drawing.{AreEnough, row_count}
+use Rattle.snippet_strokes.specs.Drawing.{AreEnough, HasRows, row_count}
+use Rattle.snippet_strokes.specs.EntryMarks.{HasBarCell}
+use Rattle.snippet_labels.specs.Positions.{ArePlaced}
 use Rattle.snippet_style.specs.Cell.{Cell}
 use Rattle.snippet_labels.specs.PlacedEntries.{HasPlace, label_text, shifted}
-use Rattle.snippet_strokes.proofs.ShiftLemmas.{shifted_places}
+use Rattle.snippet_strokes.proofs.ShiftLemmas.{shifted_bars, shifted_places}
 use Rattle.std.specs.List.{list_any}
 use Rattle.snippet_strokes.specs.Cuts.{cut_rows, cuts_of, is_wide_at, overlapped}
 use Rattle.snippet_strokes.specs.SourceRows.{bare_row}
@@ -17,7 +19,7 @@ use Rattle.snippet_style.specs.Separators.{separator_row}
 use Rattle.snippet_strokes.proofs.PaintOrder.{IsPermutation-painting_order}
 use Rattle.snippet_labels.proofs.PlacedLemmas.{entries_all}
 use Rattle.snippet_strokes.proofs.PositionLemmas.{looked_of_placed, row_count_some, positions_of_placed}
-use Rattle.snippet_strokes.proofs.BegunLemmas.{rows_begun}
+use Rattle.snippet_strokes.proofs.BegunLemmas.{rows_begun, rows_ready}
 use Rattle.snippet_strokes.proofs.ReadyRows.{enough_begun, strokes_added_whole}
 use Rattle.snippet_strokes.proofs.NoStrokes.{strokes_none}
 use Rattle.snippet_strokes.proofs.TextLemmas.{labels_short}
@@ -26,8 +28,8 @@ use Rattle.snippet_strokes.specs.Writes.{painted}
 use Rattle.snippet_strokes.proofs.LineRowLemmas.{painted_added}
 use Rattle.snippet_strokes.proofs.strokes.draw_strokes.Goals as goal
 
-pub row_count-requires : goal.row_count-requires
-row_count-requires c =
+pub row_count-count-requires : goal.row_count-count-requires
+row_count-count-requires c =
     let placed = c.in_ok-placed.placed in
     record {
       low = subst (All (λ (e : PlacedEntry). e.position < 2 ^ 63)) (sym c.deref-2.ensures.value) (λ k d within.
@@ -55,29 +57,65 @@ overlapping-requires c =
           ));
     }
 
-pub paint_strokes-requires : goal.paint_strokes-requires
-paint_strokes-requires c =
+-- so many rows are enough, once it is known that there is room for them
+module _ (layout : Layout) (dropped : ℕ) (entries : List LineAnnotation) (row count : ℕ) (placed : List PlacedEntry) (old : List (List Cell)) (closes : Bool)
+    (places : All HasPlace entries) (bar_cells : All (HasBarCell layout) entries) (are : ArePlaced (map (shifted dropped) entries) placed)
+    (count_is : count ≡ row_count placed) (last : length old ≡ row + 1) where
+  some_rows : 0 < count
+  some_rows = omega (arith, count_is, row_count_some placed)
+
+  rows_long : length (old ++ replicate (count - 1) (separator_row layout.decor layout.gutter) ++ bare_row layout.decor layout.gutter closes ∷ [])
+      ≡ length old + count
+  rows_long =
+      rows_begun old (old ++ replicate (count - 1) (separator_row layout.decor layout.gutter) ++ bare_row layout.decor layout.gutter closes ∷ [])
+      (separator_row layout.decor layout.gutter) (bare_row layout.decor layout.gutter closes) count some_rows refl
+
+  enough_rows : length old + count ≤ 2 ^ 60
+      → AreEnough layout row (length (old ++ replicate (count - 1) (separator_row layout.decor layout.gutter)
+      ++ bare_row layout.decor layout.gutter closes ∷ []))
+      placed
+  enough_rows small =
+      enough_begun layout dropped entries old _ (separator_row layout.decor layout.gutter) (bare_row layout.decor layout.gutter closes) places bar_cells are
+      count_is last refl (omega (arith, small, rows_long))
+
+-- each entry has the rows that it needs
+ready : (placed : List PlacedEntry) (es : List LineAnnotation) → ArePlaced es placed → (old : List (List Cell)) (row count : ℕ) → count ≡ row_count placed
+    → length old ≡ row + 1 → All (HasRows (row + 1) (length old + count)) placed
+ready placed es are old row count count_is last =
+    let begun : List (List Cell) = old ++ replicate (count - 1) [] ++ [] ∷ [] in
+    rows_ready placed old begun [] [] count (row + 1) (length old + count) count_is (sym last) refl
+    (sym (rows_begun old begun [] [] count (omega (arith, count_is, row_count_some placed)) refl))
+
+pub draw_rows-requires : goal.draw_rows-requires
+draw_rows-requires c =
     let placed = c.in_ok-placed.placed.items in
+    let es = map (shifted c.args.place.dropped) c.args.entries.now in
     let Q : LineAnnotation → Type 0 = λ e. length (label_text e) < 2 ^ 60 in
+    let are = c.in_ok-placed.ensures.placed in
+    let count : c.row_count-count.result ≡ row_count placed = c.row_count-count.ensures.value ∙ ap row_count c.deref-2.ensures.value in
     record {
-      enough = enough_begun c.args.layout c.args.place.dropped c.args.entries.now c.args.buffer.now c.begin_rows.new.buffer _ _
-          c.requires.columns c.requires.bar_cells c.in_ok-placed.ensures.placed (c.row_count.ensures.value ∙ ap row_count c.deref-2.ensures.value)
-          c.requires.last c.in_ok-begin_rows.ensures.added c.in_ok-begin_rows.ensures.small;
-      labels = c.in_ok-placed.ensures.placed.labels;
-      short = entries_all Q (map (shifted c.args.place.dropped) c.args.entries.now) placed c.in_ok-placed.ensures.placed.same
-          (labels_short c.args.place.dropped c.args.entries.now c.requires.labels);
+      some = omega (arith, count, row_count_some placed);
+      last = c.requires.last;
+      rows = ready placed es are c.args.buffer.now c.args.place.row c.row_count-count.result count c.requires.last;
+      columns = entries_all HasPlace es placed are.same (shifted_places c.args.place.dropped c.args.entries.now c.requires.columns);
+      bar_cells = entries_all (HasBarCell c.args.layout) es placed are.same (shifted_bars c.args.layout c.args.place.dropped c.args.entries.now
+          c.requires.bar_cells);
+      labels = are.labels;
+      short = entries_all Q es placed are.same (labels_short c.args.place.dropped c.args.entries.now c.requires.labels);
     }
 
 -- the entries stand in the order of painting, and no row is added or taken after those that are begun
 pub cut_wide-requires : goal.cut_wide-requires
 cut_wide-requires c =
     let placed = c.in_ok-placed.placed.items in
-    let begun = c.begin_rows.new.buffer in
-    let enough = enough_begun c.args.layout c.args.place.dropped c.args.entries.now c.args.buffer.now begun _ _ c.requires.columns c.requires.bar_cells
-    c.in_ok-placed.ensures.placed (c.row_count.ensures.value ∙ ap row_count c.deref-2.ensures.value) c.requires.last
-    c.in_ok-begin_rows.ensures.added c.in_ok-begin_rows.ensures.small in
-    let marked = c.in_ok-paint_strokes.ensures.count in
-    let ordered = c.deref-3.ensures.value ∙ c.in_ok-paint_strokes.ensures.order in
+    let closes = c.args.place.closes in
+    let count : c.row_count-count.result ≡ row_count placed = c.row_count-count.ensures.value ∙ ap row_count c.deref-2.ensures.value in
+    let enough = enough_rows c.args.layout c.args.place.dropped c.args.entries.now c.args.place.row c.row_count-count.result placed c.args.buffer.now closes
+    c.requires.columns c.requires.bar_cells c.in_ok-placed.ensures.placed count c.requires.last c.in_ok-draw_rows.ensures.small in
+    let long = rows_long c.args.layout c.args.place.dropped c.args.entries.now c.args.place.row c.row_count-count.result placed c.args.buffer.now closes
+    c.requires.columns c.requires.bar_cells c.in_ok-placed.ensures.placed count c.requires.last in
+    let marked = c.in_ok-draw_rows.ensures.count ∙ sym long in
+    let ordered = c.deref-3.ensures.value ∙ c.in_ok-draw_rows.ensures.order in
     record {
       columns = subst (All (λ (e : PlacedEntry). HasPlace e.entry)) (sym ordered)
           (All-permutation (λ (e : PlacedEntry). HasPlace e.entry) placed (painting_order placed) (IsPermutation-painting_order placed) enough.places);
@@ -119,36 +157,40 @@ returns c =
     let end = bare_row layout.decor layout.gutter c.args.place.closes in
     let given : 0 < length c.args.entries.now = grind arith in
     let some : 0 < length es = omega (arith, given, length-map c.args.entries.now (shifted c.args.place.dropped)) in
-    let count : c.row_count.result ≡ row_count placed = c.row_count.ensures.value ∙ ap row_count c.deref-2.ensures.value in
-    let begun = c.begin_rows.new.buffer in
-    let new = c.paint_strokes.new.buffer in
+    let count : c.row_count-count.result ≡ row_count placed = c.row_count-count.ensures.value ∙ ap row_count c.deref-2.ensures.value in
+    let begun : List (List Cell) = old ++ replicate (c.row_count-count.result - 1) sep ++ end ∷ [] in
+    let new = c.draw_rows.new.buffer in
     let are = c.in_ok-placed.ensures.placed in
-    let enough = enough_begun layout c.args.place.dropped c.args.entries.now old begun _ _ c.requires.columns c.requires.bar_cells are count c.requires.last
-    c.in_ok-begin_rows.ensures.added c.in_ok-begin_rows.ensures.small in
+    let closes = c.args.place.closes in
+    let enough = enough_rows layout c.args.place.dropped c.args.entries.now row c.row_count-count.result placed old closes
+    c.requires.columns c.requires.bar_cells are count c.requires.last c.in_ok-draw_rows.ensures.small in
+    let whole : length begun ≡ length old + c.row_count-count.result = rows_long layout c.args.place.dropped c.args.entries.now row
+    c.row_count-count.result placed old closes c.requires.columns c.requires.bar_cells are count c.requires.last in
     let rows : List (List Cell) = old ++ replicate (row_count placed - 1) sep ++ end ∷ [] in
-    let begun_is : begun ≡ rows = c.in_ok-begin_rows.ensures.added ∙ ap (λ n. old ++ replicate (n - 1) sep ++ end ∷ []) count in
+    let begun_is : begun ≡ rows = ap (λ n. old ++ replicate (n - 1) sep ++ end ∷ []) count in
     let all : ℕ = length old + row_count placed in
     let long : length begun ≡ all = rows_begun old begun sep end (row_count placed) (row_count_some placed) begun_is in
-    let new_is : new ≡ painted (line_strokes layout row (length begun) placed after) begun = c.in_ok-paint_strokes.ensures.painted in
+    let new_is : new ≡ painted (line_strokes layout row (length begun) placed after) begun = c.in_ok-draw_rows.ensures.painted
+    ∙ ap (λ n. painted (line_strokes layout row n placed after) begun) (sym whole) in
     let flags = c.in_ok-overlapped.overlapped.items in
     let final = c.cut_wide.new.buffer in
     let cut_to : List PlacedEntry → List Bool → List (List Cell) = λ ps fs. cut_rows layout.decor row (cuts_of layout c.args.place.room ps fs) new in
     let final_is : final ≡ cut_to c.deref-3.result.now c.deref-4.result.now → final ≡ cut_to after flags = λ value.
-    value ∙ ap (λ ps. cut_to ps c.deref-4.result.now) (c.deref-3.ensures.value ∙ c.in_ok-paint_strokes.ensures.order)
+    value ∙ ap (λ ps. cut_to ps c.deref-4.result.now) (c.deref-3.ensures.value ∙ c.in_ok-draw_rows.ensures.order)
     ∙ ap (cut_to after) c.deref-4.ensures.value in
     let last_row : (above : List (List Cell)) (plain : List Cell) → old ≡ above ++ plain ∷ [] → row ≡ length above = λ above plain old_is.
     omega (arith, c.requires.last, ap length old_is, length_push above plain) in
     record {
       added = on_ok_weaker c.cut_wide.result (λ value above plain old_is bare_bars.
           let source_row : row ≡ length above = last_row above plain old_is in
-          strokes_added_whole layout c.args.place.room c.args.place.closes es placed above plain begun new c.in_ok-begin_rows.ensures.place are
+          strokes_added_whole layout c.args.place.room c.args.place.closes es placed above plain begun new c.in_ok-draw_rows.ensures.place are
           (subst (λ n. AreEnough layout n (length begun) placed) source_row enough) bare_bars
           (begun_is ∙ ap (λ top. top ++ replicate (row_count placed - 1) sep ++ end ∷ []) old_is)
           (new_is ∙ ap (λ n. painted (line_strokes layout n (length begun) placed after) begun) source_row) final flags some
           (final_is value ∙ ap (λ n. cut_rows layout.decor n (cuts_of layout c.args.place.room after flags) new) source_row)) c.cut_wide.ensures.value;
       none = on_ok_weaker c.cut_wide.result (λ _ none. absurd (omega (arith, given, none))) c.cut_wide.ensures.value;
       painted = on_ok_weaker c.cut_wide.result (λ value _ above plain old_is.
-          let all_rows : length new ≡ all = c.in_ok-paint_strokes.ensures.count ∙ long in
+          let all_rows : length new ≡ all = c.in_ok-draw_rows.ensures.count ∙ sym whole ∙ long in
           let is_wide : PlacedEntry → Bool = is_wide_at c.args.place.room layout.decor in
           let flags_are : list_any is_wide placed ≡ true → flags ≡ overlapped placed =
           λ some_wide. c.in_ok-overlapped.ensures.value (ap (λ (l : Layout).

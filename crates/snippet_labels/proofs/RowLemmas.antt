@@ -1,0 +1,233 @@
+-- Entries that need one row: where their labels stand, and their order.
+use Rattle.std.proofs.Common.{◌≡◌, ℕ, zero, suc, ◌+◌, ◌-◌, ◌<◌, ◌≤◌, ◌==◌, ◌&&◌, ◌||◌, cond, nat_le, nat_lt, not, Bool, true, false, List, [], ◌∷◌, ◌++◌}
+use Rattle.std.proofs.Common.{drop, length, map, reverse, get_or, refl, sym, ap, ◌∙◌, subst, arith, All}
+use Rattle.std.specs.List.{list_any, range_with_len}
+use Rattle.std.specs.List.Sorted.{IsPermutation}
+use Rattle.std.specs.Cow.{cow_str_bytes}
+use Rattle.std.proofs.Math.Bool.{and-false}
+use Rattle.std.proofs.lemmas.Bool.{cond-true}
+use Rattle.std.proofs.lemmas.Bool.Decides.{nat_tests}
+use Rattle.std.proofs.lemmas.List.{append_assoc, append-nil, drop_more, get_or-map, length-map, length-reverse, map_push, reverse-append, reverse-reverse}
+use Rattle.std.proofs.lemmas.List.Elements.{All-append, All-cons, All-head, All-nil, All-tail}
+use Rattle.std.proofs.lemmas.List.Folds.{list_any_none}
+use Rattle.std.proofs.lemmas.List.Sorted.{IsPermutation-reverse}
+use Rattle.snippet_lines.specs.OrderedBy.{ordered_by, put_in}
+use Rattle.snippet_parts.proofs.KeptLemmas.{range-pushed}
+use Rattle.snippet_parts.specs.declared.entries.LineAnnotation.{LineAnnotation}
+use Rattle.snippet_parts.specs.declared.entries.LineAnnotationType.{LineAnnotationType}
+use Rattle.snippet_parts.specs.declared.entries.LineAnnotationType.TheVariants.{Singleline, MultilineStart, MultilineEnd, MultilineLine}
+use Rattle.snippet_labels.specs.declared.positions.PlacedEntry.{PlacedEntry}
+use Rattle.snippet_labels.specs.PlacedEntries.{is_end_part}
+use Rattle.snippet_labels.specs.Positions.{ArePlaced, FitsLeftOf, HasItsBytes, HasItsLabel, IsFromRight, StandInRow, StandsLeft}
+use Rattle.snippet_labels.specs.Positions.{are_starts, blocks, crosses, crowds}
+use Rattle.snippet_labels.specs.Positions.{do_overlap, ends_no_later, flipped, has_label}
+use Rattle.snippet_labels.specs.Positions.{is_placed_before, is_same_place, is_start_part, label_reach, line_positions}
+use Rattle.snippet_labels.specs.Positions.{look_counts, looked_after, position_after, position_at, positions, reaches, takes_space, up_to}
+use Rattle.snippet_labels.proofs.PlacedLemmas.{no_position}
+
+entry_of : PlacedEntry → LineAnnotation
+entry_of e = e.entry
+
+-- each fits left of the column that the first one does
+all_fit : (column : ℕ) (ps : List PlacedEntry) → StandInRow column ps → All (FitsLeftOf column) ps
+all_fit column [] stand k d within = absurd (omega (arith, within))
+all_fit column (e ∷ left) stand zero d within = stand.0
+all_fit column (e ∷ left) stand (suc k) d within =
+    let rest = all_fit e.entry.start.display left stand.1 k d (omega (arith, within)) in
+    record {
+      single = rest.single;
+      begins = omega (arith, rest.begins, stand.0.begins);
+      ends = omega (arith, rest.ends, stand.0.begins);
+    }
+
+-- ---- no label is in the way
+
+row_apart : (a b c d more : ℕ) → a < c → b + more ≤ c → ((nat_le c a && nat_lt a d) || (nat_le a c && nat_lt c (b + more))) ≡ false
+row_apart a b c d more left ends = grind (arith, nat_tests)
+
+reach_over : (b : Bool) (end more : ℕ) → end + 0 ≤ cond b (end + more) end
+reach_over true end more = omega arith
+reach_over false end more = omega arith
+
+not_crossed : (e other : PlacedEntry) → FitsLeftOf e.entry.start.display other → crosses e other ≡ false
+not_crossed e other fits =
+    let ends : other.entry.end.display + 0 ≤ label_reach other =
+    reach_over (has_label other) other.entry.end.display (length (cow_str_bytes other.label) + 2) in
+    ap (λ b. b && (has_label other || not (is_same_place e other)))
+    (row_apart other.entry.start.display other.entry.end.display e.entry.start.display e.entry.end.display 0 fits.begins (omega (arith, ends, fits.ends)))
+
+not_reached : (label overlap wide : Bool) → (label ≡ true → overlap ≡ false) → (label && overlap && wide) ≡ false
+not_reached true overlap wide none = ap (λ b. b && wide) (none refl)
+not_reached false overlap wide none = refl
+
+not_crowded : (column : ℕ) (e other : PlacedEntry) → FitsLeftOf column e → FitsLeftOf e.entry.start.display other → crowds 0 e other ≡ false
+not_crowded column e other own fits =
+    let more = length (cow_str_bytes other.label) + 2 in
+    let unblocked : blocks e other ≡ false = ap (λ b. (b && (has_label other || takes_space other)) || (has_label e && takes_space other)) own.single
+    ∙ ap (λ b. has_label e && b) fits.single ∙ and-false (has_label e) in
+    let meets : has_label other ≡ true → do_overlap other more e ≡ false = λ has.
+    let ends : label_reach other ≡ other.entry.end.display + more = ap (λ b. cond b (other.entry.end.display + more) other.entry.end.display) has in
+    row_apart other.entry.start.display other.entry.end.display e.entry.start.display e.entry.end.display more fits.begins (omega (arith, ends, fits.ends)) in
+    ap (λ b. b || reaches 0 e other) unblocked
+    ∙ not_reached (has_label other) (do_overlap other more e) (has_label e || ((0 == 0) && ends_no_later other e)) meets
+
+row_uncrossed : (e : PlacedEntry) (left : List PlacedEntry) → StandInRow e.entry.start.display left → list_any (crosses e) left ≡ false
+row_uncrossed e left stand =
+    list_any_none (crosses e) left (λ k d within. not_crossed e (get_or left k d) (all_fit e.entry.start.display left stand k d within))
+
+row_uncrowded : (column : ℕ) (e : PlacedEntry) (left : List PlacedEntry) → StandInRow column (e ∷ left) → list_any (crowds 0 e) left ≡ false
+row_uncrowded column e left stand =
+    list_any_none (crowds 0 e) left (λ k d within. not_crowded column e (get_or left k d) stand.0 (all_fit e.entry.start.display left stand.1 k d within))
+
+here_0 : (e : PlacedEntry) (left : List PlacedEntry) → StandInRow e.entry.start.display left → position_at 0 e left ≡ 0
+here_0 e left stand =
+    ap (λ b. cond ((0 == 0) && (has_label e && b)) 1 0) (row_uncrossed e left stand) ∙ ap (λ b. cond b 1 0) (and-false (has_label e))
+
+after_0 : (column : ℕ) (e : PlacedEntry) (left : List PlacedEntry) → StandInRow column (e ∷ left) → position_after 0 e left ≡ 0
+after_0 column e left stand = ap (λ b. cond b 1 0) (row_uncrowded column e left stand)
+
+-- so all stand at position 0
+positions_0 : (column : ℕ) (ps : List PlacedEntry) → StandInRow column ps → All (λ e. e.position ≡ 0) ps
+    → map (λ (e : PlacedEntry). e.position) ps ≡ positions 0 ps
+positions_0 column [] stand none = refl
+positions_0 column (e ∷ left) stand none =
+    let at : PlacedEntry → ℕ = λ e. e.position in
+    ap (λ q. q ∷ map at left) (All-head (λ (e : PlacedEntry). e.position ≡ 0) e left none)
+    ∙ ap (λ qs. 0 ∷ qs) (positions_0 e.entry.start.display left stand.1 (All-tail (λ (e : PlacedEntry). e.position ≡ 0) e left none))
+    ∙ sym (ap (λ q. q ∷ positions (position_after q e left) left) (here_0 e left stand.1) ∙ ap (λ q. 0 ∷ positions q left) (after_0 column e left stand))
+
+-- none is a start without a label
+starts_none : (e : PlacedEntry) (left : List PlacedEntry) → takes_space e ≡ false → are_starts (e ∷ left) ≡ false
+starts_none e left single = ap (λ b. (b && not (has_label e)) && are_starts left) (no_start e.entry.annotation_type single)
+  where
+    no_start : (part : LineAnnotationType) → is_end_part part ≡ false → is_start_part part ≡ false
+    no_start Singleline single = refl
+    no_start (MultilineStart depth) single = single
+    no_start (MultilineEnd depth) single = refl
+    no_start (MultilineLine depth) single = refl
+
+line_positions_0 : (column : ℕ) (ps : List PlacedEntry) → StandInRow column ps → All (λ e. e.position ≡ 0) ps
+    → map (λ (e : PlacedEntry). e.position) ps ≡ line_positions ps
+line_positions_0 column [] stand none = refl
+line_positions_0 column (e ∷ left) stand none =
+    positions_0 column (e ∷ left) stand none
+    ∙ sym (ap (λ b. cond b (flipped (positions 0 (e ∷ left))) (positions 0 (e ∷ left))) (starts_none e left stand.0.single))
+
+-- and all that stand left of one are looked at
+looked_all : (e : PlacedEntry) (left : List PlacedEntry) → StandInRow e.entry.start.display left → looked_after 0 e left ≡ length left
+looked_all e left stand =
+    ap (λ at. cond ((0 == 0) && has_label e) (up_to at (length left)) (length left)) (no_position (crosses e) left (row_uncrossed e left stand))
+    ∙ both (has_label e) (length left)
+  where
+    both : (b : Bool) (n : ℕ) → cond b n n ≡ n
+    both true n = refl
+    both false n = refl
+
+look_counts_down : (column : ℕ) (ps : List PlacedEntry) → StandInRow column ps → look_counts 0 ps ≡ reverse (range_with_len 0 (length ps))
+look_counts_down column [] stand = refl
+look_counts_down column (e ∷ left) stand =
+    let n = length left in
+    ap (λ m. m ∷ look_counts (position_after (position_at 0 e left) e left) left) (looked_all e left stand.1)
+    ∙ ap (λ q. n ∷ look_counts (position_after q e left) left) (here_0 e left stand.1) ∙ ap (λ q. n ∷ look_counts q left) (after_0 column e left stand)
+    ∙ ap (λ ns. n ∷ ns) (look_counts_down e.entry.start.display left stand.1) ∙ sym (reverse-append (range_with_len 0 n) (n ∷ []))
+    ∙ ap reverse (sym (one_more n))
+  where
+    one_more : (n : ℕ) → range_with_len 0 (suc n) ≡ range_with_len 0 n ++ n ∷ []
+    one_more n =
+        let next : suc n ≡ n + 1 - 0 = omega arith in
+        let same : n - 0 ≡ n = omega arith in
+        ap (range_with_len 0) next ∙ range-pushed 0 n (omega arith) ∙ ap (λ m. range_with_len 0 m ++ n ∷ []) same
+
+-- ---- their order
+
+-- what comes after all of a list in order is put at its end
+put_last : (x : LineAnnotation) (ys : List LineAnnotation) → All (λ y. x.start.display < y.start.display) ys → put_in is_placed_before x ys ≡ ys ++ x ∷ []
+put_last x [] right = refl
+put_last x (y ∷ ys) right =
+    let first : is_placed_before y x ≡ true = before y.start.display x.start.display y.start.char x.start.char (right 0 y (omega arith)) in
+    cond-true (is_placed_before y x) (y ∷ put_in is_placed_before x ys) (x ∷ y ∷ ys) first
+    ∙ ap (λ l. y ∷ l) (put_last x ys (All-tail (λ (y : LineAnnotation). x.start.display < y.start.display) y ys right))
+  where
+    before : (a b c d : ℕ) → b < a → (nat_lt b a || (a == b && nat_lt d c)) ≡ true
+    before a b c d less = grind (arith, nat_tests)
+
+-- those left of a list in order are put after it
+put_left : (column : ℕ) (ps : List PlacedEntry) (given ordered : List LineAnnotation) → StandInRow column ps → All (λ y. column ≤ y.start.display) ordered
+    → ordered_by is_placed_before given ≡ ordered → ordered_by is_placed_before (reverse (map entry_of ps) ++ given) ≡ ordered ++ map entry_of ps
+unfolding entry_of
+put_left column [] given ordered stand right is = is ∙ sym (append-nil ordered)
+put_left column (e ∷ left) given ordered stand right is =
+    let f : PlacedEntry → LineAnnotation = entry_of in
+    let start = e.entry.start.display in
+    let less : All (λ (y : LineAnnotation). start < y.start.display) ordered = λ k d within. omega (arith, right k d within, stand.0.begins) in
+    let put : ordered_by is_placed_before (e.entry ∷ given) ≡ ordered ++ e.entry ∷ [] =
+    ap (put_in is_placed_before e.entry) is ∙ put_last e.entry ordered less in
+    let all : All (λ (y : LineAnnotation). start ≤ y.start.display) (ordered ++ e.entry ∷ []) =
+    All-append (λ (y : LineAnnotation). start ≤ y.start.display) ordered (e.entry ∷ []) (λ k d within. omega (arith, less k d within))
+    (All-cons (λ (y : LineAnnotation). start ≤ y.start.display) e.entry [] (omega arith) (All-nil (λ (y : LineAnnotation). start ≤ y.start.display))) in
+    ap (λ l. ordered_by is_placed_before (l ++ given)) (reverse-append (e.entry ∷ []) (map f left))
+    ∙ ap (ordered_by is_placed_before) (append_assoc (reverse (map f left)) (e.entry ∷ []) given)
+    ∙ put_left start left (e.entry ∷ given) (ordered ++ e.entry ∷ []) stand.1 all put ∙ append_assoc ordered (e.entry ∷ []) (map f left)
+
+StandsLeft-far : (e f : LineAnnotation) → f.start.display < e.start.display → StandsLeft e f
+StandsLeft-far e f left = record { column = omega (arith, left); character = λ same. absurd (omega (arith, left, same)) }
+
+row_from_right : (column : ℕ) (ps : List PlacedEntry) → StandInRow column ps → IsFromRight (map entry_of ps)
+unfolding entry_of
+row_from_right column [] stand i j d before within = absurd (omega (arith, within))
+row_from_right column (e ∷ left) stand zero zero d before within = record { column = omega arith; character = λ same. omega arith }
+row_from_right column (e ∷ left) stand zero (suc j) d before within =
+    let f : PlacedEntry → LineAnnotation = entry_of in
+    let fits : j < length left = omega (arith, within, length-map left f) in
+    subst (StandsLeft e.entry) (sym (get_or-map f left j e d fits))
+    (StandsLeft-far e.entry (get_or left j e).entry (all_fit e.entry.start.display left stand.1 j e fits).begins)
+row_from_right column (e ∷ left) stand (suc i) zero d before within = absurd (omega (arith, before))
+row_from_right column (e ∷ left) stand (suc i) (suc j) d before within =
+    row_from_right e.entry.start.display left stand.1 i j d (omega (arith, before)) (omega (arith, within))
+
+-- ---- how they are listed
+
+-- one more is listed
+pub reverse_more : {X : Type 0} (xs : List X) (x : X) → reverse xs ++ x ∷ [] ≡ reverse (x ∷ xs)
+reverse_more xs x = sym (reverse-append (x ∷ []) xs)
+
+pub map-reverse : {X Y : Type 0} (f : X → Y) (xs : List X) → map f (reverse xs) ≡ reverse (map f xs)
+map-reverse f [] = refl
+map-reverse f (x ∷ xs) =
+    ap (map f) (sym (reverse_more xs x)) ∙ map_push f (reverse xs) x ∙ ap (λ l. l ++ f x ∷ []) (map-reverse f xs) ∙ reverse_more (map f xs) (f x)
+
+pub entries_more : (sh : LineAnnotation → LineAnnotation) (es : List LineAnnotation) (i : ℕ) (e d : LineAnnotation) → 0 < i → i ≤ length es
+    → e ≡ sh (get_or es (i - 1) d) → reverse (map sh (drop i es)) ++ e ∷ [] ≡ reverse (map sh (drop (i - 1) es))
+entries_more sh es i e d some within is =
+    let j = i - 1 in
+    let next : i ≡ j + 1 = omega arith in
+    let from : drop j es ≡ get_or es j d ∷ drop (j + 1) es = drop_more es j d (omega arith) in
+    ap (λ n. reverse (map sh (drop n es)) ++ e ∷ []) next ∙ reverse_more (map sh (drop (j + 1) es)) e
+    ∙ ap (λ x. reverse (x ∷ map sh (drop (j + 1) es))) is ∙ ap (λ l. reverse (map sh l)) (sym from)
+
+pub counts_more : (n i : ℕ) → 0 < i → i ≤ n → reverse (range_with_len i (n - i)) ++ (i - 1) ∷ [] ≡ reverse (range_with_len (i - 1) (n - (i - 1)))
+counts_more n i some within =
+    let more : n - (i - 1) ≡ suc (n - i) = omega arith in
+    let next : i - 1 + 1 ≡ i = omega arith in
+    reverse_more (range_with_len i (n - i)) (i - 1) ∙ ap (λ m. reverse ((i - 1) ∷ range_with_len m (n - i))) (sym next)
+    ∙ ap (λ m. reverse (range_with_len (i - 1) m)) (sym more)
+
+-- entries that are listed from the last to the first, and need one row, are placed
+pub ArePlaced-row : (es : List LineAnnotation) (column : ℕ) (ps : List PlacedEntry) → map (λ (e : PlacedEntry). e.entry) ps ≡ reverse es
+    → All HasItsLabel ps → All HasItsBytes ps → All (λ e. e.position ≡ 0) ps
+    → map (λ (e : PlacedEntry). e.looked) ps ≡ reverse (range_with_len 0 (length es)) → StandInRow column ps → ArePlaced es ps
+unfolding entry_of
+ArePlaced-row es column ps are labels bytes none looked stand =
+    let f : PlacedEntry → LineAnnotation = entry_of in
+    let given : reverse (map f ps) ≡ es = ap reverse are ∙ reverse-reverse es in
+    let count : length es ≡ length ps = sym (length-reverse es) ∙ ap length (sym are) ∙ length-map ps f in
+    record {
+      order = sym (put_left column ps [] [] stand (All-nil (λ (y : LineAnnotation). column ≤ y.start.display)) refl)
+          ∙ ap (ordered_by is_placed_before) (append-nil (reverse (map f ps)) ∙ given);
+      same = subst (IsPermutation es) (sym are) (IsPermutation-reverse es);
+      from_right = row_from_right column ps stand;
+      labels = labels;
+      bytes = bytes;
+      positions_are = line_positions_0 column ps stand none;
+      looked_are = looked ∙ ap (λ n. reverse (range_with_len 0 n)) count ∙ sym (look_counts_down column ps stand);
+    }

@@ -1,0 +1,112 @@
+use Rattle.std.proofs.Common.{◌≡◌, ◌∙◌, ◌+◌, ◌^◌, ◌<◌, List, ℕ, All, ap, sym, subst, arith, length}
+use Rattle.snippet_grid.specs.Layout.{Layout}
+use Rattle.snippet_labels.specs.declared.positions.PlacedEntry.{PlacedEntry}
+use Rattle.snippet_labels.specs.PlacedEntries.{HasPlace, label_text}
+use Rattle.snippet_labels.specs.Positions.{HasItsLabel}
+use Rattle.snippet_style.specs.Cell.{Cell}
+use Rattle.snippet_style.specs.Separators.{separator_row}
+use Rattle.snippet_strokes.specs.Drawing.{HasRows}
+use Rattle.snippet_strokes.specs.Painting.{marks_of, painting_order}
+use Rattle.snippet_strokes.specs.SourceRows.{bare_row}
+use Rattle.snippet_strokes.specs.Strokes.{labels_of, stems_of}
+use Rattle.snippet_strokes.specs.Writes.{painted}
+use Rattle.snippet_strokes.proofs.HangingLemmas.{hanging_painted, stemmed_enough, stemmed_long}
+use Rattle.snippet_strokes.proofs.ReadyRows.{count_labels, count_marks, enough_after}
+use Rattle.snippet_strokes.proofs.strokes.draw_hanging.Goals as goal
+
+pub begin_stem_rows-requires : goal.begin_stem_rows-requires
+begin_stem_rows-requires c =
+    record {
+      some = c.requires.some;
+      columns = subst (All (λ (e : PlacedEntry). HasPlace e.entry)) (sym c.deref.ensures.value) c.requires.columns;
+      rows = subst (All (λ (e : PlacedEntry). e.position < c.args.count)) (sym c.deref.ensures.value) (λ k d within.
+          omega (arith, c.requires.last, (c.requires.rows k d within).mark));
+    }
+
+-- the stems, in the words of the row of the marks
+stems_drawn : (layout : Layout) (row : ℕ) (given placed : List PlacedEntry) (old begun stemmed : List (List Cell)) → length old ≡ row + 1 → given ≡ placed
+    → stemmed ≡ painted (stems_of layout (length old) given) begun → stemmed ≡ painted (stems_of layout (row + 1) placed) begun
+stems_drawn layout row given placed old begun stemmed last are drawn =
+    drawn ∙ ap (λ n. painted (stems_of layout n given) begun) last ∙ ap (λ ps. painted (stems_of layout (row + 1) ps) begun) are
+
+pub overflow_add-place : goal.overflow_add-place
+overflow_add-place c =
+    let layout = c.args.layout in
+    let stems = stems_drawn layout c.args.place.row c.deref.result.now c.args.placed.now.items c.args.buffer.now _ c.begin_stem_rows.new.buffer
+    c.requires.last c.deref.ensures.value c.in_ok-begin_stem_rows.ensures.painted in
+    let long = stemmed_long layout c.args.place.row c.args.count c.args.placed.now.items c.args.buffer.now c.begin_stem_rows.new.buffer
+    (separator_row layout.decor layout.gutter) (bare_row layout.decor layout.gutter c.args.place.closes) c.requires.some c.requires.last c.requires.rows
+    stems in
+    omega (arith, long, c.requires.last, c.in_ok-begin_stem_rows.ensures.small)
+
+pub overflow_add-place-2 : goal.overflow_add-place-2
+overflow_add-place-2 c =
+    let layout = c.args.layout in
+    let stems = stems_drawn layout c.args.place.row c.deref.result.now c.args.placed.now.items c.args.buffer.now _ c.begin_stem_rows.new.buffer
+    c.requires.last c.deref.ensures.value c.in_ok-begin_stem_rows.ensures.painted in
+    let long = stemmed_long layout c.args.place.row c.args.count c.args.placed.now.items c.args.buffer.now c.begin_stem_rows.new.buffer
+    (separator_row layout.decor layout.gutter) (bare_row layout.decor layout.gutter c.args.place.closes) c.requires.some c.requires.last c.requires.rows
+    stems in
+    omega (arith, long, c.requires.last, c.in_ok-begin_stem_rows.ensures.small)
+
+pub draw_labels-requires : goal.draw_labels-requires
+draw_labels-requires c =
+    let layout = c.args.layout in
+    let placed = c.args.placed.now.items in
+    let same = sym c.deref-2.ensures.value in
+    let stems = stems_drawn layout c.args.place.row c.deref.result.now placed c.args.buffer.now _ c.begin_stem_rows.new.buffer c.requires.last
+    c.deref.ensures.value c.in_ok-begin_stem_rows.ensures.painted in
+    let enough = stemmed_enough layout c.args.place.row c.args.count placed c.args.buffer.now c.begin_stem_rows.new.buffer
+    (separator_row layout.decor layout.gutter) (bare_row layout.decor layout.gutter c.args.place.closes) c.requires.some c.requires.last c.requires.rows stems
+    c.requires.columns c.requires.bar_cells c.in_ok-begin_stem_rows.ensures.small in
+    record {
+      columns = subst (All (λ (e : PlacedEntry). HasPlace e.entry)) same c.requires.columns;
+      small = enough.small;
+      rows = subst (All (HasRows (c.args.place.row + 1) (length c.begin_stem_rows.new.buffer))) same enough.rows;
+      labels = subst (All HasItsLabel) same c.requires.labels;
+      short = subst (All (λ (e : PlacedEntry). length (label_text e.entry) < 2 ^ 60)) same c.requires.short;
+    }
+
+pub draw_marks-requires : goal.draw_marks-requires
+draw_marks-requires c =
+    let layout = c.args.layout in
+    let placed = c.args.placed.now.items in
+    let stems = stems_drawn layout c.args.place.row c.deref.result.now placed c.args.buffer.now _ c.begin_stem_rows.new.buffer c.requires.last
+    c.deref.ensures.value c.in_ok-begin_stem_rows.ensures.painted in
+    let long = stemmed_long layout c.args.place.row c.args.count placed c.args.buffer.now c.begin_stem_rows.new.buffer
+    (separator_row layout.decor layout.gutter) (bare_row layout.decor layout.gutter c.args.place.closes) c.requires.some c.requires.last c.requires.rows
+    stems in
+    record {
+      row = omega (arith, long, c.requires.last, c.requires.some, c.in_ok-begin_stem_rows.ensures.small);
+      columns = λ k d within. (c.requires.columns k d within).near;
+    }
+
+pub returns : goal.returns
+returns c =
+    let layout = c.args.layout in
+    let row = c.args.place.row in
+    let placed = c.args.placed.now.items in
+    let old = c.args.buffer.now in
+    let sep = separator_row layout.decor layout.gutter in
+    let end = bare_row layout.decor layout.gutter c.args.place.closes in
+    let stemmed = c.begin_stem_rows.new.buffer in
+    let labelled = c.draw_labels.new.buffer in
+    let new = c.draw_marks.new.buffer in
+    let stems = stems_drawn layout row c.deref.result.now placed old _ stemmed c.requires.last c.deref.ensures.value
+    c.in_ok-begin_stem_rows.ensures.painted in
+    let long = stemmed_long layout row c.args.count placed old stemmed sep end c.requires.some c.requires.last c.requires.rows stems in
+    let enough = stemmed_enough layout row c.args.count placed old stemmed sep end c.requires.some c.requires.last c.requires.rows stems
+    c.requires.columns c.requires.bar_cells c.in_ok-begin_stem_rows.ensures.small in
+    let labels : labelled ≡ painted (labels_of layout (row + 1) placed) stemmed = c.in_ok-draw_labels.ensures.painted
+    ∙ ap (λ ps. painted (labels_of layout (row + 1) ps) stemmed) c.deref-2.ensures.value in
+    let hung : length labelled ≡ length stemmed = count_labels stemmed labelled enough labels in
+    let marks : new ≡ painted (marks_of layout (row + 1) (painting_order placed)) labelled = c.in_ok-draw_marks.ensures.painted
+    ∙ ap (λ ps. painted (marks_of layout (row + 1) ps) labelled) c.in_ok-draw_marks.ensures.order in
+    record {
+      order = c.in_ok-draw_marks.ensures.order;
+      painted = hanging_painted layout row (length old + c.args.count) placed (painting_order placed) _ stemmed labelled new
+          c.requires.lines stems labels marks;
+      small = omega (arith, long, c.in_ok-begin_stem_rows.ensures.small);
+      count = count_marks labelled new (enough_after stemmed labelled enough hung) (painting_order placed) marks ∙ hung ∙ long;
+      place = c.in_ok-begin_stem_rows.ensures.place;
+    }
