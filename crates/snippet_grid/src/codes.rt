@@ -81,7 +81,15 @@ impl SheetCodes {
         ensures yes { result ≡ true → style_at self.now a ≢ style_at self.now b }
         ensures no { result ≡ false → style_at self.now a ≡ style_at self.now b }
     {
-        a != b && self.styles[a] != self.styles[b]
+        if a == b {
+            return false;
+        }
+        // Plain styles are the same, so that only two that aren't have to be compared.
+        let plain = self.is_plain(a);
+        if plain != self.is_plain(b) {
+            return true;
+        }
+        !plain && self.styles[a] != self.styles[b]
     }
 
     /// Adds the code that switches the style at a place off, if it has one.
