@@ -34,6 +34,11 @@ const BARS: &str = concat!(
     "||||||||||||||||||||||||||||||||||||||||||||||||||||||||||||||||",
 );
 
+const SLASHES: &str = concat!(
+    "////////////////////////////////////////////////////////////////",
+    "////////////////////////////////////////////////////////////////",
+);
+
 /// A strip of a glyph, if there is one.
 fn strip_of(glyph: char) -> Option<&'static str>
     ensures value { IfSome result (λ strip. strip.now ≡ replicate 128 glyph) }
@@ -44,6 +49,7 @@ fn strip_of(glyph: char) -> Option<&'static str>
         '-' => Some(DASHES),
         '_' => Some(CONNECTORS),
         '|' => Some(BARS),
+        '/' => Some(SLASHES),
         _ => None,
     }
 }
