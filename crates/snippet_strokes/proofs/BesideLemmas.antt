@@ -74,7 +74,8 @@ module _ (layout : Layout) (dropped : ℕ) (es : List LineAnnotation) where
             highlighted_left layout.code dropped es one (lit one) over c left ∙ elim (cases_lt c at) [
               | inl before ↦
                   slice_index_or-written_before SPACE cells at part c before
-                  ∙ sym (slice_index_or-written_before SPACE (lit cells) at part c before ∙ highlighted_left layout.code dropped es cells (lit cells) plain c left)
+                  ∙ sym (slice_index_or-written_before SPACE (lit cells) at part c before
+                  ∙ highlighted_left layout.code dropped es cells (lit cells) plain c left)
               | inr past ↦ elim (cases_eq c at) [
                 | inl here ↦
                     let j : ℕ = c - at in

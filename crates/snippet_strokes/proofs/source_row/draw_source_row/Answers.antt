@@ -101,7 +101,8 @@ returns-clause-added c =
     (shown_cells l.decor window.result.start (chars window.result.text.now) window.result.end) args.buffer.now given.0)
     (sym c.layout.view_is) given.1 in
     let bare : AddsSourceRow args.layout (shown_number args.view.numbers args.layout.gutter args.line.now.info.line_index)
-    (window_cells args.layout.decor args.view.margin (norm line)) args.buffer.now given.0 = rw (← c.layout.view_is) (AddsSourceRow-same layout _ _ _ _ args.buffer.now given.0 number cells added) in
+    (window_cells args.layout.decor args.view.margin (norm line)) args.buffer.now given.0 = rw (← c.layout.view_is)
+    (AddsSourceRow-same layout _ _ _ _ args.buffer.now given.0 number cells added) in
     (given.0, bare, given.2)
 
 pub returns-clause-short : goal.returns-clause-short
