@@ -146,7 +146,28 @@ fn has_depth(bars: &[OpenBar], depth: usize) -> bool
 /// # Errors
 ///
 /// There is no memory for the cells.
+#[inline(always)]
 pub(crate) fn draw_bars(
+    alloc: Global,
+    buffer: &mut StyledBuffer,
+    layout: Layout,
+    row: usize,
+    bars: &[OpenBar],
+    stroke: BarStroke,
+) -> Result<(), AllocError>
+    requires room { All (HasBarRoom layout) bars.now }
+    ensures value { OnOk result (buffer.new ≡ barred layout stroke bars.now row buffer.old) }
+{
+    // Most lines have no bars beside them.
+    if bars.is_empty() {
+        return Ok(());
+    }
+    draw_sides(alloc, buffer, layout, row, bars, stroke)
+}
+
+/// Draws a part of some bars in each row from this one on, those that stand side by side at a time.
+#[inline(never)]
+fn draw_sides(
     alloc: Global,
     buffer: &mut StyledBuffer,
     layout: Layout,
