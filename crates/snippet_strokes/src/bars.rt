@@ -59,15 +59,19 @@ impl BarStroke {
     }
 }
 
-/// The bars of the starts and ends on a line.
+/// The bars of the starts and ends on a line, in the room of another list.
 ///
 /// # Errors
 ///
 /// There is no memory for the list.
-pub(crate) fn ends_on(alloc: Global, entries: &[LineAnnotation]) -> Result<Vec<OpenBar>, AllocError>
+pub(crate) fn ends_on(
+    room: Vec<OpenBar>,
+    entries: &[LineAnnotation],
+) -> Result<Vec<OpenBar>, AllocError>
     ensures value { IfOk result (λ bars. bars.items ≡ ends_of_bars entries.now) }
 {
-    let mut bars = Vec::new(alloc);
+    let mut bars = room;
+    bars.clear();
     for entry in entries {
         if let Some(bar) = bar_of(entry) {
             bars.push(bar)?;
@@ -91,19 +95,21 @@ fn bar_of(entry: &LineAnnotation) -> Option<OpenBar>
     }
 }
 
-/// The bars whose depth none of the others has, with room for the others.
+/// The bars whose depth none of the others has, with room for the others, in the room of another list.
 ///
 /// # Errors
 ///
 /// There is no memory for the list.
 pub(crate) fn bars_apart(
-    alloc: Global,
+    room: Vec<OpenBar>,
     bars: &[OpenBar],
     others: &[OpenBar],
 ) -> Result<Vec<OpenBar>, AllocError>
     ensures value { IfOk result (λ apart. apart.items ≡ spec.bars_apart bars.now others.now) }
 {
-    let mut apart = Vec::with_capacity(alloc, bars.len().saturating_add(others.len()))?;
+    let mut apart = room;
+    apart.clear();
+    apart.reserve(bars.len().saturating_add(others.len()))?;
     add_bars_apart(&mut apart, bars, others)?;
     Ok(apart)
 }

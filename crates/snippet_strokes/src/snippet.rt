@@ -40,6 +40,16 @@ pub struct LineView {
     pub closes: bool,
 }
 
+/// Lists of bars, which keep their room from line to line.
+#[derive(Drop)]
+struct BarLists {
+    /// The bars that are open below the lines that are drawn.
+    open_bars: Vec<OpenBar>,
+    /// Room for those that start or end on a line, and for those that are open below it: what is in it means nothing.
+    ends: Vec<OpenBar>,
+    spare: Vec<OpenBar>,
+}
+
 /// Draws the lines of a snippet below all that stands in the grid: for each line its source row and its strokes. Where
 /// the group's window closes with them, the last row does so; it is one of its own where the last line has no entries.
 ///
@@ -82,12 +92,16 @@ pub fn draw_snippet(
     ensures added { OnOk result (AddsSnippet layout view.margin view.numbers view.closes (infos_of lines.now)
         buffer.old buffer.new) }
 {
-    let mut open_bars = Vec::new(alloc);
+    let mut bars = BarLists {
+        open_bars: Vec::new(alloc),
+        ends: Vec::new(alloc),
+        spare: Vec::new(alloc),
+    };
     for i in 0..lines.len() {
         let closes = view.closes && i + 1 == lines.len();
         let line = &lines[i];
         let shown = LineView { closes, ..view };
-        open_bars = draw_line(alloc, buffer, layout, shown, line, &open_bars)?;
+        bars = draw_line(alloc, buffer, layout, shown, line, bars)?;
         let after = &lines[i + 1..];
         draw_gap(
             alloc,
@@ -95,7 +109,7 @@ pub fn draw_snippet(
             layout,
             line.info.line_index,
             after,
-            &open_bars,
+            &bars.open_bars,
         )?;
     }
     Ok(())
@@ -114,8 +128,8 @@ fn draw_line(
     layout: Layout,
     view: LineView,
     line: &ShownLine,
-    open_bars: &[OpenBar],
-) -> Result<Vec<OpenBar>, AllocError>
+    bars: BarLists,
+) -> Result<BarLists, AllocError>
     requires number { length (shown_number view.numbers layout.gutter line.now.info.line_index) ≤
         separator_cell layout }
     requires text { TextFits line.now.info.line.now }
@@ -123,21 +137,30 @@ fn draw_line(
     requires clear { All (StandsClear view.margin) line.now.info.annotations.items }
     requires bar_cells { All (HasBarCell layout) line.now.info.annotations.items }
     requires labels { All (λ e. IfSome e.label (λ t. TextFits t.now)) line.now.info.annotations.items }
-    requires room { All (HasBarRoom layout) open_bars.now }
-    ensures added { OnOk result (AddsLine layout view.margin view.numbers view.closes open_bars.now line.now.info
-        buffer.old buffer.new) }
-    ensures bars { IfOk result (λ bars. bars.items ≡ open_below open_bars.now line.now.info.annotations.items) }
+    requires room { All (HasBarRoom layout) bars.open_bars.items }
+    ensures added { OnOk result (AddsLine layout view.margin view.numbers view.closes bars.open_bars.items
+        line.now.info buffer.old buffer.new) }
+    ensures bars { IfOk result (λ below. below.open_bars.items
+        ≡ open_below bars.open_bars.items line.now.info.annotations.items) }
 {
-    let info = &line.info;
-    let ends = ends_on(alloc, &info.annotations)?;
-    let mut below = bars_apart(alloc, open_bars, &ends)?;
+    let BarLists {
+        open_bars,
+        ends,
+        spare,
+    } = bars;
+    let ends = ends_on(ends, &line.info.annotations)?;
+    let mut below = bars_apart(spare, &open_bars, &ends)?;
     let beside = Beside {
         tops: &ends,
         past: &below,
     };
     draw_line_rows(alloc, buffer, layout, view, line, beside)?;
-    add_bars_apart(&mut below, &ends, open_bars)?;
-    Ok(below)
+    add_bars_apart(&mut below, &ends, &open_bars)?;
+    Ok(BarLists {
+        open_bars: below,
+        ends,
+        spare: open_bars,
+    })
 }
 
 /// Draws the rows of a line, beside which some bars start or end, and others run past.
