@@ -145,9 +145,29 @@ fn place_of(kept: &[usize], first: usize, number: usize) -> Option<usize>
     ensures none { IfNone result ((k : ℕ) → k < length kept.now → first + slice_index_or kept.now k 0 ≢ number) }
 {
     let index = number.checked_sub(first)?;
+    if let Some(at) = place_from_first(kept, index) {
+        return Some(at);
+    }
     match kept.binary_search(&index) {
         Ok(at) => Some(at),
         Err(_) => None,
+    }
+}
+
+/// At which place a line is among these lines, if as many lines are between the first of them and it as places. Mostly
+/// all lines are kept from the first one on.
+fn place_from_first(kept: &[usize], line: usize) -> Option<usize>
+    ensures found { IfSome result (λ at. at < length kept.now) }
+    ensures line { IfSome result (λ at. slice_index_or kept.now at 0 ≡ line) }
+{
+    if kept.is_empty() || line < kept[0] {
+        return None;
+    }
+    let at = line - kept[0];
+    if at < kept.len() && kept[at] == line {
+        Some(at)
+    } else {
+        None
     }
 }
 

@@ -33,7 +33,7 @@ pub fn with_lines_between<'a>(
         → map seen_kept (infos_of shown.items) ≡ map (kept_line source.now marks)
         (shown_lines fold source.now.text marks)) }
 {
-    let mut shown = Vec::new(alloc);
+    let mut shown = Vec::with_capacity(alloc, kept.len())?;
     let mut before = None;
     for info in kept {
         let number = info.line_index;

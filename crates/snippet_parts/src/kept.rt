@@ -193,7 +193,7 @@ fn merged_lines(
     ensures value { IfOk result (λ lines. lines.items
         ≡ filter (is_held stretches.now) (range_with_len 0 count)) }
 {
-    let mut lines = Vec::new(alloc);
+    let mut lines = Vec::with_capacity(alloc, stretches.len())?;
     let mut next = 0;
     for stretch in stretches {
         let from = stretch.first.max(next).min(count);

@@ -109,7 +109,7 @@ fn long_span<'a>(span: &LocatedSpan<'a>) -> LongSpan<'a>
 pub(crate) fn places(alloc: Global, spans: &[LongSpan<'_>]) -> Result<Vec<LongExtent>, AllocError>
     ensures value { IfOk result (λ places. places.items ≡ map (λ span. spec.long_place (seen_long span)) spans.now) }
 {
-    let mut places = Vec::new(alloc);
+    let mut places = Vec::with_capacity(alloc, spans.len())?;
     for span in spans {
         places.push(span.place())?;
     }

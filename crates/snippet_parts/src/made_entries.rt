@@ -18,6 +18,9 @@ use crate::span_entries::{push_span_entries, single_entries};
 use snippet_model::snippet::AnnotationKind;
 use std::alloc::{AllocError, Global};
 
+/// How many entries a span of several lines has at most: its start, four bars and its end.
+const MOST_ENTRIES: usize = 6;
+
 /// The greatest depth of spans of several lines, and the entries of all spans: those of spans on one line as given,
 /// then those of each span of several lines.
 ///
@@ -36,6 +39,7 @@ pub(crate) fn made_entries<'a>(
     let spans = long_spans(alloc, located)?;
     let places = places(alloc, &spans)?;
     let (greatest, depths) = depths(alloc, &places)?;
+    entries.reserve(spans.len().saturating_mul(MOST_ENTRIES))?;
     push_long_entries(&mut entries, source, &spans, &depths)?;
     Ok((greatest, entries))
 }

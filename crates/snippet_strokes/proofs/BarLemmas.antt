@@ -144,7 +144,7 @@ BarsDrawn-with_bar layout stroke bar row room =
     (omega (arith, room.1)) (All-cons (IsBarCell layout.decor) part [] is (All-nil (IsBarCell layout.decor)))
     (All-cons IsFreeCell part [] free (All-nil IsFreeCell)))
 
-BarsDrawn-with_bars : (layout : Layout) (stroke : BarStroke) (bars : List OpenBar) (row : List Cell) → All (HasBarRoom layout) bars
+pub BarsDrawn-with_bars : (layout : Layout) (stroke : BarStroke) (bars : List OpenBar) (row : List Cell) → All (HasBarRoom layout) bars
     → BarsDrawn layout row (with_bars layout stroke bars row)
 BarsDrawn-with_bars layout stroke [] row room = BarsDrawn-none layout row
 BarsDrawn-with_bars layout stroke (bar ∷ bars) row room =

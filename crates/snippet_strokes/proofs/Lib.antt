@@ -6,6 +6,7 @@ pub mod BarLemmas
 pub mod BarRows
 pub mod BarWrites
 pub mod BegunLemmas
+pub mod BesideLemmas
 pub mod BlankLemmas
 pub mod CellLemmas
 pub mod CrossedLaws

@@ -1,6 +1,6 @@
 -- A glyph that is repeated.
-use Rattle.std.proofs.Common.{◌≡◌, ℕ, zero, suc, ◌<◌, List, [], ◌∷◌, ◌++◌, length, replicate, refl, subst, sym, ap, ◌∙◌, arith}
-use Rattle.std.proofs.lemmas.List.{get_or-replicate, length-replicate}
+use Rattle.std.proofs.Common.{◌≡◌, ℕ, zero, suc, ◌+◌, ◌<◌, List, [], ◌∷◌, ◌++◌, length, replicate, refl, subst, sym, ap, ◌∙◌, arith}
+use Rattle.std.proofs.lemmas.List.{get_or-replicate, length-replicate, replicate-append-replicate}
 use Rattle.std.proofs.lemmas.Str.{chars_from_encodes, chars-nil}
 use Rattle.std.proofs.lemmas.Str.Ascii.{IsAscii-from_all}
 use Rattle.std.specs.List.{repeat}
@@ -32,3 +32,9 @@ pub IsAscii-replicate : (n ch : ℕ) → ch < 128 → IsAscii (replicate n ch)
 IsAscii-replicate n ch small =
     IsAscii-from_all (replicate n ch) (λ k d within. subst (λ b. b < 128)
     (sym (get_or-replicate n k ch d (omega (arith, within, length-replicate {A = ℕ} n ch)))) small)
+
+-- more of the same glyph
+pub glyphs_more : (old new added : List ℕ) (glyph m n all : ℕ) → m + n ≡ all → old ≡ replicate m glyph → added ≡ replicate n glyph → new ≡ old ++ added
+    → new ≡ replicate all glyph
+glyphs_more old new added glyph m n all sum had more pushed =
+    pushed ∙ ap (λ t. t ++ added) had ∙ ap (λ t. replicate m glyph ++ t) more ∙ replicate-append-replicate m n glyph ∙ ap (λ k. replicate k glyph) sum

@@ -52,7 +52,7 @@ no_number layout plain es closes row is c left =
     ap (λ (cell : Cell). is_ascii_alphanumeric cell.ch) (is.left c (omega (arith, left)) ∙ bare_row_left layout.decor layout.gutter closes c left)
 
 -- a grid of which only the last row changed
-last_changed : (old begun new : List (List Cell)) (row : ℕ) (first : List Cell) → row ≡ length old → begun ≡ old ++ first ∷ [] → length new ≡ length begun
+pub last_changed : (old begun new : List (List Cell)) (row : ℕ) (first : List Cell) → row ≡ length old → begun ≡ old ++ first ∷ [] → length new ≡ length begun
     → ((r : ℕ) → r ≢ row → row_at new r ≡ row_at begun r) → new ≡ old ++ row_at new row ∷ []
 last_changed old begun new row first last begins count others =
     let changed = row_at new row in

@@ -11,7 +11,7 @@ use Rattle.snippet_style.specs.Cell.{Cell, SPACE, text_cells, written}
 use Rattle.snippet_strokes.specs.Writes.{Write, painted, written_by}
 
 -- cells of a row that end before others begin may be written after them
-written-swap : (row xs ys : List Cell) (at from : ℕ) → at + length xs ≤ from
+pub written-swap : (row xs ys : List Cell) (at from : ℕ) → at + length xs ≤ from
     → written SPACE (written SPACE row at xs) from ys ≡ written SPACE (written SPACE row from ys) at xs
 written-swap row xs ys at from left =
     let low : List Cell = written SPACE row at xs in
@@ -51,7 +51,7 @@ written-swap row xs ys at from left =
     ])
 
 -- so may cells of a grid, of whatever rows
-cells-swap : (rows : List (List Cell)) (r q at from : ℕ) (xs ys : List Cell) → at + length xs ≤ from
+pub cells-swap : (rows : List (List Cell)) (r q at from : ℕ) (xs ys : List Cell) → at + length xs ≤ from
     → cells_written (cells_written rows r at xs) q from ys ≡ cells_written (cells_written rows q from ys) r at xs
 cells-swap rows r q at from xs ys left =
     let low : List (List Cell) = cells_written rows r at xs in

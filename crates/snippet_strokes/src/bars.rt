@@ -59,15 +59,19 @@ impl BarStroke {
     }
 }
 
-/// The bars of the starts and ends on a line.
+/// The bars of the starts and ends on a line, in the room of another list.
 ///
 /// # Errors
 ///
 /// There is no memory for the list.
-pub(crate) fn ends_on(alloc: Global, entries: &[LineAnnotation]) -> Result<Vec<OpenBar>, AllocError>
+pub(crate) fn ends_on(
+    room: Vec<OpenBar>,
+    entries: &[LineAnnotation],
+) -> Result<Vec<OpenBar>, AllocError>
     ensures value { IfOk result (λ bars. bars.items ≡ ends_of_bars entries.now) }
 {
-    let mut bars = Vec::new(alloc);
+    let mut bars = room;
+    bars.clear();
     for entry in entries {
         if let Some(bar) = bar_of(entry) {
             bars.push(bar)?;
@@ -91,19 +95,21 @@ fn bar_of(entry: &LineAnnotation) -> Option<OpenBar>
     }
 }
 
-/// The bars whose depth none of the others has, with room for the others.
+/// The bars whose depth none of the others has, with room for the others, in the room of another list.
 ///
 /// # Errors
 ///
 /// There is no memory for the list.
 pub(crate) fn bars_apart(
-    alloc: Global,
+    room: Vec<OpenBar>,
     bars: &[OpenBar],
     others: &[OpenBar],
 ) -> Result<Vec<OpenBar>, AllocError>
     ensures value { IfOk result (λ apart. apart.items ≡ spec.bars_apart bars.now others.now) }
 {
-    let mut apart = Vec::with_capacity(alloc, bars.len().saturating_add(others.len()))?;
+    let mut apart = room;
+    apart.clear();
+    apart.reserve(bars.len().saturating_add(others.len()))?;
     add_bars_apart(&mut apart, bars, others)?;
     Ok(apart)
 }
@@ -146,7 +152,28 @@ fn has_depth(bars: &[OpenBar], depth: usize) -> bool
 /// # Errors
 ///
 /// There is no memory for the cells.
+#[inline(always)]
 pub(crate) fn draw_bars(
+    alloc: Global,
+    buffer: &mut StyledBuffer,
+    layout: Layout,
+    row: usize,
+    bars: &[OpenBar],
+    stroke: BarStroke,
+) -> Result<(), AllocError>
+    requires room { All (HasBarRoom layout) bars.now }
+    ensures value { OnOk result (buffer.new ≡ barred layout stroke bars.now row buffer.old) }
+{
+    // Most lines have no bars beside them.
+    if bars.is_empty() {
+        return Ok(());
+    }
+    draw_sides(alloc, buffer, layout, row, bars, stroke)
+}
+
+/// Draws a part of some bars in each row from this one on, those that stand side by side at a time.
+#[inline(never)]
+fn draw_sides(
     alloc: Global,
     buffer: &mut StyledBuffer,
     layout: Layout,

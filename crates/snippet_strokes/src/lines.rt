@@ -34,6 +34,11 @@ const BARS: &str = concat!(
     "||||||||||||||||||||||||||||||||||||||||||||||||||||||||||||||||",
 );
 
+const SLASHES: &str = concat!(
+    "////////////////////////////////////////////////////////////////",
+    "////////////////////////////////////////////////////////////////",
+);
+
 /// A strip of a glyph, if there is one.
 fn strip_of(glyph: char) -> Option<&'static str>
     ensures value { IfSome result (λ strip. strip.now ≡ replicate 128 glyph) }
@@ -44,6 +49,7 @@ fn strip_of(glyph: char) -> Option<&'static str>
         '-' => Some(DASHES),
         '_' => Some(CONNECTORS),
         '|' => Some(BARS),
+        '/' => Some(SLASHES),
         _ => None,
     }
 }
@@ -54,11 +60,12 @@ fn first_of(strip: &'static str, glyph: char, count: usize) -> &'static str
     requires ascii { glyph < 128 }
     requires within { count ≤ 128 }
     ensures value { chars result.now ≡ replicate count glyph }
+    ensures bytes { result.now ≡ replicate count glyph }
 {
     &strip[..count]
 }
 
-/// A text that holds a glyph this many times: a part of a strip, where there is one that is long enough.
+/// A text that holds a glyph this many times: a part of a strip, where there is one that is long enough, or several.
 ///
 /// # Errors
 ///
@@ -66,12 +73,34 @@ fn first_of(strip: &'static str, glyph: char, count: usize) -> &'static str
 pub fn repeated(alloc: Global, glyph: char, count: usize) -> Result<CowStr<'static>, AllocError>
     ensures value { IfOk result (λ text. chars (cow_str_bytes text) ≡ replicate count glyph) }
 {
-    if count <= STRIP
-        && let Some(strip) = strip_of(glyph)
-    {
+    let Some(strip) = strip_of(glyph) else {
+        return Ok(CowStr::Owned(made(alloc, glyph, count)?));
+    };
+    if count <= STRIP {
         return Ok(CowStr::Borrowed(first_of(strip, glyph, count)));
     }
-    Ok(CowStr::Owned(made(alloc, glyph, count)?))
+    Ok(CowStr::Owned(joined_strips(alloc, strip, glyph, count)?))
+}
+
+/// A text that holds a glyph this many times, made of strips.
+fn joined_strips(
+    alloc: Global,
+    strip: &'static str,
+    glyph: char,
+    count: usize,
+) -> Result<String, AllocError>
+    requires strip { strip.now ≡ replicate 128 glyph }
+    requires ascii { glyph < 128 }
+    ensures value { IfOk result (λ text. chars (string_bytes text) ≡ replicate count glyph) }
+{
+    let mut text = String::with_capacity(alloc, count)?;
+    let mut left = count;
+    while left > STRIP {
+        text.push_str(strip)?;
+        left -= STRIP;
+    }
+    text.push_str(first_of(strip, glyph, left))?;
+    Ok(text)
 }
 
 /// A text that holds a glyph this many times.

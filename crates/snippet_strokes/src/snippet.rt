@@ -1,12 +1,13 @@
 //! The rows of a snippet: those of each line that is shown.
-ghost use Rattle.std.specs.Prelude.{◌≡◌, ◌+◌, ◌≤◌, ◌++◌, ◌∷◌, [], false, List, All, IfOk, IfSome, OnOk};
+ghost use Rattle.std.specs.Prelude.{◌≡◌, ◌+◌, ◌≤◌, ◌++◌, ◌∷◌, [], false, true, List, All, IfOk, IfSome, OnOk};
 ghost use Rattle.std.specs.Prelude.{chars, length, map};
 ghost use Rattle.snippet_window.specs.Measures.{StandsClear};
 ghost use Rattle.snippet_parts.specs.Entries.{is_bar};
 ghost use Rattle.snippet_parts.specs.ShownLines.{infos_of};
 ghost use Rattle.snippet_labels.specs.PlacedEntries.{HasPlace, shifted};
 ghost use Rattle.snippet_strokes.specs.EntryMarks.{HasBarCell};
-ghost use Rattle.snippet_strokes.specs.Bars.{HasBarRoom, ends_of_bars, open_below};
+ghost use Rattle.snippet_strokes.specs.Bars as spec;
+ghost use Rattle.snippet_strokes.specs.Bars.{Bar, HasBarRoom, bars_apart, ends_of_bars, has_depth, open_below};
 ghost use Rattle.snippet_lines.specs.Number.{shown_number};
 ghost use Rattle.snippet_strokes.specs.LineRows.{AddsOwnRows};
 ghost use Rattle.snippet_strokes.specs.StrokeRows.{AddsStrokes, HasNoBars};
@@ -19,7 +20,7 @@ ghost use Rattle.snippet_text.specs.TextBounds.{TextFits};
 use crate::bars::{BarStroke, OpenBar, add_bars_apart, bars_apart, draw_bars, ends_on};
 use crate::elision::draw_gap;
 use crate::highlight::highlight_source;
-use crate::source_row::draw_source_row;
+use crate::source_row::{Beside, draw_source_row};
 use crate::strokes::{StrokePlace, draw_strokes};
 use crate::whole_line::is_whole_line;
 use snippet_grid::{Layout, StyledBuffer};
@@ -37,6 +38,16 @@ pub struct LineView {
     pub numbers: LineNumbers,
     /// Whether the group's window closes with the last of them.
     pub closes: bool,
+}
+
+/// Lists of bars, which keep their room from line to line.
+#[derive(Drop)]
+struct BarLists {
+    /// The bars that are open below the lines that are drawn.
+    open_bars: Vec<OpenBar>,
+    /// Room for those that start or end on a line, and for those that are open below it: what is in it means nothing.
+    ends: Vec<OpenBar>,
+    spare: Vec<OpenBar>,
 }
 
 /// Draws the lines of a snippet below all that stands in the grid: for each line its source row and its strokes. Where
@@ -81,12 +92,16 @@ pub fn draw_snippet(
     ensures added { OnOk result (AddsSnippet layout view.margin view.numbers view.closes (infos_of lines.now)
         buffer.old buffer.new) }
 {
-    let mut open_bars = Vec::new(alloc);
+    let mut bars = BarLists {
+        open_bars: Vec::new(alloc),
+        ends: Vec::new(alloc),
+        spare: Vec::new(alloc),
+    };
     for i in 0..lines.len() {
         let closes = view.closes && i + 1 == lines.len();
         let line = &lines[i];
         let shown = LineView { closes, ..view };
-        open_bars = draw_line(alloc, buffer, layout, shown, line, &open_bars)?;
+        bars = draw_line(alloc, buffer, layout, shown, line, bars)?;
         let after = &lines[i + 1..];
         draw_gap(
             alloc,
@@ -94,7 +109,7 @@ pub fn draw_snippet(
             layout,
             line.info.line_index,
             after,
-            &open_bars,
+            &bars.open_bars,
         )?;
     }
     Ok(())
@@ -113,8 +128,8 @@ fn draw_line(
     layout: Layout,
     view: LineView,
     line: &ShownLine,
-    open_bars: &[OpenBar],
-) -> Result<Vec<OpenBar>, AllocError>
+    bars: BarLists,
+) -> Result<BarLists, AllocError>
     requires number { length (shown_number view.numbers layout.gutter line.now.info.line_index) ≤
         separator_cell layout }
     requires text { TextFits line.now.info.line.now }
@@ -122,37 +137,135 @@ fn draw_line(
     requires clear { All (StandsClear view.margin) line.now.info.annotations.items }
     requires bar_cells { All (HasBarCell layout) line.now.info.annotations.items }
     requires labels { All (λ e. IfSome e.label (λ t. TextFits t.now)) line.now.info.annotations.items }
-    requires room { All (HasBarRoom layout) open_bars.now }
-    ensures added { OnOk result (AddsLine layout view.margin view.numbers view.closes open_bars.now line.now.info
-        buffer.old buffer.new) }
-    ensures bars { IfOk result (λ bars. bars.items ≡ open_below open_bars.now line.now.info.annotations.items) }
+    requires room { All (HasBarRoom layout) bars.open_bars.items }
+    ensures added { OnOk result (AddsLine layout view.margin view.numbers view.closes bars.open_bars.items
+        line.now.info buffer.old buffer.new) }
+    ensures bars { IfOk result (λ below. below.open_bars.items
+        ≡ open_below bars.open_bars.items line.now.info.annotations.items) }
 {
-    let (row, dropped) = draw_source_row(alloc, buffer, layout, view.numbers, view.margin, line)?;
+    let BarLists {
+        open_bars,
+        ends,
+        spare,
+    } = bars;
+    let ends = ends_on(ends, &line.info.annotations)?;
+    let mut below = bars_apart(spare, &open_bars, &ends)?;
+    let beside = Beside {
+        tops: &ends,
+        past: &below,
+    };
+    draw_line_rows(alloc, buffer, layout, view, line, beside)?;
+    add_bars_apart(&mut below, &ends, &open_bars)?;
+    Ok(BarLists {
+        open_bars: below,
+        ends,
+        spare: open_bars,
+    })
+}
+
+/// Draws the rows of a line, beside which some bars start or end, and others run past.
+fn draw_line_rows(
+    alloc: Global,
+    buffer: &mut StyledBuffer,
+    layout: Layout,
+    view: LineView,
+    line: &ShownLine,
+    beside: Beside<'_>,
+) -> Result<(), AllocError>
+    requires number { length (shown_number view.numbers layout.gutter line.now.info.line_index) ≤
+        separator_cell layout }
+    requires text { TextFits line.now.info.line.now }
+    requires columns { All HasPlace line.now.info.annotations.items }
+    requires clear { All (StandsClear view.margin) line.now.info.annotations.items }
+    requires bar_cells { All (HasBarCell layout) line.now.info.annotations.items }
+    requires labels { All (λ e. IfSome e.label (λ t. TextFits t.now)) line.now.info.annotations.items }
+    requires ends { beside.tops.now ≡ ends_of_bars line.now.info.annotations.items }
+    requires past { All (HasBarRoom layout) beside.past.now }
+    requires apart { All (λ bar. has_depth beside.tops.now bar.depth ≡ false) beside.past.now }
+    ensures added { OnOk result ((above : List Bar)
+        → beside.entry.past.now ≡ bars_apart above (ends_of_bars line.now.info.annotations.items)
+        → AddsLine layout view.margin view.numbers view.closes above line.now.info buffer.old buffer.new) }
+{
+    let info = &line.info;
+    if is_whole_line(info.line, &info.annotations) {
+        return draw_whole_line(alloc, buffer, layout, view, line, beside);
+    }
+    draw_marked_line(alloc, buffer, layout, view, line, beside.past)
+}
+
+/// Draws the row of a line that is marked as a whole, with the tops of its bars and those that run past beside it. It
+/// has no strokes else.
+fn draw_whole_line(
+    alloc: Global,
+    buffer: &mut StyledBuffer,
+    layout: Layout,
+    view: LineView,
+    line: &ShownLine,
+    beside: Beside<'_>,
+) -> Result<(), AllocError>
+    requires number { length (shown_number view.numbers layout.gutter line.now.info.line_index) ≤
+        separator_cell layout }
+    requires text { TextFits line.now.info.line.now }
+    requires clear { All (StandsClear view.margin) line.now.info.annotations.items }
+    requires whole { spec.is_whole_line (norm (chars line.now.info.line.now)) line.now.info.annotations.items ≡ true }
+    requires ends { beside.tops.now ≡ ends_of_bars line.now.info.annotations.items }
+    requires tops { All (HasBarRoom layout) beside.tops.now }
+    requires past { All (HasBarRoom layout) beside.past.now }
+    requires apart { All (λ bar. has_depth beside.tops.now bar.depth ≡ false) beside.past.now }
+    ensures added { OnOk result ((above : List Bar)
+        → beside.entry.past.now ≡ bars_apart above (ends_of_bars line.now.info.annotations.items)
+        → AddsLine layout view.margin view.numbers view.closes above line.now.info buffer.old buffer.new) }
+{
+    let (row, dropped) = draw_source_row(alloc, buffer, layout, view, line, beside)?;
+    highlight_source(buffer, layout, dropped, row, &line.info.annotations)
+}
+
+/// Draws the rows of a line that isn't marked as a whole, with the bars that run past beside them.
+fn draw_marked_line(
+    alloc: Global,
+    buffer: &mut StyledBuffer,
+    layout: Layout,
+    view: LineView,
+    line: &ShownLine,
+    past: &[OpenBar],
+) -> Result<(), AllocError>
+    requires number { length (shown_number view.numbers layout.gutter line.now.info.line_index) ≤
+        separator_cell layout }
+    requires text { TextFits line.now.info.line.now }
+    requires columns { All HasPlace line.now.info.annotations.items }
+    requires clear { All (StandsClear view.margin) line.now.info.annotations.items }
+    requires bar_cells { All (HasBarCell layout) line.now.info.annotations.items }
+    requires labels { All (λ e. IfSome e.label (λ t. TextFits t.now)) line.now.info.annotations.items }
+    requires other { spec.is_whole_line (norm (chars line.now.info.line.now)) line.now.info.annotations.items ≡ false }
+    requires past { All (HasBarRoom layout) past.now }
+    ensures added { OnOk result ((above : List Bar)
+        → past.now ≡ bars_apart above (ends_of_bars line.now.info.annotations.items)
+        → AddsLine layout view.margin view.numbers view.closes above line.now.info buffer.old buffer.new) }
+{
+    let none = Beside {
+        tops: &[],
+        past: &[],
+    };
+    let (row, dropped) = draw_source_row(alloc, buffer, layout, view, line, none)?;
     let info = &line.info;
     highlight_source(buffer, layout, dropped, row, &info.annotations)?;
-    let ends = ends_on(alloc, &info.annotations)?;
     let place = StrokePlace {
         row,
         dropped,
         room: view.margin.term_width,
         closes: view.closes,
     };
-    draw_entries(alloc, buffer, layout, place, info, &ends)?;
-    let mut below = bars_apart(alloc, open_bars, &ends)?;
-    draw_bars(alloc, buffer, layout, row, &below, BarStroke::Solid)?;
-    add_bars_apart(&mut below, &ends, open_bars)?;
-    Ok(below)
+    draw_entries(alloc, buffer, layout, place, info)?;
+    draw_bars(alloc, buffer, layout, row, past, BarStroke::Solid)
 }
 
-/// Draws the strokes of a line, where these bars start or end on it. Its source row is the last row of the grid. A line
-/// that is marked as a whole has no strokes but the tops of its bars.
+/// Draws the strokes of a line that isn't marked as a whole. Its source row is the last row of the grid.
 fn draw_entries(
     alloc: Global,
     buffer: &mut StyledBuffer,
     layout: Layout,
     place: StrokePlace,
     info: &AnnotatedLineInfo,
-    ends: &[OpenBar],
 ) -> Result<(), AllocError>
     requires last { length buffer.old ≡ place.row + 1 }
     requires columns { All HasPlace info.now.annotations.items }
@@ -160,7 +273,7 @@ fn draw_entries(
         → place.dropped ≤ e.start.display) info.now.annotations.items }
     requires bar_cells { All (HasBarCell layout) info.now.annotations.items }
     requires labels { All (λ e. IfSome e.label (λ t. TextFits t.now)) info.now.annotations.items }
-    requires ends { ends.now ≡ ends_of_bars info.now.annotations.items }
+    requires other { spec.is_whole_line (norm (chars info.now.line.now)) info.now.annotations.items ≡ false }
     ensures added { OnOk result ((above : List (List Cell)) (plain : List Cell) → buffer.old ≡ above ++ plain ∷ []
         → HasNoBars layout plain
         → AddsStrokes layout place.room (map (shifted place.dropped) info.now.annotations.items) place.closes above
@@ -169,8 +282,5 @@ fn draw_entries(
         → AddsOwnRows layout place.room place.closes (norm (chars info.now.line.now)) place.dropped
         info.now.annotations.items above source buffer.new) }
 {
-    if is_whole_line(info.line, &info.annotations) {
-        return draw_bars(alloc, buffer, layout, place.row, ends, BarStroke::Top);
-    }
     draw_strokes(alloc, buffer, layout, place, &info.annotations)
 }

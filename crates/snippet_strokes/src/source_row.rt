@@ -1,7 +1,11 @@
 //! The row that shows a line of the source.
-ghost use Rattle.std.specs.Prelude.{◌≡◌, ◌+◌, ◌<◌, ◌≤◌, ◌++◌, ◌∷◌, [], IfOk, IfSome, List, OnOk, chars, false};
+ghost use Rattle.std.specs.Prelude.{◌≡◌, ◌+◌, ◌<◌, ◌≤◌, ◌++◌, ◌∷◌, [], All, IfOk, IfSome, List, OnOk, chars, false};
 ghost use Rattle.std.specs.Prelude.{length};
-ghost use Rattle.snippet_style.specs.Cell.{Cell};
+ghost use Rattle.snippet_style.specs.Cell.{Cell, SPACE, text_cells, written};
+ghost use Rattle.snippet_style.specs.Separators.{separator_row};
+ghost use Rattle.snippet_style.specs.declared.role.ElementStyle.TheVariants.{LineNumber};
+ghost use Rattle.snippet_strokes.specs.Bars.{HasBarRoom, barred, has_depth};
+ghost use Rattle.snippet_strokes.specs.declared.bars.BarStroke.TheVariants.{Solid, Top};
 ghost use Rattle.std.specs.Cow.{cow_str_bytes};
 ghost use Rattle.std.specs.List.{list_any};
 ghost use Rattle.snippet_window.specs.Margin.{bounds_of};
@@ -13,22 +17,38 @@ ghost use Rattle.snippet_strokes.specs.SourceRows.{AddsSourceRow, begun_cells, e
 ghost use Rattle.snippet_strokes.specs.SourceRows.{with_cells};
 ghost use Rattle.snippet_text.specs.Normalized.{is_listed, norm};
 ghost use Rattle.snippet_text.specs.Width.{width_of};
-ghost use Rattle.snippet_grid.specs.Layout.{separator_cell};
+ghost use Rattle.snippet_grid.specs.Layout.{inner_cell, separator_cell};
 ghost use Rattle.snippet_text.specs.TextBounds.{TextFits};
-ghost use Rattle.snippet_style.specs.Bounds.{FitsRow, HasNext, IsTextWidth, IsWindowColumn, IsWindowEnd};
+ghost use Rattle.snippet_style.specs.Bounds.{FitsRow, HasNext, IsRowNumber, IsTextWidth, IsWindowColumn, IsWindowEnd};
 
-use crate::row::begin_row;
+use crate::bars::{BarStroke, OpenBar, draw_bars};
+use crate::snippet::LineView;
 use itoa::Buffer;
 use snippet_grid::{Layout, StyledBuffer};
 use snippet_lines::{LineNumbers, number_text};
 use snippet_parts::ShownLine;
 use snippet_style::ElementStyle;
 use snippet_text::{CowStr, normalized};
-use snippet_window::{LineWindow, Margin, near_part, window_of};
+use snippet_window::{LineWindow, near_part, window_of};
 use std::alloc::{AllocError, Global};
 
-/// Draws the source row of a line below all that stands in the grid: the part of the line between the bounds of a
-/// margin. It gives the row's number, and how many columns of the line are dropped on the left.
+/// The bars that are drawn with a source row: tops, and such that run past it. None of these has the depth of a top.
+#[derive(Clone, Copy, Debug)]
+pub(crate) struct Beside<'b> {
+    pub(crate) tops: &'b [OpenBar],
+    pub(crate) past: &'b [OpenBar],
+}
+
+/// The texts of a source row: what the gutter shows, the placeholder for what is cut, and what is shown of the line.
+#[derive(Clone, Copy)]
+struct SourceTexts<'t> {
+    number: &'t str,
+    placeholder: &'t str,
+    window: LineWindow<'t>,
+}
+
+/// Draws the source row of a line below all that stands in the grid, with some bars beside it: the part of the line
+/// between the bounds of a margin. It gives the row's number, and how many columns of the line are dropped on the left.
 ///
 /// ```text
 ///     1 | let x = 1;
@@ -42,36 +62,54 @@ pub fn draw_source_row(
     alloc: Global,
     buffer: &mut StyledBuffer,
     layout: Layout,
-    numbers: LineNumbers,
-    margin: Margin,
+    view: LineView,
     line: &ShownLine,
+    beside: Beside<'_>,
 ) -> Result<(usize, usize), AllocError>
-    requires number { length (shown_number numbers layout.gutter line.now.info.line_index) ≤ separator_cell layout }
+    requires number { length (shown_number view.numbers layout.gutter line.now.info.line_index) ≤
+        separator_cell layout }
     requires text { TextFits line.now.info.line.now }
-    ensures added { OnOk result (AddsSourceRow layout (shown_number numbers layout.gutter line.now.info.line_index)
-        (window_cells layout.decor margin (norm (chars line.now.info.line.now))) buffer.old buffer.new) }
-    ensures short { OnOk result (IsWindowEnd (length (window_cells layout.decor margin
+    requires tops { All (HasBarRoom layout) beside.tops.now }
+    requires past { All (HasBarRoom layout) beside.past.now }
+    requires apart { All (λ bar. has_depth beside.tops.now bar.depth ≡ false) beside.past.now }
+    ensures added { OnOk result ((bare : List (List Cell))
+        × AddsSourceRow layout (shown_number view.numbers layout.gutter line.now.info.line_index)
+        (window_cells layout.decor view.margin (norm (chars line.now.info.line.now))) buffer.old bare
+        × (buffer.new ≡ barred layout Solid beside.entry.past.now (length buffer.old)
+        (barred layout Top beside.entry.tops.now (length buffer.old) bare))) }
+    ensures short { OnOk result (IsWindowEnd (length (window_cells layout.decor view.margin
         (norm (chars line.now.info.line.now))))) }
     ensures row { IfOk result (λ at. at.0 ≡ length buffer.old) }
     ensures dropped { IfOk result (λ at.
-        at.1 ≡ width_of (dropped_part (bounds_of margin).left (norm (chars line.now.info.line.now)))) }
-    ensures near { IfOk result (λ at. at.1 < (bounds_of margin).left + 4) }
-    ensures uncut { IfOk result (λ at. (bounds_of margin).left ≡ 0 → at.1 ≡ 0) }
+        at.1 ≡ width_of (dropped_part (bounds_of view.margin).left (norm (chars line.now.info.line.now)))) }
+    ensures near { IfOk result (λ at. at.1 < (bounds_of view.margin).left + 4) }
+    ensures uncut { IfOk result (λ at. (bounds_of view.margin).left ≡ 0 → at.1 ≡ 0) }
     ensures few { IfOk result (λ at. IsWindowColumn at.1) }
 {
     let mut digits = Buffer::new();
     let number = number_beside(
         alloc,
         &mut digits,
-        numbers,
+        view.numbers,
         layout.gutter,
         line.info.line_index,
     )?;
-    let near = near_part(margin, line.info.line, line.width);
+    let near = near_part(view.margin, line.info.line, line.width);
     let text = normalized(alloc, near.text)?;
     let placeholder = layout.decor.placeholder();
-    let window = window_of(margin, placeholder, near.skipped, text.as_str(), line.width);
-    let row = write_source_row(buffer, layout, number.as_str(), placeholder, window)?;
+    let window = window_of(
+        view.margin,
+        placeholder,
+        near.skipped,
+        text.as_str(),
+        line.width,
+    );
+    let texts = SourceTexts {
+        number: number.as_str(),
+        placeholder,
+        window,
+    };
+    let row = write_source_row(alloc, buffer, layout, texts, beside)?;
     Ok((row, window.dropped))
 }
 
@@ -109,32 +147,71 @@ fn digits_beside<'b>(
     Ok(CowStr::Owned(number_text(alloc, LineNumbers::Shown, gutter, number)?))
 }
 
-/// Writes a source row of these texts, which hold no listed character.
+/// Writes a source row of these texts, which hold no listed character, from left to right: the number and the
+/// separator, the bars, and the window.
 fn write_source_row(
+    alloc: Global,
+    buffer: &mut StyledBuffer,
+    layout: Layout,
+    texts: SourceTexts<'_>,
+    beside: Beside<'_>,
+) -> Result<usize, AllocError>
+    requires number { length (chars texts.number.now) ≤ separator_cell layout }
+    requires number_free { list_any is_listed (chars texts.number.now) ≡ false }
+    requires placeholder { chars texts.placeholder.now ≡ placeholder_of layout.decor }
+    requires start { IfSome texts.window.start (λ columns. IsTextWidth columns) }
+    requires text { FitsRow (chars texts.window.text.now) }
+    requires text_free { list_any is_listed (chars texts.window.text.now) ≡ false }
+    requires end { IfSome texts.window.end (λ at. IsWindowColumn at) }
+    requires tops { All (HasBarRoom layout) beside.tops.now }
+    requires past { All (HasBarRoom layout) beside.past.now }
+    requires apart { All (λ bar. has_depth beside.tops.now bar.depth ≡ false) beside.past.now }
+    ensures added { OnOk result ((bare : List (List Cell)) × AddsSourceRow layout (chars texts.entry.number.now)
+        (shown_cells layout.decor texts.entry.window.start (chars texts.entry.window.text.now) texts.entry.window.end)
+        buffer.old bare × (buffer.new ≡ barred layout Solid beside.entry.past.now (length buffer.old)
+        (barred layout Top beside.entry.tops.now (length buffer.old) bare))) }
+    ensures short { OnOk result (IsWindowEnd (length (shown_cells layout.decor texts.entry.window.start
+        (chars texts.entry.window.text.now) texts.entry.window.end))) }
+    ensures row { IfOk result (λ row. row ≡ length buffer.old) }
+{
+    let window = texts.window;
+    let row = begin_source_row(buffer, layout, texts.number)?;
+    draw_bars(alloc, buffer, layout, row, beside.past, BarStroke::Solid)?;
+    draw_bars(alloc, buffer, layout, row, beside.tops, BarStroke::Top)?;
+    write_beginning(
+        buffer,
+        layout,
+        row,
+        texts.placeholder,
+        window.start,
+        window.text,
+    )?;
+    write_end(buffer, layout, row, texts.placeholder, window.end)?;
+    Ok(row)
+}
+
+/// Begins a source row below all that stands in the grid, with what the gutter shows and the separator, and gives the
+/// row's number.
+fn begin_source_row(
     buffer: &mut StyledBuffer,
     layout: Layout,
     number: &str,
-    placeholder: &str,
-    window: LineWindow,
 ) -> Result<usize, AllocError>
     requires number { length (chars number.now) ≤ separator_cell layout }
-    requires number_free { list_any is_listed (chars number.now) ≡ false }
-    requires placeholder { chars placeholder.now ≡ placeholder_of layout.decor }
-    requires start { IfSome window.start (λ columns. IsTextWidth columns) }
-    requires text { FitsRow (chars window.text.now) }
-    requires text_free { list_any is_listed (chars window.text.now) ≡ false }
-    requires end { IfSome window.end (λ at. IsWindowColumn at) }
-    ensures added { OnOk result (AddsSourceRow layout (chars number.now)
-        (shown_cells layout.decor window.entry.start (chars window.entry.text.now) window.entry.end) buffer.old
-        buffer.new) }
-    ensures short { OnOk result (IsWindowEnd (length (shown_cells layout.decor window.entry.start
-        (chars window.entry.text.now) window.entry.end))) }
+    ensures added { OnOk result (buffer.new ≡ buffer.old
+        ++ written SPACE (separator_row layout.decor layout.gutter) 0 (text_cells LineNumber (chars number.now)) ∷ []) }
     ensures row { IfOk result (λ row. row ≡ length buffer.old) }
+    ensures small { IsRowNumber (length buffer.old) }
+    ensures place { inner_cell layout ≤ layout.code }
 {
-    let row = begin_row(buffer, layout)?;
+    let row = buffer.num_lines();
     buffer.puts(row, 0, number, ElementStyle::LineNumber)?;
-    write_beginning(buffer, layout, row, placeholder, window.start, window.text)?;
-    write_end(buffer, layout, row, placeholder, window.end)?;
+    buffer.putc(
+        row,
+        layout.separator_cell(),
+        layout.decor.separator(),
+        ElementStyle::LineNumber,
+    )?;
     Ok(row)
 }
 

@@ -1,5 +1,8 @@
 -- A text that begins with printable ASCII: each of these bytes is a character of one column.
 use Rattle.std.proofs.Common.{◌≡◌, ℕ, ◌+◌, ◌-◌, ◌<◌, ◌≤◌, List, [], ◌∷◌, ◌++◌, length, take, drop, chars, encode_utf8_all, IsUtf8, All, sym, ap, ◌∙◌, arith}
+use Rattle.std.proofs.Common.{cond, inl, inr, min}
+use Rattle.std.proofs.lemmas.Bool.{cases_lt, lt-leb}
+use Rattle.std.proofs.lemmas.Bool.Decides.{nat_tests}
 use Rattle.std.proofs.lemmas.List.{length-append, length-take-le, take-append-drop}
 use Rattle.std.proofs.lemmas.List.Elements.{All-head, All-tail, All-weaker}
 use Rattle.std.proofs.lemmas.List.Sums.{sum_by-append}
@@ -10,8 +13,8 @@ use Rattle.snippet_style.specs.Cell.{bytes_of}
 use Rattle.snippet_text.specs.Plain.{IsPlain}
 use Rattle.snippet_text.specs.Width.{char_width, width_of}
 use Rattle.snippet_text.proofs.PlainLemmas.{char_width-plain, chars-plain, width_of-all_plain}
-use Rattle.snippet_window.specs.Window.{fitting}
-use Rattle.snippet_window.proofs.LineWindowLemmas.{fitting-cons}
+use Rattle.snippet_window.specs.Window.{fitting, reaching, reaching_last}
+use Rattle.snippet_window.proofs.LineWindowLemmas.{fitting-cons, reaching-cons}
 
 plain_utf8 : (front : List ℕ) → All IsPlain front → IsUtf8 front
 plain_utf8 front all =
@@ -61,6 +64,47 @@ taken_front columns text k within room all =
     (arith, count, room)) in
     ap (λ (cs : List ℕ). take (fitting columns cs) cs) is ∙ ap (λ n. take n (front ++ rest)) more
     ∙ take-append-add front rest (fitting (columns - length front) rest) ∙ ap (λ n. front ++ take (fitting (columns - n) rest) rest) count
+
+-- so many columns are reached by as many of them, and what is left by what stands after them
+reaching_front : (columns : ℕ) (front rest : List ℕ) → All IsPlain front → length front ≤ columns
+    → reaching columns (front ++ rest) ≡ length front + reaching (columns - length front) rest
+reaching_front columns [] rest all room = let same : columns ≡ columns - 0 = omega arith in omega (arith, ap (λ k. reaching k rest) same)
+reaching_front columns (c ∷ cs) rest all room =
+    let one : char_width c ≡ 1 = char_width-plain c (All-head IsPlain c cs all) in
+    let first = reaching-cons columns c (cs ++ rest) (omega (arith, room)) in
+    let further = reaching_front (columns - char_width c) cs rest (All-tail IsPlain c cs all) (omega (arith, one, room)) in
+    let same : columns - char_width c - length cs ≡ columns - length (c ∷ cs) = omega (arith, one) in
+    omega (arith, first, further, ap (λ k. reaching k rest) same)
+
+-- what reaches so many columns: the text's first bytes, and what reaches those that are left after them
+pub reached_front : (columns : ℕ) (text : List ℕ) (k : ℕ) → k ≤ length text → k ≤ columns → All IsPlain (take k text)
+    → take (reaching columns (chars text)) (chars text)
+    ≡ take k text ++ take (reaching (columns - k) (chars (drop k text))) (chars (drop k text))
+reached_front columns text k within room all =
+    let front = take k text in
+    let rest = chars (drop k text) in
+    let count = length-take-le k text within in
+    let is = plain_chars text k all in
+    let more : reaching columns (front ++ rest) ≡ length front + reaching (columns - length front) rest = reaching_front columns front rest all (omega
+    (arith, count, room)) in
+    ap (λ (cs : List ℕ). take (reaching columns cs) cs) is ∙ ap (λ n. take n (front ++ rest)) more
+    ∙ take-append-add front rest (reaching (columns - length front) rest) ∙ ap (λ n. front ++ take (reaching (columns - n) rest) rest) count
+
+-- of printable ASCII as many characters as columns reach these, from the last on
+pub last_plain : (columns : ℕ) (text : List ℕ) → All IsPlain text → reaching_last columns (chars text) ≡ min columns (length text)
+last_plain columns text all = ap (reaching_last columns) (chars-plain text all) ∙ counted columns text all
+  where
+    counted : (columns : ℕ) (cs : List ℕ) → All IsPlain cs → reaching_last columns cs ≡ min columns (length cs)
+    counted columns [] all = omega arith
+    counted columns (c ∷ cs) all =
+        let later : All IsPlain cs = All-tail IsPlain c cs all in
+        let wide : width_of cs ≡ length cs = width_of-all_plain cs later in
+        let rest = counted columns cs later in
+        elim (cases_lt (length cs) columns) [
+          | inl short ↦
+              ap (λ b. cond b (reaching_last columns cs) (length cs + 1)) (lt-leb columns (width_of cs) (omega (arith, wide, short))) ∙ omega (arith, short)
+          | inr long ↦ grind (arith, nat_tests, wide, long, rest)
+        ]
 
 -- the bytes of both, and their columns
 pub bytes_front : (text xs : List ℕ) (k : ℕ) → k ≤ length text → All IsPlain (take k text) → bytes_of (take k text ++ xs) ≡ k + bytes_of xs

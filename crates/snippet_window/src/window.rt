@@ -1,5 +1,6 @@
 //! The window of a line: the part of it that is shown.
-ghost use Rattle.std.specs.Prelude.{◌≡◌, ◌+◌, ◌-◌, ◌<◌, ◌≤◌, IfSome, List, ℕ, take, drop, chars, min};
+ghost use Rattle.std.specs.Prelude.{◌≡◌, ◌+◌, ◌-◌, ◌<◌, ◌≤◌, All, IfSome, List, ℕ, length, take, drop, chars, min};
+ghost use Rattle.snippet_text.specs.Plain.{IsPlain};
 ghost use Rattle.snippet_text.specs.Width.{width_of};
 ghost use Rattle.snippet_window.specs.Margin.{bounds_of};
 ghost use Rattle.snippet_window.specs.NearPart.{IsPartOf};
@@ -11,10 +12,16 @@ ghost use Rattle.snippet_style.specs.Bounds.{FitsRow, IsColumn, IsTextWidth, IsW
 
 use crate::margin::Margin;
 use snippet_style::char_count;
-use snippet_text::{char_width, plain_prefix, str_width};
+use snippet_text::{char_width, is_plain, plain_prefix, str_width};
 
 /// The most bytes that a text may have, whose width is asked for.
 const MOST_BYTES: usize = (1 << 56) - 1;
+
+/// How many bytes a text has at most that is looked at as a whole.
+const SHORT_TEXT: usize = 64;
+
+/// So many columns are as soon walked over.
+const FEW: usize = 8;
 
 /// The window of a line. It is drawn from left to right: the placeholder where lines are cut on the left, then the
 /// text, then the placeholder over the end of the text where the line is cut on the right.
@@ -127,6 +134,18 @@ pub(crate) fn reaching_end(text: &str, columns: usize) -> (usize, usize)
     ensures width { let cs = chars text.now in result.1 ≡ width_of (take (reaching columns cs) cs) }
     ensures near { result.1 < columns + 4 }
 {
+    let plain = plain_start(text, columns);
+    let (at, width) = walked_reaching(&text[plain..], columns - plain);
+    (plain + at, plain + width)
+}
+
+/// The same, found character by character.
+fn walked_reaching(text: &str, columns: usize) -> (usize, usize)
+    requires few { IsColumn columns }
+    ensures bytes { let cs = chars text.now in result.0 ≡ bytes_of (take (reaching columns cs) cs) }
+    ensures width { let cs = chars text.now in result.1 ≡ width_of (take (reaching columns cs) cs) }
+    ensures near { result.1 < columns + 4 }
+{
     let mut at = 0;
     let mut width = 0;
     for c in text.chars() {
@@ -157,7 +176,7 @@ pub(crate) fn fitting_end(text: &str, columns: usize) -> (usize, usize)
     match whole_width(text, columns) {
         Some(width) => (text.len(), width),
         None => {
-            let plain = plain_prefix(text, columns);
+            let plain = plain_start(text, columns);
             let (at, width) = walked_end(&text[plain..], columns - plain);
             (plain + at, plain + width)
         }
@@ -184,6 +203,22 @@ fn walked_end(text: &str, columns: usize) -> (usize, usize)
     (at, columns - left)
 }
 
+/// How many of a text's first bytes are found to be printable ASCII without a walk over them, but not more than a
+/// limit. So many characters stand there, each of one byte and one column.
+fn plain_start(text: &str, limit: usize) -> usize
+    ensures within { result ≤ limit }
+    ensures inside { result ≤ length text.now }
+    ensures plain { All IsPlain (take result text.now) }
+{
+    if limit < FEW {
+        return 0;
+    }
+    if text.len() <= SHORT_TEXT && is_plain(text) {
+        return limit.min(text.len());
+    }
+    plain_prefix(text, limit)
+}
+
 /// The width of a text, if it fits in this many columns and has no more bytes than these, as most texts that fit: then
 /// no walk over its characters is needed.
 fn whole_width(text: &str, columns: usize) -> Option<usize>
@@ -202,6 +237,9 @@ fn last_reaching(text: &str, width: usize, columns: usize) -> usize
     requires width { width ≡ width_of (chars text.now) }
     ensures value { result ≡ reaching_last columns (chars text.now) }
 {
+    if is_plain(text) {
+        return columns.min(text.len());
+    }
     let mut width = width;
     let mut count = char_count(text);
     for c in text.chars() {

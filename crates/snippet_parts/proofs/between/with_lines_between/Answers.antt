@@ -21,9 +21,9 @@ loop-info-init c =
     let given : List AnnotatedLineInfo = into_iter_items c.into_iter-info-iterator.result in
     let all : given ≡ c.args.kept.items = c.into_iter-info-iterator.ensures.into_iter_gives.0 in
     record {
-      lines = ap (λ (ls : List ShownLine). map seen_kept (infos_of ls) ++ filled s None (map seen_kept given)) c.new-shown.ensures.items
+      lines = ap (λ (ls : List ShownLine). map seen_kept (infos_of ls) ++ filled s None (map seen_kept given)) c.in_ok-shown.ensures.items
           ∙ ap (λ (is : List AnnotatedLineInfo). filled s None (map seen_kept is)) all;
-      kept = ap (λ (ls : List ShownLine). kept_of ls ++ given) c.new-shown.ensures.items ∙ all;
+      kept = ap (λ (ls : List ShownLine). kept_of ls ++ given) c.in_ok-shown.ensures.items ∙ all;
       texts = subst (All Fits) (sym all) c.requires.texts;
       left = omega (arith, c.into_iter-info-iterator.ensures.into_iter_gives.1, ap length all);
     }

@@ -1,59 +1,21 @@
-use Rattle.std.proofs.Common.{◌≡◌, ◌∙◌, ◌-◌, ◌+◌, ◌<◌, ℕ, List, [], ap, sym, get_or, replicate, take, refl, subst, arith}
-use Rattle.std.proofs.lemmas.List.{get_or_default, take_all}
-use Rattle.snippet_strokes.specs.declared.bars.OpenBar.{OpenBar}
-use Rattle.snippet_style.specs.Cell.{Cell, SPACE, written}
-use Rattle.snippet_strokes.specs.Bars.{StandsBeside, bar_cell_part, barred, changed_from, with_bars}
-use Rattle.snippet_strokes.proofs.BarRows.{changed-more, changed_same, side_drawn}
-use Rattle.snippet_strokes.proofs.BarLemmas.{no_bar}
+use Rattle.std.proofs.Common.{◌≡◌, ◌==◌, ◌∙◌, [], ap, arith, length, refl, sym, true, ℕ}
+use Rattle.std.proofs.lemmas.Bool.Decides.{nat_tests}
+use Rattle.std.proofs.lemmas.List.{nil_from_length}
+use Rattle.snippet_strokes.specs.Bars.{barred, with_bars}
+use Rattle.snippet_strokes.proofs.BarRows.{changed_same}
 use Rattle.snippet_strokes.proofs.bars.draw_bars.Goals as goal
 
-pub loop-from-init : goal.loop-from-init
-loop-from-init c = (
-  omega arith,
-  sym (changed_same (with_bars c.args.layout c.args.stroke []) c.args.row c.args.buffer.now (λ cells. refl)),
-)
+-- a number that the test calls zero
+zero_told : (n : ℕ) → true ≡ (n == 0) → n ≡ 0
+zero_told n is = grind (arith, nat_tests)
 
-pub side_end-to-requires-clause-right : goal.side_end-to-requires-clause-right
-side_end-to-requires-clause-right c =
-    λ k d within. (c.requires.room k d within).0
-
-pub draw_side-requires-clause-left : goal.draw_side-requires-clause-left
-draw_side-requires-clause-left c =
-    (c.requires.room c.loop-from.from no_bar c.loop-from-test.true).0
-
-pub draw_side-requires-clause-room : goal.draw_side-requires-clause-room
-draw_side-requires-clause-room c =
-    let to = c.side_end-to in
-    let last = to.result - 1 in
-    let beside = to.ensures.beside last no_bar (omega (arith, to.ensures.more)) (omega (arith, to.ensures.more)) in
-    let room = c.requires.room last no_bar (omega (arith, to.ensures.more, to.ensures.within)) in
-    omega (arith, beside.depth, room.1, to.ensures.more)
-
-pub loop-from-preserved : goal.loop-from-preserved
-loop-from-preserved c =
+pub returns-then-is_empty : goal.returns-then-is_empty
+returns-then-is_empty c =
     let layout = c.args.layout in
+    let stroke = c.args.stroke in
     let bars = c.args.bars.now in
-    let from = c.loop-from.from in
-    let to = c.side_end-to in
-    let first = get_or bars from no_bar in
-    let side : List Cell → List Cell = λ cells. written SPACE cells (layout.gutter + 2 + first.depth)
-    (replicate (to.result - from) (bar_cell_part layout c.args.stroke first)) in
-    let beside : (k : ℕ) (d : OpenBar) → k < to.result - from → StandsBeside first k (get_or bars (from + k) d) = λ k d low.
-    let place : from + k - from ≡ k = omega arith in
-    let one = to.ensures.beside (from + k) d (omega arith) (omega (arith, low)) in
-    let own : get_or bars from d ≡ first = get_or_default bars from d no_bar (omega (arith, c.loop-from-test.true)) in
-    subst (λ n. StandsBeside first n (get_or bars (from + k) d)) place (subst (λ b. StandsBeside b (from + k - from) (get_or bars (from + k) d)) own one) in (
-      to.ensures.within,
-      c.in_ok-draw_side.ensures.value
-          ∙ ap (changed_from side c.args.row) c.loop-from.invariant.1
-          ∙ changed-more (with_bars layout c.args.stroke (take from bars)) side
-          (with_bars layout c.args.stroke (take to.result bars)) c.args.row c.args.buffer.now
-          (λ cells. side_drawn layout c.args.stroke bars from to.result first cells to.ensures.more to.ensures.within beside),
-    )
-
-pub returns : goal.returns
-returns c =
-    let all : take c.loop-from.from c.args.bars.now ≡ c.args.bars.now = take_all c.loop-from.from c.args.bars.now (omega (arith, c.loop-from-test.false)) in
+    let none = nil_from_length bars (zero_told (length bars) (sym c.if-is_empty.true ∙ c.is_empty.ensures)) in
     record {
-      value = c.loop-from.invariant.1 ∙ ap (λ bars. barred c.args.layout c.args.stroke bars c.args.row c.args.buffer.now) all;
+      value = sym (ap (λ bs. barred layout stroke bs c.args.row c.args.buffer.now) none
+          ∙ changed_same (with_bars layout stroke []) c.args.row c.args.buffer.now (λ cells. refl));
     }

@@ -16,8 +16,9 @@ range-requires-clause-end_boundary c =
 pub returns : goal.returns
 returns c =
     let count : c.args.count - 0 ≡ c.args.count = omega arith in
+    let bytes = c.range.ensures.value ∙ ap (λ (t : List ℕ). slice_range t 0 c.args.count) c.requires.strip
+    ∙ ap (λ k. take k (replicate {A = ℕ} 128 c.args.glyph)) count ∙ take-replicate c.args.count 128 c.args.glyph c.requires.within in
     record {
-      value = ap chars (c.range.ensures.value ∙ ap (λ (t : List ℕ). slice_range t 0 c.args.count) c.requires.strip
-          ∙ ap (λ k. take k (replicate {A = ℕ} 128 c.args.glyph)) count ∙ take-replicate c.args.count 128 c.args.glyph c.requires.within)
-          ∙ chars-IsAscii (replicate c.args.count c.args.glyph) (IsAscii-replicate c.args.count c.args.glyph c.requires.ascii);
+      value = ap chars bytes ∙ chars-IsAscii (replicate c.args.count c.args.glyph) (IsAscii-replicate c.args.count c.args.glyph c.requires.ascii);
+      bytes = bytes;
     }

@@ -15,25 +15,24 @@ use Rattle.snippet_strokes.proofs.snippet.draw_snippet.Goals.{then-view, else-vi
 pub loop-i-init : goal.loop-i-init
 loop-i-init c =
     let infos = infos_of c.args.lines.now in (
-      All-same (HasBarRoom c.args.layout) c.new-open_bars.result.items [] c.new-open_bars.ensures.items (All-nil (HasBarRoom c.args.layout)),
+      All-same (HasBarRoom c.args.layout) c.new.result.items [] c.new.ensures.items (All-nil (HasBarRoom c.args.layout)),
       subst (λ bs. AddsLines c.args.layout c.args.view.margin c.args.view.numbers c.args.view.closes infos 0 bs c.args.buffer.now c.args.buffer.now)
-          (sym c.new-open_bars.ensures.items) (AddsLines-none c.args.layout c.args.view.margin c.args.view.numbers c.args.view.closes infos c.args.buffer.now),
+          (sym c.new.ensures.items) (AddsLines-none c.args.layout c.args.view.margin c.args.view.numbers c.args.view.closes infos c.args.buffer.now),
     )
 
 pub draw_line-requires-clause-room : goal.draw_line-requires-clause-room
 draw_line-requires-clause-room c =
-    All-same (HasBarRoom c.args.layout) c.deref.result.now c.loop-i.open_bars.items c.deref.ensures.value c.loop-i.invariant.0
+    c.loop-i.invariant.0
 
 pub draw_gap-requires : goal.draw_gap-requires
 draw_gap-requires c =
     let layout = c.args.layout in
     let line : ShownLine = c.index-lines-i.result in
-    let before = All-same (HasBarRoom layout) c.deref.result.now c.loop-i.open_bars.items c.deref.ensures.value c.loop-i.invariant.0 in
     let bar_cells : All (HasBarCell layout) line.info.annotations.items = subst (λ (l : ShownLine). All (HasBarCell layout) l.info.annotations.items)
     (sym c.index-lines-i.is) (c.requires.bar_cells c.loop-i.i line c.loop-i-test.true) in
     record {
-      room = All-same (HasBarRoom layout) c.deref-in-loop-i.result.now _ (c.deref-in-loop-i.ensures.value ∙ c.in_ok-open_bars.ensures.bars)
-          (room_below layout c.deref.result.now line.info.annotations.items before bar_cells);
+      room = All-same (HasBarRoom layout) c.deref.result.now _ (c.deref.ensures.value ∙ c.in_ok-bars.ensures.bars)
+          (room_below layout c.loop-i.bars.open_bars.items line.info.annotations.items c.loop-i.invariant.0 bar_cells);
     }
 
 pub loop-i-preserved : goal.loop-i-preserved
@@ -53,22 +52,20 @@ loop-i-preserved c =
       | then-view w ↦ w.closes-is ∙ sym (ap (λ n. c.args.view.closes && i + 1 == n) count ∙ ap (λ b. b && i + 1 == length lines) w.if-view.true)
       | else-view w ↦ w.closes-is ∙ w.if-view.false ∙ sym (ap (λ b. b && i + 1 == length infos) w.if-view.false)
     ] in
-    let shown = subst (λ b. AddsLine layout c.args.view.margin c.args.view.numbers b c.loop-i.open_bars.items info old mid) closes
-    (subst (λ bs. AddsLine layout c.args.view.margin c.args.view.numbers c.if-view.closes bs info old mid)
-    c.deref.ensures.value c.in_ok-open_bars.ensures.added) in
+    let shown = subst (λ b. AddsLine layout c.args.view.margin c.args.view.numbers b c.loop-i.bars.open_bars.items info old mid) closes
+    c.in_ok-bars.ensures.added in
     let rest : infos_of (take (length lines - (i + 1)) (drop (i + 1) lines)) ≡ drop (i + 1) infos = ap infos_of (take_rest lines (i + 1))
     ∙ infos_of-drop lines (i + 1) in
-    let gap = subst (λ xs. AddsGap layout c.in_ok-open_bars.open_bars.items info.line_index xs mid new) rest
+    let gap = subst (λ xs. AddsGap layout c.in_ok-bars.bars.open_bars.items info.line_index xs mid new) rest
     (subst (λ bs. AddsGap layout bs info.line_index (infos_of (take (length lines - (i + 1)) (drop (i + 1) lines))) mid new)
-    c.deref-in-loop-i.ensures.value c.in_ok-draw_gap.ensures.added) in
-    let below : c.in_ok-open_bars.open_bars.items ≡ open_below c.loop-i.open_bars.items info.annotations.items = c.in_ok-open_bars.ensures.bars
-    ∙ ap (λ bs. open_below bs info.annotations.items) c.deref.ensures.value in
-    let before = All-same (HasBarRoom layout) c.deref.result.now c.loop-i.open_bars.items c.deref.ensures.value c.loop-i.invariant.0 in
+    c.deref.ensures.value c.in_ok-draw_gap.ensures.added) in
+    let below : c.in_ok-bars.bars.open_bars.items ≡ open_below c.loop-i.bars.open_bars.items info.annotations.items = c.in_ok-bars.ensures.bars in
     let bar_cells : All (HasBarCell layout) info.annotations.items = subst (λ (l : ShownLine). All (HasBarCell layout) l.info.annotations.items)
     (sym c.index-lines-i.is) (c.requires.bar_cells i line c.loop-i-test.true) in (
-      All-same (HasBarRoom layout) c.in_ok-open_bars.open_bars.items _ c.in_ok-open_bars.ensures.bars
-          (room_below layout c.deref.result.now info.annotations.items before bar_cells),
-      AddsLines-next layout c.args.view.margin c.args.view.numbers c.args.view.closes infos i info c.loop-i.open_bars.items c.in_ok-open_bars.open_bars.items
+      All-same (HasBarRoom layout) c.in_ok-bars.bars.open_bars.items _ c.in_ok-bars.ensures.bars
+          (room_below layout c.loop-i.bars.open_bars.items info.annotations.items c.loop-i.invariant.0 bar_cells),
+      AddsLines-next layout c.args.view.margin c.args.view.numbers c.args.view.closes infos i info c.loop-i.bars.open_bars.items
+          c.in_ok-bars.bars.open_bars.items
           c.args.buffer.now old mid new at.0 at.1 below c.loop-i.invariant.1 shown gap,
     )
 
@@ -77,6 +74,6 @@ returns c =
     let lines = c.args.lines.now in
     record {
       added = AddsSnippet-from_lines c.args.layout c.args.view.margin c.args.view.numbers c.args.view.closes
-          (infos_of lines) c.loop-i.i c.loop-i.open_bars.items c.args.buffer.now c.loop-i.buffer
+          (infos_of lines) c.loop-i.i c.loop-i.bars.open_bars.items c.args.buffer.now c.loop-i.buffer
           (omega (arith, c.loop-i-test.false, c.loop-i.auto.i-end, infos_of-length lines)) c.loop-i.invariant.1;
     }

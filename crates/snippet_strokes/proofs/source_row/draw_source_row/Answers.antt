@@ -1,7 +1,7 @@
 use Rattle.std.proofs.Common.{refl, ap, sym, subst, ◌∙◌, ◌+◌, ◌≤◌, ◌<◌, ◌^◌, arith, length, chars}
 use Rattle.snippet_grid.specs.Layout.{Layout}
 use Rattle.snippet_grid.specs.LayoutOf.{layout_of}
-use Rattle.snippet_strokes.specs.SourceRows.{AddsSourceRow, shown_cells}
+use Rattle.snippet_strokes.specs.SourceRows.{AddsSourceRow, shown_cells, window_cells}
 use Rattle.std.specs.List.{list_any}
 use Rattle.std.proofs.lemmas.List.Folds.{list_any_none}
 use Rattle.snippet_window.specs.Margin.{bounds_of}
@@ -37,48 +37,48 @@ window_of-window-requires-clause-short c =
 
 pub write_source_row-requires-clause-number : goal.write_source_row-requires-clause-number
 write_source_row-requires-clause-number c =
-    let short = subst (λ (l : Layout). length (shown_number c.args.numbers l.gutter c.args.line.now.info.line_index) ≤ l.gutter + 1)
+    let short = subst (λ (l : Layout). length (shown_number c.args.view.numbers l.gutter c.args.line.now.info.line_index) ≤ l.gutter + 1)
     (sym c.layout.view_is) c.requires.number in
     rw (← c.layout.view_is) (omega (
       arith,
       short,
       ap length (ap chars (c.as_str-2.ensures.value ∙ c.in_ok-number.ensures.text)
-          ∙ chars-shown_number c.args.numbers c.layout.inside.gutter c.args.line.now.info.line_index (omega arith)),
+          ∙ chars-shown_number c.args.view.numbers c.layout.inside.gutter c.args.line.now.info.line_index (omega arith)),
     ))
 
 pub write_source_row-requires-clause-number_free : goal.write_source_row-requires-clause-number_free
 write_source_row-requires-clause-number_free c =
     ap (list_any is_listed) (ap chars (c.as_str-2.ensures.value ∙ c.in_ok-number.ensures.text)
-    ∙ chars-shown_number c.args.numbers c.layout.inside.gutter c.args.line.now.info.line_index (omega arith))
-    ∙ list_any_none is_listed (shown_number c.args.numbers c.layout.inside.gutter c.args.line.now.info.line_index)
-    (shown_number_unlisted c.args.numbers c.layout.inside.gutter c.args.line.now.info.line_index (omega arith))
+    ∙ chars-shown_number c.args.view.numbers c.layout.inside.gutter c.args.line.now.info.line_index (omega arith))
+    ∙ list_any_none is_listed (shown_number c.args.view.numbers c.layout.inside.gutter c.args.line.now.info.line_index)
+    (shown_number_unlisted c.args.view.numbers c.layout.inside.gutter c.args.line.now.info.line_index (omega arith))
 
 pub write_source_row-requires-clause-text : goal.write_source_row-requires-clause-text
 write_source_row-requires-clause-text c =
-    let bounds = bounds_of c.args.margin in
+    let bounds = bounds_of c.args.view.margin in
     let line = chars c.args.line.now.info.line.now in
     let text = ap chars c.as_str.ensures.value ∙ c.in_ok-text.ensures.value in
-    let part = part_of_norm c.args.margin c.args.line.now.width c.near_part-near.result.skipped line (chars c.near_part-near.result.text.now)
+    let part = part_of_norm c.args.view.margin c.args.line.now.width c.near_part-near.result.skipped line (chars c.near_part-near.result.text.now)
     (chars c.as_str.result.now) c.args.line.now.measured text c.near_part-near.ensures.holds in
     omega (
       arith,
       ap length (c.window_of-window.ensures.text (norm line) part),
-      part_few bounds.left c.args.margin.term_width bounds.left bounds.right
+      part_few bounds.left c.args.view.margin.term_width bounds.left bounds.right
           (chars c.placeholder-placeholder.result.now) (norm line),
       norm_short c.args.line.now.info.line.now c.requires.text,
     )
 
 pub write_source_row-requires-clause-text_free : goal.write_source_row-requires-clause-text_free
 write_source_row-requires-clause-text_free c =
-    let bounds = bounds_of c.args.margin in
+    let bounds = bounds_of c.args.view.margin in
     let line = chars c.args.line.now.info.line.now in
     let placeholder = chars c.placeholder-placeholder.result.now in
     let text = ap chars c.as_str.ensures.value ∙ c.in_ok-text.ensures.value in
-    let within = part_of_norm c.args.margin c.args.line.now.width c.near_part-near.result.skipped line (chars c.near_part-near.result.text.now)
+    let within = part_of_norm c.args.view.margin c.args.line.now.width c.near_part-near.result.skipped line (chars c.near_part-near.result.text.now)
     (chars c.as_str.result.now) c.args.line.now.measured text c.near_part-near.ensures.holds in
-    let part = uncovered_part bounds.left placeholder (inner_part c.args.margin.term_width bounds.left bounds.right (norm line)) in
+    let part = uncovered_part bounds.left placeholder (inner_part c.args.view.margin.term_width bounds.left bounds.right (norm line)) in
     ap (list_any is_listed) (c.window_of-window.ensures.text (norm line) within)
-    ∙ list_any_none is_listed part (unlisted_part bounds.left c.args.margin.term_width bounds.left bounds.right placeholder (norm line)
+    ∙ list_any_none is_listed part (unlisted_part bounds.left c.args.view.margin.term_width bounds.left bounds.right placeholder (norm line)
     (each_fails is_listed (norm line) (list_any-norm line)))
 
 pub returns-clause-added : goal.returns-clause-added
@@ -87,19 +87,23 @@ returns-clause-added c =
     let layout = layout_of c.layout.inside in
     let line = chars args.line.now.info.line.now in
     let number = ap chars (c.as_str-2.ensures.value ∙ c.in_ok-number.ensures.text)
-    ∙ chars-shown_number args.numbers layout.gutter args.line.now.info.line_index (omega arith) in
+    ∙ chars-shown_number args.view.numbers layout.gutter args.line.now.info.line_index (omega arith) in
     let text = ap chars c.as_str.ensures.value ∙ c.in_ok-text.ensures.value in
-    let part = part_of_norm args.margin c.args.line.now.width c.near_part-near.result.skipped line (chars c.near_part-near.result.text.now)
+    let part = part_of_norm args.view.margin c.args.line.now.width c.near_part-near.result.skipped line (chars c.near_part-near.result.text.now)
     (chars c.as_str.result.now) c.args.line.now.measured text c.near_part-near.ensures.holds in
     let window = c.window_of-window in
-    let cells = cells_are layout.decor args.margin window.result.start window.result.end (chars window.result.text.now)
+    let cells = cells_are layout.decor args.view.margin window.result.start window.result.end (chars window.result.text.now)
     (chars c.placeholder-placeholder.result.now) (norm line) (norm line)
     c.placeholder-placeholder.ensures.value refl (window.ensures.start (norm line) part) (window.ensures.text (norm line) part)
     (window.ensures.end (norm line) part) in
+    let given = c.in_ok-row.ensures.added in
     let added = subst (λ (l : Layout). AddsSourceRow l (chars c.as_str-2.result.now)
-    (shown_cells l.decor window.result.start (chars window.result.text.now) window.result.end) args.buffer.now c.write_source_row.new.buffer)
-    (sym c.layout.view_is) c.in_ok-row.ensures.added in
-    rw (← c.layout.view_is) (AddsSourceRow-same layout _ _ _ _ args.buffer.now c.write_source_row.new.buffer number cells added)
+    (shown_cells l.decor window.result.start (chars window.result.text.now) window.result.end) args.buffer.now given.0)
+    (sym c.layout.view_is) given.1 in
+    let bare : AddsSourceRow args.layout (shown_number args.view.numbers args.layout.gutter args.line.now.info.line_index)
+    (window_cells args.layout.decor args.view.margin (norm line)) args.buffer.now given.0 = rw (← c.layout.view_is)
+    (AddsSourceRow-same layout _ _ _ _ args.buffer.now given.0 number cells added) in
+    (given.0, bare, given.2)
 
 pub returns-clause-short : goal.returns-clause-short
 returns-clause-short c =
@@ -107,10 +111,10 @@ returns-clause-short c =
     let decor = c.layout.inside.decor in
     let line = chars args.line.now.info.line.now in
     let text = ap chars c.as_str.ensures.value ∙ c.in_ok-text.ensures.value in
-    let part = part_of_norm args.margin c.args.line.now.width c.near_part-near.result.skipped line (chars c.near_part-near.result.text.now)
+    let part = part_of_norm args.view.margin c.args.line.now.width c.near_part-near.result.skipped line (chars c.near_part-near.result.text.now)
     (chars c.as_str.result.now) c.args.line.now.measured text c.near_part-near.ensures.holds in
     let window = c.window_of-window in
-    let cells = cells_are decor args.margin window.result.start window.result.end (chars window.result.text.now)
+    let cells = cells_are decor args.view.margin window.result.start window.result.end (chars window.result.text.now)
     (chars c.placeholder-placeholder.result.now) (norm line) (norm line)
     c.placeholder-placeholder.ensures.value refl (window.ensures.start (norm line) part) (window.ensures.text (norm line) part)
     (window.ensures.end (norm line) part) in
@@ -122,5 +126,5 @@ pub returns-clause-dropped : goal.returns-clause-dropped
 returns-clause-dropped c =
     let line = chars c.args.line.now.info.line.now in
     let text = ap chars c.as_str.ensures.value ∙ c.in_ok-text.ensures.value in
-    c.window_of-window.ensures.dropped (norm line) (part_of_norm c.args.margin c.args.line.now.width c.near_part-near.result.skipped line
+    c.window_of-window.ensures.dropped (norm line) (part_of_norm c.args.view.margin c.args.line.now.width c.near_part-near.result.skipped line
     (chars c.near_part-near.result.text.now) (chars c.as_str.result.now) c.args.line.now.measured text c.near_part-near.ensures.holds)

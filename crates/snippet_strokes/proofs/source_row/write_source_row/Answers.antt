@@ -1,7 +1,12 @@
-use Rattle.snippet_strokes.proofs.CellLemmas.{free_shown, shown_short}
-use Rattle.snippet_strokes.proofs.SourceRowLemmas.{front, front_short, number_written, source_row_added}
+use Rattle.std.proofs.Common.{◌≡◌, ◌∙◌, ◌++◌, ◌∷◌, [], List, ap, length, refl, sym}
 use Rattle.std.specs.Str.{chars}
-use Rattle.snippet_strokes.specs.SourceRows.{shown_cells, begun_cells}
+use Rattle.snippet_style.specs.Cell.{Cell}
+use Rattle.snippet_strokes.specs.declared.bars.BarStroke.TheVariants.{Top, Solid}
+use Rattle.snippet_strokes.specs.Bars.{barred, with_bars}
+use Rattle.snippet_strokes.specs.SourceRows.{begun_cells, shown_cells, with_cells}
+use Rattle.snippet_strokes.proofs.BesideLemmas.{barred_last, bars_first, bars_left}
+use Rattle.snippet_strokes.proofs.CellLemmas.{free_shown, shown_short}
+use Rattle.snippet_strokes.proofs.SourceRowLemmas.{front, front_short, source_row_added}
 use Rattle.snippet_strokes.proofs.source_row.write_source_row.Goals as goal
 use Rattle.snippet_model.proofs.RowLemmas.{each_fails}
 use Rattle.snippet_text.specs.Normalized.{is_listed}
@@ -9,20 +14,39 @@ use Rattle.snippet_text.specs.Normalized.{is_listed}
 pub returns-clause-added : goal.returns-clause-added
 returns-clause-added c =
     let layout = c.args.layout in
-    let shown = chars c.args.number.now in
-    let window = c.args.window in
+    let shown = chars c.args.texts.number.now in
+    let window = c.args.texts.window in
     let old = c.args.buffer.now in
     let text = chars window.text.now in
-    let start = front layout shown in
-    let ends = front_short layout shown c.in_ok-row.ensures.place c.requires.number in
-    let numbered = number_written layout c.args.number.now old c.begin_row.new.buffer c.puts.new.self c.in_ok-row.row c.in_ok-row.ensures.row
-    c.in_ok-row.ensures.added c.in_ok-puts.ensures.ok c.puts.ensures.empty in
-    let begun = c.in_ok-write_beginning.ensures.writes old start c.in_ok-row.ensures.row ends numbered in
-    let ended = c.in_ok-write_end.ensures.writes old start (begun_cells layout.decor window.start text) c.in_ok-row.ensures.row ends begun in
-    source_row_added layout c.args.number.now (shown_cells layout.decor window.start text window.end)
-    old c.write_end.new.buffer c.in_ok-row.ensures.place c.requires.number (each_fails is_listed _ c.requires.number_free)
-    (free_shown layout.decor window.start text window.end (each_fails is_listed _ c.requires.text_free)) ended
+    let cells = shown_cells layout.decor window.start text window.end in
+    let tops = c.args.beside.tops.now in
+    let past = c.args.beside.past.now in
+    let place = c.in_ok-row.ensures.place in
+    let start : List Cell = front layout shown in
+    let sides : List Cell = with_bars layout Solid past start in
+    let full : List Cell = with_bars layout Top tops sides in
+    let ends = bars_left layout Top tops sides c.requires.tops
+    (bars_left layout Solid past start c.requires.past (front_short layout shown place c.requires.number)) in
+    let begun : c.begin_source_row.new.buffer ≡ old ++ start ∷ [] = c.in_ok-row.ensures.added in
+    let one : c.draw_bars.new.buffer ≡ old ++ sides ∷ [] = c.in_ok-draw_bars.ensures.value
+    ∙ ap (λ r. barred layout Solid past r c.begin_source_row.new.buffer) c.in_ok-row.ensures.row
+    ∙ barred_last layout Solid past old c.begin_source_row.new.buffer start begun in
+    let two : c.draw_bars-2.new.buffer ≡ old ++ full ∷ [] = c.in_ok-draw_bars-2.ensures.value
+    ∙ ap (λ r. barred layout Top tops r c.draw_bars.new.buffer) c.in_ok-row.ensures.row
+    ∙ barred_last layout Top tops old c.draw_bars.new.buffer sides one in
+    let written = c.in_ok-write_beginning.ensures.writes old full c.in_ok-row.ensures.row ends two in
+    let ended = c.in_ok-write_end.ensures.writes old full (begun_cells layout.decor window.start text) c.in_ok-row.ensures.row ends written in
+    let whole : List Cell = with_cells layout.code cells start in
+    let bare : List (List Cell) = old ++ whole ∷ [] in
+    let topped = barred_last layout Top tops old bare whole refl in (
+      bare,
+      source_row_added layout c.args.texts.number.now cells old bare place c.requires.number (each_fails is_listed _ c.requires.number_free)
+          (free_shown layout.decor window.start text window.end (each_fails is_listed _ c.requires.text_free)) refl,
+      ended ∙ ap (λ row. old ++ row ∷ []) (bars_first layout tops past cells start c.requires.tops c.requires.past c.requires.apart)
+          ∙ sym (barred_last layout Solid past old (barred layout Top tops (length old) bare) (with_bars layout Top tops whole) topped),
+    )
 
 pub returns-clause-short : goal.returns-clause-short
 returns-clause-short c =
-    shown_short c.args.layout.decor c.args.window.start (chars c.args.window.text.now) c.args.window.end c.requires.start c.requires.text c.requires.end
+    let window = c.args.texts.window in
+    shown_short c.args.layout.decor window.start (chars window.text.now) window.end c.requires.start c.requires.text c.requires.end

@@ -22,15 +22,15 @@ returns-in-Some-clause-width c =
 
 pub range_from-requires : goal.range_from-requires
 range_from-requires c _ =
-    let k = c.plain_prefix-plain.result in
+    let k = c.plain_start-plain.result in
     let text = c.args.text.now in
-    cut_boundary text k k c.utf8.text (plain_cut text k c.plain_prefix-plain.ensures.inside c.plain_prefix-plain.ensures.plain)
+    cut_boundary text k k c.utf8.text (plain_cut text k c.plain_start-plain.ensures.inside c.plain_start-plain.ensures.plain)
 
 pub returns-in-None-clause-bytes : goal.returns-in-None-clause-bytes
 returns-in-None-clause-bytes c =
-    let k = c.plain_prefix-plain.result in
+    let k = c.plain_start-plain.result in
     let text = c.args.text.now in
-    let plain = c.plain_prefix-plain.ensures in
+    let plain = c.plain_start-plain.ensures in
     let rest = subst (λ (t : List ℕ). c.walked_end-at.result.0 ≡ bytes_of (take (fitting (c.args.columns - k) (chars t)) (chars t)))
     c.range_from.ensures.value c.walked_end-at.ensures.bytes in
     let both = ap bytes_of (taken_front c.args.columns text k plain.inside plain.within plain.plain)
@@ -39,9 +39,9 @@ returns-in-None-clause-bytes c =
 
 pub returns-in-None-clause-width : goal.returns-in-None-clause-width
 returns-in-None-clause-width c =
-    let k = c.plain_prefix-plain.result in
+    let k = c.plain_start-plain.result in
     let text = c.args.text.now in
-    let plain = c.plain_prefix-plain.ensures in
+    let plain = c.plain_start-plain.ensures in
     let rest = subst (λ (t : List ℕ). c.walked_end-at.result.1 ≡ width_of (take (fitting (c.args.columns - k) (chars t)) (chars t)))
     c.range_from.ensures.value c.walked_end-at.ensures.width in
     let both = ap width_of (taken_front c.args.columns text k plain.inside plain.within plain.plain)
@@ -50,9 +50,9 @@ returns-in-None-clause-width c =
 
 pub returns-in-None-clause-near : goal.returns-in-None-clause-near
 returns-in-None-clause-near c less =
-    let k = c.plain_prefix-plain.result in
+    let k = c.plain_start-plain.result in
     let text = c.args.text.now in
-    let plain = c.plain_prefix-plain.ensures in
+    let plain = c.plain_start-plain.ensures in
     let rest = subst (λ (t : List ℕ). c.args.columns - k < width_of (chars t) → c.args.columns - k < c.walked_end-at.result.1 + 4)
     c.range_from.ensures.value c.walked_end-at.ensures.near in
     let both = ap width_of (plain_chars text k plain.plain) ∙ width_front text (chars (drop k text)) k plain.inside plain.plain in
@@ -61,11 +61,11 @@ returns-in-None-clause-near c less =
 
 pub overflow_add-result : goal.overflow_add-result
 overflow_add-result c =
-    let k = c.plain_prefix-plain.result in
+    let k = c.plain_start-plain.result in
     let rest = c.range_from.result.now in
     let short = bytes_within rest (fitting (c.args.columns - k) (chars rest)) c.range_from.utf8 in
     let count = ap length c.range_from.ensures.value ∙ length-drop k c.args.text.now in
-    omega (arith, c.walked_end-at.ensures.bytes, short, count, c.plain_prefix-plain.ensures.inside)
+    omega (arith, c.walked_end-at.ensures.bytes, short, count, c.plain_start-plain.ensures.inside)
 
 pub overflow_add-result-in-None : goal.overflow_add-result-in-None
-overflow_add-result-in-None c = omega (arith, c.walked_end-at.ensures.within, c.plain_prefix-plain.ensures.within, c.ranges.columns.fits)
+overflow_add-result-in-None c = omega (arith, c.walked_end-at.ensures.within, c.plain_start-plain.ensures.within, c.ranges.columns.fits)

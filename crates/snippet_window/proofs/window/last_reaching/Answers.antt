@@ -1,9 +1,14 @@
-use Rattle.std.proofs.Common.{length, arith, chars}
+use Rattle.std.proofs.Common.{◌∙◌, length, arith, chars, sym}
+use Rattle.snippet_window.proofs.PlainFront.{last_plain}
 use Rattle.std.proofs.lemmas.Iterator.{YieldsList-from_chars}
 use Rattle.std.proofs.lemmas.List.{length_push}
 use Rattle.std.proofs.lemmas.Iterator.Consumers.{YieldsList-turn, YieldsList-end}
 use Rattle.snippet_window.proofs.LineWindowLemmas.{last_next, last_here, last_all, last_start, width_after}
 use Rattle.snippet_window.proofs.window.last_reaching.Goals as goal
+
+pub returns-then-is_plain : goal.returns-then-is_plain
+returns-then-is_plain c =
+    record { value = sym (last_plain c.args.columns c.args.text.now (c.is_plain.ensures.yes c.if-is_plain.true) ∙ sym c.min.ensures) }
 
 pub loop-c-init : goal.loop-c-init
 loop-c-init c = last_start c.args.columns (chars c.args.text.now) c.args.width c.char_count-count.result c.requires.width c.char_count-count.ensures.value

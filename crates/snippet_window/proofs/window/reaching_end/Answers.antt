@@ -1,59 +1,47 @@
-use Rattle.std.proofs.Common.{◌∙◌, length, take, ap, sym, arith, chars}
-use Rattle.std.proofs.lemmas.Iterator.{YieldsList-from_chars}
-use Rattle.std.proofs.lemmas.List.{length_push}
-use Rattle.std.proofs.lemmas.Iterator.Consumers.{YieldsList-turn, YieldsList-end}
-use Rattle.snippet_text.specs.Width.{width_of}
-use Rattle.snippet_window.proofs.LineWindowLemmas.{reaches-next, reaches_enough, reaches_all, reaches_start, bytes_next}
-use Rattle.snippet_window.proofs.window.reaching_end.Goals as goal
+use Rattle.std.proofs.Common.{◌≡◌, ◌∙◌, ◌-◌, List, ℕ, ap, arith, chars, drop, length, subst, take}
+use Rattle.std.proofs.lemmas.List.{length-drop}
 use Rattle.snippet_style.specs.Cell.{bytes_of}
+use Rattle.snippet_text.specs.Width.{width_of}
+use Rattle.snippet_window.specs.Window.{reaching}
+use Rattle.snippet_window.proofs.LineWindowLemmas.{bytes_within, cut_boundary}
+use Rattle.snippet_window.proofs.PlainFront.{bytes_front, plain_cut, reached_front, width_front}
+use Rattle.snippet_window.proofs.window.reaching_end.Goals as goal
 
-pub loop-c-init : goal.loop-c-init
-loop-c-init c = (reaches_start c.args.columns (chars c.args.text.now), omega arith)
-
-pub returns-then-width-columns-clause-bytes : goal.returns-then-width-columns-clause-bytes
-returns-then-width-columns-clause-bytes c =
-    let cs = chars c.args.text.now in
-    c.loop-c.invariant.0.bytes ∙ ap (λ n. bytes_of (take n cs)) (sym
-    (reaches_enough c.args.columns cs (length c.loop-c.yielded) c.loop-c.at c.loop-c.width c.if-width-columns.true c.loop-c.invariant.0))
-
-pub returns-then-width-columns-clause-width : goal.returns-then-width-columns-clause-width
-returns-then-width-columns-clause-width c =
-    let cs = chars c.args.text.now in
-    c.loop-c.invariant.0.width_is ∙ ap (λ n. width_of (take n cs)) (sym
-    (reaches_enough c.args.columns cs (length c.loop-c.yielded) c.loop-c.at c.loop-c.width c.if-width-columns.true c.loop-c.invariant.0))
-
-pub overflow_add-at : goal.overflow_add-at
-overflow_add-at c =
-    let at = YieldsList-turn (YieldsList-from_chars c.args.text.now c.utf8.text cc) c.loop-c.yielded _ c.loop-c.yielded_by _ _ c.in-Some.c c.in-Some.is
-    c.next.ensures.steps in
-    omega (
-      arith,
-      bytes_next c.args.text.now (length c.loop-c.yielded) c.loop-c.at c.in-Some.c c.utf8.text at c.loop-c.invariant.0.bytes,
-      c.len_utf8-at.ensures.len,
-    )
-
-pub loop-c-preserved : goal.loop-c-preserved
-loop-c-preserved c =
-    let at = YieldsList-turn (YieldsList-from_chars c.args.text.now c.utf8.text cc) c.loop-c.yielded _ c.loop-c.yielded_by _ _ c.in-Some.c c.in-Some.is
-    c.next.ensures.steps in (
-      reaches-next c.args.columns (chars c.args.text.now) (length c.loop-c.yielded)
-          _ c.loop-c.at c.loop-c.width c.in-Some.c c.len_utf8-at.result c.char_width-width.result at (length_push c.loop-c.yielded c.in-Some.c)
-          c.if-width-columns.false c.len_utf8-at.ensures.len c.char_width-width.ensures.value c.loop-c.invariant.0,
-      omega (arith, c.if-width-columns.false, c.char_width-width.ensures.bound),
-    )
+pub range_from-requires : goal.range_from-requires
+range_from-requires c _ =
+    let k = c.plain_start-plain.result in
+    let text = c.args.text.now in
+    cut_boundary text k k c.utf8.text (plain_cut text k c.plain_start-plain.ensures.inside c.plain_start-plain.ensures.plain)
 
 pub returns-clause-bytes : goal.returns-clause-bytes
 returns-clause-bytes c =
-    let cs = chars c.args.text.now in
-    let end = YieldsList-end (YieldsList-from_chars c.args.text.now c.utf8.text cc) c.loop-c.yielded _ c.loop-c.yielded_by _ _ c.in-None.is
-    c.next.ensures.steps in
-    c.loop-c.invariant.0.bytes ∙ ap (λ n. bytes_of (take n cs)) (sym
-    (reaches_all c.args.columns cs (length c.loop-c.yielded) c.loop-c.at c.loop-c.width end.1 c.loop-c.invariant.0))
+    let k = c.plain_start-plain.result in
+    let text = c.args.text.now in
+    let plain = c.plain_start-plain.ensures in
+    let rest = subst (λ (t : List ℕ). c.walked_reaching-at.result.0 ≡ bytes_of (take (reaching (c.args.columns - k) (chars t)) (chars t)))
+    c.range_from.ensures.value c.walked_reaching-at.ensures.bytes in
+    let both = ap bytes_of (reached_front c.args.columns text k plain.inside plain.within plain.plain)
+    ∙ bytes_front text (take (reaching (c.args.columns - k) (chars (drop k text))) (chars (drop k text))) k plain.inside plain.plain in
+    omega (arith, rest, both)
 
 pub returns-clause-width : goal.returns-clause-width
 returns-clause-width c =
-    let cs = chars c.args.text.now in
-    let end = YieldsList-end (YieldsList-from_chars c.args.text.now c.utf8.text cc) c.loop-c.yielded _ c.loop-c.yielded_by _ _ c.in-None.is
-    c.next.ensures.steps in
-    c.loop-c.invariant.0.width_is ∙ ap (λ n. width_of (take n cs)) (sym
-    (reaches_all c.args.columns cs (length c.loop-c.yielded) c.loop-c.at c.loop-c.width end.1 c.loop-c.invariant.0))
+    let k = c.plain_start-plain.result in
+    let text = c.args.text.now in
+    let plain = c.plain_start-plain.ensures in
+    let rest = subst (λ (t : List ℕ). c.walked_reaching-at.result.1 ≡ width_of (take (reaching (c.args.columns - k) (chars t)) (chars t)))
+    c.range_from.ensures.value c.walked_reaching-at.ensures.width in
+    let both = ap width_of (reached_front c.args.columns text k plain.inside plain.within plain.plain)
+    ∙ width_front text (take (reaching (c.args.columns - k) (chars (drop k text))) (chars (drop k text))) k plain.inside plain.plain in
+    omega (arith, rest, both)
+
+pub returns-clause-near : goal.returns-clause-near
+returns-clause-near c = omega (arith, c.walked_reaching-at.ensures.near, c.plain_start-plain.ensures.within)
+
+pub overflow_add-result : goal.overflow_add-result
+overflow_add-result c =
+    let k = c.plain_start-plain.result in
+    let rest = c.range_from.result.now in
+    let short = bytes_within rest (reaching (c.args.columns - k) (chars rest)) c.range_from.utf8 in
+    let count = ap length c.range_from.ensures.value ∙ length-drop k c.args.text.now in
+    omega (arith, c.walked_reaching-at.ensures.bytes, short, count, c.plain_start-plain.ensures.inside)

@@ -1,6 +1,6 @@
 use Rattle.std.proofs.Common.{◌≡◌, ◌-◌, ◌≤◌, length, take}
 use Rattle.snippet_strokes.specs.Bars.{barred}
-use Rattle.snippet_strokes.proofs.bars.draw_bars.Given as goal
+use Rattle.snippet_strokes.proofs.bars.draw_sides.Given as goal
 
 -- the bars before this one are drawn
 abbrev pub invariant-loop-from : goal.invariant-loop-from

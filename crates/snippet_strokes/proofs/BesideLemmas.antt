@@ -1,0 +1,283 @@
+-- Bars that are drawn into a source row before its code.
+use Rattle.std.proofs.Common.{◌≡◌, ◌≢◌, ℕ, ◌+◌, ◌-◌, ◌<◌, ◌≤◌, ◌==◌, true, false, List, [], ◌∷◌, ◌++◌, length, get_or, refl, sym, ap, ◌∙◌, arith}
+use Rattle.std.proofs.Common.{inl, inr, zero, suc, Bool, All, chars, filter, not, subst}
+use Rattle.std.proofs.lemmas.Bool.{cases_eq, cases_lt, false≢true, not-true}
+use Rattle.std.proofs.lemmas.Bool.Decides.{nat_tests}
+use Rattle.std.proofs.lemmas.List.Folds.{list_any_at}
+use Rattle.std.proofs.lemmas.List.{ext_get_or, length_push}
+use Rattle.std.proofs.lemmas.List.Elements.{All-head, All-tail, filter_passes}
+use Rattle.snippet_lines.specs.declared.number.LineNumbers.{LineNumbers}
+use Rattle.snippet_lines.specs.Number.{shown_number}
+use Rattle.snippet_labels.specs.PlacedEntries.{is_end_part}
+use Rattle.snippet_parts.specs.declared.entries.AnnotatedLineInfo.{AnnotatedLineInfo}
+use Rattle.snippet_parts.specs.declared.entries.LineAnnotation.{LineAnnotation}
+use Rattle.snippet_parts.specs.Entries.{is_bar}
+use Rattle.snippet_text.specs.Normalized.{norm}
+use Rattle.snippet_text.specs.Width.{width_of}
+use Rattle.snippet_window.specs.declared.margin.Margin.{Margin}
+use Rattle.snippet_window.specs.Margin.{bounds_of}
+use Rattle.snippet_window.specs.Window.{dropped_part}
+use Rattle.snippet_style.specs.declared.role.ElementStyle.TheVariants.{LineNumber}
+use Rattle.snippet_style.specs.Cell.{Cell, SPACE, text_cells}
+use Rattle.snippet_style.specs.Glyphs.{separator_of}
+use Rattle.snippet_style.proofs.CellLemmas.{length-text_cells, length-written, slice_index_or-written_after, slice_index_or-written_before}
+use Rattle.snippet_style.proofs.CellLemmas.{slice_index_or-written_inside}
+use Rattle.snippet_grid.specs.Grid.{cells_written, changed_within, row_at}
+use Rattle.snippet_grid.specs.Layout.{Layout, bar_cell}
+use Rattle.snippet_grid.proofs.RowLemmas.{separator_row-begun}
+use Rattle.snippet_strokes.specs.declared.bars.BarStroke.{BarStroke}
+use Rattle.snippet_strokes.specs.declared.bars.BarStroke.TheVariants.{Top, Solid}
+use Rattle.snippet_strokes.specs.declared.bars.OpenBar.{OpenBar}
+use Rattle.snippet_strokes.specs.Bars.{HasBarRoom, bar_cell_part, barred, bars_apart, ends_of_bars, has_depth, is_whole_line, with_bar}
+use Rattle.snippet_strokes.specs.Bars.{with_bars}
+use Rattle.snippet_strokes.specs.Snippet.{AddsLine}
+use Rattle.snippet_strokes.specs.SourceRows.{AddsSourceRow, window_cells, with_cells}
+use Rattle.snippet_strokes.specs.StrokeRows.{IsHighlighted, highlighted_row, role_in_source}
+use Rattle.snippet_strokes.proofs.BarLemmas.{BarsDrawn-with_bars, DrawsBars-barred}
+use Rattle.snippet_strokes.proofs.BarRows.{barred-below, changed_same}
+use Rattle.snippet_strokes.proofs.HighlightLaws.{IsHighlighted-row, IsHighlighted-rows, highlighted_count, unlit_rows}
+use Rattle.snippet_strokes.proofs.LineRowLemmas.{own_whole}
+use Rattle.snippet_strokes.proofs.LineValueLaws.{highlighted_is}
+use Rattle.snippet_strokes.proofs.SnippetLemmas.{highlighted_left, last_changed, line_added, row_added}
+use Rattle.snippet_strokes.proofs.SourceRowLemmas.{front, number_written}
+use Rattle.snippet_strokes.proofs.SwapLemmas.{cells-swap, written-swap}
+use Rattle.snippet_strokes.proofs.WholeLineLemmas.{whole_added}
+
+-- a change of a row that may come before each of some bars or after it may come before all of them
+pub bars_pass : (change : List Cell → List Cell) (layout : Layout) (stroke : BarStroke) (bars : List OpenBar) (row : List Cell)
+    → All (λ bar. (cells : List Cell) → change (with_bar layout stroke cells bar) ≡ with_bar layout stroke (change cells) bar) bars
+    → change (with_bars layout stroke bars row) ≡ with_bars layout stroke bars (change row)
+bars_pass change layout stroke [] row pass = refl
+bars_pass change layout stroke (bar ∷ bars) row pass =
+    let P : OpenBar → Type 0 = λ b. (cells : List Cell) → change (with_bar layout stroke cells b) ≡ with_bar layout stroke (change cells) b in
+    bars_pass change layout stroke bars (with_bar layout stroke row bar) (All-tail P bar bars pass)
+    ∙ ap (with_bars layout stroke bars) (All-head P bar bars pass row)
+
+-- highlighting, which changes no cell left of the code, may come after a bar or before it
+module _ (layout : Layout) (dropped : ℕ) (es : List LineAnnotation) where
+  abbrev lit : List Cell → List Cell
+  lit = highlighted_row layout.code dropped es
+
+  lit_bar : (stroke : BarStroke) (bar : OpenBar) → HasBarRoom layout bar → (cells : List Cell)
+      → lit (with_bar layout stroke cells bar) ≡ with_bar layout stroke (lit cells) bar
+  lit_bar stroke bar room cells =
+      let at : ℕ = bar_cell layout bar.depth in
+      let part : List Cell = bar_cell_part layout stroke bar ∷ [] in
+      let one : List Cell = with_bar layout stroke cells bar in
+      let new : List Cell = with_bar layout stroke (lit cells) bar in
+      let over = IsHighlighted-row layout.code dropped es one in
+      let plain = IsHighlighted-row layout.code dropped es cells in
+      let long = length-written SPACE cells at part in
+      let long_new = length-written SPACE (lit cells) at part in
+      ext_get_or SPACE (lit one) new (omega (arith, over.width, long, long_new, plain.width)) (λ c within. elim (cases_lt c layout.code) [
+        | inl left ↦
+            highlighted_left layout.code dropped es one (lit one) over c left ∙ elim (cases_lt c at) [
+              | inl before ↦
+                  slice_index_or-written_before SPACE cells at part c before
+                  ∙ sym (slice_index_or-written_before SPACE (lit cells) at part c before
+                  ∙ highlighted_left layout.code dropped es cells (lit cells) plain c left)
+              | inr past ↦ elim (cases_eq c at) [
+                | inl here ↦
+                    let j : ℕ = c - at in
+                    let place : at + j ≡ c = omega (arith, past) in
+                    let there : j < length part = omega (arith, here) in
+                    ap (λ i. get_or one i SPACE) (sym place) ∙ slice_index_or-written_inside SPACE cells at part j SPACE there
+                    ∙ sym (ap (λ i. get_or new i SPACE) (sym place) ∙ slice_index_or-written_inside SPACE (lit cells) at part j SPACE there)
+                | inr other ↦
+                    let after : at + length part ≤ c = omega (arith, past, other) in
+                    slice_index_or-written_after SPACE cells at part c SPACE after
+                    ∙ sym (slice_index_or-written_after SPACE (lit cells) at part c SPACE after
+                    ∙ highlighted_left layout.code dropped es cells (lit cells) plain c left)
+              ]
+            ]
+        | inr right ↦
+            let after : at + length part ≤ c = omega (arith, right, room.1) in
+            let reaches : c < length one = omega (arith, within, over.width) in
+            let inside : c < length cells = omega (arith, reaches, long, after) in
+            over.cells c reaches
+            ∙ ap (λ (cell : Cell). record cell { role = role_in_source layout.code dropped es c cell.role })
+            (slice_index_or-written_after SPACE cells at part c SPACE after)
+            ∙ sym (plain.cells c inside) ∙ sym (slice_index_or-written_after SPACE (lit cells) at part c SPACE after)
+      ])
+
+  pub lit_bars : (stroke : BarStroke) (bars : List OpenBar) (row : List Cell) → All (HasBarRoom layout) bars
+      → lit (with_bars layout stroke bars row) ≡ with_bars layout stroke bars (lit row)
+  lit_bars stroke bars row room =
+      bars_pass lit layout stroke bars row (λ k d within. lit_bar stroke (get_or bars k d) (room k d within))
+
+-- the cells of the code, too
+code_bar : (layout : Layout) (stroke : BarStroke) (bar : OpenBar) (cells : List Cell) → HasBarRoom layout bar → (row : List Cell)
+    → with_cells layout.code cells (with_bar layout stroke row bar) ≡ with_bar layout stroke (with_cells layout.code cells row) bar
+code_bar layout stroke bar [] room row = refl
+code_bar layout stroke bar (x ∷ cells) room row =
+    written-swap row (bar_cell_part layout stroke bar ∷ []) (x ∷ cells) (bar_cell layout bar.depth) layout.code (omega (arith, room.1))
+
+-- and bars of other depths
+bar_bar : (layout : Layout) (top bar : OpenBar) → bar.depth ≢ top.depth → (row : List Cell)
+    → with_bar layout Solid (with_bar layout Top row top) bar ≡ with_bar layout Top (with_bar layout Solid row bar) top
+bar_bar layout top bar other row =
+    let one : List Cell = bar_cell_part layout Top top ∷ [] in
+    let two : List Cell = bar_cell_part layout Solid bar ∷ [] in
+    elim (cases_lt top.depth bar.depth) [
+      | inl left ↦ written-swap row one two (bar_cell layout top.depth) (bar_cell layout bar.depth) (omega (arith, left))
+      | inr right ↦ sym (written-swap row two one (bar_cell layout bar.depth) (bar_cell layout top.depth) (omega (arith, right, other)))
+    ]
+
+other_depths : (tops : List OpenBar) (depth : ℕ) → has_depth tops depth ≡ false → All (λ top. depth ≢ top.depth) tops
+other_depths tops depth none k d within same =
+    false≢true (sym none ∙ list_any_at (λ (bar : OpenBar). bar.depth == depth) tops k d within (told (get_or tops k d).depth depth (sym same)))
+  where
+    told : (m n : ℕ) → m ≡ n → (m == n) ≡ true
+    told m n is = grind (arith, nat_tests)
+
+-- tops and bars of other depths
+tops_pass : (layout : Layout) (tops past : List OpenBar) (row : List Cell) → All (λ bar. has_depth tops bar.depth ≡ false) past
+    → with_bars layout Top tops (with_bars layout Solid past row) ≡ with_bars layout Solid past (with_bars layout Top tops row)
+tops_pass layout tops past row apart =
+    bars_pass (with_bars layout Top tops) layout Solid past row (λ k d within cells.
+    let bar : OpenBar = get_or past k d in
+    let others = other_depths tops bar.depth (apart k d within) in
+    sym (bars_pass (λ cs. with_bar layout Solid cs bar) layout Top tops cells (λ i e inside. bar_bar layout (get_or tops i e) bar (others i e inside))))
+
+-- a row that is drawn from left to right, bars and then the code, is the one that gets its bars last
+pub bars_first : (layout : Layout) (tops past : List OpenBar) (cells row : List Cell) → All (HasBarRoom layout) tops → All (HasBarRoom layout) past
+    → All (λ bar. has_depth tops bar.depth ≡ false) past
+    → with_cells layout.code cells (with_bars layout Top tops (with_bars layout Solid past row))
+    ≡ with_bars layout Solid past (with_bars layout Top tops (with_cells layout.code cells row))
+bars_first layout tops past cells row tops_room past_room apart =
+    ap (with_cells layout.code cells) (tops_pass layout tops past row apart)
+    ∙ bars_pass (with_cells layout.code cells) layout Solid past (with_bars layout Top tops row)
+    (λ k d within. code_bar layout Solid (get_or past k d) cells (past_room k d within))
+    ∙ ap (with_bars layout Solid past) (bars_pass (with_cells layout.code cells) layout Top tops row
+    (λ k d within. code_bar layout Top (get_or tops k d) cells (tops_room k d within)))
+
+-- bars beside the last row
+pub barred_last : (layout : Layout) (stroke : BarStroke) (bars : List OpenBar) (above new : List (List Cell)) (row : List Cell)
+    → new ≡ above ++ row ∷ [] → barred layout stroke bars (length above) new ≡ above ++ with_bars layout stroke bars row ∷ []
+barred_last layout stroke bars above new row is =
+    ap (barred layout stroke bars (length above)) is ∙ barred-below layout stroke bars above (row ∷ [])
+
+-- no bars leave the rows as they are
+pub unbarred : (layout : Layout) (row : ℕ) (bare mid : List (List Cell)) → mid ≡ barred layout Solid [] row (barred layout Top [] row bare) → mid ≡ bare
+unbarred layout row bare mid is =
+    is ∙ changed_same (with_bars layout Solid []) row (barred layout Top [] row bare) (λ cells. refl)
+    ∙ changed_same (with_bars layout Top []) row bare (λ cells. refl)
+
+-- bars apart from others have none of their depths
+pub apart_depths : (bars others : List OpenBar) → All (λ bar. has_depth others bar.depth ≡ false) (bars_apart bars others)
+apart_depths bars others k d within =
+    not-true _ (filter_passes (λ (bar : OpenBar). not (has_depth others bar.depth)) bars k d within)
+
+-- bars don't reach to the code
+pub bars_left : (layout : Layout) (stroke : BarStroke) (bars : List OpenBar) (row : List Cell) → All (HasBarRoom layout) bars → length row ≤ layout.code
+    → length (with_bars layout stroke bars row) ≤ layout.code
+bars_left layout stroke bars row room short = omega (arith, (BarsDrawn-with_bars layout stroke bars row room).short, short)
+
+-- a row that begins with its number, after which comes the separator, is the one whose number is written over the separator's row
+pub number_first : (layout : Layout) (number : List ℕ) (old mid new : List (List Cell)) (row stroke : ℕ) → row ≡ length old
+    → length (chars number) ≤ layout.gutter + 1 → stroke ≡ separator_of layout.decor
+    → (0 < length number → mid ≡ cells_written old row 0 (text_cells LineNumber (chars number))) → (number ≡ [] → mid ≡ old)
+    → new ≡ cells_written mid row (layout.gutter + 1) (text_cells LineNumber (stroke ∷ [])) → new ≡ old ++ front layout (chars number) ∷ []
+number_first layout number old mid new row stroke last short is writes stays separates =
+    let digits : List Cell = text_cells LineNumber (chars number) in
+    let line : List Cell = text_cells LineNumber (stroke ∷ []) in
+    let put : List (List Cell) → List (List Cell) = λ rows. cells_written rows row (layout.gutter + 1) line in
+    let begins = separator_row-begun old (put old) row layout.gutter stroke layout.decor last is refl in
+    number_written layout number old (put old) new row last begins
+    (λ some. separates ∙ ap put (writes some)
+    ∙ cells-swap old row row 0 (layout.gutter + 1) digits line (omega (arith, length-text_cells LineNumber (chars number), short)))
+    (λ none. separates ∙ ap put (stays none))
+
+-- rows that differ in the last one
+apart_last : (above : List (List Cell)) (one two : List Cell) (r : ℕ) → r ≢ length above → row_at (above ++ one ∷ []) r ≡ row_at (above ++ two ∷ []) r
+apart_last [] one two zero other = absurd (other refl)
+apart_last [] one two (suc r) other = refl
+apart_last (x ∷ above) one two zero other = refl
+apart_last (x ∷ above) one two (suc r) other = apart_last above one two r (λ same. other (ap suc same))
+
+-- a line that is marked as a whole: its source row with the bars beside it, of which the code is highlighted, shows it
+module _ (layout : Layout) (margin : Margin) (numbers : LineNumbers) (closes : Bool) (open_bars tops past : List OpenBar) (info : AnnotatedLineInfo)
+    (dropped : ℕ) (old bare mid new : List (List Cell)) (row : ℕ)
+    (source : AddsSourceRow layout (shown_number numbers layout.gutter info.line_index) (window_cells layout.decor margin (norm (chars info.line.now)))
+    old bare)
+    (sided : mid ≡ barred layout Solid past (length old) (barred layout Top tops (length old) bare))
+    (last : row ≡ length old)
+    (is_lit : new ≡ changed_within (highlighted_row layout.code dropped (filter (λ e. not (is_end_part e.annotation_type)) info.annotations.items))
+    row (row + 1) mid)
+    (tops_room : All (HasBarRoom layout) tops)
+    (past_room : All (HasBarRoom layout) past) where
+  abbrev text : List ℕ
+  text = norm (chars info.line.now)
+
+  abbrev own : List LineAnnotation
+  own = filter (λ (e : LineAnnotation). not (is_end_part e.annotation_type)) info.annotations.items
+
+  abbrev plain : List Cell
+  plain = source.row
+
+  abbrev bright : List Cell
+  bright = highlighted_row layout.code dropped own plain
+
+  -- the rows, as if the bars came last
+  abbrev high : List (List Cell)
+  high = old ++ bright ∷ []
+
+  abbrev done : List (List Cell)
+  done = old ++ with_bars layout Top tops bright ∷ []
+
+  abbrev barred_row : List Cell → List Cell
+  barred_row cells = with_bars layout Solid past (with_bars layout Top tops cells)
+
+  mid_is : mid ≡ old ++ barred_row plain ∷ []
+  mid_is =
+      sided ∙ barred_last layout Solid past old (barred layout Top tops (length old) bare) (with_bars layout Top tops plain)
+      (barred_last layout Top tops old bare plain source.added)
+
+  lit_row : row_at new row ≡ barred_row bright
+  lit_row =
+      highlighted_is layout.code dropped own (row_at mid row) (row_at new row) (IsHighlighted-rows layout.code dropped own row mid new is_lit)
+      ∙ ap (highlighted_row layout.code dropped own) (row_added old mid (barred_row plain) row last mid_is)
+      ∙ lit_bars layout dropped own Solid past (with_bars layout Top tops plain) past_room
+      ∙ ap (with_bars layout Solid past) (lit_bars layout dropped own Top tops plain tops_room)
+
+  new_is : new ≡ old ++ barred_row bright ∷ []
+  new_is =
+      last_changed old mid new row (barred_row plain) last mid_is (highlighted_count layout.code dropped own row mid new is_lit)
+      (unlit_rows layout.code dropped own row mid new is_lit)
+      ∙ ap (λ cells. old ++ cells ∷ []) lit_row
+
+  done_is : done ≡ barred layout Top tops row high
+  done_is = sym (ap (λ r. barred layout Top tops r high) last ∙ barred_last layout Top tops old high bright refl)
+
+  new_barred : new ≡ barred layout Solid past row done
+  new_barred =
+      new_is ∙ sym (ap (λ r. barred layout Solid past r done) last ∙ barred_last layout Solid past old done (with_bars layout Top tops bright) refl)
+
+  highlights : IsHighlighted layout.code dropped own (row_at bare row) (row_at high row)
+  highlights =
+      subst (λ cells. IsHighlighted layout.code dropped own (row_at bare row) cells) (sym (row_added old high bright row last refl))
+      (subst (λ cells. IsHighlighted layout.code dropped own cells bright) (sym (row_added old bare plain row last source.added))
+      (IsHighlighted-row layout.code dropped own plain))
+
+  others : (r : ℕ) → r ≢ row → row_at high r ≡ row_at bare r
+  others r other =
+      apart_last old bright plain r (λ same. other (same ∙ sym last)) ∙ ap (λ rows. row_at rows r) (sym source.added)
+
+  pub whole_line_added : length (shown_number numbers layout.gutter info.line_index) ≤ layout.gutter + 1
+      → dropped ≡ width_of (dropped_part (bounds_of margin).left text)
+      → All (λ e. is_bar e.annotation_type ≡ false → dropped ≤ e.start.display) info.annotations.items
+      → is_whole_line text info.annotations.items ≡ true → tops ≡ ends_of_bars info.annotations.items
+      → past ≡ bars_apart open_bars (ends_of_bars info.annotations.items) → AddsLine layout margin numbers closes open_bars info old new
+  whole_line_added short dropped_is clear whole tops_are past_are =
+      let es = info.annotations.items in
+      let long : length high ≡ row + 1 = omega (arith, last, length_push old bright) in
+      let count : length high ≡ length bare = omega (arith, length_push old bright, length_push old plain, ap length source.added) in
+      let topped = DrawsBars-barred layout Top tops row high done tops_room done_is in
+      line_added layout margin numbers closes open_bars past info dropped old bare high done new row short source last dropped_is clear highlights others
+      count
+      (λ above cells is free. whole_added layout text margin.term_width dropped closes es above cells high done row whole long topped is free)
+      (DrawsBars-barred layout Solid past row done new past_room new_barred)
+      (λ above cells is. own_whole layout margin.term_width closes text dropped es above cells high done row whole is
+      (omega (arith, long, ap length is, length_push above cells))
+      (done_is ∙ ap (λ bars. barred layout Top bars row high) tops_are))
+      past_are new_barred
