@@ -64,12 +64,6 @@ pub unset-shows : (r : Renderer) (groups : List Group) (sheets : List Stylesheet
 unset-shows r groups sheets texts are none =
     subst (λ (gs : List Group). ShowsForm (form_of r) r gs sheets texts) (unset-same (form_of r) r groups are.shown none are.set) are.shows
 
--- and have the laws of that
-pub unset-laws : (r : Renderer) (groups : List Group) (sheet : Stylesheet) (text : List ℕ) → HasLaws r groups sheet text
-    → shows_as_given (form_of r) r ≡ true → LawsIn (form_of r) r groups sheet text
-unset-laws r groups sheet text has none =
-    subst (λ (gs : List Group). LawsIn (form_of r) r gs sheet text) (unset-same (form_of r) r groups has.shown none has.set) has.laws
-
 -- ---- what stays: trusted texts
 
 option-same : {A B : Type 0} (P : A → A → Type 0) (f : A → List B) → ((x y : A) → P x y → f y ≡ f x) → (a b : Option A) → SameOption P a b

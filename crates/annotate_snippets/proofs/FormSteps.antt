@@ -1,13 +1,12 @@
 -- The text form of a group's elements, and that of a report's groups, are made one by one.
 use Rattle.std.proofs.Common.{◌≡◌, ◌≢◌, ◌∙◌, ℕ, ◌+◌, ◌^◌, ◌<◌, ◌≤◌, ◌==◌, cond, not, suc, Bool, true, false, List}
 use Rattle.std.proofs.Common.{[], ◌∷◌, ◌++◌, Option, None, Some, IfSome, if◌then◌else◌, length}
-use Rattle.std.proofs.Common.{take, drop, get_or, refl, sym, ap, subst, arith}
+use Rattle.std.proofs.Common.{drop, get_or, refl, sym, ap, subst, arith}
 use Rattle.std.specs.List.{filter, flat_map}
 use Rattle.std.specs.Option.{option_to_list}
 use Rattle.std.proofs.Math.Seq.{drop-cons}
 use Rattle.std.proofs.lemmas.Bool.{both_ways}
-use Rattle.std.proofs.lemmas.Grind.{flat_map-append}
-use Rattle.std.proofs.lemmas.List.{append-nil, append_assoc, drop_all, take_more}
+use Rattle.std.proofs.lemmas.List.{append-nil, append_assoc, drop_all}
 use Rattle.snippet_model.specs.declared.snippet.Element.{Element}
 use Rattle.snippet_model.specs.declared.snippet.Element.TheVariants.{Message, Cause, Suggestion, Origin, Padding}
 use Rattle.snippet_model.specs.Heading.{heading_of_title}
@@ -145,11 +144,3 @@ group_added r groups g file es old titled new of drawn title added =
 -- the groups so far are added, and one more
 abbrev pub groups_form : Renderer → List Group → List Group → List FormPiece
 groups_form r groups gs = flat_map (group_form r groups) gs
-
-pub one_group_added : (r : Renderer) (groups gs : List Group) (i : ℕ) (g : Group) (form new : List FormPiece) → i < length gs → g ≡ get_or gs i g
-    → form ≡ groups_form r groups (take i gs) → new ≡ form ++ group_form r groups g → new ≡ groups_form r groups (take (i + 1) gs)
-one_group_added r groups gs i g form new within is so_far added =
-    let own : Group → List FormPiece = group_form r groups in
-    let more : take (i + 1) gs ≡ take i gs ++ g ∷ [] = take_more gs i g within ∙ ap (λ (h : Group). take i gs ++ h ∷ []) (sym is) in
-    added ∙ ap (λ (x : List FormPiece). x ++ own g) so_far ∙ ap (λ (x : List FormPiece). flat_map own (take i gs) ++ x) (sym (append-nil (own g)))
-    ∙ sym (flat_map-append own (take i gs) (g ∷ [])) ∙ ap (flat_map own) (sym more)

@@ -273,16 +273,6 @@ pub plain_printed : (sheet : Stylesheet) (levels : List LevelInner) (page : Page
 plain_printed sheet levels page text none plain prints =
     plain_woven sheet text (page_text page) [] plain refl (page_woven sheet levels page [] text none prints)
 
--- the text of a report of no groups is empty
-pub text_of_none : (r : Renderer) (sheet : Stylesheet) (text : List ℕ) → SheetsShown r [] (sheet ∷ []) (text ∷ []) → text ≡ []
-text_of_none r sheet text shows =
-    let prints : PrintsPage sheet [] [] text = shows.printed.0 in
-    prints.joined ∙ of_parts prints.parts prints.printed
-  where
-    of_parts : (parts : List (List ℕ)) → ArePrinted sheet [] [] parts → join_with_byte 10 parts ≡ []
-    of_parts [] printed = refl
-    of_parts (part ∷ parts) printed = absurd printed
-
 -- what holds of an answer holds of it where another error stands for the first
 pub IfOk-map_err : {T E D : Type 0} (P : T → Type 0) (R : E → D → Type 0) (r : Result T E) (q : Result T D) → IfOk r P
     → MatchResult r (λ x. q ≡ Ok x) (λ e. IsErrAnd q (R e)) → IfOk q P

@@ -13,9 +13,6 @@ pub record ItemsSoFar (depth : ℕ) (start tokens : List Token) (found : List Va
   pub so_far : (left : List Token) (more : List Data) → TakesItems depth tokens left (items_of more)
       → TakesItems depth start left (items_of (map view found ++ more))
 
-pub items-begin : (depth : ℕ) (start : List Token) → ItemsSoFar depth start start []
-items-begin depth start = record { so_far = λ left more t. t }
-
 pub items-next : (depth : ℕ) (start tokens mid : List Token) (found : List Value) (value : Value) → ItemsSoFar depth start tokens found
     → after_end_array tokens ≡ None → Takes depth tokens mid (view value) → ItemsSoFar depth start mid (found ++ value ∷ [])
 items-next depth start tokens mid found value so e here = record {
@@ -29,9 +26,6 @@ items-done depth start tokens left found so e = rw (append-nil (map view found))
 
 pub record MembersSoFar (depth : ℕ) (start tokens : List Token) (found : Members) : Type 0 where
   pub so_far : (left : List Token) (ms : Members) → TakesMembers depth found tokens left ms → TakesMembers depth no_members start left ms
-
-pub members-begin : (depth : ℕ) (start : List Token) → MembersSoFar depth start start no_members
-members-begin depth start = record { so_far = λ left ms t. t }
 
 pub members-next : (depth : ℕ) (start tokens rest mid : List Token) (found : Members) (k : List ℕ) (d : Data) → MembersSoFar depth start tokens found
     → read_key tokens ≡ Some (Some k, rest) → Takes depth rest mid d → MembersSoFar depth start mid (put k d found)

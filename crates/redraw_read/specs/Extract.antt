@@ -13,15 +13,15 @@ use Rattle.redraw_read.specs.declared.sources.File.{File}
 -- lines that are shown: a text, and the number of its first line
 pub record Extract : Type 0 where
   pub text : List ℕ
-  pub before_line_end : ℕ
+  pub first_line : ℕ
 
 -- all of a file
 abbrev pub whole : List ℕ → Extract
-whole text = record { text = text; before_line_end = 1 }
+whole text = record { text = text; first_line = 1 }
 
 -- lines that the input has of a file
 abbrev pub carried_lines : Carried → Extract
-carried_lines c = record { text = string_bytes c.text; before_line_end = c.first_line }
+carried_lines c = record { text = string_bytes c.text; first_line = c.first_line }
 
 -- where the lines of a text start that come after the first of those that start at these bytes, if that is this line
 abbrev pub after_line : List ℕ → List ℕ → List ℕ → Option (List ℕ)

@@ -31,7 +31,7 @@ pub struct Lookup<'a> {
 
 /// Where in a text a region lies.
 pub fn locate(lookup: Lookup<'_>, region: Region) -> SpanAt
-    ensures located { IsLocated lookup.entry.text.now
+    ensures located { IsSpanBetween lookup.entry.text.now
         (spec.start_place lookup.entry.text.now lookup.entry.starts.now lookup.entry.first_line region)
         (spec.end_place lookup.entry.text.now lookup.entry.starts.now lookup.entry.first_line region) result }
 {

@@ -106,11 +106,6 @@ pub answered_same : (way : Way) (told is_first still_first : Bool) (held same : 
 answered_same way told is_first still_first held same old new is h =
     subst (λ bytes. AnswersReader way told is_first still_first bytes old new) is h
 
--- what is known of an answer Err tells more
-pub on_err : {T E P Q : Type 0} (r : Result T E) → (P → Q) → OnErr r P → OnErr r Q
-on_err (Ok x) tells h = tt
-on_err (Err e) tells h = tells h
-
 -- what holds anyway holds where it is Err
 pub anyway : {T E P : Type 0} (r : Result T E) → P → OnErr r P
 anyway (Ok x) h = tt

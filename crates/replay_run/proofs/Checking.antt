@@ -99,17 +99,6 @@ checked_all (Some answers) (Some lines) expected_left cases_left counts h no_ans
     let all = h.joins [] (answers_end, lines_end) in
     (h.verdicts, subst (ChecksLines answers lines) (append-nil h.verdicts) all, h.counted)
 
--- no pair of files, and one more
-pub no_files : {File : Type 0} (bytes : File → Option (List ℕ)) (counts : Counts) → counts.passed ≡ 0 → counts.failed ≡ 0 → CountsFiles File bytes 0 counts
-no_files bytes counts passed failed =
-    record {
-      files = [];
-      each = λ k d within. absurd (omega (arith, within));
-      many = refl;
-      passed = passed;
-      failed = failed;
-    }
-
 -- a sum that is kept below a bound
 bounded : (a b top sum : ℕ) → a ≡ min sum top → min (a + b) top ≡ min (sum + b) top
 bounded a b top sum is = rw is (omega arith)

@@ -144,9 +144,6 @@ pub record Continues (args rest : List Argument) (options : Options) : Type 0 wh
   pub form : (next : CommandLine) → AreLine rest next
       → (line : CommandLine) × AreLine args line × ((c : Command) → Says options next c → Says no_options line c)
 
-pub continues_none : (args : List Argument) → Continues args args no_options
-continues_none args = record { reads = λ line h. (line, h, λ c says. says); form = λ next h. (next, h, λ c says. says) }
-
 -- the options are read on after one more sound setting
 pub continues_more : (args rest after : List Argument) (old new : Options) (s : Setting) → Continues args rest old → IsSound s → rest ≡ arguments_of s ++ after
     → new ≡ options_with old s → Continues args after new

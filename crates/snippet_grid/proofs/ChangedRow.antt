@@ -77,22 +77,6 @@ pub record ChangeSoFar (old now : List ℕ) (runs_old runs_now : List Run) (row 
   pub shows : ShowsSpan old now runs_old runs_now row from col (λ c. changed_by change (shown_cell old runs_old row c))
   pub count : length runs_now ≤ length runs_old + 2 * (col - from)
 
-pub change_start : (old : List ℕ) (runs : List Run) (row from to : ℕ) (change : Change) → IsRow old row runs → from ≤ to
-    → ChangeSoFar old old runs runs row from to change from
-change_start old runs row from to change is some =
-    record {
-      grows = BeginsWith-same old;
-      is_row = is;
-      low = omega arith;
-      high = some;
-      ends = λ n all within. all;
-      shows = λ c. elim (cases_lt c from) [
-        | inl before ↦ sym (pick (changed_by change (shown_cell old runs row c)) (shown_cell old runs row c) (within_before from from c before))
-        | inr follows ↦ sym (pick (changed_by change (shown_cell old runs row c)) (shown_cell old runs row c) (within_after from from c follows))
-      ];
-      count = omega arith;
-    }
-
 -- a part that was put changed
 pub put_span : (now mid new : List ℕ) (runs_now runs_new : List Run) (part changed : Run) (row col to : ℕ) (change : Change) → BeginsWith now mid
     → All (λ x. IsRun now x) runs_now → IsPartOfRow mid row col to (λ c. shown_cell now runs_now row c) part → IsChanged change part changed

@@ -1,13 +1,12 @@
 -- Rows that are written.
-use Rattle.std.proofs.Common.{◌≡◌, ◌≢◌, ℕ, ◌+◌, ◌-◌, ◌<◌, List, [], ◌∷◌, ◌++◌, length, refl, sym, ap, ◌∙◌, arith, inl, inr, subst, All}
-use Rattle.std.proofs.lemmas.List.Elements.{All-get_or}
+use Rattle.std.proofs.Common.{◌≡◌, ◌≢◌, ℕ, ◌+◌, ◌-◌, ◌<◌, List, [], ◌∷◌, ◌++◌, length, refl, sym, ap, ◌∙◌, arith, inl, inr, subst}
 use Rattle.std.proofs.lemmas.List.{get_or_past, get_or_push}
-use Rattle.std.proofs.lemmas.Bool.{cases_lt, cases_eq}
+use Rattle.std.proofs.lemmas.Bool.{cases_lt}
 use Rattle.std.specs.List.{slice_index_or}
 use Rattle.snippet_style.proofs.CellLemmas.{length-written, slice_index_or-written_before, slice_index_or-written_inside, slice_index_or-written_after}
 use Rattle.snippet_style.proofs.CellLemmas.{written_end, written_last}
 use Rattle.snippet_style.specs.Cell.{Cell, SPACE, written}
-use Rattle.snippet_grid.specs.Grid.{row_at, cell_at, cells_written, WritesCells, EachCell}
+use Rattle.snippet_grid.specs.Grid.{row_at, cells_written, WritesCells}
 
 -- writing below all rows appends one
 pub cells_written_below : (rows : List (List Cell)) (at : ℕ) (cells : List Cell)
@@ -60,37 +59,3 @@ pub WritesCells-from_equal : (old new : List (List Cell)) (row at : ℕ) (cells 
     → WritesCells old new row at cells
 WritesCells-from_equal old new row at cells is =
     subst (λ rows. WritesCells old rows row at cells) (sym is) (WritesCells-cells_written old row at cells)
-
--- the row that a write changed has the fact in every cell
-row_keeps : (P : Cell → Type 0) (old new : List (List Cell)) (row at : ℕ) (cells : List Cell) → WritesCells old new row at cells → EachCell P old → All P cells
-    → (c : ℕ) → P (cell_at new row c)
-row_keeps P old new row at cells writes each all c =
-    elim (cases_lt c at) [
-      | inl before ↦ subst P (sym (writes.before c before)) (each row c)
-      | inr not_before ↦
-          elim (cases_lt c (at + length cells)) [
-            | inl not_after ↦
-                let inside : c - at < length cells = omega arith in
-                let place : at + (c - at) ≡ c = omega arith in
-                subst (λ n. P (cell_at new row n)) place (subst P (sym (writes.inside (c - at) inside)) (All-get_or P cells (c - at) SPACE inside all))
-            | inr after ↦ subst P (sym (writes.after c after)) (each row c)
-          ]
-    ]
-
--- a fact of every cell goes through a write, since it holds of the spaces too
-pub EachCell-from_writes : (P : Cell → Type 0) (old new : List (List Cell)) (row at : ℕ) (cells : List Cell) → WritesCells old new row at cells → EachCell P old
-    → All P cells → EachCell P new
-EachCell-from_writes P old new row at cells writes each all r c =
-    elim (cases_eq r row) [
-      | inl same ↦ subst (λ n. P (cell_at new n c)) (sym same) (row_keeps P old new row at cells writes each all c)
-      | inr other ↦ subst (λ (cs : List Cell). P (slice_index_or cs c SPACE)) (sym (writes.others r other)) (each r c)
-    ]
-
-pub EachCell-cells_written : (P : Cell → Type 0) (old : List (List Cell)) (row at : ℕ) (cells : List Cell) → EachCell P old → All P cells
-    → EachCell P (cells_written old row at cells)
-EachCell-cells_written P old row at cells each all =
-    EachCell-from_writes P old (cells_written old row at cells) row at cells (WritesCells-cells_written old row at cells) each all
-
--- a grid with no rows has the fact in every cell if a space has it
-pub EachCell-nil : (P : Cell → Type 0) → P SPACE → EachCell P []
-EachCell-nil P space r c = space

@@ -1,6 +1,6 @@
 -- The laws of a grid's rows as HTML: read as HTML, the text is the plain text of the rows; its tags are its own; and each character
 -- stands in the class of its cell's role, and in the link of the cell.
-use Rattle.std.proofs.Common.{◌≡◌, ℕ, Bool, true, ◌&&◌, if◌then◌else◌, nat_eq, List, [], ◌∷◌, ◌++◌, None, refl, sym, ap, ◌∙◌, inl, inr}
+use Rattle.std.proofs.Common.{◌≡◌, ℕ, Bool, true, ◌&&◌, if◌then◌else◌, nat_eq, List, [], ◌∷◌, ◌++◌, refl, sym, ap, ◌∙◌, inl, inr}
 use Rattle.std.proofs.lemmas.Bool.{and_parts, cases_Bool}
 use Rattle.std.proofs.lemmas.List.{append_assoc}
 use Rattle.std.proofs.lemmas.Grind.{flat_map-append}
@@ -9,12 +9,12 @@ use Rattle.std.specs.List.{flat_map, list_all}
 use Rattle.std.specs.Str.{chars}
 use lib.Pointwise.{pointwise}
 use Rattle.snippet_grid.proofs.HtmlLemmas.{look_is}
-use Rattle.snippet_grid.proofs.HtmlReads.{html_says_pieces, is_made, lacks, piece_says, tags_are}
+use Rattle.snippet_grid.proofs.HtmlReads.{is_made, lacks, piece_says}
 use Rattle.snippet_grid.specs.Html.{HtmlLook, HtmlPiece, Text, anchor_ended, anchor_started, tags_between, cells_html, class_of, ended}
-use Rattle.snippet_grid.specs.Html.{further_html, html_text, level_class, html_look_of, plain_look, row_html, rows_html, same_html_look, span_ended}
+use Rattle.snippet_grid.specs.Html.{further_html, level_class, html_look_of, plain_look, row_html, rows_html, same_html_look, span_ended}
 use Rattle.snippet_grid.specs.Html.{span_started}
 use Rattle.snippet_grid.specs.Html.{started}
-use Rattle.snippet_grid.specs.HtmlRead.{ReadChar, chars_of_cells, chars_of_rows, chars_read, feed_read, html_says, piece_tag, tags_of}
+use Rattle.snippet_grid.specs.HtmlRead.{ReadChar, chars_of_cells, chars_of_rows, chars_read, feed_read}
 use Rattle.snippet_grid.specs.Print.{further_text, plain_text, row_text}
 use Rattle.snippet_style.specs.Cell.{Cell}
 use Rattle.snippet_style.specs.declared.role.ElementStyle.{ElementStyle}
@@ -164,14 +164,6 @@ made_further level (row ∷ rows) =
 pub made_rows : (level : LevelInner) (rows : List (List Cell)) → list_all is_made (rows_html level rows) ≡ true
 made_rows level [] = refl
 made_rows level (row ∷ rows) = made-append (row_html level row) (further_html level rows) (made_cells level plain_look row) (made_further level rows)
-
--- read as HTML, rows are their plain text
-pub rows_read : (level : LevelInner) (rows : List (List Cell)) → html_says (html_text (rows_html level rows)) ≡ plain_text rows
-rows_read level rows = html_says_pieces (rows_html level rows) (made_rows level rows) ∙ says_rows level rows
-
--- the tags of rows are those of their pieces
-pub rows_tags : (level : LevelInner) (rows : List (List Cell)) → tags_of None (html_text (rows_html level rows)) ≡ flat_map piece_tag (rows_html level rows)
-rows_tags level rows = tags_are (rows_html level rows) (made_rows level rows)
 
 -- ---- classes and links
 

@@ -57,21 +57,6 @@ rows_rise runs i j d ordered below within =
       | inr other ↦ (ordered i j d (omega arith) within).rows
     ]
 
--- the rows of the runs before the first of a row
-pub rows_above : (runs : List Run) (start end row : ℕ) (d e : Run) → AreOrdered runs → start ≤ end → end ≤ length runs → 0 < start
-    → ((get_or runs (start - 1) d).row ≡ row → ⊥) → (get_or runs (end - 1) e).row ≤ row → (k : ℕ) (f : Run) → k < start → (get_or runs k f).row < row
-rows_above runs start end row d e ordered low high some other last =
-    λ k f within.
-    let first : (get_or runs k f).row ≤ (get_or runs (start - 1) f).row = rows_rise runs k (start - 1) f ordered (omega arith) (omega arith) in
-    let second : (get_or runs (start - 1) f).row ≤ (get_or runs (end - 1) f).row = rows_rise runs (start - 1) (end - 1) f ordered (omega arith) (omega arith) in
-    let d_is : (get_or runs (start - 1) d).row ≡ (get_or runs (start - 1) f).row = ap (λ (x : Run). x.row)
-    (get_or_default runs (start - 1) d f (omega arith)) in
-    let e_is : (get_or runs (end - 1) e).row ≡ (get_or runs (end - 1) f).row = ap (λ (x : Run). x.row) (get_or_default runs (end - 1) e f (omega arith)) in
-    elim (cases_eq (get_or runs (start - 1) f).row row) [
-      | inl same ↦ absurd (other (d_is ∙ same))
-      | inr differs ↦ omega arith
-    ]
-
 -- a row of runs is a row also once the text has grown
 pub IsRow-grown : (old new : List ℕ) (row : ℕ) (runs : List Run) → BeginsWith old new → IsRow old row runs → IsRow new row runs
 IsRow-grown old new row runs grows is =

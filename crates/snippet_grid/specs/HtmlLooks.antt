@@ -1,10 +1,10 @@
 -- What a cell stands in, as the code has it; and gaps between runs of cells.
 use Rattle.std.specs.Prelude.{◌≡◌, ℕ, ◌-◌, ◌<◌, ◌≤◌, List, ◌++◌, map, replicate}
 use Rattle.snippet_grid.specs.Html.{AddsHtml, HtmlLook, Text, tags_between, plain_look}
-use Rattle.snippet_grid.specs.declared.html.Look.{Look}
+use Rattle.snippet_grid.specs.declared.html.TagLook.{TagLook}
 
 -- the class and the address, each as a text
-abbrev pub look_seen : Look → HtmlLook
+abbrev pub look_seen : TagLook → HtmlLook
 look_seen look = record { class = look.class.now; address = look.address.now }
 
 -- a text grew by spaces from one cell to before another, after one that stands in `last`; `next` is open then. Where there is no

@@ -24,13 +24,13 @@ use std::alloc::AllocError;
 
 /// What a cell stands in: the class of its role, and the address that it links to. Each is empty where there is none.
 #[derive(Clone, Copy)]
-struct Look<'a> {
+struct TagLook<'a> {
     class: &'static str,
     address: &'a str,
 }
 
 /// What a cell stands in that has neither.
-const PLAIN: Look<'static> = Look {
+const PLAIN: TagLook<'static> = TagLook {
     class: "",
     address: "",
 };
@@ -132,10 +132,10 @@ fn has_scheme(scheme: &str, address: &str) -> bool
 }
 
 /// What a cell of this role and link stands in, in a group of this level.
-fn look_of<'a>(level: LevelInner, role: ElementStyle, link: Option<&'a str>) -> Look<'a>
+fn look_of<'a>(level: LevelInner, role: ElementStyle, link: Option<&'a str>) -> TagLook<'a>
     ensures value { look_seen result ≡ look_at level role (option_copied link.entry) }
 {
-    Look {
+    TagLook {
         class: class_of(level, role),
         address: link_address(link),
     }
@@ -186,7 +186,7 @@ fn end_anchor(out: &mut String, address: &str) -> Result<(), AllocError>
 }
 
 /// Adds the tags that end what is open.
-fn end_look(out: &mut String, look: Look<'_>) -> Result<(), AllocError>
+fn end_look(out: &mut String, look: TagLook<'_>) -> Result<(), AllocError>
     ensures added { OnOk result (AddsHtml (ended (look_seen look.entry)) (string_bytes out.old)
         (string_bytes out.new)) }
 {
@@ -195,7 +195,7 @@ fn end_look(out: &mut String, look: Look<'_>) -> Result<(), AllocError>
 }
 
 /// Adds the tags that begin what comes next.
-fn start_look(out: &mut String, look: Look<'_>) -> Result<(), AllocError>
+fn start_look(out: &mut String, look: TagLook<'_>) -> Result<(), AllocError>
     ensures added { OnOk result (AddsHtml (started (look_seen look.entry)) (string_bytes out.old)
         (string_bytes out.new)) }
 {
@@ -204,7 +204,7 @@ fn start_look(out: &mut String, look: Look<'_>) -> Result<(), AllocError>
 }
 
 /// Adds the tags between two neighbours: none where they stand in the same.
-fn change_look(out: &mut String, last: Look<'_>, next: Look<'_>) -> Result<(), AllocError>
+fn change_look(out: &mut String, last: TagLook<'_>, next: TagLook<'_>) -> Result<(), AllocError>
     ensures added { OnOk result (AddsHtml (tags_between (look_seen last.entry) (look_seen next.entry))
         (string_bytes out.old) (string_bytes out.new)) }
 {
@@ -219,8 +219,8 @@ fn change_look(out: &mut String, last: Look<'_>, next: Look<'_>) -> Result<(), A
 fn push_stretch(
     out: &mut String,
     word: &str,
-    last: Look<'_>,
-    next: Look<'_>,
+    last: TagLook<'_>,
+    next: TagLook<'_>,
 ) -> Result<(), AllocError>
     ensures added { OnOk result (AddsHtml (tags_between (look_seen last.entry) (look_seen next.entry)
         ++ map Text (chars word.now)) (string_bytes out.old) (string_bytes out.new)) }
@@ -234,8 +234,8 @@ fn push_gap<'a>(
     out: &mut String,
     from: usize,
     to: usize,
-    last: Look<'a>,
-) -> Result<Look<'a>, AllocError>
+    last: TagLook<'a>,
+) -> Result<TagLook<'a>, AllocError>
     ensures gap { IfOk result (λ next. IsHtmlGap from to (look_seen last.entry) (look_seen next)
         (string_bytes out.old) (string_bytes out.new)) }
 {

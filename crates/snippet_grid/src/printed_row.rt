@@ -14,7 +14,7 @@ ghost use Rattle.snippet_style.specs.Cell.{Cell, SPACE, text_cells};
 ghost use Rattle.snippet_style.specs.declared.stylesheet.Stylesheet.{Stylesheet};
 
 use crate::codes::{SheetCodes, place_of};
-use crate::weave::{Look, weave_gap, weave_stretch};
+use crate::weave::{WovenLook, weave_gap, weave_stretch};
 use snippet_style::{ElementStyle, LevelInner};
 use std::alloc::AllocError;
 
@@ -44,13 +44,13 @@ impl PrintedRow {
 
     /// How the last cell looks.
     #[inline(always)]
-    fn last(&self) -> Look<'static>
+    fn last(&self) -> WovenLook<'static>
         ensures place { (sheet : Stylesheet) → style_at sheet result.place
             ≡ style_of sheet self.now.level self.now.role }
         ensures within { result.place < 11 }
         ensures none { result.link ≡ None }
     {
-        Look {
+        WovenLook {
             place: place_of(self.level, self.role),
             link: None,
         }
@@ -84,7 +84,7 @@ impl PrintedRow {
             return Ok(());
         }
         let last = self.last();
-        let next = Look {
+        let next = WovenLook {
             place: place_of(self.level, role),
             link: None,
         };

@@ -25,20 +25,20 @@ use std::alloc::AllocError;
 
 /// How a cell looks: the place of its style in the sheet, and where its link leads.
 #[derive(Clone, Copy)]
-pub(crate) struct Look<'a> {
+pub(crate) struct WovenLook<'a> {
     pub(crate) place: usize,
     pub(crate) link: Option<&'a str>,
 }
 
 /// How a cell looks in which nothing stands.
-const SPACE: Look<'static> = Look {
+const SPACE: WovenLook<'static> = WovenLook {
     place: NONE,
     link: None,
 };
 
 /// The number of a row, and how many cells it has.
 #[derive(Clone, Copy)]
-struct Line {
+struct WovenRow {
     row: usize,
     width: usize,
 }
@@ -63,7 +63,7 @@ pub(crate) fn weave_rows(
             out.push('\n')?;
         }
         let to = row_end(runs, from, row);
-        let line = Line {
+        let line = WovenRow {
             row,
             width: widths[row],
         };
@@ -95,7 +95,7 @@ fn weave_row(
     out: &mut String,
     text: &str,
     runs: &[Run<'_>],
-    line: Line,
+    line: WovenRow,
     level: LevelInner,
     codes: &mut SheetCodes,
 ) -> Result<(), AllocError>
@@ -112,7 +112,7 @@ fn weave_row(
             weave_gap(out, run.cell - col, codes, last)?;
             last = SPACE;
         }
-        let next = Look {
+        let next = WovenLook {
             place: place_of(level, run.role),
             link: run.link,
         };
@@ -134,8 +134,8 @@ pub(crate) fn weave_stretch(
     out: &mut String,
     word: &str,
     codes: &mut SheetCodes,
-    last: Look<'_>,
-    next: Look<'_>,
+    last: WovenLook<'_>,
+    next: WovenLook<'_>,
 ) -> Result<(), AllocError>
     requires some { 0 < length (chars word.now) }
     requires within { last.place < 11 × (next.place < 11) }
@@ -156,7 +156,7 @@ pub(crate) fn weave_gap(
     out: &mut String,
     count: usize,
     codes: &mut SheetCodes,
-    last: Look<'_>,
+    last: WovenLook<'_>,
 ) -> Result<(), AllocError>
     requires within { last.place < 11 }
     ensures sheet { codes.new ≡ codes.old }

@@ -196,9 +196,9 @@ map-reverse f [] = refl
 map-reverse f (x ∷ xs) =
     ap (map f) (sym (reverse_more xs x)) ∙ map_push f (reverse xs) x ∙ ap (λ l. l ++ f x ∷ []) (map-reverse f xs) ∙ reverse_more (map f xs) (f x)
 
-pub entries_more : (sh : LineAnnotation → LineAnnotation) (es : List LineAnnotation) (i : ℕ) (e d : LineAnnotation) → 0 < i → i ≤ length es
+pub labelled_more : (sh : LineAnnotation → LineAnnotation) (es : List LineAnnotation) (i : ℕ) (e d : LineAnnotation) → 0 < i → i ≤ length es
     → e ≡ sh (get_or es (i - 1) d) → reverse (map sh (drop i es)) ++ e ∷ [] ≡ reverse (map sh (drop (i - 1) es))
-entries_more sh es i e d some within is =
+labelled_more sh es i e d some within is =
     let j = i - 1 in
     let next : i ≡ j + 1 = omega arith in
     let from : drop j es ≡ get_or es j d ∷ drop (j + 1) es = drop_more es j d (omega arith) in

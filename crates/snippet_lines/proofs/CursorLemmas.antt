@@ -1,14 +1,14 @@
 -- What a search for an LF and a look at a line's end say of the lines of a text.
-use Rattle.std.proofs.Common.{◌≡◌, ◌≢◌, ℕ, zero, suc, ◌+◌, ◌-◌, ◌<◌, ◌≤◌, ◌⊎◌, Bool, true, false, cond, List, [], ◌∷◌, ◌++◌, All, count_by, length, take, drop}
-use Rattle.std.proofs.Common.{get_or, Option, Some, None, MatchOption, unwrap_or, Bor, le_refl, refl, sym, ap, subst, ◌∙◌, ⊎_elim, arith}
+use Rattle.std.proofs.Common.{◌≡◌, ◌≢◌, ℕ, suc, ◌+◌, ◌-◌, ◌<◌, ◌≤◌, ◌⊎◌, Bool, true, false, cond, List, [], ◌∷◌, ◌++◌, All, count_by, length, take}
+use Rattle.std.proofs.Common.{get_or, refl, sym, ap, subst, ◌∙◌, ⊎_elim, arith}
 use Rattle.std.proofs.lemmas.List.{append-nil, length-append, take_at, length-take-le, get_or-take, get_or_default}
 use Rattle.std.proofs.lemmas.List.Elements.{All-nil, All-push, All-take}
 use Rattle.std.proofs.lemmas.List.Sums.{sum_by-cons}
-use Rattle.std.proofs.lemmas.Bool.{cond-true, cond-false, false_from_ne_true}
+use Rattle.std.proofs.lemmas.Bool.{cond-false, false_from_ne_true}
 use Rattle.snippet_lines.specs.declared.lines.EndLine.{EndLine}
 use Rattle.snippet_lines.specs.declared.lines.EndLine.TheVariants.{Eof}
-use Rattle.snippet_lines.specs.Lines.{end_bytes, line_bytes, last_byte, IsLine, lines_of, is_lf, newline_count, IsLineWithEnd}
-use Rattle.snippet_lines.proofs.LinesLemmas.{split_last, lines_of-line, newline_count-open, newline_count-closed}
+use Rattle.snippet_lines.specs.Lines.{end_bytes, line_bytes, last_byte, IsLine, lines_of, IsLineWithEnd}
+use Rattle.snippet_lines.proofs.LinesLemmas.{split_last, lines_of-line}
 
 -- a text cut after its first LF
 pub IsOneLine-cut : (text : List ℕ) (at : ℕ) → at < length text → ((k : ℕ) → k < at → get_or text k 0 ≢ 10) → IsLineWithEnd (take (at + 1) text)
@@ -21,10 +21,6 @@ IsOneLine-cut text at inside none = λ k d within is.
     ≡ get_or text k d = get_or-take (length (take (at + 1) text) - 1) (take (at + 1) text) k d (omega arith)
     ∙ get_or-take (at + 1) text k d (omega arith) in
     none k before (get_or_default text k 0 d (omega arith) ∙ sym read ∙ is)
-
--- a text that has no LF
-pub IsOneLine-whole : (text : List ℕ) → ((k : ℕ) → k < length text → get_or text k 0 ≢ 10) → IsLineWithEnd text
-IsOneLine-whole text none = All-take (λ b. b ≢ 10) (length text - 1) text (λ k d within is. none k within (get_or_default text k 0 d within ∙ is))
 
 -- a text that doesn't end with a byte
 pub last_byte-not : (text : List ℕ) (b : ℕ) → 0 < b → ((front : List ℕ) → text ≢ front ++ b ∷ []) → last_byte text ≢ b
@@ -70,27 +66,8 @@ counted p x xs fails =
     let none : cond {A = ℕ} (p x) 1 0 ≡ 0 = cond-false (p x) 1 0 fails in
     omega (arith, sum_by-cons (λ y. cond (p y) 1 0) x xs)
 
--- a list whose first place that passes is `at` has one more than what follows it
-pub count_by-find : (p : ℕ → Bool) (xs : List ℕ) (at : ℕ) → at < length xs → ((k : ℕ) → k < at → p (get_or xs k 0) ≡ true → ⊥) → p (get_or xs at 0) ≡ true
-    → count_by p xs ≡ 1 + count_by p (drop (at + 1) xs)
-count_by-find p [] at inside before found = absurd (omega arith)
-count_by-find p (x ∷ xs) zero inside before found = sum_by-cons (λ y. cond (p y) 1 0) x xs ∙ ap (λ n. n + count_by p xs) (cond-true (p x) 1 0 found)
-count_by-find p (x ∷ xs) (suc at) inside before found =
-    let first : p x ≡ false = false_from_ne_true (p x) (before 0 (omega arith)) in
-    let rest : count_by p xs ≡ 1 + count_by p (drop (at + 1) xs) = count_by-find p xs at (omega arith) (λ k l. before (suc k) (omega arith)) found in
-    let n : suc at + 1 ≡ suc (at + 1) = omega arith in
-    counted p x xs first ∙ rest ∙ sym (ap (λ m. 1 + count_by p (drop m (x ∷ xs))) n)
-
 -- a list where none passes
 pub count_by-none : (p : ℕ → Bool) (xs : List ℕ) → ((k : ℕ) → k < length xs → p (get_or xs k 0) ≡ true → ⊥) → count_by p xs ≡ 0
 count_by-none p [] none = refl
 count_by-none p (x ∷ xs) none =
     counted p x xs (false_from_ne_true (p x) (none 0 (omega arith))) ∙ count_by-none p xs (λ k l. none (suc k) (omega arith))
-
--- a text without the LF that closes it, if one does, has as many LF as `newline_count` says, and is no longer
-pub count_by-stripped : (text : Bor (List ℕ)) (stripped : Option (Bor (List ℕ)))
-    → MatchOption stripped ((front : List ℕ) → text.now ≢ front ++ 10 ∷ []) (λ x. text.now ≡ x.now ++ 10 ∷ [])
-    → (count_by is_lf (unwrap_or stripped text).now ≡ newline_count text.now) × (length (unwrap_or stripped text).now ≤ length text.now)
-count_by-stripped text None open_end = (sym (newline_count-open text.now open_end), le_refl (length text.now))
-count_by-stripped text (Some x) closed =
-    (sym (newline_count-closed text.now x.now closed), omega (arith, ap length closed, length-append x.now (10 ∷ [])))

@@ -5,7 +5,7 @@ use Rattle.std.proofs.lemmas.List.{append-nil, length-append, take_at, drop_at, 
 use Rattle.std.proofs.lemmas.List.{drop-drop}
 use Rattle.std.specs.Str.{IsUtf8}
 use Rattle.std.proofs.lemmas.Str.{IsUtf8-nil, IsUtf8-take, IsUtf8-drop, IsCharBoundary-before_ascii, IsCharBoundary-after_ascii}
-use Rattle.std.proofs.lemmas.List.Sums.{sum_by-append, sum_by-cons, count_by-le-length}
+use Rattle.std.proofs.lemmas.List.Sums.{sum_by-cons, count_by-le-length}
 use Rattle.std.proofs.lemmas.List.Concat.{flat_map-append}
 use Rattle.std.proofs.lemmas.List.Elements.{All-same, All-head, All-tail, All-nil, All-cons}
 use Rattle.std.proofs.lemmas.Bool.{cases_lt, cond_both, cond-true, cond-false, eq-eqb, ne_eqb, eqb-true, eqb-false}
@@ -20,9 +20,6 @@ last_byte-cons b c bs =
     let a : suc (suc (length bs)) - 1 ≡ suc (length bs) = omega arith in
     let e : suc (length bs) - 1 ≡ length bs = omega arith in
     rw (a, e)
-
-pub last_byte-one : (b : ℕ) → last_byte (b ∷ []) ≡ b
-last_byte-one b = refl
 
 -- a text that isn't empty is all but its last byte, and that byte
 pub split_last : (text : List ℕ) → 0 < length text → text ≡ take (length text - 1) text ++ last_byte text ∷ []
@@ -243,20 +240,8 @@ length-source_lines (b ∷ bs) =
     let some : 0 < length (lines_of (b ∷ bs)) = length-lines_of-pos (b ∷ bs) (omega arith) in
     omega (arith, newline_count-is (b ∷ bs))
 
-ending_newlines-closed : (text : List ℕ) → last_byte text ≡ 10 → ending_newlines text ≡ 1
-ending_newlines-closed text is = ap (λ b. cond (is_lf b) 1 0) is
-
 ending_newlines-open : (text : List ℕ) → last_byte text ≢ 10 → ending_newlines text ≡ 0
 ending_newlines-open text is_not = ap (λ t. cond t 1 0) (ne_eqb (last_byte text) 10 is_not)
-
--- what is left once a closing LF is taken off has all the LF that are counted
-pub newline_count-closed : (text front : List ℕ) → text ≡ front ++ 10 ∷ [] → newline_count text ≡ count_by is_lf front
-newline_count-closed text front is =
-    let last : ending_newlines text ≡ 1 = ending_newlines-closed text (ap last_byte is ∙ last_byte-push front 10) in
-    let count : count_by is_lf text ≡ count_by is_lf front + count_by is_lf (10 ∷ []) = ap (count_by is_lf) is
-    ∙ sum_by-append (λ b. cond (is_lf b) 1 0) front (10 ∷ []) in
-    let one : count_by is_lf (10 ∷ []) ≡ 1 = refl in
-    omega (arith, newline_count-is text)
 
 -- in a text that no LF closes each LF is counted
 pub newline_count-open : (text : List ℕ) → ((front : List ℕ) → text ≢ front ++ 10 ∷ []) → newline_count text ≡ count_by is_lf text
@@ -394,11 +379,6 @@ IsUtf8-text_at source k utf8 =
     ⊎_elim (λ within. each k ([], Eof) within)
     (λ after. subst IsUtf8 (sym (ap (λ (l : Line). l.0) (get_or_past ls k ([], Eof) after))) IsUtf8-nil)
     (cases_lt k (length ls))
-
--- a source has the lines of its text, or one more
-pub length-lines_of-le : (source : List ℕ) → length (lines_of source) ≤ length (source_lines source)
-length-lines_of-le [] = omega arith
-length-lines_of-le (b ∷ bs) = le_refl (length (lines_of (b ∷ bs)))
 
 -- a source that isn't empty has the lines of its text
 pub source_lines-some : (source : List ℕ) → 0 < length source → source_lines source ≡ lines_of source

@@ -155,10 +155,6 @@ IsCharBoundary-prefix source b border =
           absurd (omega arith)) border,
     )
 
-pub place_of-line : (source : List ℕ) (b : ℕ) → (place_of source b).line ≡ line_of (source_lines source) b
-unfolding place_of
-place_of-line source b = refl
-
 -- the character of a place is how many characters stand before it on its line
 pub place_of-character : (source : List ℕ) (b : ℕ)
     → (place_of source b).character ≡ length (chars (prefix_at (source_lines source) (line_of (source_lines source) b) b))
@@ -177,11 +173,6 @@ place_of-column source b = refl
 pub locations_of-start : (s : Source) (start end : ℕ) → (locations_of s start end).0 ≡ start_location s start
 unfolding locations_of
 locations_of-start s start end = refl
-
--- of an empty span
-pub locations_of-empty : (s : Source) (at : ℕ) → (locations_of s at at).1 ≡ start_location s at
-unfolding locations_of
-locations_of-empty s at = cond-true (eqb at at) (start_location s at) (end_location s at at) (eq-eqb at at refl)
 
 -- of a span that isn't empty
 pub locations_of-end : (s : Source) (start end : ℕ) → start ≢ end → (locations_of s start end).1 ≡ end_location s start end

@@ -58,6 +58,3 @@ bars_more p i at m is within none trivial =
   where
     len : m - at ≡ suc (m - i)
     len = omega arith
-
-pub bars-start : (p : ℕ → Bool) (m n : ℕ) → n ≡ 0 → list_any p (range_with_len m n) ≡ false
-bars-start p m n is = ap (λ n. list_any p (range_with_len m n)) is

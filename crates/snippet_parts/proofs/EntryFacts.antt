@@ -21,7 +21,7 @@ use Rattle.snippet_parts.specs.Annotated.{PartEntry, seen_part, KeptLine, seen_k
 use Rattle.snippet_parts.specs.Annotated.{long_spans, long_parts, depth_of, deepest, single_part, bar_lines, made_parts, parts_on}
 use Rattle.snippet_parts.specs.Depths.{same_place, depth_among, greatest_depth}
 use Rattle.snippet_parts.specs.Entries.{AllEntries, HasCharacterRoom, HasColumnRoom, HasShortLabel, HasDepthWithin, is_untouched}
-use Rattle.snippet_lines.specs.Lines.{Source, source_lines}
+use Rattle.snippet_lines.specs.Lines.{Source}
 use Rattle.snippet_parts.specs.Mark.{is_marking, is_single_line, touches, is_marked_on, is_wide, start_column, span_width}
 use Rattle.snippet_parts.specs.Marked.{entry_of, first_line, last_line}
 use Rattle.snippet_parts.specs.Entries.{is_single_part, is_wide_entry}
@@ -118,14 +118,6 @@ pub texts-fit : (s : Source) (marks : List Annotation) (ks : List ℕ) (infos : 
 texts-fit s marks ks infos same fits =
     each-line (λ info. length info.line.now < 2 ^ 56) s marks ks infos same (λ i d within info seen.
     omega (arith, ap (λ (l : KeptLine). length l.text) seen, length-text_at-source s.text (get_or ks i d)))
-
-pub numbers-within : (s : Source) (marks : List Annotation) (ks : List ℕ) (infos : List AnnotatedLineInfo)
-    → map seen_kept infos ≡ map (kept_line s marks) ks → All (λ k. k < length (source_lines s.text)) ks
-    → All (λ info. (s.first ≤ info.line_index) × (info.line_index < s.first + length (source_lines s.text))) infos
-numbers-within s marks ks infos same all =
-    each-line (λ info. (s.first ≤ info.line_index) × (info.line_index < s.first + length (source_lines s.text))) s marks ks infos same (λ i d within info seen.
-    let at : info.line_index ≡ s.first + get_or ks i d = ap (λ (l : KeptLine). l.number) seen in
-    let below : get_or ks i d < length (source_lines s.text) = all i d within in (omega arith, omega arith))
 
 -- ---- labels
 
@@ -272,11 +264,6 @@ untouched-parts s marks k spans untouched =
     (longs-off s marks k spans untouched)
     ∙ append-nil (filter (λ (p : PartEntry). eqb p.entry.start.line (s.first + k)) (map (single_part s) (filter (is_short s.text) marks)))
     ∙ singles-on s marks k
-
-pub untouched-entries : (s : Source) (marks : List Annotation) (k : ℕ) (info : AnnotatedLineInfo)
-    → All (λ a. IsSpan s.text a.span.start a.span.end) marks → is_untouched s.text marks k ≡ true → seen_kept info ≡ kept_line s marks k
-    → map seen_part info.annotations.items ≡ map (single_part s) (filter (is_marked_on s.text k) marks)
-untouched-entries s marks k info spans untouched seen = seen_part-parts_on s marks k info seen ∙ untouched-parts s marks k spans untouched
 
 -- ---- wide spans
 

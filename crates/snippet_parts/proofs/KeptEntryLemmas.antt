@@ -43,11 +43,11 @@ stands_nowhere s seen parts p ks nowhere =
     get_or-map f ks i 0 (f 0) there ∙ sym (none_more s seen parts p (get_or ks i 0) (nowhere i there)) ∙ sym (get_or-map g ks i 0 (f 0) there))
 
 -- and one that stands on a line at a place changes the line there
-pub stands_at : (s : Source) (seen : List ℕ) (parts : List PartEntry) (p : PartEntry) (ks : List ℕ) (at : ℕ) (ls : List KeptLine) (l : KeptLine)
+pub entry_stands_at : (s : Source) (seen : List ℕ) (parts : List PartEntry) (p : PartEntry) (ks : List ℕ) (at : ℕ) (ls : List KeptLine) (l : KeptLine)
     → AllPairs (λ (a b : ℕ). a < b) ks → at < length ks → s.first + get_or ks at 0 ≡ p.entry.start.line → ls ≡ map (line_with s seen parts) ks
     → l ≡ record (get_or ls at l) { parts = (get_or ls at l).parts ++ p ∷ [] }
     → set ls at l ≡ map (line_with s seen (parts ++ p ∷ [])) ks
-stands_at s seen parts p ks at ls l up within here are is =
+entry_stands_at s seen parts p ks at ls l up within here are is =
     let f : ℕ → KeptLine = line_with s seen parts in
     let g : ℕ → KeptLine = line_with s seen (parts ++ p ∷ []) in
     let count : length ls ≡ length ks = ap length are ∙ length-map ks f in

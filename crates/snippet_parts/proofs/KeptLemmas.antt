@@ -8,7 +8,7 @@ use Rattle.std.proofs.Math.Bool.{and-false, and-true, or-false}
 use Rattle.std.proofs.lemmas.Bool.{cases_Bool, cases_lt, cases_eq, or_from, le-leb, lt-leb, lt-ltb, eq-eqb, ne_eqb, eqb-true, or_left, or_right}
 use Rattle.std.proofs.lemmas.List.{append-nil, take_more, take_all, get_or-take, length-take}
 use Rattle.std.proofs.lemmas.List.Elements.{All-nil, All-cons, All-head, All-tail, All-filter, All-from_get_or, All-weaker, filter-append, filter_agree}
-use Rattle.std.proofs.lemmas.List.Folds.{list_any_more, list_any_at, list_any_none, list_any-append}
+use Rattle.std.proofs.lemmas.List.Folds.{list_any_more, list_any_at, list_any_none}
 use Rattle.std.proofs.lemmas.List.FromFn.{length-range_with_len, get_or-range_with_len}
 use Rattle.std.proofs.lemmas.List.Kept.{IsNonDecreasingBy-filter}
 use Rattle.std.proofs.lemmas.List.Sorted.{list_any-IsPermutation, searched}
@@ -300,11 +300,6 @@ held-permuted stretches sorted count same =
     filter_agree (is_held sorted) (is_held stretches) (λ k. sym (list_any-IsPermutation (λ (s : Stretch). holds_line s k) stretches sorted same))
     (range_with_len 0 count)
 
--- one more stretch
-pub held-push : (stretches : List Stretch) (s : Stretch) (k : ℕ) → is_held (stretches ++ s ∷ []) k ≡ (is_held stretches k || holds_line s k)
-held-push stretches s k =
-    list_any-append (λ (t : Stretch). holds_line t k) stretches (s ∷ []) ∙ ap (λ b. is_held stretches k || b) (or-false (holds_line s k))
-
 -- the two stretches of one more span
 pub held-two : {A : Type 0} (p : ℕ → A → Bool) (spans : List A) (i : ℕ) (x : A) (old mid new : List Stretch) (s t : Stretch) → i < length spans
     → ((k : ℕ) → is_held mid k ≡ (is_held old k || holds_line s k)) → ((k : ℕ) → is_held new k ≡ (is_held mid k || holds_line t k))
@@ -413,23 +408,3 @@ filter-cut q n m le none =
     ∙ filter-append q (range_with_len 0 n) (range_with_len n (m - n))
     ∙ ap (λ ks. filter q (range_with_len 0 n) ++ ks) (range-none q n (m - n) (λ k from to. none k from))
     ∙ append-nil (filter q (range_with_len 0 n))
-
--- a list has an element that passes where one at a place does
-passes-at : {X : Type 0} (p : X → Bool) (xs : List X) (n : ℕ) (d : X) → n < length xs → p (get_or xs n d) ≡ true → list_any p xs ≡ true
-passes-at p [] n d within is = absurd (omega (arith, within))
-passes-at p (x ∷ xs) zero d within is = ap (λ b. b || list_any p xs) is
-passes-at p (x ∷ xs) (suc n) d within is = ap (λ b. p x || b) (passes-at p xs n d (omega (arith, within)) is) ∙ or-true (p x)
-  where
-    or-true : (b : Bool) → (b || true) ≡ true
-    or-true true = refl
-    or-true false = refl
-
--- a stretch that is there already holds no other line
-pub held-again : (stretches : List Stretch) (s last : Stretch) (n k : ℕ) → n < length stretches → last ≡ get_or stretches n s
-    → holds_line last k ≡ holds_line s k → is_held stretches k ≡ (is_held stretches k || holds_line s k)
-held-again stretches s last n k within is same = by_test (holds_line s k) (λ holds. passes-at (λ (t : Stretch). holds_line t k) stretches n s within
-    (ap (λ (t : Stretch). holds_line t k) (sym is) ∙ same ∙ holds))
-  where
-    by_test : (b : Bool) → (b ≡ true → is_held stretches k ≡ true) → is_held stretches k ≡ (is_held stretches k || b)
-    by_test true held = held refl ∙ sym (ap (λ b. b || true) (held refl))
-    by_test false held = sym (or-false (is_held stretches k))

@@ -1,5 +1,5 @@
 -- Spans with their places: what is known of the annotations that they are.
-use Rattle.std.proofs.Common.{◌≡◌, ℕ, ◌<◌, ◌≤◌, ◌^◌, Bool, true, false, ◌&&◌, not, cond, eqb, List, [], ◌∷◌, map, length, refl, sym, ap, ◌∙◌, subst, arith}
+use Rattle.std.proofs.Common.{◌≡◌, ℕ, ◌<◌, ◌≤◌, ◌^◌, Bool, true, false, ◌&&◌, not, cond, eqb, List, [], ◌∷◌, map, refl, sym, ap, ◌∙◌, subst, arith}
 use Rattle.std.specs.List.{All, filter}
 use Rattle.std.specs.Option.{option_map}
 use Rattle.std.specs.Cow.{cow_str_bytes}
@@ -45,10 +45,6 @@ located-ordered s l at =
       line_of-within s.text 0,
       line_of-mono (source_lines s.text) l.annotation.now.span.start l.annotation.now.span.end (omega (arith, line_of-within s.text 0)) at.span.ordered,
     )
-
--- the line on which a located span ends is one of its source
-pub located-within : (s : Source) (l : LocatedSpan) → IsLocated s l → l.last < length (source_lines s.text)
-located-within s l at = omega (arith, at.last, line_of-within s.text l.annotation.now.span.end)
 
 -- an annotation as it is seen at two locations
 abbrev seen_at : Annotation → Loc × Loc → Entry

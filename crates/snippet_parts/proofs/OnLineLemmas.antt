@@ -14,7 +14,7 @@ use Rattle.snippet_parts.specs.declared.entries.LineAnnotationType.TheVariants.{
 use Rattle.snippet_lines.specs.declared.place.Loc.{Loc}
 use Rattle.snippet_parts.specs.Annotated.{PartEntry, seen_part, KeptLine, seen_kept, kept_line, annotated_lines, is_short, is_long, long_entry, long_place}
 use Rattle.snippet_parts.specs.Annotated.{long_places, long_spans}
-use Rattle.snippet_parts.specs.Annotated.{long_parts, stands_before, stands_among, depth_of, single_part, start_part, bar_part, end_part, bar_lines, span_parts}
+use Rattle.snippet_parts.specs.Annotated.{long_parts, stands_before, stands_among, depth_of, single_part, start_part, end_part, span_parts}
 use Rattle.snippet_parts.specs.Annotated.{parts_on, promoted, is_promoted}
 use Rattle.snippet_lines.specs.OrderedBy.{put_in, ordered_by}
 use Rattle.snippet_parts.specs.Depths.{depth_among, same_place}
@@ -132,9 +132,6 @@ record SaysOf (e : Entry) (depth : ℕ) (p : PartEntry) : Type 0 where
 record HasBounds (start end : Loc) (depth : ℕ) (parts : List PartEntry) : Type 0 where
   pub begun : (p : PartEntry) × Contains parts p × StartsAt start depth p
   pub closed : (p : PartEntry) × Contains parts p × EndsAt end depth p
-
-bars-of : Source → ℕ → Entry → List PartEntry
-bars-of s depth e = map (λ k. bar_part e depth (s.first + k)) (bar_lines s.text (e.start.line - s.first) (e.end.line - s.first))
 
 span-bounds : (s : Source) (depth : ℕ) (again : Bool) (e : Entry) → again ≡ false → HasBounds e.start e.end depth (span_parts s depth again e)
 span-bounds s depth true e last = cc

@@ -1,5 +1,5 @@
 -- Places of spans of several lines, and their raw depths.
-use Rattle.std.proofs.Common.{◌≡◌, ℕ, zero, suc, ◌+◌, ◌<◌, ◌≤◌, true, false, ◌&&◌, cond, eqb, max, fold, drop, List, [], ◌∷◌, map, length, get_or, inl, inr}
+use Rattle.std.proofs.Common.{◌≡◌, ℕ, zero, suc, ◌+◌, ◌<◌, ◌≤◌, true, false, ◌&&◌, cond, eqb, max, fold, List, [], ◌∷◌, map, length, get_or, inl, inr}
 use Rattle.std.proofs.Common.{refl, sym, ap, subst, ◌∙◌, arith}
 use Rattle.std.specs.List.{list_any}
 use Rattle.std.proofs.lemmas.Bool.{cases_Bool, eqb-true, eq-eqb, and_from, and_parts, or_left, or_right, cond-true, cond-false, both_ways, false_from_ne_true}
@@ -133,11 +133,6 @@ raw_depths-are (p ∷ ps) =
 pub length-raw_depths : (ps : List LongExtent) → length (raw_depths ps) ≡ length ps
 length-raw_depths [] = refl
 length-raw_depths (p ∷ ps) = ap (λ n. suc n) (length-raw_depths ps)
-
-pub raw_depths-drop : (i : ℕ) (ps : List LongExtent) → drop i (raw_depths ps) ≡ raw_depths (drop i ps)
-raw_depths-drop zero ps = refl
-raw_depths-drop (suc i) [] = refl
-raw_depths-drop (suc i) (p ∷ ps) = raw_depths-drop i ps
 
 -- ---- how great raw depths are
 

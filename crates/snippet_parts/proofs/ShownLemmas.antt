@@ -1,16 +1,13 @@
 -- The lines that are kept, each with its entries.
-use Rattle.std.proofs.Common.{◌≡◌, ℕ, zero, suc, ◌+◌, ◌-◌, ◌<◌, ◌≤◌, Bool, true, false, ◌||◌, cond, eqb, List, [], ◌∷◌, ◌++◌, map, length}
+use Rattle.std.proofs.Common.{◌≡◌, ℕ, zero, suc, ◌+◌, ◌-◌, ◌<◌, ◌≤◌, Bool, true, false, ◌||◌, eqb, List, [], ◌∷◌, ◌++◌, map, length}
 use Rattle.std.proofs.Common.{take, drop, get_or, inl, inr, refl, sym, ap, ◌∙◌, arith, leb, ltb}
 use Rattle.std.specs.List.{Contains, filter, list_any, range_with_len}
 use Rattle.std.specs.List.Sorted.{IsPartitionPoint}
 use Rattle.std.proofs.lemmas.Bool.{cases_Bool, cases_lt, or_left, or_right, cond-true, cond-false, eq-eqb, ne_eqb, leb-true, leb-false, ltb-true, ltb-false}
-use Rattle.std.proofs.lemmas.List.{map-append, map-id, map_push, append-nil}
-use Rattle.std.proofs.lemmas.List.Elements.{filter-append}
+use Rattle.std.proofs.lemmas.List.{map-id}
 use Rattle.std.proofs.lemmas.List.FromFn.{map-range_with_len_more}
 use Rattle.snippet_model.specs.declared.snippet.Annotation.{Annotation}
-use Rattle.snippet_parts.specs.declared.entries.AnnotatedLineInfo.{AnnotatedLineInfo}
 use Rattle.snippet_parts.specs.Annotated.{is_long, long_entry, long_place, long_places, long_spans, stands_before, depth_of, PartEntry, KeptLine}
-use Rattle.snippet_parts.specs.Annotated.{seen_kept}
 use Rattle.snippet_lines.specs.OrderedBy.{put_in, ordered_by}
 use Rattle.snippet_lines.specs.Lines.{Source}
 use Rattle.snippet_parts.specs.Depths.{same_place, share_line}
@@ -66,23 +63,6 @@ on_line line (x ∷ xs) n zero to zero is below from' upto after =
 pub range-more : (i : ℕ) → range_with_len 0 (i + 1) ≡ range_with_len 0 i ++ i ∷ []
 range-more i = sym (map-id (range_with_len 0 (i + 1))) ∙ map-range_with_len_more (λ (k : ℕ). k) 0 i i (omega arith)
     ∙ ap (λ ks. ks ++ i ∷ []) (map-id (range_with_len 0 i))
-
-pub seen_kept-push : (p : ℕ → Bool) (f : ℕ → KeptLine) (i : ℕ) (now new : List AnnotatedLineInfo) (info : AnnotatedLineInfo) → p i ≡ true
-    → new ≡ now ++ info ∷ [] → seen_kept info ≡ f i → map seen_kept now ≡ map f (filter p (range_with_len 0 i))
-    → map seen_kept new ≡ map f (filter p (range_with_len 0 (i + 1)))
-seen_kept-push p f i now new info there pushed is before =
-    ap (map seen_kept) pushed ∙ map_push seen_kept now info ∙ ap (λ ls. ls ++ seen_kept info ∷ []) before
-    ∙ ap (λ l. map f (filter p (range_with_len 0 i)) ++ l ∷ []) is
-    ∙ sym (ap (λ ks. map f (filter p ks)) (range-more i) ∙ ap (map f)
-    (filter-append p (range_with_len 0 i) (i ∷ []) ∙ ap (λ b. filter p (range_with_len 0 i) ++ cond b (i ∷ []) []) there)
-    ∙ map-append f (filter p (range_with_len 0 i)) (i ∷ []))
-
-pub lines-left : (p : ℕ → Bool) (f : ℕ → KeptLine) (i : ℕ) (now : List AnnotatedLineInfo) → p i ≡ false
-    → map seen_kept now ≡ map f (filter p (range_with_len 0 i)) → map seen_kept now ≡ map f (filter p (range_with_len 0 (i + 1)))
-lines-left p f i now none before =
-    before ∙ sym (ap (λ ks. map f (filter p ks)) (range-more i) ∙ ap (map f)
-    (filter-append p (range_with_len 0 i) (i ∷ []) ∙ ap (λ b. filter p (range_with_len 0 i) ++ cond b (i ∷ []) []) none
-    ∙ append-nil (filter p (range_with_len 0 i))))
 
 -- two lines that are seen alike
 pub same-kept : (number number' : ℕ) (text text' : List ℕ) (parts parts' : List PartEntry) (keep keep' : Bool) → number ≡ number' → text ≡ text'

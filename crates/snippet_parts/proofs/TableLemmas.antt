@@ -5,7 +5,7 @@ use Rattle.std.proofs.Common.{get_or, refl, sym, ap, subst, ◌∙◌, arith}
 use Rattle.std.proofs.lemmas.List.{map_push, length-append, length-drop, length-take, take-take, take_all}
 use Rattle.std.proofs.Math.Seq.{take-add}
 use Rattle.std.proofs.lemmas.List.Concat.{flat_map-append}
-use Rattle.std.proofs.lemmas.Bool.{cases_lt, leb-true, leb-false, le-leb, lt-ltb, le-ltb, and_from, and_right, cond-true, cond-false}
+use Rattle.std.proofs.lemmas.Bool.{cases_lt, leb-true, leb-false, le-leb, lt-ltb, and_from, cond-true}
 use Rattle.std.specs.List.{HoldsAt, range_with_len}
 use Rattle.std.proofs.lemmas.List.FromFn.{map-range_with_len_more}
 use Rattle.std.specs.List.Sorted.{IsNonDecreasingBy, IsPartitionPoint}
@@ -163,19 +163,6 @@ table-alone source first skipped from end byte is from_is end_is utf8 fits numbe
     alone [] some = absurd (omega arith)
     alone (l ∷ ls) some = refl
 
--- a later byte that stands before the next line is on the same line
-pub line_of-later : (source : List ℕ) (byte later : ℕ) → byte ≤ later → later < start_of (source_lines source) (line_of (source_lines source) byte + 1)
-    → line_of (source_lines source) byte ≡ line_of (source_lines source) later
-line_of-later source byte later ordered before =
-    let ls : List Line = source_lines source in
-    let holds : HoldsByte ls byte (line_of ls byte) = HoldsByte-source source byte in
-    let same : HoldsByte ls later (line_of ls byte) = record {
-      within = holds.within;
-      from = omega (arith, holds.from);
-      to = λ _. before;
-    } in
-    sym (line_of-is ls later (line_of ls byte) same)
-
 -- the entry of a line by its parts
 pub entry_at-is : (info : LineInfo) (first : ℕ) (ls : List Line) (k : ℕ) → info.line.now ≡ text_at ls k → info.line_index ≡ first + k
     → info.start_byte ≡ start_of ls k → info.end_byte ≡ start_of ls (k + 1) → table_entry info ≡ entry_at first ls k
@@ -228,14 +215,6 @@ line_at-some s number index text ge index_is within is =
           ∙ ap (λ t. Some t) (sym same)),
       subst (λ t. StandsAt s.text t (start_of ls (number - s.first))) (sym same) (text_at-stands s.text (number - s.first) inside),
     )
-
--- a number after the last line
-pub line_at-none : (s : Source) (number index : ℕ) → index ≡ number - s.first → length (source_lines s.text) ≤ index → None ≡ line_at s number
-line_at-none s number index index_is after =
-    let ls : List Line = source_lines s.text in
-    let out : (leb s.first number && ltb (number - s.first) (length ls))
-    ≡ false = and_right (leb s.first number) (ltb (number - s.first) (length ls)) (le-ltb (number - s.first) (length ls) (omega arith)) in
-    sym (cond-false (leb s.first number && ltb (number - s.first) (length ls)) (Some (text_at ls (number - s.first))) None out)
 
 -- ---- the location of a byte, by the entry of its line
 

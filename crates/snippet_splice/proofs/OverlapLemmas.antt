@@ -9,9 +9,8 @@ use Rattle.std.proofs.lemmas.Bool.{cases_Bool, cond-true, cond-false, ltb-false,
 use Rattle.std.proofs.lemmas.Bool.Decides.{nat_tests}
 use Rattle.snippet_model.specs.declared.snippet.Patch.{Patch}
 use Rattle.snippet_lines.specs.Span.{IsSpan}
-use Rattle.snippet_splice.specs.Edits.{Edit, edit_of, precedes, in_order, trimmed_edits, AreApart}
+use Rattle.snippet_splice.specs.Edits.{Edit, edit_of, precedes, in_order, AreApart}
 use Rattle.snippet_lines.specs.OrderedBy.{put_in}
-use Rattle.snippet_splice.proofs.EditLemmas.{trimmed-apart}
 use Rattle.snippet_splice.specs.Overlap.{overlap, overlap_at, no_edit, AreDisjoint, AreOverlapping, IsFirstOverlap, first_overlap_from, first_overlap}
 
 -- the edit at a place is that of the patch there
@@ -101,11 +100,6 @@ apart-in_order (e ∷ es) ordered disjoint =
     clear-in_order [] all = all
     clear-in_order (d ∷ ds) all =
         clear-put d (in_order ds) (All-head (ClearOf e) d ds all) (clear-in_order ds (All-tail (ClearOf e) d ds all))
-
--- trimmed they do too
-pub disjoint-trimmed-apart : (source : List ℕ) (es : List Edit) → All (λ e. e.start ≤ e.end) es → AreDisjoint es → AreApart 0 (trimmed_edits source es)
-disjoint-trimmed-apart source es ordered disjoint =
-    trimmed-apart source 0 (in_order es) (apart-in_order es ordered disjoint)
 
 -- ---- the pair that is named is the one that is computed
 

@@ -40,13 +40,6 @@ none_given source [] ts same none = refl
 none_given source (p ∷ ps) [] same none = absurd (some-edits source (p ∷ ps) (λ e. cc) (sym same))
 none_given source (p ∷ ps) (t ∷ ts) same none = absurd (cc)
 
--- where nothing was given nothing is left
-pub trimmed-given : (source : List ℕ) (ps : List Patch) (ts : List TrimmedPatch) (t : TrimmedPatch)
-    → map trimmed_edit_of ts ≡ trimmed_edits source (map edit_of ps) → slice_get ts 0 ≡ Some t → ps ≢ []
-trimmed-given source [] [] t same some = λ _. cc
-trimmed-given source [] (s ∷ ts) t same some = λ _. cc
-trimmed-given source (p ∷ ps) ts t same some = λ e. cc
-
 -- the first trimmed patch was the first in order
 pub first_start-trimmed : (ts : List TrimmedPatch) (os : List Edit) (t : TrimmedPatch) → map original_bounds_of ts ≡ map edit_bounds os
     → slice_get ts 0 ≡ Some t

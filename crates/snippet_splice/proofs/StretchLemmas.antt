@@ -26,13 +26,6 @@ use Rattle.snippet_splice.proofs.WriteLemmas.{utf8-after}
 abbrev Row : Type 0
 Row = Vec SubstitutionHighlight Global
 
--- with a line more, which has no stretches, each has those that it had
-pub line_opened : (lines : List Row) (line : Row) (k : ℕ) → line.items ≡ [] → line_stretches (lines ++ line ∷ []) k ≡ line_stretches lines k
-line_opened [] line zero none = none
-line_opened [] line (suc k) none = refl
-line_opened (l ∷ lines) line zero none = refl
-line_opened (l ∷ lines) line (suc k) none = line_opened lines line k none
-
 -- with a stretch more in one line, each other has those that it had
 pub line_set : (lines : List Row) (i : ℕ) (was now : Row) (x : SubstitutionHighlight) (k : ℕ) → i < length lines → was ≡ get_or lines i was
     → now.items ≡ was.items ++ x ∷ [] → line_stretches (set lines i now) k ≡ line_stretches lines k ++ (if i == k then x ∷ [] else [])

@@ -66,12 +66,6 @@ pub drop-written : {X : Type 0} (blank : X) (xs : List X) (at : ℕ) (new : List
 drop-written blank xs at new =
     same_lists _ _ (unfold written in grind (arith, places)) (λ k d h. unfold written in grind (arith, places))
 
--- a list that was written, up to the write
-pub take-written : {X : Type 0} (blank : X) (xs : List X) (at : ℕ) (new : List X)
-    → take at (written blank xs at new) ≡ take at (xs ++ replicate (at - length xs) blank)
-take-written blank xs at new =
-    same_lists _ _ (unfold written in grind (arith, places)) (λ k d h. unfold written in grind (arith, places))
-
 -- the same, where the list ends at the write or before it
 pub take-written_past : {X : Type 0} (blank : X) (xs : List X) (at : ℕ) (new : List X) → length xs ≤ at
     → take at (written blank xs at new) ≡ xs ++ replicate (at - length xs) blank

@@ -1,9 +1,8 @@
 -- Marks as values: what the patches before one move, and the cells that the marks take.
-use Rattle.std.proofs.Common.{◌≡◌, ℕ, suc, ◌+◌, ◌-◌, ◌^◌, ◌<◌, ◌≤◌, leb, All, List, [], ◌∷◌, ◌++◌, length, max, min, replicate, take, get_or, refl, sym, ap}
+use Rattle.std.proofs.Common.{◌≡◌, ℕ, suc, ◌+◌, ◌-◌, ◌^◌, ◌<◌, ◌≤◌, leb, All, List, [], ◌∷◌, ◌++◌, length, min, replicate, take, get_or, refl, sym, ap}
 use Rattle.std.proofs.Common.{◌∙◌, arith, inl, inr, sum_by}
 use Rattle.std.proofs.lemmas.Bool.{cases_Bool}
 use Rattle.std.proofs.lemmas.Bool.Decides.{nat_tests}
-use Rattle.std.proofs.lemmas.List.Elements.{All-push}
 use Rattle.std.proofs.lemmas.List.Sums.{sum_by-append}
 use Rattle.snippet_style.specs.declared.role.ElementStyle.{ElementStyle}
 use Rattle.snippet_style.specs.declared.role.ElementStyle.TheVariants.{Addition}
@@ -15,46 +14,19 @@ use Rattle.snippet_lines.specs.Lines.{Source}
 use Rattle.snippet_splice.specs.Edits.{Edit}
 use Rattle.snippet_splice.specs.EditStretches.{capped}
 use Rattle.snippet_suggest.specs.declared.layout.SuggestionLayout.{SuggestionLayout}
-use Rattle.snippet_suggest.specs.declared.marks.Moves.{Moves}
 use Rattle.snippet_suggest.specs.declared.marks.PatchColumns.{PatchColumns}
-use Rattle.snippet_suggest.specs.declared.marks.Shift.{Shift}
 use Rattle.snippet_suggest.specs.Cells.{put}
 use Rattle.std.proofs.lemmas.List.{length-replicate, map-append, places, same_lists, take_more}
-use Rattle.snippet_suggest.specs.Marks.{edit_columns, left_of, patch_mark_end, mark_glyph_of, mark_start, to_left, to_right, with_mark, with_marks}
-use Rattle.snippet_suggest.specs.Moves.{AreMoves, shift_of}
+use Rattle.snippet_suggest.specs.Marks.{edit_columns, left_of, patch_mark_end, mark_glyph_of, mark_start, to_left, with_mark, with_marks}
 use Rattle.snippet_suggest.proofs.PutLemmas.{put_none}
 
 -- ---- what patches move
-
-right_more : (cs : List PatchColumns) (c : PatchColumns) → to_right (cs ++ c ∷ []) ≡ capped (capped (to_right cs + c.width) + c.start)
-right_more cs c =
-    let f : PatchColumns → ℕ = λ d. d.width + d.start in
-    let all : sum_by f (cs ++ c ∷ []) ≡ sum_by f cs + (0 + (c.width + c.start)) = sum_by-append f cs (c ∷ []) in
-    omega (arith, all)
 
 left_more : (cs : List PatchColumns) (c : PatchColumns) → to_left (cs ++ c ∷ []) ≡ capped (to_left cs + c.end)
 left_more cs c =
     let f : PatchColumns → ℕ = λ d. d.end in
     let all : sum_by f (cs ++ c ∷ []) ≡ sum_by f cs + (0 + c.end) = sum_by-append f cs (c ∷ []) in
     omega (arith, all)
-
-pub shift_more : (cs : List PatchColumns) (c : PatchColumns) (s : Shift) (right left : ℕ) → s ≡ shift_of cs
-    → right ≡ capped (capped (s.right + c.width) + c.start) → left ≡ capped (s.left + c.end) → record { right = right; left = left } ≡ shift_of (cs ++ c ∷ [])
-shift_more cs c s right left is rights lefts =
-    let r : right ≡ to_right (cs ++ c ∷ []) = rights ∙ ap (λ (t : Shift). capped (capped (t.right + c.width) + c.start)) is ∙ sym (right_more cs c) in
-    let l : left ≡ to_left (cs ++ c ∷ []) = lefts ∙ ap (λ (t : Shift). capped (t.left + c.end)) is ∙ sym (left_more cs c) in
-    let of : ℕ → ℕ → Shift = λ m n. record { right = m; left = n } in
-    ap (λ n. of n left) r ∙ ap (of (to_right (cs ++ c ∷ []))) l
-
-pub moves_more : (cs : List PatchColumns) (c : PatchColumns) (old new : Moves) → AreMoves cs old → new.patches.items ≡ old.patches.items ++ c ∷ []
-    → (old.all ≡ shift_of cs → new.all ≡ shift_of (cs ++ c ∷ [])) → new.end ≡ max old.end c.end → AreMoves (cs ++ c ∷ []) new
-moves_more cs c old new are pushed shifts ends =
-    let P : PatchColumns → Type 0 = λ d. d.end ≤ new.end in
-    record {
-      patches = pushed ∙ ap (λ ds. ds ++ c ∷ []) are.patches;
-      all = shifts are.all;
-      ends = All-push P cs c (λ k d within. let low = are.ends k d within in omega (arith, low, ends)) (omega (arith, ends));
-    }
 
 -- those that end at a column or left of it, one more
 pub left_yes : (start : ℕ) (cs : List PatchColumns) (c : PatchColumns) → c.end ≤ start → left_of start (cs ++ c ∷ []) ≡ left_of start cs ++ c ∷ []

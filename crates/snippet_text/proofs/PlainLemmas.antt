@@ -3,7 +3,7 @@ use Rattle.std.proofs.Common.{◌≡◌, ℕ, ◌+◌, ◌-◌, ◌<◌, ◌≤�
 use Rattle.std.proofs.Common.{false, length, length-drop, chars, refl, arith, ◌++◌, sym, ap, ◌∙◌}
 use Rattle.std.proofs.lemmas.Bool.Decides.{nat_tests}
 use Rattle.std.proofs.lemmas.List.{length-take-le, take-append-drop, take_all}
-use Rattle.std.proofs.lemmas.List.Elements.{All-append, All-drop, All-head, All-nil, All-tail, All-weaker}
+use Rattle.std.proofs.lemmas.List.Elements.{All-append, All-drop, All-head, All-tail, All-weaker}
 use Rattle.std.proofs.lemmas.List.Folds.{list_any_none}
 use Rattle.std.proofs.lemmas.List.Sums.{sum_by-cons}
 use Rattle.std.proofs.Math.Seq.{take-append-add}
@@ -54,10 +54,6 @@ plain_further bs a n within first second =
     let parts : take (a + n) bs ≡ take a bs ++ take n (drop a bs) = ap (λ (l : List ℕ). take (a + n) l) (sym (take-append-drop a bs))
     ∙ ap (λ m. take (m + n) (take a bs ++ drop a bs)) (sym (length-take-le a bs within)) ∙ take-append-add (take a bs) (drop a bs) n in
     subst (λ (l : List ℕ). All IsPlain l) (sym parts) (All-append IsPlain (take a bs) (take n (drop a bs)) first second)
-
--- no byte is plain where there is none
-pub plain_none : (bs : List ℕ) → All IsPlain (take 0 bs)
-plain_none bs = All-nil IsPlain
 
 -- where the first bytes are plain, and all from one of these or the next on, all are
 pub plain_overlapping : (bs : List ℕ) (at from n : ℕ) → from ≤ at → length bs ≤ from + n → All IsPlain (take at bs) → All IsPlain (take n (drop from bs))

@@ -1,9 +1,8 @@
 -- How the text of a form grows, piece by piece.
-use Rattle.std.proofs.Common.{◌≡◌, ℕ, ◌-◌, ◌<◌, ◌≤◌, ◌==◌, ◌||◌, nat_lt, not, Bool, true, false, List, [], ◌∷◌, ◌++◌, Option, Result, Ok, Err}
+use Rattle.std.proofs.Common.{◌≡◌, ℕ, ◌-◌, ◌<◌, ◌≤◌, ◌==◌, ◌||◌, nat_lt, not, Bool, true, false, List, [], ◌∷◌, ◌++◌, Option}
 use Rattle.std.proofs.Common.{if◌then◌else◌, chars, length, replicate, take, drop, refl, sym, ap, ◌∙◌, arith, encode_utf8, encode_utf8_all}
 use Rattle.std.specs.Fmt.{decimal}
 use Rattle.std.specs.List.{flat_map}
-use Rattle.std.specs.Result.{OnOk, is_ok}
 use Rattle.std.specs.Str.{IsUtf8}
 use Rattle.std.proofs.lemmas.Bool.Decides.{nat_tests}
 use Rattle.std.proofs.lemmas.Grind.{flat_map-append}
@@ -20,7 +19,7 @@ use Rattle.snippet_style.specs.declared.stylesheet.Stylesheet.{Stylesheet}
 use Rattle.snippet_titles.proofs.DigitLemmas.{IsDigit, decimal-all}
 use Rattle.snippet_text_form.specs.Form.{FormPiece, Char, Break, Styled, bare, begun_after, piece_of_kind, pieces_from, plain_from, form_bytes}
 use Rattle.snippet_text_form.specs.Form.{link_codes_before, link_codes_after, in_style, role_style, woven_from, IsPlace, IsMark, AreMarks}
-use Rattle.snippet_text_form.specs.declared.form.Mark.{Mark}
+use Rattle.snippet_text_form.specs.declared.form.FormMark.{FormMark}
 use Rattle.snippet_text_form.specs.declared.form.MarkKind.{MarkKind}
 use Rattle.snippet_text_form.specs.declared.form.MarkKind.TheVariants as kinds
 use Rattle.snippet_text_form.proofs.FormLaws.{woven_chars, in_style-pieces}
@@ -42,12 +41,6 @@ plain-bare begun (c ∷ cs) = ap (λ (ds : List ℕ). c ∷ ds) (plain-bare true
 pub woven-text : (sheet : Stylesheet) (begun : Bool) (bytes : List ℕ) → IsUtf8 bytes → bytes ≡ flat_map piece_text (woven_from sheet begun (bare (chars bytes)))
 woven-text sheet begun bytes utf8 =
     sym (encodes-chars bytes utf8) ∙ sym (woven-bare sheet begun (chars bytes))
-
--- the same of what a call adds that may fail
-pub pushed-on_ok : {T E : Type 0} (r : Result T E) (old new kept added bytes : List ℕ) → new ≡ (if is_ok r then old ++ added else kept) → added ≡ bytes
-    → OnOk r (new ≡ old ++ bytes)
-pushed-on_ok (Ok value) old new kept added bytes is same = is ∙ ap (λ (bs : List ℕ). old ++ bs) same
-pushed-on_ok (Err error) old new kept added bytes is same = tt
 
 -- the characters of a number's digits are the digits
 pub chars-number : (n : ℕ) → chars (decimal n) ≡ decimal n
@@ -120,18 +113,6 @@ begun_past-true (Styled role link text ∷ ps) = begun_past-true ps
 begun_by_one : (c : ℕ) (cs : List ℕ) → true ≡ begun_after false (c ∷ cs)
 begun_by_one c cs = grind (arith, nat_tests)
 
-begun_past-false : (form : List FormPiece) → begun_past false form ≡ begun_after false (plain_from false form)
-begun_past-false [] = refl
-begun_past-false (Char ch ∷ ps) = begun_past-true ps ∙ begun_by_one ch (plain_from true ps)
-begun_past-false (Break ∷ ps) = begun_past-false ps
-begun_past-false (Styled role link [] ∷ ps) = begun_past-false ps
-begun_past-false (Styled role link (c ∷ cs) ∷ ps) =
-    ap (λ (b : Bool). begun_past b ps) (sym (begun_by_one c cs)) ∙ begun_past-true ps ∙ begun_by_one c (cs ++ plain_from (begun_after false (c ∷ cs)) ps)
-
-begun_past-is : (begun : Bool) (form : List FormPiece) → begun_past begun form ≡ (begun || begun_after false (plain_from false form))
-begun_past-is true form = begun_past-true form
-begun_past-is false form = begun_past-false form
-
 begun_past-append : (begun : Bool) (form more : List FormPiece) → begun_past begun (form ++ more) ≡ begun_past (begun_past begun form) more
 begun_past-append begun [] more = refl
 begun_past-append begun (Char ch ∷ ps) more = begun_past-append true ps more
@@ -171,10 +152,6 @@ begun-chars empty bytes text utf8 same is =
 pub record IsRendered (sheet : Stylesheet) (front : List FormPiece) (text : List ℕ) (begun : Bool) : Type 0 where
   pub text_is : text ≡ form_bytes sheet front
   pub begun_is : begun ≡ begun_past false front
-
--- an empty text renders no pieces
-pub IsRendered-none : (sheet : Stylesheet) (text : List ℕ) → text ≡ [] → IsRendered sheet [] text false
-IsRendered-none sheet text none = record { text_is = none; begun_is = refl }
 
 -- some pieces more
 pub IsRendered-more : (sheet : Stylesheet) (front own : List FormPiece) (old new : List ℕ) (begun after : Bool)
@@ -216,17 +193,11 @@ begun_past-mark false kinds.Break cs empty = ap (begun_after false) (sym (empty 
 begun_past-mark begun (kinds.Styled look) cs empty = refl
 
 -- a text is rendered up to a place, after which these marks stand
-pub record IsRenderedTo (sheet : Stylesheet) (form : List FormPiece) (text : List ℕ) (marks : List Mark) (from : ℕ) (out : List ℕ) : Type 0 where
+pub record IsRenderedTo (sheet : Stylesheet) (form : List FormPiece) (text : List ℕ) (marks : List FormMark) (from : ℕ) (out : List ℕ) : Type 0 where
   pub front : List FormPiece
   pub rendered : IsRendered sheet front out (nat_lt 0 from)
   pub form_is : form ≡ front ++ pieces_from text from marks
   pub marks_are : AreMarks text from marks
-
--- nothing is rendered at first
-pub IsRenderedTo-none : (sheet : Stylesheet) (form : List FormPiece) (text : List ℕ) (marks : List Mark) (out : List ℕ) → out ≡ []
-    → form ≡ pieces_from text 0 marks → AreMarks text 0 marks → IsRenderedTo sheet form text marks 0 out
-IsRenderedTo-none sheet form text marks out none is are =
-    record { front = []; rendered = IsRendered-none sheet out none; form_is = is; marks_are = are }
 
 -- what stands between two places of a text, without codes
 rendered-bare : (sheet : Stylesheet) (front : List FormPiece) (text : List ℕ) (from to : ℕ) (old new : List ℕ) → IsUtf8 text → IsPlace text from
@@ -246,7 +217,7 @@ none_between text from to same =
     ap (λ n. chars (take n (drop from text))) nothing ∙ chars-nil
 
 -- a mark more, and what stands before it
-pub IsRenderedTo-mark : (sheet : Stylesheet) (form : List FormPiece) (text : List ℕ) (m : Mark) (ms : List Mark) (from : ℕ) (out mid new : List ℕ)
+pub IsRenderedTo-mark : (sheet : Stylesheet) (form : List FormPiece) (text : List ℕ) (m : FormMark) (ms : List FormMark) (from : ℕ) (out mid new : List ℕ)
     → IsUtf8 text → IsRenderedTo sheet form text (m ∷ ms) from out → mid ≡ out ++ stretch text from m.start
     → new ≡ mid ++ flat_map piece_text (woven_from sheet (nat_lt 0 m.start) (piece_of_kind (chars (stretch text m.start m.end)) m.kind ∷ []))
     → IsRenderedTo sheet form text ms m.end new

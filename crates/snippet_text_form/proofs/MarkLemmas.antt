@@ -11,11 +11,11 @@ use Rattle.snippet_grid.proofs.StretchLemmas.{stretch, stretch_joined, stretch_g
 use Rattle.snippet_grid.proofs.StretchLemmas.{boundary, front_grown}
 use Rattle.snippet_grid.proofs.StretchLemmas.{IsUtf8-stretch, is_utf8-end}
 use Rattle.snippet_text_form.specs.Form.{FormPiece, Char, bare, piece_of_kind, pieces_from, chars_between, IsPlace, AreMarks}
-use Rattle.snippet_text_form.specs.declared.form.Mark.{Mark}
+use Rattle.snippet_text_form.specs.declared.form.FormMark.{FormMark}
 use Rattle.snippet_text_form.specs.declared.form.MarkKind.TheVariants as kinds
 
 -- the place from which marks stand
-pub first_place : (text : List ℕ) (from : ℕ) (marks : List Mark) → AreMarks text from marks → IsPlace text from
+pub first_place : (text : List ℕ) (from : ℕ) (marks : List FormMark) → AreMarks text from marks → IsPlace text from
 first_place text from [] are = are
 first_place text from (m ∷ ms) are = are.0.from_is
 
@@ -28,7 +28,7 @@ IsPlace-grown old new at grows is =
     }
 
 -- marks stay when the text grows
-pub AreMarks-grown : (old new : List ℕ) (from : ℕ) (marks : List Mark) → BeginsWith old new → AreMarks old from marks → AreMarks new from marks
+pub AreMarks-grown : (old new : List ℕ) (from : ℕ) (marks : List FormMark) → BeginsWith old new → AreMarks old from marks → AreMarks new from marks
 AreMarks-grown old new from [] grows are = IsPlace-grown old new from grows are
 AreMarks-grown old new from (m ∷ ms) grows are = (
   record {
@@ -62,7 +62,7 @@ between-utf8 text from to utf8 ordered start end =
     IsUtf8-stretch text from to utf8 ordered end.within start.whole end.whole
 
 -- a text that is added stands after all pieces
-pub pieces-text : (old new more : List ℕ) (from : ℕ) (marks : List Mark) → IsUtf8 old → new ≡ old ++ more → AreMarks old from marks
+pub pieces-text : (old new more : List ℕ) (from : ℕ) (marks : List FormMark) → IsUtf8 old → new ≡ old ++ more → AreMarks old from marks
     → pieces_from new from marks ≡ pieces_from old from marks ++ bare (chars more)
 pieces-text old new more from [] utf8 is place =
     ap (λ (bs : List ℕ). bare (chars bs)) (rest_grown old new more from is place.within)
@@ -86,7 +86,7 @@ none_after text =
     ap (λ n. chars (take n (drop (length text) text))) nothing ∙ chars-nil
 
 -- a mark that is added at the end, with its characters, stands after all pieces
-pub pieces-mark : (old new word : List ℕ) (from : ℕ) (marks : List Mark) (mark : Mark) → IsUtf8 old → new ≡ old ++ word → mark.start ≡ length old
+pub pieces-mark : (old new word : List ℕ) (from : ℕ) (marks : List FormMark) (mark : FormMark) → IsUtf8 old → new ≡ old ++ word → mark.start ≡ length old
     → mark.end ≡ length new → AreMarks old from marks
     → pieces_from new from (marks ++ mark ∷ []) ≡ pieces_from old from marks ++ piece_of_kind (chars word) mark.kind ∷ []
 pieces-mark old new word from [] mark utf8 is start end place =
@@ -114,7 +114,7 @@ pieces-mark old new word from (m ∷ ms) mark utf8 is start end are =
     ∙ sym (append_assoc before (own ∷ pieces_from old m.end ms) (piece_of_kind (chars word) mark.kind ∷ []))
 
 -- it is one of the marks then
-pub AreMarks-mark : (old new word : List ℕ) (from : ℕ) (marks : List Mark) (mark : Mark) → IsUtf8 old → IsUtf8 new → new ≡ old ++ word
+pub AreMarks-mark : (old new word : List ℕ) (from : ℕ) (marks : List FormMark) (mark : FormMark) → IsUtf8 old → IsUtf8 new → new ≡ old ++ word
     → mark.start ≡ length old → mark.end ≡ length new → (mark.kind ≡ kinds.Break → word ≡ []) → AreMarks old from marks
     → AreMarks new from (marks ++ mark ∷ [])
 AreMarks-mark old new word from [] mark utf8 utf8_new is start end empty place =
@@ -148,7 +148,7 @@ BeginsWith-pushed (Ok value) old new more is = BeginsWith-added old more new is
 BeginsWith-pushed (Err error) old new more is = subst (λ (t : List ℕ). BeginsWith old t) (sym is) (BeginsWith-same old)
 
 -- on success its characters stand after all pieces
-pub text_pushed-on_ok : {T E : Type 0} (r : Result T E) (old new more cs : List ℕ) (marks : List Mark) (form : List FormPiece) → IsUtf8 old
+pub text_pushed-on_ok : {T E : Type 0} (r : Result T E) (old new more cs : List ℕ) (marks : List FormMark) (form : List FormPiece) → IsUtf8 old
     → AreMarks old 0 marks → pieces_from old 0 marks ≡ form → chars more ≡ cs → new ≡ (if is_ok r then old ++ more else old)
     → OnOk r (pieces_from new 0 marks ≡ form ++ bare cs)
 text_pushed-on_ok (Ok value) old new more cs marks form utf8 are form_is cs_are is =
@@ -159,27 +159,27 @@ text_pushed-on_ok (Err error) old new more cs marks form utf8 are form_is cs_are
 -- ---- a form without marks
 
 -- the start of a text is a place in it
-pub AreMarks-none : (text : List ℕ) (marks : List Mark) → marks ≡ [] → AreMarks text 0 marks
+pub AreMarks-none : (text : List ℕ) (marks : List FormMark) → marks ≡ [] → AreMarks text 0 marks
 AreMarks-none text marks none =
     let start : IsPlace text 0 = record { within = omega arith; whole = is_utf8-from_IsUtf8 [] (IsUtf8-from_ascii [] IsAscii-nil) } in
-    subst (λ (ms : List Mark). AreMarks text 0 ms) (sym none) start
+    subst (λ (ms : List FormMark). AreMarks text 0 ms) (sym none) start
 
 -- an empty text without marks has no pieces
-pub pieces-none : (text : List ℕ) (marks : List Mark) → text ≡ [] → marks ≡ [] → pieces_from text 0 marks ≡ []
+pub pieces-none : (text : List ℕ) (marks : List FormMark) → text ≡ [] → marks ≡ [] → pieces_from text 0 marks ≡ []
 pieces-none text marks no_text no_marks =
-    ap (λ (ms : List Mark). pieces_from text 0 ms) no_marks ∙ ap (λ (t : List ℕ). pieces_from t 0 []) no_text ∙ ap bare chars-nil
+    ap (λ (ms : List FormMark). pieces_from text 0 ms) no_marks ∙ ap (λ (t : List ℕ). pieces_from t 0 []) no_text ∙ ap bare chars-nil
 
 -- ---- the marks that are left
 
 -- what stands where a list has no mark
-abbrev pub no_mark : Mark
+abbrev pub no_mark : FormMark
 no_mark = record { start = 0; end = 0; kind = kinds.Break }
 
 -- the first of them, and those after it
-pub mark_here : (text : List ℕ) (from : ℕ) (marks : List Mark) (i : ℕ) → i < length marks → AreMarks text from (drop i marks)
+pub mark_here : (text : List ℕ) (from : ℕ) (marks : List FormMark) (i : ℕ) → i < length marks → AreMarks text from (drop i marks)
     → AreMarks text from (get_or marks i no_mark ∷ drop (i + 1) marks)
 mark_here text from marks i within are =
-    subst (λ (ms : List Mark). AreMarks text from ms) (drop_more marks i no_mark within) are
+    subst (λ (ms : List FormMark). AreMarks text from ms) (drop_more marks i no_mark within) are
 
 -- a text may be cut at a place in it
 pub place_boundary : (text : List ℕ) (at : ℕ) → IsUtf8 text → IsPlace text at → IsCharBoundary text at

@@ -10,7 +10,7 @@ use Rattle.snippet_style.specs.declared.role.ElementStyle.{ElementStyle}
 use Rattle.snippet_style.specs.declared.role.LevelInner.TheVariants.{Note}
 use Rattle.snippet_style.specs.declared.style.Style.{Style}
 use Rattle.snippet_style.specs.declared.stylesheet.Stylesheet.{Stylesheet}
-use Rattle.snippet_text_form.specs.declared.form.Mark.{Mark}
+use Rattle.snippet_text_form.specs.declared.form.FormMark.{FormMark}
 use Rattle.snippet_text_form.specs.declared.form.MarkKind.{MarkKind}
 use Rattle.snippet_text_form.specs.declared.form.MarkKind.TheVariants as kinds
 
@@ -39,7 +39,7 @@ abbrev pub chars_between : List ℕ → ℕ → ℕ → List ℕ
 chars_between text from to = chars (take (to - from) (drop from text))
 
 -- the pieces of a text from a place on, with these marks in it: what stands between them has no codes
-abbrev pub pieces_from : List ℕ → ℕ → List Mark → List FormPiece
+abbrev pub pieces_from : List ℕ → ℕ → List FormMark → List FormPiece
 pieces_from text from [] = bare (chars_between text from (length text))
 pieces_from text from (mark ∷ marks) =
     bare (chars_between text from mark.start) ++ piece_of_kind (chars_between text mark.start mark.end) mark.kind ∷ pieces_from text mark.end marks
@@ -50,7 +50,7 @@ pub record IsPlace (text : List ℕ) (at : ℕ) : Type 0 where
   pub whole : is_utf8 (take at text) ≡ true
 
 -- a mark stands after a place of a text, and a break has no characters
-pub record IsMark (text : List ℕ) (from : ℕ) (mark : Mark) : Type 0 where
+pub record IsMark (text : List ℕ) (from : ℕ) (mark : FormMark) : Type 0 where
   pub from_is : IsPlace text from
   pub start_is : IsPlace text mark.start
   pub after : from ≤ mark.start
@@ -58,7 +58,7 @@ pub record IsMark (text : List ℕ) (from : ℕ) (mark : Mark) : Type 0 where
   pub empty : mark.kind ≡ kinds.Break → mark.end ≡ mark.start
 
 -- these marks stand in a text from a place on, one after another
-abbrev pub AreMarks : List ℕ → ℕ → List Mark → Type 0
+abbrev pub AreMarks : List ℕ → ℕ → List FormMark → Type 0
 AreMarks text from [] = IsPlace text from
 AreMarks text from (mark ∷ marks) = IsMark text from mark × AreMarks text mark.end marks
 

@@ -36,7 +36,7 @@ const MARK_BYTES: usize = 16;
 
 /// What stands in a text beside plain characters: some of its characters in a style, or a break between two of them.
 #[derive(Clone, Copy)]
-pub(crate) struct Mark<'a> {
+pub(crate) struct FormMark<'a> {
     /// Where its characters begin and end in the text, in bytes. A break has none.
     pub(crate) start: usize,
     pub(crate) end: usize,
@@ -50,12 +50,12 @@ pub(crate) enum MarkKind<'a> {
     /// A line feed; none where no text stands before it.
     Break,
     /// Text in a style.
-    Styled(Look<'a>),
+    Styled(FormLook<'a>),
 }
 
 /// How a text looks.
 #[derive(Clone, Copy)]
-pub(crate) struct Look<'a> {
+pub(crate) struct FormLook<'a> {
     /// The role that gives the style.
     pub(crate) role: ElementStyle,
     /// The address that it links to.
@@ -68,7 +68,7 @@ pub struct TextForm<'a> {
     /// The characters of its texts, one after another.
     text: String,
     /// The breaks and the styled texts, in order; what stands between them has no codes.
-    marks: Vec<Mark<'a>>,
+    marks: Vec<FormMark<'a>>,
 }
 
 impl<'a> Model for TextForm<'a> {
@@ -144,7 +144,7 @@ impl<'a> TextForm<'a> {
         ensures added { OnOk result (self.new
             ≡ self.old ++ Styled role (option_copied link.entry) (chars (cow_str_bytes text.entry)) ∷ []) }
     {
-        let look = Look { role, link };
+        let look = FormLook { role, link };
         push_mark(
             &mut self.text,
             &mut self.marks,
@@ -188,7 +188,7 @@ impl<'a> TextForm<'a> {
 /// Adds a mark after a text and the marks in it, with these characters, of which a break has none.
 fn push_mark<'a>(
     text: &mut String,
-    marks: &mut Vec<Mark<'a>>,
+    marks: &mut Vec<FormMark<'a>>,
     word: &str,
     kind: MarkKind<'a>,
 ) -> Result<(), AllocError>
@@ -201,7 +201,7 @@ fn push_mark<'a>(
     let start = text.len();
     push_some(text, word)?;
     let end = text.len();
-    marks.push(Mark { start, end, kind })?;
+    marks.push(FormMark { start, end, kind })?;
     Ok(())
 }
 
@@ -251,7 +251,7 @@ fn write_spaces(out: &mut String, count: usize) -> Result<(), AllocError>
 fn write_styled(
     out: &mut String,
     sheet: &Stylesheet,
-    look: Look<'_>,
+    look: FormLook<'_>,
     word: &str,
 ) -> Result<(), AllocError>
     ensures added { OnOk result (string_bytes out.new ≡ string_bytes out.old ++ flat_map piece_text

@@ -56,11 +56,6 @@ row_at-appended rows row (cell ∷ cells) =
     let all : List Cell = row_at rows row ++ cell ∷ cells in
     ap (λ rs. row_at rs row) (appended-is rows row (cell ∷ cells) (omega arith)) ∙ row_at-placed rows row all
 
-pub length-appended : (rows : List (List Cell)) (row : ℕ) (cells : List Cell) → length (appended rows row cells) ≤ max (length rows) (row + 1)
-length-appended rows row [] = omega arith
-length-appended rows row (cell ∷ cells) =
-    omega (arith, length-written [] rows row (written SPACE (row_at rows row) (length (row_at rows row)) (cell ∷ cells) ∷ []))
-
 -- cells and more cells
 pub appended-appended : (rows : List (List Cell)) (row : ℕ) (xs ys : List Cell) → appended (appended rows row xs) row ys ≡ appended rows row (xs ++ ys)
 appended-appended rows row [] ys = refl

@@ -28,17 +28,6 @@ file_glyph-some Later Unicode = omega arith
 file_glyph-some Secondary Ascii = omega arith
 file_glyph-some Secondary Unicode = omega arith
 
--- each glyph has at most four characters
-pub file_glyph-short : (start : FileStart) (decor : DecorStyle) → length (file_glyph start decor) ≤ 4
-file_glyph-short Alone Ascii = omega arith
-file_glyph-short Alone Unicode = omega arith
-file_glyph-short First Ascii = omega arith
-file_glyph-short First Unicode = omega arith
-file_glyph-short Later Ascii = omega arith
-file_glyph-short Later Unicode = omega arith
-file_glyph-short Secondary Ascii = omega arith
-file_glyph-short Secondary Unicode = omega arith
-
 -- the row that leads to a file
 pub file_row-begun : (old new : List (List Cell)) (row : ℕ) (text : List ℕ) (layout : OriginLayout) (start : FileStart) → row ≡ length old
     → chars text ≡ file_glyph start layout.base.decor

@@ -176,16 +176,6 @@ module _ (P : ℕ → Type 0) (free : (c : ℕ) → IsUnlisted c → P c) where
       (parts-all (sign_cells style) label (sign-all style) (subst (All P) (sym (row_text-label hyperlink roles heading)) (label-all heading)))
       (indent-all style (label_width heading)) (All-slice_split P (λ c. c == 10) (shown_text heading) all))
 
--- a row none of whose cells holds a listed character
-abbrev pub IsFreeText : List Cell → Type 0
-IsFreeText row = All IsUnlisted (row_text row)
-
--- the rows of a heading whose text isn't trusted hold no listed character
-pub heading_rows-untrusted : (hyperlink : Bool) (style : TitleStyle) (heading : Heading) → heading.allows_styling ≡ false
-    → All IsFreeText (heading_rows hyperlink style heading)
-heading_rows-untrusted hyperlink style heading untrusted =
-    heading_rows-all IsUnlisted (λ c is. is) hyperlink style heading (rw untrusted (norm-free (chars heading.text)))
-
 -- each listed character of a heading's rows stands in its text, and that is trusted
 abbrev pub IsOwn : Heading → ℕ → Type 0
 IsOwn heading c = is_listed c ≡ true → (heading.allows_styling ≡ true) × Contains (chars heading.text) c

@@ -16,11 +16,10 @@ use Rattle.snippet_titles.specs.declared.origin.FileStart.{FileStart}
 use Rattle.snippet_titles.specs.declared.origin.FileStart.TheVariants.{Alone, First, Later, Secondary}
 use Rattle.snippet_titles.specs.declared.origin.OriginLocation.{OriginLocation}
 use Rattle.snippet_titles.specs.declared.origin.OriginLayout.{OriginLayout}
-use Rattle.snippet_titles.specs.Origin.{file_glyph, file_row, origin_row, origin_text, place_text, padding_row, primary_head, secondary_head, nameless_head}
+use Rattle.snippet_titles.specs.Origin.{file_glyph, file_row, origin_row, origin_text, place_text, padding_row}
 use Rattle.snippet_style.specs.Separators.{closing_row}
 use Rattle.snippet_titles.proofs.DigitLemmas.{IsDigit}
 use Rattle.snippet_titles.proofs.OriginText.{place_text-each}
-use Rattle.snippet_titles.proofs.HeadLemmas.{primary_head-each, secondary_head-each, nameless_head-each}
 pub use Rattle.snippet_model.proofs.RowLemmas.{each_fails as each-fails, free_drawn as text_cells-free, free_separator_row as separator_row-free}
 
 -- no glyph is a listed character
@@ -77,17 +76,3 @@ origin_row-free layout start path place =
     let text : List ℕ = origin_text layout.anonymized path place in
     All-append IsFreeCell (file_row layout start) (text_cells LineAndColumn text) (file_row-free layout start)
     (text_cells-free LineAndColumn text (origin_text-free layout.anonymized path place))
-
--- and so are the heads of snippets
-pub primary_head-free : (layout : OriginLayout) (first : Bool) (path : List ℕ) (place : OriginLocation) → All IsFree (primary_head layout first path place)
-primary_head-free layout first path place =
-    primary_head-each IsFree layout (separator_row-free layout.base.decor layout.base.gutter) path place (λ start.
-    origin_row-free layout start path place) first
-
-pub secondary_head-free : (layout : OriginLayout) (path : List ℕ) (place : OriginLocation) → All IsFree (secondary_head layout path place)
-secondary_head-free layout path place =
-    secondary_head-each IsFree layout (separator_row-free layout.base.decor layout.base.gutter) path place (λ start. origin_row-free layout start path place)
-
-pub nameless_head-free : (layout : OriginLayout) → All IsFree (nameless_head layout)
-nameless_head-free layout =
-    nameless_head-each IsFree layout (separator_row-free layout.base.decor layout.base.gutter) (file_row-free layout Secondary)

@@ -15,9 +15,8 @@ use Rattle.snippet_titles.specs.declared.origin.FileStart.{FileStart}
 use Rattle.snippet_titles.specs.declared.origin.FileStart.TheVariants.{Alone, First, Later, Secondary}
 use Rattle.snippet_titles.specs.declared.origin.OriginLocation.{OriginLocation}
 use Rattle.snippet_titles.specs.declared.origin.OriginLayout.{OriginLayout}
-use Rattle.snippet_titles.specs.Origin.{file_glyph, file_row, origin_row, origin_text, padding_row, primary_head, secondary_head, nameless_head}
+use Rattle.snippet_titles.specs.Origin.{file_glyph, file_row, origin_row, origin_text, padding_row}
 use Rattle.snippet_style.specs.Separators.{separator_row, closing_row}
-use Rattle.snippet_titles.proofs.HeadLemmas.{primary_head-each, secondary_head-each, nameless_head-each}
 use Rattle.snippet_titles.proofs.FileRowLemmas.{file_glyph-some}
 use Rattle.snippet_titles.proofs.OriginFree.{each-fails}
 
@@ -97,21 +96,3 @@ origin_row-unnumbered layout start path place =
 pub file_row-unnumbered : (layout : OriginLayout) (start : FileStart) → HasNoNumber layout.base.gutter (file_row layout start)
 file_row-unnumbered layout start c within =
     All-get_or IsPlain (file_row layout start) c SPACE (omega (arith, within, file_row-long layout start)) (file_row-plain layout start)
-
--- nor in the heads of snippets
-pub primary_head-unnumbered : (layout : OriginLayout) (first : Bool) (path : List ℕ) (place : OriginLocation)
-    → All (HasNoNumber layout.base.gutter) (primary_head layout first path place)
-primary_head-unnumbered layout first path place =
-    primary_head-each (HasNoNumber layout.base.gutter) layout (separator_row-unnumbered layout.base.decor layout.base.gutter) path place (λ start.
-    origin_row-unnumbered layout start path place) first
-
-pub secondary_head-unnumbered : (layout : OriginLayout) (path : List ℕ) (place : OriginLocation)
-    → All (HasNoNumber layout.base.gutter) (secondary_head layout path place)
-secondary_head-unnumbered layout path place =
-    secondary_head-each (HasNoNumber layout.base.gutter) layout (separator_row-unnumbered layout.base.decor layout.base.gutter) path place (λ start.
-    origin_row-unnumbered layout start path place)
-
-pub nameless_head-unnumbered : (layout : OriginLayout) → All (HasNoNumber layout.base.gutter) (nameless_head layout)
-nameless_head-unnumbered layout =
-    nameless_head-each (HasNoNumber layout.base.gutter) layout (separator_row-unnumbered layout.base.decor layout.base.gutter)
-    (file_row-unnumbered layout Secondary)

@@ -92,12 +92,12 @@ adds_three sheet second third a b c row one two three same again first more last
     adds_more sheet third (a ++ b) c row two three (again ∙ same) (adds_more sheet second a b row one two same first more) last
 
 -- an id that links to nothing, in its brackets
-pub id_added : (sheet second third : Stylesheet) (hyperlink hidden : Bool) (role : ElementStyle) (id : Id) (text opening shown closing : List ℕ)
+pub id_woven : (sheet second third : Stylesheet) (hyperlink hidden : Bool) (role : ElementStyle) (id : Id) (text opening shown closing : List ℕ)
     (row one two three : PrintedRow) → option_map cow_str_bytes id.id ≡ Some text → address_of hyperlink id ≡ None
     → opening ≡ opening_bracket_of hidden → shown ≡ norm (chars text) → closing ≡ closing_bracket_of hidden → second ≡ sheet → third ≡ second
     → AddsCells sheet (text_cells role opening) row one → AddsCells second (text_cells role shown) one two
     → AddsCells third (text_cells role closing) two three → AddsCells sheet (id_cells hyperlink hidden role (Some id)) row three
-id_added sheet second third hyperlink hidden role id text opening shown closing row one two three texts alone opens shows closes same again first more last =
+id_woven sheet second third hyperlink hidden role id text opening shown closing row one two three texts alone opens shows closes same again first more last =
     let cells : text_cells role opening ++ text_cells role shown ++ text_cells role closing ≡ id_cells hyperlink hidden role (Some id) =
     ap (λ cs. text_cells role cs ++ text_cells role shown ++ text_cells role closing) opens
     ∙ ap (λ cs. text_cells role (opening_bracket_of hidden) ++ text_cells role cs ++ text_cells role closing) shows

@@ -11,7 +11,7 @@ use Rattle.snippet_grid.proofs.StretchPrinted.{stretch_printed}
 use Rattle.snippet_grid.proofs.WeaveLemmas.{Url, Goes}
 use Rattle.snippet_grid.specs.Stretch.{PrintsStretch}
 use Rattle.snippet_titles.specs.StretchCells.{cells_alike, stretch_cells}
-use Rattle.snippet_titles.specs.declared.stretch.Stretch.{Stretch}
+use Rattle.snippet_titles.specs.declared.stretch.RowStretch.{RowStretch}
 use Rattle.snippet_style.specs.Cell.{Cell}
 use Rattle.snippet_style.specs.Stylesheet.{style_of}
 use Rattle.snippet_style.specs.declared.role.LevelInner.{LevelInner}
@@ -19,17 +19,17 @@ use Rattle.snippet_style.specs.declared.style.Style.{Style}
 use Rattle.snippet_style.specs.declared.stylesheet.Stylesheet.{Stylesheet}
 
 -- the cells of the first of some stretches
-abbrev pub cells_before : List Stretch → ℕ → List Cell
+abbrev pub cells_before : List RowStretch → ℕ → List Cell
 cells_before stretches n = flat_map stretch_cells (take n stretches)
 
 -- before any stretch nothing is printed, and the style `none` is open
-pub none_printed : (sheet : Stylesheet) (level : LevelInner) (stretches : List Stretch) (old : List ℕ)
+pub none_printed : (sheet : Stylesheet) (level : LevelInner) (stretches : List RowStretch) (old : List ℕ)
     → Goes sheet level (Some sheet.none) None (cells_before stretches 0) old old
 none_printed sheet level stretches old =
     λ rest more prints. record { pieces = rest; text_is = refl; prints = prints }
 
 -- the cells before the next stretch are those before this one, and its own
-cells_next : (stretches : List Stretch) (n : ℕ) (d : Stretch) → n < length stretches
+cells_next : (stretches : List RowStretch) (n : ℕ) (d : RowStretch) → n < length stretches
     → cells_before stretches (n + 1) ≡ cells_before stretches n ++ stretch_cells (get_or stretches n d)
 cells_next stretches n d within =
     let next : n + 1 ≡ suc n = omega arith in
@@ -38,19 +38,19 @@ cells_next stretches n d within =
     ∙ ap (λ (cells : List Cell). cells_before stretches n ++ cells) (append-nil (stretch_cells (get_or stretches n d)))
 
 -- a stretch that has cells was printed
-pub stretch_woven : (sheet : Stylesheet) (level : LevelInner) (stretches : List Stretch) (n : ℕ) (d : Stretch) (last next : Style) (link : Option Url)
+pub stretch_woven : (sheet : Stylesheet) (level : LevelInner) (stretches : List RowStretch) (n : ℕ) (d : RowStretch) (last next : Style) (link : Option Url)
     (old now new : List ℕ) → n < length stretches → (let s = get_or stretches n d in 0 < length (chars s.text.now) → next ≡ style_of sheet level s.role
     → PrintsStretch (chars s.text.now) last next link (option_copied s.link) now new
     → Goes sheet level (Some last) link (cells_before stretches n) old now
     → Goes sheet level (Some next) (option_copied s.link) (cells_before stretches (n + 1)) old new)
 stretch_woven sheet level stretches n d last next link old now new within =
     λ some is prints goes.
-    let s : Stretch = get_or stretches n d in
+    let s : RowStretch = get_or stretches n d in
     subst (λ (cells : List Cell). Goes sheet level (Some next) (option_copied s.link) cells old new) (sym (cells_next stretches n d within))
     (stretch_printed sheet level last next s.role link (option_copied s.link) (chars s.text.now) (cells_before stretches n) old now new some is prints goes)
 
 -- one that has none was passed over
-pub stretch_empty : (sheet : Stylesheet) (level : LevelInner) (stretches : List Stretch) (n : ℕ) (d : Stretch) (last : Style) (link : Option Url)
+pub stretch_empty : (sheet : Stylesheet) (level : LevelInner) (stretches : List RowStretch) (n : ℕ) (d : RowStretch) (last : Style) (link : Option Url)
     (old now : List ℕ) → n < length stretches → stretch_cells (get_or stretches n d) ≡ []
     → Goes sheet level (Some last) link (cells_before stretches n) old now → Goes sheet level (Some last) link (cells_before stretches (n + 1)) old now
 stretch_empty sheet level stretches n d last link old now within none goes =
@@ -58,9 +58,9 @@ stretch_empty sheet level stretches n d last link old now within none goes =
     (sym (cells_next stretches n d within ∙ ap (λ (cells : List Cell). cells_before stretches n ++ cells) none ∙ append-nil (cells_before stretches n))) goes
 
 -- a stretch without characters has no cells
-pub no_cells : (s : Stretch) → s.text.now ≡ [] → stretch_cells s ≡ []
+pub no_cells : (s : RowStretch) → s.text.now ≡ [] → stretch_cells s ≡ []
 no_cells s none = ap (λ (cs : List ℕ). cells_alike s.role (option_copied s.link) (chars cs)) none ∙ ap (cells_alike s.role (option_copied s.link)) chars-nil
 
 -- after the last stretch there are the cells of all
-pub cells_all : (stretches : List Stretch) (n : ℕ) → length stretches ≤ n → cells_before stretches n ≡ flat_map stretch_cells stretches
+pub cells_all : (stretches : List RowStretch) (n : ℕ) → length stretches ≤ n → cells_before stretches n ≡ flat_map stretch_cells stretches
 cells_all stretches n past = ap (flat_map stretch_cells) (take_all n stretches past)

@@ -19,7 +19,7 @@ use Rattle.snippet_titles.specs.HeadingRows.{address_of, bracketed_cells, bracke
 use Rattle.snippet_titles.specs.HeadingRows.{id_text, indent_cells, label_cells, heading_label_text, label_width, lines_below, linked_to, opening_bracket_of}
 use Rattle.snippet_titles.specs.HeadingRows.{roles_of, sign_cells}
 use Rattle.snippet_titles.specs.ShownHeading.{heading_texts, texts_below}
-use Rattle.snippet_titles.proofs.EndLemmas.{refilled, row_at-trimmed}
+use Rattle.snippet_titles.proofs.EndLemmas.{row_at-trimmed}
 use Rattle.snippet_grid.proofs.RowLemmas.{row_text-text_cells}
 
 -- the text of blank cells is spaces
@@ -108,28 +108,3 @@ heading_rows-texts hyperlink style heading k =
     (label_cells hyperlink roles heading) ∙ ap (λ cs. row_text (sign_cells style) ++ cs) (row_text-label hyperlink roles heading) in
     ap row_text (row_at-trimmed rows k) ∙ text_at rows k ∙ ap (λ ts.
     get_or ts k []) (texts_of_lines first further (row_text (sign_cells style) ++ heading_label_text heading) roles.text (heading_lines heading) begun)
-
--- no row stands below those of the lines
-lines_count : (first further : List Cell) (r : ElementStyle) (lines : List (List ℕ)) → length (lines_below first further r lines) ≡ length lines
-lines_count first further r [] = refl
-lines_count first further r (line ∷ lines) = ap suc (length-map lines (λ l. further ++ text_cells r l))
-
-texts_count : (first further : List ℕ) (lines : List (List ℕ)) → length (texts_below first further lines) ≡ length lines
-texts_count first further [] = refl
-texts_count first further (line ∷ lines) = ap suc (length-map lines (λ l. further ++ l))
-
-pub heading_rows-count : (hyperlink : Bool) (style : TitleStyle) (heading : Heading)
-    → length (heading_rows hyperlink style heading) ≤ length (heading_texts style heading)
-unfolding heading_rows
-heading_rows-count hyperlink style heading =
-    let roles : HeadingRoles = roles_of style heading.level.kind heading.allows_styling in
-    let first : List Cell = sign_cells style ++ label_cells hyperlink roles heading in
-    let further : List Cell = indent_cells style (label_width heading) in
-    let lines : List (List ℕ) = heading_lines heading in
-    omega (
-      arith,
-      (refilled (lines_below first further roles.text lines)).1,
-      lines_count first further roles.text lines,
-      texts_count
-          (row_text (sign_cells style) ++ heading_label_text heading) (row_text further) lines,
-    )

@@ -4,12 +4,12 @@ use Rattle.std.specs.Option.{option_copied}
 use Rattle.std.specs.Str.{chars}
 use Rattle.snippet_style.specs.Cell.{Cell}
 use Rattle.snippet_style.specs.declared.role.ElementStyle.{ElementStyle}
-use Rattle.snippet_titles.specs.declared.stretch.Stretch.{Stretch}
+use Rattle.snippet_titles.specs.declared.stretch.RowStretch.{RowStretch}
 
 -- the cells of these characters, all in one role and with one link
 abbrev pub cells_alike : ElementStyle → Option (List ℕ) → List ℕ → List Cell
 cells_alike role link word = map (λ ch. (let cell : Cell = record { ch = ch; role = role; link = link } in cell)) word
 
 -- those of a stretch: one for each character of its text
-abbrev pub stretch_cells : Stretch → List Cell
+abbrev pub stretch_cells : RowStretch → List Cell
 stretch_cells s = cells_alike s.role (option_copied s.link) (chars s.text.now)

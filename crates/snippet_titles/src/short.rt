@@ -18,7 +18,7 @@ ghost use Rattle.snippet_titles.specs.ShortRows.{short_rows};
 use crate::heading::{colon, draw_label, draw_text, is_hidden, shown_name};
 use crate::id::{address_of, closing_bracket, opening_bracket};
 use crate::row::{RowEnd, extend_row};
-use crate::stretch::{Stretch, print_row};
+use crate::stretch::{RowStretch, print_row};
 use crate::style::{TitleStyle, roles_of};
 use snippet_grid::StyledBuffer;
 use snippet_model::MessageOrTitle;
@@ -131,14 +131,14 @@ fn row_text(
     let id = shown_id(alloc, parts.hyperlink, hidden, given)?;
     let colon = colon(hidden, given);
     let stretches = [
-        Stretch::unlinked(parts.before.as_str(), ElementStyle::LineAndColumn),
-        Stretch::unlinked(name.as_str(), roles.label),
-        Stretch::unlinked(id.opening, roles.label),
-        Stretch::linked(id.text.as_str(), roles.label, id.address),
-        Stretch::unlinked(id.closing, roles.label),
-        Stretch::unlinked(colon, roles.colon),
-        Stretch::unlinked(title.text.as_str(), roles.text),
-        Stretch::unlinked(parts.after.as_str(), ElementStyle::NoStyle),
+        RowStretch::unlinked(parts.before.as_str(), ElementStyle::LineAndColumn),
+        RowStretch::unlinked(name.as_str(), roles.label),
+        RowStretch::unlinked(id.opening, roles.label),
+        RowStretch::linked(id.text.as_str(), roles.label, id.address),
+        RowStretch::unlinked(id.closing, roles.label),
+        RowStretch::unlinked(colon, roles.colon),
+        RowStretch::unlinked(title.text.as_str(), roles.text),
+        RowStretch::unlinked(parts.after.as_str(), ElementStyle::NoStyle),
     ];
     print_row(alloc, &stretches, level, sheet)
 }

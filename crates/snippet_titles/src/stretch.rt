@@ -19,7 +19,7 @@ const STRETCH_BYTES: usize = 8;
 
 /// Neighbouring cells of a row: a text in a role, which may link to an address. An empty one has no cells.
 #[derive(Clone, Copy)]
-pub(crate) struct Stretch<'a> {
+pub(crate) struct RowStretch<'a> {
     /// The characters, one for each cell.
     text: &'a str,
     /// What the cells are part of.
@@ -28,12 +28,12 @@ pub(crate) struct Stretch<'a> {
     link: Option<&'a str>,
 }
 
-impl<'a> Stretch<'a> {
+impl<'a> RowStretch<'a> {
     /// A text in a role, without a link.
     pub(crate) fn unlinked(text: &'a str, role: ElementStyle) -> Self
         ensures cells { stretch_cells result ≡ text_cells role (chars text.now) }
     {
-        Stretch {
+        RowStretch {
             text,
             role,
             link: None,
@@ -44,13 +44,13 @@ impl<'a> Stretch<'a> {
     pub(crate) fn linked(text: &'a str, role: ElementStyle, link: Option<&'a str>) -> Self
         ensures cells { stretch_cells result ≡ cells_alike role (option_copied link.entry) (chars text.now) }
     {
-        Stretch { text, role, link }
+        RowStretch { text, role, link }
     }
 }
 
 /// How a cell looks: its role, and where its link leads.
 #[derive(Clone, Copy)]
-struct Look<'a> {
+struct StretchLook<'a> {
     role: ElementStyle,
     link: Option<&'a str>,
 }
@@ -63,7 +63,7 @@ struct Look<'a> {
 /// There is no memory for the text.
 pub(crate) fn print_row(
     alloc: Global,
-    stretches: &[Stretch<'_>],
+    stretches: &[RowStretch<'_>],
     level: LevelInner,
     sheet: &Stylesheet,
 ) -> Result<String, AllocError>
@@ -76,7 +76,7 @@ pub(crate) fn print_row(
 }
 
 /// The bytes that the text of some stretches has room for at first.
-fn room_for(stretches: &[Stretch<'_>]) -> usize {
+fn room_for(stretches: &[RowStretch<'_>]) -> usize {
     let mut bytes = 0usize;
     for stretch in stretches {
         bytes = bytes.saturating_add(stretch.text.len().saturating_add(STRETCH_BYTES));
@@ -87,20 +87,20 @@ fn room_for(stretches: &[Stretch<'_>]) -> usize {
 /// Adds a row that has these stretches to a text.
 fn weave_stretches(
     out: &mut String,
-    stretches: &[Stretch<'_>],
+    stretches: &[RowStretch<'_>],
     level: LevelInner,
     sheet: &Stylesheet,
 ) -> Result<(), AllocError>
     ensures text { OnOk result (WeavesRow sheet.now level (flat_map stretch_cells stretches.now) (string_bytes out.old)
         (string_bytes out.new)) }
 {
-    let mut last = Look {
+    let mut last = StretchLook {
         role: ElementStyle::NoStyle,
         link: None,
     };
     for stretch in stretches {
         if has_cells(stretch.text) {
-            let next = Look {
+            let next = StretchLook {
                 role: stretch.role,
                 link: stretch.link,
             };
@@ -126,8 +126,8 @@ fn weave_stretch(
     word: &str,
     level: LevelInner,
     sheet: &Stylesheet,
-    last: Look<'_>,
-    next: Look<'_>,
+    last: StretchLook<'_>,
+    next: StretchLook<'_>,
 ) -> Result<(), AllocError>
     ensures text { OnOk result (PrintsStretch (chars word.now) (style_of sheet.now level last.entry.role)
         (style_of sheet.now level next.entry.role) (option_copied last.entry.link) (option_copied next.entry.link)

@@ -1,6 +1,6 @@
 -- Lemmas on how far lines reach, line by line and entry by entry.
-use Rattle.std.proofs.Common.{◌≡◌, ℕ, ◌≤◌, min, max, Bool, true, false, not, List, [], ◌∷◌, ◌++◌, Option, Some, None, All, map, fold, chars, refl, sym, ap}
-use Rattle.std.proofs.Common.{subst, cond, ◌∙◌, arith, unwrap_or, inl, inr}
+use Rattle.std.proofs.Common.{◌≡◌, ℕ, ◌≤◌, min, max, Bool, true, false, not, List, [], ◌∷◌, ◌++◌, Option, Some, None, All, map, chars, refl, sym, ap}
+use Rattle.std.proofs.Common.{subst, cond, ◌∙◌, inl, inr}
 use Rattle.std.specs.List.{flat_map, filter_map}
 use Rattle.std.specs.Option.{option_copied, option_map_or, option_to_list}
 use Rattle.std.proofs.lemmas.List.{map-append, map_push, append-nil}
@@ -16,7 +16,7 @@ use Rattle.snippet_parts.specs.Entries.{is_bar}
 use Rattle.snippet_window.specs.Measures.{with_columns, entries_of, columns_of, ends_of, end_with, whitespaces_of, widths_of, line_texts}
 use Rattle.snippet_window.specs.Window.{leading_whitespace}
 use Rattle.snippet_window.specs.Extent.{ReachesEntries, ReachesLines}
-use Rattle.snippet_parts.proofs.LeastLemmas.{least-push, greatest-push, least-push_two, greatest-push_two, least_below}
+use Rattle.snippet_parts.proofs.LeastLemmas.{least-push, greatest-push, least-push_two, greatest-push_two}
 
 -- one more entry, by whether it is a bar
 with_columns-push : (es : List LineAnnotation) (e : LineAnnotation) (bar : Bool) → is_bar e.annotation_type ≡ bar
@@ -103,15 +103,6 @@ line_added infos info x y reaches entries whitespace widest =
       widest = widest ∙ ap (λ n. max n (width_of text)) reaches.widest ∙ sym (greatest-push (widths_of (line_texts infos)) (width_of text))
           ∙ ap greatest (sym (map_push width_of (line_texts infos) text)) ∙ ap (λ ts. greatest (widths_of ts)) (sym texts);
     }
-
-fold_max_from : (ns : List ℕ) (m : ℕ) → m ≤ fold (λ a b. max a b) m ns
-fold_max_from [] m = omega arith
-fold_max_from (n ∷ ns) m = omega (arith, fold_max_from ns (max m n))
-
--- nor is the greatest
-pub least_to_greatest : (ns : List ℕ) → unwrap_or (least ns) 0 ≤ greatest ns
-least_to_greatest [] = omega arith
-least_to_greatest (n ∷ ns) = omega (arith, fold_max_from ns (max 0 n), All-head (λ k. unwrap_or (least (n ∷ ns)) 0 ≤ k) n ns (least_below (n ∷ ns)))
 
 -- what holds of a list's parts
 all_front : {X : Type 0} (P : X → Type 0) (xs ys : List X) → All P (xs ++ ys) → All P xs

@@ -61,12 +61,6 @@ pub record FitsSoFar (room : ℕ) (cs : List ℕ) (n at left : ℕ) : Type 0 whe
   pub bytes : at ≡ bytes_of (take n cs)
   pub rest : fitting_on_row room cs ≡ n + fitting_on_row left (drop n cs)
 
-pub BlankSoFar-none : (cs : List ℕ) → BlankSoFar cs 0 None
-BlankSoFar-none cs = record { is = refl }
-
-pub fits-none : (room : ℕ) (cs : List ℕ) → FitsSoFar room cs 0 0 room
-fits-none room cs = record { bytes = refl; rest = omega arith }
-
 -- a character of one byte, in bytes
 pub gap_in_bytes : (cs : List ℕ) (n at c : ℕ) → IsNext cs n c → c < 128 → at ≡ bytes_of (take n cs) → IsBreakIn cs (gap_at at) (gap_at n)
 gap_in_bytes cs n at c next ascii is =

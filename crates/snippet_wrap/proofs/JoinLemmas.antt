@@ -6,7 +6,7 @@ use Rattle.std.specs.Option.{option_map}
 use Rattle.std.specs.Str.{IsUtf8}
 use Rattle.std.proofs.lemmas.Bool.{false≢true}
 use Rattle.std.proofs.lemmas.List.{append_assoc, length-drop}
-use Rattle.std.proofs.lemmas.Str.{chars_from_encodes, encode_ascii, encodes-append, encodes-chars}
+use Rattle.std.proofs.lemmas.Str.{chars_from_encodes, encodes-append, encodes-chars}
 use Rattle.snippet_wrap.specs.Wrapped.{first_break, first_row, rows_joined}
 use Rattle.snippet_wrap.specs.declared.row.Break.{Break}
 use Rattle.snippet_wrap.proofs.EndLemmas.{IsWithin, break_within}
@@ -81,10 +81,6 @@ pub record JoinedSoFar (room : ℕ) (written rest : List ℕ) (all : List ℕ) :
 
 pub joined-none : (room : ℕ) (cs : List ℕ) → JoinedSoFar room [] cs (rows_joined (length cs) room cs)
 joined-none room cs = record { left = length cs; enough = omega arith; is = refl }
-
--- the bytes of a line feed
-encode-feed : encode_utf8 10 ≡ 10 ∷ []
-encode-feed = encode_ascii 10 (omega arith)
 
 -- a row is written, and a line feed
 pub joined-next : (room : ℕ) (old mid new cs row text after all : List ℕ) → 4 ≤ room → first_row room cs ≡ Some (row, after) → IsUtf8 text

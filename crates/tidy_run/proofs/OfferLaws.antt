@@ -1,5 +1,5 @@
 -- What the help offers: the source with all of a rule's findings mended.
-use Rattle.std.proofs.Common.{◌≡◌, ℕ, ◌++◌, List, [], ◌∷◌, map, refl, sym, ap, ◌∙◌, subst, codes}
+use Rattle.std.proofs.Common.{◌≡◌, ℕ, ◌++◌, List, [], ◌∷◌, map, refl, sym, ap, ◌∙◌, subst}
 use Rattle.std.specs.Cow.{cow_str_bytes}
 use Rattle.std.specs.List.{slice_range}
 use Rattle.annotate_snippets.specs.declared.snippet.Patch.{Patch}
@@ -24,10 +24,3 @@ patched-mended source found ps same inside =
     ap (edited_from source 0) (in_order-apart 0 (map edit_of ps) (patches-apart source 0 ps are))
     ∙ edited-mended source 0 ps
     ∙ ap (mended source 0) same
-
--- mended: blanks at a line's end are gone, and a tab is four spaces
-blanks-mended : mended (codes "x  " ++ 10 ∷ []) 0 (record { start = 1; end = 3; text = [] } ∷ []) ≡ codes "x" ++ 10 ∷ []
-blanks-mended = refl
-
-tab-mended : mended (9 ∷ 121 ∷ 10 ∷ []) 0 (record { start = 0; end = 1; text = codes "    " } ∷ []) ≡ codes "    y" ++ 10 ∷ []
-tab-mended = refl

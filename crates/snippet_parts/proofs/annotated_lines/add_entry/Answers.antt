@@ -1,7 +1,7 @@
 use Rattle.std.proofs.Common.{◌+◌, ◌<◌, ◌++◌, ◌∷◌, [], ℕ, ap, sym, ◌∙◌, arith, get_or, length, map}
 use Rattle.std.proofs.lemmas.List.{get_or-map, map-set}
 use Rattle.snippet_parts.specs.Annotated.{KeptLine, PartEntry, seen_kept, seen_part}
-use Rattle.snippet_parts.proofs.KeptEntryLemmas.{stands_at, stands_nowhere}
+use Rattle.snippet_parts.proofs.KeptEntryLemmas.{entry_stands_at, stands_nowhere}
 use Rattle.snippet_parts.proofs.annotated_lines.add_entry.Goals as goal
 
 pub returns-in_default-clause-added : goal.returns-in_default-clause-added
@@ -16,7 +16,7 @@ returns-in_ok-push_entry-clause-added c seen parts are =
     let new : KeptLine = seen_kept c.push_entry.new.line in
     let there : at < length c.args.lines.now = omega (arith, c.in-Some.ensures.found, c.requires.count) in
     map-set seen_kept c.args.lines.now at c.push_entry.new.line
-    ∙ stands_at c.args.source.now seen parts p c.args.kept.now at (map seen_kept c.args.lines.now) new c.requires.ascending c.in-Some.ensures.found
+    ∙ entry_stands_at c.args.source.now seen parts p c.args.kept.now at (map seen_kept c.args.lines.now) new c.requires.ascending c.in-Some.ensures.found
     (ap (λ n. n + get_or c.args.kept.now at 0) (sym c.line_start.ensures.value) ∙ c.in-Some.ensures.number) are
     (c.in_ok-push_entry.ensures.added
     ∙ ap (λ (m : KeptLine). record m { parts = m.parts ++ p ∷ [] }) (sym (get_or-map seen_kept c.args.lines.now at _ new there)))

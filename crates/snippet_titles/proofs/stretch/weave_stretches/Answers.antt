@@ -6,7 +6,7 @@ use Rattle.snippet_grid.proofs.OutcomeLemmas.{on_ok_value}
 use Rattle.snippet_titles.proofs.StretchRow.{cells_all, none_printed, no_cells, stretch_empty, stretch_woven}
 use Rattle.snippet_grid.proofs.WeaveLemmas.{Goes, row_closed}
 use Rattle.snippet_titles.specs.StretchCells.{stretch_cells}
-use Rattle.snippet_titles.specs.declared.stretch.Stretch.{Stretch}
+use Rattle.snippet_titles.specs.declared.stretch.RowStretch.{RowStretch}
 use Rattle.snippet_style.specs.Cell.{Cell}
 use Rattle.snippet_style.specs.Codes.{reset}
 use Rattle.snippet_style.specs.declared.style.Style.{Style}
@@ -16,7 +16,7 @@ use Rattle.snippet_titles.proofs.stretch.weave_stretches.Goals as goal
 use Rattle.snippet_titles.proofs.stretch.weave_stretches.Goals.{then-has_cells+in_ok-weave_stretch, else-has_cells}
 
 -- what stands where a list has no stretch
-abbrev none : Stretch
+abbrev none : RowStretch
 none = record { text = record { ref_ptr = (0, 0); now = [] }; role = MainHeaderMsg; link = None }
 
 pub loop-stretch-init : goal.loop-stretch-init
@@ -29,7 +29,7 @@ pub loop-stretch-preserved : goal.loop-stretch-preserved
 loop-stretch-preserved c = elim c.if-has_cells.branch [
   | then-has_cells+in_ok-weave_stretch w ↦
       let i = c.loop-stretch.stretch-index in
-      let s : Stretch = get_or c.args.stretches.now i none in
+      let s : RowStretch = get_or c.args.stretches.now i none in
       rw (w.out-is, w.last-is)
       (record {
         goes = stretch_woven c.args.sheet.now c.args.level c.args.stretches.now i none
@@ -40,7 +40,7 @@ loop-stretch-preserved c = elim c.if-has_cells.branch [
       })
   | else-has_cells w ↦
       let i = c.loop-stretch.stretch-index in
-      let s : Stretch = get_or c.args.stretches.now i none in
+      let s : RowStretch = get_or c.args.stretches.now i none in
       rw (w.out-is, w.last-is)
       (record {
         goes = stretch_empty c.args.sheet.now c.args.level c.args.stretches.now i none

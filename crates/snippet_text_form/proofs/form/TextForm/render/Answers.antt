@@ -3,7 +3,7 @@ use Rattle.std.specs.List.{flat_map}
 use Rattle.std.proofs.lemmas.List.{drop_all, drop_more}
 use Rattle.snippet_grid.specs.Woven.{IsWoven, piece_text}
 use Rattle.snippet_text_form.specs.Form.{form_bytes, form_links, form_text, piece_of_kind, woven_from}
-use Rattle.snippet_text_form.specs.declared.form.Mark.{Mark}
+use Rattle.snippet_text_form.specs.declared.form.FormMark.{FormMark}
 use Rattle.snippet_text_form.proofs.FormLaws.{form-woven}
 use Rattle.snippet_text_form.proofs.FormSteps.{IsRenderedTo, IsRenderedTo-all, IsRenderedTo-mark}
 use Rattle.snippet_text_form.proofs.MarkLemmas.{first_place, mark_here, no_mark, place_boundary}
@@ -16,21 +16,21 @@ range-requires-clause-start_boundary c =
 
 pub range-requires-clause-end_boundary : goal.range-requires-clause-end_boundary
 range-requires-clause-end_boundary c =
-    let m : Mark = get_or c.deref-mark-items.result.now c.loop-mark.mark-index no_mark in
+    let m : FormMark = get_or c.deref-mark-items.result.now c.loop-mark.mark-index no_mark in
     place_boundary c.as_str-text.result.now m.start c.as_str-text.utf8
     (mark_here c.as_str-text.result.now c.loop-mark.from c.deref-mark-items.result.now c.loop-mark.mark-index c.loop-mark-test.true
     c.loop-mark.invariant.marks_are).0.start_is
 
 pub range-requires-in-loop-mark-clause-start_boundary : goal.range-requires-in-loop-mark-clause-start_boundary
 range-requires-in-loop-mark-clause-start_boundary c =
-    let m : Mark = get_or c.deref-mark-items.result.now c.loop-mark.mark-index no_mark in
+    let m : FormMark = get_or c.deref-mark-items.result.now c.loop-mark.mark-index no_mark in
     λ _. place_boundary c.as_str-text.result.now m.start c.as_str-text.utf8
     (mark_here c.as_str-text.result.now c.loop-mark.from c.deref-mark-items.result.now c.loop-mark.mark-index c.loop-mark-test.true
     c.loop-mark.invariant.marks_are).0.start_is
 
 pub range-requires-in-loop-mark-clause-end_boundary : goal.range-requires-in-loop-mark-clause-end_boundary
 range-requires-in-loop-mark-clause-end_boundary c =
-    let m : Mark = get_or c.deref-mark-items.result.now c.loop-mark.mark-index no_mark in
+    let m : FormMark = get_or c.deref-mark-items.result.now c.loop-mark.mark-index no_mark in
     place_boundary c.as_str-text.result.now m.end c.as_str-text.utf8
     (first_place c.as_str-text.result.now m.end (drop (c.loop-mark.mark-index + 1) c.deref-mark-items.result.now)
     (mark_here c.as_str-text.result.now c.loop-mark.from c.deref-mark-items.result.now c.loop-mark.mark-index c.loop-mark-test.true
@@ -39,10 +39,10 @@ range-requires-in-loop-mark-clause-end_boundary c =
 pub loop-mark-preserved : goal.loop-mark-preserved
 loop-mark-preserved c =
     let text : List ℕ = c.as_str-text.result.now in
-    let items : List Mark = c.deref-mark-items.result.now in
+    let items : List FormMark = c.deref-mark-items.result.now in
     let i = c.loop-mark.mark-index in
-    let m : Mark = get_or items i no_mark in
-    let before = subst (λ (ms : List Mark). IsRenderedTo c.args.sheet.now c.args.self.now text ms c.loop-mark.from (string_bytes c.loop-mark.out))
+    let m : FormMark = get_or items i no_mark in
+    let before = subst (λ (ms : List FormMark). IsRenderedTo c.args.sheet.now c.args.self.now text ms c.loop-mark.from (string_bytes c.loop-mark.out))
     (drop_more items i no_mark c.loop-mark-test.true) c.loop-mark.invariant in
     IsRenderedTo-mark c.args.sheet.now c.args.self.now text m (drop (i + 1) items) c.loop-mark.from (string_bytes c.loop-mark.out)
     (string_bytes c.push_some.new.out) (string_bytes c.write_mark.new.out) c.as_str-text.utf8 before
@@ -59,7 +59,7 @@ range-requires-2-clause-start_boundary c =
 pub returns : goal.returns
 returns c =
     let text : List ℕ = c.as_str-text.result.now in
-    let left = subst (λ (ms : List Mark). IsRenderedTo c.args.sheet.now c.args.self.now text ms c.loop-mark.from (string_bytes c.loop-mark.out))
+    let left = subst (λ (ms : List FormMark). IsRenderedTo c.args.sheet.now c.args.self.now text ms c.loop-mark.from (string_bytes c.loop-mark.out))
     (drop_all c.loop-mark.mark-index c.deref-mark-items.result.now c.loop-mark-test.false) c.loop-mark.invariant in
     let whole : string_bytes c.push_some-2.new.out ≡ form_bytes c.args.sheet.now c.args.self.now = IsRenderedTo-all c.args.sheet.now c.args.self.now text
     c.loop-mark.from (string_bytes c.loop-mark.out) (string_bytes c.push_some-2.new.out) c.as_str-text.utf8 left
