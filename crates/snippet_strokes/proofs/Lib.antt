@@ -34,13 +34,13 @@ pub mod MarkLemmas
 pub mod MarkStrokeLemmas
 pub mod MarkWriteLemmas
 pub mod NoStrokes
-pub mod NumberLemmas
 pub mod OpenLemmas
 pub mod PaintLemmas
 pub mod PaintOrder
 pub mod PlacedRows
 pub mod PlainMarks
 pub mod PositionLemmas
+pub mod ReadyLemmas
 pub mod ReadyRows
 pub mod RowLemmas
 pub mod ShiftLemmas

@@ -64,6 +64,12 @@ open_below open_bars es = open_past open_bars (ends_of_bars es)
 abbrev pub HasBarRoom : Layout → OpenBar → Type 0
 HasBarRoom layout bar = (0 < bar.depth) × (inner_cell layout + bar.depth < layout.code)
 
+-- bars that are drawn with a source row fit beside it: each has its cells, and none of those that run past it has the depth of a top
+pub record FitBeside (layout : Layout) (tops past : List OpenBar) : Type 0 where
+  pub tops_room : All (HasBarRoom layout) tops
+  pub past_room : All (HasBarRoom layout) past
+  pub apart : All (λ bar. has_depth tops bar.depth ≡ false) past
+
 -- a bar stands so many cells right of the first of some, and is drawn in its role
 pub record StandsBeside (first : OpenBar) (cells : ℕ) (bar : OpenBar) : Type 0 where
   pub depth : bar.depth ≡ first.depth + cells

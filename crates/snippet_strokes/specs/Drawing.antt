@@ -10,8 +10,8 @@ use Rattle.snippet_style.specs.Cell.{Cell}
 use Rattle.snippet_grid.specs.Layout.{Layout, inner_cell}
 use Rattle.snippet_model.specs.FreeRows.{IsFreeCell}
 use Rattle.snippet_labels.specs.declared.positions.PlacedEntry.{PlacedEntry}
-use Rattle.snippet_labels.specs.PlacedEntries.{HasPlace}
-use Rattle.snippet_strokes.specs.EntryMarks.{HasBarCell, IsBarCell, has_mark_role}
+use Rattle.snippet_strokes.specs.Drawable.{IsReady}
+use Rattle.snippet_strokes.specs.EntryMarks.{IsBarCell, has_mark_role}
 use Rattle.snippet_style.specs.Bounds.{AreRows}
 use Rattle.snippet_model.specs.AnnotationKind.{is_primary}
 use Rattle.snippet_labels.specs.Positions.{has_label, are_starts}
@@ -52,13 +52,12 @@ pub record HasRows (row count : ℕ) (e : PlacedEntry) : Type 0 where
   pub label : 0 < e.position → has_label e ≡ true → row + e.position + 1 < count
 
 -- so many rows are enough for the strokes of these entries, of which the source row is `row`: that of the marks is among them, and
--- each entry has the rows and the cells that it needs
+-- each entry has the rows that it needs and can be drawn
 pub record AreEnough (layout : Layout) (row count : ℕ) (placed : List PlacedEntry) : Type 0 where
   pub marks : row + 1 < count
   pub small : AreRows count
   pub rows : All (HasRows (row + 1) count) placed
-  pub places : All (λ e. HasPlace e.entry) placed
-  pub bar_cells : All (λ e. HasBarCell layout e.entry) placed
+  pub ready : All (IsReady layout) placed
 
 -- the glyph at the foot of the stem of an entry that stands for this part of a span: of a start the corner at which the line
 -- to its bar begins, of an end with a label the branch there, else the stem's own

@@ -1,6 +1,7 @@
 pub mod Apart
 pub mod Bars
 pub mod Cuts
+pub mod Drawable
 pub mod Drawing
 pub mod EndBars
 pub mod EntryMarks

@@ -1,5 +1,5 @@
 //! The stems that lead from marks down to their labels, or to the lines to their bars.
-ghost use Rattle.std.specs.Prelude.{◌≡◌, ◌==◌, ◌∷◌, [], if◌then◌else◌, All, OnOk, length};
+ghost use Rattle.std.specs.Prelude.{◌≡◌, ◌==◌, [], if◌then◌else◌, All, OnOk, length};
 ghost use Rattle.snippet_labels.specs.PlacedEntries.{HasPlace};
 ghost use Rattle.snippet_strokes.specs.Drawing.{HasRows, foot_glyph};
 ghost use Rattle.snippet_strokes.specs.Writes.{painted};

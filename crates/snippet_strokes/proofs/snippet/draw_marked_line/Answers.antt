@@ -50,12 +50,12 @@ returns c =
     let highlights = IsHighlighted-rows layout.code dropped own row mid high lit in
     let others = unlit_rows layout.code dropped own row mid high lit in
     let count = highlighted_count layout.code dropped own row mid high lit in
-    let clear = clear_entries margin dropped info.annotations.items c.requires.clear drawn.near drawn.uncut in
+    let clear = clear_entries margin dropped info.annotations.items c.requires.drawable.clear drawn.near drawn.uncut in
     let done = c.draw_entries.new.buffer in
     let new = c.draw_bars.new.buffer in
     record {
       added = on_ok_weaker c.draw_bars.result (λ value above past_are.
-          line_added layout margin numbers c.args.view.closes above c.args.past.now info dropped old mid high done new row c.requires.number source
+          line_added layout margin numbers c.args.view.closes above c.args.past.now info dropped old mid high done new row c.requires.drawable.number source
           drawn.row drawn.dropped clear highlights others count c.in_ok-draw_entries.ensures.added
           (DrawsBars-barred layout Solid c.args.past.now row done new c.requires.past value) c.in_ok-draw_entries.ensures.own past_are value)
           c.draw_bars.ensures.value;
