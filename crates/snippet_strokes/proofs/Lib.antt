@@ -43,6 +43,8 @@ pub mod PositionLemmas
 pub mod ReadyLemmas
 pub mod ReadyRows
 pub mod RowLemmas
+pub mod SeenLines
+pub mod SeenRows
 pub mod ShiftLemmas
 pub mod SnippetLemmas
 pub mod SourceBars

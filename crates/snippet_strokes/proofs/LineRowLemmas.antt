@@ -16,7 +16,7 @@ use Rattle.snippet_labels.specs.declared.positions.PlacedEntry.{PlacedEntry}
 use Rattle.snippet_strokes.specs.Bars.{barred, bars_apart, ends_of_bars, is_whole_line, with_bars}
 use Rattle.snippet_labels.specs.PlacedEntries.{shifted}
 use Rattle.snippet_strokes.specs.EntryMarks.{wide_entries}
-use Rattle.snippet_strokes.specs.LineRows.{AddsOwnRows, AreLineRows}
+use Rattle.snippet_strokes.specs.LineRows.{AddsOwnRows, AreOwnRows}
 use Rattle.snippet_strokes.specs.Painting.{painting_order}
 use Rattle.snippet_labels.specs.Positions.{ArePlaced}
 use Rattle.snippet_strokes.specs.Drawing.{row_count}
@@ -149,22 +149,14 @@ module _ (layout : Layout) (room : ℕ) (closes : Bool) (text : List ℕ) (dropp
   abbrev OwnRows : List LineAnnotation → List (List Cell) → List Cell → List (List Cell) → Type 0
   OwnRows es above source new = AddsOwnRows layout room closes text dropped es above source new
 
-  -- a line that is marked as a whole
-  pub own_whole : (es : List LineAnnotation) (above : List (List Cell)) (source : List Cell) (old new : List (List Cell)) (row : ℕ)
-      → is_whole_line text es ≡ true → old ≡ above ++ source ∷ [] → row ≡ length above → new ≡ barred layout Top (ends_of_bars es) row old
-      → OwnRows es above source new
-  own_whole es above source old new row whole old_is row_is new_is =
-      let bars : List OpenBar = ends_of_bars es in
-      let by_row = ap (λ r. barred layout Top bars r old) row_is in
-      let by_rows = ap (barred layout Top bars (length above)) old_is in
+  -- a line that is marked as a whole has one row
+  pub own_whole : (es : List LineAnnotation) (source : List Cell) → is_whole_line text es ≡ true
+      → AreOwnRows layout room closes text dropped es source (with_bars layout Top (ends_of_bars es) source ∷ [])
+  own_whole es source whole =
       record {
-        rows = with_bars layout Top bars source ∷ [];
-        added = new_is ∙ by_row ∙ by_rows ∙ barred-below layout Top bars above (source ∷ []);
-        are = record {
-          whole = λ _. refl;
-          none = λ empty. absurd (false≢true (sym (ap (is_whole_line text) empty) ∙ whole));
-          strokes = λ other _. absurd (false≢true (sym other ∙ whole));
-        };
+        whole = λ _. refl;
+        none = λ empty. absurd (false≢true (sym (ap (is_whole_line text) empty) ∙ whole));
+        strokes = λ other _. absurd (false≢true (sym other ∙ whole));
       }
 
   -- what stands below a line without entries
@@ -201,17 +193,12 @@ module _ (layout : Layout) (room : ℕ) (closes : Bool) (text : List ℕ) (dropp
       }
 
   -- bars that run past a line stand beside all its rows
-  pub line_rows : (open_bars bars : List OpenBar) (es : List LineAnnotation) (above : List (List Cell)) (source : List Cell)
-      (rows done new : List (List Cell)) (row : ℕ) → OwnRows es above source done → row ≡ length above → bars ≡ bars_apart open_bars (ends_of_bars es)
-      → new ≡ barred layout Solid bars row done → new ≡ above ++ rows → AreLineRows layout room closes text dropped open_bars es source rows
-  line_rows open_bars bars es above source rows done new row own row_is bars_are new_is added =
+  pub past_drawn : (open_bars bars : List OpenBar) (es : List LineAnnotation) (above : List (List Cell)) (source : List Cell)
+      (done new : List (List Cell)) (row : ℕ) → (own : OwnRows es above source done) → row ≡ length above → bars ≡ bars_apart open_bars (ends_of_bars es)
+      → new ≡ barred layout Solid bars row done → new ≡ above ++ map (with_bars layout Solid (bars_apart open_bars (ends_of_bars es))) own.rows
+  past_drawn open_bars bars es above source done new row own row_is bars_are new_is =
       let past : List OpenBar = bars_apart open_bars (ends_of_bars es) in
-      let below = barred-below layout Solid past above own.rows in
       let by_bars = ap (λ bs. barred layout Solid bs row done) bars_are in
       let by_row = ap (λ r. barred layout Solid past r done) row_is in
       let by_rows = ap (barred layout Solid past (length above)) own.added in
-      record {
-        own = own.rows;
-        are = own.are;
-        rows_are = same_after above rows (map (with_bars layout Solid past) own.rows) (sym added ∙ new_is ∙ by_bars ∙ by_row ∙ by_rows ∙ below);
-      }
+      new_is ∙ by_bars ∙ by_row ∙ by_rows ∙ barred-below layout Solid past above own.rows

@@ -8,7 +8,6 @@ use Rattle.snippet_parts.specs.declared.entries.LineAnnotationType.{LineAnnotati
 use Rattle.snippet_parts.specs.declared.entries.LineAnnotationType.TheVariants.{Singleline, MultilineStart, MultilineEnd, MultilineLine}
 use Rattle.snippet_parts.specs.Entries.{is_bar}
 use Rattle.snippet_style.specs.Glyphs.{strokes_of, underline_role}
-use Rattle.snippet_grid.specs.Grid.{row_at}
 use Rattle.snippet_style.specs.Cell.{Cell, SPACE, unlinked_cell, written}
 use Rattle.snippet_style.specs.declared.glyphs.DecorStyle.{DecorStyle}
 use Rattle.snippet_grid.specs.Layout.{Layout, bar_cell, inner_cell}
@@ -121,9 +120,3 @@ pub record BarsDrawn (layout : Layout) (old new : List Cell) : Type 0 where
   pub longer : length old ≤ length new
   pub short : length new ≤ max (length old) layout.code
   pub free : IsFree old → IsFree new
-
--- parts of bars were drawn in rows from `row` on
-pub record DrawsBars (layout : Layout) (row : ℕ) (old new : List (List Cell)) : Type 0 where
-  pub above : (r : ℕ) → r < row → row_at new r ≡ row_at old r
-  pub rows : (r : ℕ) → BarsDrawn layout (row_at old r) (row_at new r)
-  pub count : length new ≡ length old

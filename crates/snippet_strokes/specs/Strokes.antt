@@ -168,7 +168,7 @@ pub record StrokesPainted (layout : Layout) (room : ℕ) (closes : Bool) (es : L
       (begun_rows layout closes (row_count placed) source)
   pub rows_are : rows ≡ (let cuts = cuts_of layout room (painting_order placed)
       (overlapped placed) in cut_row layout.decor cuts top ∷ cut_row layout.decor cuts marks ∷ lower)
-  pub cut : CutsRows layout (wide_entries room layout.decor es) [] top marks lower rows
+  pub cut : CutsRows layout (wide_entries room layout.decor es) top marks lower rows
   pub count : length rows ≡ row_count placed + 1
 
 -- the strokes of a line were drawn below its source row, which is the last row that is there, and beside it

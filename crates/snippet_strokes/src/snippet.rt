@@ -1,14 +1,12 @@
 //! The rows of a snippet: those of each line that is shown.
 ghost use Rattle.std.specs.Prelude.{◌≡◌, ◌+◌, ◌≤◌, ◌++◌, ◌∷◌, [], false, true, List, All, IfOk, OnOk};
-ghost use Rattle.std.specs.Prelude.{chars, length, map};
+ghost use Rattle.std.specs.Prelude.{chars, length};
 ghost use Rattle.snippet_parts.specs.Entries.{is_bar};
 ghost use Rattle.snippet_parts.specs.ShownLines.{infos_of};
-ghost use Rattle.snippet_labels.specs.PlacedEntries.{shifted};
 ghost use Rattle.snippet_strokes.specs.Drawable.{AreDrawable, IsDrawableLine};
 ghost use Rattle.snippet_strokes.specs.Bars as spec;
 ghost use Rattle.snippet_strokes.specs.Bars.{Bar, FitBeside, HasBarRoom, bars_apart, ends_of_bars, open_below};
 ghost use Rattle.snippet_strokes.specs.LineRows.{AddsOwnRows};
-ghost use Rattle.snippet_strokes.specs.StrokeRows.{AddsStrokes, HasNoBars};
 ghost use Rattle.snippet_text.specs.Normalized.{norm};
 ghost use Rattle.snippet_style.specs.Cell.{Cell};
 ghost use Rattle.snippet_strokes.specs.Snippet.{AddsLine, AddsSnippet};
@@ -236,10 +234,6 @@ fn draw_entries(
     requires clear { All (λ e. is_bar e.annotation_type ≡ false
         → place.dropped ≤ e.start.display) info.now.annotations.items }
     requires other { spec.is_whole_line (norm (chars info.now.line.now)) info.now.annotations.items ≡ false }
-    ensures added { OnOk result ((above : List (List Cell)) (plain : List Cell) → buffer.old ≡ above ++ plain ∷ []
-        → HasNoBars layout plain
-        → AddsStrokes layout place.room (map (shifted place.dropped) info.now.annotations.items) place.closes above
-        plain buffer.new) }
     ensures own { OnOk result ((above : List (List Cell)) (source : List Cell) → buffer.old ≡ above ++ source ∷ []
         → AddsOwnRows layout place.room place.closes (norm (chars info.now.line.now)) place.dropped
         info.now.annotations.items above source buffer.new) }

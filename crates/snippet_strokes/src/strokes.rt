@@ -10,7 +10,6 @@ ghost use Rattle.snippet_style.specs.Cell.{Cell};
 ghost use Rattle.snippet_strokes.specs.Drawing as spec;
 ghost use Rattle.snippet_strokes.specs.Drawing.{AreEnough, HasRows};
 ghost use Rattle.snippet_strokes.specs.SourceRows.{bare_row};
-ghost use Rattle.snippet_strokes.specs.StrokeRows.{AddsStrokes, HasNoBars};
 ghost use Rattle.snippet_strokes.specs.Strokes.{AddsPainted, line_strokes, strokes_under_marks};
 ghost use Rattle.snippet_strokes.specs.Painting.{painting_order};
 ghost use Rattle.snippet_strokes.specs.Writes.{painted};
@@ -74,9 +73,6 @@ pub(crate) fn draw_strokes(
     requires last { length buffer.old ≡ place.row + 1 }
     requires entries { AreDrawable layout entries.now }
     requires clear { All (λ e. is_bar e.annotation_type ≡ false → place.dropped ≤ e.start.display) entries.now }
-    ensures added { OnOk result ((above : List (List Cell)) (plain : List Cell) → buffer.old ≡ above ++ plain ∷ []
-        → HasNoBars layout plain
-        → AddsStrokes layout place.room (map (shifted place.dropped) entries.now) place.closes above plain buffer.new) }
     ensures none { OnOk result (length entries.now ≡ 0 → buffer.new ≡ buffer.old
         ++ (if place.closes then closing_row layout.decor layout.gutter ∷ [] else [])) }
     ensures painted { OnOk result (0 < length entries.now → (above : List (List Cell)) (plain : List Cell)

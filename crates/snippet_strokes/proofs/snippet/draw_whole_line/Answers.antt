@@ -53,6 +53,6 @@ returns c =
           whole_line_added layout margin c.args.view.numbers c.args.view.closes above c.args.beside.tops.now c.args.beside.past.now info dropped
           c.args.buffer.now drawn.added.0 mid c.highlight_source.new.buffer row drawn.added.1 drawn.added.2 drawn.row
           (value ∙ ap (λ es. changed_within (highlighted_row layout.code dropped (asking es)) row (row + 1) mid) c.deref.ensures.value)
-          c.requires.beside.tops_room c.requires.beside.past_room c.requires.drawable.number drawn.dropped clear c.requires.whole c.requires.ends past_are)
+          c.requires.beside.tops_room c.requires.beside.past_room drawn.dropped clear c.requires.whole c.requires.ends past_are)
           c.highlight_source.ensures.value;
     }

@@ -1,7 +1,7 @@
 use Rattle.std.proofs.Common.{◌≡◌, ◌∙◌, ◌+◌, ◌-◌, ◌<◌, ◌≤◌, ◌^◌, List, ◌++◌, ◌∷◌, [], Bool, true, ℕ, All, map, replicate, ap, sym, subst, refl, arith, length}
 use Rattle.std.proofs.lemmas.Result.{on_ok_weaker}
 use Rattle.snippet_grid.specs.Layout.{Layout}
-use Rattle.std.proofs.lemmas.List.{length_push, length-map}
+use Rattle.std.proofs.lemmas.List.{length_push}
 use Rattle.std.proofs.lemmas.List.Sorted.{All-permutation, length_permutation}
 use Rattle.snippet_parts.specs.declared.entries.LineAnnotation.{LineAnnotation}
 use Rattle.snippet_labels.specs.declared.positions.PlacedEntry.{PlacedEntry}
@@ -19,8 +19,7 @@ use Rattle.snippet_strokes.proofs.PaintOrder.{IsPermutation-painting_order}
 use Rattle.snippet_strokes.proofs.PositionLemmas.{looked_of_placed, row_count_some, positions_of_placed}
 use Rattle.snippet_strokes.proofs.BegunLemmas.{rows_begun, rows_ready}
 use Rattle.snippet_strokes.proofs.ReadyLemmas.{all_ready, ready_places}
-use Rattle.snippet_strokes.proofs.ReadyRows.{enough_begun, strokes_added_whole}
-use Rattle.snippet_strokes.proofs.NoStrokes.{strokes_none}
+use Rattle.snippet_strokes.proofs.ReadyRows.{enough_begun}
 use Rattle.snippet_strokes.specs.Strokes.{line_strokes}
 use Rattle.snippet_strokes.specs.Writes.{painted}
 use Rattle.snippet_strokes.proofs.LineRowLemmas.{painted_added}
@@ -127,14 +126,8 @@ cut_wide-requires c =
 
 pub returns-then-is_empty : goal.returns-then-is_empty
 returns-then-is_empty c =
-    let es = map (shifted c.args.place.dropped) c.args.entries.now in
     let given : length c.args.entries.now ≡ 0 = grind arith in
-    let none : length es ≡ 0 = length-map c.args.entries.now (shifted c.args.place.dropped) ∙ given in
     record {
-      added = on_ok_weaker c.close_below.result (λ adds above plain old_is bare_bars.
-          strokes_none c.args.layout c.args.place.room c.args.place.closes es above plain c.args.buffer.now
-          c.close_below.new.buffer c.close_below.ensures.place none
-          old_is bare_bars adds) c.close_below.ensures.added;
       none = on_ok_weaker c.close_below.result (λ adds _. adds) c.close_below.ensures.added;
       painted = on_ok_weaker c.close_below.result (λ _ some above plain _. absurd (omega (arith, given, some))) c.close_below.ensures.added;
     }
@@ -150,14 +143,11 @@ returns c =
     let sep = separator_row layout.decor layout.gutter in
     let end = bare_row layout.decor layout.gutter c.args.place.closes in
     let given : 0 < length c.args.entries.now = grind arith in
-    let some : 0 < length es = omega (arith, given, length-map c.args.entries.now (shifted c.args.place.dropped)) in
     let count : c.row_count-count.result ≡ row_count placed = c.row_count-count.ensures.value ∙ ap row_count c.deref-2.ensures.value in
     let begun : List (List Cell) = old ++ replicate (c.row_count-count.result - 1) sep ++ end ∷ [] in
     let new = c.draw_rows.new.buffer in
     let are = c.in_ok-placed.ensures.placed in
     let closes = c.args.place.closes in
-    let enough = enough_rows layout c.args.place.dropped c.args.entries.now row c.row_count-count.result placed old closes
-    c.requires.entries are count c.requires.last c.in_ok-draw_rows.ensures.small in
     let whole : length begun ≡ length old + c.row_count-count.result = rows_long layout c.args.place.dropped c.args.entries.now row
     c.row_count-count.result placed old closes c.requires.entries are count c.requires.last in
     let rows : List (List Cell) = old ++ replicate (row_count placed - 1) sep ++ end ∷ [] in
@@ -175,13 +165,6 @@ returns c =
     let last_row : (above : List (List Cell)) (plain : List Cell) → old ≡ above ++ plain ∷ [] → row ≡ length above = λ above plain old_is.
     omega (arith, c.requires.last, ap length old_is, length_push above plain) in
     record {
-      added = on_ok_weaker c.cut_wide.result (λ value above plain old_is bare_bars.
-          let source_row : row ≡ length above = last_row above plain old_is in
-          strokes_added_whole layout c.args.place.room c.args.place.closes es placed above plain begun new c.in_ok-draw_rows.ensures.place are
-          (subst (λ n. AreEnough layout n (length begun) placed) source_row enough) bare_bars
-          (begun_is ∙ ap (λ top. top ++ replicate (row_count placed - 1) sep ++ end ∷ []) old_is)
-          (new_is ∙ ap (λ n. painted (line_strokes layout n (length begun) placed after) begun) source_row) final flags some
-          (final_is value ∙ ap (λ n. cut_rows layout.decor n (cuts_of layout c.args.place.room after flags) new) source_row)) c.cut_wide.ensures.value;
       none = on_ok_weaker c.cut_wide.result (λ _ none. absurd (omega (arith, given, none))) c.cut_wide.ensures.value;
       painted = on_ok_weaker c.cut_wide.result (λ value _ above plain old_is.
           let all_rows : length new ≡ all = c.in_ok-draw_rows.ensures.count ∙ sym whole ∙ long in
