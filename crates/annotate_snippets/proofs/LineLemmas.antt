@@ -32,7 +32,8 @@ use Rattle.snippet_parts.specs.Marked.{seen_entry, entry_of}
 use Rattle.snippet_parts.specs.Entries.{is_bar, is_single_part, is_wide_entry}
 use Rattle.snippet_lines.specs.Span.{IsSpan}
 use Rattle.snippet_window.specs.Window.{AreReplaced, chars_at, dropped_part, stands_whole, window}
-use Rattle.snippet_strokes.specs.EntryMarks.{IsEntryMark, IsMarkCell, are_plain, has_column, has_mark_role, is_single, wide_entries}
+use Rattle.snippet_strokes.specs.EntryMarks.{IsMarkCell, has_mark_role}
+use Rattle.snippet_strokes.proofs.PlainEntries.{IsEntryMark, are_plain, has_column, is_single, wide_entries}
 use Rattle.snippet_labels.specs.PlacedEntries.{label_role, label_text, shifted}
 use Rattle.snippet_lines.specs.Number.{shown_number}
 use Rattle.snippet_strokes.proofs.SeenRows.{AreSeen, IsStrokeRow, ShowsMarks}

@@ -19,11 +19,13 @@ use Rattle.snippet_text.specs.Normalized.{is_listed}
 use Rattle.snippet_grid.specs.Layout.{Layout}
 use Rattle.snippet_strokes.specs.declared.bars.BarStroke.{BarStroke}
 use Rattle.snippet_strokes.specs.declared.bars.BarStroke.TheVariants.{Top, Solid, Dotted}
-use Rattle.snippet_strokes.specs.EntryMarks.{IsBarCell, IsMarkCell, are_plain, has_mark_role, wide_entries}
+use Rattle.snippet_strokes.specs.EntryMarks.{IsBarCell, IsMarkCell, has_mark_role}
+use Rattle.snippet_strokes.proofs.PlainEntries.{are_plain, wide_entries}
 use Rattle.snippet_model.specs.FreeRows.{IsFreeCell}
 use Rattle.snippet_style.proofs.StrokeLemmas.{bars_among}
 use Rattle.snippet_strokes.proofs.StrokeGlyphs.{free_bars}
-use Rattle.snippet_strokes.specs.Bars.{BarsDrawn, HasBarRoom, StandsBeside, bar_glyph, bar_cell_part, with_bar, with_bars}
+use Rattle.snippet_strokes.specs.Bars.{HasBarRoom, StandsBeside, bar_glyph, bar_cell_part, with_bar, with_bars}
+use Rattle.snippet_strokes.proofs.DrawnCells.{BarsDrawn}
 use Rattle.snippet_strokes.specs.declared.bars.OpenBar.{OpenBar}
 use Rattle.snippet_strokes.proofs.LabelPlaces.{LabelsStand-kept}
 use Rattle.snippet_strokes.proofs.SeenRows.{AreSeen, AreStrokes, IsBeside, IsStrokeRow, ShowsMarks}

@@ -21,12 +21,12 @@ use Rattle.snippet_style.specs.Cell.{Cell, SPACE, written}
 use Rattle.snippet_style.proofs.CellLemmas.{take-written_past, drop-written}
 use Rattle.snippet_grid.specs.Layout.{Layout}
 use Rattle.snippet_labels.specs.declared.positions.PlacedEntry.{PlacedEntry}
-use Rattle.snippet_strokes.specs.EntryMarks.{IsBarCell, are_plain, has_column, is_single, wide_entries}
+use Rattle.snippet_strokes.specs.EntryMarks.{IsBarCell}
+use Rattle.snippet_strokes.proofs.PlainEntries.{are_plain, has_column, is_single, wide_entries}
 use Rattle.snippet_model.specs.FreeRows.{IsFreeCell, IsFree}
 use Rattle.snippet_strokes.specs.Drawing.{HasRows, row_count}
 use Rattle.snippet_strokes.specs.SourceRows.{bare_row}
-use Rattle.snippet_strokes.specs.StrokeRows.{IsCut}
-use Rattle.snippet_strokes.proofs.SeenRows.{IsStrokeRow}
+use Rattle.snippet_strokes.proofs.SeenRows.{IsCut, IsStrokeRow}
 use Rattle.snippet_style.specs.Separators.{separator_row}
 use Rattle.snippet_strokes.proofs.PlainMarks.{IsPlainEntry}
 use Rattle.snippet_strokes.proofs.PositionLemmas.{HasRows-row_count, row_count_some}

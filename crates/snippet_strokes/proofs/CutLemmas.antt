@@ -23,8 +23,8 @@ use Rattle.snippet_grid.specs.Layout.{Layout}
 use Rattle.snippet_labels.specs.declared.positions.PlacedEntry.{PlacedEntry}
 use Rattle.snippet_model.specs.FreeRows.{IsFreeCell}
 use Rattle.snippet_strokes.specs.Cuts.{Stretch, cut_of, cut_row, cut_rows, cuts_of, is_wide_at, middle_of}
-use Rattle.snippet_strokes.specs.EntryMarks.{wide_entries}
-use Rattle.snippet_strokes.specs.StrokeRows.{IsCut}
+use Rattle.snippet_strokes.proofs.PlainEntries.{wide_entries}
+use Rattle.snippet_strokes.proofs.SeenRows.{IsCut}
 use Rattle.snippet_strokes.proofs.CellLemmas.{free_placeholder}
 use Rattle.snippet_grid.proofs.RowLemmas.{row_text-text_cells}
 

@@ -12,6 +12,7 @@ pub mod CellLemmas
 pub mod CrossedLaws
 pub mod CutLemmas
 pub mod DrawLemmas
+pub mod DrawnCells
 pub mod ElisionLemmas
 pub mod EndBarLaws
 pub mod EntryBarLaws
@@ -37,12 +38,16 @@ pub mod NoStrokes
 pub mod OpenLemmas
 pub mod PaintLemmas
 pub mod PaintOrder
+pub mod PaintedMarks
 pub mod PlacedRows
+pub mod PlainEntries
 pub mod PlainMarks
 pub mod PositionLemmas
+pub mod Reach
 pub mod ReadyLemmas
 pub mod ReadyRows
 pub mod RowLemmas
+pub mod SeenLabels
 pub mod SeenLines
 pub mod SeenRows
 pub mod ShiftLemmas

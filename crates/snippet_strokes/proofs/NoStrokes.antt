@@ -4,7 +4,8 @@ use Rattle.std.proofs.Common.{subst, arith}
 use Rattle.snippet_grid.specs.Grid.{cell_at, row_at}
 use Rattle.snippet_style.specs.Cell.{Cell, SPACE}
 use Rattle.snippet_grid.specs.Layout.{Layout, inner_cell}
-use Rattle.snippet_strokes.specs.EntryMarks.{IsBarCell, are_plain, has_mark_role}
+use Rattle.snippet_strokes.specs.EntryMarks.{IsBarCell, has_mark_role}
+use Rattle.snippet_strokes.proofs.PlainEntries.{are_plain}
 use Rattle.snippet_strokes.proofs.SeenRows.{AreSeen, HasNoBars, IsStrokeRow}
 use Rattle.snippet_style.specs.Separators.{closing_row}
 use Rattle.snippet_strokes.proofs.DrawLemmas.{bar_space}

@@ -11,10 +11,11 @@ use Rattle.snippet_labels.proofs.PlacedLemmas.{entries_all}
 use Rattle.snippet_grid.specs.Grid.{row_at}
 use Rattle.snippet_strokes.specs.Painting.{marks_of, painting_order}
 use Rattle.snippet_labels.specs.Positions.{ArePlaced}
-use Rattle.snippet_strokes.specs.EntryMarks.{HasBarCell, wide_entries}
-use Rattle.snippet_strokes.specs.StrokeRows.{CutsRows}
+use Rattle.snippet_strokes.specs.EntryMarks.{HasBarCell}
+use Rattle.snippet_strokes.proofs.PlainEntries.{wide_entries}
 use Rattle.snippet_strokes.specs.SourceRows.{bare_row}
 use Rattle.snippet_strokes.specs.Writes.{painted}
+use Rattle.snippet_strokes.proofs.LineRowLemmas.{rows_cut}
 use Rattle.snippet_strokes.proofs.MarkWriteLemmas.{Painted-marks}
 use Rattle.snippet_strokes.specs.Drawable.{AreDrawable}
 use Rattle.snippet_strokes.specs.Drawing.{AreEnough, row_count}
@@ -26,7 +27,7 @@ use Rattle.snippet_strokes.proofs.PositionLemmas.{HasRows-row_count, row_count_s
 use Rattle.snippet_strokes.proofs.ReadyLemmas.{all_ready, ready_bar_cells, ready_places}
 use Rattle.snippet_strokes.proofs.StemWrites.{DrawsFrom-stems}
 use Rattle.snippet_strokes.proofs.StrokeLemmas.{strokes_seen}
-use Rattle.snippet_strokes.proofs.SeenRows.{AreSeen, HasNoBars}
+use Rattle.snippet_strokes.proofs.SeenRows.{AreSeen, CutsRows, HasNoBars}
 use Rattle.snippet_strokes.proofs.StrokeWrites.{marks_painted, under_painted}
 
 -- as many rows as are begun are enough
@@ -98,4 +99,4 @@ painted_seen layout room closes es source rows place places bar_cells bare_bars 
     CutsRows layout (wide_entries room layout.decor es) (row_at drawn 0) (row_at drawn 1) (drop 2 drawn) rows in
     strokes_seen layout room closes es placed [] source begun joined barred stemmed labelled marked place is.are
     (entries_all HasPlace es placed is.are.same places) (entries_all (HasBarCell layout) es placed is.are.same bar_cells)
-    bare_bars refl refl refl refl refl refl rows (subst Cut (is.painted_are ∙ all) is.cut)
+    bare_bars refl refl refl refl refl refl rows (subst Cut (is.painted_are ∙ all) (rows_cut layout room closes es source rows is))

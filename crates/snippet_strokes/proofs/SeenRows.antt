@@ -10,11 +10,12 @@ use Rattle.snippet_grid.specs.Print.{row_text}
 use Rattle.snippet_grid.specs.Grid.{row_at}
 use Rattle.snippet_style.specs.Cell.{Cell, SPACE, text_cells}
 use Rattle.snippet_grid.specs.Layout.{Layout, inner_cell, space_cell}
-use Rattle.snippet_strokes.specs.EntryMarks.{EntryCovers, IsEntryMark, IsMarkCell, IsBarCell, are_plain, has_mark_role, wide_entries}
+use Rattle.snippet_strokes.specs.EntryMarks.{IsMarkCell, IsBarCell, has_mark_role}
+use Rattle.snippet_strokes.proofs.PlainEntries.{EntryCovers, IsEntryMark, are_plain, wide_entries}
 use Rattle.snippet_labels.specs.PlacedEntries.{label_text, label_role}
 use Rattle.snippet_model.specs.FreeRows.{IsFree}
-use Rattle.snippet_strokes.specs.Labels.{IsLabelledAtEnd, LabelsStand}
-use Rattle.snippet_strokes.specs.Drawing.{StandsFrom}
+use Rattle.snippet_strokes.proofs.SeenLabels.{IsLabelledAtEnd, LabelsStand}
+use Rattle.snippet_strokes.proofs.DrawnCells.{StandsFrom}
 use Rattle.snippet_strokes.specs.SourceRows.{bare_row}
 
 -- below each column that has a mark the row holds it, and below each column that no entry covers no cell is in the role of
@@ -43,6 +44,22 @@ pub record AreStrokes (layout : Layout) (room : ℕ) (es : List LineAnnotation) 
   pub marks : are_plain room layout.decor es ≡ true → ShowsMarks layout.decor layout.code es (row_at rows 0)
   pub labels : wide_entries room layout.decor es ≡ 0 → All IsLabelledAtEnd es → LabelsStand layout es rows
   pub are : (k : ℕ) → k < length rows → IsStrokeRow layout (are_plain room layout.decor es) es (closes && k + 1 == length rows) (row_at rows k)
+
+-- a row of which, from the code's cell on, at most so many stretches gave their place to the placeholder, one for each
+-- wide entry
+pub record IsCut (layout : Layout) (wide : ℕ) (whole row : List Cell) : Type 0 where
+  pub left : take layout.code row ≡ take layout.code whole
+  pub text : AreReplaced (placeholder_of layout.decor) wide (row_text (drop layout.code whole)) (row_text (drop layout.code row))
+  pub uncut : wide ≡ 0 → row ≡ whole
+  pub free : IsFree whole → IsFree row
+
+-- two rows, one below the other, were each cut so, and nothing changed below them
+pub record CutsRows (layout : Layout) (wide : ℕ) (source marks : List Cell) (below new : List (List Cell)) : Type 0 where
+  pub source_now : List Cell
+  pub marks_now : List Cell
+  pub new_is : new ≡ source_now ∷ marks_now ∷ below
+  pub source_cut : IsCut layout wide source source_now
+  pub marks_cut : IsCut layout wide marks marks_now
 
 -- a source row with its bars beside it, and cut where entries are wide: it begins as this row does, and where bars stand it
 -- holds nothing but parts of them

@@ -17,16 +17,18 @@ use Rattle.snippet_grid.proofs.GridLemmas.{row_at-cells_written_same}
 use Rattle.snippet_style.proofs.CellLemmas.{length-written}
 use Rattle.snippet_grid.specs.Layout.{Layout}
 use Rattle.snippet_labels.specs.declared.positions.PlacedEntry.{PlacedEntry}
-use Rattle.snippet_strokes.specs.EntryMarks.{EntryCovers, HasBarCell, IsBarCell, are_plain, is_single, has_mark_role, wide_entries}
+use Rattle.snippet_strokes.specs.EntryMarks.{HasBarCell, IsBarCell, has_mark_role}
+use Rattle.snippet_strokes.proofs.PlainEntries.{EntryCovers, are_plain, is_single, wide_entries}
 use Rattle.snippet_labels.specs.PlacedEntries.{HasPlace, label_text, label_role}
 use Rattle.snippet_model.specs.FreeRows.{IsFreeCell}
-use Rattle.snippet_strokes.specs.Painting.{IsPaintedAt, AreMarked, mark_end, marks_of, painting_order, StandsWhole}
+use Rattle.snippet_strokes.specs.Painting.{mark_end, marks_of, painting_order}
+use Rattle.snippet_strokes.proofs.PaintedMarks.{IsPaintedAt, AreMarked, StandsWhole}
 use Rattle.snippet_strokes.specs.Writes.{painted}
-use Rattle.snippet_strokes.specs.Drawing.{DrawsFrom, DrawsBarCells, HasRows, KeepsBarCells, MarksStarts, StandsFrom, row_count}
+use Rattle.snippet_strokes.specs.Drawing.{HasRows, row_count}
+use Rattle.snippet_strokes.proofs.DrawnCells.{DrawsFrom, DrawsBarCells, KeepsBarCells, MarksStarts, StandsFrom}
 use Rattle.snippet_labels.specs.Positions.{HasItsLabel, has_label, has_stem, takes_space, ArePlaced}
 use Rattle.snippet_strokes.specs.SourceRows.{bare_row}
-use Rattle.snippet_strokes.specs.StrokeRows.{CutsRows, IsCut}
-use Rattle.snippet_strokes.proofs.SeenRows.{AreSeen, HasNoBars, IsStrokeRow, ShowsMarks}
+use Rattle.snippet_strokes.proofs.SeenRows.{AreSeen, CutsRows, HasNoBars, IsCut, IsStrokeRow, ShowsMarks}
 use Rattle.snippet_style.specs.Separators.{separator_row}
 use Rattle.snippet_strokes.proofs.DrawLemmas.{DrawsFrom-more, bar_space}
 use Rattle.snippet_strokes.specs.Labels.{IsStrokeCell}

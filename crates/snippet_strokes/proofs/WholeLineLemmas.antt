@@ -12,9 +12,9 @@ use Rattle.snippet_style.specs.declared.glyphs.DecorStyle.{DecorStyle}
 use Rattle.snippet_style.specs.Glyphs.{placeholder_of}
 use Rattle.snippet_style.specs.Cell.{Cell}
 use Rattle.snippet_grid.specs.Layout.{Layout}
-use Rattle.snippet_strokes.specs.EntryMarks.{are_plain, is_single, wide_entries}
+use Rattle.snippet_strokes.proofs.PlainEntries.{are_plain, is_single, wide_entries}
 use Rattle.snippet_labels.specs.PlacedEntries.{label_text, shifted}
-use Rattle.snippet_strokes.specs.Labels.{IsLabelledAtEnd}
+use Rattle.snippet_strokes.proofs.SeenLabels.{IsLabelledAtEnd}
 use Rattle.snippet_strokes.proofs.LabelPlaces.{LabelsStand-none}
 use Rattle.std.proofs.lemmas.List.Elements.{All-cons, All-head, All-nil, All-tail}
 use Rattle.snippet_strokes.specs.Bars.{is_beside, is_whole_line}

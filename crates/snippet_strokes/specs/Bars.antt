@@ -1,8 +1,8 @@
 -- The bars of spans of several lines: which are open beside a line, and what drawing them changes.
-use Rattle.std.specs.Prelude.{◌≡◌, ◌<◌, ◌≤◌, ◌+◌, ◌==◌, ◌&&◌, ◌||◌, ℕ, max, not, Bool, false, Option, Some, None, All, List, [], ◌∷◌, ◌++◌, drop, filter, fold}
-use Rattle.std.specs.Prelude.{length, map, take}
+use Rattle.std.specs.Prelude.{◌≡◌, ◌<◌, ◌+◌, ◌==◌, ◌&&◌, ◌||◌, ℕ, not, Bool, false, Option, Some, None, All, List, [], ◌∷◌, ◌++◌, drop, filter, fold}
+use Rattle.std.specs.Prelude.{map, take}
 use Rattle.std.specs.Char.{is_whitespace}
-use Rattle.std.specs.List.{filter_map, list_all, list_any, slice_index_or}
+use Rattle.std.specs.List.{filter_map, list_all, list_any}
 use Rattle.snippet_parts.specs.declared.entries.LineAnnotation.{LineAnnotation}
 use Rattle.snippet_parts.specs.declared.entries.LineAnnotationType.{LineAnnotationType}
 use Rattle.snippet_parts.specs.declared.entries.LineAnnotationType.TheVariants.{Singleline, MultilineStart, MultilineEnd, MultilineLine}
@@ -14,9 +14,7 @@ use Rattle.snippet_grid.specs.Layout.{Layout, bar_cell, inner_cell}
 use Rattle.snippet_strokes.specs.declared.bars.OpenBar.{OpenBar}
 use Rattle.snippet_strokes.specs.declared.bars.BarStroke.{BarStroke}
 use Rattle.snippet_strokes.specs.declared.bars.BarStroke.TheVariants.{Top, Solid, Dotted}
-use Rattle.snippet_strokes.specs.EntryMarks.{IsBarCell}
 use Rattle.snippet_model.specs.AnnotationKind.{is_primary}
-use Rattle.snippet_model.specs.FreeRows.{IsFree}
 use Rattle.snippet_labels.specs.Positions.{is_start_part}
 
 -- a bar, under a name that other crates can use
@@ -110,13 +108,3 @@ is_beside text e =
 abbrev pub is_whole_line : List ℕ → List LineAnnotation → Bool
 is_whole_line text [] = false
 is_whole_line text (e ∷ es) = list_all (is_beside text) (e ∷ es)
-
--- parts of bars were drawn in a row: cells left of the bars and from the code on stay, and where bars stand nothing came but
--- parts of them
-pub record BarsDrawn (layout : Layout) (old new : List Cell) : Type 0 where
-  pub left : (c : ℕ) → c < inner_cell layout → slice_index_or new c SPACE ≡ slice_index_or old c SPACE
-  pub bar_cells : (c : ℕ) → IsBarCell layout.decor (slice_index_or old c SPACE) → IsBarCell layout.decor (slice_index_or new c SPACE)
-  pub code : drop layout.code new ≡ drop layout.code old
-  pub longer : length old ≤ length new
-  pub short : length new ≤ max (length old) layout.code
-  pub free : IsFree old → IsFree new

@@ -8,7 +8,6 @@ pub mod EntryMarks
 pub mod Labels
 pub mod LineRows
 pub mod Painting
-pub mod Reach
 pub mod StemRows
 pub mod StrokeRows
 pub mod Snippet

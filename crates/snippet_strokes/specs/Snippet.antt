@@ -19,9 +19,9 @@ use Rattle.snippet_lines.specs.Number.{shown_number}
 use Rattle.snippet_strokes.specs.SourceRows.{IsSourceRow, window_cells}
 use Rattle.snippet_strokes.specs.StrokeRows.{IsElisionRow, IsHighlighted, bare_elision_row}
 
--- the rows show this line: they are what its entries, and the bars that are open above it, make of its source row, which shows the
--- line's number and the window of its source, normalised, once it is highlighted as the entries ask. They are drawn as far left as
--- columns of the line are dropped, and none of them has to stand left of these
+-- the rows show this line. Its source row shows its number and the window of its source, normalised, and is highlighted as its entries
+-- ask; the rows are what the entries, and the bars that are open above the line, make of that row, as far left as columns of the line
+-- are dropped. No entry starts in a column that is dropped, but those for which a bar alone is drawn
 pub record ShowsLine (layout : Layout) (margin : Margin) (numbers : LineNumbers) (closes : Bool) (open_bars : List OpenBar) (info : AnnotatedLineInfo)
     (rows : List (List Cell)) : Type 0 where
   pub plain : List Cell

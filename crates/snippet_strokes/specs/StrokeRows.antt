@@ -1,37 +1,19 @@
 -- The rows of a line that is shown: its source row with what stands in it, and the rows of its strokes below it.
-use Rattle.std.specs.Prelude.{◌≡◌, ℕ, ◌≢◌, ◌+◌, ◌-◌, ◌<◌, ◌≤◌, ◌&&◌, nat_le, nat_lt, Bool, true, false, List, ◌∷◌, ◌++◌, length, map, max, take}
-use Rattle.std.specs.Prelude.{drop, replicate, if◌then◌else◌}
+use Rattle.std.specs.Prelude.{◌≡◌, ℕ, ◌≢◌, ◌+◌, ◌-◌, ◌<◌, ◌≤◌, ◌&&◌, nat_le, nat_lt, Bool, true, false, List, ◌++◌, length, map, max}
+use Rattle.std.specs.Prelude.{replicate, if◌then◌else◌}
 use Rattle.std.specs.List.{slice_index_or, list_any, range_with_len}
 use Rattle.snippet_parts.specs.declared.entries.LineAnnotation.{LineAnnotation}
-use Rattle.snippet_window.specs.Window.{AreReplaced}
 use Rattle.snippet_style.specs.declared.glyphs.DecorStyle.{DecorStyle}
 use Rattle.snippet_style.specs.declared.glyphs.DecorStyle.TheVariants.{Ascii, Unicode}
 use Rattle.snippet_style.specs.declared.role.ElementStyle.{ElementStyle}
 use Rattle.snippet_style.specs.declared.role.ElementStyle.TheVariants.{LineNumber, UnderlinePrimary, UnderlineSecondary}
-use Rattle.snippet_style.specs.Glyphs.{placeholder_of, elision_of, underline_role}
-use Rattle.snippet_grid.specs.Print.{row_text}
+use Rattle.snippet_style.specs.Glyphs.{elision_of, underline_role}
 use Rattle.snippet_grid.specs.Grid.{row_at, cell_at, restyled}
 use Rattle.snippet_style.specs.Cell.{Cell, SPACE, text_cells, gives_way}
 use Rattle.snippet_grid.specs.Layout.{Layout, inner_cell}
 use Rattle.snippet_strokes.specs.EntryMarks.{IsBarCell}
 use Rattle.snippet_model.specs.AnnotationKind.{is_primary}
 use Rattle.snippet_model.specs.FreeRows.{IsFree}
-
--- a row of which, from the code's cell on, at most so many stretches gave their place to the placeholder, one for each
--- wide entry
-pub record IsCut (layout : Layout) (wide : ℕ) (whole row : List Cell) : Type 0 where
-  pub left : take layout.code row ≡ take layout.code whole
-  pub text : AreReplaced (placeholder_of layout.decor) wide (row_text (drop layout.code whole)) (row_text (drop layout.code row))
-  pub uncut : wide ≡ 0 → row ≡ whole
-  pub free : IsFree whole → IsFree row
-
--- two rows, one below the other, were each cut so, and nothing changed below them
-pub record CutsRows (layout : Layout) (wide : ℕ) (source marks : List Cell) (below new : List (List Cell)) : Type 0 where
-  pub source_now : List Cell
-  pub marks_now : List Cell
-  pub new_is : new ≡ source_now ∷ marks_now ∷ below
-  pub source_cut : IsCut layout wide source source_now
-  pub marks_cut : IsCut layout wide marks marks_now
 
 -- what stands in place of lines that are left out, before any bar is drawn beside it
 abbrev pub bare_elision_row : DecorStyle → ℕ → List Cell
