@@ -18,7 +18,7 @@ use Rattle.snippet_strokes.specs.Writes.{painted}
 use Rattle.snippet_strokes.proofs.LineRowLemmas.{rows_cut}
 use Rattle.snippet_strokes.proofs.MarkWriteLemmas.{Painted-marks}
 use Rattle.snippet_strokes.specs.Drawable.{AreDrawable}
-use Rattle.snippet_strokes.specs.Drawing.{AreEnough, row_count}
+use Rattle.snippet_strokes.specs.Drawing.{AreEnough, HasPlaceAmong, row_count}
 use Rattle.snippet_strokes.specs.Strokes.{StrokesPainted, begun_rows, connectors_of, corners_of, labels_of, line_strokes, stems_of}
 use Rattle.snippet_strokes.proofs.BarWrites.{DrawsBarCells-corners, DrawsFrom-connectors}
 use Rattle.snippet_strokes.proofs.BegunLemmas.{rows_begun, rows_ready}
@@ -42,6 +42,11 @@ enough_begun {row} {count} {placed} layout dropped entries old begun sep end dra
       rows = rows_ready placed old begun sep end count (row + 1) (length begun) is (sym last) begins refl;
       ready = all_ready layout dropped entries placed drawable are;
     }
+
+-- so each entry has its place among them
+pub places_among : {layout : Layout} {row n : ℕ} {placed : List PlacedEntry} → AreEnough layout row n placed → All (HasPlaceAmong (row + 1) n) placed
+places_among enough k d within =
+    record { columns = (enough.ready k d within).columns; small = enough.small; rows = enough.rows k d within }
 
 -- no list of strokes adds a row
 module _ {layout : Layout} {row : ℕ} {placed : List PlacedEntry} (old new : List (List Cell)) (enough : AreEnough layout row (length old) placed) where

@@ -67,6 +67,12 @@ pub record FitBeside (layout : Layout) (tops past : List OpenBar) : Type 0 where
   pub past_room : All (HasBarRoom layout) past
   pub apart : All (λ bar. has_depth tops bar.depth ≡ false) past
 
+-- some bars that stand side by side, so many from this one on, have a cell each, and one after them, between the separator and the code
+pub record HasSideRoom (layout : Layout) (first : OpenBar) (count : ℕ) : Type 0 where
+  pub left : 0 < first.depth
+  pub room : bar_cell layout first.depth + count < layout.code
+  pub some : 0 < count
+
 -- a bar stands so many cells right of the first of some, and is drawn in its role
 pub record StandsBeside (first : OpenBar) (cells : ℕ) (bar : OpenBar) : Type 0 where
   pub depth : bar.depth ≡ first.depth + cells

@@ -6,6 +6,7 @@ use Rattle.snippet_style.specs.declared.glyphs.DecorStyle.{DecorStyle}
 use Rattle.snippet_style.specs.Glyphs.{strokes_of}
 use Rattle.snippet_grid.specs.Layout.{Layout}
 use Rattle.snippet_labels.specs.declared.positions.PlacedEntry.{PlacedEntry}
+use Rattle.snippet_labels.specs.PlacedEntries.{HasPlace}
 use Rattle.snippet_strokes.specs.Drawable.{IsReady}
 use Rattle.snippet_style.specs.Bounds.{AreRows}
 use Rattle.snippet_model.specs.AnnotationKind.{is_primary}
@@ -16,6 +17,13 @@ use Rattle.snippet_labels.specs.Positions.{has_label, are_starts}
 pub record HasRows (row count : ℕ) (e : PlacedEntry) : Type 0 where
   pub mark : row + e.position < count
   pub label : 0 < e.position → has_label e ≡ true → row + e.position + 1 < count
+
+-- an entry has its place among so many rows, of which that of the marks is this one: its columns, and the rows that it needs. There are few
+-- rows
+pub record HasPlaceAmong (row count : ℕ) (e : PlacedEntry) : Type 0 where
+  pub columns : HasPlace e.entry
+  pub small : AreRows count
+  pub rows : HasRows row count e
 
 -- so many rows are enough for the strokes of these entries, of which the source row is `row`: that of the marks is among them, and
 -- each entry has the rows that it needs and can be drawn

@@ -5,14 +5,14 @@ use Rattle.snippet_labels.specs.PlacedEntries.{HasPlace, label_text}
 use Rattle.snippet_labels.specs.Positions.{HasItsLabel}
 use Rattle.snippet_style.specs.Cell.{Cell}
 use Rattle.snippet_style.specs.Separators.{separator_row}
-use Rattle.snippet_strokes.specs.Drawing.{HasRows}
+use Rattle.snippet_strokes.specs.Drawing.{HasPlaceAmong}
 use Rattle.snippet_strokes.specs.Painting.{marks_of, painting_order}
 use Rattle.snippet_strokes.specs.SourceRows.{bare_row}
 use Rattle.snippet_strokes.specs.Strokes.{labels_of, stems_of}
 use Rattle.snippet_strokes.specs.Writes.{painted}
 use Rattle.snippet_strokes.proofs.HangingLemmas.{hanging_painted, stemmed_enough, stemmed_long}
 use Rattle.snippet_strokes.proofs.ReadyLemmas.{ready_labels, ready_places, ready_texts}
-use Rattle.snippet_strokes.proofs.ReadyRows.{count_labels, count_marks, enough_after}
+use Rattle.snippet_strokes.proofs.ReadyRows.{places_among, count_labels, count_marks, enough_after}
 use Rattle.snippet_strokes.proofs.strokes.draw_hanging.Goals as goal
 
 pub begin_stem_rows-requires : goal.begin_stem_rows-requires
@@ -62,9 +62,7 @@ draw_labels-requires c =
     (separator_row layout.decor layout.gutter) (bare_row layout.decor layout.gutter c.args.place.closes) c.requires.some c.requires.last c.requires.rows stems
     c.requires.ready c.in_ok-begin_stem_rows.ensures.small in
     record {
-      columns = subst (All (λ (e : PlacedEntry). HasPlace e.entry)) same (ready_places c.args.layout c.args.placed.now.items c.requires.ready);
-      small = enough.small;
-      rows = subst (All (HasRows (c.args.place.row + 1) (length c.begin_stem_rows.new.buffer))) same enough.rows;
+      places = subst (All (HasPlaceAmong (c.args.place.row + 1) (length c.begin_stem_rows.new.buffer))) same (places_among enough);
       labels = subst (All HasItsLabel) same (ready_labels c.args.layout c.args.placed.now.items c.requires.ready);
       short = subst (All (λ (e : PlacedEntry). length (label_text e.entry) < 2 ^ 60)) same (ready_texts c.args.layout c.args.placed.now.items c.requires.ready);
     }
