@@ -18,8 +18,8 @@ pub record HasRows (row count : ℕ) (e : PlacedEntry) : Type 0 where
   pub mark : row + e.position < count
   pub label : 0 < e.position → has_label e ≡ true → row + e.position + 1 < count
 
--- an entry has its place among so many rows, of which that of the marks is this one: its columns, and the rows that it needs. There are few
--- rows
+-- an entry has its place among so many rows, of which this is that of the marks: it has its columns, and the rows that it needs, and
+-- there are no more rows than a grid can have
 pub record HasPlaceAmong (row count : ℕ) (e : PlacedEntry) : Type 0 where
   pub columns : HasPlace e.entry
   pub small : AreRows count

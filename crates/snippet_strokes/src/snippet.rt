@@ -1,7 +1,6 @@
 //! The rows of a snippet: those of each line that is shown.
-ghost use Rattle.std.specs.Prelude.{◌≡◌, ◌+◌, ◌≤◌, ◌++◌, ◌∷◌, [], false, true, List, All, IfOk, OnOk};
+ghost use Rattle.std.specs.Prelude.{◌≡◌, ◌+◌, ◌++◌, ◌∷◌, [], false, true, List, All, IfOk, OnOk};
 ghost use Rattle.std.specs.Prelude.{chars, length};
-ghost use Rattle.snippet_parts.specs.Entries.{is_bar};
 ghost use Rattle.snippet_parts.specs.ShownLines.{infos_of};
 ghost use Rattle.snippet_strokes.specs.Drawable.{AreDrawable, IsDrawableLine};
 ghost use Rattle.snippet_strokes.specs.Bars as spec;
@@ -231,8 +230,6 @@ fn draw_entries(
 ) -> Result<(), AllocError>
     requires last { length buffer.old ≡ place.row + 1 }
     requires entries { AreDrawable layout info.now.annotations.items }
-    requires clear { All (λ e. is_bar e.annotation_type ≡ false
-        → place.dropped ≤ e.start.display) info.now.annotations.items }
     requires other { spec.is_whole_line (norm (chars info.now.line.now)) info.now.annotations.items ≡ false }
     ensures own { OnOk result ((above : List (List Cell)) (source : List Cell) → buffer.old ≡ above ++ source ∷ []
         → AddsOwnRows layout place.room place.closes (norm (chars info.now.line.now)) place.dropped

@@ -1,11 +1,10 @@
 //! All that stands below the source row of a line, and the bars beside it of spans that begin or end there.
-ghost use Rattle.std.specs.Prelude.{◌≡◌, ◌+◌, ◌<◌, ◌≤◌, ◌++◌, ◌∷◌, [], if◌then◌else◌, All, List, OnOk};
-ghost use Rattle.std.specs.Prelude.{◌-◌, false, length, map, replicate, true};
+ghost use Rattle.std.specs.Prelude.{◌≡◌, ◌+◌, ◌<◌, ◌++◌, ◌∷◌, [], if◌then◌else◌, All, List, OnOk};
+ghost use Rattle.std.specs.Prelude.{◌-◌, false, length, map, replicate};
 ghost use Rattle.std.specs.List.{list_any};
 ghost use Rattle.snippet_labels.specs.PlacedEntries.{shifted};
 ghost use Rattle.snippet_labels.specs.Positions.{takes_space};
 ghost use Rattle.snippet_strokes.specs.Drawable.{AreDrawable, IsReady};
-ghost use Rattle.snippet_parts.specs.Entries.{is_bar};
 ghost use Rattle.snippet_style.specs.Cell.{Cell};
 ghost use Rattle.snippet_strokes.specs.Drawing as spec;
 ghost use Rattle.snippet_strokes.specs.Drawing.{AreEnough, HasRows};
@@ -14,7 +13,6 @@ ghost use Rattle.snippet_strokes.specs.Strokes.{AddsPainted, line_strokes, strok
 ghost use Rattle.snippet_strokes.specs.Painting.{painting_order};
 ghost use Rattle.snippet_strokes.specs.Writes.{painted};
 ghost use Rattle.snippet_style.specs.Separators.{closing_row, separator_row};
-ghost use Rattle.snippet_grid.specs.Layout.{inner_cell};
 ghost use Rattle.snippet_style.specs.Bounds.{AreRows, IsCount};
 
 use crate::apart::{draw_apart, stand_apart};
@@ -72,7 +70,6 @@ pub(crate) fn draw_strokes(
 ) -> Result<(), AllocError>
     requires last { length buffer.old ≡ place.row + 1 }
     requires entries { AreDrawable layout entries.now }
-    requires clear { All (λ e. is_bar e.annotation_type ≡ false → place.dropped ≤ e.start.display) entries.now }
     ensures none { OnOk result (length entries.now ≡ 0 → buffer.new ≡ buffer.old
         ++ (if place.closes then closing_row layout.decor layout.gutter ∷ [] else [])) }
     ensures painted { OnOk result (0 < length entries.now → (above : List (List Cell)) (plain : List Cell)
@@ -114,7 +111,6 @@ fn draw_rows(
         ++ bare_row layout.decor layout.gutter place.closes ∷ [])) }
     ensures small { OnOk result (AreRows (length buffer.old + count)) }
     ensures count { OnOk result (length buffer.new ≡ length buffer.old + count) }
-    ensures place { OnOk result (inner_cell layout ≤ layout.code) }
 {
     if count > 1 && !has_lines(placed) {
         return draw_hanging(alloc, buffer, layout, place, count, placed);
@@ -156,7 +152,6 @@ fn draw_hanging(
         ++ bare_row layout.decor layout.gutter place.closes ∷ [])) }
     ensures small { OnOk result (AreRows (length buffer.old + count)) }
     ensures count { OnOk result (length buffer.new ≡ length buffer.old + count) }
-    ensures place { OnOk result (inner_cell layout ≤ layout.code) }
 {
     begin_stem_rows(alloc, buffer, layout, place.closes, count, placed)?;
     draw_labels(buffer, layout, place.row + 1, placed)?;
@@ -212,7 +207,6 @@ fn draw_under_marks(
 fn close_below(buffer: &mut StyledBuffer, layout: Layout, closes: bool) -> Result<(), AllocError>
     ensures added { OnOk result (buffer.new ≡ buffer.old
         ++ (if closes then closing_row layout.decor layout.gutter ∷ [] else [])) }
-    ensures place { closes ≡ true → inner_cell layout ≤ layout.code }
 {
     if closes {
         begin_closing_row(buffer, layout)?;

@@ -108,5 +108,4 @@ returns c =
           c.requires.lines stems labels marks;
       small = omega (arith, long, c.in_ok-begin_stem_rows.ensures.small);
       count = count_marks labelled new (enough_after stemmed labelled enough hung) (painting_order placed) marks ∙ hung ∙ long;
-      place = c.in_ok-begin_stem_rows.ensures.place;
     }
