@@ -22,7 +22,9 @@ use Rattle.snippet_model.specs.FreeRows.{IsFree}
 use Rattle.snippet_parts.specs.declared.entries.AnnotatedLineInfo.{AnnotatedLineInfo}
 use Rattle.snippet_parts.specs.declared.location.Location.{Location}
 use Rattle.snippet_parts.proofs.LocationLaws.{primary_place-location}
-use Rattle.snippet_strokes.proofs.SnippetLemmas.{free_from_AreLinesShown}
+use Rattle.snippet_strokes.specs.Bars.{HasBarRoom}
+use Rattle.snippet_strokes.specs.Drawable.{AreDrawable}
+use Rattle.snippet_strokes.proofs.SeenLines.{free_from_AreLinesShown}
 use Rattle.snippet_titles.specs.Origin.{origin_row, origin_text, primary_start, snippet_head}
 use Rattle.snippet_titles.specs.declared.origin.OriginLayout.{OriginLayout}
 use Rattle.snippet_titles.specs.declared.origin.OriginLocation.{OriginLocation}
@@ -44,7 +46,7 @@ use Rattle.annotate_snippets.proofs.GutterLemmas.{numbers_fit}
 use Rattle.annotate_snippets.proofs.LineFeedLaws.{lines_one_line}
 use Rattle.annotate_snippets.proofs.PageLemmas.{cells_of-append, cells_of-others, named_lines}
 use Rattle.annotate_snippets.proofs.SpanBarRows.{bars_shown}
-use Rattle.annotate_snippets.proofs.PartsFacts.{ends_shown, shown_ascending, snippet_shown-within}
+use Rattle.annotate_snippets.proofs.PartsFacts.{ends_shown, lines_entries, shown_ascending, snippet_shown-within}
 use Rattle.annotate_snippets.proofs.PathFeedLaws.{after_one_line, head_one_line}
 
 -- where a snippet of the group's primary file has a path, its first row is that of the path
@@ -131,9 +133,11 @@ cause_shown r layout around found s rows drawable room drawn =
     let ks : List ℕ = shown_lines s.fold (cow_str_bytes s.source) s.markers.items in
     let fit : All (λ (info : AnnotatedLineInfo). length (shown_number (line_numbers r s.line_numbering) layout.gutter info.line_index) ≤ layout.gutter + 1)
     are.infos = numbers_fit r layout s are.infos room drawable are.lines in
+    let entries : All (λ (info : AnnotatedLineInfo). AreDrawable layout info.annotations.items) are.infos = lines_entries src s.markers.items drawable.spans ks
+    are.infos are.lines layout room.bars drawable.source drawable.labels in
     let place : layout.gutter + 3 ≤ layout.code = omega (arith, room.bars, code_right layout.gutter (depth_of_element (Cause s))) in
     let named = named_lines r layout s drawable.spans are.margin are.room are.bounds are.ordered place (closes_with around) [] ks are.infos drawn.lines
-    (snippet_shown-within src s.markers.items drawable.spans s.fold) are.lines fit are.shown in
+    (snippet_shown-within src s.markers.items drawable.spans s.fold) are.lines fit entries (All-nil (HasBarRoom layout)) are.shown in
     let head : List (List Cell) = cause_head r layout around s in
     let tail : List (List Cell) = rows_after_cause r layout around in
     let part : List NamedRow = others head ++ (named.part ++ others tail) in
@@ -141,8 +145,8 @@ cause_shown r layout around found s rows drawable room drawn =
     ∙ ap (λ rs. rs ++ cells_of (named.part ++ others tail)) (cells_of-others head)
     ∙ ap (λ rs. head ++ rs) (cells_of-append named.part (others tail) ∙ ap (λ rs. rs ++ cells_of (others tail)) named.cells
     ∙ ap (λ rs. drawn.lines ++ rs) (cells_of-others tail)) ∙ sym drawn.rows_are in
-    let lines_free : All IsFree drawn.lines = free_from_AreLinesShown layout are.margin (line_numbers r s.line_numbering)
-    (closes_with around) [] are.infos drawn.lines are.shown in
+    let lines_free : All IsFree drawn.lines = free_from_AreLinesShown layout are.margin (line_numbers r s.line_numbering) place
+    (closes_with around) [] are.infos drawn.lines (All-nil (HasBarRoom layout)) fit entries are.shown in
     let all_free : All IsFree (head ++ (drawn.lines ++ tail)) = All-append IsFree head (drawn.lines ++ tail) (head_free r layout around s)
     (All-append IsFree drawn.lines tail lines_free (after-free r layout around s)) in
     let text : List ℕ = cow_str_bytes s.source in

@@ -17,7 +17,6 @@ use Rattle.snippet_lines.specs.declared.number.LineNumbers.{LineNumbers}
 use Rattle.snippet_grid.specs.Grid.{cell_at}
 use Rattle.snippet_style.specs.Glyphs.{strokes_of, underline_role}
 use Rattle.snippet_strokes.specs.Bars.{Bar, HasOwnDepth, bar_at, bar_of, bars_apart, ends_of_bars}
-use Rattle.snippet_strokes.specs.LineRows.{AreLineRows}
 use Rattle.snippet_strokes.specs.SourceRows.{IsSourceRow, window_cells}
 use Rattle.snippet_strokes.specs.Snippet as strokes
 use Rattle.snippet_strokes.proofs.BarLaws.{bar_past}
@@ -48,17 +47,16 @@ module _ (r : Renderer) (layout : Layout) (s : Snippet Annotation) (margin : Mar
   Shows closes open_bars info rows =
       strokes.ShowsLine layout margin numbers closes open_bars info rows
 
-  -- the rows that show a kept line are its source row and what is drawn below
+  -- the rows that show a kept line are what the spans of the snippet make of it
   pub line_drawn : (closes : Bool) (open_bars : List Bar) (k : ℕ) (info : AnnotatedLineInfo) (rows : List (List Cell))
       → seen_kept info ≡ kept_line (numbered_source s) s.markers.items k → (shows : Shows closes open_bars info rows)
-      → IsLineDrawn r layout closes s open_bars k (shows.source ∷ shows.below)
+      → IsLineDrawn r layout closes s open_bars k rows
   line_drawn closes open_bars k info rows seen shows =
       let text : List ℕ = norm (chars info.line.now) in
       let es : List LineAnnotation = info.annotations.items in
       let number : shown_number numbers layout.gutter info.line_index
       ≡ number_text r s.line_numbering layout.gutter (s.line_start + k) = ap (λ n.
       shown_number numbers layout.gutter n) (ap (λ (l : KeptLine). l.number) seen) in
-      let Drawn : List (List Cell) → Type 0 = λ rs. AreLineRows layout margin.term_width closes text shows.dropped open_bars es shows.highlighted rs in
       record {
         entries = es;
         are = ap (λ (l : KeptLine). l.parts) seen;
@@ -73,7 +71,7 @@ module _ (r : Renderer) (layout : Layout) (s : Snippet Annotation) (margin : Mar
         shows = subst (λ shown. IsSourceRow layout shown (window_cells layout.decor margin text) shows.plain) number shows.shows;
         highlighted = shows.highlighted;
         highlights = shows.highlights;
-        drawn = subst Drawn shows.rows_are shows.drawn;
+        drawn = shows.drawn;
       }
 
 module _ (r : Renderer) (layout : Layout) (closes : Bool) (s : Snippet Annotation) (open_bars : List Bar) (k : ℕ) where

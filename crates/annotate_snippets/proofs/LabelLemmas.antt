@@ -27,7 +27,7 @@ use Rattle.snippet_parts.proofs.EntryFacts.{singles-on}
 use Rattle.snippet_parts.proofs.PartLemmas.{filter-none, made-all}
 use Rattle.snippet_parts.specs.Annotated.{bar_lines, bar_part, long_entry}
 use Rattle.snippet_labels.specs.PlacedEntries.{label_role, label_text, shifted}
-use Rattle.snippet_strokes.specs.Labels.{IsLabelledAtEnd, IsLedTo, LabelsStand, PlacedLabel, StandsIn, is_cell_of}
+use Rattle.snippet_strokes.proofs.SeenLabels.{IsLabelledAtEnd, IsLedTo, LabelsStand, PlacedLabel, StandsIn, is_cell_of}
 use Rattle.snippet_labels.specs.Positions.{is_start_part}
 use Rattle.snippet_grid.specs.Layout.{Layout}
 use Rattle.annotate_snippets.specs.ShownPage.{HasStem, ShowsLabel, ShowsLabels, ShownLabel, SpanLabel, promoted_spans, is_in_label, label_of_end, label_of_span}

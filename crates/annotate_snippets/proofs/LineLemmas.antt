@@ -32,10 +32,13 @@ use Rattle.snippet_parts.specs.Marked.{seen_entry, entry_of}
 use Rattle.snippet_parts.specs.Entries.{is_bar, is_single_part, is_wide_entry}
 use Rattle.snippet_lines.specs.Span.{IsSpan}
 use Rattle.snippet_window.specs.Window.{AreReplaced, chars_at, dropped_part, stands_whole, window}
-use Rattle.snippet_strokes.specs.EntryMarks.{IsEntryMark, IsMarkCell, are_plain, has_column, has_mark_role, is_single, wide_entries}
+use Rattle.snippet_strokes.specs.EntryMarks.{IsMarkCell, has_mark_role}
+use Rattle.snippet_strokes.proofs.PlainEntries.{IsEntryMark, are_plain, has_column, is_single, wide_entries}
 use Rattle.snippet_labels.specs.PlacedEntries.{label_role, label_text, shifted}
 use Rattle.snippet_lines.specs.Number.{shown_number}
-use Rattle.snippet_strokes.specs.StrokeRows.{IsStrokeRow, ShowsMarks}
+use Rattle.snippet_strokes.proofs.SeenRows.{AreSeen, IsStrokeRow, ShowsMarks}
+use Rattle.snippet_strokes.proofs.WholeLemmas.{window_cells-whole}
+use Rattle.snippet_strokes.proofs.WindowTextLemmas.{row_text-window_cells}
 use Rattle.snippet_strokes.specs.SourceRows.{window_cells}
 use Rattle.snippet_strokes.specs.Snippet as strokes
 use Rattle.snippet_strokes.specs.Bars.{Bar}
@@ -166,7 +169,8 @@ module _ (r : Renderer) (layout : Layout) (s : Snippet Annotation)
   module _ (closes : Bool) (open_bars : List Bar) (k : ℕ) (info : AnnotatedLineInfo) (rows : List (List Cell))
       (within : k < length (source_lines (cow_str_bytes s.source))) (seen : seen_kept info ≡ kept_line (numbered_source s) s.markers.items k)
       (fits : length (shown_number (line_numbers r s.line_numbering) layout.gutter info.line_index) ≤ layout.gutter + 1)
-      (shows : row_shows closes open_bars info rows) where
+      (shows : row_shows closes open_bars info rows)
+      (rows_show : AreSeen layout margin.term_width (map (shifted shows.dropped) info.annotations.items) closes shows.highlighted rows) where
     abbrev text : List ℕ
     text = norm (chars_at (cow_str_bytes s.source) k)
 
@@ -189,18 +193,18 @@ module _ (r : Renderer) (layout : Layout) (s : Snippet Annotation)
         ∙ wide_on_line (numbered_source s) s.markers.items spans k info (room_of r layout) placeholder_width seen
 
     -- left of the bars the row is as drawn, whatever is highlighted
-    left_cell : (c : ℕ) → c < layout.gutter + 3 → c < layout.code → get_or shows.source c SPACE ≡ get_or shows.plain c SPACE
+    left_cell : (c : ℕ) → c < layout.gutter + 3 → c < layout.code → get_or rows_show.source c SPACE ≡ get_or shows.plain c SPACE
     left_cell c beside left =
         kept ∙ highlighted_left layout.code shows.dropped _ shows.plain shows.highlighted shows.highlights c left
       where
-        kept : get_or shows.source c SPACE ≡ get_or shows.highlighted c SPACE
+        kept : get_or rows_show.source c SPACE ≡ get_or shows.highlighted c SPACE
         kept =
             elim (cases_lt c (layout.gutter + 2)) [
-              | inl front ↦ sym (get_or-take (layout.gutter + 2) shows.source c SPACE front) ∙ ap (λ cs. get_or cs c SPACE) shows.beside.front
+              | inl front ↦ sym (get_or-take (layout.gutter + 2) rows_show.source c SPACE front) ∙ ap (λ cs. get_or cs c SPACE) rows_show.beside.front
                   ∙ get_or-take (layout.gutter + 2) shows.highlighted c SPACE front
               | inr after ↦
                   let at : c ≡ layout.gutter + 2 = omega (arith, after, beside) in
-                  ap (λ n. get_or shows.source n SPACE) at ∙ shows.beside.gap ∙ ap (λ n. get_or shows.highlighted n SPACE) (sym at)
+                  ap (λ n. get_or rows_show.source n SPACE) at ∙ rows_show.beside.gap ∙ ap (λ n. get_or shows.highlighted n SPACE) (sym at)
             ]
 
     -- the text of the line before it is cut where spans are wide
@@ -209,7 +213,8 @@ module _ (r : Renderer) (layout : Layout) (s : Snippet Annotation)
     window_text =
         sym (drop-map (λ (cell : Cell). cell.ch) layout.code shows.highlighted)
         ∙ ap (drop layout.code) (highlighted_text layout.code shows.dropped _ shows.plain shows.highlighted shows.highlights)
-        ∙ drop-map (λ (cell : Cell). cell.ch) layout.code shows.plain ∙ shows.text
+        ∙ drop-map (λ (cell : Cell). cell.ch) layout.code shows.plain
+        ∙ ap row_text shows.shows.shows.code ∙ row_text-window_cells layout.decor margin (norm (chars info.line.now))
         ∙ ap (λ n. window (placeholder_of layout.decor) n (bounds_of margin).left (bounds_of margin).right (norm (chars info.line.now))) room
         ∙ ap (λ (b : Bounds). window (placeholder_of layout.decor) (room_of r layout) b.left b.right (norm (chars info.line.now))) bounds
         ∙ ap (λ cs. window (placeholder_of layout.decor) (room_of r layout) (bounds_in r layout s).left (bounds_in r layout s).right cs) line_text
@@ -221,7 +226,7 @@ module _ (r : Renderer) (layout : Layout) (s : Snippet Annotation)
 
     -- where the line stands whole, nothing is dropped and nothing is cut
     whole_text : stands_whole (room_of r layout) placeholder_width s.fold (cow_str_bytes s.source) s.markers.items k ≡ true
-        → (shows.dropped ≡ 0) × (row_text (drop layout.code shows.source) ≡ text)
+        → (shows.dropped ≡ 0) × (row_text (drop layout.code rows_show.source) ≡ text)
     whole_text stands =
         let left : (bounds_in r layout s).left ≡ 0 = stands_left (numbered_source s) s.markers.items spans
         (room_of r layout) placeholder_width s.fold k stands in
@@ -233,10 +238,11 @@ module _ (r : Renderer) (layout : Layout) (s : Snippet Annotation)
         && is_wide (room_of r layout) placeholder_width (cow_str_bytes s.source) a) s.markers.items narrow in
         let own_fits : width_of (chars_at (cow_str_bytes s.source) k) ≤ room_of r layout = le_of _ _ (and_parts _ _ (and_parts _ _ parts.0).0).0 in
         let at_left : (bounds_of margin).left ≡ 0 = ap (λ (b : Bounds). b.left) bounds ∙ left in
-        let uncut : drop layout.code shows.source ≡ drop layout.code shows.highlighted = shows.beside.uncut (wide_is ∙ none) in
+        let uncut : drop layout.code rows_show.source ≡ drop layout.code shows.highlighted = rows_show.beside.uncut (wide_is ∙ none) in
         let narrow_text : width_of (norm (chars info.line.now)) ≤ margin.term_width = omega
         (arith, room, own_fits, ap width_of line_text, width_of-norm (chars_at (cow_str_bytes s.source) k)) in
-        let all : row_text (drop layout.code shows.plain) ≡ text = ap row_text (shows.whole at_left narrow_text)
+        let all : row_text (drop layout.code shows.plain) ≡ text = ap row_text (shows.shows.shows.code
+        ∙ window_cells-whole layout.decor margin (norm (chars info.line.now)) at_left narrow_text)
         ∙ row_text-text_cells Quotation (norm (chars info.line.now)) ∙ line_text in (
           dropped_here ∙ ap (λ n. width_of
               (dropped_part n text)) left ∙ dropped-none text,
@@ -247,36 +253,36 @@ module _ (r : Renderer) (layout : Layout) (s : Snippet Annotation)
         )
 
     -- the source row shows its line
-    pub source_line : layout.gutter + 3 ≤ layout.code → ShowsSourceLine r layout s k shows.dropped shows.source
+    pub source_line : layout.gutter + 3 ≤ layout.code → ShowsSourceLine r layout s k shows.dropped rows_show.source
     source_line place =
         let cells : List Cell = window_cells layout.decor margin (norm (chars info.line.now)) in
-        let same : (c : ℕ) → c < layout.gutter + 3 → get_or shows.source c SPACE ≡ get_or shows.plain c SPACE = λ c beside.
+        let same : (c : ℕ) → c < layout.gutter + 3 → get_or rows_show.source c SPACE ≡ get_or shows.plain c SPACE = λ c beside.
         left_cell c beside (omega (arith, beside, place)) in
         record {
           within = within;
-          left = left_of_source layout shown cells shows.plain shows.source fits place shows.shows same
+          left = left_of_source layout shown cells shows.plain rows_show.source fits place shows.shows same
               ∙ ap (cells_left layout.decor layout.gutter) same_number;
-          space = space_of_source layout shown cells shows.plain shows.source fits place shows.shows same;
-          bars = shows.beside.bar_cells;
+          space = space_of_source layout shown cells shows.plain rows_show.source fits place shows.shows same;
+          bars = rows_show.beside.bar_cells;
           window = record {
             ordered = omega (arith, ordered, ap (λ (b : Bounds). b.left) bounds, ap (λ (b : Bounds). b.right) bounds);
             dropped_is = dropped_here;
             shown_is = subst (λ n. AreReplaced (placeholder_of layout.decor)
                 n (window (placeholder_of layout.decor) (room_of r layout) (bounds_in r layout s).left (bounds_in r layout s).right text)
-                (row_text (drop layout.code shows.source)))
+                (row_text (drop layout.code rows_show.source)))
                 wide_is (subst (λ before. AreReplaced (placeholder_of layout.decor)
-                (wide_entries margin.term_width layout.decor (map (shifted shows.dropped) es)) before (row_text (drop layout.code shows.source)))
-                window_text shows.beside.text);
+                (wide_entries margin.term_width layout.decor (map (shifted shows.dropped) es)) before (row_text (drop layout.code rows_show.source)))
+                window_text rows_show.beside.text);
           };
           whole = whole_text;
         }
 
     -- no label of the spans that end on the line is lost, where none of its spans is cut
-    pub labels_of_line : wide_spans (room_of r layout) placeholder_width s k ≡ 0 → ShowsLabels layout.decor layout s k shows.dropped shows.below
+    pub labels_of_line : wide_spans (room_of r layout) placeholder_width s k ≡ 0 → ShowsLabels layout.decor layout s k shows.dropped rows_show.below
     labels_of_line uncut =
         let parts : map seen_part es ≡ parts_on (numbered_source s) s.markers.items k = ap (λ (l : KeptLine). l.parts) seen in
-        let stand = shows.strokes.labels (wide_is ∙ uncut) (labelled_at_end (numbered_source s) s.markers.items k shows.dropped es parts) in
-        labels_shown s k shows.dropped layout layout es shows.below refl parts shows.clear stand
+        let stand = rows_show.strokes.labels (wide_is ∙ uncut) (labelled_at_end (numbered_source s) s.markers.items k shows.dropped es parts) in
+        labels_shown s k shows.dropped layout layout es rows_show.below refl parts shows.clear stand
 
     -- where the line qualifies, its strokes are those of whole spans
     module _ (qualifies : qualifies_for_marks (room_of r layout) placeholder_width (cow_str_bytes s.source) s.markers.items k ≡ true) where
@@ -326,18 +332,18 @@ module _ (r : Renderer) (layout : Layout) (s : Snippet Annotation)
           (wide_entries margin.term_width layout.decor moved == 0) columns narrow)
 
       -- there is a row below
-      pub marks_there : 0 < length shows.below
+      pub marks_there : 0 < length rows_show.below
       marks_there =
           let some : 0 < length es = some_entry (numbered_source s) s.markers.items k es same qualified_parts.0 in
-          shows.strokes.some plain (omega (arith, some, length-map es (shifted shows.dropped)))
+          rows_show.strokes.some plain (omega (arith, some, length-map es (shifted shows.dropped)))
 
       -- and it has the marks of the line
-      pub marks_of_line : ShowsMarksOf layout.decor layout s k shows.dropped (row_at shows.below 0)
+      pub marks_of_line : ShowsMarksOf layout.decor layout s k shows.dropped (row_at rows_show.below 0)
       marks_of_line =
-          let row : List Cell = row_at shows.below 0 in
+          let row : List Cell = row_at rows_show.below 0 in
           let d : ℕ = shows.dropped in
-          let marks_are : ShowsMarks layout.decor layout.code moved row = shows.strokes.marks plain in
-          let strokes_row = shows.strokes.are 0 marks_there in
+          let marks_are : ShowsMarks layout.decor layout.code moved row = rows_show.strokes.marks plain in
+          let strokes_row = rows_show.strokes.are 0 marks_there in
           record {
             marks = λ p kind mark.
                 let own : IsEntryMark es p kind = mark_of_entries (numbered_source s) s.markers.items k es same p kind mark in

@@ -17,10 +17,10 @@ use Rattle.std.specs.Borrow.{Bor}
 use Rattle.std.specs.Option.{option_copied}
 use Rattle.snippet_labels.specs.PlacedEntries as entry
 use Rattle.annotate_snippets.specs.ShownPage.{shown_label, normalized_chars}
-use Rattle.snippet_strokes.specs.EntryMarks.{EntryCovers, IsEntryMark}
+use Rattle.snippet_strokes.proofs.PlainEntries.{EntryCovers, IsEntryMark}
 use Rattle.snippet_labels.specs.PlacedEntries.{shifted}
 use Rattle.snippet_model.specs.AnnotationKind.{is_primary}
-use Rattle.snippet_strokes.specs.Drawing.{StandsFrom}
+use Rattle.snippet_strokes.proofs.DrawnCells.{StandsFrom}
 use Rattle.snippet_strokes.proofs.MarkLemmas.{from_map}
 use Rattle.annotate_snippets.proofs.ListLemmas.{Contains-filter, Contains-map, Contains-head, from_any}
 

@@ -18,7 +18,12 @@ use Rattle.snippet_lines.specs.Lines.{source_lines}
 use Rattle.snippet_window.specs.Margin.{bounds_of}
 use Rattle.snippet_lines.specs.Span.{IsSpan}
 use Rattle.snippet_lines.specs.Number.{shown_number}
-use Rattle.snippet_strokes.specs.Bars.{Bar, open_below, open_past}
+use Rattle.snippet_labels.specs.PlacedEntries.{shifted}
+use Rattle.snippet_strokes.specs.Bars.{Bar, HasBarRoom, open_below, open_past}
+use Rattle.snippet_strokes.specs.Drawable.{AreDrawable}
+use Rattle.snippet_strokes.proofs.OpenLemmas.{room_below}
+use Rattle.snippet_strokes.proofs.SeenLines.{line_seen}
+use Rattle.snippet_strokes.proofs.SeenRows.{AreSeen}
 use Rattle.snippet_strokes.specs.Snippet as strokes
 use Rattle.snippet_strokes.specs.Snippet.{gap_row}
 use Rattle.annotate_snippets.specs.declared.renderer.Renderer.{Renderer}
@@ -77,21 +82,26 @@ module _ (r : Renderer) (layout : Layout) (s : Snippet Annotation)
   abbrev NumberFits : AnnotatedLineInfo → Type 0
   NumberFits info = length (shown_number (line_numbers r s.line_numbering) layout.gutter info.line_index) ≤ layout.gutter + 1
 
+  abbrev EntriesFit : AnnotatedLineInfo → Type 0
+  EntriesFit info = AreDrawable layout info.annotations.items
+
   -- the rows of a line show it, with the marks below
   line_and_marks : (last : Bool) (open_bars : List Bar) (k : ℕ) (info : AnnotatedLineInfo) (rows : List (List Cell)) (more : List NamedRow)
       → k < own_lines → seen_kept info ≡ line_of_snippet k → NumberFits info
-      → (shows : strokes.ShowsLine layout margin (line_numbers r s.line_numbering) last open_bars info rows) → rows_below more ≡ []
+      → (line : strokes.ShowsLine layout margin (line_numbers r s.line_numbering) last open_bars info rows)
+      → (shows : AreSeen layout margin.term_width (map (shifted line.dropped) info.annotations.items) last line.highlighted rows)
+      → rows_below more ≡ []
       → ShowsLineAndMarks r layout s k shows.source (cells_below (others shows.below ++ more)) (rows_below (others shows.below ++ more))
-  line_and_marks last open_bars k info rows more within seen fits shows ends =
+  line_and_marks last open_bars k info rows more within seen fits line shows ends =
       record {
-        dropped = shows.dropped;
-        line = source_line r layout s spans margin room bounds ordered last open_bars k info rows within seen fits shows place;
-        marks = λ qualifies. subst (λ row. ShowsMarksOf layout.decor layout s k shows.dropped row)
+        dropped = line.dropped;
+        line = source_line r layout s spans margin room bounds ordered last open_bars k info rows within seen fits line shows place;
+        marks = λ qualifies. subst (λ row. ShowsMarksOf layout.decor layout s k line.dropped row)
             (sym (below-first shows.below more
-            (marks_there r layout s spans margin room bounds ordered last open_bars k info rows within seen fits shows qualifies)))
-            (marks_of_line r layout s spans margin room bounds ordered last open_bars k info rows within seen fits shows qualifies);
-        labels = λ uncut. subst (λ lower. ShowsLabels layout.decor layout s k shows.dropped lower) (sym (below-own shows.below more ends))
-            (labels_of_line r layout s spans margin room bounds ordered last open_bars k info rows within seen fits shows uncut);
+            (marks_there r layout s spans margin room bounds ordered last open_bars k info rows within seen fits line shows qualifies)))
+            (marks_of_line r layout s spans margin room bounds ordered last open_bars k info rows within seen fits line shows qualifies);
+        labels = λ uncut. subst (λ lower. ShowsLabels layout.decor layout s k line.dropped lower) (sym (below-own shows.below more ends))
+            (labels_of_line r layout s spans margin room bounds ordered last open_bars k info rows within seen fits line shows uncut);
       }
 
   -- rows below a line, with the last of which the window closes where no row stands after
@@ -231,26 +241,32 @@ module _ (r : Renderer) (layout : Layout) (s : Snippet Annotation)
 
   -- the rows of kept lines have the names of their lines
   pub named_lines : (open_bars : List Bar) (ks : List ℕ) (infos : List AnnotatedLineInfo) (rows : List (List Cell)) → All (λ k. k < own_lines) ks
-      → map seen_kept infos ≡ map line_of_snippet ks → All NumberFits infos
+      → map seen_kept infos ≡ map line_of_snippet ks → All NumberFits infos → All EntriesFit infos → All (HasBarRoom layout) open_bars
       → strokes.AreLinesShown layout margin (line_numbers r s.line_numbering) closes open_bars infos rows → AreNamed open_bars ks rows
-  named_lines open_bars [] [] rows within lines fit shown = record
+  named_lines open_bars [] [] rows within lines fit entries bars shown = record
       { part = []; cells = sym shown; lines = refl; names = refl; are = tt; ends = refl; begins = refl; drawn = tt; value = refl }
-  named_lines open_bars [] (info ∷ infos) rows within lines fit shown = cc
-  named_lines open_bars (k ∷ ks) [] rows within lines fit shown = cc
-  named_lines open_bars (k ∷ ks) (info ∷ infos) rows within lines fit shown =
+  named_lines open_bars [] (info ∷ infos) rows within lines fit entries bars shown = cc
+  named_lines open_bars (k ∷ ks) [] rows within lines fit entries bars shown = cc
+  named_lines open_bars (k ∷ ks) (info ∷ infos) rows within lines fit entries bars shown =
       let here = head_same (seen_kept info) (line_of_snippet k) (map seen_kept infos) (map line_of_snippet ks) lines in
       let further = tail_same (seen_kept info) (line_of_snippet k) (map seen_kept infos) (map line_of_snippet ks) lines in
       let open_now : List Bar = open_below open_bars info.annotations.items in
+      let own_entries : AreDrawable layout info.annotations.items = All-head EntriesFit info infos entries in
       let rest : AreNamed open_now ks shown.2 = named_lines open_now ks infos shown.2 (All-tail (λ j. j < own_lines) k ks within) further
-      (All-tail NumberFits info infos fit) shown.6 in
+      (All-tail NumberFits info infos fit) (All-tail EntriesFit info infos entries)
+      (room_below layout open_bars info.annotations.items bars own_entries.bar_cells) shown.6 in
       let last : Bool = length infos == 0 in
-      let shows : strokes.ShowsLine layout margin (line_numbers r s.line_numbering) (closes && last) open_bars info shown.0 = shown.4 in
+      let drawn : strokes.ShowsLine layout margin (line_numbers r s.line_numbering) (closes && last) open_bars info shown.0 = shown.4 in
+      let shows : AreSeen layout margin.term_width (map (shifted drawn.dropped) info.annotations.items)
+      (closes && last) drawn.highlighted shown.0 = line_seen layout margin (line_numbers r s.line_numbering) place
+      (closes && last) open_bars info shown.0 bars (All-head NumberFits info infos fit) own_entries drawn in
       let source_row : NamedRow = record { name = SourceRow k; cells = shows.source } in
       let between : IsGapNamed open_now k ks shown.1 = gap_named open_now k ks info infos shown.1 here further shown.5 in
       let after : List NamedRow = between.gap ++ rest.part in
       let ends : (length after == 0) ≡ last = between.ends rest.part rest.ends ∙ none_left ks infos further in
-      let line : IsLineDrawn r layout (closes && last) s open_bars k (shows.source ∷ shows.below) = line_drawn r layout s margin room bounds
-      (closes && last) open_bars k info shown.0 here shows in
+      let line : IsLineDrawn r layout (closes && last) s open_bars k (shows.source ∷ shows.below) = subst
+      (IsLineDrawn r layout (closes && last) s open_bars k) shows.rows_are (line_drawn r layout s margin room bounds (closes && last) open_bars k info shown.0
+      here drawn) in
       let own : shows.source ∷ shows.below ≡ rows_of_line r layout (closes && length ks == 0) s open_bars k = line_value r layout
       (closes && last) s open_bars k (shows.source ∷ shows.below) line
       ∙ ap (λ b. rows_of_line r layout (closes && b) s open_bars k) (sym (none_left ks infos further)) in
@@ -265,7 +281,7 @@ module _ (r : Renderer) (layout : Layout) (s : Snippet Annotation)
         names = ap (λ names. SourceRow k ∷ names) (names_in-others shows.below after) ∙ between.names rest.part rest.names;
         are = (
           line_and_marks (closes && last) open_bars k info shown.0 after (All-head (λ j. j < own_lines) k ks within)
-              here (All-head NumberFits info infos fit) shows (between.begins rest.part rest.begins),
+              here (All-head NumberFits info infos fit) drawn shows (between.begins rest.part rest.begins),
           others_are last shows.below after ends
               (λ i inside. row_below layout.decor layout (closes && last) _ _ shows.below i (shows.strokes.are i inside))
               (between.are rest.part rest.are),

@@ -38,6 +38,7 @@ use Rattle.snippet_parts.specs.Marked.{first_line, last_line}
 use Rattle.snippet_window.specs.Measures.{StandsClear, bounds_of_lines, margin_of}
 use Rattle.snippet_parts.specs.Entries.{is_wide_entry}
 use Rattle.snippet_labels.specs.PlacedEntries.{HasPlace}
+use Rattle.snippet_strokes.specs.Drawable.{AreDrawable}
 use Rattle.snippet_strokes.specs.EntryMarks.{HasBarCell, HasBarCellAt}
 use Rattle.snippet_grid.specs.Layout.{Layout}
 use Rattle.annotate_snippets.specs.Gutter.{code_after}
@@ -135,6 +136,16 @@ module _ (s : Source) (marks : List Annotation) (spans : All (λ a. IsSpan s.tex
       All-weaker (λ (info : AnnotatedLineInfo). All Within info.annotations.items) (λ info. All (HasBarCell layout) info.annotations.items)
       (λ info depths. All-weaker Within (HasBarCell layout) (λ e depth. bar_cell layout (deepest s marks) code e.annotation_type depth)
       info.annotations.items depths) infos (depths-fit s marks ks infos same)
+
+  -- so the entries of kept lines can be drawn
+  pub lines_entries : (layout : Layout) → code_after layout.gutter (deepest s marks) ≤ layout.code → length s.text < 2 ^ 56 → All AnnotationFits marks
+      → All (λ info. AreDrawable layout info.annotations.items) infos
+  lines_entries layout code short fit k d within =
+      record {
+        columns = lines_places short k d within;
+        bar_cells = lines_bar_cells layout code k d within;
+        labels = lines_labels fit k d within;
+      }
 
 -- an entry stands clear where one that is seen as it does
 clear_seen : (margin : Margin) (d e : LineAnnotation) → seen_part d ≡ seen_part e → StandsClear margin d → StandsClear margin e

@@ -1,10 +1,10 @@
 -- What drawing bars keeps.
-use Rattle.std.proofs.Common.{◌≡◌, ℕ, ◌+◌, ◌-◌, ◌<◌, ◌≤◌, ◌==◌, ◌&&◌, max, true, false, Bool, None, List, [], ◌∷◌, ◌++◌, length, take, drop, get_or, refl, sym}
+use Rattle.std.proofs.Common.{◌≡◌, ℕ, ◌+◌, ◌-◌, ◌<◌, ◌≤◌, ◌==◌, ◌&&◌, max, true, false, Bool, None, List, [], ◌∷◌, length, map, take, drop, get_or, refl, sym}
 use Rattle.std.proofs.Common.{ap, ◌∙◌, subst, arith, inl, inr, All}
 use Rattle.std.specs.List.{list_any, slice_index_or}
 use Rattle.std.proofs.lemmas.Bool.{cases_lt}
-use Rattle.std.proofs.lemmas.List.{places, same_lists, get_or_at, get_or_default, get_or_append_left, get_or_past, get_or-drop, get_or-take, length-drop}
-use Rattle.std.proofs.lemmas.List.{length-take, length-append, length-take-le, ext_get_or, drop-drop, drop_more}
+use Rattle.std.proofs.lemmas.List.{get_or-map, length-map, get_or_default, get_or_past, get_or-drop, get_or-take, length-drop}
+use Rattle.std.proofs.lemmas.List.{length-take, length-take-le, ext_get_or, drop-drop}
 use Rattle.std.proofs.lemmas.List.Elements.{All-cons, All-from_get_or, All-get_or, All-head, All-nil, All-tail}
 use Rattle.snippet_parts.specs.declared.entries.LineAnnotation.{LineAnnotation}
 use Rattle.snippet_window.specs.Window.{AreReplaced}
@@ -19,15 +19,16 @@ use Rattle.snippet_text.specs.Normalized.{is_listed}
 use Rattle.snippet_grid.specs.Layout.{Layout}
 use Rattle.snippet_strokes.specs.declared.bars.BarStroke.{BarStroke}
 use Rattle.snippet_strokes.specs.declared.bars.BarStroke.TheVariants.{Top, Solid, Dotted}
-use Rattle.snippet_strokes.specs.EntryMarks.{IsBarCell, IsMarkCell, are_plain, has_mark_role, wide_entries}
+use Rattle.snippet_strokes.specs.EntryMarks.{IsBarCell, IsMarkCell, has_mark_role}
+use Rattle.snippet_strokes.proofs.PlainEntries.{are_plain, wide_entries}
 use Rattle.snippet_model.specs.FreeRows.{IsFreeCell}
 use Rattle.snippet_style.proofs.StrokeLemmas.{bars_among}
 use Rattle.snippet_strokes.proofs.StrokeGlyphs.{free_bars}
-use Rattle.snippet_strokes.specs.Bars.{BarsDrawn, DrawsBars, HasBarRoom, StandsBeside, bar_glyph, bar_cell_part, barred, with_bar, with_bars}
+use Rattle.snippet_strokes.specs.Bars.{HasBarRoom, StandsBeside, bar_glyph, bar_cell_part, with_bar, with_bars}
+use Rattle.snippet_strokes.proofs.DrawnCells.{BarsDrawn}
 use Rattle.snippet_strokes.specs.declared.bars.OpenBar.{OpenBar}
 use Rattle.snippet_strokes.proofs.LabelPlaces.{LabelsStand-kept}
-use Rattle.snippet_strokes.specs.StrokeRows.{AddsStrokes, AreStrokes, IsBeside, IsStrokeRow, ShowsMarks}
-use Rattle.snippet_strokes.proofs.BarRows.{changed-above, changed-count, changed-row}
+use Rattle.snippet_strokes.proofs.SeenRows.{AreSeen, AreStrokes, IsBeside, IsStrokeRow, ShowsMarks}
 use Rattle.snippet_strokes.proofs.DrawLemmas.{written_cell}
 
 -- each part of a bar is one of the glyphs that bars are drawn with, and not listed
@@ -153,17 +154,6 @@ BarsDrawn-with_bars layout stroke (bar ∷ bars) row room =
     (BarsDrawn-with_bar layout stroke bar row (All-head (HasBarRoom layout) bar bars room))
     (BarsDrawn-with_bars layout stroke bars mid (All-tail (HasBarRoom layout) bar bars room))
 
--- rows with parts of bars in each from one on: bars are drawn there, and nothing else
-pub DrawsBars-barred : (layout : Layout) (stroke : BarStroke) (bars : List OpenBar) (row : ℕ) (old new : List (List Cell)) → All (HasBarRoom layout) bars
-    → new ≡ barred layout stroke bars row old → DrawsBars layout row old new
-DrawsBars-barred layout stroke bars row old new room is =
-    let rule : List Cell → List Cell = with_bars layout stroke bars in
-    subst (DrawsBars layout row old) (sym is) (record {
-      above = changed-above rule row old;
-      rows = changed-row (BarsDrawn layout) rule row old (BarsDrawn-none layout) (λ cells. BarsDrawn-with_bars layout stroke bars cells room);
-      count = changed-count rule row old;
-    })
-
 -- the cells from the code on are as they were
 drawn_right : (layout : Layout) (old new : List Cell) → BarsDrawn layout old new → (c : ℕ) → layout.code ≤ c
     → slice_index_or new c SPACE ≡ slice_index_or old c SPACE
@@ -229,10 +219,7 @@ AreStrokes-drawn : (layout : Layout) (room : ℕ) (es : List LineAnnotation) (cl
 AreStrokes-drawn layout room es closes old new is count drawn =
     let plain : Bool = are_plain room layout.decor es in
     record {
-      none = λ empty. count ∙ is.none empty;
       some = λ all more. omega (arith, count, is.some all more);
-      lone = λ all one. count ∙ is.lone all one;
-      bare = λ all labels. omega (arith, count, is.bare all labels);
       marks = λ all. marks (is.marks all);
       labels = λ uncut ends. LabelsStand-kept layout es old new (is.labels uncut ends) kept;
       are = λ k within.
@@ -261,38 +248,16 @@ AreStrokes-drawn layout room es closes old new is count drawn =
               subst (ShowsMarks layout.decor layout.code es) (before ∙ sym later) shows
         ]
 
--- the strokes of a line with bars that are drawn beside all its rows
-pub AddsStrokes-drawn : (layout : Layout) (room : ℕ) (es : List LineAnnotation) (closes : Bool) (above : List (List Cell)) (plain : List Cell)
-    (old new : List (List Cell)) (row : ℕ) → row ≡ length above → layout.gutter + 2 ≤ length plain → AddsStrokes layout room es closes above plain old
-    → DrawsBars layout row old new → AddsStrokes layout room es closes above plain new
-AddsStrokes-drawn layout room es closes above plain old new row last long adds draws =
-    let source = adds.source in
-    let rows = adds.rows in
-    let below = drop (row + 1) new in
-    let all : length old ≡ row + 1 + length rows = omega (arith, ap length adds.added, length-append above (source ∷ rows), last) in
-    let here : row < length new = omega (arith, all, draws.count) in
-    let few : length below ≡ length rows = omega (arith, length-drop (row + 1) new, all, draws.count) in
-    let short : length (take row new) ≡ row = length-take-le row new (omega (arith, here)) in
-    let top : take row new ≡ above = ext_get_or [] (take row new) above (short ∙ last) (λ k within.
-    let inside : k < row = omega (arith, within, short) in
-    get_or-take row new k [] inside ∙ draws.above k inside ∙ ap (λ rs. get_or rs k []) adds.added
-    ∙ get_or_append_left above (source ∷ rows) [] k (omega (arith, inside, last))) in
-    let first : row_at old row ≡ source = ap (λ rs. row_at rs row) adds.added ∙ get_or_at above source rows [] row (sym last) in
-    let rest : drop (row + 1) old ≡ rows = ap (drop (row + 1)) adds.added ∙ after above source rows (row + 1) (omega (arith, last)) in
+-- so are all rows of a line, where bars are drawn in each
+pub AreSeen-drawn : (layout : Layout) (room : ℕ) (es : List LineAnnotation) (closes : Bool) (plain : List Cell) (rows : List (List Cell))
+    (rule : List Cell → List Cell) → layout.gutter + 2 ≤ length plain → ((cells : List Cell) → BarsDrawn layout cells (rule cells))
+    → AreSeen layout room es closes plain rows → AreSeen layout room es closes plain (map rule rows)
+AreSeen-drawn layout room es closes plain rows rule long drawn seen =
     record {
-      source = row_at new row;
-      rows = below;
-      added = split new row ∙ ap (λ rs. rs ++ drop row new) top ∙ ap (λ rs. above ++ rs) (drop_more new row [] here);
-      beside = IsBeside-drawn layout (wide_entries room layout.decor es) plain source (row_at new row) long adds.beside
-          (subst (λ cells. BarsDrawn layout cells (row_at new row)) first (draws.rows row));
-      are = AreStrokes-drawn layout room es closes rows below adds.are few
-          (λ k within. subst (λ cells. BarsDrawn layout cells (row_at below k)) (sym (get_or-drop (row + 1) old k []) ∙ ap (λ rs. row_at rs k) rest)
-          (subst (λ cells. BarsDrawn layout (row_at old (row + 1 + k)) cells) (sym (get_or-drop (row + 1) new k [])) (draws.rows (row + 1 + k))));
+      source = rule seen.source;
+      below = map rule seen.below;
+      rows_are = ap (map rule) seen.rows_are;
+      beside = IsBeside-drawn layout (wide_entries room layout.decor es) plain seen.source (rule seen.source) long seen.beside (drawn seen.source);
+      strokes = AreStrokes-drawn layout room es closes seen.below (map rule seen.below) seen.strokes (length-map seen.below rule)
+          (λ k within. subst (BarsDrawn layout (row_at seen.below k)) (sym (get_or-map rule seen.below k [] [] within)) (drawn (row_at seen.below k)));
     }
-  where
-    after : (xs : List (List Cell)) (x : List Cell) (ys : List (List Cell)) (n : ℕ) → n ≡ length xs + 1 → drop n (xs ++ x ∷ ys) ≡ ys
-    after xs x ys n is =
-        same_lists _ _ (grind (arith, places)) (λ k d h. grind (arith, places))
-
-    split : (xs : List (List Cell)) (n : ℕ) → xs ≡ take n xs ++ drop n xs
-    split xs n = same_lists _ _ (grind (arith, places)) (λ k d h. grind (arith, places))

@@ -111,28 +111,6 @@ changed-more first second both zero (x ∷ rows) same =
 changed-more first second both (suc row) [] same = refl
 changed-more first second both (suc row) (x ∷ rows) same = ap (λ rs. x ∷ rs) (changed-more first second both row rows same)
 
--- the rows above stay, and there are no more
-pub changed-above : (rule : List Cell → List Cell) (row : ℕ) (rows : List (List Cell)) (r : ℕ) → r < row → row_at (changed_from rule row rows) r ≡ row_at rows r
-changed-above rule zero rows r above = absurd (omega (arith, above))
-changed-above rule (suc row) [] r above = refl
-changed-above rule (suc row) (x ∷ rows) zero above = refl
-changed-above rule (suc row) (x ∷ rows) (suc r) above = changed-above rule row rows r (omega (arith, above))
-
-pub changed-count : (rule : List Cell → List Cell) (row : ℕ) (rows : List (List Cell)) → length (changed_from rule row rows) ≡ length rows
-changed-count rule zero rows = length-map rows rule
-changed-count rule (suc row) [] = refl
-changed-count rule (suc row) (x ∷ rows) = ap suc (changed-count rule row rows)
-
--- each row is as it was, or changed by the rule
-pub changed-row : (P : List Cell → List Cell → Type 0) (rule : List Cell → List Cell) (row : ℕ) (rows : List (List Cell))
-    → ((cells : List Cell) → P cells cells) → ((cells : List Cell) → P cells (rule cells)) → (r : ℕ) → P (row_at rows r) (row_at (changed_from rule row rows) r)
-changed-row P rule zero [] stays changes r = stays []
-changed-row P rule zero (x ∷ rows) stays changes zero = changes x
-changed-row P rule zero (x ∷ rows) stays changes (suc r) = changed-row P rule zero rows stays changes r
-changed-row P rule (suc row) [] stays changes r = stays []
-changed-row P rule (suc row) (x ∷ rows) stays changes zero = stays x
-changed-row P rule (suc row) (x ∷ rows) stays changes (suc r) = changed-row P rule row rows stays changes r
-
 -- bars beside the rows that stand below others
 pub barred-below : (layout : Layout) (stroke : BarStroke) (bars : List OpenBar) (above rows : List (List Cell))
     → barred layout stroke bars (length above) (above ++ rows) ≡ above ++ map (with_bars layout stroke bars) rows

@@ -17,12 +17,14 @@ use Rattle.snippet_parts.specs.declared.entries.LineAnnotationType.{LineAnnotati
 use Rattle.snippet_parts.specs.declared.entries.LineAnnotationType.TheVariants.{Singleline, MultilineStart, MultilineEnd, MultilineLine}
 use Rattle.snippet_grid.specs.Layout.{Layout}
 use Rattle.snippet_labels.specs.declared.positions.PlacedEntry.{PlacedEntry}
-use Rattle.snippet_strokes.specs.EntryMarks.{HasBarCell, HasBarCellAt, IsBarCell, is_single}
-use Rattle.snippet_strokes.specs.Drawing.{DrawsBarCells, DrawsFrom, HasRows, KeepsBarCells}
+use Rattle.snippet_strokes.specs.EntryMarks.{HasBarCell, HasBarCellAt, IsBarCell}
+use Rattle.snippet_strokes.proofs.PlainEntries.{is_single}
+use Rattle.snippet_strokes.specs.Drawing.{HasRows}
+use Rattle.snippet_strokes.proofs.DrawnCells.{DrawsBarCells, DrawsFrom, KeepsBarCells}
 use Rattle.snippet_strokes.specs.Strokes.{bar_writes, connector_by, connector_of, connectors_of, corner_by, corner_of, corners_of, line_to}
 use Rattle.snippet_strokes.specs.Strokes.{column_of}
 use Rattle.snippet_strokes.specs.Painting.{stroke_role}
-use Rattle.snippet_strokes.specs.Reach.{IsWithin}
+use Rattle.snippet_strokes.proofs.Reach.{IsWithin}
 use Rattle.snippet_strokes.specs.Writes.{Write, glyph_at, painted, stretch_of, written_by}
 use Rattle.snippet_strokes.proofs.DrawLemmas.{DrawsBarCells-more, DrawsBarCells-none, DrawsBarCells-writes, free_bar, bar_bottom, bar_horizontal, bar_top}
 use Rattle.snippet_strokes.proofs.DrawLemmas.{bar_vertical}

@@ -6,7 +6,7 @@ use Rattle.std.specs.List.Sorted.{IsPermutation}
 use Rattle.std.proofs.lemmas.Bool.{and_parts, cases_lt, cases_eq}
 use Rattle.std.proofs.lemmas.Bool.Decides.{nat_tests}
 use Rattle.std.proofs.lemmas.List.{places, length-append, length-replicate, get_or_append_left, get_or_push, length_push, get_or-drop, get_or_past}
-use Rattle.std.proofs.lemmas.List.{get_or-replicate, ext_get_or, append-nil, append_assoc, take-append-drop, drop_all, get_or-take, replicate_more, same_lists}
+use Rattle.std.proofs.lemmas.List.{get_or-replicate, ext_get_or, append-nil, append_assoc, take-append-drop, drop_all, get_or-take, replicate_more}
 use Rattle.std.proofs.Math.Bool.{and-false, and-true}
 use Rattle.std.proofs.Math.Seq.{drop-append_seam}
 use Rattle.std.proofs.lemmas.List.Elements.{All-get_or}
@@ -21,29 +21,18 @@ use Rattle.snippet_style.specs.Cell.{Cell, SPACE, written}
 use Rattle.snippet_style.proofs.CellLemmas.{take-written_past, drop-written}
 use Rattle.snippet_grid.specs.Layout.{Layout}
 use Rattle.snippet_labels.specs.declared.positions.PlacedEntry.{PlacedEntry}
-use Rattle.snippet_strokes.specs.EntryMarks.{IsBarCell, are_plain, has_column, is_single, wide_entries}
+use Rattle.snippet_strokes.specs.EntryMarks.{IsBarCell}
+use Rattle.snippet_strokes.proofs.PlainEntries.{are_plain, has_column, is_single, wide_entries}
 use Rattle.snippet_model.specs.FreeRows.{IsFreeCell, IsFree}
 use Rattle.snippet_strokes.specs.Drawing.{HasRows, row_count}
 use Rattle.snippet_strokes.specs.SourceRows.{bare_row}
-use Rattle.snippet_strokes.specs.StrokeRows.{IsCut, IsStrokeRow}
+use Rattle.snippet_strokes.proofs.SeenRows.{IsCut, IsStrokeRow}
 use Rattle.snippet_style.specs.Separators.{separator_row}
 use Rattle.snippet_strokes.proofs.PlainMarks.{IsPlainEntry}
 use Rattle.snippet_strokes.proofs.PositionLemmas.{HasRows-row_count, row_count_some}
 use Rattle.snippet_strokes.specs.Painting.{painting_order}
 use Rattle.snippet_labels.specs.Positions.{ArePlaced}
 use Rattle.snippet_strokes.proofs.PaintOrder.{IsPermutation-painting_order}
-
--- rows that stand below those that are kept
-pub kept_above : (old new : List (List Cell)) → length old ≤ length new → ((r : ℕ) → r < length old → row_at new r ≡ row_at old r)
-    → new ≡ old ++ drop (length old) new
-kept_above old new long above =
-    let n : ℕ = length old in
-    let size : length (take n new) ≡ length old = grind (arith, places) in
-    let front : take n new ≡ old = same_lists (take n new) old size (λ k d within. first k d (omega (arith, within, size))) in
-    sym (take-append-drop n new) ∙ ap (λ xs. xs ++ drop n new) front
-  where
-    first : (k : ℕ) (d : List Cell) → k < length old → get_or (take (length old) new) k d ≡ get_or old k d
-    first k d within = grind (arith, places, above k within)
 
 -- a row that was begun
 pub begun_row : (layout : Layout) (closes : Bool) (old begun : List (List Cell)) (count k : ℕ)

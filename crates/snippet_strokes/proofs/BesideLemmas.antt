@@ -1,10 +1,10 @@
 -- Bars that are drawn into a source row before its code.
 use Rattle.std.proofs.Common.{◌≡◌, ◌≢◌, ℕ, ◌+◌, ◌-◌, ◌<◌, ◌≤◌, ◌==◌, true, false, List, [], ◌∷◌, ◌++◌, length, get_or, refl, sym, ap, ◌∙◌, arith}
-use Rattle.std.proofs.Common.{inl, inr, zero, suc, Bool, All, chars, filter, not, subst}
+use Rattle.std.proofs.Common.{inl, inr, Bool, All, chars, filter, not}
 use Rattle.std.proofs.lemmas.Bool.{cases_eq, cases_lt, false≢true, not-true}
 use Rattle.std.proofs.lemmas.Bool.Decides.{nat_tests}
 use Rattle.std.proofs.lemmas.List.Folds.{list_any_at}
-use Rattle.std.proofs.lemmas.List.{ext_get_or, length_push}
+use Rattle.std.proofs.lemmas.List.{ext_get_or}
 use Rattle.std.proofs.lemmas.List.Elements.{All-head, All-tail, filter_passes}
 use Rattle.snippet_lines.specs.declared.number.LineNumbers.{LineNumbers}
 use Rattle.snippet_lines.specs.Number.{shown_number}
@@ -32,16 +32,15 @@ use Rattle.snippet_strokes.specs.Bars.{HasBarRoom, bar_cell_part, barred, bars_a
 use Rattle.snippet_strokes.specs.Bars.{with_bars}
 use Rattle.snippet_strokes.specs.Snippet.{AddsLine}
 use Rattle.snippet_strokes.specs.SourceRows.{AddsSourceRow, window_cells, with_cells}
-use Rattle.snippet_strokes.specs.StrokeRows.{IsHighlighted, highlighted_row, role_in_source}
-use Rattle.snippet_strokes.proofs.BarLemmas.{BarsDrawn-with_bars, DrawsBars-barred}
+use Rattle.snippet_strokes.specs.StrokeRows.{highlighted_row, role_in_source}
+use Rattle.snippet_strokes.proofs.BarLemmas.{BarsDrawn-with_bars}
 use Rattle.snippet_strokes.proofs.BarRows.{barred-below, changed_same}
 use Rattle.snippet_strokes.proofs.HighlightLaws.{IsHighlighted-row, IsHighlighted-rows, highlighted_count, unlit_rows}
 use Rattle.snippet_strokes.proofs.LineRowLemmas.{own_whole}
 use Rattle.snippet_strokes.proofs.LineValueLaws.{highlighted_is}
-use Rattle.snippet_strokes.proofs.SnippetLemmas.{highlighted_left, last_changed, line_added, row_added}
+use Rattle.snippet_strokes.proofs.SnippetLemmas.{highlighted_left, last_changed, row_added}
 use Rattle.snippet_strokes.proofs.SourceRowLemmas.{front, number_written}
 use Rattle.snippet_strokes.proofs.SwapLemmas.{cells-swap, written-swap}
-use Rattle.snippet_strokes.proofs.WholeLineLemmas.{whole_added}
 
 -- a change of a row that may come before each of some bars or after it may come before all of them
 pub bars_pass : (change : List Cell → List Cell) (layout : Layout) (stroke : BarStroke) (bars : List OpenBar) (row : List Cell)
@@ -188,13 +187,6 @@ number_first layout number old mid new row stroke last short is writes stays sep
     ∙ cells-swap old row row 0 (layout.gutter + 1) digits line (omega (arith, length-text_cells LineNumber (chars number), short)))
     (λ none. separates ∙ ap put (stays none))
 
--- rows that differ in the last one
-apart_last : (above : List (List Cell)) (one two : List Cell) (r : ℕ) → r ≢ length above → row_at (above ++ one ∷ []) r ≡ row_at (above ++ two ∷ []) r
-apart_last [] one two zero other = absurd (other refl)
-apart_last [] one two (suc r) other = refl
-apart_last (x ∷ above) one two zero other = refl
-apart_last (x ∷ above) one two (suc r) other = apart_last above one two r (λ same. other (ap suc same))
-
 -- a line that is marked as a whole: its source row with the bars beside it, of which the code is highlighted, shows it
 module _ (layout : Layout) (margin : Margin) (numbers : LineNumbers) (closes : Bool) (open_bars tops past : List OpenBar) (info : AnnotatedLineInfo)
     (dropped : ℕ) (old bare mid new : List (List Cell)) (row : ℕ)
@@ -218,13 +210,6 @@ module _ (layout : Layout) (margin : Margin) (numbers : LineNumbers) (closes : B
   abbrev bright : List Cell
   bright = highlighted_row layout.code dropped own plain
 
-  -- the rows, as if the bars came last
-  abbrev high : List (List Cell)
-  high = old ++ bright ∷ []
-
-  abbrev done : List (List Cell)
-  done = old ++ with_bars layout Top tops bright ∷ []
-
   abbrev barred_row : List Cell → List Cell
   barred_row cells = with_bars layout Solid past (with_bars layout Top tops cells)
 
@@ -246,38 +231,24 @@ module _ (layout : Layout) (margin : Margin) (numbers : LineNumbers) (closes : B
       (unlit_rows layout.code dropped own row mid new is_lit)
       ∙ ap (λ cells. old ++ cells ∷ []) lit_row
 
-  done_is : done ≡ barred layout Top tops row high
-  done_is = sym (ap (λ r. barred layout Top tops r high) last ∙ barred_last layout Top tops old high bright refl)
-
-  new_barred : new ≡ barred layout Solid past row done
-  new_barred =
-      new_is ∙ sym (ap (λ r. barred layout Solid past r done) last ∙ barred_last layout Solid past old done (with_bars layout Top tops bright) refl)
-
-  highlights : IsHighlighted layout.code dropped own (row_at bare row) (row_at high row)
-  highlights =
-      subst (λ cells. IsHighlighted layout.code dropped own (row_at bare row) cells) (sym (row_added old high bright row last refl))
-      (subst (λ cells. IsHighlighted layout.code dropped own cells bright) (sym (row_added old bare plain row last source.added))
-      (IsHighlighted-row layout.code dropped own plain))
-
-  others : (r : ℕ) → r ≢ row → row_at high r ≡ row_at bare r
-  others r other =
-      apart_last old bright plain r (λ same. other (same ∙ sym last)) ∙ ap (λ rows. row_at rows r) (sym source.added)
-
-  pub whole_line_added : length (shown_number numbers layout.gutter info.line_index) ≤ layout.gutter + 1
-      → dropped ≡ width_of (dropped_part (bounds_of margin).left text)
+  pub whole_line_added : dropped ≡ width_of (dropped_part (bounds_of margin).left text)
       → All (λ e. is_bar e.annotation_type ≡ false → dropped ≤ e.start.display) info.annotations.items
       → is_whole_line text info.annotations.items ≡ true → tops ≡ ends_of_bars info.annotations.items
       → past ≡ bars_apart open_bars (ends_of_bars info.annotations.items) → AddsLine layout margin numbers closes open_bars info old new
-  whole_line_added short dropped_is clear whole tops_are past_are =
+  whole_line_added dropped_is clear whole tops_are past_are =
       let es = info.annotations.items in
-      let long : length high ≡ row + 1 = omega (arith, last, length_push old bright) in
-      let count : length high ≡ length bare = omega (arith, length_push old bright, length_push old plain, ap length source.added) in
-      let topped = DrawsBars-barred layout Top tops row high done tops_room done_is in
-      line_added layout margin numbers closes open_bars past info dropped old bare high done new row short source last dropped_is clear highlights others
-      count
-      (λ above cells is free. whole_added layout text margin.term_width dropped closes es above cells high done row whole long topped is free)
-      (DrawsBars-barred layout Solid past row done new past_room new_barred)
-      (λ above cells is. own_whole layout margin.term_width closes text dropped es above cells high done row whole is
-      (omega (arith, long, ap length is, length_push above cells))
-      (done_is ∙ ap (λ bars. barred layout Top bars row high) tops_are))
-      past_are new_barred
+      record {
+        rows = with_bars layout Solid (bars_apart open_bars (ends_of_bars es)) (with_bars layout Top (ends_of_bars es) bright) ∷ [];
+        added = new_is ∙ ap (λ bars. old ++ with_bars layout Solid bars (with_bars layout Top tops bright) ∷ []) past_are
+            ∙ ap (λ bars. old ++ with_bars layout Solid (bars_apart open_bars (ends_of_bars es)) (with_bars layout Top bars bright) ∷ []) tops_are;
+        shown = record {
+          plain = plain;
+          shows = source.is;
+          dropped = dropped;
+          dropped_is = dropped_is;
+          clear = clear;
+          highlighted = bright;
+          highlights = IsHighlighted-row layout.code dropped own plain;
+          drawn = record { own = _; are = own_whole layout margin.term_width closes text dropped es bright whole; rows_are = refl };
+        };
+      }

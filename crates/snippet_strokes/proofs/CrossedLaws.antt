@@ -23,7 +23,8 @@ use Rattle.snippet_strokes.specs.Bars.{Bar, bars_apart, ends_of_bars, has_depth,
 use Rattle.snippet_strokes.specs.Drawing.{row_count}
 use Rattle.snippet_strokes.specs.EndBars.{IsNoBar}
 use Rattle.snippet_strokes.specs.LineRows.{AreLineRows, AreOwnRows}
-use Rattle.snippet_strokes.specs.Reach.{Reaches, cell_of_write}
+use Rattle.snippet_strokes.proofs.LineRowLemmas.{rows_cut}
+use Rattle.snippet_strokes.proofs.Reach.{Reaches, cell_of_write}
 use Rattle.snippet_strokes.specs.Strokes.{StrokesPainted, begun_rows, connector_of, connectors_of, corner_of, corners_of, labels_of, stems_of, line_strokes}
 use Rattle.snippet_strokes.proofs.BarWrites.{All-connector_of, All-stretch_of}
 use Rattle.snippet_strokes.proofs.EntryBarLaws.{is_at, labels_right, marks_right, part_leaves, stems_right}
@@ -123,8 +124,9 @@ module _ (layout : Layout) (depth : ℕ) (some : 0 < depth) (room : layout.gutte
         (All-map Other (shifted dropped) es (none_has depth es others)) in
         let clear = strokes_clear (row_count placed + 1) placed (painting_order placed) begun r none
         (spaces_in begun (begun_spaces closes (row_count placed) source blank) r) in
-        subst NoBar (sym (ap at drawn.cut.new_is ∙ uncut r drawn.top drawn.marks drawn.cut.source_now drawn.cut.marks_now drawn.lower drawn.cut.source_cut.left
-        drawn.cut.marks_cut.left ∙ ap at drawn.painted_are)) clear
+        let cut = rows_cut layout width closes (map (shifted dropped) es) source rows drawn in
+        subst NoBar (sym (ap at cut.new_is ∙ uncut r drawn.top drawn.marks cut.source_now cut.marks_now drawn.lower cut.source_cut.left
+        cut.marks_cut.left ∙ ap at drawn.painted_are)) clear
       where
         uncut : (i : ℕ) (top marks top_now marks_now : List Cell) (lower : List (List Cell)) → take layout.code top_now ≡ take layout.code top
             → take layout.code marks_now ≡ take layout.code marks

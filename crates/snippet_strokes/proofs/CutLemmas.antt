@@ -23,8 +23,8 @@ use Rattle.snippet_grid.specs.Layout.{Layout}
 use Rattle.snippet_labels.specs.declared.positions.PlacedEntry.{PlacedEntry}
 use Rattle.snippet_model.specs.FreeRows.{IsFreeCell}
 use Rattle.snippet_strokes.specs.Cuts.{Stretch, cut_of, cut_row, cut_rows, cuts_of, is_wide_at, middle_of}
-use Rattle.snippet_strokes.specs.EntryMarks.{wide_entries}
-use Rattle.snippet_strokes.specs.StrokeRows.{IsCut, CutsRows}
+use Rattle.snippet_strokes.proofs.PlainEntries.{wide_entries}
+use Rattle.snippet_strokes.proofs.SeenRows.{IsCut}
 use Rattle.snippet_strokes.proofs.CellLemmas.{free_placeholder}
 use Rattle.snippet_grid.proofs.RowLemmas.{row_text-text_cells}
 
@@ -242,18 +242,3 @@ IsCut-cuts layout room (e ∷ es) (flag ∷ flags) row =
         IsCut-replaced layout cut.from cut.to row (omega arith)
     one true true = IsCut-none layout 1 row
     one false flag = IsCut-none layout 0 row
-
--- so are the two rows of a line that are cut
-pub CutsRows-cuts : (layout : Layout) (room row : ℕ) (placed : List PlacedEntry) (flags : List Bool) (above : List (List Cell))
-    (source marks : List Cell) (below : List (List Cell)) → length above ≡ row
-    → CutsRows layout (wide_entries room layout.decor (map (λ (e : PlacedEntry). e.entry) placed)) above source marks below
-    (cut_rows layout.decor row (cuts_of layout room placed flags) (above ++ source ∷ marks ∷ below))
-CutsRows-cuts layout room row placed flags above source marks below here =
-    let change : List Cell → List Cell = cut_row layout.decor (cuts_of layout room placed flags) in
-    record {
-      source_now = change source;
-      marks_now = change marks;
-      new_is = cut_rows-here layout row (cuts_of layout room placed flags) above source marks below here;
-      source_cut = IsCut-cuts layout room placed flags source;
-      marks_cut = IsCut-cuts layout room placed flags marks;
-    }

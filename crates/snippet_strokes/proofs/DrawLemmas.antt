@@ -17,7 +17,7 @@ use Rattle.snippet_text.specs.Normalized.{is_listed}
 use Rattle.snippet_grid.specs.Layout.{Layout}
 use Rattle.snippet_strokes.specs.EntryMarks.{IsBarCell}
 use Rattle.snippet_model.specs.FreeRows.{IsFreeCell}
-use Rattle.snippet_strokes.specs.Drawing.{DrawsFrom, KeepsBarCells, DrawsBarCells}
+use Rattle.snippet_strokes.proofs.DrawnCells.{DrawsFrom, KeepsBarCells, DrawsBarCells}
 use Rattle.snippet_model.proofs.RowLemmas.{each_fails}
 
 -- nothing is drawn yet

@@ -1,25 +1,23 @@
 -- The row that stands for lines that are left out.
-use Rattle.std.proofs.Common.{◌≡◌, ℕ, ◌+◌, ◌<◌, ◌≤◌, ◌∷◌, ◌++◌, [], List, length, take, drop, replicate, get_or, refl, sym, ap, ◌∙◌, subst, arith}
-use Rattle.std.proofs.lemmas.List.{places, same_lists, drop_all, drop_more, ext_get_or, get_or_append_left, get_or_past, get_or_push, get_or-take}
-use Rattle.std.proofs.lemmas.List.{length-take-le, length_push}
+use Rattle.std.proofs.Common.{◌≡◌, ℕ, ◌+◌, ◌<◌, ◌≤◌, ◌∷◌, ◌++◌, [], List, length, replicate, get_or, All, refl, ap, ◌∙◌, arith}
+use Rattle.std.proofs.lemmas.List.{get_or_past}
 use Rattle.snippet_model.proofs.RowLemmas.{each_fails}
 use Rattle.snippet_style.proofs.CellLemmas.{length-text_cells}
 use Rattle.snippet_style.specs.declared.glyphs.DecorStyle.{DecorStyle}
 use Rattle.snippet_style.specs.declared.glyphs.DecorStyle.TheVariants.{Ascii, Unicode}
 use Rattle.snippet_style.specs.declared.role.ElementStyle.TheVariants.{LineNumber}
 use Rattle.snippet_style.specs.Glyphs.{elision_of}
-use Rattle.snippet_grid.specs.Grid.{row_at}
 use Rattle.snippet_style.specs.Cell.{Cell, SPACE, text_cells}
 use Rattle.snippet_text.specs.Normalized.{is_listed}
 use Rattle.snippet_grid.specs.Layout.{Layout}
 use Rattle.snippet_strokes.specs.declared.bars.OpenBar.{OpenBar}
 use Rattle.snippet_strokes.specs.declared.bars.BarStroke.TheVariants.{Dotted}
-use Rattle.snippet_strokes.specs.Bars.{BarsDrawn, DrawsBars, barred}
+use Rattle.snippet_strokes.specs.Bars.{HasBarRoom, barred}
 use Rattle.snippet_strokes.specs.Snippet.{AddsElision, gap_row}
 use Rattle.snippet_strokes.proofs.BarRows.{barred-below}
 use Rattle.snippet_model.specs.FreeRows.{IsFree}
-use Rattle.snippet_strokes.specs.StrokeRows.{bare_elision_row}
-use Rattle.snippet_strokes.proofs.BarLemmas.{bar_space}
+use Rattle.snippet_strokes.specs.StrokeRows.{IsElisionRow, bare_elision_row}
+use Rattle.snippet_strokes.proofs.BarLemmas.{BarsDrawn-with_bars, bar_space}
 use Rattle.snippet_strokes.proofs.RowLemmas.{free_led, length-led}
 use Rattle.snippet_model.proofs.RowLemmas.{free_drawn}
 
@@ -50,36 +48,29 @@ free_bare_elision Ascii gutter = free_drawn LineNumber (elision_of Ascii) (each_
 free_bare_elision Unicode gutter = free_led (gutter + 1) (elision_of Unicode) (each_fails is_listed (elision_of Unicode) refl)
 
 -- the row with its bars
-pub elision_added : (layout : Layout) (open_bars : List OpenBar) (old begun new : List (List Cell)) (row : ℕ) → row ≡ length old
-    → layout.gutter + 3 ≤ layout.code → begun ≡ old ++ bare_elision_row layout.decor layout.gutter ∷ [] → DrawsBars layout row begun new
-    → new ≡ barred layout Dotted open_bars row begun → AddsElision layout open_bars old new
-elision_added layout open_bars old begun new row last place begins draws value =
+pub gap_drawn : (layout : Layout) (open_bars : List OpenBar) → layout.gutter + 3 ≤ layout.code → All (HasBarRoom layout) open_bars
+    → IsElisionRow layout (gap_row layout open_bars)
+gap_drawn layout open_bars place room =
     let bare = bare_elision_row layout.decor layout.gutter in
-    let is_bare : row_at begun row ≡ bare = ap (λ rs. row_at rs row) begins ∙ get_or_push old bare [] row (sym last) in
-    let drawn : BarsDrawn layout bare (row_at new row) = subst (λ cells. BarsDrawn layout cells (row_at new row)) is_bare (draws.rows row) in
+    let drawn = BarsDrawn-with_bars layout Dotted open_bars bare room in
     let few = bare_elision_short layout.decor layout.gutter in
-    let all : length new ≡ row + 1 = omega (arith, draws.count, ap length begins, length_push old bare, last) in
-    let short : length (take row new) ≡ row = length-take-le row new (omega (arith, all)) in
-    let top : take row new ≡ old = ext_get_or [] (take row new) old (short ∙ last) (λ k within.
-    let inside : k < row = omega (arith, within, short) in
-    get_or-take row new k [] inside ∙ draws.above k inside ∙ ap (λ rs. get_or rs k []) begins
-    ∙ get_or_append_left old (bare ∷ []) [] k (omega (arith, inside, last))) in
     record {
-      row = row_at new row;
-      added = split new row ∙ ap (λ rs. rs ++ drop row new) top ∙ ap (λ rs.
-          old ++ rs) (drop_more new row [] (omega (arith, all)) ∙ ap (λ rs. row_at new row ∷ rs) (drop_all (row + 1) new (omega (arith, all))));
-      is = record {
-        left = drawn.left;
-        bar_cells = λ c from to. drawn.bar_cells c (bar_space layout.decor (get_or bare c SPACE)
-            (ap (λ (cell : Cell). cell.ch) (get_or_past bare c SPACE (omega (arith, few, from))))
-            (ap (λ (cell : Cell). cell.link) (get_or_past bare c SPACE (omega (arith, few, from)))));
-        ends = omega (arith, drawn.short, few, place);
-        free = drawn.free (free_bare_elision layout.decor layout.gutter);
-      };
-      row_is = ap (λ rs. row_at rs row) (value ∙ ap (λ r. barred layout Dotted open_bars r begun) last
-          ∙ ap (barred layout Dotted open_bars (length old)) begins ∙ barred-below layout Dotted open_bars old (bare ∷ []))
-          ∙ get_or_push old (gap_row layout open_bars) [] row (sym last);
+      left = drawn.left;
+      bar_cells = λ c from to. drawn.bar_cells c (bar_space layout.decor (get_or bare c SPACE)
+          (ap (λ (cell : Cell). cell.ch) (get_or_past bare c SPACE (omega (arith, few, from))))
+          (ap (λ (cell : Cell). cell.link) (get_or_past bare c SPACE (omega (arith, few, from)))));
+      ends = omega (arith, drawn.short, few, place);
+      free = drawn.free (free_bare_elision layout.decor layout.gutter);
     }
-  where
-    split : (xs : List (List Cell)) (n : ℕ) → xs ≡ take n xs ++ drop n xs
-    split xs n = same_lists _ _ (grind (arith, places)) (λ k d h. grind (arith, places))
+
+pub elision_added : (layout : Layout) (open_bars : List OpenBar) (old begun new : List (List Cell)) (row : ℕ) → row ≡ length old
+    → layout.gutter + 3 ≤ layout.code → begun ≡ old ++ bare_elision_row layout.decor layout.gutter ∷ [] → All (HasBarRoom layout) open_bars
+    → new ≡ barred layout Dotted open_bars row begun → AddsElision layout open_bars old new
+elision_added layout open_bars old begun new row last place begins room value =
+    record {
+      row = gap_row layout open_bars;
+      added = value ∙ ap (λ r. barred layout Dotted open_bars r begun) last ∙ ap (barred layout Dotted open_bars (length old)) begins
+          ∙ barred-below layout Dotted open_bars old (bare_elision_row layout.decor layout.gutter ∷ []);
+      is = gap_drawn layout open_bars place room;
+      row_is = refl;
+    }

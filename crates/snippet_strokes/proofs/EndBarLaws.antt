@@ -33,6 +33,7 @@ use Rattle.snippet_strokes.specs.EndBars.{BarBegins, BarEnds, BeginsBelow, dotte
 use Rattle.snippet_strokes.specs.LineRows.{AreLineRows}
 use Rattle.snippet_strokes.specs.Strokes.{StrokesPainted, begun_rows, corner_by}
 use Rattle.snippet_strokes.specs.Strokes.{line_strokes}
+use Rattle.snippet_strokes.proofs.LineRowLemmas.{rows_cut}
 use Rattle.snippet_strokes.proofs.AmongLaws.{all_from_among, among_contains, contains_among, filter_map_cases}
 use Rattle.snippet_strokes.proofs.BarLaws.{bar_stands, drawn_beside}
 use Rattle.snippet_strokes.proofs.PositionLemmas.{HasRows-row_count}
@@ -113,8 +114,9 @@ module _ (layout : Layout) (bar : Bar) (room : layout.gutter + 2 + bar.depth < l
           (begun_rows layout closes (row_count drawn.placed) source)) r (layout.gutter + 2 + bar.depth)
       cut r =
           let at : List (List Cell) → Cell = λ all. cell_at all r (layout.gutter + 2 + bar.depth) in
-          ap at drawn.cut.new_is ∙ uncut r drawn.top drawn.marks drawn.cut.source_now drawn.cut.marks_now drawn.lower drawn.cut.source_cut.left
-          drawn.cut.marks_cut.left ∙ ap at drawn.painted_are
+          let changed = rows_cut layout width closes (map (shifted dropped) es) source rows drawn in
+          ap at changed.new_is ∙ uncut r drawn.top drawn.marks changed.source_now changed.marks_now drawn.lower changed.source_cut.left
+          changed.marks_cut.left ∙ ap at drawn.painted_are
 
   own_begins : (rows : List (List Cell)) → HasOwn (MultilineStart bar.depth) rows → cell_at rows 0 (layout.gutter + 2 + bar.depth) ≡ SPACE
       → BeginsBelow layout bar rows

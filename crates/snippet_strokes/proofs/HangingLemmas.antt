@@ -10,9 +10,8 @@ use Rattle.snippet_labels.specs.Positions.{takes_space}
 use Rattle.snippet_parts.specs.declared.entries.LineAnnotationType.{LineAnnotationType}
 use Rattle.snippet_parts.specs.declared.entries.LineAnnotationType.TheVariants.{Singleline, MultilineStart, MultilineEnd, MultilineLine}
 use Rattle.snippet_style.specs.Cell.{Cell}
-use Rattle.snippet_labels.specs.PlacedEntries.{HasPlace}
 use Rattle.snippet_strokes.specs.Drawing.{AreEnough, HasRows}
-use Rattle.snippet_strokes.specs.EntryMarks.{HasBarCell}
+use Rattle.snippet_strokes.specs.Drawable.{IsReady}
 use Rattle.snippet_strokes.proofs.BegunLemmas.{rows_begun}
 use Rattle.snippet_strokes.proofs.StemWrites.{DrawsFrom-stems}
 use Rattle.snippet_strokes.specs.Painting.{marks_of}
@@ -69,13 +68,11 @@ module _ (layout : Layout) (row count : ℕ) (placed : List PlacedEntry) (old st
       let there : All (HasRows (row + 1) (length begun)) placed = subst (λ n. All (HasRows (row + 1) n) placed) (sym long) rows in
       ap length drawn ∙ (DrawsFrom-stems layout (row + 1) 0 placed begun there (λ k d within. omega arith)).count ∙ long
 
-  pub stemmed_enough : All (λ e. HasPlace e.entry) placed → All (λ e. HasBarCell layout e.entry) placed → length stemmed ≤ 2 ^ 60
-      → AreEnough layout row (length stemmed) placed
-  stemmed_enough places bar_cells small =
+  pub stemmed_enough : All (IsReady layout) placed → length stemmed ≤ 2 ^ 60 → AreEnough layout row (length stemmed) placed
+  stemmed_enough ready small =
       record {
         marks = omega (arith, stemmed_long, last, some);
         small = small;
         rows = subst (λ n. All (HasRows (row + 1) n) placed) (sym stemmed_long) rows;
-        places = places;
-        bar_cells = bar_cells;
+        ready = ready;
       }

@@ -18,7 +18,8 @@ use Rattle.std.proofs.lemmas.List.Folds.{list_all_at}
 use Rattle.std.proofs.lemmas.List.Sorted.{All-permutation}
 use Rattle.snippet_style.specs.Cell.{Cell, SPACE}
 use Rattle.snippet_grid.specs.Grid.{cell_at}
-use Rattle.snippet_strokes.specs.Painting.{AreMarked, IsPaintedAt, mark_end, StandsWhole}
+use Rattle.snippet_strokes.specs.Painting.{mark_end}
+use Rattle.snippet_strokes.proofs.PaintedMarks.{AreMarked, IsPaintedAt, StandsWhole}
 use Rattle.snippet_labels.proofs.PlacedLemmas.{length-positions}
 
 -- a position is no lower than the one reached, and so no lower than those before it

@@ -17,11 +17,12 @@ use Rattle.snippet_parts.specs.declared.entries.LineAnnotation.{LineAnnotation}
 use Rattle.snippet_grid.specs.Layout.{Layout}
 use Rattle.snippet_labels.specs.declared.positions.PlacedEntry.{PlacedEntry}
 use Rattle.snippet_labels.specs.PlacedEntries.{HasPlace, label_text}
-use Rattle.snippet_strokes.specs.Labels.{IsLedTo, IsStemCell, IsStrokeCell, LabelsStand, PlacedLabel, StandsIn, is_cell_of}
-use Rattle.snippet_strokes.specs.Painting.{StandsWhole}
+use Rattle.snippet_strokes.specs.Labels.{IsStemCell, IsStrokeCell}
+use Rattle.snippet_strokes.proofs.SeenLabels.{IsLedTo, LabelsStand, PlacedLabel, StandsIn, is_cell_of}
+use Rattle.snippet_strokes.proofs.PaintedMarks.{StandsWhole}
 use Rattle.snippet_labels.specs.Positions.{ArePlaced, HasItsLabel, has_label, label_place}
 use Rattle.snippet_strokes.specs.Strokes.{label_write}
-use Rattle.snippet_strokes.specs.Reach.{Reaches}
+use Rattle.snippet_strokes.proofs.Reach.{Reaches}
 use Rattle.snippet_strokes.proofs.StrokeCells.{BesideLabels}
 use Rattle.snippet_strokes.proofs.StemCells.{IsHung}
 use Rattle.snippet_strokes.proofs.LabelKept.{label_parts}

@@ -10,10 +10,11 @@ use Rattle.snippet_grid.specs.Layout.{Layout}
 use Rattle.snippet_labels.specs.declared.positions.PlacedEntry.{PlacedEntry}
 use Rattle.snippet_labels.specs.PlacedEntries.{HasPlace, label_role, label_text}
 use Rattle.snippet_strokes.specs.EntryMarks.{has_mark_role}
-use Rattle.snippet_strokes.specs.Drawing.{DrawsFrom, HasRows, MarksStarts, StandsFrom}
+use Rattle.snippet_strokes.specs.Drawing.{HasRows}
+use Rattle.snippet_strokes.proofs.DrawnCells.{DrawsFrom, MarksStarts, StandsFrom}
 use Rattle.snippet_labels.specs.Positions.{has_label}
 use Rattle.snippet_strokes.specs.Writes.{Write, painted}
-use Rattle.snippet_strokes.specs.Reach.{Reaches, IsWithin, cell_of_write}
+use Rattle.snippet_strokes.proofs.Reach.{Reaches, IsWithin, cell_of_write}
 use Rattle.snippet_strokes.specs.Strokes.{label_write, label_of, labels_of}
 use Rattle.snippet_strokes.proofs.PositionLemmas.{label_beside, label_column, label_stands}
 use Rattle.snippet_strokes.proofs.TextLemmas.{free_label_text}

@@ -15,15 +15,15 @@ use Rattle.snippet_grid.specs.Layout.{Layout}
 use Rattle.snippet_labels.specs.declared.positions.PlacedEntry.{PlacedEntry}
 use Rattle.snippet_strokes.specs.Bars.{barred, bars_apart, ends_of_bars, is_whole_line, with_bars}
 use Rattle.snippet_labels.specs.PlacedEntries.{shifted}
-use Rattle.snippet_strokes.specs.EntryMarks.{wide_entries}
-use Rattle.snippet_strokes.specs.LineRows.{AddsOwnRows, AreLineRows}
+use Rattle.snippet_strokes.proofs.PlainEntries.{wide_entries}
+use Rattle.snippet_strokes.specs.LineRows.{AddsOwnRows, AreOwnRows}
 use Rattle.snippet_strokes.specs.Painting.{painting_order}
 use Rattle.snippet_labels.specs.Positions.{ArePlaced}
 use Rattle.snippet_strokes.specs.Drawing.{row_count}
 use Rattle.snippet_strokes.specs.Cuts.{Stretch, cut_row, cut_rows, cuts_of, is_wide_at, overlapped}
-use Rattle.snippet_strokes.specs.StrokeRows.{IsCut}
+use Rattle.snippet_strokes.proofs.SeenRows.{CutsRows, IsCut}
 use Rattle.snippet_strokes.specs.SourceRows.{bare_row}
-use Rattle.snippet_strokes.specs.Strokes.{AddsPainted, begun_rows, line_strokes}
+use Rattle.snippet_strokes.specs.Strokes.{AddsPainted, StrokesPainted, begun_rows, line_strokes}
 use Rattle.snippet_strokes.specs.Writes.{Write, painted}
 use Rattle.snippet_strokes.proofs.PaintOrder.{IsPermutation-painting_order}
 use Rattle.snippet_strokes.proofs.BarRows.{barred-below}
@@ -47,10 +47,22 @@ two_more [] some = absurd (omega (arith, some))
 two_more (x ∷ []) some = absurd (omega (arith, some))
 two_more (x ∷ y ∷ rows) some = refl
 
--- what stands after the same rows is the same
-same_after : (front a b : List (List Cell)) → front ++ a ≡ front ++ b → a ≡ b
-same_after [] a b same = same
-same_after (x ∷ front) a b same = same_after front a b (cc same)
+-- of rows with the strokes of a line the first two are cut where entries are wide
+pub rows_cut : (layout : Layout) (room : ℕ) (closes : Bool) (es : List LineAnnotation) (source : List Cell) (rows : List (List Cell))
+    → (is : StrokesPainted layout room closes es source rows) → CutsRows layout (wide_entries room layout.decor es) is.top is.marks is.lower rows
+rows_cut layout room closes es source rows is =
+    let order = painting_order is.placed in
+    let change : List Cell → List Cell = cut_row layout.decor (cuts_of layout room order (overlapped is.placed)) in
+    let cut : (row : List Cell) → IsCut layout (wide_entries room layout.decor es) row (change row) = λ row.
+    subst (λ n. IsCut layout n row (change row)) (wide_entries-order room layout.decor es is.placed is.are)
+    (IsCut-cuts layout room order (overlapped is.placed) row) in
+    record {
+      source_now = change is.top;
+      marks_now = change is.marks;
+      new_is = is.rows_are;
+      source_cut = cut is.top;
+      marks_cut = cut is.marks;
+    }
 
 -- the strokes of a line, painted and then cut, are its rows
 module _ (layout : Layout) (room : ℕ) (closes : Bool) (es : List LineAnnotation) (placed : List PlacedEntry) (flags : List Bool) (above : List (List Cell))
@@ -120,9 +132,6 @@ module _ (layout : Layout) (room : ℕ) (closes : Bool) (es : List LineAnnotatio
       let of_parts = ap (cut_rows layout.decor row stretches) (new_below ∙ ap (λ rs. above ++ rs) parts) in
       let by_row : final ≡ above ++ change top ∷ change marks ∷ lower = of_stretches ∙ of_parts
       ∙ cut_rows-here layout row stretches above top marks lower (sym row_is) in
-      let is_cut : (row : List Cell) → IsCut layout (wide_entries room layout.decor es) row (change row) = λ row.
-      subst (λ n. IsCut layout n row (change row)) (wide_entries-order room layout.decor es placed are)
-      (IsCut-cuts layout room order (overlapped placed) row) in
       record {
         rows = change top ∷ change marks ∷ lower;
         added = by_row;
@@ -134,13 +143,6 @@ module _ (layout : Layout) (room : ℕ) (closes : Bool) (es : List LineAnnotatio
           lower = lower;
           painted_are = sym parts;
           rows_are = refl;
-          cut = record {
-            source_now = change top;
-            marks_now = change marks;
-            new_is = refl;
-            source_cut = is_cut top;
-            marks_cut = is_cut marks;
-          };
           count = few;
         };
       }
@@ -149,22 +151,14 @@ module _ (layout : Layout) (room : ℕ) (closes : Bool) (text : List ℕ) (dropp
   abbrev OwnRows : List LineAnnotation → List (List Cell) → List Cell → List (List Cell) → Type 0
   OwnRows es above source new = AddsOwnRows layout room closes text dropped es above source new
 
-  -- a line that is marked as a whole
-  pub own_whole : (es : List LineAnnotation) (above : List (List Cell)) (source : List Cell) (old new : List (List Cell)) (row : ℕ)
-      → is_whole_line text es ≡ true → old ≡ above ++ source ∷ [] → row ≡ length above → new ≡ barred layout Top (ends_of_bars es) row old
-      → OwnRows es above source new
-  own_whole es above source old new row whole old_is row_is new_is =
-      let bars : List OpenBar = ends_of_bars es in
-      let by_row = ap (λ r. barred layout Top bars r old) row_is in
-      let by_rows = ap (barred layout Top bars (length above)) old_is in
+  -- a line that is marked as a whole has one row
+  pub own_whole : (es : List LineAnnotation) (source : List Cell) → is_whole_line text es ≡ true
+      → AreOwnRows layout room closes text dropped es source (with_bars layout Top (ends_of_bars es) source ∷ [])
+  own_whole es source whole =
       record {
-        rows = with_bars layout Top bars source ∷ [];
-        added = new_is ∙ by_row ∙ by_rows ∙ barred-below layout Top bars above (source ∷ []);
-        are = record {
-          whole = λ _. refl;
-          none = λ empty. absurd (false≢true (sym (ap (is_whole_line text) empty) ∙ whole));
-          strokes = λ other _. absurd (false≢true (sym other ∙ whole));
-        };
+        whole = λ _. refl;
+        none = λ empty. absurd (false≢true (sym (ap (is_whole_line text) empty) ∙ whole));
+        strokes = λ other _. absurd (false≢true (sym other ∙ whole));
       }
 
   -- what stands below a line without entries
@@ -201,17 +195,12 @@ module _ (layout : Layout) (room : ℕ) (closes : Bool) (text : List ℕ) (dropp
       }
 
   -- bars that run past a line stand beside all its rows
-  pub line_rows : (open_bars bars : List OpenBar) (es : List LineAnnotation) (above : List (List Cell)) (source : List Cell)
-      (rows done new : List (List Cell)) (row : ℕ) → OwnRows es above source done → row ≡ length above → bars ≡ bars_apart open_bars (ends_of_bars es)
-      → new ≡ barred layout Solid bars row done → new ≡ above ++ rows → AreLineRows layout room closes text dropped open_bars es source rows
-  line_rows open_bars bars es above source rows done new row own row_is bars_are new_is added =
+  pub past_drawn : (open_bars bars : List OpenBar) (es : List LineAnnotation) (above : List (List Cell)) (source : List Cell)
+      (done new : List (List Cell)) (row : ℕ) → (own : OwnRows es above source done) → row ≡ length above → bars ≡ bars_apart open_bars (ends_of_bars es)
+      → new ≡ barred layout Solid bars row done → new ≡ above ++ map (with_bars layout Solid (bars_apart open_bars (ends_of_bars es))) own.rows
+  past_drawn open_bars bars es above source done new row own row_is bars_are new_is =
       let past : List OpenBar = bars_apart open_bars (ends_of_bars es) in
-      let below = barred-below layout Solid past above own.rows in
       let by_bars = ap (λ bs. barred layout Solid bs row done) bars_are in
       let by_row = ap (λ r. barred layout Solid past r done) row_is in
       let by_rows = ap (barred layout Solid past (length above)) own.added in
-      record {
-        own = own.rows;
-        are = own.are;
-        rows_are = same_after above rows (map (with_bars layout Solid past) own.rows) (sym added ∙ new_is ∙ by_bars ∙ by_row ∙ by_rows ∙ below);
-      }
+      new_is ∙ by_bars ∙ by_row ∙ by_rows ∙ barred-below layout Solid past above own.rows

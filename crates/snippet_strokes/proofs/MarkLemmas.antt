@@ -14,10 +14,11 @@ use Rattle.snippet_style.specs.Cell.{Cell}
 use Rattle.snippet_style.specs.declared.glyphs.DecorStyle.{DecorStyle}
 use Rattle.snippet_grid.specs.Layout.{Layout}
 use Rattle.snippet_labels.specs.declared.positions.PlacedEntry.{PlacedEntry}
-use Rattle.snippet_strokes.specs.EntryMarks.{EntryCovers, IsEntryMark, IsMarkCell}
+use Rattle.snippet_strokes.specs.EntryMarks.{IsMarkCell}
+use Rattle.snippet_strokes.proofs.PlainEntries.{EntryCovers, IsEntryMark}
 use Rattle.snippet_labels.specs.PlacedEntries.{entry_width}
 use Rattle.snippet_model.specs.AnnotationKind.{is_primary}
-use Rattle.snippet_strokes.specs.Painting.{CoversOver, AreMarked}
+use Rattle.snippet_strokes.proofs.PaintedMarks.{CoversOver, AreMarked}
 use Rattle.snippet_strokes.proofs.PlainMarks.{IsMarkCell-mark_cell, IsPlainEntry, covered_painted, painted_covered, spaceless}
 
 -- a kind that is drawn as primary is Primary

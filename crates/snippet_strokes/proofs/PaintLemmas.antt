@@ -14,7 +14,8 @@ use Rattle.snippet_text.specs.Normalized.{is_listed}
 use Rattle.snippet_grid.specs.Layout.{Layout}
 use Rattle.snippet_model.specs.AnnotationKind.{is_primary}
 use Rattle.snippet_model.specs.FreeRows.{IsFreeCell}
-use Rattle.snippet_strokes.specs.Painting.{IsPaintedAt, Paints, Painted, ShowsFrom, first_glyph, mark_cell, mark_end}
+use Rattle.snippet_strokes.specs.Painting.{first_glyph, mark_end}
+use Rattle.snippet_strokes.proofs.PaintedMarks.{IsPaintedAt, Paints, Painted, ShowsFrom, mark_cell}
 
 -- no cell is painted yet
 pub Paints-none : (rows : List (List Cell)) (row from : ℕ) (cell : ℕ → Cell) → Paints rows rows row from from cell

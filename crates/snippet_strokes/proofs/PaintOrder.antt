@@ -15,7 +15,8 @@ use Rattle.snippet_parts.specs.declared.entries.LineAnnotation.{LineAnnotation}
 use Rattle.snippet_labels.specs.declared.positions.PlacedEntry.{PlacedEntry}
 use Rattle.snippet_labels.specs.PlacedEntries.{entry_width}
 use Rattle.snippet_model.specs.AnnotationKind.{is_primary}
-use Rattle.snippet_strokes.specs.Painting.{CoversOver, IsPaintingOrder, is_painted_before, painting_order}
+use Rattle.snippet_strokes.specs.Painting.{is_painted_before, painting_order}
+use Rattle.snippet_strokes.proofs.PaintedMarks.{CoversOver, IsPaintingOrder}
 use Rattle.snippet_labels.proofs.OrderLemmas.{sorted_same, stable_same}
 
 -- the key that entries are sorted by

@@ -8,10 +8,9 @@ use Rattle.std.proofs.lemmas.List.Sorted.{length_permutation}
 use Rattle.snippet_parts.specs.declared.entries.LineAnnotation.{LineAnnotation}
 use Rattle.snippet_labels.specs.declared.positions.PlacedEntry.{PlacedEntry}
 use Rattle.snippet_labels.specs.PlacedEntries.{label_text}
-use Rattle.snippet_strokes.specs.Drawing.{row_count}
 use Rattle.snippet_labels.specs.Positions.{has_label, positions, line_positions, ArePlaced}
 use Rattle.snippet_labels.proofs.PlacedLemmas.{entries_all}
-use Rattle.snippet_strokes.proofs.PositionLemmas.{line_positions_low, of_positions, positions_sole, row_count_one}
+use Rattle.snippet_strokes.proofs.PositionLemmas.{line_positions_low, of_positions, positions_sole}
 use Rattle.snippet_strokes.proofs.BegunLemmas.{sole, sole_same}
 
 module _ (es : List LineAnnotation) (placed : List PlacedEntry) (is : ArePlaced es placed) where
@@ -42,13 +41,3 @@ module _ (es : List LineAnnotation) (placed : List PlacedEntry) (is : ArePlaced 
       (subst (All (λ q. q ≤ 0)) (sym (positions_sole q)) (All-cons (λ q. q ≤ 0) 0 [] (omega arith) (All-nil (λ q. q ≤ 0))))) in
       let first : q.position ≤ 0 = subst (All (λ (x : PlacedEntry). x.position ≤ 0)) found.1 at 0 q (omega arith) in
       (q, found.1, entry, omega (arith, first))
-
-  pub one_row : All (λ q. q ≤ 0) (positions 0 placed) → row_count placed ≡ 1
-  one_row zeros = row_count_one placed (highest zeros)
-
-  pub one_row_lone : length es ≡ 1 → row_count placed ≡ 1
-  one_row_lone one =
-      let e = sole es one in
-      let found = lone_placed e.0 e.1 in
-      one_row (subst (λ ps. All (λ q. q ≤ 0) (positions 0 ps)) (sym found.1)
-      (subst (All (λ q. q ≤ 0)) (sym (positions_sole found.0)) (All-cons (λ q. q ≤ 0) 0 [] (omega arith) (All-nil (λ q. q ≤ 0)))))

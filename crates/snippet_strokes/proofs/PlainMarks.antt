@@ -12,10 +12,12 @@ use Rattle.snippet_style.specs.declared.glyphs.DecorStyle.{DecorStyle}
 use Rattle.snippet_style.specs.Glyphs.{strokes_of, underline_role}
 use Rattle.snippet_style.specs.Cell.{unlinked_cell}
 use Rattle.snippet_grid.specs.Layout.{Layout}
-use Rattle.snippet_strokes.specs.EntryMarks.{EntryCovers, is_single, IsMarkCell}
+use Rattle.snippet_strokes.specs.EntryMarks.{IsMarkCell}
+use Rattle.snippet_strokes.proofs.PlainEntries.{EntryCovers, is_single}
 use Rattle.snippet_labels.specs.PlacedEntries.{is_end_part}
 use Rattle.snippet_model.specs.AnnotationKind.{is_primary}
-use Rattle.snippet_strokes.specs.Painting.{IsPaintedAt, mark_cell, mark_end}
+use Rattle.snippet_strokes.specs.Painting.{mark_end}
+use Rattle.snippet_strokes.proofs.PaintedMarks.{IsPaintedAt, mark_cell}
 
 -- a mark cell of an entry that stands for a whole span is one of its kind
 stroke_is : (decor : DecorStyle) (kind : AnnotationKind) (start stem : Bool)

@@ -1,55 +1,39 @@
 -- The rows of lines, one after another.
-use Rattle.std.proofs.Common.{◌≡◌, ◌≢◌, ℕ, ◌+◌, ◌-◌, ◌<◌, ◌≤◌, ◌==◌, ◌&&◌, true, false, Bool, None, List, [], ◌∷◌, ◌++◌, length, map, max, get_or, refl, sym}
+use Rattle.std.proofs.Common.{◌≡◌, ◌≢◌, ℕ, ◌+◌, ◌-◌, ◌<◌, ◌≤◌, ◌==◌, ◌&&◌, true, false, Bool, List, [], ◌∷◌, ◌++◌, length, map, max, get_or, refl, sym}
 use Rattle.std.proofs.Common.{ap, ◌∙◌, subst, arith, inl, inr, All, chars, drop}
 use Rattle.std.specs.Prelude.{filter, not, nat_le, nat_lt}
 use Rattle.std.specs.List.{slice_index_or, list_any}
-use Rattle.std.specs.Char.{is_ascii_alphanumeric}
-use Rattle.std.proofs.lemmas.Bool.{cases_eq, cases_lt, false≢true, and_left, and_right, lt-leb}
+use Rattle.std.proofs.lemmas.Bool.{cases_eq, cases_lt, and_left, and_right, lt-leb}
 use Rattle.std.proofs.lemmas.Bool.Decides.{nat_tests}
 use Rattle.std.proofs.lemmas.List.{append_assoc, append-nil, drop_all, drop_more, get_or_past, length_push, length-drop, get_or_push, get_or_append_left}
 use Rattle.std.proofs.lemmas.List.{get_or-map, length-map, ext_get_or}
 use Rattle.std.proofs.lemmas.List.Folds.{list_any_none}
-use Rattle.std.proofs.lemmas.List.Elements.{All-get_or, All-from_get_or, All-append, All-cons, All-nil, All-same}
 use Rattle.snippet_lines.specs.declared.number.LineNumbers.{LineNumbers}
 use Rattle.snippet_parts.specs.declared.entries.AnnotatedLineInfo.{AnnotatedLineInfo}
 use Rattle.snippet_parts.specs.declared.entries.LineAnnotation.{LineAnnotation}
 use Rattle.snippet_style.specs.declared.role.ElementStyle.{ElementStyle}
-use Rattle.snippet_style.specs.declared.role.ElementStyle.TheVariants.{LineNumber}
 use Rattle.snippet_grid.specs.Grid.{row_at}
-use Rattle.snippet_style.specs.Cell.{Cell, SPACE, gives_way, unlinked_cell}
+use Rattle.snippet_style.specs.Cell.{Cell, SPACE}
 use Rattle.snippet_grid.specs.Print.{row_text}
 use Rattle.snippet_text.specs.Normalized.{norm}
-use Rattle.snippet_model.specs.FreeRows.{IsFreeCell, HasNoNumber, IsFree}
 use Rattle.snippet_grid.specs.Layout.{Layout}
 use Rattle.snippet_window.specs.declared.margin.Margin.{Margin}
 use Rattle.snippet_window.specs.Margin.{bounds_of}
 use Rattle.snippet_window.specs.Window.{dropped_part}
-use Rattle.snippet_style.specs.Glyphs.{separator_of}
 use Rattle.snippet_text.specs.Width.{width_of}
 use Rattle.snippet_model.specs.AnnotationKind.{is_primary}
 use Rattle.snippet_window.specs.Measures.{StandsClear}
 use Rattle.snippet_parts.specs.Entries.{is_bar}
-use Rattle.snippet_strokes.specs.EntryMarks.{are_plain}
-use Rattle.snippet_labels.specs.PlacedEntries.{is_end_part, shifted}
+use Rattle.snippet_labels.specs.PlacedEntries.{is_end_part}
 use Rattle.snippet_strokes.specs.declared.bars.OpenBar.{OpenBar}
 use Rattle.snippet_strokes.specs.declared.bars.BarStroke.TheVariants.{Solid}
-use Rattle.snippet_strokes.specs.Bars.{DrawsBars, barred, bars_apart, ends_of_bars, open_below}
+use Rattle.snippet_strokes.specs.Bars.{barred, bars_apart, ends_of_bars, open_below, with_bars}
 use Rattle.snippet_strokes.specs.LineRows.{AddsOwnRows}
-use Rattle.snippet_strokes.proofs.LineRowLemmas.{line_rows}
-use Rattle.snippet_strokes.proofs.BarLemmas.{AddsStrokes-drawn, bar_space}
-use Rattle.snippet_strokes.proofs.WindowTextLemmas.{row_text-window_cells}
-use Rattle.snippet_strokes.proofs.WholeLemmas.{window_cells-whole}
+use Rattle.snippet_strokes.proofs.LineRowLemmas.{past_drawn}
 use Rattle.snippet_lines.specs.Number.{shown_number}
-use Rattle.snippet_strokes.specs.SourceRows.{window_cells, IsSourceRow, AddsSourceRow}
-use Rattle.snippet_strokes.specs.StrokeRows.{IsStrokeRow, HasNoBars, IsHighlighted, highlights, holds_character, role_in_source, AddsStrokes}
-use Rattle.snippet_strokes.proofs.RowLemmas.{bare_row_left}
+use Rattle.snippet_strokes.specs.SourceRows.{window_cells, AddsSourceRow}
+use Rattle.snippet_strokes.specs.StrokeRows.{IsHighlighted, highlights, holds_character, role_in_source}
 use Rattle.snippet_strokes.specs.Snippet.{ShowsLine, AreLinesShown, AddsGap, AddsLine, AddsSnippet, IsGap}
-
--- a row of strokes holds no number, since spaces stand left of its separator
-no_number : (layout : Layout) (plain : Bool) (es : List LineAnnotation) (closes : Bool) (row : List Cell) → IsStrokeRow layout plain es closes row
-    → HasNoNumber layout.gutter row
-no_number layout plain es closes row is c left =
-    ap (λ (cell : Cell). is_ascii_alphanumeric cell.ch) (is.left c (omega (arith, left)) ∙ bare_row_left layout.decor layout.gutter closes c left)
 
 -- a grid of which only the last row changed
 pub last_changed : (old begun new : List (List Cell)) (row : ℕ) (first : List Cell) → row ≡ length old → begun ≡ old ++ first ∷ [] → length new ≡ length begun
@@ -70,15 +54,7 @@ last_changed old begun new row first last begins count others =
 pub row_added : (old new : List (List Cell)) (row : List Cell) (r : ℕ) → r ≡ length old → new ≡ old ++ row ∷ [] → row_at new r ≡ row
 row_added old new row r last added = ap (λ rows. row_at rows r) added ∙ get_or_push old row [] r (sym last)
 
--- highlighting puts no other character into a row
-highlighted_free : (code dropped : ℕ) (es : List LineAnnotation) (plain row : List Cell) → IsHighlighted code dropped es plain row → IsFree plain → IsFree row
-highlighted_free code dropped es plain row is free =
-    let P : Cell → Type 0 = IsFreeCell in
-    All-from_get_or P row SPACE (λ c within.
-    let inside : c < length plain = omega (arith, is.width, within) in
-    subst P (sym (is.cells c inside)) (All-get_or P plain c SPACE inside free))
-
--- and it leaves the row's text as it was
+-- highlighting leaves the row's text as it was
 pub highlighted_text : (code dropped : ℕ) (es : List LineAnnotation) (plain row : List Cell) → IsHighlighted code dropped es plain row
     → row_text row ≡ row_text plain
 highlighted_text code dropped es plain row is =
@@ -116,44 +92,6 @@ highlighted_left code dropped es plain row is c left =
       | inr past ↦ get_or_past row c SPACE (omega (arith, past, is.width)) ∙ sym (get_or_past plain c SPACE past)
     ]
 
--- a cell in the role of line numbers is no space
-not_space : (role : ElementStyle) → gives_way role ≡ false → (ch : ℕ) → unlinked_cell role ch ≡ SPACE → ⊥
-not_space role keeps ch same =
-    false≢true (sym keeps ∙ ap (λ (cell : Cell). gives_way cell.role) same)
-
--- the source row of a line reaches to the separator, and spaces stand in the place of bars
-source_row_long : (layout : Layout) (shown : List ℕ) (cells row : List Cell) → IsSourceRow layout shown cells row → layout.gutter + 2 ≤ length row
-source_row_long layout shown cells row is =
-    elim (cases_lt (layout.gutter + 1) (length row)) [
-      | inl reaches ↦ omega (arith, reaches)
-      | inr short ↦ absurd (not_space LineNumber refl (separator_of layout.decor) (sym is.separator ∙ get_or_past row (layout.gutter + 1) SPACE short))
-    ]
-
--- highlighting changes roles alone
-highlighted_cell : (code dropped : ℕ) (es : List LineAnnotation) (plain row : List Cell) → IsHighlighted code dropped es plain row → (c : ℕ)
-    → slice_index_or plain c SPACE ≡ SPACE → ((slice_index_or row c SPACE).ch ≡ 32) × ((slice_index_or row c SPACE).link ≡ None)
-highlighted_cell code dropped es plain row is c space =
-    elim (cases_lt c (length plain)) [
-      | inl inside ↦ (
-        ap (λ (cell : Cell). cell.ch) (is.cells c inside) ∙ ap (λ (cell : Cell). cell.ch) space,
-        ap (λ (cell : Cell). cell.link) (is.cells c inside) ∙ ap (λ (cell : Cell). cell.link) space,
-      )
-      | inr past ↦
-          let outside : slice_index_or row c SPACE ≡ SPACE = get_or_past row c SPACE (omega (arith, past, is.width)) in (
-            ap (λ (cell : Cell). cell.ch) outside,
-            ap (λ (cell : Cell). cell.link) outside,
-          )
-    ]
-
-no_bars : (layout : Layout) (shown : List ℕ) (cells : List Cell) (dropped : ℕ) (es : List LineAnnotation) (plain row : List Cell)
-    → IsSourceRow layout shown cells plain → length shown ≤ layout.gutter + 1 → IsHighlighted layout.code dropped es plain row → HasNoBars layout row
-no_bars layout shown cells dropped es plain row source short is = (
-  omega (arith, is.width, source_row_long layout shown cells plain source),
-  λ c from to.
-      let cell = highlighted_cell layout.code dropped es plain row is c (source.blank c (omega (arith, short, from)) (λ same. omega (arith, same, from)) to) in
-      bar_space layout.decor (slice_index_or row c SPACE) cell.0 cell.1,
-)
-
 -- entries that stand after the padding stand after the columns that are dropped
 pub clear_entries : (margin : Margin) (dropped : ℕ) (es : List LineAnnotation) → All (StandsClear margin) es → dropped < (bounds_of margin).left + 4
     → ((bounds_of margin).left ≡ 0 → dropped ≡ 0) → All (λ e. is_bar e.annotation_type ≡ false → dropped ≤ e.start.display) es
@@ -166,59 +104,36 @@ clear_entries margin dropped es all near uncut k d within columns =
 -- a source row, what its entries highlight, the strokes below and beside it, and the bars that run past show a line
 pub line_added : (layout : Layout) (margin : Margin) (numbers : LineNumbers) (closes : Bool) (open_bars bars : List OpenBar)
     (info : AnnotatedLineInfo) (dropped : ℕ) (old mid high done new : List (List Cell)) (row : ℕ)
-    → length (shown_number numbers layout.gutter info.line_index) ≤ layout.gutter + 1
     → AddsSourceRow layout (shown_number numbers layout.gutter info.line_index) (window_cells layout.decor margin (norm (chars info.line.now)))
     old mid → row ≡ length old → dropped ≡ width_of (dropped_part (bounds_of margin).left (norm (chars info.line.now)))
     → All (λ e. is_bar e.annotation_type ≡ false → dropped ≤ e.start.display) info.annotations.items
     → IsHighlighted layout.code dropped (filter (λ e. not (is_end_part e.annotation_type)) info.annotations.items) (row_at mid row) (row_at high row)
     → ((r : ℕ) → r ≢ row → row_at high r ≡ row_at mid r) → length high ≡ length mid
-    → ((above : List (List Cell)) (plain : List Cell) → high ≡ above ++ plain ∷ [] → HasNoBars layout plain
-    → AddsStrokes layout margin.term_width (map (shifted dropped) info.annotations.items) closes above plain done)
-    → DrawsBars layout row done new
     → ((above : List (List Cell)) (bright : List Cell) → high ≡ above ++ bright ∷ []
     → AddsOwnRows layout margin.term_width closes (norm (chars info.line.now)) dropped info.annotations.items above bright done)
     → bars ≡ bars_apart open_bars (ends_of_bars info.annotations.items) → new ≡ barred layout Solid bars row done
     → AddsLine layout margin numbers closes open_bars info old new
-line_added layout margin numbers closes open_bars bars info dropped old mid high done new row short source last dropped_is clear highlights others count
-    strokes draws own bars_are value =
-    let shown = shown_number numbers layout.gutter info.line_index in
+line_added layout margin numbers closes open_bars bars info dropped old mid high done new row source last dropped_is clear highlights others count drawn
+    bars_are value =
     let text = norm (chars info.line.now) in
-    let cells = window_cells layout.decor margin text in
-    let es = filter (λ (e : LineAnnotation). not (is_end_part e.annotation_type)) info.annotations.items in
-    let entries = map (shifted dropped) info.annotations.items in
+    let es = info.annotations.items in
+    let asking = filter (λ (e : LineAnnotation). not (is_end_part e.annotation_type)) es in
     let bright = row_at high row in
     let first : row_at mid row ≡ source.row = row_added old mid source.row row last source.added in
-    let is : IsHighlighted layout.code dropped es source.row bright = subst (λ plain. IsHighlighted layout.code dropped es plain bright) first highlights in
     let top : high ≡ old ++ bright ∷ [] = last_changed old mid high row source.row last source.added count others in
-    let bare : HasNoBars layout bright = no_bars layout shown cells dropped es source.row bright source.is short is in
-    let adds : AddsStrokes layout margin.term_width entries closes old bright new = AddsStrokes-drawn layout margin.term_width entries closes old bright done
-    new row last bare.0 (strokes old bright top bare) draws in
-    let below = adds.rows in
-    let plain : Bool = are_plain margin.term_width layout.decor entries in
-    let free_below : All IsFree below = All-from_get_or IsFree below [] (λ k within. (adds.are.are k within).free) in
+    let own = drawn old bright top in
     record {
-      rows = adds.source ∷ below;
-      added = adds.added;
+      rows = map (with_bars layout Solid (bars_apart open_bars (ends_of_bars es))) own.rows;
+      added = past_drawn layout margin.term_width closes text dropped open_bars bars es old bright done new row own last bars_are value;
       shown = record {
-        source = adds.source;
-        below = below;
-        rows_are = refl;
         plain = source.row;
         shows = source.is;
-        text = ap row_text source.is.shows.code ∙ row_text-window_cells layout.decor margin text;
-        whole = λ uncut fits. source.is.shows.code ∙ window_cells-whole layout.decor margin text uncut fits;
         dropped = dropped;
         dropped_is = dropped_is;
         clear = clear;
         highlighted = bright;
-        highlights = is;
-        beside = adds.beside;
-        strokes = adds.are;
-        unnumbered = All-from_get_or (HasNoNumber layout.gutter) below [] (λ k within.
-            no_number layout plain entries (closes && k + 1 == length below) (row_at below k) (adds.are.are k within));
-        free = All-cons IsFree adds.source below (adds.beside.free (highlighted_free layout.code dropped es source.row bright is source.is.free)) free_below;
-        drawn = line_rows layout margin.term_width closes text dropped open_bars bars info.annotations.items old bright (adds.source ∷ below) done new row
-            (own old bright top) last bars_are value adds.added;
+        highlights = subst (λ plain. IsHighlighted layout.code dropped asking plain bright) first highlights;
+        drawn = record { own = own.rows; are = own.are; rows_are = refl };
       };
     }
 
@@ -291,22 +206,3 @@ AddsSnippet-from_lines layout margin numbers closes infos i open_bars old new al
       added = done.added;
       shown = subst (λ rs. AreLinesShown layout margin numbers closes [] infos rs) (append-nil done.rows) shown;
     }
-
--- the row for lines that are left out holds no listed character
-free_gap : (layout : Layout) (open_bars : List OpenBar) (number : ℕ) (infos : List AnnotatedLineInfo) (rows : List (List Cell))
-    → IsGap layout open_bars number infos rows → All IsFree rows
-free_gap layout open_bars number [] rows none = All-same IsFree rows [] none (All-nil IsFree)
-free_gap layout open_bars number (next ∷ infos) rows (inl gap) =
-    All-same IsFree rows (gap.1 ∷ []) gap.2 (All-cons IsFree gap.1 [] gap.3.free (All-nil IsFree))
-free_gap layout open_bars number (next ∷ infos) rows (inr near) = All-same IsFree rows [] near.1 (All-nil IsFree)
-
--- no row of the lines holds a listed character
-pub free_from_AreLinesShown : (layout : Layout) (margin : Margin) (numbers : LineNumbers) (closes : Bool) (open_bars : List OpenBar)
-    (infos : List AnnotatedLineInfo) (rows : List (List Cell)) → AreLinesShown layout margin numbers closes open_bars infos rows → All IsFree rows
-free_from_AreLinesShown layout margin numbers closes open_bars [] rows none = All-same IsFree rows [] none (All-nil IsFree)
-free_from_AreLinesShown layout margin numbers closes open_bars (info ∷ infos) rows shown =
-    All-same IsFree rows (shown.0 ++ shown.1 ++ shown.2)
-    shown.3 (All-append IsFree (shown.0 ++ shown.1)
-    shown.2 (All-append IsFree shown.0 shown.1 shown.4.free
-    (free_gap layout (open_below open_bars info.annotations.items) info.line_index infos shown.1 shown.5))
-    (free_from_AreLinesShown layout margin numbers closes (open_below open_bars info.annotations.items) infos shown.2 shown.6))

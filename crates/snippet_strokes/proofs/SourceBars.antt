@@ -12,8 +12,8 @@ use Rattle.snippet_style.specs.Cell.{Cell, SPACE}
 use Rattle.snippet_grid.specs.Layout.{Layout}
 use Rattle.snippet_strokes.specs.EntryMarks.{IsBarCell}
 use Rattle.snippet_model.specs.FreeRows.{IsFreeCell, IsFree}
-use Rattle.snippet_strokes.specs.Drawing.{DrawsBarCells}
-use Rattle.snippet_strokes.specs.StrokeRows.{IsBeside, IsCut, HasNoBars}
+use Rattle.snippet_strokes.proofs.DrawnCells.{DrawsBarCells}
+use Rattle.snippet_strokes.proofs.SeenRows.{HasNoBars, IsBeside, IsCut}
 use Rattle.snippet_strokes.proofs.BegunLemmas.{free_cell, cut_left}
 use Rattle.snippet_strokes.proofs.BegunLemmas.{same_front}
 

@@ -23,7 +23,8 @@ use Rattle.snippet_strokes.specs.Bars.{Bar, HasOwnDepth, bar_at, bar_of, bars_ap
 use Rattle.snippet_strokes.specs.Drawing.{row_count}
 use Rattle.snippet_strokes.specs.EndBars.{BarBegins}
 use Rattle.snippet_strokes.specs.LineRows.{AreLineRows, AreOwnRows}
-use Rattle.snippet_strokes.specs.Reach.{Reaches}
+use Rattle.snippet_strokes.proofs.LineRowLemmas.{rows_cut}
+use Rattle.snippet_strokes.proofs.Reach.{Reaches}
 use Rattle.snippet_strokes.specs.StrokeRows.{bare_elision_row}
 use Rattle.snippet_strokes.specs.Snippet.{gap_row}
 use Rattle.snippet_strokes.specs.Strokes.{StrokesPainted, begun_rows, column_of, connector_of, connectors_of, corner_by, corner_of, corners_of, labels_of}
@@ -120,7 +121,8 @@ module _ (layout : Layout) (depth : ℕ) (room : layout.gutter + 2 + depth < lay
       let at : List (List Cell) → Cell = λ all. cell_at all 0 cell in
       let none_placed : All (λ (e : PlacedEntry). IsNoEnd e.entry) placed = entries_all IsNoEnd (map (shifted dropped) es) placed drawn.are.same
       (All-map IsNoEnd (shifted dropped) es none) in
-      ap at drawn.cut.new_is ∙ left_same layout.code cell drawn.cut.source_now drawn.top room drawn.cut.source_cut.left ∙ ap at drawn.painted_are
+      let cut = rows_cut layout width closes (map (shifted dropped) es) source rows drawn in
+      ap at cut.new_is ∙ left_same layout.code cell cut.source_now drawn.top room cut.source_cut.left ∙ ap at drawn.painted_are
       ∙ untouched (row_count placed + 1) placed (painting_order placed) begun none_placed
 
   module _ (width : ℕ) (closes : Bool) (text : List ℕ) (dropped : ℕ) (es : List LineAnnotation) (source : List Cell)

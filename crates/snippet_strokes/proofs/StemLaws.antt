@@ -11,7 +11,7 @@ use Rattle.snippet_parts.specs.declared.entries.LineAnnotation.{LineAnnotation}
 use Rattle.snippet_grid.specs.Layout.{Layout}
 use Rattle.snippet_labels.specs.PlacedEntries.{label_role, label_text}
 use Rattle.snippet_strokes.specs.EntryMarks.{has_mark_role}
-use Rattle.snippet_strokes.specs.Labels.{LabelsStand, PlacedLabel, StandsIn, is_cell_of}
+use Rattle.snippet_strokes.proofs.SeenLabels.{LabelsStand, PlacedLabel, StandsIn, is_cell_of}
 use Rattle.snippet_strokes.proofs.LabelPlaces.{none_pass}
 
 -- no cell of a label is a space between other parts

@@ -11,10 +11,11 @@ use Rattle.snippet_grid.specs.Layout.{Layout}
 use Rattle.snippet_labels.specs.declared.positions.PlacedEntry.{PlacedEntry}
 use Rattle.snippet_strokes.specs.EntryMarks.{has_mark_role}
 use Rattle.snippet_model.specs.AnnotationKind.{is_primary}
-use Rattle.snippet_strokes.specs.Drawing.{DrawsFrom, HasRows, MarksStarts, StandsFrom, foot_glyph}
+use Rattle.snippet_strokes.specs.Drawing.{HasRows, foot_glyph}
+use Rattle.snippet_strokes.proofs.DrawnCells.{DrawsFrom, MarksStarts, StandsFrom}
 use Rattle.snippet_labels.specs.Positions.{has_label, has_stem}
 use Rattle.snippet_strokes.specs.Writes.{Write, painted}
-use Rattle.snippet_strokes.specs.Reach.{Reaches, IsWithin, cell_of_write}
+use Rattle.snippet_strokes.proofs.Reach.{Reaches, IsWithin, cell_of_write}
 use Rattle.snippet_strokes.specs.Strokes.{is_stem_covered, stem_write, stem_of, stems_of}
 use Rattle.snippet_strokes.proofs.MarkStrokeLemmas.{free_strokes}
 use Rattle.snippet_strokes.proofs.StrokeGlyphs.{of_foot}

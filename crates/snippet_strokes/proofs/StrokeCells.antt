@@ -18,7 +18,7 @@ use Rattle.snippet_strokes.specs.Labels.{IsStrokeCell, stroke_glyphs}
 use Rattle.snippet_strokes.specs.Painting.{first_glyph, mark_end, mark_of, marks_of, stroke_role}
 use Rattle.snippet_strokes.specs.Drawing.{foot_glyph}
 use Rattle.snippet_labels.specs.Positions.{has_label}
-use Rattle.snippet_strokes.specs.Reach.{Reaches, cell_of_write}
+use Rattle.snippet_strokes.proofs.Reach.{Reaches, cell_of_write}
 use Rattle.snippet_strokes.specs.Writes.{Write, glyph_at, painted, stretch_of}
 use Rattle.snippet_strokes.specs.Strokes.{bar_writes, connector_of, connectors_of, corner_by, corner_of, corners_of, label_of, label_write, labels_of, stems_of}
 use Rattle.snippet_strokes.specs.Strokes.{line_strokes, stem_of}

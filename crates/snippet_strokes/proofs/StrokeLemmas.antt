@@ -7,7 +7,7 @@ use Rattle.std.specs.Cow.{cow_str_bytes}
 use Rattle.std.proofs.lemmas.Bool.{cases_lt}
 use Rattle.std.proofs.lemmas.Bool.Decides.{nat_tests}
 use Rattle.std.proofs.lemmas.List.{length-append, length-replicate, length-drop, get_or_append_left, get_or_past, get_or_push, length_push}
-use Rattle.std.proofs.lemmas.List.{get_or-drop, drop_more}
+use Rattle.std.proofs.lemmas.List.{get_or-drop}
 use Rattle.std.proofs.lemmas.List.Elements.{All-from_get_or, All-nil, All-cons}
 use Rattle.std.proofs.lemmas.List.Sorted.{IsPermutation-map, IsPermutation-trans, length_permutation}
 use Rattle.snippet_parts.specs.declared.entries.LineAnnotation.{LineAnnotation}
@@ -17,16 +17,18 @@ use Rattle.snippet_grid.proofs.GridLemmas.{row_at-cells_written_same}
 use Rattle.snippet_style.proofs.CellLemmas.{length-written}
 use Rattle.snippet_grid.specs.Layout.{Layout}
 use Rattle.snippet_labels.specs.declared.positions.PlacedEntry.{PlacedEntry}
-use Rattle.snippet_strokes.specs.EntryMarks.{EntryCovers, HasBarCell, IsBarCell, are_plain, is_single, has_mark_role, wide_entries}
+use Rattle.snippet_strokes.specs.EntryMarks.{HasBarCell, IsBarCell, has_mark_role}
+use Rattle.snippet_strokes.proofs.PlainEntries.{EntryCovers, are_plain, is_single, wide_entries}
 use Rattle.snippet_labels.specs.PlacedEntries.{HasPlace, label_text, label_role}
 use Rattle.snippet_model.specs.FreeRows.{IsFreeCell}
-use Rattle.snippet_strokes.specs.Painting.{IsPaintedAt, AreMarked, mark_end, marks_of, painting_order, StandsWhole}
+use Rattle.snippet_strokes.specs.Painting.{mark_end, marks_of, painting_order}
+use Rattle.snippet_strokes.proofs.PaintedMarks.{IsPaintedAt, AreMarked, StandsWhole}
 use Rattle.snippet_strokes.specs.Writes.{painted}
-use Rattle.snippet_strokes.specs.Drawing.{DrawsFrom, DrawsBarCells, HasRows, KeepsBarCells, MarksStarts, StandsFrom, row_count}
+use Rattle.snippet_strokes.specs.Drawing.{HasRows, row_count}
+use Rattle.snippet_strokes.proofs.DrawnCells.{DrawsFrom, DrawsBarCells, KeepsBarCells, MarksStarts, StandsFrom}
 use Rattle.snippet_labels.specs.Positions.{HasItsLabel, has_label, has_stem, takes_space, ArePlaced}
 use Rattle.snippet_strokes.specs.SourceRows.{bare_row}
-use Rattle.snippet_strokes.specs.Cuts.{cut_rows, cuts_of}
-use Rattle.snippet_strokes.specs.StrokeRows.{CutsRows, IsCut, HasNoBars, IsStrokeRow, AddsStrokes, ShowsMarks}
+use Rattle.snippet_strokes.proofs.SeenRows.{AreSeen, CutsRows, HasNoBars, IsCut, IsStrokeRow, ShowsMarks}
 use Rattle.snippet_style.specs.Separators.{separator_row}
 use Rattle.snippet_strokes.proofs.DrawLemmas.{DrawsFrom-more, bar_space}
 use Rattle.snippet_strokes.specs.Labels.{IsStrokeCell}
@@ -45,13 +47,12 @@ use Rattle.snippet_strokes.proofs.LabelWrites.{DrawsFrom-labels, label_lone, lab
 use Rattle.snippet_strokes.proofs.LabelLaw.{labels_stand}
 use Rattle.snippet_strokes.proofs.StrokeWrites.{marks_painted, under_painted}
 use Rattle.snippet_strokes.proofs.SourceBars.{source_beside}
-use Rattle.snippet_strokes.proofs.PlacedRows.{lone_placed, one_row, one_row_lone, unlabelled}
-use Rattle.snippet_strokes.proofs.PositionLemmas.{HasRows-row_count, positions-unlabelled}
+use Rattle.snippet_strokes.proofs.PlacedRows.{lone_placed, unlabelled}
+use Rattle.snippet_strokes.proofs.PositionLemmas.{HasRows-row_count}
 use Rattle.snippet_strokes.proofs.PositionLemmas.{row_count_some, stemless_bare, stemless_beside}
 use Rattle.snippet_strokes.proofs.RowLemmas.{bare_row_short, bare_row_right, free_bare_row}
-use Rattle.snippet_strokes.proofs.BegunLemmas.{kept_above, begun_row, written_far, same_after, free_cell, sole, plain_entries, plain_narrow}
-use Rattle.snippet_strokes.proofs.BegunLemmas.{IsStrokeRow-cut, sole_same, wide_entries-order}
-use Rattle.snippet_strokes.proofs.CutLemmas.{CutsRows-cuts}
+use Rattle.snippet_strokes.proofs.BegunLemmas.{begun_row, written_far, same_after, free_cell, sole, plain_entries, plain_narrow}
+use Rattle.snippet_strokes.proofs.BegunLemmas.{IsStrokeRow-cut, sole_same}
 
 module _ (layout : Layout) (room : ℕ) (closes : Bool) (es : List LineAnnotation) (placed : List PlacedEntry) (above_rows : List (List Cell))
     (plain_row : List Cell) (begun joined barred stemmed labelled new : List (List Cell))
@@ -194,11 +195,6 @@ module _ (layout : Layout) (room : ℕ) (closes : Bool) (es : List LineAnnotatio
 
   above_new : (r : ℕ) → r < row → row_at new r ≡ row_at barred r
   above_new r high = marked.painted.others r (λ here. omega (arith, here, high)) ∙ right_of.above r high
-
-  above : (r : ℕ) → r < length above_rows → row_at new r ≡ row_at above_rows r
-  above r high =
-      above_new r (omega (arith, high)) ∙ bars.draws.above r high ∙ lines.above r (omega (arith, high)) ∙ above_begun r (omega (arith, high, last))
-      ∙ get_or_append_left above_rows (plain_row ∷ []) [] r high
 
   -- the source row with its bars
   abbrev source : List Cell
@@ -390,20 +386,9 @@ module _ (layout : Layout) (room : ℕ) (closes : Bool) (es : List LineAnnotatio
         lone = lone flat;
       }
 
-  one_row_bare : plain ≡ true → All (λ e. label_text e ≡ []) es → row_count placed ≡ 1
-  one_row_bare flat none =
-      one_row es placed is (λ k d within. omega (arith, positions-unlabelled 0 placed (unlabelled es placed is none) (spaceless_all flat) k d within))
-
   -- the rows below that of the marks
   abbrev lower : List (List Cell)
   lower = drop (row + 1) new
-
-  -- the rows are those above, the source row, that of the marks and those below it
-  pub rows_split : new ≡ above_rows ++ source ∷ row_at new row ∷ lower
-  rows_split =
-      let n : ℕ = length above_rows in
-      kept_above above_rows new (omega (arith, long_new)) above ∙ ap (λ rows. above_rows ++ rows) (drop_more new n [] (omega (arith, long_new)))
-      ∙ ap (λ rows. above_rows ++ source ∷ rows) (drop_more new row [] (omega (arith, long_new, row_count_some placed)))
 
   long_rows : (marks_now : List Cell) → length (marks_now ∷ lower) ≡ row_count placed
   long_rows marks_now = omega (arith, length-drop (row + 1) new, long_new, row_count_some placed)
@@ -432,32 +417,28 @@ module _ (layout : Layout) (room : ℕ) (closes : Bool) (es : List LineAnnotatio
       (cell_of_strokes layout (row + k) c right (length above_rows) (length begun) placed (painting_order placed) begun bar_cells
       (inl (begun_space k c right)) beside)
 
-  -- the rows of a line's strokes are added, once those of the source and of the marks are cut where entries are wide
-  pub strokes_added : (final : List (List Cell)) → 0 < length es
-      → CutsRows layout (wide_entries room layout.decor es) above_rows source (row_at new row) lower final
-      → AddsStrokes layout room es closes above_rows plain_row final
-  strokes_added final some cuts =
+  -- what is seen of the rows, once those of the source and of the marks are cut where entries are wide
+  pub strokes_seen : (rows : List (List Cell)) → CutsRows layout (wide_entries room layout.decor es) source (row_at new row) lower rows
+      → AreSeen layout room es closes plain_row rows
+  strokes_seen rows cuts =
       let wide : ℕ = wide_entries room layout.decor es in
       let narrow : plain ≡ true → wide ≡ 0 = plain_narrow room layout.decor es in
       let hung : List (List Cell) → Type 0 = λ drawn. All (IsHung layout row placed drawn) placed in
-      let rows : List (List Cell) = cuts.marks_now ∷ lower in
-      let long : length rows ≡ row_count placed = long_rows cuts.marks_now in
+      let below : List (List Cell) = cuts.marks_now ∷ lower in
+      let long : length below ≡ row_count placed = long_rows cuts.marks_now in
       record {
         source = cuts.source_now;
-        rows = rows;
-        added = cuts.new_is;
+        below = below;
+        rows_are = cuts.new_is;
         beside = source_beside layout (length above_rows) plain_row source joined barred place bare_bars bars joined_source barred_source wide
             cuts.source_now cuts.source_cut;
-        are = record {
-          none = λ nothing. absurd (omega (arith, some, ap length nothing));
+        strokes = record {
           some = λ flat _. omega (arith, long, row_count_some placed);
-          lone = λ flat one. long ∙ one_row_lone es placed is one;
-          bare = λ flat none. omega (arith, long, one_row_bare flat none);
           marks = λ flat. subst (ShowsMarks layout.decor layout.code es) (sym (cuts.marks_cut.uncut (narrow flat))) (shows_marks flat);
-          labels = λ uncut _. LabelsStand-placed layout row es placed new rows is places stands beside_labels
+          labels = λ uncut _. LabelsStand-placed layout row es placed new below is places stands beside_labels
               (subst hung (sym new_is) (all_hung layout (length above_rows) (length begun) placed (painting_order placed) begun))
               (rows_new cuts.marks_now (cuts.marks_cut.uncut uncut));
-          are = λ k inside. subst (λ n. IsStrokeRow layout plain es (closes && k + 1 == n) (row_at rows k)) (sym long)
+          are = λ k inside. subst (λ n. IsStrokeRow layout plain es (closes && k + 1 == n) (row_at below k)) (sym long)
               (stroke_rows wide narrow cuts.marks_now cuts.marks_cut k (omega (arith, inside, long)));
         };
       }
@@ -470,18 +451,3 @@ module _ (layout : Layout) (room : ℕ) (closes : Bool) (es : List LineAnnotatio
           (stroke_row 0 within)) cut
       stroke_rows wide narrow marks_now cut (suc k) within =
           subst (IsStrokeRow layout plain es (closes && suc k + 1 == row_count placed)) (sym (lower_at k)) (stroke_row (suc k) within)
-
-  -- the same, where it is known what is cut
-  pub strokes_drawn : (final : List (List Cell)) (flags : List Bool) → 0 < length es
-      → final ≡ cut_rows layout.decor (length above_rows) (cuts_of layout room (painting_order placed) flags) new
-      → AddsStrokes layout room es closes above_rows plain_row final
-  strokes_drawn final flags some final_is =
-      let order = painting_order placed in
-      let n : ℕ = length above_rows in
-      let marks_row : List Cell = row_at new row in
-      let parts : final ≡ cut_rows layout.decor n (cuts_of layout room order flags) (above_rows ++ source ∷ marks_row ∷ lower) = final_is
-      ∙ ap (cut_rows layout.decor n (cuts_of layout room order flags)) rows_split in
-      let Cut : ℕ → List (List Cell) → Type 0 = λ wide drawn. CutsRows layout wide above_rows source marks_row lower drawn in
-      let given = wide_entries room layout.decor (map f order) in
-      strokes_added final some (subst (λ wide. Cut wide final) (wide_entries-order room layout.decor es placed is)
-      (subst (Cut given) (sym parts) (CutsRows-cuts layout room n order flags above_rows source marks_row lower refl)))

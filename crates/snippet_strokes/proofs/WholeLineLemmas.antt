@@ -1,9 +1,8 @@
 -- Lines that are marked as a whole.
-use Rattle.std.proofs.Common.{inl, ◌≡◌, ℕ, ◌+◌, ◌∷◌, ◌++◌, ◌&&◌, ◌||◌, [], List, Bool, true, false, zero, suc, length, take, map, refl, sym, ap, arith, All}
+use Rattle.std.proofs.Common.{inl, ◌≡◌, ℕ, ◌∷◌, ◌&&◌, ◌||◌, [], List, Bool, true, false, zero, suc, take, map, refl, sym, arith, All}
 use Rattle.std.specs.Char.{is_whitespace}
 use Rattle.std.specs.List.{list_all}
 use Rattle.std.proofs.lemmas.Bool.{false≢true}
-use Rattle.std.proofs.lemmas.List.{length_push}
 use Rattle.snippet_parts.specs.declared.entries.LineAnnotation.{LineAnnotation}
 use Rattle.snippet_parts.specs.declared.entries.LineAnnotationType.{LineAnnotationType}
 use Rattle.snippet_parts.specs.declared.entries.LineAnnotationType.TheVariants.{Singleline, MultilineStart, MultilineEnd, MultilineLine}
@@ -13,15 +12,14 @@ use Rattle.snippet_style.specs.declared.glyphs.DecorStyle.{DecorStyle}
 use Rattle.snippet_style.specs.Glyphs.{placeholder_of}
 use Rattle.snippet_style.specs.Cell.{Cell}
 use Rattle.snippet_grid.specs.Layout.{Layout}
-use Rattle.snippet_strokes.specs.EntryMarks.{are_plain, is_single, wide_entries}
+use Rattle.snippet_strokes.proofs.PlainEntries.{are_plain, is_single, wide_entries}
 use Rattle.snippet_labels.specs.PlacedEntries.{label_text, shifted}
-use Rattle.snippet_strokes.specs.Labels.{IsLabelledAtEnd}
+use Rattle.snippet_strokes.proofs.SeenLabels.{IsLabelledAtEnd}
 use Rattle.snippet_strokes.proofs.LabelPlaces.{LabelsStand-none}
 use Rattle.std.proofs.lemmas.List.Elements.{All-cons, All-head, All-nil, All-tail}
-use Rattle.snippet_strokes.specs.Bars.{DrawsBars, is_beside, is_whole_line}
+use Rattle.snippet_strokes.specs.Bars.{is_beside, is_whole_line}
 use Rattle.snippet_labels.specs.Positions.{is_start_part}
-use Rattle.snippet_strokes.specs.StrokeRows.{AddsStrokes, AreStrokes, HasNoBars, IsBeside}
-use Rattle.snippet_strokes.proofs.BarLemmas.{AddsStrokes-drawn}
+use Rattle.snippet_strokes.proofs.SeenRows.{AreSeen, AreStrokes, HasNoBars, IsBeside}
 
 -- an entry that is drawn by bars alone isn't a whole span
 not_single : (t : LineAnnotationType) (b : Bool) → (is_bar t || is_start_part t && b) ≡ true → is_single_part t ≡ false
@@ -48,10 +46,6 @@ whole_not_plain text room dropped decor (e ∷ es) whole plain =
     let single : is_single e ≡ false = not_single e.annotation_type blank beside in
     let singles = list_all is_single (map (shifted dropped) es) in
     none_false (is_single e) singles single (first_true (is_single e && singles) _ plain)
-
-whole_some : (text : List ℕ) (dropped : ℕ) (es : List LineAnnotation) → is_whole_line text es ≡ true → map (shifted dropped) es ≡ [] → ⊥
-whole_some text dropped [] whole none = false≢true whole
-whole_some text dropped (e ∷ es) whole none = omega (arith, ap length none)
 
 -- an entry that is drawn by bars alone is a start or a bar, and so it has no label
 bar_or_start : (t : LineAnnotationType) (b : Bool) → (is_bar t || is_start_part t && b) ≡ true → (is_start_part t || is_bar t) ≡ true
@@ -87,10 +81,7 @@ AreStrokes-whole : (layout : Layout) (text : List ℕ) (room dropped : ℕ) (clo
 AreStrokes-whole layout text room dropped closes es whole =
     let none = whole_not_plain text room dropped layout.decor es whole in
     record {
-      none = λ empty. absurd (whole_some text dropped es whole empty);
       some = λ plain more. absurd (none plain);
-      lone = λ plain one. absurd (none plain);
-      bare = λ plain labels. absurd (none plain);
       marks = λ plain. absurd (none plain);
       labels = λ _ ends. LabelsStand-none layout (map (shifted dropped) es) [] (beside_unlabelled text dropped es whole ends) (λ r c right. refl);
       are = λ k within. absurd (omega (arith, within));
@@ -113,18 +104,14 @@ IsBeside-same layout wide plain bare =
       free = λ free. free;
     }
 
--- the strokes of a whole line, and the bars beside, are rows added below it
-pub whole_added : (layout : Layout) (text : List ℕ) (room dropped : ℕ) (closes : Bool) (es : List LineAnnotation) (above : List (List Cell))
-    (plain : List Cell) (old new : List (List Cell)) (row : ℕ) → is_whole_line text es ≡ true → length old ≡ row + 1 → DrawsBars layout row old new
-    → old ≡ above ++ plain ∷ [] → HasNoBars layout plain → AddsStrokes layout room (map (shifted dropped) es) closes above plain new
-whole_added layout text room dropped closes es above plain old new row whole long draws is bare =
-    let shown = map (shifted dropped) es in
-    let last : row ≡ length above = omega (arith, long, ap length is, length_push above plain) in
-    let base : AddsStrokes layout room shown closes above plain old = record {
-      source = plain;
-      rows = [];
-      added = is;
-      beside = IsBeside-same layout (wide_entries room layout.decor shown) plain bare;
-      are = AreStrokes-whole layout text room dropped closes es whole;
-    } in
-    AddsStrokes-drawn layout room shown closes above plain old new row last bare.0 base draws
+-- of such a line the source row alone is seen
+pub whole_seen : (layout : Layout) (text : List ℕ) (room dropped : ℕ) (closes : Bool) (es : List LineAnnotation) (source : List Cell)
+    → is_whole_line text es ≡ true → HasNoBars layout source → AreSeen layout room (map (shifted dropped) es) closes source (source ∷ [])
+whole_seen layout text room dropped closes es source whole bare =
+    record {
+      source = source;
+      below = [];
+      rows_are = refl;
+      beside = IsBeside-same layout (wide_entries room layout.decor (map (shifted dropped) es)) source bare;
+      strokes = AreStrokes-whole layout text room dropped closes es whole;
+    }

@@ -1,23 +1,20 @@
 -- The bars of spans of several lines: which are open beside a line, and what drawing them changes.
-use Rattle.std.specs.Prelude.{◌≡◌, ◌<◌, ◌≤◌, ◌+◌, ◌==◌, ◌&&◌, ◌||◌, ℕ, max, not, Bool, false, Option, Some, None, All, List, [], ◌∷◌, ◌++◌, drop, filter, fold}
-use Rattle.std.specs.Prelude.{length, map, take}
+use Rattle.std.specs.Prelude.{◌≡◌, ◌<◌, ◌+◌, ◌==◌, ◌&&◌, ◌||◌, ℕ, not, Bool, false, Option, Some, None, All, List, [], ◌∷◌, ◌++◌, drop, filter, fold}
+use Rattle.std.specs.Prelude.{map, take}
 use Rattle.std.specs.Char.{is_whitespace}
-use Rattle.std.specs.List.{filter_map, list_all, list_any, slice_index_or}
+use Rattle.std.specs.List.{filter_map, list_all, list_any}
 use Rattle.snippet_parts.specs.declared.entries.LineAnnotation.{LineAnnotation}
 use Rattle.snippet_parts.specs.declared.entries.LineAnnotationType.{LineAnnotationType}
 use Rattle.snippet_parts.specs.declared.entries.LineAnnotationType.TheVariants.{Singleline, MultilineStart, MultilineEnd, MultilineLine}
 use Rattle.snippet_parts.specs.Entries.{is_bar}
 use Rattle.snippet_style.specs.Glyphs.{strokes_of, underline_role}
-use Rattle.snippet_grid.specs.Grid.{row_at}
 use Rattle.snippet_style.specs.Cell.{Cell, SPACE, unlinked_cell, written}
 use Rattle.snippet_style.specs.declared.glyphs.DecorStyle.{DecorStyle}
 use Rattle.snippet_grid.specs.Layout.{Layout, bar_cell, inner_cell}
 use Rattle.snippet_strokes.specs.declared.bars.OpenBar.{OpenBar}
 use Rattle.snippet_strokes.specs.declared.bars.BarStroke.{BarStroke}
 use Rattle.snippet_strokes.specs.declared.bars.BarStroke.TheVariants.{Top, Solid, Dotted}
-use Rattle.snippet_strokes.specs.EntryMarks.{IsBarCell}
 use Rattle.snippet_model.specs.AnnotationKind.{is_primary}
-use Rattle.snippet_model.specs.FreeRows.{IsFree}
 use Rattle.snippet_labels.specs.Positions.{is_start_part}
 
 -- a bar, under a name that other crates can use
@@ -64,6 +61,18 @@ open_below open_bars es = open_past open_bars (ends_of_bars es)
 abbrev pub HasBarRoom : Layout → OpenBar → Type 0
 HasBarRoom layout bar = (0 < bar.depth) × (inner_cell layout + bar.depth < layout.code)
 
+-- bars that are drawn with a source row fit beside it: each has its cells, and none of those that run past it has the depth of a top
+pub record FitBeside (layout : Layout) (tops past : List OpenBar) : Type 0 where
+  pub tops_room : All (HasBarRoom layout) tops
+  pub past_room : All (HasBarRoom layout) past
+  pub apart : All (λ bar. has_depth tops bar.depth ≡ false) past
+
+-- some bars that stand side by side, so many from this one on, have a cell each, and one after them, between the separator and the code
+pub record HasSideRoom (layout : Layout) (first : OpenBar) (count : ℕ) : Type 0 where
+  pub left : 0 < first.depth
+  pub room : bar_cell layout first.depth + count < layout.code
+  pub some : 0 < count
+
 -- a bar stands so many cells right of the first of some, and is drawn in its role
 pub record StandsBeside (first : OpenBar) (cells : ℕ) (bar : OpenBar) : Type 0 where
   pub depth : bar.depth ≡ first.depth + cells
@@ -105,19 +114,3 @@ is_beside text e =
 abbrev pub is_whole_line : List ℕ → List LineAnnotation → Bool
 is_whole_line text [] = false
 is_whole_line text (e ∷ es) = list_all (is_beside text) (e ∷ es)
-
--- parts of bars were drawn in a row: cells left of the bars and from the code on stay, and where bars stand nothing came but
--- parts of them
-pub record BarsDrawn (layout : Layout) (old new : List Cell) : Type 0 where
-  pub left : (c : ℕ) → c < inner_cell layout → slice_index_or new c SPACE ≡ slice_index_or old c SPACE
-  pub bar_cells : (c : ℕ) → IsBarCell layout.decor (slice_index_or old c SPACE) → IsBarCell layout.decor (slice_index_or new c SPACE)
-  pub code : drop layout.code new ≡ drop layout.code old
-  pub longer : length old ≤ length new
-  pub short : length new ≤ max (length old) layout.code
-  pub free : IsFree old → IsFree new
-
--- parts of bars were drawn in rows from `row` on
-pub record DrawsBars (layout : Layout) (row : ℕ) (old new : List (List Cell)) : Type 0 where
-  pub above : (r : ℕ) → r < row → row_at new r ≡ row_at old r
-  pub rows : (r : ℕ) → BarsDrawn layout (row_at old r) (row_at new r)
-  pub count : length new ≡ length old

@@ -1,49 +1,16 @@
--- What drawing the strokes of a line changes, and how many rows they take.
-use Rattle.std.specs.Prelude.{◌≡◌, ◌≢◌, ℕ, ◌+◌, ◌<◌, ◌≤◌, ◌==◌, Bool, false, true, List, All, drop, length, if◌then◌else◌, fold, max}
-use Rattle.snippet_parts.specs.declared.entries.LineAnnotation.{LineAnnotation}
+-- What the entries of a line need so that their strokes can be drawn, and how many rows these take.
+use Rattle.std.specs.Prelude.{◌≡◌, ℕ, ◌+◌, ◌<◌, ◌==◌, Bool, true, List, All, if◌then◌else◌, fold, max}
 use Rattle.snippet_parts.specs.declared.entries.LineAnnotationType.{LineAnnotationType}
 use Rattle.snippet_parts.specs.declared.entries.LineAnnotationType.TheVariants.{Singleline, MultilineStart, MultilineEnd, MultilineLine}
 use Rattle.snippet_style.specs.declared.glyphs.DecorStyle.{DecorStyle}
 use Rattle.snippet_style.specs.Glyphs.{strokes_of}
-use Rattle.snippet_grid.specs.Grid.{cell_at, row_at}
-use Rattle.snippet_style.specs.Cell.{Cell}
-use Rattle.snippet_grid.specs.Layout.{Layout, inner_cell}
-use Rattle.snippet_model.specs.FreeRows.{IsFreeCell}
+use Rattle.snippet_grid.specs.Layout.{Layout}
 use Rattle.snippet_labels.specs.declared.positions.PlacedEntry.{PlacedEntry}
 use Rattle.snippet_labels.specs.PlacedEntries.{HasPlace}
-use Rattle.snippet_strokes.specs.EntryMarks.{HasBarCell, IsBarCell, has_mark_role}
+use Rattle.snippet_strokes.specs.Drawable.{IsReady}
 use Rattle.snippet_style.specs.Bounds.{AreRows}
 use Rattle.snippet_model.specs.AnnotationKind.{is_primary}
 use Rattle.snippet_labels.specs.Positions.{has_label, are_starts}
-
--- something was drawn: only in rows from `row` on, in cells from `from` on, and no listed character and no link came into a row
-pub record DrawsFrom (row from : ℕ) (old new : List (List Cell)) : Type 0 where
-  pub above : (r : ℕ) → r < row → row_at new r ≡ row_at old r
-  pub left : (r c : ℕ) → c < from → cell_at new r c ≡ cell_at old r c
-  pub free : (r : ℕ) → ((c : ℕ) → IsFreeCell (cell_at old r c)) → (c : ℕ) → IsFreeCell (cell_at new r c)
-  pub count : length new ≡ length old
-
--- what is drawn left of the code is nothing but parts of bars
-abbrev pub KeepsBarCells : Layout → List (List Cell) → List (List Cell) → Type 0
-KeepsBarCells layout old new =
-    (r c : ℕ) → c < layout.code → IsBarCell layout.decor (cell_at old r c) → IsBarCell layout.decor (cell_at new r c)
-
--- bars were drawn beside rows: only in rows from `row` on, in the cells between the separator and the code, and nothing but
--- parts of bars
-pub record DrawsBarCells (layout : Layout) (row : ℕ) (old new : List (List Cell)) : Type 0 where
-  pub draws : DrawsFrom row (inner_cell layout) old new
-  pub bar_cells : KeepsBarCells layout old new
-  pub code : (r : ℕ) → drop layout.code (row_at new r) ≡ drop layout.code (row_at old r)
-  pub longer : (r : ℕ) → length (row_at old r) ≤ length (row_at new r)
-
--- something was drawn, and nothing of it in the role of marks but below the first columns of these entries
-abbrev pub MarksStarts : ℕ → List PlacedEntry → List (List Cell) → List (List Cell) → Type 0
-MarksStarts code es old new =
-    (r c : ℕ) → All (λ e. c ≢ code + e.entry.start.display) es → has_mark_role (cell_at old r c) ≡ false → has_mark_role (cell_at new r c) ≡ false
-
--- an entry doesn't start left of this cell
-abbrev pub StandsFrom : ℕ → ℕ → LineAnnotation → Type 0
-StandsFrom code from e = from ≤ code + e.start.display
 
 -- the rows that an entry needs are there: down to that of its stem, or where it has none that of the marks, and where its
 -- label hangs down to that of the label
@@ -51,14 +18,20 @@ pub record HasRows (row count : ℕ) (e : PlacedEntry) : Type 0 where
   pub mark : row + e.position < count
   pub label : 0 < e.position → has_label e ≡ true → row + e.position + 1 < count
 
+-- an entry has its place among so many rows, of which this is that of the marks: it has its columns, and the rows that it needs, and
+-- there are no more rows than a grid can have
+pub record HasPlaceAmong (row count : ℕ) (e : PlacedEntry) : Type 0 where
+  pub columns : HasPlace e.entry
+  pub small : AreRows count
+  pub rows : HasRows row count e
+
 -- so many rows are enough for the strokes of these entries, of which the source row is `row`: that of the marks is among them, and
--- each entry has the rows and the cells that it needs
+-- each entry has the rows that it needs and can be drawn
 pub record AreEnough (layout : Layout) (row count : ℕ) (placed : List PlacedEntry) : Type 0 where
   pub marks : row + 1 < count
   pub small : AreRows count
   pub rows : All (HasRows (row + 1) count) placed
-  pub places : All (λ e. HasPlace e.entry) placed
-  pub bar_cells : All (λ e. HasBarCell layout e.entry) placed
+  pub ready : All (IsReady layout) placed
 
 -- the glyph at the foot of the stem of an entry that stands for this part of a span: of a start the corner at which the line
 -- to its bar begins, of an end with a label the branch there, else the stem's own

@@ -1,5 +1,5 @@
 -- The bar of a span of several lines: its cells, and where it stands in the rows of the lines on which the span begins and ends.
-use Rattle.std.specs.Prelude.{◌≡◌, ◌⊎◌, ℕ, ◌+◌, ◌<◌, Bool, List, length}
+use Rattle.std.specs.Prelude.{◌≡◌, ◌⊎◌, ℕ, ◌<◌, Bool, List, length}
 use Rattle.snippet_style.specs.Glyphs.{strokes_of, underline_role}
 use Rattle.snippet_style.specs.Cell.{Cell, SPACE, unlinked_cell}
 use Rattle.snippet_style.specs.declared.glyphs.DecorStyle.{DecorStyle}

@@ -1,13 +1,13 @@
 pub mod Apart
 pub mod Bars
 pub mod Cuts
+pub mod Drawable
 pub mod Drawing
 pub mod EndBars
 pub mod EntryMarks
 pub mod Labels
 pub mod LineRows
 pub mod Painting
-pub mod Reach
 pub mod StemRows
 pub mod StrokeRows
 pub mod Snippet

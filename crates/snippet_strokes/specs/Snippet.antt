@@ -1,54 +1,36 @@
 -- The rows of a snippet.
-use Rattle.std.specs.Prelude.{◌≡◌, ◌⊎◌, ℕ, ◌+◌, ◌<◌, ◌≤◌, ◌==◌, ◌&&◌, Bool, false, not, List, [], ◌∷◌, ◌++◌, All, drop, filter, length, map, chars}
+use Rattle.std.specs.Prelude.{◌≡◌, ◌⊎◌, ℕ, ◌+◌, ◌<◌, ◌≤◌, ◌==◌, ◌&&◌, Bool, false, not, List, [], ◌∷◌, ◌++◌, All, filter, length, chars}
 use Rattle.snippet_parts.specs.declared.entries.AnnotatedLineInfo.{AnnotatedLineInfo}
 use Rattle.snippet_window.specs.declared.margin.Margin.{Margin}
 use Rattle.snippet_window.specs.Margin.{bounds_of}
 use Rattle.snippet_parts.specs.Entries.{is_bar}
 use Rattle.snippet_window.specs.Window.{dropped_part, window}
 use Rattle.snippet_grid.specs.Layout.{Layout}
-use Rattle.snippet_style.specs.Glyphs.{placeholder_of}
-use Rattle.snippet_style.specs.Cell.{Cell, text_cells}
-use Rattle.snippet_style.specs.declared.role.ElementStyle.TheVariants.{Quotation}
-use Rattle.snippet_grid.specs.Print.{row_text}
+use Rattle.snippet_style.specs.Cell.{Cell}
 use Rattle.snippet_text.specs.Normalized.{norm}
 use Rattle.snippet_text.specs.Width.{width_of}
-use Rattle.snippet_labels.specs.PlacedEntries.{is_end_part, shifted}
-use Rattle.snippet_strokes.specs.EntryMarks.{wide_entries}
+use Rattle.snippet_labels.specs.PlacedEntries.{is_end_part}
 use Rattle.snippet_strokes.specs.declared.bars.OpenBar.{OpenBar}
 use Rattle.snippet_strokes.specs.declared.bars.BarStroke.TheVariants.{Dotted}
 use Rattle.snippet_strokes.specs.Bars.{open_below, with_bars}
 use Rattle.snippet_strokes.specs.LineRows.{AreLineRows}
 use Rattle.snippet_lines.specs.declared.number.LineNumbers.{LineNumbers}
 use Rattle.snippet_lines.specs.Number.{shown_number}
-use Rattle.snippet_model.specs.FreeRows.{HasNoNumber, IsFree}
 use Rattle.snippet_strokes.specs.SourceRows.{IsSourceRow, window_cells}
-use Rattle.snippet_strokes.specs.StrokeRows.{IsBeside, IsElisionRow, IsHighlighted, AreStrokes, bare_elision_row}
+use Rattle.snippet_strokes.specs.StrokeRows.{IsElisionRow, IsHighlighted, bare_elision_row}
 
--- the rows show this line: the first its number and the window of its source, normalised, with what its entries highlight
--- (all of the line, if lines aren't cut on the left and the room holds it), with bars beside it, and cut where entries are
--- wide; the others its strokes, with which the window may close, as far left as columns of the line are dropped; none but
--- the first can be taken for a source row, and none holds a listed character. All of them are what the entries, and the bars
--- that are open above the line, make of the highlighted row
+-- the rows show this line. Its source row shows its number and the window of its source, normalised, and is highlighted as its entries
+-- ask; the rows are what the entries, and the bars that are open above the line, make of that row, as far left as columns of the line
+-- are dropped. No entry starts in a column that is dropped, but those for which a bar alone is drawn
 pub record ShowsLine (layout : Layout) (margin : Margin) (numbers : LineNumbers) (closes : Bool) (open_bars : List OpenBar) (info : AnnotatedLineInfo)
     (rows : List (List Cell)) : Type 0 where
-  pub source : List Cell
-  pub below : List (List Cell)
-  pub rows_are : rows ≡ source ∷ below
   pub plain : List Cell
   pub shows : IsSourceRow layout (shown_number numbers layout.gutter info.line_index) (window_cells layout.decor margin (norm (chars info.line.now))) plain
-  pub text : row_text (drop layout.code plain) ≡ window (placeholder_of layout.decor) margin.term_width (bounds_of margin).left (bounds_of margin).right
-      (norm (chars info.line.now))
-  pub whole : (bounds_of margin).left ≡ 0 → width_of (norm (chars info.line.now)) ≤ margin.term_width
-      → drop layout.code plain ≡ text_cells Quotation (norm (chars info.line.now))
   pub dropped : ℕ
   pub dropped_is : dropped ≡ width_of (dropped_part (bounds_of margin).left (norm (chars info.line.now)))
   pub clear : All (λ e. is_bar e.annotation_type ≡ false → dropped ≤ e.start.display) info.annotations.items
   pub highlighted : List Cell
   pub highlights : IsHighlighted layout.code dropped (filter (λ e. not (is_end_part e.annotation_type)) info.annotations.items) plain highlighted
-  pub beside : IsBeside layout (wide_entries margin.term_width layout.decor (map (shifted dropped) info.annotations.items)) highlighted source
-  pub strokes : AreStrokes layout margin.term_width (map (shifted dropped) info.annotations.items) closes below
-  pub unnumbered : All (HasNoNumber layout.gutter) below
-  pub free : All IsFree rows
   pub drawn : AreLineRows layout margin.term_width closes (norm (chars info.line.now)) dropped open_bars info.annotations.items highlighted rows
 
 -- the row that stands for lines that are left out, where these bars run past them

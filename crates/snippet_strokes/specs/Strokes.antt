@@ -11,7 +11,6 @@ use Rattle.snippet_model.specs.AnnotationKind.{is_primary}
 use Rattle.snippet_grid.specs.Layout.{Layout, bar_cell, code_cell, inner_cell}
 use Rattle.snippet_labels.specs.declared.positions.PlacedEntry.{PlacedEntry}
 use Rattle.snippet_labels.specs.PlacedEntries.{label_role, label_text}
-use Rattle.snippet_strokes.specs.EntryMarks.{wide_entries}
 use Rattle.snippet_parts.specs.declared.entries.LineAnnotation.{LineAnnotation}
 use Rattle.snippet_style.specs.Cell.{Cell}
 use Rattle.snippet_style.specs.Separators.{separator_row}
@@ -19,7 +18,6 @@ use Rattle.snippet_strokes.specs.Drawing.{foot_glyph, row_count}
 use Rattle.snippet_strokes.specs.Painting.{painting_order, marks_of, stroke_role}
 use Rattle.snippet_labels.specs.Positions.{ArePlaced, has_label, has_stem, label_place, placed_of}
 use Rattle.snippet_strokes.specs.Cuts.{cut_row, cuts_of, overlapped}
-use Rattle.snippet_strokes.specs.StrokeRows.{CutsRows}
 use Rattle.snippet_strokes.specs.SourceRows.{bare_row}
 
 -- ---- labels
@@ -157,7 +155,7 @@ stroke_rows layout room closes es source =
 
 -- what is known of rows that are those, whatever the placed entries hold their labels in: as many as the entries ask for, and over them
 -- all strokes. The entries are placed from right to left, and their marks painted in the order of painting. Of the first two rows, the
--- source row and that of the marks, stretches are cut where entries are wide (`cut` follows from `rows_are`)
+-- source row and that of the marks, stretches are cut where entries are wide
 pub record StrokesPainted (layout : Layout) (room : ℕ) (closes : Bool) (es : List LineAnnotation) (source : List Cell) (rows : List (List Cell)) : Type 0 where
   pub placed : List PlacedEntry
   pub are : ArePlaced es placed
@@ -168,7 +166,6 @@ pub record StrokesPainted (layout : Layout) (room : ℕ) (closes : Bool) (es : L
       (begun_rows layout closes (row_count placed) source)
   pub rows_are : rows ≡ (let cuts = cuts_of layout room (painting_order placed)
       (overlapped placed) in cut_row layout.decor cuts top ∷ cut_row layout.decor cuts marks ∷ lower)
-  pub cut : CutsRows layout (wide_entries room layout.decor es) [] top marks lower rows
   pub count : length rows ≡ row_count placed + 1
 
 -- the strokes of a line were drawn below its source row, which is the last row that is there, and beside it

@@ -1,12 +1,10 @@
 //! Strokes that stand side by side in the row of the marks.
 ghost use Rattle.std.specs.Prelude.{◌≡◌, ◌-◌, ◌^◌, ◌∷◌, [], true, All, OnOk, length};
-ghost use Rattle.snippet_labels.specs.PlacedEntries.{HasPlace, label_text};
-ghost use Rattle.snippet_labels.specs.Positions.{HasItsLabel};
+ghost use Rattle.snippet_labels.specs.PlacedEntries.{HasPlace};
 ghost use Rattle.snippet_strokes.specs.Apart as spec;
 ghost use Rattle.snippet_strokes.specs.Apart.{FitsBefore, StandApart, strokes_apart, strokes_of_part};
 ghost use Rattle.snippet_strokes.specs.Drawing.{AreEnough};
 ghost use Rattle.snippet_strokes.specs.Writes.{painted};
-ghost use Rattle.snippet_style.specs.Bounds.{FitsRow};
 
 use crate::connectors::draw_connector;
 use crate::corners::draw_corner;
@@ -96,8 +94,6 @@ pub(crate) fn draw_apart(
     placed: &[PlacedEntry],
 ) -> Result<(), AllocError>
     requires enough { AreEnough layout row (length buffer.old) placed.now }
-    requires labels { All HasItsLabel placed.now }
-    requires short { All (λ e. FitsRow (label_text e.entry)) placed.now }
     ensures painted { OnOk result (buffer.new ≡ painted (strokes_apart layout row (length buffer.old) placed.now)
         buffer.old) }
     ensures count { OnOk result (length buffer.new ≡ length buffer.old) }
@@ -117,8 +113,6 @@ fn draw_entry(
     placed: &PlacedEntry,
 ) -> Result<(), AllocError>
     requires enough { AreEnough layout row (length buffer.old) (placed.now ∷ []) }
-    requires label { HasItsLabel placed.now }
-    requires short { FitsRow (label_text placed.now.entry) }
     ensures painted { OnOk result (buffer.new ≡ painted (strokes_of_part layout row
         (length buffer.old) (placed.now ∷ [])) buffer.old) }
     ensures count { OnOk result (length buffer.new ≡ length buffer.old) }

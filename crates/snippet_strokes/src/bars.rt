@@ -3,7 +3,8 @@ ghost use Rattle.std.specs.Prelude.{◌≡◌, ◌+◌, ◌-◌, ◌^◌, ◌<�
 ghost use Rattle.std.specs.Prelude.{chars, slice_index_or};
 ghost use Rattle.snippet_strokes.specs.declared.bars.OpenBar.{OpenBar};
 ghost use Rattle.snippet_strokes.specs.Bars as spec;
-ghost use Rattle.snippet_strokes.specs.Bars.{HasBarRoom, StandsBeside, bar_cell_part, barred, changed_from};
+ghost use Rattle.snippet_strokes.specs.Bars.{HasBarRoom, HasSideRoom, StandsBeside, bar_cell_part, barred};
+ghost use Rattle.snippet_strokes.specs.Bars.{changed_from};
 ghost use Rattle.snippet_strokes.specs.Bars.{ends_of_bars};
 ghost use Rattle.snippet_style.specs.Cell.{SPACE, written};
 ghost use Rattle.snippet_grid.specs.Layout.{bar_cell};
@@ -230,9 +231,7 @@ fn draw_side(
     row: usize,
     side: BarSide,
 ) -> Result<(), AllocError>
-    requires left { 0 < side.first.depth }
-    requires room { bar_cell layout side.first.depth + side.count < layout.code }
-    requires some { 0 < side.count }
+    requires side { HasSideRoom layout side.first side.count }
     ensures value { OnOk result (buffer.new ≡ changed_from
         (λ cells. written SPACE cells (bar_cell layout side.first.depth)
         (replicate side.count (bar_cell_part layout side.stroke side.first)))
@@ -251,9 +250,7 @@ fn draw_parts(
     side: BarSide,
     part: &str,
 ) -> Result<(), AllocError>
-    requires left { 0 < side.first.depth }
-    requires room { bar_cell layout side.first.depth + side.count < layout.code }
-    requires some { 0 < side.count }
+    requires side { HasSideRoom layout side.first side.count }
     requires part { chars part.now ≡ replicate side.count
         (spec.bar_glyph side.stroke layout.decor side.first.primary) }
     ensures value { OnOk result (buffer.new ≡ changed_from

@@ -1,12 +1,10 @@
 //! The lines that lead from the ends of spans of several lines to their bars.
 ghost use Rattle.std.specs.Prelude.{◌≡◌, ◌+◌, ◌<◌, All, OnOk, length};
-ghost use Rattle.snippet_labels.specs.PlacedEntries.{HasPlace};
 ghost use Rattle.snippet_strokes.specs.EntryMarks.{HasBarCell};
-ghost use Rattle.snippet_strokes.specs.Drawing.{HasRows};
+ghost use Rattle.snippet_strokes.specs.Drawing.{HasPlaceAmong};
 ghost use Rattle.snippet_strokes.specs.Strokes.{connector_of, connectors_of, line_to};
 ghost use Rattle.snippet_strokes.specs.Writes.{painted};
 ghost use Rattle.snippet_grid.specs.Layout.{inner_cell};
-ghost use Rattle.snippet_style.specs.Bounds.{AreRows};
 
 use crate::lines::draw_stretch;
 use crate::roles::is_primary;
@@ -34,10 +32,8 @@ pub(crate) fn draw_connectors(
     row: usize,
     placed: &[PlacedEntry],
 ) -> Result<(), AllocError>
-    requires columns { All (λ e. HasPlace e.entry) placed.now }
+    requires places { All (HasPlaceAmong row (length buffer.old)) placed.now }
     requires bar_cells { All (λ e. HasBarCell layout e.entry) placed.now }
-    requires small { AreRows (length buffer.old) }
-    requires rows { All (HasRows row (length buffer.old)) placed.now }
     ensures painted { OnOk result (buffer.new ≡ painted (connectors_of layout row placed.now) buffer.old) }
 {
     for entry in placed {
@@ -54,10 +50,8 @@ pub(crate) fn draw_connector(
     row: usize,
     placed: &PlacedEntry,
 ) -> Result<(), AllocError>
-    requires columns { HasPlace placed.now.entry }
+    requires place { HasPlaceAmong row (length buffer.old) placed.now }
     requires bar_cell { HasBarCell layout placed.now.entry }
-    requires small { AreRows (length buffer.old) }
-    requires rows { HasRows row (length buffer.old) placed.now }
     ensures painted { OnOk result (buffer.new ≡ painted (connector_of layout row placed.now) buffer.old) }
 {
     match placed.entry.annotation_type {
@@ -77,10 +71,8 @@ fn draw_line_to(
     depth: usize,
     placed: &PlacedEntry,
 ) -> Result<(), AllocError>
-    requires columns { HasPlace placed.now.entry }
+    requires place { HasPlaceAmong row (length buffer.old) placed.now }
     requires depth { inner_cell layout + depth < layout.code }
-    requires small { AreRows (length buffer.old) }
-    requires rows { HasRows row (length buffer.old) placed.now }
     ensures painted { OnOk result (buffer.new ≡ painted (line_to layout row placed.now depth) buffer.old) }
 {
     let strokes = layout.decor.underline(is_primary(placed.entry.kind));

@@ -82,6 +82,7 @@ struct BarAt {
     corner: usize,
     /// Its glyphs, and their role.
     strokes: Strokes,
+    ghost left: { IsCodeCell cell },
 }
 
 /// The bar of an entry at this depth, with its corner in the row of the entry's position.
@@ -91,7 +92,6 @@ fn bar_at(layout: Layout, row: usize, depth: usize, placed: &PlacedEntry) -> Bar
     ensures cell { result.cell ≡ bar_cell layout depth }
     ensures corner { result.corner ≡ row + 1 + placed.now.position }
     ensures strokes { result.strokes ≡ strokes_of layout.decor (is_primary placed.now.entry.kind) }
-    ensures left { IsCodeCell result.cell }
 {
     BarAt {
         cell: layout.bar_cell(depth),
@@ -102,7 +102,6 @@ fn bar_at(layout: Layout, row: usize, depth: usize, placed: &PlacedEntry) -> Bar
 
 /// Draws the top of a start's bar: the corner, and the bar in all rows below it.
 fn draw_top(buffer: &mut StyledBuffer, bar: BarAt) -> Result<(), AllocError>
-    requires cell { IsCodeCell bar.cell }
     requires rows { bar.corner < length buffer.old }
     requires small { AreRows (length buffer.old) }
     ensures painted { OnOk result (buffer.new ≡ painted
@@ -117,7 +116,6 @@ fn draw_top(buffer: &mut StyledBuffer, bar: BarAt) -> Result<(), AllocError>
 
 /// Draws the bottom of an end's bar: the bar in all rows from the source row down to the corner, and this.
 fn draw_bottom(buffer: &mut StyledBuffer, bar: BarAt, row: usize) -> Result<(), AllocError>
-    requires cell { IsCodeCell bar.cell }
     requires rows { bar.corner < length buffer.old }
     requires ordered { row ≤ bar.corner }
     requires small { AreRows (length buffer.old) }
@@ -137,7 +135,6 @@ fn draw_bar(
     start: usize,
     end: usize,
 ) -> Result<(), AllocError>
-    requires cell { IsCodeCell bar.cell }
     requires rows { end ≤ length buffer.old }
     requires ordered { start ≤ end }
     requires small { AreRows (length buffer.old) }

@@ -1,12 +1,12 @@
 //! The labels of marks.
 ghost use Rattle.std.specs.Prelude.{◌≡◌, All, OnOk, length};
 ghost use Rattle.snippet_labels.specs.PlacedEntries.{HasPlace, label_text};
-ghost use Rattle.snippet_strokes.specs.Drawing.{HasRows};
+ghost use Rattle.snippet_strokes.specs.Drawing.{HasPlaceAmong};
 ghost use Rattle.snippet_labels.specs.Positions as spec;
 ghost use Rattle.snippet_labels.specs.Positions.{HasItsLabel};
 ghost use Rattle.snippet_strokes.specs.Strokes.{label_of, labels_of};
 ghost use Rattle.snippet_strokes.specs.Writes.{painted};
-ghost use Rattle.snippet_style.specs.Bounds.{AreRows, FitsRow, HasNext};
+ghost use Rattle.snippet_style.specs.Bounds.{FitsRow, HasNext};
 
 use crate::roles::label_role;
 use snippet_grid::{Layout, StyledBuffer};
@@ -30,9 +30,7 @@ pub(crate) fn draw_labels(
     row: usize,
     placed: &[PlacedEntry],
 ) -> Result<(), AllocError>
-    requires columns { All (λ e. HasPlace e.entry) placed.now }
-    requires small { AreRows (length buffer.old) }
-    requires rows { All (HasRows row (length buffer.old)) placed.now }
+    requires places { All (HasPlaceAmong row (length buffer.old)) placed.now }
     requires labels { All HasItsLabel placed.now }
     requires short { All (λ e. FitsRow (label_text e.entry)) placed.now }
     ensures painted { OnOk result (buffer.new ≡ painted (labels_of layout row placed.now) buffer.old) }
@@ -50,9 +48,7 @@ pub(crate) fn draw_label(
     row: usize,
     placed: &PlacedEntry,
 ) -> Result<(), AllocError>
-    requires columns { HasPlace placed.now.entry }
-    requires small { AreRows (length buffer.old) }
-    requires rows { HasRows row (length buffer.old) placed.now }
+    requires place { HasPlaceAmong row (length buffer.old) placed.now }
     requires label { HasItsLabel placed.now }
     requires short { FitsRow (label_text placed.now.entry) }
     ensures painted { OnOk result (buffer.new ≡ painted (label_of layout row placed.now) buffer.old) }

@@ -1,6 +1,5 @@
 //! Rows that are begun below all that stands in the grid.
-ghost use Rattle.std.specs.Prelude.{◌≡◌, ◌-◌, ◌<◌, ◌≤◌, ◌++◌, ◌∷◌, [], OnOk, IfOk, length, replicate};
-ghost use Rattle.snippet_grid.specs.Layout.{inner_cell};
+ghost use Rattle.std.specs.Prelude.{◌≡◌, ◌-◌, ◌<◌, ◌++◌, ◌∷◌, [], OnOk, IfOk, length, replicate};
 ghost use Rattle.snippet_strokes.specs.SourceRows.{bare_row};
 ghost use Rattle.snippet_style.specs.Separators.{closing_row, separator_row};
 ghost use Rattle.snippet_style.specs.Bounds.{AreRows, IsRowNumber};
@@ -22,7 +21,6 @@ pub(crate) fn begin_row(buffer: &mut StyledBuffer, layout: Layout) -> Result<usi
     ensures added { OnOk result (buffer.new ≡ buffer.old ++ separator_row layout.decor layout.gutter ∷ []) }
     ensures row { IfOk result (λ row. row ≡ length buffer.old) }
     ensures small { IsRowNumber (length buffer.old) }
-    ensures place { inner_cell layout ≤ layout.code }
 {
     let row = buffer.num_lines();
     buffer.putc(
@@ -46,7 +44,6 @@ pub(crate) fn begin_row(buffer: &mut StyledBuffer, layout: Layout) -> Result<usi
 pub fn begin_closing_row(buffer: &mut StyledBuffer, layout: Layout) -> Result<(), AllocError>
     ensures added { OnOk result (buffer.new ≡ buffer.old ++ closing_row layout.decor layout.gutter ∷ []) }
     ensures small { IsRowNumber (length buffer.old) }
-    ensures place { inner_cell layout ≤ layout.code }
 {
     let row = buffer.num_lines();
     buffer.puts(
@@ -80,7 +77,6 @@ pub fn begin_rows(
         ++ bare_row layout.decor layout.gutter closes ∷ []) }
     ensures row { IfOk result (λ row. row ≡ length buffer.old) }
     ensures small { OnOk result (AreRows (length buffer.new)) }
-    ensures place { OnOk result (inner_cell layout ≤ layout.code) }
 {
     let row = buffer.num_lines();
     for _ in 1..count {
@@ -98,7 +94,6 @@ pub(crate) fn begin_last_row(
 ) -> Result<(), AllocError>
     ensures added { OnOk result (buffer.new ≡ buffer.old ++ bare_row layout.decor layout.gutter closes ∷ []) }
     ensures small { IsRowNumber (length buffer.old) }
-    ensures place { inner_cell layout ≤ layout.code }
 {
     if closes {
         return begin_closing_row(buffer, layout);

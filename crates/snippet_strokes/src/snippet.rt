@@ -1,21 +1,14 @@
 //! The rows of a snippet: those of each line that is shown.
-ghost use Rattle.std.specs.Prelude.{◌≡◌, ◌+◌, ◌≤◌, ◌++◌, ◌∷◌, [], false, true, List, All, IfOk, IfSome, OnOk};
-ghost use Rattle.std.specs.Prelude.{chars, length, map};
-ghost use Rattle.snippet_window.specs.Measures.{StandsClear};
-ghost use Rattle.snippet_parts.specs.Entries.{is_bar};
+ghost use Rattle.std.specs.Prelude.{◌≡◌, ◌+◌, ◌++◌, ◌∷◌, [], false, true, List, All, IfOk, OnOk};
+ghost use Rattle.std.specs.Prelude.{chars, length};
 ghost use Rattle.snippet_parts.specs.ShownLines.{infos_of};
-ghost use Rattle.snippet_labels.specs.PlacedEntries.{HasPlace, shifted};
-ghost use Rattle.snippet_strokes.specs.EntryMarks.{HasBarCell};
+ghost use Rattle.snippet_strokes.specs.Drawable.{AreDrawable, IsDrawableLine};
 ghost use Rattle.snippet_strokes.specs.Bars as spec;
-ghost use Rattle.snippet_strokes.specs.Bars.{Bar, HasBarRoom, bars_apart, ends_of_bars, has_depth, open_below};
-ghost use Rattle.snippet_lines.specs.Number.{shown_number};
+ghost use Rattle.snippet_strokes.specs.Bars.{Bar, FitBeside, HasBarRoom, bars_apart, ends_of_bars, open_below};
 ghost use Rattle.snippet_strokes.specs.LineRows.{AddsOwnRows};
-ghost use Rattle.snippet_strokes.specs.StrokeRows.{AddsStrokes, HasNoBars};
 ghost use Rattle.snippet_text.specs.Normalized.{norm};
 ghost use Rattle.snippet_style.specs.Cell.{Cell};
 ghost use Rattle.snippet_strokes.specs.Snippet.{AddsLine, AddsSnippet};
-ghost use Rattle.snippet_grid.specs.Layout.{separator_cell};
-ghost use Rattle.snippet_text.specs.TextBounds.{TextFits};
 
 use crate::bars::{BarStroke, OpenBar, add_bars_apart, bars_apart, draw_bars, ends_on};
 use crate::elision::draw_gap;
@@ -80,15 +73,7 @@ pub fn draw_snippet(
     view: LineView,
     lines: &[ShownLine],
 ) -> Result<(), AllocError>
-    requires numbers { All (λ line. length (shown_number view.numbers layout.gutter line.info.line_index) ≤
-        separator_cell layout)
-        lines.now }
-    requires texts { All (λ line. TextFits line.info.line.now) lines.now }
-    requires columns { All (λ line. All HasPlace line.info.annotations.items) lines.now }
-    requires clear { All (λ line. All (StandsClear view.margin) line.info.annotations.items) lines.now }
-    requires bar_cells { All (λ line. All (HasBarCell layout) line.info.annotations.items) lines.now }
-    requires labels { All (λ line. All (λ e. IfSome e.label (λ t. TextFits t.now)) line.info.annotations.items)
-        lines.now }
+    requires drawable { All (λ line. IsDrawableLine layout view.margin view.numbers line.info) lines.now }
     ensures added { OnOk result (AddsSnippet layout view.margin view.numbers view.closes (infos_of lines.now)
         buffer.old buffer.new) }
 {
@@ -130,13 +115,7 @@ fn draw_line(
     line: &ShownLine,
     bars: BarLists,
 ) -> Result<BarLists, AllocError>
-    requires number { length (shown_number view.numbers layout.gutter line.now.info.line_index) ≤
-        separator_cell layout }
-    requires text { TextFits line.now.info.line.now }
-    requires columns { All HasPlace line.now.info.annotations.items }
-    requires clear { All (StandsClear view.margin) line.now.info.annotations.items }
-    requires bar_cells { All (HasBarCell layout) line.now.info.annotations.items }
-    requires labels { All (λ e. IfSome e.label (λ t. TextFits t.now)) line.now.info.annotations.items }
+    requires drawable { IsDrawableLine layout view.margin view.numbers line.now.info }
     requires room { All (HasBarRoom layout) bars.open_bars.items }
     ensures added { OnOk result (AddsLine layout view.margin view.numbers view.closes bars.open_bars.items
         line.now.info buffer.old buffer.new) }
@@ -172,16 +151,9 @@ fn draw_line_rows(
     line: &ShownLine,
     beside: Beside<'_>,
 ) -> Result<(), AllocError>
-    requires number { length (shown_number view.numbers layout.gutter line.now.info.line_index) ≤
-        separator_cell layout }
-    requires text { TextFits line.now.info.line.now }
-    requires columns { All HasPlace line.now.info.annotations.items }
-    requires clear { All (StandsClear view.margin) line.now.info.annotations.items }
-    requires bar_cells { All (HasBarCell layout) line.now.info.annotations.items }
-    requires labels { All (λ e. IfSome e.label (λ t. TextFits t.now)) line.now.info.annotations.items }
+    requires drawable { IsDrawableLine layout view.margin view.numbers line.now.info }
     requires ends { beside.tops.now ≡ ends_of_bars line.now.info.annotations.items }
-    requires past { All (HasBarRoom layout) beside.past.now }
-    requires apart { All (λ bar. has_depth beside.tops.now bar.depth ≡ false) beside.past.now }
+    requires beside { FitBeside layout beside.tops.now beside.past.now }
     ensures added { OnOk result ((above : List Bar)
         → beside.entry.past.now ≡ bars_apart above (ends_of_bars line.now.info.annotations.items)
         → AddsLine layout view.margin view.numbers view.closes above line.now.info buffer.old buffer.new) }
@@ -203,15 +175,10 @@ fn draw_whole_line(
     line: &ShownLine,
     beside: Beside<'_>,
 ) -> Result<(), AllocError>
-    requires number { length (shown_number view.numbers layout.gutter line.now.info.line_index) ≤
-        separator_cell layout }
-    requires text { TextFits line.now.info.line.now }
-    requires clear { All (StandsClear view.margin) line.now.info.annotations.items }
+    requires drawable { IsDrawableLine layout view.margin view.numbers line.now.info }
     requires whole { spec.is_whole_line (norm (chars line.now.info.line.now)) line.now.info.annotations.items ≡ true }
     requires ends { beside.tops.now ≡ ends_of_bars line.now.info.annotations.items }
-    requires tops { All (HasBarRoom layout) beside.tops.now }
-    requires past { All (HasBarRoom layout) beside.past.now }
-    requires apart { All (λ bar. has_depth beside.tops.now bar.depth ≡ false) beside.past.now }
+    requires beside { FitBeside layout beside.tops.now beside.past.now }
     ensures added { OnOk result ((above : List Bar)
         → beside.entry.past.now ≡ bars_apart above (ends_of_bars line.now.info.annotations.items)
         → AddsLine layout view.margin view.numbers view.closes above line.now.info buffer.old buffer.new) }
@@ -229,13 +196,7 @@ fn draw_marked_line(
     line: &ShownLine,
     past: &[OpenBar],
 ) -> Result<(), AllocError>
-    requires number { length (shown_number view.numbers layout.gutter line.now.info.line_index) ≤
-        separator_cell layout }
-    requires text { TextFits line.now.info.line.now }
-    requires columns { All HasPlace line.now.info.annotations.items }
-    requires clear { All (StandsClear view.margin) line.now.info.annotations.items }
-    requires bar_cells { All (HasBarCell layout) line.now.info.annotations.items }
-    requires labels { All (λ e. IfSome e.label (λ t. TextFits t.now)) line.now.info.annotations.items }
+    requires drawable { IsDrawableLine layout view.margin view.numbers line.now.info }
     requires other { spec.is_whole_line (norm (chars line.now.info.line.now)) line.now.info.annotations.items ≡ false }
     requires past { All (HasBarRoom layout) past.now }
     ensures added { OnOk result ((above : List Bar)
@@ -268,16 +229,8 @@ fn draw_entries(
     info: &AnnotatedLineInfo,
 ) -> Result<(), AllocError>
     requires last { length buffer.old ≡ place.row + 1 }
-    requires columns { All HasPlace info.now.annotations.items }
-    requires clear { All (λ e. is_bar e.annotation_type ≡ false
-        → place.dropped ≤ e.start.display) info.now.annotations.items }
-    requires bar_cells { All (HasBarCell layout) info.now.annotations.items }
-    requires labels { All (λ e. IfSome e.label (λ t. TextFits t.now)) info.now.annotations.items }
+    requires entries { AreDrawable layout info.now.annotations.items }
     requires other { spec.is_whole_line (norm (chars info.now.line.now)) info.now.annotations.items ≡ false }
-    ensures added { OnOk result ((above : List (List Cell)) (plain : List Cell) → buffer.old ≡ above ++ plain ∷ []
-        → HasNoBars layout plain
-        → AddsStrokes layout place.room (map (shifted place.dropped) info.now.annotations.items) place.closes above
-        plain buffer.new) }
     ensures own { OnOk result ((above : List (List Cell)) (source : List Cell) → buffer.old ≡ above ++ source ∷ []
         → AddsOwnRows layout place.room place.closes (norm (chars info.now.line.now)) place.dropped
         info.now.annotations.items above source buffer.new) }

@@ -1,10 +1,10 @@
 //! The row that shows a line of the source.
-ghost use Rattle.std.specs.Prelude.{◌≡◌, ◌+◌, ◌<◌, ◌≤◌, ◌++◌, ◌∷◌, [], All, IfOk, IfSome, List, OnOk, chars, false};
+ghost use Rattle.std.specs.Prelude.{◌≡◌, ◌+◌, ◌<◌, ◌≤◌, ◌++◌, ◌∷◌, [], IfOk, IfSome, List, OnOk, chars, false};
 ghost use Rattle.std.specs.Prelude.{length};
 ghost use Rattle.snippet_style.specs.Cell.{Cell, SPACE, text_cells, written};
 ghost use Rattle.snippet_style.specs.Separators.{separator_row};
 ghost use Rattle.snippet_style.specs.declared.role.ElementStyle.TheVariants.{LineNumber};
-ghost use Rattle.snippet_strokes.specs.Bars.{HasBarRoom, barred, has_depth};
+ghost use Rattle.snippet_strokes.specs.Bars.{FitBeside, barred};
 ghost use Rattle.snippet_strokes.specs.declared.bars.BarStroke.TheVariants.{Solid, Top};
 ghost use Rattle.std.specs.Cow.{cow_str_bytes};
 ghost use Rattle.std.specs.List.{list_any};
@@ -69,9 +69,7 @@ pub fn draw_source_row(
     requires number { length (shown_number view.numbers layout.gutter line.now.info.line_index) ≤
         separator_cell layout }
     requires text { TextFits line.now.info.line.now }
-    requires tops { All (HasBarRoom layout) beside.tops.now }
-    requires past { All (HasBarRoom layout) beside.past.now }
-    requires apart { All (λ bar. has_depth beside.tops.now bar.depth ≡ false) beside.past.now }
+    requires beside { FitBeside layout beside.tops.now beside.past.now }
     ensures added { OnOk result ((bare : List (List Cell))
         × AddsSourceRow layout (shown_number view.numbers layout.gutter line.now.info.line_index)
         (window_cells layout.decor view.margin (norm (chars line.now.info.line.now))) buffer.old bare
@@ -163,9 +161,7 @@ fn write_source_row(
     requires text { FitsRow (chars texts.window.text.now) }
     requires text_free { list_any is_listed (chars texts.window.text.now) ≡ false }
     requires end { IfSome texts.window.end (λ at. IsWindowColumn at) }
-    requires tops { All (HasBarRoom layout) beside.tops.now }
-    requires past { All (HasBarRoom layout) beside.past.now }
-    requires apart { All (λ bar. has_depth beside.tops.now bar.depth ≡ false) beside.past.now }
+    requires beside { FitBeside layout beside.tops.now beside.past.now }
     ensures added { OnOk result ((bare : List (List Cell)) × AddsSourceRow layout (chars texts.entry.number.now)
         (shown_cells layout.decor texts.entry.window.start (chars texts.entry.window.text.now) texts.entry.window.end)
         buffer.old bare × (buffer.new ≡ barred layout Solid beside.entry.past.now (length buffer.old)

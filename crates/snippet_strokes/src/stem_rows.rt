@@ -1,8 +1,7 @@
 //! Rows that are begun with the stems that stand in them.
-ghost use Rattle.std.specs.Prelude.{◌≡◌, ℕ, ◌+◌, ◌-◌, ◌<◌, ◌≤◌, ◌==◌, ◌&&◌, ◌++◌, ◌∷◌, [], All, IfOk, OnOk, length};
+ghost use Rattle.std.specs.Prelude.{◌≡◌, ℕ, ◌+◌, ◌-◌, ◌<◌, ◌==◌, ◌&&◌, ◌++◌, ◌∷◌, [], All, IfOk, OnOk, length};
 ghost use Rattle.std.specs.Prelude.{not, replicate};
 ghost use Rattle.std.specs.List.{flat_map};
-ghost use Rattle.snippet_grid.specs.Layout.{inner_cell};
 ghost use Rattle.snippet_labels.specs.PlacedEntries.{HasPlace};
 ghost use Rattle.snippet_labels.specs.Positions as labels;
 ghost use Rattle.snippet_strokes.specs.SourceRows.{bare_row};
@@ -61,7 +60,6 @@ pub(crate) fn begin_stem_rows(
         (buffer.old ++ replicate (count - 1) (separator_row layout.decor layout.gutter)
         ++ bare_row layout.decor layout.gutter closes ∷ [])) }
     ensures small { OnOk result (AreRows (length buffer.new)) }
-    ensures place { OnOk result (inner_cell layout ≤ layout.code) }
 {
     let stems = uncovered_stems(alloc, layout, placed)?;
     let row = buffer.num_lines();
@@ -145,7 +143,6 @@ fn begin_stem_row(
     ensures painted { OnOk result (buffer.new ≡ painted (flat_map (cell_across row below) stems.now)
         (buffer.old ++ bare_row layout.decor layout.gutter closes ∷ [])) }
     ensures small { AreRows (length buffer.old + 1) }
-    ensures place { inner_cell layout ≤ layout.code }
 {
     begin_last_row(buffer, layout, closes)?;
     draw_across(buffer, row, below, stems)

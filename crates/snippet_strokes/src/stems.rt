@@ -1,10 +1,8 @@
 //! The stems that lead from marks down to their labels, or to the lines to their bars.
-ghost use Rattle.std.specs.Prelude.{◌≡◌, ◌==◌, ◌∷◌, [], if◌then◌else◌, All, OnOk, length};
-ghost use Rattle.snippet_labels.specs.PlacedEntries.{HasPlace};
-ghost use Rattle.snippet_strokes.specs.Drawing.{HasRows, foot_glyph};
+ghost use Rattle.std.specs.Prelude.{◌≡◌, ◌==◌, [], if◌then◌else◌, All, OnOk, length};
+ghost use Rattle.snippet_strokes.specs.Drawing.{HasPlaceAmong, foot_glyph};
 ghost use Rattle.snippet_strokes.specs.Writes.{painted};
 ghost use Rattle.snippet_strokes.specs.Strokes.{is_stem_covered, stem_of, stems_of};
-ghost use Rattle.snippet_style.specs.Bounds.{AreRows};
 
 use crate::roles::is_primary;
 use snippet_grid::{Layout, StyledBuffer};
@@ -31,9 +29,7 @@ pub(crate) fn draw_stems(
     row: usize,
     placed: &[PlacedEntry],
 ) -> Result<(), AllocError>
-    requires columns { All (λ e. HasPlace e.entry) placed.now }
-    requires small { AreRows (length buffer.old) }
-    requires rows { All (HasRows row (length buffer.old)) placed.now }
+    requires places { All (HasPlaceAmong row (length buffer.old)) placed.now }
     ensures painted { OnOk result (buffer.new ≡ painted (stems_of layout row placed.now) buffer.old) }
 {
     for i in 0..placed.len() {
@@ -68,9 +64,7 @@ fn draw_stem(
     row: usize,
     placed: &PlacedEntry,
 ) -> Result<(), AllocError>
-    requires columns { HasPlace placed.now.entry }
-    requires small { AreRows (length buffer.old) }
-    requires rows { HasRows row (length buffer.old) placed.now }
+    requires place { HasPlaceAmong row (length buffer.old) placed.now }
     ensures painted { OnOk result (buffer.new ≡ painted (stem_of layout row placed.now) buffer.old) }
 {
     if !placed.has_stem() {

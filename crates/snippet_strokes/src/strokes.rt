@@ -1,23 +1,19 @@
 //! All that stands below the source row of a line, and the bars beside it of spans that begin or end there.
-ghost use Rattle.std.specs.Prelude.{◌≡◌, ◌+◌, ◌<◌, ◌≤◌, ◌++◌, ◌∷◌, [], if◌then◌else◌, All, IfSome, List, OnOk};
-ghost use Rattle.std.specs.Prelude.{◌-◌, false, length, map, replicate, true};
+ghost use Rattle.std.specs.Prelude.{◌≡◌, ◌+◌, ◌<◌, ◌++◌, ◌∷◌, [], if◌then◌else◌, All, List, OnOk};
+ghost use Rattle.std.specs.Prelude.{◌-◌, false, length, map, replicate};
 ghost use Rattle.std.specs.List.{list_any};
-ghost use Rattle.snippet_labels.specs.PlacedEntries.{HasPlace, label_text, shifted};
-ghost use Rattle.snippet_labels.specs.Positions.{HasItsLabel, takes_space};
-ghost use Rattle.snippet_strokes.specs.EntryMarks.{HasBarCell};
-ghost use Rattle.snippet_parts.specs.Entries.{is_bar};
+ghost use Rattle.snippet_labels.specs.PlacedEntries.{shifted};
+ghost use Rattle.snippet_labels.specs.Positions.{takes_space};
+ghost use Rattle.snippet_strokes.specs.Drawable.{AreDrawable, IsReady};
 ghost use Rattle.snippet_style.specs.Cell.{Cell};
 ghost use Rattle.snippet_strokes.specs.Drawing as spec;
 ghost use Rattle.snippet_strokes.specs.Drawing.{AreEnough, HasRows};
 ghost use Rattle.snippet_strokes.specs.SourceRows.{bare_row};
-ghost use Rattle.snippet_strokes.specs.StrokeRows.{AddsStrokes, HasNoBars};
 ghost use Rattle.snippet_strokes.specs.Strokes.{AddsPainted, line_strokes, strokes_under_marks};
 ghost use Rattle.snippet_strokes.specs.Painting.{painting_order};
 ghost use Rattle.snippet_strokes.specs.Writes.{painted};
 ghost use Rattle.snippet_style.specs.Separators.{closing_row, separator_row};
-ghost use Rattle.snippet_grid.specs.Layout.{inner_cell};
-ghost use Rattle.snippet_text.specs.TextBounds.{TextFits};
-ghost use Rattle.snippet_style.specs.Bounds.{AreRows, FitsRow, IsCount};
+ghost use Rattle.snippet_style.specs.Bounds.{AreRows, IsCount};
 
 use crate::apart::{draw_apart, stand_apart};
 use crate::connectors::draw_connectors;
@@ -73,13 +69,7 @@ pub(crate) fn draw_strokes(
     entries: &[LineAnnotation],
 ) -> Result<(), AllocError>
     requires last { length buffer.old ≡ place.row + 1 }
-    requires columns { All HasPlace entries.now }
-    requires clear { All (λ e. is_bar e.annotation_type ≡ false → place.dropped ≤ e.start.display) entries.now }
-    requires bar_cells { All (HasBarCell layout) entries.now }
-    requires labels { All (λ e. IfSome e.label (λ t. TextFits t.now)) entries.now }
-    ensures added { OnOk result ((above : List (List Cell)) (plain : List Cell) → buffer.old ≡ above ++ plain ∷ []
-        → HasNoBars layout plain
-        → AddsStrokes layout place.room (map (shifted place.dropped) entries.now) place.closes above plain buffer.new) }
+    requires entries { AreDrawable layout entries.now }
     ensures none { OnOk result (length entries.now ≡ 0 → buffer.new ≡ buffer.old
         ++ (if place.closes then closing_row layout.decor layout.gutter ∷ [] else [])) }
     ensures painted { OnOk result (0 < length entries.now → (above : List (List Cell)) (plain : List Cell)
@@ -113,10 +103,7 @@ fn draw_rows(
     requires some { 0 < count }
     requires last { length buffer.old ≡ place.row + 1 }
     requires rows { All (HasRows (place.row + 1) (length buffer.old + count)) placed.old.items }
-    requires columns { All (λ e. HasPlace e.entry) placed.old.items }
-    requires bar_cells { All (λ e. HasBarCell layout e.entry) placed.old.items }
-    requires labels { All HasItsLabel placed.old.items }
-    requires short { All (λ e. FitsRow (label_text e.entry)) placed.old.items }
+    requires ready { All (IsReady layout) placed.old.items }
     ensures order { OnOk result (placed.new.items ≡ painting_order placed.old.items) }
     ensures painted { OnOk result (buffer.new ≡ painted (line_strokes layout place.row
         (length buffer.old + count) placed.old.items (painting_order placed.old.items))
@@ -124,7 +111,6 @@ fn draw_rows(
         ++ bare_row layout.decor layout.gutter place.closes ∷ [])) }
     ensures small { OnOk result (AreRows (length buffer.old + count)) }
     ensures count { OnOk result (length buffer.new ≡ length buffer.old + count) }
-    ensures place { OnOk result (inner_cell layout ≤ layout.code) }
 {
     if count > 1 && !has_lines(placed) {
         return draw_hanging(alloc, buffer, layout, place, count, placed);
@@ -157,10 +143,7 @@ fn draw_hanging(
     requires some { 0 < count }
     requires last { length buffer.old ≡ place.row + 1 }
     requires rows { All (HasRows (place.row + 1) (length buffer.old + count)) placed.old.items }
-    requires columns { All (λ e. HasPlace e.entry) placed.old.items }
-    requires bar_cells { All (λ e. HasBarCell layout e.entry) placed.old.items }
-    requires labels { All HasItsLabel placed.old.items }
-    requires short { All (λ e. FitsRow (label_text e.entry)) placed.old.items }
+    requires ready { All (IsReady layout) placed.old.items }
     requires lines { list_any takes_space placed.old.items ≡ false }
     ensures order { OnOk result (placed.new.items ≡ painting_order placed.old.items) }
     ensures painted { OnOk result (buffer.new ≡ painted (line_strokes layout place.row
@@ -169,7 +152,6 @@ fn draw_hanging(
         ++ bare_row layout.decor layout.gutter place.closes ∷ [])) }
     ensures small { OnOk result (AreRows (length buffer.old + count)) }
     ensures count { OnOk result (length buffer.new ≡ length buffer.old + count) }
-    ensures place { OnOk result (inner_cell layout ≤ layout.code) }
 {
     begin_stem_rows(alloc, buffer, layout, place.closes, count, placed)?;
     draw_labels(buffer, layout, place.row + 1, placed)?;
@@ -187,8 +169,6 @@ fn paint_strokes(
     placed: &mut Vec<PlacedEntry>,
 ) -> Result<(), AllocError>
     requires enough { AreEnough layout row (length buffer.old) placed.old.items }
-    requires labels { All HasItsLabel placed.old.items }
-    requires short { All (λ e. FitsRow (label_text e.entry)) placed.old.items }
     ensures order { OnOk result (placed.new.items ≡ painting_order placed.old.items) }
     ensures painted { OnOk result (buffer.new ≡ painted (line_strokes layout row
         (length buffer.old) placed.old.items (painting_order placed.old.items)) buffer.old) }
@@ -213,8 +193,6 @@ fn draw_under_marks(
     placed: &[PlacedEntry],
 ) -> Result<(), AllocError>
     requires enough { AreEnough layout row (length buffer.old) placed.now }
-    requires labels { All HasItsLabel placed.now }
-    requires short { All (λ e. FitsRow (label_text e.entry)) placed.now }
     ensures painted { OnOk result (buffer.new ≡ painted (strokes_under_marks layout row
         (length buffer.old) placed.now) buffer.old) }
     ensures count { OnOk result (length buffer.new ≡ length buffer.old) }
@@ -229,7 +207,6 @@ fn draw_under_marks(
 fn close_below(buffer: &mut StyledBuffer, layout: Layout, closes: bool) -> Result<(), AllocError>
     ensures added { OnOk result (buffer.new ≡ buffer.old
         ++ (if closes then closing_row layout.decor layout.gutter ∷ [] else [])) }
-    ensures place { closes ≡ true → inner_cell layout ≤ layout.code }
 {
     if closes {
         begin_closing_row(buffer, layout)?;

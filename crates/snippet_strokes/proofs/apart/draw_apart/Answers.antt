@@ -1,13 +1,11 @@
-use Rattle.std.proofs.Common.{◌≡◌, ℕ, ◌+◌, ◌-◌, ◌<◌, ◌^◌, List, [], ◌∷◌, ◌∙◌, All, ap, sym, subst, drop, get_or, length, arith}
+use Rattle.std.proofs.Common.{◌≡◌, ℕ, ◌+◌, ◌-◌, ◌<◌, List, [], ◌∷◌, ◌∙◌, All, ap, sym, subst, drop, get_or, length, arith}
 use Rattle.std.proofs.lemmas.List.{drop_more}
 use Rattle.std.proofs.lemmas.List.Elements.{All-cons, All-nil}
 use Rattle.snippet_grid.specs.declared.layout.Layout.{Layout}
 use Rattle.snippet_labels.specs.declared.positions.PlacedEntry.{PlacedEntry}
-use Rattle.snippet_labels.specs.PlacedEntries.{HasPlace, label_text}
-use Rattle.snippet_labels.specs.Positions.{HasItsLabel}
 use Rattle.snippet_strokes.specs.Apart.{strokes_apart, strokes_of_part}
 use Rattle.snippet_strokes.specs.Drawing.{AreEnough, HasRows}
-use Rattle.snippet_strokes.specs.EntryMarks.{HasBarCell}
+use Rattle.snippet_strokes.specs.Drawable.{IsReady}
 use Rattle.snippet_strokes.specs.Writes.{painted}
 use Rattle.snippet_strokes.proofs.WriteLemmas.{painted-append}
 use Rattle.snippet_strokes.proofs.apart.draw_apart.Goals as goal
@@ -22,8 +20,7 @@ enough_one {layout} {row} {n} placed e j within is enough =
       marks = enough.marks;
       small = enough.small;
       rows = one (HasRows (row + 1) n) enough.rows;
-      places = one (λ e. HasPlace e.entry) enough.places;
-      bar_cells = one (λ e. HasBarCell layout e.entry) enough.bar_cells;
+      ready = one (IsReady layout) enough.ready;
     }
 
 pub draw_entry-requires : goal.draw_entry-requires
@@ -35,8 +32,6 @@ draw_entry-requires c =
     record {
       enough = enough_one placed e j within c.index-placed-i.is
           (subst (λ n. AreEnough c.args.layout c.args.row n placed) (sym c.loop-i.invariant.count) c.requires.enough);
-      label = subst HasItsLabel (sym c.index-placed-i.is) (c.requires.labels j e within);
-      short = subst (λ (e : PlacedEntry). length (label_text e.entry) < 2 ^ 60) (sym c.index-placed-i.is) (c.requires.short j e within);
     }
 
 pub loop-i-preserved : goal.loop-i-preserved

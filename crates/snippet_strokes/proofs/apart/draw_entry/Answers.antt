@@ -7,7 +7,7 @@ use Rattle.snippet_strokes.specs.Drawing.{AreEnough}
 use Rattle.snippet_strokes.specs.Painting.{mark_of}
 use Rattle.snippet_strokes.specs.Strokes.{connector_of, corner_of, label_of}
 use Rattle.snippet_strokes.specs.Writes.{Write, painted}
-use Rattle.snippet_strokes.proofs.ReadyRows.{count_connectors, count_corners, count_labels, count_marks, enough_after}
+use Rattle.snippet_strokes.proofs.ReadyRows.{places_among, count_connectors, count_corners, count_labels, count_marks, enough_after}
 use Rattle.snippet_style.specs.Cell.{Cell}
 use Rattle.snippet_strokes.proofs.apart.draw_entry.Goals as goal
 
@@ -28,22 +28,13 @@ module _ (layout : Layout) (row : ℕ) (e : PlacedEntry) (old new : List (List C
   count_label : new ≡ painted (label_of layout (row + 1) e) old → length new ≡ length old
   count_label drawn = count_labels old new enough (of_one (label_of layout (row + 1) e) old new drawn)
 
-pub draw_connector-requires-clause-small : goal.draw_connector-requires-clause-small
-draw_connector-requires-clause-small c =
-    let enough = c.requires.enough in
-    omega (
-      arith,
-      enough.small,
-      count_corner c.args.layout c.args.row c.args.placed.now c.args.buffer.now c.draw_corner.new.buffer enough c.in_ok-draw_corner.ensures.painted,
-    )
-
-pub draw_connector-requires-clause-rows : goal.draw_connector-requires-clause-rows
-draw_connector-requires-clause-rows c =
+pub draw_connector-requires-clause-place : goal.draw_connector-requires-clause-place
+draw_connector-requires-clause-place c =
     let e = c.args.placed.now in
     let old = c.args.buffer.now in
     let cornered = c.draw_corner.new.buffer in
-    (enough_after old cornered c.requires.enough
-    (count_corner c.args.layout c.args.row e old cornered c.requires.enough c.in_ok-draw_corner.ensures.painted)).rows
+    places_among (enough_after old cornered c.requires.enough
+    (count_corner c.args.layout c.args.row e old cornered c.requires.enough c.in_ok-draw_corner.ensures.painted))
     0 e (omega arith)
 
 -- there is enough before the label is drawn
@@ -61,16 +52,11 @@ module _ (layout : Layout) (row : ℕ) (e : PlacedEntry) (old cornered lined mar
   marked_enough : AreEnough layout row (length marked) (e ∷ [])
   marked_enough = enough_after old marked enough marked_count
 
-pub draw_label-requires-clause-small : goal.draw_label-requires-clause-small
-draw_label-requires-clause-small c =
-    (marked_enough c.args.layout c.args.row c.args.placed.now c.args.buffer.now c.draw_corner.new.buffer c.draw_connector.new.buffer c.paint_entry.new.buffer
-    c.requires.enough c.in_ok-draw_corner.ensures.painted c.in_ok-draw_connector.ensures.painted c.in_ok-paint_entry.ensures.painted).small
-
-pub draw_label-requires-clause-rows : goal.draw_label-requires-clause-rows
-draw_label-requires-clause-rows c =
-    (marked_enough c.args.layout c.args.row c.args.placed.now c.args.buffer.now c.draw_corner.new.buffer c.draw_connector.new.buffer c.paint_entry.new.buffer
-    c.requires.enough c.in_ok-draw_corner.ensures.painted c.in_ok-draw_connector.ensures.painted c.in_ok-paint_entry.ensures.painted).rows
-    0 c.args.placed.now (omega arith)
+pub draw_label-requires-clause-place : goal.draw_label-requires-clause-place
+draw_label-requires-clause-place c =
+    places_among (marked_enough c.args.layout c.args.row c.args.placed.now c.args.buffer.now c.draw_corner.new.buffer c.draw_connector.new.buffer
+    c.paint_entry.new.buffer c.requires.enough c.in_ok-draw_corner.ensures.painted c.in_ok-draw_connector.ensures.painted
+    c.in_ok-paint_entry.ensures.painted) 0 c.args.placed.now (omega arith)
 
 pub returns-clause-count : goal.returns-clause-count
 returns-clause-count c =

@@ -16,7 +16,7 @@ puts-requires-clause-end c =
       arith,
       ap length c.requires.part,
       length-replicate c.args.side.count (bar_glyph c.args.side.stroke c.args.layout.decor c.args.side.first.primary),
-      c.requires.room,
+      c.requires.side.room,
       ap (λ (l : Layout). l.gutter) c.layout.view_is,
       ap
           (λ (l : Layout). l.code) c.layout.view_is,
@@ -34,7 +34,7 @@ loop-r-preserved c =
     let is : chars text ≡ replicate n glyph = c.requires.part in
     let at = layout.gutter + 2 + c.args.side.first.depth in
     let written_is : c.puts.new.self ≡ cells_written c.loop-r.buffer c.loop-r.r at (text_cells role (chars text)) =
-    c.in_ok-puts.ensures.ok (some_bytes text n glyph is c.requires.some)
+    c.in_ok-puts.ensures.ok (some_bytes text n glyph is c.requires.side.some)
     ∙ ap (λ n. cells_written c.loop-r.buffer c.loop-r.r n (text_cells role (chars text))) c.bar_cell-cell.ensures.value in
     let part : unlinked_cell role glyph ≡ bar_cell_part layout c.args.side.stroke c.args.side.first = ap (λ r. unlinked_cell r glyph)
     (ap (λ (s : Strokes). s.style) c.underline-role.ensures.value) in

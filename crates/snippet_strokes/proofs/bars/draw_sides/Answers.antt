@@ -17,17 +17,19 @@ pub side_end-to-requires-clause-right : goal.side_end-to-requires-clause-right
 side_end-to-requires-clause-right c =
     λ k d within. (c.requires.room k d within).0
 
-pub draw_side-requires-clause-left : goal.draw_side-requires-clause-left
-draw_side-requires-clause-left c =
-    (c.requires.room c.loop-from.from no_bar c.loop-from-test.true).0
-
-pub draw_side-requires-clause-room : goal.draw_side-requires-clause-room
-draw_side-requires-clause-room c =
+pub draw_side-requires : goal.draw_side-requires
+draw_side-requires c =
     let to = c.side_end-to in
     let last = to.result - 1 in
     let beside = to.ensures.beside last no_bar (omega (arith, to.ensures.more)) (omega (arith, to.ensures.more)) in
     let room = c.requires.room last no_bar (omega (arith, to.ensures.more, to.ensures.within)) in
-    omega (arith, beside.depth, room.1, to.ensures.more)
+    record {
+      side = record {
+        left = (c.requires.room c.loop-from.from no_bar c.loop-from-test.true).0;
+        room = omega (arith, beside.depth, room.1, to.ensures.more);
+        some = omega (arith, to.ensures.more);
+      };
+    }
 
 pub loop-from-preserved : goal.loop-from-preserved
 loop-from-preserved c =

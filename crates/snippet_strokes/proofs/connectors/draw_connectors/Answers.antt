@@ -4,7 +4,7 @@ use Rattle.std.proofs.lemmas.List.Elements.{All-take}
 use Rattle.snippet_style.specs.Cell.{Cell}
 use Rattle.snippet_grid.specs.Layout.{Layout}
 use Rattle.snippet_labels.specs.declared.positions.PlacedEntry.{PlacedEntry}
-use Rattle.snippet_strokes.specs.Drawing.{HasRows}
+use Rattle.snippet_strokes.specs.Drawing.{HasPlaceAmong, HasRows}
 use Rattle.snippet_strokes.specs.Strokes.{connector_of, connectors_of}
 use Rattle.snippet_strokes.specs.Writes.{painted}
 use Rattle.snippet_strokes.proofs.BarWrites.{DrawsFrom-connectors}
@@ -17,22 +17,13 @@ count_kept : (layout : Layout) (row i : ℕ) (es : List PlacedEntry) (old mid : 
 count_kept layout row i es old mid so_far rows =
     ap length so_far ∙ (DrawsFrom-connectors layout row (take i es) old (All-take (HasRows row (length old)) i es rows)).count
 
-pub draw_connector-requires-clause-small : goal.draw_connector-requires-clause-small
-draw_connector-requires-clause-small c =
-    omega (
-      arith,
-      count_kept c.args.layout c.args.row c.loop-entry.entry-index c.args.placed.now c.args.buffer.now c.loop-entry.buffer c.loop-entry.invariant
-          c.requires.rows,
-      c.requires.small,
-    )
-
-pub draw_connector-requires-clause-rows : goal.draw_connector-requires-clause-rows
-draw_connector-requires-clause-rows c =
-    subst (λ n. HasRows c.args.row n c.entry-item.result)
-    (sym (count_kept c.args.layout c.args.row c.loop-entry.entry-index c.args.placed.now c.args.buffer.now c.loop-entry.buffer
-    c.loop-entry.invariant c.requires.rows))
-    (subst (HasRows c.args.row (length c.args.buffer.now)) (sym c.entry-item.is)
-    (c.requires.rows c.loop-entry.entry-index c.entry-item.result c.loop-entry-test.true))
+pub draw_connector-requires-clause-place : goal.draw_connector-requires-clause-place
+draw_connector-requires-clause-place c =
+    let count = count_kept c.args.layout c.args.row c.loop-entry.entry-index c.args.placed.now c.args.buffer.now c.loop-entry.buffer c.loop-entry.invariant
+    (λ k d within. (c.requires.places k d within).rows) in
+    subst (λ n. HasPlaceAmong c.args.row n c.entry-item.result) (sym count)
+    (subst (HasPlaceAmong c.args.row (length c.args.buffer.now)) (sym c.entry-item.is)
+    (c.requires.places c.loop-entry.entry-index c.entry-item.result c.loop-entry-test.true))
 
 pub loop-entry-preserved : goal.loop-entry-preserved
 loop-entry-preserved c =

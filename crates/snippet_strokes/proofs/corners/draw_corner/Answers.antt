@@ -1,4 +1,4 @@
-use Rattle.std.proofs.Common.{◌≡◌, ◌∙◌, ◌+◌, ◌++◌, ◌∷◌, [], List, ℕ, ap, length, sym}
+use Rattle.std.proofs.Common.{◌∙◌, ◌+◌, ◌++◌, ◌∷◌, [], List, ℕ, ap, length, sym}
 use Rattle.std.proofs.lemmas.Result.{on_ok_weaker}
 use Rattle.snippet_parts.specs.declared.entries.LineAnnotationType.{LineAnnotationType}
 use Rattle.snippet_style.specs.Cell.{Cell}

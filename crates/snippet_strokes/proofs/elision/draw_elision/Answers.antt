@@ -1,6 +1,4 @@
 use Rattle.std.proofs.lemmas.Result.{on_ok_weaker}
-use Rattle.snippet_strokes.specs.declared.bars.BarStroke.TheVariants.{Dotted}
-use Rattle.snippet_strokes.proofs.BarLemmas.{DrawsBars-barred}
 use Rattle.snippet_strokes.proofs.ElisionLemmas.{elision_added}
 use Rattle.snippet_strokes.proofs.elision.draw_elision.Goals as goal
 
@@ -13,6 +11,6 @@ returns c =
       added = on_ok_weaker c.draw_bars.result
           (λ value. elision_added c.args.layout c.args.open_bars.now c.args.buffer.now begun new row c.num_lines-row.ensures.count
           c.in_ok-begin_elision_row.ensures.place
-          c.in_ok-begin_elision_row.ensures.added (DrawsBars-barred c.args.layout Dotted c.args.open_bars.now row begun new c.requires.room value) value)
+          c.in_ok-begin_elision_row.ensures.added c.requires.room value)
           c.draw_bars.ensures.value;
     }

@@ -5,7 +5,7 @@ use Rattle.snippet_style.specs.Cell.{Cell}
 use Rattle.snippet_grid.specs.Layout.{Layout}
 use Rattle.snippet_labels.specs.declared.positions.PlacedEntry.{PlacedEntry}
 use Rattle.snippet_labels.specs.PlacedEntries.{HasPlace}
-use Rattle.snippet_strokes.specs.Drawing.{HasRows}
+use Rattle.snippet_strokes.specs.Drawing.{HasPlaceAmong, HasRows}
 use Rattle.snippet_strokes.specs.Writes.{painted}
 use Rattle.snippet_strokes.specs.Strokes.{label_of, labels_of}
 use Rattle.snippet_strokes.proofs.LabelWrites.{DrawsFrom-labels}
@@ -19,22 +19,13 @@ count_kept layout row i es old mid so_far places rows =
     ap length so_far ∙ (DrawsFrom-labels layout row 0 (take i es) old (All-take (λ (e : PlacedEntry). HasPlace e.entry) i es places)
     (All-take (HasRows row (length old)) i es rows) (λ k d within. omega arith)).count
 
-pub draw_label-requires-clause-small : goal.draw_label-requires-clause-small
-draw_label-requires-clause-small c =
-    omega (
-      arith,
-      count_kept c.args.layout c.args.row c.loop-entry.entry-index c.args.placed.now c.args.buffer.now c.loop-entry.buffer c.loop-entry.invariant
-          c.requires.columns c.requires.rows,
-      c.requires.small,
-    )
-
-pub draw_label-requires-clause-rows : goal.draw_label-requires-clause-rows
-draw_label-requires-clause-rows c =
-    subst (λ n. HasRows c.args.row n c.entry-item.result)
-    (sym (count_kept c.args.layout c.args.row c.loop-entry.entry-index c.args.placed.now c.args.buffer.now c.loop-entry.buffer
-    c.loop-entry.invariant c.requires.columns c.requires.rows))
-    (subst (HasRows c.args.row (length c.args.buffer.now)) (sym c.entry-item.is)
-    (c.requires.rows c.loop-entry.entry-index c.entry-item.result c.loop-entry-test.true))
+pub draw_label-requires-clause-place : goal.draw_label-requires-clause-place
+draw_label-requires-clause-place c =
+    let count = count_kept c.args.layout c.args.row c.loop-entry.entry-index c.args.placed.now c.args.buffer.now c.loop-entry.buffer c.loop-entry.invariant
+    (λ k d within. (c.requires.places k d within).columns) (λ k d within. (c.requires.places k d within).rows) in
+    subst (λ n. HasPlaceAmong c.args.row n c.entry-item.result) (sym count)
+    (subst (HasPlaceAmong c.args.row (length c.args.buffer.now)) (sym c.entry-item.is)
+    (c.requires.places c.loop-entry.entry-index c.entry-item.result c.loop-entry-test.true))
 
 pub loop-entry-preserved : goal.loop-entry-preserved
 loop-entry-preserved c =

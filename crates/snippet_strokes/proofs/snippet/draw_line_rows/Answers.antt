@@ -1,19 +1,12 @@
 use Rattle.std.proofs.Common.{◌∙◌, ap, chars, sym}
-use Rattle.std.proofs.lemmas.List.Elements.{All-same}
 use Rattle.snippet_text.specs.Normalized.{norm}
-use Rattle.snippet_strokes.specs.Bars.{HasBarRoom, ends_of_bars, is_whole_line}
-use Rattle.snippet_strokes.proofs.OpenLemmas.{room_ends}
+use Rattle.snippet_strokes.specs.Bars.{is_whole_line}
 use Rattle.snippet_strokes.proofs.snippet.draw_line_rows.Goals as goal
 
 pub draw_whole_line-requires-clause-whole : goal.draw_whole_line-requires-clause-whole
 draw_whole_line-requires-clause-whole c =
     let text = norm (chars c.args.line.now.info.line.now) in
     ap (is_whole_line text) (sym c.deref.ensures.value) ∙ sym c.is_whole_line.ensures.value ∙ c.if-is_whole_line.true
-
-pub draw_whole_line-requires-clause-tops : goal.draw_whole_line-requires-clause-tops
-draw_whole_line-requires-clause-tops c =
-    let es = c.args.line.now.info.annotations.items in
-    All-same (HasBarRoom c.args.layout) c.args.beside.tops.now (ends_of_bars es) c.requires.ends (room_ends c.args.layout es c.requires.bar_cells)
 
 pub draw_marked_line-requires-clause-other : goal.draw_marked_line-requires-clause-other
 draw_marked_line-requires-clause-other c =

@@ -9,8 +9,6 @@ use Rattle.snippet_grid.specs.Grid.{changed_within}
 use Rattle.snippet_labels.specs.PlacedEntries.{is_end_part}
 use Rattle.snippet_strokes.specs.SourceRows.{AddsSourceRow, window_cells}
 use Rattle.snippet_strokes.specs.StrokeRows.{highlighted_row}
-use Rattle.snippet_strokes.specs.declared.bars.BarStroke.TheVariants.{Solid}
-use Rattle.snippet_strokes.proofs.BarLemmas.{DrawsBars-barred}
 use Rattle.snippet_strokes.proofs.BesideLemmas.{unbarred}
 use Rattle.snippet_strokes.proofs.HighlightLaws.{IsHighlighted-rows, highlighted_count, unlit_rows}
 use Rattle.snippet_strokes.proofs.SnippetLemmas.{clear_entries, line_added}
@@ -50,13 +48,12 @@ returns c =
     let highlights = IsHighlighted-rows layout.code dropped own row mid high lit in
     let others = unlit_rows layout.code dropped own row mid high lit in
     let count = highlighted_count layout.code dropped own row mid high lit in
-    let clear = clear_entries margin dropped info.annotations.items c.requires.clear drawn.near drawn.uncut in
+    let clear = clear_entries margin dropped info.annotations.items c.requires.drawable.clear drawn.near drawn.uncut in
     let done = c.draw_entries.new.buffer in
     let new = c.draw_bars.new.buffer in
     record {
       added = on_ok_weaker c.draw_bars.result (λ value above past_are.
-          line_added layout margin numbers c.args.view.closes above c.args.past.now info dropped old mid high done new row c.requires.number source
-          drawn.row drawn.dropped clear highlights others count c.in_ok-draw_entries.ensures.added
-          (DrawsBars-barred layout Solid c.args.past.now row done new c.requires.past value) c.in_ok-draw_entries.ensures.own past_are value)
+          line_added layout margin numbers c.args.view.closes above c.args.past.now info dropped old mid high done new row source
+          drawn.row drawn.dropped clear highlights others count c.in_ok-draw_entries.ensures.own past_are value)
           c.draw_bars.ensures.value;
     }

@@ -28,8 +28,9 @@ pub draw_gap-requires : goal.draw_gap-requires
 draw_gap-requires c =
     let layout = c.args.layout in
     let line : ShownLine = c.index-lines-i.result in
+    let drawable = c.requires.drawable c.loop-i.i line c.loop-i-test.true in
     let bar_cells : All (HasBarCell layout) line.info.annotations.items = subst (λ (l : ShownLine). All (HasBarCell layout) l.info.annotations.items)
-    (sym c.index-lines-i.is) (c.requires.bar_cells c.loop-i.i line c.loop-i-test.true) in
+    (sym c.index-lines-i.is) drawable.entries.bar_cells in
     record {
       room = All-same (HasBarRoom layout) c.deref.result.now _ (c.deref.ensures.value ∙ c.in_ok-bars.ensures.bars)
           (room_below layout c.loop-i.bars.open_bars.items line.info.annotations.items c.loop-i.invariant.0 bar_cells);
@@ -61,7 +62,7 @@ loop-i-preserved c =
     c.deref.ensures.value c.in_ok-draw_gap.ensures.added) in
     let below : c.in_ok-bars.bars.open_bars.items ≡ open_below c.loop-i.bars.open_bars.items info.annotations.items = c.in_ok-bars.ensures.bars in
     let bar_cells : All (HasBarCell layout) info.annotations.items = subst (λ (l : ShownLine). All (HasBarCell layout) l.info.annotations.items)
-    (sym c.index-lines-i.is) (c.requires.bar_cells i line c.loop-i-test.true) in (
+    (sym c.index-lines-i.is) (c.requires.drawable i line c.loop-i-test.true).entries.bar_cells in (
       All-same (HasBarRoom layout) c.in_ok-bars.bars.open_bars.items _ c.in_ok-bars.ensures.bars
           (room_below layout c.loop-i.bars.open_bars.items info.annotations.items c.loop-i.invariant.0 bar_cells),
       AddsLines-next layout c.args.view.margin c.args.view.numbers c.args.view.closes infos i info c.loop-i.bars.open_bars.items

@@ -30,8 +30,8 @@ highlight_source-requires-clause-short c =
     omega (
       arith,
       ap length (row_added old c.draw_source_row.new.buffer full c.in_ok-row.row drawn.row mid_is),
-      (BarsDrawn-with_bars layout Solid past topped c.requires.past).short,
-      (BarsDrawn-with_bars layout Top tops source.row c.requires.tops).short,
+      (BarsDrawn-with_bars layout Solid past topped c.requires.beside.past_room).short,
+      (BarsDrawn-with_bars layout Top tops source.row c.requires.beside.tops_room).short,
       ap length source.is.shows.code,
       length-drop layout.code source.row,
       drawn.short,
@@ -46,13 +46,13 @@ returns c =
     let row = c.in_ok-row.row in
     let dropped = c.in_ok-row.dropped in
     let mid = c.draw_source_row.new.buffer in
-    let clear = clear_entries margin dropped info.annotations.items c.requires.clear drawn.near drawn.uncut in
+    let clear = clear_entries margin dropped info.annotations.items c.requires.drawable.clear drawn.near drawn.uncut in
     let asking : List LineAnnotation → List LineAnnotation = λ es. filter (λ (e : LineAnnotation). not (is_end_part e.annotation_type)) es in
     record {
       added = on_ok_weaker c.highlight_source.result (λ value above past_are.
           whole_line_added layout margin c.args.view.numbers c.args.view.closes above c.args.beside.tops.now c.args.beside.past.now info dropped
           c.args.buffer.now drawn.added.0 mid c.highlight_source.new.buffer row drawn.added.1 drawn.added.2 drawn.row
           (value ∙ ap (λ es. changed_within (highlighted_row layout.code dropped (asking es)) row (row + 1) mid) c.deref.ensures.value)
-          c.requires.tops c.requires.past c.requires.number drawn.dropped clear c.requires.whole c.requires.ends past_are)
+          c.requires.beside.tops_room c.requires.beside.past_room drawn.dropped clear c.requires.whole c.requires.ends past_are)
           c.highlight_source.ensures.value;
     }

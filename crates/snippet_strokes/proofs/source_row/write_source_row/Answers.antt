@@ -25,8 +25,8 @@ returns-clause-added c =
     let start : List Cell = front layout shown in
     let sides : List Cell = with_bars layout Solid past start in
     let full : List Cell = with_bars layout Top tops sides in
-    let ends = bars_left layout Top tops sides c.requires.tops
-    (bars_left layout Solid past start c.requires.past (front_short layout shown place c.requires.number)) in
+    let ends = bars_left layout Top tops sides c.requires.beside.tops_room
+    (bars_left layout Solid past start c.requires.beside.past_room (front_short layout shown place c.requires.number)) in
     let begun : c.begin_source_row.new.buffer ≡ old ++ start ∷ [] = c.in_ok-row.ensures.added in
     let one : c.draw_bars.new.buffer ≡ old ++ sides ∷ [] = c.in_ok-draw_bars.ensures.value
     ∙ ap (λ r. barred layout Solid past r c.begin_source_row.new.buffer) c.in_ok-row.ensures.row
@@ -42,7 +42,8 @@ returns-clause-added c =
       bare,
       source_row_added layout c.args.texts.number.now cells old bare place c.requires.number (each_fails is_listed _ c.requires.number_free)
           (free_shown layout.decor window.start text window.end (each_fails is_listed _ c.requires.text_free)) refl,
-      ended ∙ ap (λ row. old ++ row ∷ []) (bars_first layout tops past cells start c.requires.tops c.requires.past c.requires.apart)
+      ended ∙ ap (λ row. old ++ row ∷ []) (bars_first layout tops past cells start c.requires.beside.tops_room c.requires.beside.past_room
+          c.requires.beside.apart)
           ∙ sym (barred_last layout Solid past old (barred layout Top tops (length old) bare) (with_bars layout Top tops whole) topped),
     )
 

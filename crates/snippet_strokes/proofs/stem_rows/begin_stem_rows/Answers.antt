@@ -70,7 +70,6 @@ loop-below-preserved c =
           (bare_more layout c.args.closes c.args.count k c.loop-below-test.true) c.loop-below.invariant.whole;
       count = long;
       small = λ _. omega (arith, long, c.loop-below.invariant.count, c.begin_stem_row.ensures.small);
-      place = λ _. c.begin_stem_row.ensures.place;
     }
 
 pub returns : goal.returns
@@ -95,5 +94,4 @@ returns c =
           ∙ c.loop-below.invariant.whole ∙ ap (painted (stems_of layout row c.args.placed.now))
           (sym (append_assoc old (replicate (count - 1) sep) (bare_row layout.decor layout.gutter c.args.closes ∷ [])));
       small = c.loop-below.invariant.small some;
-      place = c.loop-below.invariant.place some;
     }

@@ -1,11 +1,10 @@
-use Rattle.std.proofs.Common.{◌≡◌, ◌+◌, ◌-◌, ◌<◌, ◌≤◌, ◌++◌, ◌∷◌, [], drop, length, replicate}
+use Rattle.std.proofs.Common.{◌≡◌, ◌+◌, ◌-◌, ◌<◌, ◌++◌, ◌∷◌, [], drop, length, replicate}
 use Rattle.std.specs.List.{flat_map}
 use Rattle.snippet_style.specs.Separators.{separator_row}
 use Rattle.snippet_strokes.specs.SourceRows.{bare_row}
 use Rattle.snippet_strokes.specs.StemRows.{stem_down}
 use Rattle.snippet_strokes.specs.Strokes.{stems_of}
 use Rattle.snippet_strokes.specs.Writes.{painted}
-use Rattle.snippet_grid.specs.Layout.{inner_cell}
 use Rattle.snippet_style.specs.Bounds.{AreRows}
 use Rattle.snippet_strokes.proofs.stem_rows.begin_stem_rows.Given as goal
 
@@ -18,5 +17,4 @@ invariant-loop-below l =
           ≡ painted (stems_of l.layout row l.placed) (l.initial.buffer ++ bare);
       count : length l.buffer ≡ row + l.below;
       small : 0 < l.below → AreRows (length l.buffer);
-      place : 0 < l.below → inner_cell l.layout ≤ l.layout.code;
     }

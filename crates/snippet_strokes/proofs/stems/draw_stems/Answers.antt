@@ -1,11 +1,19 @@
 use Rattle.std.proofs.Common.{◌≡◌, ◌∙◌, ◌+◌, ◌-◌, ◌∷◌, false, true, ap, sym, subst, arith, drop, length, take}
 use Rattle.std.proofs.lemmas.List.{drop_more, drop_all, length-drop, take_all}
-use Rattle.snippet_strokes.specs.Drawing.{HasRows}
+use Rattle.snippet_strokes.specs.Drawing.{HasPlaceAmong, HasRows}
 use Rattle.snippet_strokes.specs.Strokes.{is_stem_covered, stems_of}
 use Rattle.snippet_strokes.specs.Writes.{painted}
 use Rattle.snippet_strokes.proofs.StemWrites.{stem_count, stems_next, stems_skip}
 use Rattle.snippet_strokes.proofs.stems.draw_stems.Goals.{then-not-is_stem_covered+in_ok-draw_stem, else-not-is_stem_covered}
 use Rattle.snippet_strokes.proofs.stems.draw_stems.Goals as goal
+
+pub draw_stem-requires : goal.draw_stem-requires
+draw_stem-requires c =
+    record {
+      place = subst (λ n. HasPlaceAmong c.args.row n c.index-placed-i.result) (sym c.loop-i.invariant.1)
+          (subst (HasPlaceAmong c.args.row (length c.args.buffer.now)) (sym c.index-placed-i.is)
+          (c.requires.places c.loop-i.i c.index-placed-i.result c.loop-i-test.true));
+    }
 
 pub loop-i-preserved : goal.loop-i-preserved
 loop-i-preserved c =
@@ -21,7 +29,7 @@ loop-i-preserved c =
     let rest : drop i es ≡ e ∷ later = drop_more es i e c.loop-i-test.true ∙ ap (λ x. x ∷ later) (sym c.index-placed-i.is) in
     let so_far = sym (ap (λ xs. painted (stems_of layout row xs) mid) rest) ∙ c.loop-i.invariant.0 in
     let has : HasRows row (length mid) e = subst (λ n. HasRows row n e) (sym c.loop-i.invariant.1)
-    (subst (HasRows row (length c.args.buffer.now)) (sym c.index-placed-i.is) (c.requires.rows i e c.loop-i-test.true)) in
+    (subst (HasRows row (length c.args.buffer.now)) (sym c.index-placed-i.is) (c.requires.places i e c.loop-i-test.true).rows) in
     elim c.if-not-is_stem_covered.branch [
       | then-not-is_stem_covered+in_ok-draw_stem w ↦
           let shown : is_stem_covered e later ≡ false = sym hidden ∙ cc in (

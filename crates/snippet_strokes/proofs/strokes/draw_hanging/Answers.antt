@@ -5,20 +5,22 @@ use Rattle.snippet_labels.specs.PlacedEntries.{HasPlace, label_text}
 use Rattle.snippet_labels.specs.Positions.{HasItsLabel}
 use Rattle.snippet_style.specs.Cell.{Cell}
 use Rattle.snippet_style.specs.Separators.{separator_row}
-use Rattle.snippet_strokes.specs.Drawing.{HasRows}
+use Rattle.snippet_strokes.specs.Drawing.{HasPlaceAmong}
 use Rattle.snippet_strokes.specs.Painting.{marks_of, painting_order}
 use Rattle.snippet_strokes.specs.SourceRows.{bare_row}
 use Rattle.snippet_strokes.specs.Strokes.{labels_of, stems_of}
 use Rattle.snippet_strokes.specs.Writes.{painted}
 use Rattle.snippet_strokes.proofs.HangingLemmas.{hanging_painted, stemmed_enough, stemmed_long}
-use Rattle.snippet_strokes.proofs.ReadyRows.{count_labels, count_marks, enough_after}
+use Rattle.snippet_strokes.proofs.ReadyLemmas.{ready_labels, ready_places, ready_texts}
+use Rattle.snippet_strokes.proofs.ReadyRows.{places_among, count_labels, count_marks, enough_after}
 use Rattle.snippet_strokes.proofs.strokes.draw_hanging.Goals as goal
 
 pub begin_stem_rows-requires : goal.begin_stem_rows-requires
 begin_stem_rows-requires c =
     record {
       some = c.requires.some;
-      columns = subst (All (λ (e : PlacedEntry). HasPlace e.entry)) (sym c.deref.ensures.value) c.requires.columns;
+      columns = subst (All (λ (e : PlacedEntry). HasPlace e.entry)) (sym c.deref.ensures.value)
+          (ready_places c.args.layout c.args.placed.now.items c.requires.ready);
       rows = subst (All (λ (e : PlacedEntry). e.position < c.args.count)) (sym c.deref.ensures.value) (λ k d within.
           omega (arith, c.requires.last, (c.requires.rows k d within).mark));
     }
@@ -58,13 +60,11 @@ draw_labels-requires c =
     c.deref.ensures.value c.in_ok-begin_stem_rows.ensures.painted in
     let enough = stemmed_enough layout c.args.place.row c.args.count placed c.args.buffer.now c.begin_stem_rows.new.buffer
     (separator_row layout.decor layout.gutter) (bare_row layout.decor layout.gutter c.args.place.closes) c.requires.some c.requires.last c.requires.rows stems
-    c.requires.columns c.requires.bar_cells c.in_ok-begin_stem_rows.ensures.small in
+    c.requires.ready c.in_ok-begin_stem_rows.ensures.small in
     record {
-      columns = subst (All (λ (e : PlacedEntry). HasPlace e.entry)) same c.requires.columns;
-      small = enough.small;
-      rows = subst (All (HasRows (c.args.place.row + 1) (length c.begin_stem_rows.new.buffer))) same enough.rows;
-      labels = subst (All HasItsLabel) same c.requires.labels;
-      short = subst (All (λ (e : PlacedEntry). length (label_text e.entry) < 2 ^ 60)) same c.requires.short;
+      places = subst (All (HasPlaceAmong (c.args.place.row + 1) (length c.begin_stem_rows.new.buffer))) same (places_among enough);
+      labels = subst (All HasItsLabel) same (ready_labels c.args.layout c.args.placed.now.items c.requires.ready);
+      short = subst (All (λ (e : PlacedEntry). length (label_text e.entry) < 2 ^ 60)) same (ready_texts c.args.layout c.args.placed.now.items c.requires.ready);
     }
 
 pub draw_marks-requires : goal.draw_marks-requires
@@ -78,7 +78,7 @@ draw_marks-requires c =
     stems in
     record {
       row = omega (arith, long, c.requires.last, c.requires.some, c.in_ok-begin_stem_rows.ensures.small);
-      columns = λ k d within. (c.requires.columns k d within).near;
+      columns = λ k d within. (c.requires.ready k d within).columns.near;
     }
 
 pub returns : goal.returns
@@ -96,7 +96,7 @@ returns c =
     c.in_ok-begin_stem_rows.ensures.painted in
     let long = stemmed_long layout row c.args.count placed old stemmed sep end c.requires.some c.requires.last c.requires.rows stems in
     let enough = stemmed_enough layout row c.args.count placed old stemmed sep end c.requires.some c.requires.last c.requires.rows stems
-    c.requires.columns c.requires.bar_cells c.in_ok-begin_stem_rows.ensures.small in
+    c.requires.ready c.in_ok-begin_stem_rows.ensures.small in
     let labels : labelled ≡ painted (labels_of layout (row + 1) placed) stemmed = c.in_ok-draw_labels.ensures.painted
     ∙ ap (λ ps. painted (labels_of layout (row + 1) ps) stemmed) c.deref-2.ensures.value in
     let hung : length labelled ≡ length stemmed = count_labels stemmed labelled enough labels in
@@ -108,5 +108,4 @@ returns c =
           c.requires.lines stems labels marks;
       small = omega (arith, long, c.in_ok-begin_stem_rows.ensures.small);
       count = count_marks labelled new (enough_after stemmed labelled enough hung) (painting_order placed) marks ∙ hung ∙ long;
-      place = c.in_ok-begin_stem_rows.ensures.place;
     }

@@ -1,28 +1,25 @@
 use Rattle.std.proofs.Common.{◌≡◌, ◌∙◌, ◌+◌, ◌-◌, ◌<◌, ◌≤◌, ◌^◌, List, ◌++◌, ◌∷◌, [], Bool, true, ℕ, All, map, replicate, ap, sym, subst, refl, arith, length}
 use Rattle.std.proofs.lemmas.Result.{on_ok_weaker}
 use Rattle.snippet_grid.specs.Layout.{Layout}
-use Rattle.std.proofs.lemmas.List.{length_push, length-map}
+use Rattle.std.proofs.lemmas.List.{length_push}
 use Rattle.std.proofs.lemmas.List.Sorted.{All-permutation, length_permutation}
 use Rattle.snippet_parts.specs.declared.entries.LineAnnotation.{LineAnnotation}
 use Rattle.snippet_labels.specs.declared.positions.PlacedEntry.{PlacedEntry}
 use Rattle.snippet_strokes.specs.Painting.{painting_order}
 use Rattle.snippet_strokes.specs.Drawing.{AreEnough, HasRows, row_count}
-use Rattle.snippet_strokes.specs.EntryMarks.{HasBarCell}
+use Rattle.snippet_strokes.specs.Drawable.{AreDrawable}
 use Rattle.snippet_labels.specs.Positions.{ArePlaced}
 use Rattle.snippet_style.specs.Cell.{Cell}
-use Rattle.snippet_labels.specs.PlacedEntries.{HasPlace, label_text, shifted}
-use Rattle.snippet_strokes.proofs.ShiftLemmas.{shifted_bars, shifted_places}
+use Rattle.snippet_labels.specs.PlacedEntries.{HasPlace, shifted}
 use Rattle.std.specs.List.{list_any}
 use Rattle.snippet_strokes.specs.Cuts.{cut_rows, cuts_of, is_wide_at, overlapped}
 use Rattle.snippet_strokes.specs.SourceRows.{bare_row}
 use Rattle.snippet_style.specs.Separators.{separator_row}
 use Rattle.snippet_strokes.proofs.PaintOrder.{IsPermutation-painting_order}
-use Rattle.snippet_labels.proofs.PlacedLemmas.{entries_all}
 use Rattle.snippet_strokes.proofs.PositionLemmas.{looked_of_placed, row_count_some, positions_of_placed}
 use Rattle.snippet_strokes.proofs.BegunLemmas.{rows_begun, rows_ready}
-use Rattle.snippet_strokes.proofs.ReadyRows.{enough_begun, strokes_added_whole}
-use Rattle.snippet_strokes.proofs.NoStrokes.{strokes_none}
-use Rattle.snippet_strokes.proofs.TextLemmas.{labels_short}
+use Rattle.snippet_strokes.proofs.ReadyLemmas.{all_ready, ready_places}
+use Rattle.snippet_strokes.proofs.ReadyRows.{enough_begun}
 use Rattle.snippet_strokes.specs.Strokes.{line_strokes}
 use Rattle.snippet_strokes.specs.Writes.{painted}
 use Rattle.snippet_strokes.proofs.LineRowLemmas.{painted_added}
@@ -46,8 +43,8 @@ overlapping-requires c =
     let placed = c.in_ok-placed.placed in
     record {
       columns = subst (All (λ (e : PlacedEntry). HasPlace e.entry)) (sym c.deref.ensures.value)
-          (entries_all HasPlace (map (shifted c.args.place.dropped) c.args.entries.now)
-          placed.items c.in_ok-placed.ensures.placed.same (shifted_places c.args.place.dropped c.args.entries.now c.requires.columns));
+          (ready_places c.args.layout placed.items (all_ready c.args.layout c.args.place.dropped c.args.entries.now placed.items
+          c.requires.entries c.in_ok-placed.ensures.placed));
       looked = subst (All (λ (e : PlacedEntry). e.looked < 2 ^ 63)) (sym c.deref.ensures.value) (λ k d within.
           omega (
             arith,
@@ -59,7 +56,7 @@ overlapping-requires c =
 
 -- so many rows are enough, once it is known that there is room for them
 module _ (layout : Layout) (dropped : ℕ) (entries : List LineAnnotation) (row count : ℕ) (placed : List PlacedEntry) (old : List (List Cell)) (closes : Bool)
-    (places : All HasPlace entries) (bar_cells : All (HasBarCell layout) entries) (are : ArePlaced (map (shifted dropped) entries) placed)
+    (drawable : AreDrawable layout entries) (are : ArePlaced (map (shifted dropped) entries) placed)
     (count_is : count ≡ row_count placed) (last : length old ≡ row + 1) where
   some_rows : 0 < count
   some_rows = omega (arith, count_is, row_count_some placed)
@@ -75,7 +72,7 @@ module _ (layout : Layout) (dropped : ℕ) (entries : List LineAnnotation) (row 
       ++ bare_row layout.decor layout.gutter closes ∷ []))
       placed
   enough_rows small =
-      enough_begun layout dropped entries old _ (separator_row layout.decor layout.gutter) (bare_row layout.decor layout.gutter closes) places bar_cells are
+      enough_begun layout dropped entries old _ (separator_row layout.decor layout.gutter) (bare_row layout.decor layout.gutter closes) drawable are
       count_is last refl (omega (arith, small, rows_long))
 
 -- each entry has the rows that it needs
@@ -90,18 +87,13 @@ pub draw_rows-requires : goal.draw_rows-requires
 draw_rows-requires c =
     let placed = c.in_ok-placed.placed.items in
     let es = map (shifted c.args.place.dropped) c.args.entries.now in
-    let Q : LineAnnotation → Type 0 = λ e. length (label_text e) < 2 ^ 60 in
     let are = c.in_ok-placed.ensures.placed in
     let count : c.row_count-count.result ≡ row_count placed = c.row_count-count.ensures.value ∙ ap row_count c.deref-2.ensures.value in
     record {
       some = omega (arith, count, row_count_some placed);
       last = c.requires.last;
       rows = ready placed es are c.args.buffer.now c.args.place.row c.row_count-count.result count c.requires.last;
-      columns = entries_all HasPlace es placed are.same (shifted_places c.args.place.dropped c.args.entries.now c.requires.columns);
-      bar_cells = entries_all (HasBarCell c.args.layout) es placed are.same (shifted_bars c.args.layout c.args.place.dropped c.args.entries.now
-          c.requires.bar_cells);
-      labels = are.labels;
-      short = entries_all Q es placed are.same (labels_short c.args.place.dropped c.args.entries.now c.requires.labels);
+      ready = all_ready c.args.layout c.args.place.dropped c.args.entries.now placed c.requires.entries are;
     }
 
 -- the entries stand in the order of painting, and no row is added or taken after those that are begun
@@ -111,14 +103,15 @@ cut_wide-requires c =
     let closes = c.args.place.closes in
     let count : c.row_count-count.result ≡ row_count placed = c.row_count-count.ensures.value ∙ ap row_count c.deref-2.ensures.value in
     let enough = enough_rows c.args.layout c.args.place.dropped c.args.entries.now c.args.place.row c.row_count-count.result placed c.args.buffer.now closes
-    c.requires.columns c.requires.bar_cells c.in_ok-placed.ensures.placed count c.requires.last c.in_ok-draw_rows.ensures.small in
+    c.requires.entries c.in_ok-placed.ensures.placed count c.requires.last c.in_ok-draw_rows.ensures.small in
     let long = rows_long c.args.layout c.args.place.dropped c.args.entries.now c.args.place.row c.row_count-count.result placed c.args.buffer.now closes
-    c.requires.columns c.requires.bar_cells c.in_ok-placed.ensures.placed count c.requires.last in
+    c.requires.entries c.in_ok-placed.ensures.placed count c.requires.last in
     let marked = c.in_ok-draw_rows.ensures.count ∙ sym long in
     let ordered = c.deref-3.ensures.value ∙ c.in_ok-draw_rows.ensures.order in
     record {
       columns = subst (All (λ (e : PlacedEntry). HasPlace e.entry)) (sym ordered)
-          (All-permutation (λ (e : PlacedEntry). HasPlace e.entry) placed (painting_order placed) (IsPermutation-painting_order placed) enough.places);
+          (All-permutation (λ (e : PlacedEntry). HasPlace e.entry) placed (painting_order placed) (IsPermutation-painting_order placed)
+          (ready_places c.args.layout placed enough.ready));
       count = omega (
         arith,
         ap length c.deref-4.ensures.value,
@@ -133,14 +126,8 @@ cut_wide-requires c =
 
 pub returns-then-is_empty : goal.returns-then-is_empty
 returns-then-is_empty c =
-    let es = map (shifted c.args.place.dropped) c.args.entries.now in
     let given : length c.args.entries.now ≡ 0 = grind arith in
-    let none : length es ≡ 0 = length-map c.args.entries.now (shifted c.args.place.dropped) ∙ given in
     record {
-      added = on_ok_weaker c.close_below.result (λ adds above plain old_is bare_bars.
-          strokes_none c.args.layout c.args.place.room c.args.place.closes es above plain c.args.buffer.now
-          c.close_below.new.buffer c.close_below.ensures.place none
-          old_is bare_bars adds) c.close_below.ensures.added;
       none = on_ok_weaker c.close_below.result (λ adds _. adds) c.close_below.ensures.added;
       painted = on_ok_weaker c.close_below.result (λ _ some above plain _. absurd (omega (arith, given, some))) c.close_below.ensures.added;
     }
@@ -156,16 +143,13 @@ returns c =
     let sep = separator_row layout.decor layout.gutter in
     let end = bare_row layout.decor layout.gutter c.args.place.closes in
     let given : 0 < length c.args.entries.now = grind arith in
-    let some : 0 < length es = omega (arith, given, length-map c.args.entries.now (shifted c.args.place.dropped)) in
     let count : c.row_count-count.result ≡ row_count placed = c.row_count-count.ensures.value ∙ ap row_count c.deref-2.ensures.value in
     let begun : List (List Cell) = old ++ replicate (c.row_count-count.result - 1) sep ++ end ∷ [] in
     let new = c.draw_rows.new.buffer in
     let are = c.in_ok-placed.ensures.placed in
     let closes = c.args.place.closes in
-    let enough = enough_rows layout c.args.place.dropped c.args.entries.now row c.row_count-count.result placed old closes
-    c.requires.columns c.requires.bar_cells are count c.requires.last c.in_ok-draw_rows.ensures.small in
     let whole : length begun ≡ length old + c.row_count-count.result = rows_long layout c.args.place.dropped c.args.entries.now row
-    c.row_count-count.result placed old closes c.requires.columns c.requires.bar_cells are count c.requires.last in
+    c.row_count-count.result placed old closes c.requires.entries are count c.requires.last in
     let rows : List (List Cell) = old ++ replicate (row_count placed - 1) sep ++ end ∷ [] in
     let begun_is : begun ≡ rows = ap (λ n. old ++ replicate (n - 1) sep ++ end ∷ []) count in
     let all : ℕ = length old + row_count placed in
@@ -181,13 +165,6 @@ returns c =
     let last_row : (above : List (List Cell)) (plain : List Cell) → old ≡ above ++ plain ∷ [] → row ≡ length above = λ above plain old_is.
     omega (arith, c.requires.last, ap length old_is, length_push above plain) in
     record {
-      added = on_ok_weaker c.cut_wide.result (λ value above plain old_is bare_bars.
-          let source_row : row ≡ length above = last_row above plain old_is in
-          strokes_added_whole layout c.args.place.room c.args.place.closes es placed above plain begun new c.in_ok-draw_rows.ensures.place are
-          (subst (λ n. AreEnough layout n (length begun) placed) source_row enough) bare_bars
-          (begun_is ∙ ap (λ top. top ++ replicate (row_count placed - 1) sep ++ end ∷ []) old_is)
-          (new_is ∙ ap (λ n. painted (line_strokes layout n (length begun) placed after) begun) source_row) final flags some
-          (final_is value ∙ ap (λ n. cut_rows layout.decor n (cuts_of layout c.args.place.room after flags) new) source_row)) c.cut_wide.ensures.value;
       none = on_ok_weaker c.cut_wide.result (λ _ none. absurd (omega (arith, given, none))) c.cut_wide.ensures.value;
       painted = on_ok_weaker c.cut_wide.result (λ value _ above plain old_is.
           let all_rows : length new ≡ all = c.in_ok-draw_rows.ensures.count ∙ sym whole ∙ long in

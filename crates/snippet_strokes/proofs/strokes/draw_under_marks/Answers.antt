@@ -1,31 +1,39 @@
 use Rattle.std.proofs.Common.{◌∙◌}
 use Rattle.std.proofs.lemmas.Result.{on_ok_weaker}
+use Rattle.snippet_strokes.proofs.ReadyLemmas.{ready_bar_cells, ready_labels, ready_texts}
 use Rattle.snippet_strokes.proofs.ReadyRows.{after_connectors, after_corners, after_stems, count_connectors, count_corners, count_labels, count_stems}
+use Rattle.snippet_strokes.proofs.ReadyRows.{places_among}
 use Rattle.snippet_strokes.proofs.StrokeWrites.{under_painted}
 use Rattle.snippet_strokes.proofs.strokes.draw_under_marks.Goals as goal
 
 pub draw_connectors-requires : goal.draw_connectors-requires
 draw_connectors-requires c =
     let enough = c.requires.enough in
-    record { columns = enough.places; bar_cells = enough.bar_cells; small = enough.small; rows = enough.rows }
+    record { places = places_among enough; bar_cells = ready_bar_cells c.args.layout c.args.placed.now enough.ready }
 
 pub draw_corners-requires : goal.draw_corners-requires
 draw_corners-requires c =
     let enough = after_connectors c.args.buffer.now c.draw_connectors.new.buffer c.requires.enough c.in_ok-draw_connectors.ensures.painted in
-    record { bar_cells = enough.bar_cells; small = enough.small; rows = enough.rows }
+    record { bar_cells = ready_bar_cells c.args.layout c.args.placed.now enough.ready; small = enough.small; rows = enough.rows }
 
 pub draw_stems-requires : goal.draw_stems-requires
 draw_stems-requires c =
     let joined = after_connectors c.args.buffer.now c.draw_connectors.new.buffer c.requires.enough c.in_ok-draw_connectors.ensures.painted in
     let enough = after_corners c.draw_connectors.new.buffer c.draw_corners.new.buffer joined c.in_ok-draw_corners.ensures.painted in
-    record { columns = enough.places; small = enough.small; rows = enough.rows }
+    record { places = places_among enough }
 
 pub draw_labels-requires : goal.draw_labels-requires
 draw_labels-requires c =
     let joined = after_connectors c.args.buffer.now c.draw_connectors.new.buffer c.requires.enough c.in_ok-draw_connectors.ensures.painted in
     let barred = after_corners c.draw_connectors.new.buffer c.draw_corners.new.buffer joined c.in_ok-draw_corners.ensures.painted in
     let enough = after_stems c.draw_corners.new.buffer c.draw_stems.new.buffer barred c.in_ok-draw_stems.ensures.painted in
-    record { columns = enough.places; small = enough.small; rows = enough.rows; labels = c.requires.labels; short = c.requires.short }
+    let layout = c.args.layout in
+    let placed = c.args.placed.now in
+    record {
+      places = places_among enough;
+      labels = ready_labels layout placed enough.ready;
+      short = ready_texts layout placed enough.ready;
+    }
 
 pub returns : goal.returns
 returns c =

@@ -6,6 +6,7 @@ use Rattle.snippet_strokes.specs.Painting.{marks_of, painting_order}
 use Rattle.snippet_strokes.specs.Strokes.{strokes_under_marks}
 use Rattle.snippet_strokes.specs.Writes.{painted}
 use Rattle.snippet_strokes.proofs.ApartLemmas.{apart_painted}
+use Rattle.snippet_strokes.proofs.ReadyLemmas.{ready_labels, ready_places}
 use Rattle.snippet_strokes.proofs.ReadyRows.{count_marks}
 use Rattle.snippet_strokes.proofs.StrokeWrites.{marks_painted}
 use Rattle.snippet_strokes.proofs.strokes.paint_strokes.Goals as goal
@@ -17,7 +18,9 @@ returns-then-stand_apart-clause-painted c =
     let apart = subst (StandApart (2 ^ 64 - 1)) c.deref.ensures.value (c.if-stand_apart.ensures.yes refl) in
     on_ok_weaker c.sort_for_painting.result (λ _. c.in_ok-draw_apart.ensures.painted
     ∙ ap (λ ps. painted (strokes_apart c.args.layout c.args.row (length old) ps) old) c.deref-then-stand_apart.ensures.value
-    ∙ apart_painted c.args.layout c.args.row (length old) placed (2 ^ 64 - 1) apart c.requires.enough.places c.requires.labels old)
+    ∙ apart_painted c.args.layout c.args.row (length old) placed (2 ^ 64 - 1) apart
+    (ready_places c.args.layout placed c.requires.enough.ready) (ready_labels c.args.layout placed c.requires.enough.ready)
+    old)
     c.sort_for_painting.ensures.order
 
 pub returns-clause-painted : goal.returns-clause-painted

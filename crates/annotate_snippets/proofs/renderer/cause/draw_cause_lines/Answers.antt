@@ -14,16 +14,14 @@ use Rattle.snippet_parts.specs.Kept.{kept_lines, shown_lines}
 use Rattle.snippet_window.specs.Margin.{bounds_of}
 use Rattle.snippet_window.specs.Measures.{margin_of}
 use Rattle.snippet_parts.specs.declared.entries.LineAnnotation.{LineAnnotation}
-use Rattle.snippet_window.specs.Measures.{StandsClear}
 use Rattle.snippet_grid.specs.Layout.{Layout}
-use Rattle.snippet_labels.specs.PlacedEntries.{HasPlace}
-use Rattle.snippet_strokes.specs.EntryMarks.{HasBarCell}
+use Rattle.snippet_strokes.specs.Drawable.{IsDrawableLine}
 use Rattle.snippet_strokes.specs.Snippet.{AreLinesShown}
 use Rattle.annotate_snippets.specs.Gutter.{numbered_source}
 use Rattle.annotate_snippets.specs.PreparedReport.{IsCausePrepared}
 use Rattle.annotate_snippets.specs.declared.renderer.preprocess.PreparedCause.{PreparedCause}
 use Rattle.annotate_snippets.proofs.GutterLemmas.{numbers_fit}
-use Rattle.annotate_snippets.proofs.PartsFacts.{lines_labels, lines_places, lines_bar_cells, lines_texts, bounds_of_kept, shown_clear}
+use Rattle.annotate_snippets.proofs.PartsFacts.{lines_entries, lines_labels, lines_texts, bounds_of_kept, shown_clear}
 use Rattle.annotate_snippets.proofs.renderer.cause.draw_cause_lines.Goals as goal
 use Rattle.annotate_snippets.proofs.renderer.cause.draw_cause_lines.Goals.{After-deref, After-deref-2}
 
@@ -85,32 +83,6 @@ margin_for-margin-requires-clause-labels c =
     infos_all LabelsFit c.deref.result.now (lines_labels (numbered_source s) s.markers.items drawable.spans
     (shown_lines s.fold (cow_str_bytes s.source) s.markers.items) (infos_of c.deref.result.now) (shown_first c) drawable.labels)
 
-pub draw_snippet-requires-clause-numbers : goal.draw_snippet-requires-clause-numbers
-draw_snippet-requires-clause-numbers c =
-    let s = c.args.cause.snippet.now in
-    let lines = c.deref-2.result.now in
-    let Fits : LineNumbers → AnnotatedLineInfo → Type 0 = λ numbers info.
-    length (shown_number numbers c.args.layout.gutter info.line_index) ≤ c.args.layout.gutter + 1 in
-    infos_all (Fits c.line_numbers-numbers.result) lines (subst (λ (numbers : LineNumbers). All (Fits numbers) (infos_of lines))
-    (sym c.line_numbers-numbers.ensures.value)
-    (numbers_fit c.args.renderer.now c.args.layout s (infos_of lines) c.requires.room c.requires.prepared.drawable (shown_is c)))
-
-pub draw_snippet-requires-clause-texts : goal.draw_snippet-requires-clause-texts
-draw_snippet-requires-clause-texts c =
-    let s = c.args.cause.snippet.now in
-    let drawable = c.requires.prepared.drawable in
-    let lines = c.deref-2.result.now in
-    infos_all TextFits lines (lines_texts (numbered_source s) s.markers.items drawable.spans (shown_lines s.fold (cow_str_bytes s.source) s.markers.items)
-    (infos_of lines) (shown_is c) drawable.source)
-
-pub draw_snippet-requires-clause-columns : goal.draw_snippet-requires-clause-columns
-draw_snippet-requires-clause-columns c =
-    let s = c.args.cause.snippet.now in
-    let drawable = c.requires.prepared.drawable in
-    let lines = c.deref-2.result.now in
-    infos_all (λ info. All HasPlace info.annotations.items) lines (lines_places (numbered_source s) s.markers.items drawable.spans
-    (shown_lines s.fold (cow_str_bytes s.source) s.markers.items) (infos_of lines) (shown_is c) drawable.source)
-
 -- the lines that are kept, as the margin sees them
 kept_is : (c : After-deref-2)
     → map seen_kept (kept_of c.deref.result.now) ≡ annotated_lines c.args.cause.snippet.now.fold
@@ -118,31 +90,34 @@ kept_is : (c : After-deref-2)
 kept_is c =
     ap (map seen_kept) (ap kept_of c.deref.ensures.value ∙ c.in_ok-lines.ensures.kept_are) ∙ c.requires.prepared.kept_are
 
-pub draw_snippet-requires-clause-clear : goal.draw_snippet-requires-clause-clear
-draw_snippet-requires-clause-clear c =
+-- each line can be drawn
+pub draw_snippet-requires : goal.draw_snippet-requires
+draw_snippet-requires c =
     let s = c.args.cause.snippet.now in
-    let lines = c.deref-2.result.now in
-    let margin = c.margin_for-margin.result in
-    infos_all (λ info. All (StandsClear margin) info.annotations.items) lines
-    (shown_clear (numbered_source s) s.markers.items c.requires.prepared.drawable.spans s.fold (kept_of c.deref.result.now) (infos_of lines) margin
-    (kept_is c) (shown_is c) c.margin_for-margin.ensures.clear)
-
-pub draw_snippet-requires-clause-bar_cells : goal.draw_snippet-requires-clause-bar_cells
-draw_snippet-requires-clause-bar_cells c =
-    let s = c.args.cause.snippet.now in
-    let lines = c.deref-2.result.now in
-    let layout : Layout = c.args.layout in
-    infos_all (λ info. All (HasBarCell layout) info.annotations.items) lines
-    (lines_bar_cells (numbered_source s) s.markers.items c.requires.prepared.drawable.spans
-    (shown_lines s.fold (cow_str_bytes s.source) s.markers.items) (infos_of lines) (shown_is c) layout c.requires.room.bars)
-
-pub draw_snippet-requires-clause-labels : goal.draw_snippet-requires-clause-labels
-draw_snippet-requires-clause-labels c =
-    let s = c.args.cause.snippet.now in
+    let source = numbered_source s in
+    let marks : List Annotation = s.markers.items in
     let drawable = c.requires.prepared.drawable in
     let lines = c.deref-2.result.now in
-    infos_all LabelsFit lines (lines_labels (numbered_source s) s.markers.items drawable.spans (shown_lines s.fold (cow_str_bytes s.source) s.markers.items)
-    (infos_of lines) (shown_is c) drawable.labels)
+    let infos : List AnnotatedLineInfo = infos_of lines in
+    let layout : Layout = c.args.layout in
+    let margin = c.margin_for-margin.result in
+    let ks = shown_lines s.fold (cow_str_bytes s.source) marks in
+    let Fits : LineNumbers → AnnotatedLineInfo → Type 0 = λ numbers info.
+    length (shown_number numbers layout.gutter info.line_index) ≤ layout.gutter + 1 in
+    let number : All (Fits c.line_numbers-numbers.result) infos = subst (λ (numbers : LineNumbers). All (Fits numbers) infos)
+    (sym c.line_numbers-numbers.ensures.value) (numbers_fit c.args.renderer.now layout s infos c.requires.room drawable (shown_is c)) in
+    let text = lines_texts source marks drawable.spans ks infos (shown_is c) drawable.source in
+    let entries = lines_entries source marks drawable.spans ks infos (shown_is c) layout c.requires.room.bars drawable.source drawable.labels in
+    let clear = shown_clear source marks drawable.spans s.fold (kept_of c.deref.result.now) infos margin (kept_is c) (shown_is c)
+    c.margin_for-margin.ensures.clear in
+    record {
+      drawable = infos_all (IsDrawableLine layout margin c.line_numbers-numbers.result) lines (λ k d within. record {
+        number = number k d within;
+        text = text k d within;
+        entries = entries k d within;
+        clear = clear k d within;
+      });
+    }
 
 pub returns : goal.returns
 returns c =

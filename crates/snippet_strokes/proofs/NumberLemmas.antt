@@ -1,2 +1,0 @@
--- The numbers of the lines that are shown.
-use Rattle.std.proofs.Common.{◌^◌, ◌+◌, ◌<◌, ◌≤◌}

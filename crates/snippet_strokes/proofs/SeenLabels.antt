@@ -1,0 +1,49 @@
+-- What is seen of the labels of a line: none is lost.
+use Rattle.std.specs.Prelude.{ℕ, Bool, true, ◌+◌, ◌<◌, ◌≤◌, ◌≡◌, ◌⊎◌, ◌==◌, ◌&&◌, ◌||◌, nat_le, nat_lt, max, All, List, [], count_by, length, map}
+use Rattle.std.specs.Prelude.{slice_index_or}
+use Rattle.snippet_style.specs.Cell.{Cell, unlinked_cell}
+use Rattle.snippet_style.specs.declared.glyphs.DecorStyle.{DecorStyle}
+use Rattle.snippet_grid.specs.Grid.{cell_at}
+use Rattle.snippet_parts.specs.Entries.{is_bar}
+use Rattle.snippet_parts.specs.declared.entries.LineAnnotation.{LineAnnotation}
+use Rattle.snippet_grid.specs.Layout.{Layout, code_cell}
+use Rattle.snippet_labels.specs.PlacedEntries.{label_role, label_text}
+use Rattle.snippet_labels.specs.Positions.{is_start_part}
+use Rattle.snippet_strokes.specs.Labels.{IsStrokeCell, IsStemCell}
+
+-- where the label of an entry begins: in which row of a line's strokes, that of the marks first, and in which cell of it
+pub record PlacedLabel : Type 0 where
+  pub entry : LineAnnotation
+  pub row : ℕ
+  pub cell : ℕ
+
+-- whether a cell of those rows is one of the label's
+abbrev pub is_cell_of : ℕ → ℕ → PlacedLabel → Bool
+is_cell_of r c l = l.row == r && (nat_le l.cell c && nat_lt c (l.cell + length (label_text l.entry)))
+
+-- the label stands whole in these rows, in the role of labels of its kind: in the row of the marks one cell after its mark, which
+-- takes column 0 even where it ends there; or in a row below, at the mark's first column
+pub record StandsIn (layout : Layout) (rows : List (List Cell)) (l : PlacedLabel) : Type 0 where
+  pub whole : (n : ℕ) → n < length (label_text l.entry)
+      → cell_at rows l.row (l.cell + n) ≡ unlinked_cell (label_role l.entry.kind) (slice_index_or (label_text l.entry) n 0)
+  pub place : ((l.row ≡ 0) × (l.cell ≡ code_cell layout (max l.entry.end.display 1) + 1)) ⊎ ((0 < l.row) × (l.cell ≡ code_cell layout l.entry.start.display))
+
+-- a stem leads from the mark down to the label, if the label hangs below it: one stands in each row between, in the label's first cell,
+-- but where that cell is one of these labels'
+abbrev pub IsLedTo : DecorStyle → List PlacedLabel → List (List Cell) → PlacedLabel → Type 0
+IsLedTo decor labels rows l =
+    (r : ℕ) → 0 < r → r < l.row → count_by (is_cell_of r l.cell) labels ≡ 0 → IsStemCell decor (cell_at rows r l.cell)
+
+-- the labels of a line's entries stand in the rows of its strokes, one for each entry, in their order: each that shows anything
+-- stands whole, and a stem leads to it; no cell is one of two labels, and each that is of none is a space or a stroke's
+pub record LabelsStand (layout : Layout) (es : List LineAnnotation) (rows : List (List Cell)) : Type 0 where
+  pub labels : List PlacedLabel
+  pub are : map (λ (l : PlacedLabel). l.entry) labels ≡ es
+  pub stand : All (λ l. 0 < length (label_text l.entry) → StandsIn layout rows l) labels
+  pub led : All (λ l. 0 < length (label_text l.entry) → IsLedTo layout.decor labels rows l) labels
+  pub apart : (r c : ℕ) → count_by (is_cell_of r c) labels ≤ 1
+  pub others : (r c : ℕ) → layout.code ≤ c → count_by (is_cell_of r c) labels ≡ 0 → IsStrokeCell layout.decor (cell_at rows r c)
+
+-- an entry has a label only where a span ends: the start of one of several lines, or a bar, has none
+abbrev pub IsLabelledAtEnd : LineAnnotation → Type 0
+IsLabelledAtEnd e = (is_start_part e.annotation_type || is_bar e.annotation_type) ≡ true → label_text e ≡ []
