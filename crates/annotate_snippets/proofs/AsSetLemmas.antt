@@ -52,7 +52,7 @@ use Rattle.annotate_snippets.proofs.ContextFaults.{refusal-same}
 use Rattle.annotate_snippets.proofs.ContextShown.{around-set}
 use Rattle.annotate_snippets.proofs.ContextTexts.{links-around, plain-around, trusted-around}
 use Rattle.annotate_snippets.proofs.FormsShown.{are-free}
-use Rattle.annotate_snippets.proofs.PrintLemmas.{AllZip-weaker}
+use Rattle.snippet_model.proofs.ZipLemmas.{AllZip-weaker}
 use Rattle.annotate_snippets.proofs.WrapSet.{rewrapped-set}
 use Rattle.annotate_snippets.proofs.WrapShown.{wrapped-free, wrapped-line, wrapped-links}
 

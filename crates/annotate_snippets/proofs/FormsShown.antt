@@ -1,6 +1,6 @@
--- The texts of a report that is drawn show it in its form, and have the laws of that.
+-- The texts of a report show it in its form, and have the laws of that.
 use Rattle.std.proofs.Common.{◌≡◌, ◌<◌, ◌≤◌, ℕ, arith, get_or, true, Option, None, Some, Result, Ok, Err}
-use Rattle.std.proofs.Common.{IfSome, String, Vec, Global, refl, sym, ap, List, [], ◌∷◌, All, subst, length}
+use Rattle.std.proofs.Common.{IfSome, String, Vec, Global, refl, sym, ap, List, [], ◌∷◌, subst, length}
 use Rattle.std.proofs.Common.{map, string_bytes}
 use Rattle.std.proofs.lemmas.List.{nil_from_length}
 use Rattle.std.proofs.lemmas.List.Elements.{All-nil}
@@ -15,31 +15,21 @@ use Rattle.snippet_grid.specs.Woven.{IsWoven}
 use Rattle.snippet_grid.proofs.WovenLemmas.{plain_woven}
 use Rattle.snippet_style.specs.declared.stylesheet.Stylesheet.{Stylesheet}
 use Rattle.snippet_text.specs.Normalized.{is_listed}
-use Rattle.snippet_text_form.specs.Form.{FormPiece, form_bytes, form_links, form_text}
 use Rattle.annotate_snippets.specs.declared.renderer.Renderer.{Renderer}
-use Rattle.annotate_snippets.specs.declared.renderer.drawn.Drawn.{Drawn}
-use Rattle.annotate_snippets.specs.declared.renderer.drawn.Drawn.TheVariants as drawn
 use Rattle.annotate_snippets.specs.declared.renderer.error.RenderError.{RenderError}
 use Rattle.annotate_snippets.specs.declared.renderer.form.Form.{Form}
 use Rattle.annotate_snippets.specs.declared.renderer.form.Form.TheVariants.{Graphic, Short, Text}
-use Rattle.annotate_snippets.specs.DrawnReport.{IsDrawnAs, IsPrintedAs}
 use Rattle.annotate_snippets.specs.Fault.{first_refusal, form_of, missing_title}
 use Rattle.annotate_snippets.specs.FormLaws.{FormLaws, IsTextUnder, LawsIn}
 use Rattle.annotate_snippets.specs.Forms.{AreFree, ShortShown, ShowsForm, links_in, plain_in}
 use Rattle.annotate_snippets.specs.GraphicForm.{graphic_form}
 use Rattle.annotate_snippets.specs.Page.{Page, PrintsPage, page_text}
 use Rattle.annotate_snippets.specs.PageLaws.{PageLaws}
-use Rattle.annotate_snippets.specs.PreparedReport.{IsGroupDrawable}
-use Rattle.annotate_snippets.specs.ShownPage.{IsFreeBut, SheetsShown, levels_of, report_links}
+use Rattle.annotate_snippets.specs.ShownPage.{IsFreeBut, levels_of, report_links}
 use Rattle.annotate_snippets.proofs.FaultLemmas.{first-there, title-there}
-use Rattle.annotate_snippets.proofs.PrintLemmas.{AllZip-weaker}
-use Rattle.annotate_snippets.proofs.ReportLemmas.{page_laws, page_woven, sheets_shown, titled-from_ok}
-use Rattle.annotate_snippets.proofs.ShortShown.{page_is, short-law, short-laws, short-shown}
-use Rattle.annotate_snippets.proofs.TextShown.{IsFormText, text-law, text-laws, text-shown}
-
--- a text is that of this text form
-abbrev IsOfForm : List FormPiece → Stylesheet → List ℕ → Type 0
-IsOfForm form sheet text = (text ≡ form_bytes sheet form) × IsWoven sheet text (form_text form) (form_links form)
+use Rattle.snippet_model.proofs.ZipLemmas.{AllZip-weaker}
+use Rattle.annotate_snippets.proofs.ReportLemmas.{page_woven, titled-from_ok}
+use Rattle.annotate_snippets.proofs.ShortShown.{page_is}
 
 -- the short form under no sheets
 titled-none : (r : Renderer) (g : Group) (groups : List Group) (title : Option Title) → missing_title Short (g ∷ groups) ≡ None → g.title ≡ title
@@ -53,16 +43,6 @@ short-none r [] given = absurd (first-there [] given refl)
 short-none r (g ∷ groups) given = titled-none r g groups g.title given refl
 
 module _ (r : Renderer) (groups : List Group) where
-  -- a report that is drawn in a form has the laws of that form
-  pub form-laws : (form : Form) (report : Drawn) → All IsGroupDrawable groups → IsDrawnAs form r groups report → FormLaws form r groups
-  form-laws Graphic (drawn.Page grids) drawable are = page_laws r groups grids.items drawable are
-  form-laws Graphic (drawn.Text form) drawable are = absurd are
-  form-laws Graphic (drawn.Short form) drawable are = absurd are
-  form-laws Short (drawn.Page grids) drawable are = absurd are
-  form-laws Short (drawn.Short form) drawable is = short-laws r groups form drawable is
-  form-laws Short (drawn.Text form) drawable are = absurd are
-  form-laws Text report drawable are = text-laws r groups
-
   -- a text that prints the report's page has its laws
   pub page-law : PageLaws r groups (graphic_form r groups) → (sheet : Stylesheet) (text : List ℕ)
       → PrintsPage sheet (levels_of groups) (graphic_form r groups) text
@@ -83,53 +63,14 @@ module _ (r : Renderer) (groups : List Group) where
   none-in Short given = short-none r groups given
   none-in Text given = record { are = tt }
 
-module _ (r : Renderer) (groups : List Group) (sheets : List Stylesheet) (texts : List (List ℕ)) where
-  pub shown-in : (form : Form) (report : Drawn) → All IsGroupDrawable groups → IsDrawnAs form r groups report → AllZip (IsPrintedAs report) sheets texts
-      → ShowsForm form r groups sheets texts
-  shown-in Graphic (drawn.Page grids) drawable are printed =
-      sheets_shown r groups grids.items drawable are sheets texts printed
-  shown-in Graphic (drawn.Short form) drawable are printed = absurd are
-  shown-in Graphic (drawn.Text form) drawable are printed = absurd are
-  shown-in Short (drawn.Page grids) drawable are printed = absurd are
-  shown-in Short (drawn.Short form) drawable is printed =
-      short-shown r groups form sheets texts is printed
-  shown-in Short (drawn.Text form) drawable are printed = absurd are
-  shown-in Text (drawn.Page grids) drawable are printed = absurd are
-  shown-in Text (drawn.Short form) drawable are printed = absurd are
-  shown-in Text (drawn.Text form) drawable is printed =
-      text-shown r groups sheets texts (subst (λ (f : List FormPiece). AllZip (IsOfForm f) sheets texts) is printed)
-
-  -- the texts of a report that is drawn in the renderer's form show it in that form
-  pub texts-shown : (report : Drawn) → All IsGroupDrawable groups → IsDrawnAs (form_of r) r groups report → AllZip (IsPrintedAs report) sheets texts
-      → ShowsForm (form_of r) r groups sheets texts
-  texts-shown report = shown-in (form_of r) report
-
-  -- the laws of a form are those of the texts of a report that is drawn in it
-  pub laws-in : (form : Form) (report : Drawn) → FormLaws form r groups → All IsGroupDrawable groups → IsDrawnAs form r groups report
-      → AllZip (IsPrintedAs report) sheets texts
-      → AllZip (LawsIn form r groups) sheets texts
-  laws-in Graphic (drawn.Page grids) laws drawable are printed =
-      let shown : SheetsShown r groups sheets texts = sheets_shown r groups grids.items drawable are sheets texts printed in
-      AllZip-weaker (λ sheet text. PrintsPage sheet (levels_of groups) (graphic_form r groups) text) (LawsIn Graphic r groups)
-      (page-law r groups laws) sheets texts shown.printed
-  laws-in Graphic (drawn.Short form) laws drawable are printed = absurd are
-  laws-in Graphic (drawn.Text form) laws drawable are printed = absurd are
-  laws-in Short (drawn.Page grids) laws drawable are printed = absurd are
-  laws-in Short (drawn.Short form) laws drawable is printed =
-      let shown = short-shown r groups form sheets texts is printed in
-      AllZip-weaker _ (LawsIn Short r groups)
-      (λ sheet text. short-law r groups laws sheet shown.group.level shown.group shown.title text shown.first shown.titled) sheets texts shown.printed
-  laws-in Short (drawn.Text form) laws drawable are printed = absurd are
-  laws-in Text (drawn.Page grids) laws drawable are printed = absurd are
-  laws-in Text (drawn.Short form) laws drawable are printed = absurd are
-  laws-in Text (drawn.Text form) laws drawable is printed =
-      let of_form : AllZip (IsFormText r groups) sheets texts = subst (λ (f : List FormPiece). AllZip (IsOfForm f) sheets texts) is printed in
-      AllZip-weaker (IsFormText r groups) (LawsIn Text r groups) (text-law r groups) sheets texts of_form
-
-  -- so it is in the renderer's form
-  pub laws-hold : (report : Drawn) → FormLaws (form_of r) r groups → All IsGroupDrawable groups → IsDrawnAs (form_of r) r groups report
-      → AllZip (IsPrintedAs report) sheets texts → AllZip (LawsIn (form_of r) r groups) sheets texts
-  laws-hold report = laws-in (form_of r) report
+-- texts that show a report's graphic form, each under its sheet, show it under all of them
+pub page-shown : (r : Renderer) (groups : List Group) (sheets : List Stylesheet) (texts : List (List ℕ)) → AllZip (IsTextUnder Graphic r groups) sheets texts
+    → ShowsForm Graphic r groups sheets texts
+page-shown r groups sheets texts are =
+    record {
+      printed = AllZip-weaker (IsTextUnder Graphic r groups) (λ sheet text. PrintsPage sheet (levels_of groups) (graphic_form r groups) text)
+          (λ sheet text is. is.shows.printed.0) sheets texts are;
+    }
 
 -- each form's laws say that its plain text is free
 free-in : (r : Renderer) (groups : List Group) (form : Form) → FormLaws form r groups → IsFreeBut (trusted_texts groups) (plain_in form r groups)

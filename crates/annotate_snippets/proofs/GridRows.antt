@@ -4,14 +4,14 @@ use Rattle.std.proofs.Common.{ap, ◌∙◌, arith, subst}
 use Rattle.std.specs.List.{enumerate_from, slice_get}
 use Rattle.std.specs.Option.{option_copied, option_or}
 use Rattle.std.proofs.lemmas.Bool.{cases_lt}
-use Rattle.std.proofs.lemmas.List.{length-append, length-map, map-append, take_all, take_more}
+use Rattle.std.proofs.lemmas.List.{length-append, length-map, map-append, take_more}
 use Rattle.std.proofs.lemmas.List.FromFn.{length-enumerate_from}
 use Rattle.std.proofs.lemmas.Option.{slice_get-get_or, slice_get_within}
 use Rattle.snippet_model.specs.declared.snippet.Group.{Group}
 use Rattle.snippet_parts.proofs.PartLemmas.{All-unmapped}
 use Rattle.snippet_style.specs.declared.glyphs.DecorStyle.{DecorStyle}
 use Rattle.annotate_snippets.specs.Around.{drawn_elements, file_of_group, position_of_group}
-use Rattle.annotate_snippets.specs.DrawnReport.{AreGridsOf, HasRoomFor, IsGridAt, IsGroupGrid}
+use Rattle.annotate_snippets.specs.DrawnReport.{HasRoomFor, IsGridAt, IsGroupGrid}
 use Rattle.annotate_snippets.specs.Gutter.{code_after, depth_of_group, layout_of_group, gutter_of_report}
 use Rattle.annotate_snippets.specs.PreparedReport.{IsGroupDrawable, IsGroupPrepared, element_of}
 use Rattle.annotate_snippets.specs.declared.renderer.Renderer.{Renderer}
@@ -158,13 +158,3 @@ turn_grid r groups ps n m i p grid grids new same turn level drawn pushed next b
 -- after the last turn as many groups were drawn as the report has
 pub turns_all : (groups : List Group) (ps : List PreparedGroup) (n : ℕ) → map group_of ps ≡ groups → n ≡ length (enumerate_from 0 ps) → n ≡ length groups
 turns_all groups ps n same all = omega (arith, all, length-enumerate_from 0 ps, length-map ps group_of, ap length same)
-
--- all of them
-pub grids_all : (r : Renderer) (groups : List Group) (ps : List PreparedGroup) (n : ℕ) (grids : List GroupGrid) → map group_of ps ≡ groups
-    → n ≡ length (enumerate_from 0 ps) → GridsSoFar r groups n grids → AreGridsOf r groups grids
-grids_all r groups ps n grids same all drawn =
-    let size : n ≡ length groups = turns_all groups ps n same all in
-    record {
-      levels = drawn.levels ∙ ap (map (λ (h : Group). h.level)) (take_all n groups (omega (arith, size)));
-      each = drawn.each;
-    }

@@ -58,12 +58,12 @@ pub mod PathFeedLaws
 pub mod PlaceLemmas
 pub mod PlainRows
 pub mod PreparedLemmas
-pub mod PrintLemmas
 pub mod PrintedText
 pub mod PrintingLemmas
 pub mod ReportLemmas
 pub mod ReportTexts
 pub mod RoomLemmas
+pub mod SheetPages
 pub mod ShortLemmas
 pub mod ShortShown
 pub mod SmallReports

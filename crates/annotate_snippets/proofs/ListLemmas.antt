@@ -1,8 +1,10 @@
--- What a list contains after its elements are chosen or mapped.
-use Rattle.std.proofs.Common.{◌≡◌, zero, suc, Bool, true, false, cond, List, [], ◌∷◌, map, refl, ap, subst, ◌∙◌, arith, inl, inr, ◌⊎◌}
-use Rattle.std.specs.List.{Contains, filter, list_any}
+-- What a list contains after its elements are chosen or mapped, and what holds of the items of two lists.
+use Rattle.std.proofs.Common.{◌≡◌, ◌<◌, ◌+◌, ℕ, zero, suc, Bool, true, false, cond, List, [], ◌∷◌, ◌++◌, get_or, length, map, take, refl, sym, ap, subst, ◌∙◌}
+use Rattle.std.proofs.Common.{arith, inl, inr, ◌⊎◌}
+use Rattle.std.specs.List.{AllZip, Contains, filter, list_any}
 use Rattle.std.proofs.lemmas.Bool.{cases_Bool}
-use Rattle.std.proofs.lemmas.List.{length-map, get_or-map}
+use Rattle.std.proofs.lemmas.List.{get_or-map, length-map, take_more}
+use Rattle.snippet_model.proofs.ZipLemmas.{AllZip-last}
 
 module _ {X : Type 0} where
   -- a list contains its first element
@@ -57,3 +59,10 @@ module _ {X : Type 0} where
             let rest = from_any q xs (rest_any q x xs fails some) in
             (rest.0, Contains-tail x rest.0 xs rest.1, rest.2)
       ]
+
+-- what holds of pairs so far holds with one more pair of which it holds
+pub AllZip-push : {A B : Type 0} (P : A → B → Type 0) (xs : List A) (i : ℕ) (d : A) → i < length xs → (ys new : List B) (y : B) → new ≡ ys ++ y ∷ []
+    → AllZip P (take i xs) ys → P (get_or xs i d) y → AllZip P (take (i + 1) xs) new
+AllZip-push P xs i d within ys new y pushed before last =
+    subst (λ zs. AllZip P zs new) (sym (take_more xs i d within)) (subst (λ zs.
+    AllZip P (take i xs ++ get_or xs i d ∷ []) zs) (sym pushed) (AllZip-last P (take i xs) ys (get_or xs i d) y before last))

@@ -16,7 +16,6 @@ use Rattle.snippet_style.specs.declared.stylesheet.Stylesheet.{Stylesheet}
 use Rattle.snippet_grid.proofs.WeaveLemmas.{some_same}
 use Rattle.snippet_grid.proofs.WovenLemmas.{plain_woven}
 use Rattle.snippet_text.specs.Normalized.{is_listed}
-use Rattle.snippet_model.specs.Fits.{ReportFits}
 use Rattle.snippet_model.specs.Trusted.{trusted_texts}
 use Rattle.snippet_model.specs.declared.snippet.Group.{Group}
 use Rattle.annotate_snippets.specs.declared.renderer.Renderer.{Renderer}
@@ -32,12 +31,12 @@ use Rattle.annotate_snippets.specs.PageLaws.{PageLaws}
 use Rattle.annotate_snippets.specs.PreparedReport.{IsGroupDrawable}
 use Rattle.annotate_snippets.specs.ShownPage.{AreGroupsShown, IsFreeBut, SheetsShown, ShowsGroup, levels_of, report_links}
 use Rattle.annotate_snippets.specs.declared.renderer.error.RenderError.{RenderError}
-use Rattle.annotate_snippets.proofs.FaultLemmas.{groups-drawable, titled, unrefused}
+use Rattle.annotate_snippets.proofs.FaultLemmas.{titled}
 use Rattle.annotate_snippets.proofs.GridRows.{GridsSoFar}
 use Rattle.annotate_snippets.proofs.GroupLemmas.{group_shown}
 use Rattle.annotate_snippets.proofs.GroupShown.{GroupShown}
 use Rattle.annotate_snippets.proofs.NumberLaws.{group_numbered}
-use Rattle.annotate_snippets.proofs.PrintLemmas.{AllZip-weaker}
+use Rattle.snippet_model.proofs.ZipLemmas.{AllZip-weaker}
 use Rattle.annotate_snippets.proofs.ReportTexts.{free_first, free_rest, links_of_titles, title_links}
 use Rattle.annotate_snippets.proofs.RoomLemmas.{room_in_report}
 use Rattle.annotate_snippets.proofs.TextLineLaws.{lines_of_page}
@@ -285,7 +284,7 @@ pub IfOk-both : {T E : Type 0} (P Q : T → Type 0) (r : Result T E) → IfOk r 
 IfOk-both P Q (Ok x) p q = (p, q)
 IfOk-both P Q (Err e) p q = tt
 
--- a report that isn't refused has no fault, so each of its groups can be drawn
+-- a report that isn't refused has no fault
 pub faultless : {T E : Type 0} (fault : Option E) (r : Result T E) (x : T) → IfSome fault (λ e. r ≡ Err e) → r ≡ Ok x → fault ≡ None
 faultless None r x refused given = refl
 faultless (Some e) r x refused given = let never : Err e ≡ Ok x = sym refused ∙ given in cc
@@ -295,9 +294,3 @@ pub titled-from_ok : {T : Type 0} (r : Renderer) (groups : List Group) (answer :
     → IfSome (first_refusal r groups) (λ refusal. answer ≡ Err refusal) → answer ≡ Ok x → missing_title (form_of r) groups ≡ None
 titled-from_ok r groups answer x refused given =
     titled (missing_title (form_of r) groups) (first_fault groups) (faultless (first_refusal r groups) answer x refused given)
-
--- the groups of a report that fits can be drawn where the answer is no refusal
-pub drawable-from_ok : {T : Type 0} (r : Renderer) (groups : List Group) (answer : Result T RenderError) (x : T) → ReportFits groups
-    → IfSome (first_refusal r groups) (λ refusal. answer ≡ Err refusal) → answer ≡ Ok x → All IsGroupDrawable groups
-drawable-from_ok r groups answer x fits refused given =
-    groups-drawable groups fits (unrefused (missing_title (form_of r) groups) (first_fault groups) (faultless (first_refusal r groups) answer x refused given))

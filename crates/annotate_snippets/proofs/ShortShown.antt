@@ -42,7 +42,7 @@ use Rattle.snippet_titles.proofs.OriginText.{place_text-each}
 use Rattle.snippet_titles.proofs.OriginFree.{digit_unlisted}
 use Rattle.annotate_snippets.specs.Around.{path_bytes}
 use Rattle.annotate_snippets.specs.DrawnReport.{IsShortForm}
-use Rattle.annotate_snippets.specs.FormLaws.{BeginsWithPlace, LawsIn, ShortLaws, ShowsShort}
+use Rattle.annotate_snippets.specs.FormLaws.{BeginsWithPlace, IsTextUnder, LawsIn, ShortLaws, ShowsShort}
 use Rattle.annotate_snippets.specs.Forms.{ShortShown, short_links}
 use Rattle.annotate_snippets.specs.Gutter.{numbered_source}
 use Rattle.annotate_snippets.specs.PreparedReport.{IsDrawable, IsGroupDrawable}
@@ -55,7 +55,7 @@ use Rattle.annotate_snippets.specs.declared.renderer.Renderer.{Renderer}
 use Rattle.annotate_snippets.specs.declared.renderer.form.Form.TheVariants.{Short}
 use Rattle.annotate_snippets.specs.declared.renderer.short.ShortForm.{ShortForm}
 use Rattle.annotate_snippets.proofs.CauseShown.{place_known}
-use Rattle.annotate_snippets.proofs.PrintLemmas.{AllZip-weaker}
+use Rattle.snippet_model.proofs.ZipLemmas.{AllZip-weaker}
 use Rattle.annotate_snippets.proofs.ShortLemmas.{first_cause-drawable}
 use Rattle.annotate_snippets.proofs.TrustedLemmas.{IsFreeRow, free_text, own_row}
 use Rattle.annotate_snippets.proofs.ReportTexts.{no_links}
@@ -268,4 +268,26 @@ short-law r groups laws sheet level g title text first titled prints =
       form_laws = laws;
       woven = woven;
       plain = λ none plain. plain_woven sheet text (plain_text (short_page r groups)) (short_links r groups) plain none woven;
+    }
+
+-- a text prints this short form
+abbrev pub IsOfShort : ShortForm → Stylesheet → List ℕ → Type 0
+IsOfShort form sheet text = Prints sheet form.level form.rows text
+
+-- so have texts that print it
+pub short-hold : (r : Renderer) (groups : List Group) (sheets : List Stylesheet) (texts : List (List ℕ)) (form : ShortForm) → All IsGroupDrawable groups
+    → IsShortForm r groups form → AllZip (IsOfShort form) sheets texts → AllZip (LawsIn Short r groups) sheets texts
+short-hold r groups sheets texts form drawable is printed =
+    let laws : ShortLaws r groups = short-laws r groups form drawable is in
+    let shown : ShortShown r groups sheets texts = short-shown r groups form sheets texts is printed in
+    AllZip-weaker _ (LawsIn Short r groups)
+    (λ sheet text. short-law r groups laws sheet shown.group.level shown.group shown.title text shown.first shown.titled) sheets texts shown.printed
+
+-- a text that prints it shows the report and has its laws
+pub short-under : (r : Renderer) (groups : List Group) (sheet : Stylesheet) (text : List ℕ) (form : ShortForm) → All IsGroupDrawable groups
+    → IsShortForm r groups form → IsOfShort form sheet text → IsTextUnder Short r groups sheet text
+short-under r groups sheet text form drawable is printed =
+    record {
+      shows = short-shown r groups form (sheet ∷ []) (text ∷ []) is (printed, tt);
+      laws = (short-hold r groups (sheet ∷ []) (text ∷ []) form drawable is (printed, tt)).0;
     }

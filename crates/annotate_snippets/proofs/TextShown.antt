@@ -28,7 +28,7 @@ use Rattle.snippet_text_form.proofs.FreeLaws.{cause-free, heading-free, origin-f
 use Rattle.snippet_text_form.proofs.LinkLaws.{cause-links, heading-links, origin-links, suggestion-links}
 use Rattle.snippet_text_form.proofs.OrderLaws.{cause-holds, heading_stays, plain-append, stand-append}
 use Rattle.annotate_snippets.specs.Around.{drawn_elements, file_of_group, first_two_share, is_drawn}
-use Rattle.annotate_snippets.specs.FormLaws.{LawsIn, TextLaws}
+use Rattle.annotate_snippets.specs.FormLaws.{IsTextUnder, LawsIn, TextLaws}
 use Rattle.annotate_snippets.specs.Forms.{TextShown}
 use Rattle.annotate_snippets.specs.ShownPage.{IsFreeBut, report_links}
 use Rattle.annotate_snippets.specs.TextForm.{PreviousSuggestion, before_next, element_form, element_texts, elements_form, group_form, group_texts, report_texts}
@@ -36,7 +36,7 @@ use Rattle.annotate_snippets.specs.TextForm.{suggestion_place, text_form, whole_
 use Rattle.annotate_snippets.specs.declared.renderer.Renderer.{Renderer}
 use Rattle.annotate_snippets.specs.declared.renderer.form.Form.TheVariants.{Text}
 use Rattle.annotate_snippets.proofs.FormSteps.{title_form}
-use Rattle.annotate_snippets.proofs.PrintLemmas.{AllZip-weaker}
+use Rattle.snippet_model.proofs.ZipLemmas.{AllZip-weaker}
 use Rattle.annotate_snippets.proofs.ReportTexts.{free_first, free_rest, links_of_titles, title_links, trusted_of}
 use Rattle.annotate_snippets.proofs.TrustedLemmas.{AreTextsAmong, IsTrusted, message_among, own_text, texts_among, title_among, unlisted_text}
 
@@ -244,3 +244,14 @@ text-law r groups sheet text is =
       woven = woven;
       plain = λ none plain. plain_woven sheet text (form_text (text_form r groups)) (report_links r groups) plain none woven;
     }
+
+-- a text of what is drawn is one of the text form
+pub form-text : (r : Renderer) (groups : List Group) (form : List FormPiece) (sheet : Stylesheet) (text : List ℕ) → form ≡ text_form r groups
+    → text ≡ form_bytes sheet form → IsWoven sheet text (form_text form) (form_links form) → IsFormText r groups sheet text
+form-text r groups form sheet text is bytes woven =
+    subst (λ (f : List FormPiece). (text ≡ form_bytes sheet f) × IsWoven sheet text (form_text f) (form_links f)) is (bytes, woven)
+
+-- it shows the report and has its laws
+pub text-under : (r : Renderer) (groups : List Group) (sheet : Stylesheet) (text : List ℕ) → IsFormText r groups sheet text
+    → IsTextUnder Text r groups sheet text
+text-under r groups sheet text is = record { shows = record { are = (is.0, tt) }; laws = text-law r groups sheet text is }

@@ -39,7 +39,7 @@ use Rattle.annotate_snippets.specs.Gutter.{gutter_of_report, width_wanted}
 use Rattle.annotate_snippets.specs.Rewrapped.{AreRewrapped, IsElementRewrapped, IsGroupRewrapped, IsTextRewrapped, IsTitleRewrapped}
 use Rattle.annotate_snippets.specs.ShownPage.{IsFreeBut, report_links}
 use Rattle.annotate_snippets.proofs.AsSetSteps.{all-over, first-pair, flat-same}
-use Rattle.annotate_snippets.proofs.PrintLemmas.{AllZip-weaker}
+use Rattle.snippet_model.proofs.ZipLemmas.{AllZip-weaker}
 use Rattle.annotate_snippets.specs.declared.renderer.Renderer.{Renderer}
 use Rattle.annotate_snippets.specs.declared.renderer.error.RenderError.{RenderError}
 use Rattle.annotate_snippets.specs.declared.renderer.error.RenderError.TheVariants.{NoTitle}

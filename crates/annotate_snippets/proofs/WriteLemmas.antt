@@ -13,21 +13,19 @@ use Rattle.snippet_grid.specs.Woven.{Prints, WeavesRows, piece_text}
 use Rattle.snippet_model.specs.declared.snippet.Group.{Group}
 use Rattle.snippet_style.specs.declared.role.LevelInner.{LevelInner}
 use Rattle.snippet_style.specs.declared.stylesheet.Stylesheet.{Stylesheet}
-use Rattle.annotate_snippets.specs.DrawnReport.{AreGridsOf, IsDrawnAs, IsPrintedAs}
-use Rattle.annotate_snippets.specs.FormLaws.{FormLaws, IsTextUnder}
+use Rattle.annotate_snippets.specs.DrawnReport.{AreGridsOf}
+use Rattle.annotate_snippets.specs.FormLaws.{IsTextUnder}
 use Rattle.annotate_snippets.specs.GraphicForm.{graphic_form}
 use Rattle.annotate_snippets.specs.Page.{ArePrinted, Page, PrintsGrids, PrintsPage}
 use Rattle.annotate_snippets.specs.PreparedReport.{IsGroupDrawable}
 use Rattle.annotate_snippets.specs.ShownPage.{levels_of}
 use Rattle.annotate_snippets.specs.Written.{AddsGrid, IsTextIn, PrintsGrid, ShowsIn, WritesPart, WritesText}
 use Rattle.annotate_snippets.specs.declared.renderer.Renderer.{Renderer}
-use Rattle.annotate_snippets.specs.declared.renderer.drawn.Drawn.{Drawn}
-use Rattle.annotate_snippets.specs.declared.renderer.form.Form.{Form}
 use Rattle.annotate_snippets.specs.declared.renderer.form.Form.TheVariants.{Graphic}
 use Rattle.annotate_snippets.specs.declared.renderer.graphic.GroupGrid.{GroupGrid}
-use Rattle.annotate_snippets.proofs.FormsShown.{laws-in, page-law, shown-in}
+use Rattle.annotate_snippets.proofs.FormsShown.{page-law}
 use Rattle.annotate_snippets.proofs.GridRows.{GridsSoFar, grids_none}
-use Rattle.annotate_snippets.proofs.PrintLemmas.{AllZip-last}
+use Rattle.snippet_model.proofs.ZipLemmas.{AllZip-last}
 use Rattle.annotate_snippets.proofs.PrintedText.{texts_of_page}
 use Rattle.annotate_snippets.proofs.ReportLemmas.{page_laws, page_so_far, sheets_shown}
 
@@ -223,15 +221,6 @@ printed_all r groups n sheet text drawable all before =
     } in
     let shown = sheets_shown r groups before.grids drawable are (sheet ∷ []) (text ∷ []) (before.prints, tt) in
     record { shows = shown; laws = page-law r groups (page_laws r groups before.grids drawable are) sheet text shown.printed.0 }
-
--- a text of a report that is drawn in a form, under a sheet
-pub is_under : (r : Renderer) (groups : List Group) (form : Form) (report : Drawn) (sheet : Stylesheet) (text : List ℕ) → All IsGroupDrawable groups
-    → FormLaws form r groups → IsDrawnAs form r groups report → IsPrintedAs report sheet text → IsTextUnder form r groups sheet text
-is_under r groups form report sheet text drawable laws drawn printed =
-    record {
-      shows = shown-in r groups (sheet ∷ []) (text ∷ []) form report drawable drawn (printed, tt);
-      laws = (laws-in r groups (sheet ∷ []) (text ∷ []) form report laws drawable drawn (printed, tt)).0;
-    }
 
 -- a text prints the page of a report under the renderer's own sheet
 abbrev PrintsReport : Renderer → List Group → List ℕ → Type 0

@@ -34,18 +34,8 @@ use Rattle.annotate_snippets.specs.Around.{closes_with, drawn_elements, file_of_
 use Rattle.annotate_snippets.specs.Gutter.{code_after, depth_of_element, layout_of_group, line_numbers, numbered_source, width_wanted}
 use Rattle.annotate_snippets.specs.RowsWithoutSource.{cause_head, message_rows, origin_rows, rows_after_cause, suggestion_head, title_part}
 use Rattle.snippet_model.specs.declared.snippet.Title.{Title}
-use Rattle.snippet_grid.specs.Woven.{IsWoven, Prints}
-use Rattle.snippet_style.specs.declared.stylesheet.Stylesheet.{Stylesheet}
-use Rattle.snippet_text_form.specs.Form.{form_bytes, form_links, form_text}
-use Rattle.annotate_snippets.specs.Page.{PrintsGrids}
 use Rattle.annotate_snippets.specs.ShortForm.{short_form}
-use Rattle.annotate_snippets.specs.TextForm.{text_form}
-use Rattle.annotate_snippets.specs.declared.renderer.drawn.Drawn.{Drawn}
-use Rattle.annotate_snippets.specs.declared.renderer.drawn.Drawn.TheVariants.{Page}
-use Rattle.annotate_snippets.specs.declared.renderer.drawn.Drawn.TheVariants as drawn
-use Rattle.annotate_snippets.specs.declared.renderer.form.Form.{Form}
 use Rattle.annotate_snippets.specs.declared.renderer.short.ShortForm.{ShortForm}
-use Rattle.annotate_snippets.specs.declared.renderer.form.Form.TheVariants.{Graphic, Short, Text}
 
 -- the rows of an annotated snippet's lines, whose source is UTF-8: the lines that are shown, each with its entries, between the bounds
 -- for those that are kept, in a room of what is left of the width. The group's window may close with the last of them
@@ -183,17 +173,3 @@ pub record IsShortForm (r : Renderer) (groups : List Group) (form : ShortForm) :
   pub titled : group.title ≡ Some title
   pub level : form.level ≡ group.level
   pub rows : form.rows ≡ short_form r group title
-
--- a report is drawn in a form
-abbrev pub IsDrawnAs : Form → Renderer → List Group → Drawn → Type 0
-IsDrawnAs Graphic r groups (Page grids) = AreGridsOf r groups grids.items
-IsDrawnAs Short r groups (drawn.Short form) = IsShortForm r groups form
-IsDrawnAs Text r groups (drawn.Text form) = form ≡ text_form r groups
-IsDrawnAs form r groups drawn = ⊥
-
--- a text is that of a report that is drawn, under a sheet
-abbrev pub IsPrintedAs : Drawn → Stylesheet → List ℕ → Type 0
-IsPrintedAs (Page grids) sheet text = PrintsGrids sheet grids.items text
-IsPrintedAs (drawn.Short form) sheet text = Prints sheet form.level form.rows text
-IsPrintedAs (drawn.Text form) sheet text =
-    (text ≡ form_bytes sheet form) × IsWoven sheet text (form_text form) (form_links form)

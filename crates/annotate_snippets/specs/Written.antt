@@ -1,5 +1,5 @@
 -- What a writer holds once a report was to be written to it.
-use Rattle.std.specs.Prelude.{◌≡◌, ℕ, Bool, List, [], ◌∷◌, ◌++◌, Option, alloc_error, if◌then◌else◌}
+use Rattle.std.specs.Prelude.{◌≡◌, ℕ, Bool, List, [], ◌∷◌, ◌++◌, Option, alloc_error, if◌then◌else◌, string_bytes}
 use Rattle.std.specs.Io.KnownBytes.{Appends}
 use Rattle.snippet_grid.specs.Woven.{Prints}
 use Rattle.snippet_model.specs.declared.snippet.Group.{Group}
@@ -10,6 +10,7 @@ use Rattle.annotate_snippets.specs.Forms.{ShowsForm}
 use Rattle.annotate_snippets.specs.declared.renderer.Renderer.{Renderer}
 use Rattle.annotate_snippets.specs.declared.renderer.form.Form.{Form}
 use Rattle.annotate_snippets.specs.declared.renderer.graphic.GroupGrid.{GroupGrid}
+use Rattle.annotate_snippets.specs.declared.renderer.pages.SheetPage.{SheetPage}
 use Rattle.annotate_snippets.specs.declared.renderer.error.RenderError.TheVariants.{Memory}
 use Rattle.annotate_snippets.specs.declared.renderer.to_writer.RenderToError.{RenderToError}
 use Rattle.annotate_snippets.specs.declared.renderer.to_writer.RenderToError.TheVariants.{Refused, Write}
@@ -50,3 +51,13 @@ pub record AddsGrid (sheet : Stylesheet) (first : Bool) (grid : GroupGrid) (old 
   pub text : List ℕ
   pub prints : PrintsGrid sheet first grid text
   pub added : new ≡ old ++ text
+
+-- a page is under this sheet, and nothing is printed on it yet
+pub record IsEmptyPage (sheet : Stylesheet) (page : SheetPage) : Type 0 where
+  pub under : page.codes ≡ sheet
+  pub empty : string_bytes page.text ≡ []
+
+-- a page grew by the grid of a group in its level, under the page's sheet
+pub record AddsToPage (first : Bool) (grid : GroupGrid) (old new : SheetPage) : Type 0 where
+  pub under : new.codes ≡ old.codes
+  pub added : AddsGrid old.codes first grid (string_bytes old.text) (string_bytes new.text)

@@ -13,6 +13,7 @@ mod html;
 mod html_stylesheet;
 mod layout;
 mod page;
+mod pages;
 pub mod parts;
 mod paths;
 mod place;
@@ -30,12 +31,12 @@ mod validate;
 
 pub use crate::snippet::Id;
 use crate::snippet::Report;
-use drawn::{Drawn, draw, texts_under};
 pub use error::RenderError;
 use form::{Form, form_of};
 use html::page_html;
 pub use html_stylesheet::HTML_STYLESHEET;
 use page::text_in_form;
+use pages::texts_in_form;
 pub use settings::DEFAULT_TERM_WIDTH;
 pub use snippet_model::MessageOrTitle;
 pub use snippet_style::{
@@ -81,10 +82,9 @@ impl Renderer {
     ghost use Rattle.snippet_model.specs.Fits.{ReportFits};
     ghost use Rattle.annotate_snippets.specs.Fault as spec;
     ghost use Rattle.annotate_snippets.specs.Fault.{IsWithinBounds};
-    ghost use Rattle.annotate_snippets.specs.FormLaws.{FormLaws, HasLaws, IsTextUnder, LawsIn};
+    ghost use Rattle.annotate_snippets.specs.FormLaws.{HasLaws, IsTextUnder, LawsIn};
     ghost use Rattle.annotate_snippets.specs.Forms.{AreFree, ShowsForm, ShowsReport, TextsShown, links_in};
     ghost use Rattle.std.specs.List.{AllZip};
-    ghost use Rattle.annotate_snippets.specs.DrawnReport.{IsDrawnAs};
     ghost use Rattle.annotate_snippets.specs.Html.{HasHtmlLaws, IsReportHtml, report_html};
     ghost use Rattle.annotate_snippets.specs.declared.renderer.form.Form.TheVariants as form;
     ghost use Rattle.snippet_grid.specs.Html.{html_bytes};
@@ -248,8 +248,11 @@ impl Renderer {
         if let [sheet] = sheets {
             return self.one_text(alloc, groups, sheet);
         }
-        let drawn = self.drawn(alloc, groups)?;
-        texts_under(alloc, &drawn, sheets).map_err(RenderError::Memory)
+        let form = form_of(self);
+        if let Some(refusal) = first_refusal(form, groups) {
+            return Err(refusal);
+        }
+        texts_in_form(alloc, self, form, groups, sheets).map_err(RenderError::Memory)
     }
 
     /// The texts of a report under no sheets: none, where it isn't refused.
@@ -299,21 +302,6 @@ impl Renderer {
     {
         let text = self.text_in(alloc, groups, sheet)?;
         alone(alloc, text).map_err(RenderError::Memory)
-    }
-
-    /// A report that isn't refused, drawn in the form that the renderer is set to.
-    fn drawn<'a>(&self, alloc: Global, groups: Report<'a>) -> Result<Drawn<'a>, RenderError>
-        requires fits { ReportFits groups.now }
-        ensures refused { IfSome (spec.first_refusal self.now groups.now) (λ refusal. result ≡ Err refusal) }
-        ensures renders { IsWithinBounds self.now groups.now → IsOkUnless result (RenderError.Memory alloc_error) }
-        ensures drawn { IfOk result (λ drawn. IsDrawnAs (spec.form_of self.now) self.now groups.now drawn) }
-        ensures laws { IfOk result (λ drawn. FormLaws (spec.form_of self.now) self.now groups.now) }
-    {
-        let form = form_of(self);
-        if let Some(refusal) = first_refusal(form, groups) {
-            return Err(refusal);
-        }
-        draw(alloc, self, form, groups).map_err(RenderError::Memory)
     }
 }
 

@@ -47,35 +47,7 @@ pub struct ReportContext<'r> {
     pub file: Option<&'r str>,
 }
 
-/// The grids of a report's groups, in order.
-///
-/// # Errors
-///
-/// There is no memory for the rows.
-pub fn grids<'a>(
-    alloc: Global,
-    renderer: &Renderer,
-    groups: &'a [Group<'a>],
-) -> Result<Vec<GroupGrid<'a>>, AllocError>
-    requires drawable { All IsGroupDrawable groups.now }
-    ensures drawn { IfOk result (λ grids. AreGridsOf renderer.now groups.now grids.items) }
-{
-    let prepared = prepare_groups(alloc, groups)?;
-    let gutter = gutter_of(renderer, &prepared);
-    let file = report_file(groups);
-    let report = ReportContext {
-        groups,
-        gutter,
-        file,
-    };
-    let mut grids = Vec::new(alloc);
-    for (i, group) in prepared.into_iter().enumerate() {
-        grids.push(draw_at(alloc, renderer, &report, i, group)?)?;
-    }
-    Ok(grids)
-}
-
-/// The grid of the report's group of this number, from 0.
+/// The grid of the report's group of this number, from 0, drawn in an empty grid.
 ///
 /// # Errors
 ///
@@ -86,7 +58,9 @@ pub fn draw_at<'a>(
     report: &ReportContext<'_>,
     number: usize,
     group: PreparedGroup<'a>,
+    empty: StyledBuffer<'a>,
 ) -> Result<GroupGrid<'a>, AllocError>
+    requires empty { empty ≡ [] }
     requires drawable { All IsGroupDrawable report.now.groups.now }
     requires prepared { IsGroupPrepared group }
     requires here { slice_get report.now.groups.now number ≡ Some group.group.now }
@@ -98,7 +72,7 @@ pub fn draw_at<'a>(
         group.entry.group.now grid) }
 {
     let around = group_context(renderer, report, number, &group);
-    draw_group(alloc, renderer, &around, group)
+    draw_group(alloc, renderer, &around, group, empty)
 }
 
 /// What the rows of the report's group of this number, from 0, depend on beside the group.
@@ -126,20 +100,22 @@ pub fn group_context<'r>(
     }
 }
 
-/// The grid of a group.
+/// The grid of a group, drawn in an empty grid.
 fn draw_group<'a>(
     alloc: Global,
     renderer: &Renderer,
     around: &GroupContext<'_>,
     group: PreparedGroup<'a>,
+    empty: StyledBuffer<'a>,
 ) -> Result<GroupGrid<'a>, AllocError>
+    requires empty { empty ≡ [] }
     requires prepared { IsGroupPrepared group }
     requires room { All (λ e. HasRoomFor renderer.now around.now.layout (element_of e)) group.elements.items }
     ensures level { IfOk result (λ grid. grid.level ≡ group.entry.group.now.level) }
     ensures drawn { IfOk result (λ grid. IsGroupGrid renderer.now around.now.layout around.now.place
         (option_copied around.now.file) group.entry.group.now grid.buffer) }
 {
-    let mut buffer = StyledBuffer::new(alloc);
+    let mut buffer = empty;
     let level = group.group.level;
     if let Some(title) = &group.group.title {
         let next = next_of(&group.elements);
@@ -147,27 +123,4 @@ fn draw_group<'a>(
     }
     draw_elements(alloc, &mut buffer, renderer, around, group.elements)?;
     Ok(GroupGrid { level, buffer })
-}
-
-/// The text that prints grids under a sheet, each in its level, joined by line feeds.
-///
-/// # Errors
-///
-/// There is no memory for the text.
-pub fn printed(
-    alloc: Global,
-    grids: &[GroupGrid<'_>],
-    sheet: &Stylesheet,
-) -> Result<String, AllocError>
-    ensures printed { IfOk result (λ text. PrintsGrids sheet.now grids.now (string_bytes text)) }
-{
-    let mut codes = SheetCodes::new(alloc, sheet);
-    let mut text = String::new(alloc);
-    for (i, grid) in grids.iter().enumerate() {
-        if i > 0 {
-            text.push('\n')?;
-        }
-        text = grid.buffer.render_after(text, grid.level, &mut codes)?;
-    }
-    Ok(text)
 }

@@ -16,6 +16,7 @@ use crate::renderer::page::fed;
 use crate::renderer::paths::report_file;
 use crate::renderer::preprocess::prepare_groups;
 use crate::snippet::Report;
+use snippet_grid::StyledBuffer;
 use std::alloc::{AllocError, Global};
 
 /// The page of a report's graphic form as HTML.
@@ -41,9 +42,12 @@ pub fn page_html(
         file,
     };
     let mut text = String::new(alloc);
+    let mut buffer = StyledBuffer::new(alloc);
     for (i, group) in prepared.into_iter().enumerate() {
-        let grid = draw_at(alloc, renderer, &report, i, group)?;
+        let grid = draw_at(alloc, renderer, &report, i, group, buffer)?;
         text = html_with(text, &grid, i == 0)?;
+        buffer = grid.buffer;
+        buffer.clear();
     }
     Ok(text)
 }

@@ -7,7 +7,7 @@ ghost use Rattle.annotate_snippets.specs.PreparedReport.{IsGroupDrawable};
 ghost use Rattle.annotate_snippets.specs.declared.renderer.form.Form.TheVariants as form;
 
 use crate::renderer::Renderer;
-use crate::renderer::drawn::{draw, text_under};
+use crate::renderer::drawn::{short_form_text, text_form_text};
 use crate::renderer::form::Form;
 use crate::renderer::graphic::{ReportContext, group_context};
 use crate::renderer::gutter::gutter_of;
@@ -37,28 +37,9 @@ pub fn text_in_form(
 {
     match form {
         Form::Graphic => page_text(alloc, renderer, groups, sheet),
-        Form::Short | Form::Text => drawn_text(alloc, renderer, form, groups, sheet),
+        Form::Short => short_form_text(alloc, renderer, groups, sheet),
+        Form::Text => text_form_text(alloc, renderer, groups, sheet),
     }
-}
-
-/// The text of a report that is drawn whole before it is printed.
-///
-/// # Errors
-///
-/// There is no memory for the text, or for what it is made of.
-pub fn drawn_text(
-    alloc: Global,
-    renderer: &Renderer,
-    form: Form,
-    groups: Report<'_>,
-    sheet: &Stylesheet,
-) -> Result<String, AllocError>
-    requires drawable { All IsGroupDrawable groups.now }
-    requires titled { spec.missing_title form groups.now ≡ None }
-    ensures text { IfOk result (λ text. IsTextUnder form renderer.now groups.now sheet.now (string_bytes text)) }
-{
-    let drawn = draw(alloc, renderer, form, groups)?;
-    text_under(alloc, &drawn, sheet)
 }
 
 /// Room for the text of a report of everyday size, in bytes. A longer one grows from there.

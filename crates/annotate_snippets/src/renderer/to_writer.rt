@@ -15,12 +15,12 @@ use crate::renderer::error::RenderError;
 use crate::renderer::form::{Form, form_of};
 use crate::renderer::graphic::{GroupGrid, ReportContext, draw_at};
 use crate::renderer::gutter::gutter_of;
-use crate::renderer::page::drawn_text;
+use crate::renderer::page::text_in_form;
 use crate::renderer::paths::report_file;
 use crate::renderer::preprocess::prepare_groups;
 use crate::renderer::validate::first_refusal;
 use crate::snippet::Report;
-use snippet_grid::SheetCodes;
+use snippet_grid::{SheetCodes, StyledBuffer};
 use std::alloc::{AllocError, Global};
 use std::error::Error;
 use std::fmt;
@@ -200,9 +200,12 @@ fn write_groups<W: Write>(
         file,
     };
     let mut codes = SheetCodes::new(alloc, &renderer.stylesheet);
+    let mut buffer = StyledBuffer::new(alloc);
     for (i, group) in prepared.into_iter().enumerate() {
-        let grid = draw_at(alloc, renderer, &report, i, group)?;
+        let grid = draw_at(alloc, renderer, &report, i, group, buffer)?;
         write_grid(alloc, &grid, i == 0, &mut codes, out)?;
+        buffer = grid.buffer;
+        buffer.clear();
     }
     Ok(())
 }
@@ -269,7 +272,7 @@ fn write_drawn<W: Write>(
     ensures part { OnErr result ((out.new ≡ out.old)
         ⊎ WritesPart (ShowsIn form renderer.now groups.now) (W.contents out.old) (W.contents out.new)) }
 {
-    let text = drawn_text(alloc, renderer, form, groups, &renderer.stylesheet)?;
+    let text = text_in_form(alloc, renderer, form, groups, &renderer.stylesheet)?;
     write_whole(text.as_bytes(), out)?;
     Ok(())
 }

@@ -10,7 +10,11 @@ use Rattle.annotate_snippets.proofs.PreparedLemmas.{group_of}
 use Rattle.annotate_snippets.proofs.renderer.html.page_html.Goals as goal
 
 pub loop-i-init : goal.loop-i-init
-loop-i-init c = html_none c.args.renderer.now c.args.groups.now (string_bytes c.new-text.result) c.new-text.ensures.bytes
+loop-i-init c =
+    record {
+      empty = c.new-buffer.ensures.empty;
+      html = html_none c.args.renderer.now c.args.groups.now (string_bytes c.new-text.result) c.new-text.ensures.bytes;
+    }
 
 pub draw_at-requires : goal.draw_at-requires
 draw_at-requires c =
@@ -19,6 +23,7 @@ draw_at-requires c =
     (c.in-Some.i, c.in-Some.group) c.in-Some.is c.next.ensures.steps in
     let same : map group_of c.deref.result.now ≡ c.args.groups.now = ap (map group_of) c.deref.ensures.value ∙ c.in_ok-prepared.ensures.groups in
     record {
+      empty = c.loop-i.invariant.empty;
       drawable = c.requires.drawable;
       prepared = turn_prepared c.in_ok-prepared.prepared.items (length c.loop-i.yielded) c.in-Some.i c.in-Some.group c.in_ok-prepared.ensures.prepared turn;
       here = turn_group c.args.groups.now c.in_ok-prepared.prepared.items (length c.loop-i.yielded) c.in-Some.i c.in-Some.group
@@ -32,7 +37,7 @@ pub loop-i-preserved : goal.loop-i-preserved
 loop-i-preserved c =
     let r = c.args.renderer.now in
     let groups = c.args.groups.now in
-    let before = c.loop-i.invariant in
+    let before = c.loop-i.invariant.html in
     let turn = YieldsList-turn (YieldsList-from_enumerate (YieldsList-from_vec c.in_ok-prepared.prepared.items (cc) (cc))
     (cc)) c.loop-i.yielded c.loop-i.i-iterator c.loop-i.yielded_by c.next.result c.next.new.self
     (c.in-Some.i, c.in-Some.group) c.in-Some.is c.next.ensures.steps in
@@ -40,8 +45,11 @@ loop-i-preserved c =
     let next = length_push c.loop-i.yielded (c.in-Some.i, c.in-Some.group) in
     let so_far = turn_grid r groups c.in_ok-prepared.prepared.items (length c.loop-i.yielded) _ c.in-Some.i c.in-Some.group c.in_ok-grid.grid before.grids
     _ c.in_ok-prepared.ensures.groups turn c.in_ok-grid.ensures.level c.in_ok-grid.ensures.drawn refl next before.so_far in
-    html_more r groups (length c.loop-i.yielded) _ c.in_ok-grid.grid (c.in-Some.i == 0) (string_bytes c.loop-i.text)
-    (string_bytes c.in_ok-text.text) before (ap (λ k. k == 0) at) c.in_ok-text.ensures.added so_far
+    record {
+      empty = c.clear.ensures.empty;
+      html = html_more r groups (length c.loop-i.yielded) _ c.in_ok-grid.grid (c.in-Some.i == 0) (string_bytes c.loop-i.text)
+          (string_bytes c.in_ok-text.text) before (ap (λ k. k == 0) at) c.in_ok-text.ensures.added so_far;
+    }
 
 pub returns : goal.returns
 returns c =
@@ -50,5 +58,5 @@ returns c =
     let all = turns_all c.args.groups.now c.in_ok-prepared.prepared.items (length c.loop-i.yielded) c.in_ok-prepared.ensures.groups end.1 in
     record {
       html = html_all c.args.renderer.now c.args.groups.now (length c.loop-i.yielded) (string_bytes c.loop-i.text) c.requires.drawable all
-          c.loop-i.invariant;
+          c.loop-i.invariant.html;
     }

@@ -16,6 +16,7 @@ pub loop-i-init : goal.loop-i-init
 loop-i-init g c =
     record {
       sheet = c.new-codes.ensures.sheet;
+      empty = c.new-buffer.ensures.empty;
       written = written_none c.args.renderer.now c.args.groups.now _;
       first = λ none. refl;
     }
@@ -27,6 +28,7 @@ draw_at-requires g c =
     (c.in-Some.i, c.in-Some.group) c.in-Some.is c.next.ensures.steps in
     let same : map group_of c.deref.result.now ≡ c.args.groups.now = ap (map group_of) c.deref.ensures.value ∙ c.in_ok-prepared.ensures.groups in
     record {
+      empty = c.loop-i.invariant.empty;
       drawable = c.requires.drawable;
       prepared = turn_prepared c.in_ok-prepared.prepared.items (length c.loop-i.yielded) c.in-Some.i c.in-Some.group c.in_ok-prepared.ensures.prepared turn;
       here = turn_group c.args.groups.now c.in_ok-prepared.prepared.items (length c.loop-i.yielded) c.in-Some.i c.in-Some.group
@@ -53,6 +55,7 @@ loop-i-preserved g c =
     (contents c.write_grid.new.out)) c.loop-i.invariant.sheet c.in_ok-write_grid.ensures.whole in
     record {
       sheet = c.write_grid.ensures.sheet ∙ c.loop-i.invariant.sheet;
+      empty = c.clear.ensures.empty;
       written = written_more r groups (length c.loop-i.yielded) _ c.in_ok-grid.grid (c.in-Some.i == 0) _ (contents c.loop-i.out)
           (contents c.write_grid.new.out) before (ap (λ k. k == 0) at) added so_far;
       first = λ none. absurd (omega (arith, none, next));

@@ -1,0 +1,27 @@
+use Rattle.std.proofs.Common.{List, string_bytes, ◌≡◌}
+use Rattle.std.proofs.lemmas.Result.{IfOk-weaker}
+use Rattle.snippet_grid.specs.Woven.{IsWoven}
+use Rattle.snippet_model.specs.declared.snippet.Group.{Group}
+use Rattle.snippet_style.specs.declared.stylesheet.Stylesheet.{Stylesheet}
+use Rattle.snippet_text_form.specs.Form.{form_bytes, form_links, form_text}
+use Rattle.annotate_snippets.specs.FormLaws.{IsTextUnder}
+use Rattle.annotate_snippets.specs.declared.renderer.form.Form.TheVariants.{Text}
+use Rattle.annotate_snippets.proofs.ReportLemmas.{IfOk-both}
+use Rattle.annotate_snippets.proofs.TextShown.{form-text, text-under}
+use Rattle.annotate_snippets.proofs.renderer.drawn.text_form_text.Goals as goal
+
+pub returns : goal.returns
+returns c =
+    let r = c.args.renderer.now in
+    let groups : List Group = c.args.groups.now in
+    let sheet : Stylesheet = c.args.sheet.now in
+    let form = c.in_ok-form.form in
+    let both = IfOk-both (λ text. string_bytes text ≡ form_bytes sheet form) (λ text. IsWoven sheet (string_bytes text) (form_text form) (form_links form))
+    c.render.result c.render.ensures.text c.render.ensures.woven in
+    record {
+      text = IfOk-weaker c.render.result
+          (λ text. (string_bytes text ≡ form_bytes sheet form) × IsWoven sheet (string_bytes text) (form_text form) (form_links form))
+          (λ text. IsTextUnder Text r groups sheet (string_bytes text))
+          (λ text is. text-under r groups sheet (string_bytes text) (form-text r groups form sheet (string_bytes text) c.in_ok-form.ensures.form is.0 is.1))
+          both;
+    }

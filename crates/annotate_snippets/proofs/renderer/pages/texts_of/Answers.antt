@@ -1,0 +1,19 @@
+use Rattle.std.proofs.Common.{◌∙◌, [], ◌∷◌, ◌++◌, ap, map, sym}
+use Rattle.std.proofs.lemmas.Iterator.Adapters.{YieldsList-from_vec}
+use Rattle.std.proofs.lemmas.Iterator.Consumers.{YieldsList-end}
+use Rattle.std.proofs.lemmas.List.{map-append, map-id}
+use Rattle.annotate_snippets.specs.declared.renderer.pages.SheetPage.{SheetPage}
+use Rattle.annotate_snippets.proofs.renderer.pages.texts_of.Goals as goal
+
+pub loop-page-preserved : goal.loop-page-preserved
+loop-page-preserved c =
+    c.in_ok-push.ensures.items ∙ ap (λ texts. texts ++ c.in-Some.page.text ∷ []) c.loop-page.invariant
+    ∙ sym (map-append (λ (page : SheetPage). page.text) c.loop-page.yielded (c.in-Some.page ∷ []))
+
+pub returns : goal.returns
+returns c =
+    let end = YieldsList-end (YieldsList-from_vec c.args.pages.items (cc) (cc)) c.loop-page.yielded c.loop-page.page-iterator
+    c.loop-page.yielded_by c.next.result c.next.new.self c.in-None.is c.next.ensures.steps in
+    record {
+      value = c.loop-page.invariant ∙ ap (map (λ (page : SheetPage). page.text)) (sym (map-id c.loop-page.yielded) ∙ end.0);
+    }

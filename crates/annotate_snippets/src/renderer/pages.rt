@@ -1,0 +1,144 @@
+//! The texts of a report under several sheets. In the graphic form each group is drawn once, and printed under each
+//! sheet before the next is drawn in the room that it took, so that memory holds the rows of one group at a time.
+ghost use Rattle.std.specs.Prelude.{◌≡◌, All, IfOk, None, OnOk, map, string_bytes};
+ghost use Rattle.std.specs.List.{AllZip};
+ghost use Rattle.annotate_snippets.specs.Fault as spec;
+ghost use Rattle.annotate_snippets.specs.FormLaws.{IsTextUnder, LawsIn};
+ghost use Rattle.annotate_snippets.specs.Forms.{ShowsForm};
+ghost use Rattle.annotate_snippets.specs.PreparedReport.{IsGroupDrawable};
+ghost use Rattle.annotate_snippets.specs.Written.{AddsToPage, IsEmptyPage};
+ghost use Rattle.annotate_snippets.specs.declared.renderer.form.Form.TheVariants as form;
+
+use crate::renderer::Renderer;
+use crate::renderer::drawn::{short_form_texts, text_form_texts};
+use crate::renderer::form::Form;
+use crate::renderer::graphic::{GroupGrid, ReportContext, draw_at};
+use crate::renderer::gutter::gutter_of;
+use crate::renderer::page::fed;
+use crate::renderer::paths::report_file;
+use crate::renderer::preprocess::prepare_groups;
+use crate::snippet::Report;
+use snippet_grid::{SheetCodes, StyledBuffer};
+use snippet_style::Stylesheet;
+use std::alloc::{AllocError, Global};
+use std::mem;
+
+/// The texts of a report in a form, one under each of some sheets, in order.
+///
+/// # Errors
+///
+/// There is no memory for the texts, or for what they are made of.
+pub fn texts_in_form(
+    alloc: Global,
+    renderer: &Renderer,
+    form: Form,
+    groups: Report<'_>,
+    sheets: &[Stylesheet],
+) -> Result<Vec<String>, AllocError>
+    requires drawable { All IsGroupDrawable groups.now }
+    requires titled { spec.missing_title form groups.now ≡ None }
+    ensures shows { IfOk result (λ texts.
+        ShowsForm form renderer.now groups.now sheets.now (map string_bytes texts.items)) }
+    ensures laws { IfOk result (λ texts.
+        AllZip (LawsIn form renderer.now groups.now) sheets.now (map string_bytes texts.items)) }
+{
+    match form {
+        Form::Graphic => page_texts(alloc, renderer, groups, sheets),
+        Form::Short => short_form_texts(alloc, renderer, groups, sheets),
+        Form::Text => text_form_texts(alloc, renderer, groups, sheets),
+    }
+}
+
+/// The texts of a report's graphic form, a group at a time.
+fn page_texts(
+    alloc: Global,
+    renderer: &Renderer,
+    groups: Report<'_>,
+    sheets: &[Stylesheet],
+) -> Result<Vec<String>, AllocError>
+    requires drawable { All IsGroupDrawable groups.now }
+    ensures texts { IfOk result (λ texts.
+        AllZip (IsTextUnder form.Graphic renderer.now groups.now) sheets.now (map string_bytes texts.items)) }
+{
+    let prepared = prepare_groups(alloc, groups)?;
+    let gutter = gutter_of(renderer, &prepared);
+    let file = report_file(groups);
+    let report = ReportContext {
+        groups,
+        gutter,
+        file,
+    };
+    let mut pages = empty_pages(alloc, sheets)?;
+    let mut buffer = StyledBuffer::new(alloc);
+    for (i, group) in prepared.into_iter().enumerate() {
+        let grid = draw_at(alloc, renderer, &report, i, group, buffer)?;
+        print_grid(alloc, &grid, i == 0, &mut pages)?;
+        buffer = grid.buffer;
+        buffer.clear();
+    }
+    texts_of(alloc, pages)
+}
+
+/// The page of a report under a sheet, as far as it is printed.
+#[derive(Drop)]
+struct SheetPage {
+    /// The codes of the sheet.
+    codes: SheetCodes,
+    /// The text so far.
+    text: String,
+}
+
+/// Pages on which nothing is printed yet, one under each of these sheets.
+fn empty_pages(alloc: Global, sheets: &[Stylesheet]) -> Result<Vec<SheetPage>, AllocError>
+    ensures empty { IfOk result (λ pages. AllZip IsEmptyPage sheets.now pages.items) }
+{
+    let mut pages = Vec::with_capacity(alloc, sheets.len())?;
+    for sheet in sheets {
+        pages.push(SheetPage {
+            codes: SheetCodes::new(alloc, sheet),
+            text: String::new(alloc),
+        })?;
+    }
+    Ok(pages)
+}
+
+/// Prints a group's grid on each page, after a line feed unless it is the first.
+fn print_grid(
+    alloc: Global,
+    grid: &GroupGrid<'_>,
+    is_first: bool,
+    pages: &mut [SheetPage],
+) -> Result<(), AllocError>
+    ensures printed { OnOk result (AllZip (AddsToPage is_first grid.now) pages.old pages.new) }
+{
+    for page in pages.iter_mut() {
+        print_on(alloc, grid, is_first, page)?;
+    }
+    Ok(())
+}
+
+/// Prints a group's grid on a page, after a line feed unless it is the first.
+fn print_on(
+    alloc: Global,
+    grid: &GroupGrid<'_>,
+    is_first: bool,
+    page: &mut SheetPage,
+) -> Result<(), AllocError>
+    ensures printed { OnOk result (AddsToPage is_first grid.now page.old page.new) }
+{
+    let text = mem::replace(&mut page.text, String::new(alloc));
+    let lead = fed(text, is_first)?;
+    page.text = grid.buffer.render_after(lead, grid.level, &mut page.codes)?;
+    Ok(())
+}
+
+/// The texts of some pages.
+fn texts_of(alloc: Global, pages: Vec<SheetPage>) -> Result<Vec<String>, AllocError>
+    ensures value { IfOk result (λ texts. texts.items ≡ map (λ page. page.text) pages.items) }
+{
+    let mut texts = Vec::with_capacity(alloc, pages.len())?;
+    for page in pages {
+        texts.push(page.text)?;
+    }
+    Ok(texts)
+}
