@@ -4,7 +4,7 @@ use crate::location::Context;
 use crate::message::text_in;
 use crate::region::{carried_in, region_of};
 use crate::uri::path_in;
-use json_node::lenient::{List, Node, Problems};
+use json_node::lenient::{LenientNode, List, Problems};
 use redraw_report::diagnostic::{Carried, Child, Edit, LineRegion, Region, Severity, Unit};
 use std::alloc::{AllocError, Global};
 
@@ -28,7 +28,7 @@ pub fn add_fixes(
 /// Adds what is said of a fix, unless something is wrong in it.
 fn take_fix(
     children: &mut Vec<Child>,
-    fix: &Node<'_, '_>,
+    fix: &LenientNode<'_, '_>,
     context: &Context<'_>,
     problems: &mut Problems,
 ) -> Result<(), AllocError> {
@@ -43,7 +43,7 @@ fn take_fix(
 
 /// The description of a fix.
 fn description_of(
-    fix: &Node<'_, '_>,
+    fix: &LenientNode<'_, '_>,
     context: &Context<'_>,
     problems: &mut Problems,
 ) -> Result<String, AllocError> {
@@ -92,7 +92,7 @@ fn help_of(message: String, edits: Vec<Edit>, context: &Context<'_>) -> Result<C
 /// The edits of a fix, in all files; `None` where something is wrong with one of them, which is reported: the others
 /// alone would be another fix.
 fn edits_of(
-    fix: &Node<'_, '_>,
+    fix: &LenientNode<'_, '_>,
     context: &Context<'_>,
     problems: &mut Problems,
 ) -> Result<Option<Vec<Edit>>, AllocError> {
@@ -107,7 +107,7 @@ fn edits_of(
 
 /// Those edits of a fix with which nothing is wrong.
 fn edits_in(
-    fix: &Node<'_, '_>,
+    fix: &LenientNode<'_, '_>,
     context: &Context<'_>,
     problems: &mut Problems,
 ) -> Result<Vec<Edit>, AllocError> {
@@ -122,7 +122,7 @@ fn edits_in(
 /// Adds the edits of one file.
 fn add_change(
     edits: &mut Vec<Edit>,
-    change: &Node<'_, '_>,
+    change: &LenientNode<'_, '_>,
     context: &Context<'_>,
     problems: &mut Problems,
 ) -> Result<(), AllocError> {
@@ -135,7 +135,7 @@ fn add_change(
 /// Adds the edits of a file that a change makes.
 fn add_replacements(
     edits: &mut Vec<Edit>,
-    change: &Node<'_, '_>,
+    change: &LenientNode<'_, '_>,
     file: &str,
     context: &Context<'_>,
     problems: &mut Problems,
@@ -156,7 +156,7 @@ fn add_replacements(
 /// Adds the edit of a replacement, if it is one that can be drawn.
 fn add_replacement(
     edits: &mut Vec<Edit>,
-    replacement: &Node<'_, '_>,
+    replacement: &LenientNode<'_, '_>,
     file: &str,
     context: &Context<'_>,
     problems: &mut Problems,
@@ -169,7 +169,7 @@ fn add_replacement(
 
 /// The edit of a replacement. One whose content is no text isn't one that can be drawn.
 fn edit_of(
-    replacement: &Node<'_, '_>,
+    replacement: &LenientNode<'_, '_>,
     file: &str,
     context: &Context<'_>,
     problems: &mut Problems,
@@ -186,7 +186,11 @@ fn edit_of(
 }
 
 /// The part of a file that goes. Without columns it is all of its lines, with the blanks that they begin with.
-fn deleted_in(deleted: &Node<'_, '_>, unit: Unit, problems: &mut Problems) -> Option<Region> {
+fn deleted_in(
+    deleted: &LenientNode<'_, '_>,
+    unit: Unit,
+    problems: &mut Problems,
+) -> Option<Region> {
     match region_of(deleted, unit, problems) {
         Some(Region::Lines(lines)) => Some(Region::Lines(LineRegion {
             start_column: lines.start_column.or(Some(1)),
@@ -215,7 +219,7 @@ fn edit_with(
 }
 
 /// The text that a replacement puts in: none where it only takes text away.
-fn inserted_in<'v>(replacement: &Node<'v, '_>, problems: &mut Problems) -> Option<&'v str> {
+fn inserted_in<'v>(replacement: &LenientNode<'v, '_>, problems: &mut Problems) -> Option<&'v str> {
     if !replacement.has("insertedContent") {
         return Some("");
     }

@@ -4,7 +4,7 @@ use crate::expectation::SarifExpectation;
 use crate::links::without_links;
 use crate::placeholders::filled;
 use crate::rule::Rule;
-use json_node::lenient::{Node, Problems};
+use json_node::lenient::{LenientNode, Problems};
 use serde_json::Value;
 use std::alloc::{AllocError, Global};
 
@@ -13,7 +13,7 @@ use std::alloc::{AllocError, Global};
 /// to a location is its text.
 pub fn text_in(
     alloc: Global,
-    object: &Node<'_, '_>,
+    object: &LenientNode<'_, '_>,
     name: &str,
     rule: &Rule<'_>,
     problems: &mut Problems,
@@ -27,7 +27,7 @@ pub fn text_in(
 /// The text of a message.
 fn text_of(
     alloc: Global,
-    message: &Node<'_, '_>,
+    message: &LenientNode<'_, '_>,
     rule: &Rule<'_>,
     problems: &mut Problems,
 ) -> Result<Option<String>, AllocError> {
@@ -60,7 +60,7 @@ fn with_arguments(
 
 /// The text of the rule that a message names by its id.
 fn text_by_id<'v>(
-    message: &Node<'_, '_>,
+    message: &LenientNode<'_, '_>,
     rule: &Rule<'v>,
     problems: &mut Problems,
 ) -> Option<&'v str> {
