@@ -11,7 +11,7 @@ use json_node::place::JsonPath;
 use program::stream::Stream;
 use redraw_command::stop::Stop;
 use redraw_read::sources::SourceFiles;
-use redraw_sarif::sarif::Run;
+use redraw_sarif::sarif::SarifRun;
 use serde_json::Value;
 use std::io::Write;
 
@@ -50,7 +50,7 @@ fn draw_run<S: SourceFiles + Drop, W: Write, V: Write>(
         (standing drawing.new (known W.contents out.new) (known V.contents err.new)) }
 {
     let mut problems = Problems::new(drawing.alloc);
-    let run = Run::new(node, &mut problems);
+    let run = SarifRun::new(node, &mut problems);
     let results = run.results(&mut problems);
     tell_all(&problems, drawing, err)?;
     for (index, value) in results.items.iter().enumerate() {
@@ -61,7 +61,7 @@ fn draw_run<S: SourceFiles + Drop, W: Write, V: Write>(
 
 /// Draws what a result of a run reports, after what is wrong with it.
 fn draw_result<'v, S: SourceFiles + Drop, W: Write, V: Write>(
-    run: &Run<'v, '_>,
+    run: &SarifRun<'v, '_>,
     reported: &LenientNode<'v, '_>,
     drawing: &mut Drawing<'_, S>,
     out: &mut Stream<W>,

@@ -5,7 +5,9 @@ use crate::message::text_in;
 use crate::region::{carried_in, region_of};
 use crate::uri::path_in;
 use json_node::lenient::{LenientNode, List, Problems};
-use redraw_report::diagnostic::{Carried, Child, Edit, LineRegion, Region, Severity, Unit};
+use redraw_report::diagnostic::{
+    Carried, Child, LineRegion, Region, Severity, SuggestedEdit, Unit,
+};
 use std::alloc::{AllocError, Global};
 
 /// What stands over a fix that isn't described.
@@ -57,7 +59,7 @@ fn description_of(
 fn add_fix(
     children: &mut Vec<Child>,
     message: String,
-    edits: Vec<Edit>,
+    edits: Vec<SuggestedEdit>,
     context: &Context<'_>,
 ) -> Result<(), AllocError> {
     match last_said(children, message.as_str()) {
@@ -78,7 +80,11 @@ fn last_said<'c>(children: &'c mut Vec<Child>, message: &str) -> Option<&'c mut 
 }
 
 /// The help that one fix makes.
-fn help_of(message: String, edits: Vec<Edit>, context: &Context<'_>) -> Result<Child, AllocError> {
+fn help_of(
+    message: String,
+    edits: Vec<SuggestedEdit>,
+    context: &Context<'_>,
+) -> Result<Child, AllocError> {
     let mut alternatives = Vec::new(context.alloc);
     alternatives.push(edits)?;
     Ok(Child {
@@ -95,7 +101,7 @@ fn edits_of(
     fix: &LenientNode<'_, '_>,
     context: &Context<'_>,
     problems: &mut Problems,
-) -> Result<Option<Vec<Edit>>, AllocError> {
+) -> Result<Option<Vec<SuggestedEdit>>, AllocError> {
     let told = problems.lines.len();
     let edits = edits_in(fix, context, problems)?;
     if problems.lines.len() > told {
@@ -110,7 +116,7 @@ fn edits_in(
     fix: &LenientNode<'_, '_>,
     context: &Context<'_>,
     problems: &mut Problems,
-) -> Result<Vec<Edit>, AllocError> {
+) -> Result<Vec<SuggestedEdit>, AllocError> {
     let mut edits = Vec::new(context.alloc);
     let changes = fix.needed_list("artifactChanges", problems);
     for (index, value) in changes.items.iter().enumerate() {
@@ -121,7 +127,7 @@ fn edits_in(
 
 /// Adds the edits of one file.
 fn add_change(
-    edits: &mut Vec<Edit>,
+    edits: &mut Vec<SuggestedEdit>,
     change: &LenientNode<'_, '_>,
     context: &Context<'_>,
     problems: &mut Problems,
@@ -134,7 +140,7 @@ fn add_change(
 
 /// Adds the edits of a file that a change makes.
 fn add_replacements(
-    edits: &mut Vec<Edit>,
+    edits: &mut Vec<SuggestedEdit>,
     change: &LenientNode<'_, '_>,
     file: &str,
     context: &Context<'_>,
@@ -155,7 +161,7 @@ fn add_replacements(
 
 /// Adds the edit of a replacement, if it is one that can be drawn.
 fn add_replacement(
-    edits: &mut Vec<Edit>,
+    edits: &mut Vec<SuggestedEdit>,
     replacement: &LenientNode<'_, '_>,
     file: &str,
     context: &Context<'_>,
@@ -173,7 +179,7 @@ fn edit_of(
     file: &str,
     context: &Context<'_>,
     problems: &mut Problems,
-) -> Result<Option<Edit>, AllocError> {
+) -> Result<Option<SuggestedEdit>, AllocError> {
     let Some(deleted) = replacement.needed("deletedRegion", problems) else {
         return Ok(None);
     };
@@ -207,10 +213,10 @@ fn edit_with(
     region: Region,
     text: &str,
     carried: Option<Carried>,
-) -> Result<Edit, AllocError> {
+) -> Result<SuggestedEdit, AllocError> {
     let file = String::from_str(alloc, file)?;
     let replacement = String::from_str(alloc, text)?;
-    Ok(Edit {
+    Ok(SuggestedEdit {
         file,
         region,
         replacement,

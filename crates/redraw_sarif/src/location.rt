@@ -2,7 +2,7 @@
 
 use crate::message::text_in;
 use crate::region::{carried_of, region_of};
-use crate::rule::Rule;
+use crate::rule::SarifRule;
 use crate::uri::path_in;
 use json_node::lenient::{LenientNode, List, Problems};
 use redraw_report::diagnostic::{FileSpan, Region, Unit};
@@ -17,7 +17,7 @@ const START: Region = Region::Bytes { start: 0, end: 0 };
 pub struct Context<'v> {
     pub alloc: Global,
     pub run: &'v Value,
-    pub rule: Rule<'v>,
+    pub rule: SarifRule<'v>,
     /// What columns count.
     pub unit: Unit,
 }

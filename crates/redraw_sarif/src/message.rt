@@ -3,7 +3,7 @@
 use crate::expectation::SarifExpectation;
 use crate::links::without_links;
 use crate::placeholders::filled;
-use crate::rule::Rule;
+use crate::rule::SarifRule;
 use json_node::lenient::{LenientNode, Problems};
 use serde_json::Value;
 use std::alloc::{AllocError, Global};
@@ -15,7 +15,7 @@ pub fn text_in(
     alloc: Global,
     object: &LenientNode<'_, '_>,
     name: &str,
-    rule: &Rule<'_>,
+    rule: &SarifRule<'_>,
     problems: &mut Problems,
 ) -> Result<Option<String>, AllocError> {
     match object.object(name, problems) {
@@ -28,7 +28,7 @@ pub fn text_in(
 fn text_of(
     alloc: Global,
     message: &LenientNode<'_, '_>,
-    rule: &Rule<'_>,
+    rule: &SarifRule<'_>,
     problems: &mut Problems,
 ) -> Result<Option<String>, AllocError> {
     let arguments = message.list("arguments", problems).items;
@@ -61,7 +61,7 @@ fn with_arguments(
 /// The text of the rule that a message names by its id.
 fn text_by_id<'v>(
     message: &LenientNode<'_, '_>,
-    rule: &Rule<'v>,
+    rule: &SarifRule<'v>,
     problems: &mut Problems,
 ) -> Option<&'v str> {
     match message.text("id", problems) {

@@ -8,14 +8,14 @@ use std::alloc::{AllocError, Global};
 
 /// The rule of a result, and the part of the tool that has it.
 #[derive(Clone, Copy)]
-pub struct Rule<'v> {
+pub struct SarifRule<'v> {
     /// The tool's driver or one of its extensions.
     component: Option<&'v Value>,
     /// The rule, where the component has it.
     rule: Option<&'v Value>,
 }
 
-impl<'v> Rule<'v> {
+impl<'v> SarifRule<'v> {
     /// A text of the rule by its name.
     fn text(&self, name: &str) -> Option<&'v str> {
         text_at(self.rule, name)
@@ -49,7 +49,7 @@ pub fn rule_of<'v>(
     run: &'v Value,
     reported: &LenientNode<'v, '_>,
     problems: &mut Problems,
-) -> Rule<'v> {
+) -> SarifRule<'v> {
     let index = index_of(reported, problems);
     let component = component_of(run, reported.value);
     let rules = rules_of(component);
@@ -60,7 +60,7 @@ pub fn rule_of<'v>(
     if index.is_some() && rule.is_none() {
         reported.tell(problems, SarifExpectation::Rule);
     }
-    Rule { component, rule }
+    SarifRule { component, rule }
 }
 
 /// The number of the rule that a result names.
@@ -139,7 +139,7 @@ fn is_part(own: &str, id: &str) -> bool {
 pub fn code_of(
     alloc: Global,
     reported: &Value,
-    rule: &Rule<'_>,
+    rule: &SarifRule<'_>,
 ) -> Result<Option<Code>, AllocError> {
     let Some(id) = id_of(reported).or(rule.text("id")) else {
         return Ok(None);
@@ -161,7 +161,7 @@ fn owned(alloc: Global, text: Option<&str>) -> Result<Option<String>, AllocError
 /// warning.
 pub fn severity_of(
     reported: &LenientNode<'_, '_>,
-    rule: &Rule<'_>,
+    rule: &SarifRule<'_>,
     problems: &mut Problems,
 ) -> Severity {
     if let Some(level) = reported.text("level", problems) {

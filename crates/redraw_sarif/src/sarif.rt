@@ -6,7 +6,7 @@ use crate::flow::{Told, add_steps};
 use crate::location::{Context, add_spans};
 use crate::message::text_in;
 use crate::primary::choose_primary;
-use crate::rule::{Rule, code_of, rule_of, severity_of};
+use crate::rule::{SarifRule, code_of, rule_of, severity_of};
 use json_node::lenient::{LenientNode, List, Problems};
 use redraw_report::diagnostic::{Diagnostic, FileSpan, Unit};
 use std::alloc::{AllocError, Global};
@@ -16,18 +16,18 @@ const NO_MESSAGE: &str = "the log has no message";
 
 /// A run of a log.
 #[derive(Clone, Copy)]
-pub struct Run<'v, 'p> {
+pub struct SarifRun<'v, 'p> {
     node: LenientNode<'v, 'p>,
     /// What its columns count.
     unit: Unit,
 }
 
-impl<'v, 'p> Run<'v, 'p> {
+impl<'v, 'p> SarifRun<'v, 'p> {
     /// The run that this value describes. A value that is no object is a run without results, and is reported.
-    pub fn new(node: LenientNode<'v, 'p>, problems: &mut Problems) -> Run<'v, 'p> {
+    pub fn new(node: LenientNode<'v, 'p>, problems: &mut Problems) -> SarifRun<'v, 'p> {
         let _is_told = node.is_object(problems);
         let unit = unit_of(&node, problems);
-        Run { node, unit }
+        SarifRun { node, unit }
     }
 
     /// The results of the run.
@@ -100,7 +100,7 @@ fn message_of(
 }
 
 /// What a rule says of itself, or that there is no message.
-fn description_of<'v>(rule: &Rule<'v>) -> &'v str {
+fn description_of<'v>(rule: &SarifRule<'v>) -> &'v str {
     rule.description().unwrap_or(NO_MESSAGE)
 }
 
