@@ -9,7 +9,7 @@ use std::io;
 
 /// A call that writes.
 #[derive(Clone, Copy)]
-enum Call {
+enum WriteCall {
     Putc,
     Puts,
     Append,
@@ -20,14 +20,14 @@ enum Call {
 }
 
 /// The calls, in the order in which they are made of each row.
-const CALLS: &[(Call, &str)] = &[
-    (Call::Putc, "grid: `putc`"),
-    (Call::Puts, "grid: `puts`"),
-    (Call::Append, "grid: `append`"),
-    (Call::Replace, "grid: `replace`"),
-    (Call::SetStyle, "grid: `set_style`"),
-    (Call::SetStyleRange, "grid: `set_style_range`"),
-    (Call::Link, "grid: `link`"),
+const CALLS: &[(WriteCall, &str)] = &[
+    (WriteCall::Putc, "grid: `putc`"),
+    (WriteCall::Puts, "grid: `puts`"),
+    (WriteCall::Append, "grid: `append`"),
+    (WriteCall::Replace, "grid: `replace`"),
+    (WriteCall::SetStyle, "grid: `set_style`"),
+    (WriteCall::SetStyleRange, "grid: `set_style_range`"),
+    (WriteCall::Link, "grid: `link`"),
 ];
 
 /// How many rows are written.
@@ -55,22 +55,22 @@ fn sheet() -> Stylesheet {
 }
 
 /// Makes a call of a row.
-fn make(grid: &mut StyledBuffer<'static>, call: Call, row: u8) -> Result<(), AllocError> {
+fn make(grid: &mut StyledBuffer<'static>, call: WriteCall, row: u8) -> Result<(), AllocError> {
     let row = usize::from(row);
     match call {
-        Call::Putc => grid.putc(row, 6, '^', ElementStyle::UnderlinePrimary),
-        Call::Puts => grid.puts(row, 0, "abcd", ElementStyle::Quotation),
-        Call::Append => grid.append(row, " label", ElementStyle::LabelPrimary),
-        Call::Replace => grid.replace(row, 1, 3, "..."),
-        Call::SetStyle => grid.set_style(row, 0, ElementStyle::Addition, false),
-        Call::SetStyleRange => grid.set_style_range(row, 4, 9, ElementStyle::Removal, false),
-        Call::Link => grid.link(row, 9..14, "u"),
+        WriteCall::Putc => grid.putc(row, 6, '^', ElementStyle::UnderlinePrimary),
+        WriteCall::Puts => grid.puts(row, 0, "abcd", ElementStyle::Quotation),
+        WriteCall::Append => grid.append(row, " label", ElementStyle::LabelPrimary),
+        WriteCall::Replace => grid.replace(row, 1, 3, "..."),
+        WriteCall::SetStyle => grid.set_style(row, 0, ElementStyle::Addition, false),
+        WriteCall::SetStyleRange => grid.set_style_range(row, 4, 9, ElementStyle::Removal, false),
+        WriteCall::Link => grid.link(row, 9..14, "u"),
     }
 }
 
 /// What a grid shows of itself.
 #[derive(Drop)]
-struct State {
+struct GridState {
     rows: usize,
     runs: usize,
     /// Its characters, with the codes of their roles and links.
@@ -83,8 +83,8 @@ fn text_of(grid: &StyledBuffer<'static>) -> Result<String, AllocError> {
 }
 
 /// What a grid shows.
-fn state_of(grid: &StyledBuffer<'static>) -> Result<State, AllocError> {
-    Ok(State {
+fn state_of(grid: &StyledBuffer<'static>) -> Result<GridState, AllocError> {
+    Ok(GridState {
         rows: grid.num_lines(),
         runs: grid.num_runs(),
         text: text_of(grid)?,
@@ -92,14 +92,14 @@ fn state_of(grid: &StyledBuffer<'static>) -> Result<State, AllocError> {
 }
 
 /// Whether two grids show the same.
-fn is_same(before: &State, after: &State) -> bool {
+fn is_same(before: &GridState, after: &GridState) -> bool {
     before.rows == after.rows
         && before.runs == after.runs
         && before.text.as_str() == after.text.as_str()
 }
 
 /// Makes a call, once more where it is out of memory, and says whether the grid was then as before.
-fn made(grid: &mut StyledBuffer<'static>, call: Call, row: u8) -> Result<bool, AllocError> {
+fn made(grid: &mut StyledBuffer<'static>, call: WriteCall, row: u8) -> Result<bool, AllocError> {
     let before = state_of(grid)?;
     if make(grid, call, row).is_ok() {
         return Ok(true);
@@ -113,7 +113,7 @@ fn made(grid: &mut StyledBuffer<'static>, call: Call, row: u8) -> Result<bool, A
 fn print_call(
     rt: &impl Print,
     grid: &mut StyledBuffer<'static>,
-    call: Call,
+    call: WriteCall,
     name: &str,
 ) -> io::Result<()> {
     let mut same = true;

@@ -10,10 +10,10 @@ use toml::Value;
 use toml::de::Error;
 
 /// A report, or why there is none.
-type Answer = Result<String, RenderError>;
+type Rendered = Result<String, RenderError>;
 
 /// The report of a text that isn't TOML: it marks the bytes that the parser stumbled over.
-fn not_toml<'a>(alloc: Global, path: &'a str, text: &'a str, error: &'a Error) -> Answer
+fn not_toml<'a>(alloc: Global, path: &'a str, text: &'a str, error: &'a Error) -> Rendered
     requires path { TextFits path.now }
     requires text { TextFits text.now }
 {
@@ -33,7 +33,7 @@ fn not_toml<'a>(alloc: Global, path: &'a str, text: &'a str, error: &'a Error) -
 }
 
 /// The report of a configuration without a port: there is no line to show, so the file alone is named, by an origin.
-fn no_port<'a>(alloc: Global, path: &'a str) -> Answer
+fn no_port<'a>(alloc: Global, path: &'a str) -> Rendered
     requires path { TextFits path.now }
 {
     let group: Group<'a> = ERROR
@@ -43,7 +43,7 @@ fn no_port<'a>(alloc: Global, path: &'a str) -> Answer
 }
 
 /// The port that a configuration names, as a text; else the report of what is wrong with it.
-pub fn port(alloc: Global, path: &str, text: &str) -> Answer
+pub fn port(alloc: Global, path: &str, text: &str) -> Rendered
     requires path { TextFits path.now }
     requires text { TextFits text.now }
 {

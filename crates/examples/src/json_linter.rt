@@ -7,7 +7,7 @@ use annotate_snippets::{AnnotationKind, Group, Patch, Renderer, Snippet};
 use std::alloc::{AllocError, Global};
 
 /// What a file's text is found to be.
-pub enum Finding {
+pub enum Verdict {
     /// Nothing is to be said of it.
     Clean,
     /// The report of what is wrong.
@@ -116,13 +116,13 @@ fn report<'a>(
 }
 
 /// What is to be said of a file.
-pub fn lint<'a>(alloc: Global, path: &'a str, text: &'a str) -> Result<Finding, RenderError> {
+pub fn lint<'a>(alloc: Global, path: &'a str, text: &'a str) -> Result<Verdict, RenderError> {
     let groups: Vec<Group<'a>> = report(alloc, path, text, &commas_in(alloc, text)?)?;
     if groups.is_empty() {
-        return Ok(Finding::Clean);
+        return Ok(Verdict::Clean);
     }
     if !report_fits(&groups) {
-        return Ok(Finding::TooLong);
+        return Ok(Verdict::TooLong);
     }
-    Ok(Finding::Wrong(Renderer::plain().render(alloc, &groups)?))
+    Ok(Verdict::Wrong(Renderer::plain().render(alloc, &groups)?))
 }

@@ -19,7 +19,7 @@ mod test_tool;
 use annotate_snippets::Renderer;
 use annotate_snippets::renderer::RenderError;
 use failed_tests::{Failure, Part};
-use json_linter::Finding;
+use json_linter::Verdict;
 use service::Request;
 use std::io::{self, Write};
 
@@ -89,9 +89,9 @@ fn lint_json(rt: &(impl Print + AllocGlobal)) -> io::Result<()> {
     let wrong = "{\n  \"host\": \"example.org\",\n  \"ports\": [80, 443,],\n}\n";
     for (path, text) in [("right.json", right), ("wrong.json", wrong)] {
         match json_linter::lint(rt.alloc(), path, text) {
-            Ok(Finding::Clean) => println!(rt; "{path}: nothing to say")?,
-            Ok(Finding::Wrong(report)) => println!(rt; "{report}")?,
-            Ok(Finding::TooLong) => println!(rt; "{path}: too long")?,
+            Ok(Verdict::Clean) => println!(rt; "{path}: nothing to say")?,
+            Ok(Verdict::Wrong(report)) => println!(rt; "{report}")?,
+            Ok(Verdict::TooLong) => println!(rt; "{path}: too long")?,
             Err(refusal) => println!(rt; "{path}: no report: {refusal}")?,
         }
     }

@@ -1,6 +1,6 @@
 //! What is wrong with a value, and where.
 
-use crate::place::Place;
+use crate::place::JsonPath;
 use serde_json::Value;
 use std::alloc::{AllocError, AllocFailed, Global};
 use std::fmt;
@@ -16,7 +16,7 @@ pub enum Fault {
 
 /// What is wrong at a place, where this is expected.
 #[derive(Clone, Copy)]
-pub enum Wrong<'v, E> {
+pub enum Mismatch<'v, E> {
     /// This value stands there, and something else was expected.
     Unexpected(E, &'v Value),
     /// Nothing stands there.
@@ -41,8 +41,8 @@ impl Fault {
     /// This is wrong at `place`.
     pub fn at<E: fmt::Display + Copy>(
         alloc: Global,
-        place: &Place<'_>,
-        wrong: Wrong<'_, E>,
+        place: &JsonPath<'_>,
+        wrong: Mismatch<'_, E>,
     ) -> Fault {
         match format!(in alloc; "{place}: {wrong}") {
             Ok(words) => Fault::Wrong(words),
@@ -60,15 +60,15 @@ impl fmt::Display for Fault {
     }
 }
 
-impl<E: fmt::Display> fmt::Display for Wrong<'_, E> {
+impl<E: fmt::Display> fmt::Display for Mismatch<'_, E> {
     fn fmt<W: fmt::Write>(&self, f: &mut fmt::Formatter<W>) -> fmt::Result {
         match self {
-            Wrong::Unexpected(expected, value) => {
+            Mismatch::Unexpected(expected, value) => {
                 write!(f, "expected {expected}, found ")?;
                 write_found(value, f)
             }
-            Wrong::Missing(expected) => write!(f, "missing, expected {expected}"),
-            Wrong::Unknown(names) => write_only(names, f),
+            Mismatch::Missing(expected) => write!(f, "missing, expected {expected}"),
+            Mismatch::Unknown(names) => write_only(names, f),
         }
     }
 }

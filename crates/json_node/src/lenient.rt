@@ -1,7 +1,7 @@
 //! Values of JSON that other tools write, and all that is wrong with them.
 
 use crate::expectation::Expectation;
-use crate::place::Place;
+use crate::place::JsonPath;
 use serde_json::Value;
 use std::alloc::{AllocError, Global};
 use std::fmt;
@@ -27,7 +27,7 @@ impl Problems {
     }
 
     /// Adds that something was expected at this place.
-    fn add<E: fmt::Display + Copy>(&mut self, place: Place<'_>, expected: E) {
+    fn add<E: fmt::Display + Copy>(&mut self, place: JsonPath<'_>, expected: E) {
         let added = match format!(in self.alloc; "{place}: expected {expected}") {
             Ok(line) => self.lines.push(line).is_ok(),
             Err(AllocError) => false,
@@ -39,29 +39,29 @@ impl Problems {
 /// A value of JSON, and where it stands. A field that has `null` counts as one that isn't there. Where something else
 /// stands than what is asked for, that is reported, and there is no answer.
 #[derive(Clone, Copy)]
-pub struct Node<'v, 'p> {
+pub struct LenientNode<'v, 'p> {
     pub value: &'v Value,
-    pub place: Place<'p>,
+    pub place: JsonPath<'p>,
 }
 
 /// The items of a list, and where it stands.
 #[derive(Clone, Copy)]
 pub struct List<'v, 'p> {
     pub items: &'v [Value],
-    pub place: Place<'p>,
+    pub place: JsonPath<'p>,
 }
 
 impl<'v> List<'v, '_> {
     /// The item with this number.
-    pub fn node<'n>(&'n self, index: usize, value: &'v Value) -> Node<'v, 'n> {
-        Node {
+    pub fn node<'n>(&'n self, index: usize, value: &'v Value) -> LenientNode<'v, 'n> {
+        LenientNode {
             value,
-            place: Place::Item(&self.place, index),
+            place: JsonPath::Item(&self.place, index),
         }
     }
 }
 
-impl<'v> Node<'v, '_> {
+impl<'v> LenientNode<'v, '_> {
     /// Tells that this was expected here.
     pub fn tell<E: fmt::Display + Copy>(&self, problems: &mut Problems, expected: E) {
         problems.add(self.place, expected);
@@ -74,7 +74,7 @@ impl<'v> Node<'v, '_> {
         problems: &mut Problems,
         expected: E,
     ) {
-        problems.add(Place::Field(&self.place, name), expected);
+        problems.add(JsonPath::Field(&self.place, name), expected);
     }
 
     /// What stands in the field of this name.
@@ -100,7 +100,11 @@ impl<'v> Node<'v, '_> {
     }
 
     /// The object in the field of this name, which has to be there.
-    pub fn needed<'n>(&'n self, name: &'n str, problems: &mut Problems) -> Option<Node<'v, 'n>> {
+    pub fn needed<'n>(
+        &'n self,
+        name: &'n str,
+        problems: &mut Problems,
+    ) -> Option<LenientNode<'v, 'n>> {
         if !self.has(name) {
             self.tell_field(name, problems, Expectation::Object);
         }
@@ -108,11 +112,15 @@ impl<'v> Node<'v, '_> {
     }
 
     /// The object in the field of this name.
-    pub fn object<'n>(&'n self, name: &'n str, problems: &mut Problems) -> Option<Node<'v, 'n>> {
+    pub fn object<'n>(
+        &'n self,
+        name: &'n str,
+        problems: &mut Problems,
+    ) -> Option<LenientNode<'v, 'n>> {
         match self.field(name) {
-            Some(value) if value.is_object() => Some(Node {
+            Some(value) if value.is_object() => Some(LenientNode {
                 value,
-                place: Place::Field(&self.place, name),
+                place: JsonPath::Field(&self.place, name),
             }),
             Some(_) => {
                 self.tell_field(name, problems, Expectation::Object);
@@ -136,7 +144,7 @@ impl<'v> Node<'v, '_> {
         };
         List {
             items,
-            place: Place::Field(&self.place, name),
+            place: JsonPath::Field(&self.place, name),
         }
     }
 

@@ -7,8 +7,8 @@ ghost use Rattle.serde_json.specs.View.{members_view, view};
 ghost use Rattle.json_node.specs.Field.{HasOneField, HasOnly, IsOneOf, given, lent_texts};
 
 use crate::expectation::Expectation;
-use crate::fault::{Fault, Wrong};
-use crate::place::Place;
+use crate::fault::{Fault, Mismatch};
+use crate::place::JsonPath;
 use serde_json::{Map, Value};
 use std::alloc::Global;
 use std::fmt;
@@ -18,7 +18,7 @@ use std::fmt;
 pub struct Node<'v, 'p> {
     pub alloc: Global,
     pub value: &'v Value,
-    pub place: Place<'p>,
+    pub place: JsonPath<'p>,
 }
 
 impl<'v> Node<'v, '_> {
@@ -27,7 +27,7 @@ impl<'v> Node<'v, '_> {
         Fault::at(
             self.alloc,
             &self.place,
-            Wrong::Unexpected(expected, self.value),
+            Mismatch::Unexpected(expected, self.value),
         )
     }
 
@@ -46,8 +46,8 @@ impl<'v> Node<'v, '_> {
 
     /// The fault that there is a field of this name, and only these are expected.
     fn unknown(&self, name: &str, names: &[&str]) -> Fault {
-        let place = Place::Field(&self.place, name);
-        let wrong: Wrong<'_, Expectation> = Wrong::Unknown(names);
+        let place = JsonPath::Field(&self.place, name);
+        let wrong: Mismatch<'_, Expectation> = Mismatch::Unknown(names);
         Fault::at(self.alloc, &place, wrong)
     }
 
@@ -59,7 +59,7 @@ impl<'v> Node<'v, '_> {
             Some(value) => Some(Node {
                 alloc: self.alloc,
                 value,
-                place: Place::Field(&self.place, name),
+                place: JsonPath::Field(&self.place, name),
             }),
             None => None,
         }
@@ -108,8 +108,8 @@ impl<'v> Node<'v, '_> {
         match self.optional(name) {
             Some(field) => Ok(field),
             None => {
-                let place = Place::Field(&self.place, name);
-                Err(Fault::at(self.alloc, &place, Wrong::Missing(expected)))
+                let place = JsonPath::Field(&self.place, name);
+                Err(Fault::at(self.alloc, &place, Mismatch::Missing(expected)))
             }
         }
     }
@@ -121,7 +121,7 @@ impl<'v> Node<'v, '_> {
         Node {
             alloc: self.alloc,
             value,
-            place: Place::Item(&self.place, index),
+            place: JsonPath::Item(&self.place, index),
         }
     }
 }

@@ -8,7 +8,7 @@ use Rattle.program.specs.Stream.{ended_line}
 use Rattle.redraw_command.specs.Told.{Tells}
 use Rattle.redraw_command.specs.Workflow.{escape}
 use Rattle.redraw_command.specs.declared.tally.Tally.{Tally}
-use Rattle.redraw_command.specs.declared.workflow.Part.TheVariants.{Property}
+use Rattle.redraw_command.specs.declared.workflow.CommandPart.TheVariants.{Property}
 
 -- a comma that is put as it is into the value of a property, which it ends: what `add_character` adds to an empty line
 pub comma_in_a_property : codes "," ≡ [] ++ encode_utf8_all (escape Property 44) → ⊥

@@ -17,14 +17,14 @@ use Rattle.clap.specs.declared.error.kind.ErrorKind.{ErrorKind}
 use Rattle.clap.specs.declared.error.kind.ErrorKind.TheVariants.{DisplayHelp, DisplayVersion}
 pub use Rattle.program.specs.Arguments.{Argument, arguments_at}
 use Rattle.redraw_command.specs.declared.choice.Choice.{Choice}
-use Rattle.redraw_command.specs.declared.choice.Form.{Form}
-use Rattle.redraw_command.specs.declared.choice.Form.TheVariants.{Report, Workflow}
+use Rattle.redraw_command.specs.declared.choice.OutputForm.{OutputForm}
+use Rattle.redraw_command.specs.declared.choice.OutputForm.TheVariants.{Report, Workflow}
 use Rattle.redraw_command.specs.declared.choice.Least.{Least}
 use Rattle.redraw_command.specs.declared.choice.Least.TheVariants as least
 use Rattle.redraw_command.specs.declared.terminal.Look.{Look}
 use Rattle.redraw_command.specs.declared.terminal.When.{When}
 use Rattle.redraw_command.specs.declared.terminal.When.TheVariants.{Auto, Always, Never}
-use Rattle.redraw_command.specs.declared.arguments.Request.{Request}
+use Rattle.redraw_command.specs.declared.arguments.RedrawRequest.{RedrawRequest}
 
 -- ---- what may be written, as clap reads it
 
@@ -127,7 +127,7 @@ least_of (Some argument) =
     if bytes_eq argument (codes "error") then least.Error else (if bytes_eq argument (codes "warning") then least.Warning else least.Any)
 
 -- the form of what is drawn
-abbrev pub form_of : Bool → Form
+abbrev pub form_of : Bool → OutputForm
 form_of is_github = if is_github then Workflow else Report
 
 -- the argument that a reference leads to, if there is one
@@ -159,7 +159,7 @@ abbrev pub names_at : Option (Bor (List (Bor Argument))) → Option (List Argume
 names_at names = option_map (λ (ns : Bor (List (Bor Argument))). arguments_at ns.now) names
 
 -- what is asked for, by what is found
-pub record IsRequestOf (found : List Row) (r : Request) : Type 0 where
+pub record IsRequestOf (found : List Row) (r : RedrawRequest) : Type 0 where
   pub look : r.look ≡ look_of found
   pub root : argument_at r.root ≡ first_of (codes "root") found
   pub confined : r.is_confined ≡ was_given (codes "confined") found
@@ -167,7 +167,7 @@ pub record IsRequestOf (found : List Row) (r : Request) : Type 0 where
   pub inputs : names_at r.inputs ≡ all_of (codes "inputs") found
 
 -- the arguments ask for this: clap finds nothing wrong with them, and what it finds asks for it
-pub record AsksFor (app : App) (args : List Argument) (r : Request) : Type 0 where
+pub record AsksFor (app : App) (args : List Argument) (r : RedrawRequest) : Type 0 where
   pub clean : fault_of app args ≡ []
   pub is : IsRequestOf (matches_of app args) r
 

@@ -7,7 +7,7 @@ use Rattle.serde_json.specs.Data.{Data, depth}
 use Rattle.serde_json.specs.Read.{max_depth, read}
 use Rattle.serde_json.specs.Written.{compact_text, has_float}
 use Rattle.sha2.specs.Sha256.{sha256}
-use Rattle.redraw_command.specs.declared.seen.Seen.{Seen}
+use Rattle.redraw_command.specs.declared.seen.SeenDiagnostics.{SeenDiagnostics}
 
 -- the digest of a value of JSON: of a text that is read as that value where it nests as deep as is read, and that is the compact one
 -- where the value has no number with a point or an exponent
@@ -18,7 +18,7 @@ pub record IsDigestOf (d : Data) (digest : List ℕ) : Type 0 where
   pub is : digest ≡ sha256 text
 
 -- the digests that are kept
-abbrev pub digests_of : Seen → List (List ℕ)
+abbrev pub digests_of : SeenDiagnostics → List (List ℕ)
 digests_of s = s.digests.keys
 
 -- whether a digest is among these

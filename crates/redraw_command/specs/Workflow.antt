@@ -15,17 +15,17 @@ use Rattle.redraw_report.specs.declared.diagnostic.Severity.{Severity}
 use Rattle.redraw_report.specs.declared.diagnostic.Severity.TheVariants.{Error, Warning, Info, Note, Help, Plain}
 use Rattle.redraw_command.specs.Choice.{is_sum}
 use Rattle.redraw_command.specs.Told.{normalized_text}
-use Rattle.redraw_command.specs.declared.workflow.Part.{Part}
-use Rattle.redraw_command.specs.declared.workflow.Part.TheVariants.{Data, Property}
+use Rattle.redraw_command.specs.declared.workflow.CommandPart.{CommandPart}
+use Rattle.redraw_command.specs.declared.workflow.CommandPart.TheVariants.{Data, Property}
 
 -- whether a part is the value of a property
-abbrev pub is_property : Part → Bool
+abbrev pub is_property : CommandPart → Bool
 is_property Data = false
 is_property Property = true
 
 -- what stands for a character: of a percent sign, a carriage return and a line feed the number, after a percent sign; of a colon and
 -- a comma too where they stand in the value of a property; any other stands for itself
-abbrev pub escape : Part → ℕ → List ℕ
+abbrev pub escape : CommandPart → ℕ → List ℕ
 escape part c =
     if c == 37 then codes "%25"
     else if c == 13 then codes "%0D"
@@ -35,11 +35,11 @@ escape part c =
     else c ∷ []
 
 -- the characters of an escaped text
-abbrev pub escaped : Part → List ℕ → List ℕ
+abbrev pub escaped : CommandPart → List ℕ → List ℕ
 escaped part text = flat_map (escape part) text
 
 -- a text as it stands in a part of a command
-abbrev pub in_part : Part → List ℕ → List ℕ
+abbrev pub in_part : CommandPart → List ℕ → List ℕ
 in_part part text = encode_utf8_all (escaped part (chars text))
 
 -- the name of the command for a level; a text without a level has none

@@ -10,7 +10,7 @@ ghost use Rattle.redraw_command.specs.Arguments.{IsChoiceOf, IsRedraw, IsRequest
 ghost use Rattle.redraw_command.specs.Arguments.{flag_rules, inputs_rule, names_at, valued_rule, valued_rules};
 ghost use Rattle.redraw_command.specs.Arguments.{was_given, when_of, with_rules, argument_at, arguments_at};
 
-use crate::choice::{Choice, Form, Least};
+use crate::choice::{Choice, Least, OutputForm};
 use crate::terminal::{Look, When};
 use clap::builder::ValueParser;
 use clap::{Arg, ArgAction, ArgMatches, Command, Error};
@@ -18,7 +18,7 @@ use std::alloc::{AllocError, Global};
 
 /// What a command line asks for.
 #[derive(Clone, Copy)]
-pub struct Request<'w, 'a> {
+pub struct RedrawRequest<'w, 'a> {
     /// How reports look.
     pub look: Look,
     /// The folder that files are read below, where one is given.
@@ -234,10 +234,10 @@ pub fn matches_of<'a>(alloc: Global, args: &'a [&'a str]) -> Result<ArgMatches<'
 }
 
 /// What the arguments that are matched ask for.
-pub fn request_of<'w, 'a>(matches: &'w ArgMatches<'a>) -> Request<'w, 'a>
+pub fn request_of<'w, 'a>(matches: &'w ArgMatches<'a>) -> RedrawRequest<'w, 'a>
     ensures asked { IsRequestOf (rows_of (found_of matches.now)) result }
 {
-    Request {
+    RedrawRequest {
         look: look_of(matches),
         root: argument_after(matches, "root"),
         is_confined: has(matches, "confined"),
@@ -333,13 +333,13 @@ fn choice_of<'a>(matches: &ArgMatches<'a>) -> Choice<'a>
 }
 
 /// The form of what is drawn.
-fn form_of(is_github: bool) -> Form
+fn form_of(is_github: bool) -> OutputForm
     ensures value { result ≡ spec.form_of is_github }
 {
     if is_github {
-        Form::Workflow
+        OutputForm::Workflow
     } else {
-        Form::Report
+        OutputForm::Report
     }
 }
 

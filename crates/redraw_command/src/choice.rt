@@ -8,7 +8,7 @@ use redraw_report::diagnostic::{Diagnostic, FileSpan, Severity};
 
 /// What a finding is written as.
 #[derive(Clone, Copy, PartialEq, Eq)]
-pub enum Form {
+pub enum OutputForm {
     /// A report that the library draws.
     Report,
     /// A workflow command of GitHub.
@@ -27,7 +27,7 @@ pub enum Least {
 /// Which findings are drawn, and in which form.
 #[derive(Clone, Copy)]
 pub struct Choice<'a> {
-    pub form: Form,
+    pub form: OutputForm,
     /// The least level of those that are drawn.
     pub least: Least,
     /// A text that one of their primary paths holds, where one is given.

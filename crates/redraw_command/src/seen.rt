@@ -16,17 +16,17 @@ const MOST: usize = 16_384;
 /// The diagnostics of cargo that were drawn, by what their texts have for a digest: of 32 bytes each, so that a run
 /// takes no memory for their texts. No two texts are known that have the same.
 #[derive(Drop)]
-pub struct Seen {
+pub struct SeenDiagnostics {
     alloc: Global,
     digests: HashSet<[u8; 32]>,
 }
 
-impl Seen {
+impl SeenDiagnostics {
     /// None was drawn.
-    pub fn new(alloc: Global) -> Seen
+    pub fn new(alloc: Global) -> SeenDiagnostics
         ensures none { digests_of result ≡ [] }
     {
-        Seen {
+        SeenDiagnostics {
             alloc,
             digests: HashSet::new(alloc),
         }

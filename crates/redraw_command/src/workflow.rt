@@ -17,7 +17,7 @@ use std::alloc::{AllocError, Global};
 
 /// What is escaped in a part of a command.
 #[derive(Clone, Copy, PartialEq, Eq)]
-pub enum Part {
+pub enum CommandPart {
     /// The message.
     Data,
     /// The value of a property.
@@ -60,7 +60,7 @@ fn raw_line(
     add_place(alloc, place, &mut line)?;
     add_code(diagnostic, separator_of(place), &mut line)?;
     line.push_str("::")?;
-    add_escaped(&mut line, diagnostic.message.as_str(), Part::Data)?;
+    add_escaped(&mut line, diagnostic.message.as_str(), CommandPart::Data)?;
     add_said(place, &mut line)?;
     Ok(line)
 }
@@ -147,7 +147,7 @@ fn add_property(
     line.push_str(separator)?;
     line.push_str(name)?;
     line.push_str("=")?;
-    add_escaped(line, value, Part::Property)
+    add_escaped(line, value, CommandPart::Property)
 }
 
 /// Adds the lines of a region, and its columns where it lies on one line: GitHub takes none where it lies on several.
@@ -206,14 +206,14 @@ fn add_label(label: &Option<String>, line: &mut String) -> Result<(), AllocError
     match label {
         Some(label) => {
             line.push_str(": ")?;
-            add_escaped(line, label.as_str(), Part::Data)
+            add_escaped(line, label.as_str(), CommandPart::Data)
         }
         None => Ok(()),
     }
 }
 
 /// Adds a text, with what has a meaning in this part of a command escaped.
-fn add_escaped(line: &mut String, text: &str, part: Part) -> Result<(), AllocError>
+fn add_escaped(line: &mut String, text: &str, part: CommandPart) -> Result<(), AllocError>
     ensures added { OnOk result
         (string_bytes line.new ≡ string_bytes line.old ++ in_part part text.now) }
 {
@@ -224,7 +224,7 @@ fn add_escaped(line: &mut String, text: &str, part: Part) -> Result<(), AllocErr
 }
 
 /// Adds a character, escaped where it has a meaning in this part of a command.
-fn add_character(line: &mut String, character: char, part: Part) -> Result<(), AllocError>
+fn add_character(line: &mut String, character: char, part: CommandPart) -> Result<(), AllocError>
     ensures added { OnOk result
         (string_bytes line.new ≡ string_bytes line.old ++ encode_utf8_all (escape part character)) }
 {
@@ -232,8 +232,8 @@ fn add_character(line: &mut String, character: char, part: Part) -> Result<(), A
         '%' => line.push_str("%25"),
         '\r' => line.push_str("%0D"),
         '\n' => line.push_str("%0A"),
-        ':' if part == Part::Property => line.push_str("%3A"),
-        ',' if part == Part::Property => line.push_str("%2C"),
+        ':' if part == CommandPart::Property => line.push_str("%3A"),
+        ',' if part == CommandPart::Property => line.push_str("%2C"),
         _ => line.push(character),
     }
 }

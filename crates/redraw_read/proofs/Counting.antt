@@ -10,7 +10,7 @@ use Rattle.std.proofs.lemmas.List.Sums.{sum_by_more}
 use Rattle.snippet_places.specs.Places.{IsSpanBetween, begins_char}
 use Rattle.snippet_places.specs.declared.clamp.Place.{Place}
 use Rattle.snippet_places.specs.declared.clamp.SpanAt.{SpanAt}
-use Rattle.redraw_report.specs.declared.diagnostic.Edit.{Edit}
+use Rattle.redraw_report.specs.declared.diagnostic.SuggestedEdit.{SuggestedEdit}
 use Rattle.redraw_report.specs.declared.diagnostic.Region.{Region}
 use Rattle.redraw_report.specs.declared.diagnostic.Region.TheVariants as region
 use Rattle.redraw_report.specs.declared.finding.Content.{Content}
@@ -178,7 +178,7 @@ same-as c (content.Nothing line column) has = cc
 same-as c (content.Blank line column) has = cc
 
 -- a spot is in another one's source where its edit is in the lines of the other's
-beside-as : (hand : AtHand) (e f : Edit) (s t : Spot) → IsSpotOf hand e s → IsSpotOf hand f t → has_text s.source.content ≡ true
+beside-as : (hand : AtHand) (e f : SuggestedEdit) (s t : Spot) → IsSpotOf hand e s → IsSpotOf hand f t → has_text s.source.content ≡ true
     → same_source t.source s.source ≡ is_beside hand e f
 beside-as hand e f s t hs ht has =
     let tp = t.source.path.now in
@@ -192,8 +192,8 @@ beside-as hand e f s t hs ht has =
     ∙ ap (λ g. bytes_eq tf sf && shows_same g seen) hs.shows
     ∙ ap (λ g. bytes_eq tf sf && shows_same (sight_of_edit hand e) g) ht.shows
 
-all-beside : (hand : AtHand) (e : Edit) (s : Spot) → IsSpotOf hand e s → has_text s.source.content ≡ true
-    → (es : List Edit) (spots : List Spot) → AllZip (IsSpotOf hand) es spots → are_in s.source spots ≡ list_all (is_beside hand e) es
+all-beside : (hand : AtHand) (e : SuggestedEdit) (s : Spot) → IsSpotOf hand e s → has_text s.source.content ≡ true
+    → (es : List SuggestedEdit) (spots : List Spot) → AllZip (IsSpotOf hand) es spots → are_in s.source spots ≡ list_all (is_beside hand e) es
 all-beside hand e s hs has [] [] h = refl
 all-beside hand e s hs has [] (t ∷ spots) h = absurd h
 all-beside hand e s hs has (f ∷ es) [] h = absurd h
@@ -202,7 +202,7 @@ all-beside hand e s hs has (f ∷ es) (t ∷ spots) h =
     ∙ ap (λ b. is_beside hand e f && b) (all-beside hand e s hs has es spots h.1)
 
 -- edits are in one source where an alternative of them is drawn
-pub drawn-as : (hand : AtHand) (edits : List Edit) (spots : List Spot) → AllZip (IsSpotOf hand) edits spots
+pub drawn-as : (hand : AtHand) (edits : List SuggestedEdit) (spots : List Spot) → AllZip (IsSpotOf hand) edits spots
     → is_some (one_source spots) ≡ is_drawn hand edits
 drawn-as hand [] [] h = refl
 drawn-as hand [] (t ∷ spots) h = absurd h
@@ -211,7 +211,7 @@ drawn-as hand (e ∷ es) (s ∷ spots) h =
     some-if (has_text s.source.content && are_in s.source spots) s.source
     ∙ and-as _ _ _ _ (text-as s.source.content ∙ ap shows_text h.0.shows) (λ has. all-beside hand e s h.0 has es spots h.1)
 
-attribute_text : (c : Content) (r : Region) (s : Spot) (e : Edit) (o : Offer) → IsAttributeAt c r s e o → has_text c ≡ true
+attribute_text : (c : Content) (r : Region) (s : Spot) (e : SuggestedEdit) (o : Offer) → IsAttributeAt c r s e o → has_text c ≡ true
 attribute_text (content.Lines text first) r s e o h = refl
 attribute_text (content.Nothing line column) (region.Lines r) s e o h = absurd h
 attribute_text (content.Nothing line column) (region.Bytes start end) s e o h = absurd h
@@ -221,7 +221,7 @@ attribute_text (content.Blank line column) (region.Bytes start end) s e o h = ab
 attribute_text (content.Blank line column) (region.Chars start end unit) s e o h = absurd h
 
 -- that of an attribute is in a source
-pub attribute_drawn : (spots : List Spot) (edits : List Edit) (o : Offer) → IsAttributeOffer spots edits o → true ≡ is_some (one_source spots)
+pub attribute_drawn : (spots : List Spot) (edits : List SuggestedEdit) (o : Offer) → IsAttributeOffer spots edits o → true ≡ is_some (one_source spots)
 attribute_drawn [] edits o h = absurd h
 attribute_drawn (s ∷ []) [] o h = absurd h
 attribute_drawn (s ∷ []) (e ∷ []) o h =

@@ -3,19 +3,19 @@ use Rattle.std.proofs.Common.{◌≡◌, ◌∙◌, ℕ, true, false, List, [], 
 use Rattle.std.specs.Global.{Vec}
 use Rattle.redraw_report.specs.declared.diagnostic.Child.{Child}
 use Rattle.redraw_report.specs.declared.diagnostic.Diagnostic.{Diagnostic}
-use Rattle.redraw_report.specs.declared.diagnostic.Edit.{Edit}
+use Rattle.redraw_report.specs.declared.diagnostic.SuggestedEdit.{SuggestedEdit}
 use Rattle.redraw_report.specs.declared.diagnostic.FileSpan.{FileSpan}
 use Rattle.redraw_read.specs.AsShown.{ChildSeen, IsAsShown, are_one, child_seen, child_shown, column_shown, message_line, names_place, settled}
 use Rattle.redraw_read.specs.AsShown.{shown_with, suggestion_shown}
 use Rattle.redraw_read.specs.Rendered.{Nowhere, way}
 
 -- of a suggestion that is shown nowhere no child is left
-none_left : (text : List ℕ) (c : ChildSeen) (edits : Vec Edit) (more : List (Vec Edit)) → c.alternatives ≡ edits ∷ more
+none_left : (text : List ℕ) (c : ChildSeen) (edits : Vec SuggestedEdit) (more : List (Vec SuggestedEdit)) → c.alternatives ≡ edits ∷ more
     → way (message_line c.message) text ≡ Nowhere → child_shown text c ≡ []
-none_left text c edits more has nowhere = ap (λ (a : List (Vec Edit)). shown_with text a c) has ∙ ap (λ w. suggestion_shown w c) nowhere
+none_left text c edits more has nowhere = ap (λ (a : List (Vec SuggestedEdit)). shown_with text a c) has ∙ ap (λ w. suggestion_shown w c) nowhere
 
 -- the suggestion is still there
-pub suggestion_kept : (text : List ℕ) (old : Diagnostic) (c : Child) (edits : Vec Edit) (more : List (Vec Edit)) → old.children.items ≡ c ∷ []
+pub suggestion_kept : (text : List ℕ) (old : Diagnostic) (c : Child) (edits : Vec SuggestedEdit) (more : List (Vec SuggestedEdit)) → old.children.items ≡ c ∷ []
     → c.alternatives.items ≡ edits ∷ more → way (message_line (string_bytes c.message)) text ≡ Nowhere → IsAsShown text old old → ⊥
 suggestion_kept text old c edits more one has nowhere shown =
     let all = rw one at shown.children in

@@ -11,17 +11,17 @@ use Rattle.std.proofs.lemmas.Bool.{cases_lt}
 use Rattle.std.proofs.lemmas.List.{at_drop_more, get_or-take, length-take-le}
 use Rattle.std.proofs.lemmas.List.Elements.{All-from_get_or}
 use Rattle.std.proofs.lemmas.Str.{IsCharBoundary-start, IsCharBoundary-after_ascii}
-use Rattle.redraw_report.specs.declared.diagnostic.Edit.{Edit}
+use Rattle.redraw_report.specs.declared.diagnostic.SuggestedEdit.{SuggestedEdit}
 use Rattle.redraw_read.specs.Placed.{HasNoFeed, IsLastStart, IsLineIn, edit_at, edits_at}
 use Rattle.redraw_read.specs.declared.spot.Spot.{Spot}
 
 -- without spots there are no edits
-edits-nowhere : (es : List Edit) → edits_at [] es ≡ []
+edits-nowhere : (es : List SuggestedEdit) → edits_at [] es ≡ []
 edits-nowhere [] = refl
 edits-nowhere (e ∷ es) = refl
 
 -- an edit at the spot that comes next, and the others at those after it
-edits-cons : (spots : List Spot) (i : ℕ) (e : Edit) (es : List Edit)
+edits-cons : (spots : List Spot) (i : ℕ) (e : SuggestedEdit) (es : List SuggestedEdit)
     → edits_at (drop i spots) (e ∷ es) ≡ edit_at (slice_get spots i) e ++ edits_at (drop (suc i) spots) es
 edits-cons [] zero e es = sym (edits-nowhere es)
 edits-cons [] (suc i) e es = sym (edits-nowhere es)
@@ -29,12 +29,12 @@ edits-cons (s ∷ spots) zero e es = refl
 edits-cons (s ∷ spots) (suc i) e es = edits-cons spots i e es
 
 -- the edits that are left are the next and those after it
-pub edits-next : (spots : List Spot) (edits : List Edit) (i : ℕ) (e : Edit) → i < length edits → e ≡ get_or edits i e
+pub edits-next : (spots : List Spot) (edits : List SuggestedEdit) (i : ℕ) (e : SuggestedEdit) → i < length edits → e ≡ get_or edits i e
     → edits_at (drop i spots) (drop i edits) ≡ edit_at (slice_get spots i) e ++ edits_at (drop (i + 1) spots) (drop (i + 1) edits)
 edits-next spots edits i e within is =
     let count : suc i ≡ i + 1 = omega arith in
     at_drop_more (edits_at (drop i spots)) edits i e within
-    ∙ ap (λ (x : Edit). edits_at (drop i spots) (x ∷ drop (i + 1) edits)) (sym is)
+    ∙ ap (λ (x : SuggestedEdit). edits_at (drop i spots) (x ∷ drop (i + 1) edits)) (sym is)
     ∙ edits-cons spots i e (drop (i + 1) edits)
     ∙ ap (λ n. edit_at (slice_get spots i) e ++ edits_at (drop n spots) (drop (i + 1) edits)) count
 

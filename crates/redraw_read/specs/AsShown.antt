@@ -10,7 +10,7 @@ use Rattle.redraw_report.specs.contracts.diagnostic.RegionPartialEq.TheImpl as e
 use Rattle.redraw_report.specs.declared.diagnostic.Carried.{Carried}
 use Rattle.redraw_report.specs.declared.diagnostic.Child.{Child}
 use Rattle.redraw_report.specs.declared.diagnostic.Diagnostic.{Diagnostic}
-use Rattle.redraw_report.specs.declared.diagnostic.Edit.{Edit}
+use Rattle.redraw_report.specs.declared.diagnostic.SuggestedEdit.{SuggestedEdit}
 use Rattle.redraw_report.specs.declared.diagnostic.FileSpan.{FileSpan}
 use Rattle.redraw_report.specs.declared.diagnostic.Region.{Region}
 use Rattle.redraw_report.specs.declared.diagnostic.Region.TheVariants as region
@@ -51,7 +51,7 @@ pub record ChildSeen : Type 0 where
   pub severity : Severity
   pub message : List ℕ
   pub spans : List FileSpan
-  pub alternatives : List (Vec Edit)
+  pub alternatives : List (Vec SuggestedEdit)
 
 abbrev pub child_seen : Child → ChildSeen
 child_seen c =
@@ -75,7 +75,7 @@ suggestion_shown Nowhere c = []
 
 -- what a child with these alternatives becomes: one without any stays, with its places as they are shown; a suggestion is shown as the
 -- text shows the first line of its message
-abbrev pub shown_with : List ℕ → List (Vec Edit) → ChildSeen → List ChildSeen
+abbrev pub shown_with : List ℕ → List (Vec SuggestedEdit) → ChildSeen → List ChildSeen
 shown_with text [] c = record c { spans = map (place_shown text) c.spans } ∷ []
 shown_with text (edits ∷ more) c = suggestion_shown (way (message_line c.message) text) c
 
@@ -90,7 +90,7 @@ is_label (Label label) = true
 is_label Nowhere = false
 
 -- whether a child with these alternatives becomes a label
-abbrev pub labels_with : List ℕ → List (Vec Edit) → ChildSeen → Bool
+abbrev pub labels_with : List ℕ → List (Vec SuggestedEdit) → ChildSeen → Bool
 labels_with text [] c = false
 labels_with text (edits ∷ more) c = is_label (way (message_line c.message) text)
 

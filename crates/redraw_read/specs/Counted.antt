@@ -8,7 +8,7 @@ use Rattle.snippet_places.specs.Places.{is_border}
 use Rattle.snippet_places.specs.declared.clamp.Place.{Place}
 use Rattle.redraw_report.specs.declared.diagnostic.Child.{Child}
 use Rattle.redraw_report.specs.declared.diagnostic.Diagnostic.{Diagnostic}
-use Rattle.redraw_report.specs.declared.diagnostic.Edit.{Edit}
+use Rattle.redraw_report.specs.declared.diagnostic.SuggestedEdit.{SuggestedEdit}
 use Rattle.redraw_report.specs.declared.diagnostic.FileSpan.{FileSpan}
 use Rattle.redraw_report.specs.declared.diagnostic.Region.{Region}
 use Rattle.redraw_read.specs.Placed.{AtHand, Sight, Lines, Nothing, Blank, sight_in}
@@ -53,12 +53,12 @@ abbrev pub clamped_spans : AtHand → List FileSpan → ℕ
 clamped_spans hand spans = count_by (λ (s : FileSpan). is_clamped (sight_of_span hand s) s.region) spans
 
 -- what is shown of the part that an edit changes
-abbrev pub sight_of_edit : AtHand → Edit → Sight
+abbrev pub sight_of_edit : AtHand → SuggestedEdit → Sight
 sight_of_edit hand e = sight_in hand (string_bytes e.file) e.region e.carried
 
 -- how many of some edits aren't in their sources as they were given
-abbrev pub clamped_edits : AtHand → List Edit → ℕ
-clamped_edits hand edits = count_by (λ (e : Edit). is_clamped (sight_of_edit hand e) e.region) edits
+abbrev pub clamped_edits : AtHand → List SuggestedEdit → ℕ
+clamped_edits hand edits = count_by (λ (e : SuggestedEdit). is_clamped (sight_of_edit hand e) e.region) edits
 
 -- whether lines are shown
 abbrev pub shows_text : Sight → Bool
@@ -79,21 +79,21 @@ shows_same (Nothing line column) other = false
 shows_same (Blank line column) other = false
 
 -- whether an edit is in the lines in which another one is: those of the same file
-abbrev pub is_beside : AtHand → Edit → Edit → Bool
+abbrev pub is_beside : AtHand → SuggestedEdit → SuggestedEdit → Bool
 is_beside hand e f = bytes_eq (string_bytes f.file) (string_bytes e.file) && shows_same (sight_of_edit hand e) (sight_of_edit hand f)
 
 -- whether the edits of an alternative are drawn: there are some, lines are at hand of what the first changes, and all others are in these
-abbrev pub is_drawn : AtHand → List Edit → Bool
+abbrev pub is_drawn : AtHand → List SuggestedEdit → Bool
 is_drawn hand [] = false
 is_drawn hand (e ∷ es) = shows_text (sight_of_edit hand e) && list_all (is_beside hand e) es
 
 -- how many places of some alternatives aren't in their sources as they were given
-abbrev pub clamped_alternatives : AtHand → List (Vec Edit) → ℕ
-clamped_alternatives hand alternatives = sum_by (λ (edits : Vec Edit). clamped_edits hand edits.items) alternatives
+abbrev pub clamped_alternatives : AtHand → List (Vec SuggestedEdit) → ℕ
+clamped_alternatives hand alternatives = sum_by (λ (edits : Vec SuggestedEdit). clamped_edits hand edits.items) alternatives
 
 -- how many of some alternatives aren't drawn
-abbrev pub undrawn_alternatives : AtHand → List (Vec Edit) → ℕ
-undrawn_alternatives hand alternatives = count_by (λ (edits : Vec Edit). not (is_drawn hand edits.items)) alternatives
+abbrev pub undrawn_alternatives : AtHand → List (Vec SuggestedEdit) → ℕ
+undrawn_alternatives hand alternatives = count_by (λ (edits : Vec SuggestedEdit). not (is_drawn hand edits.items)) alternatives
 
 -- the same of a child: of its places and of its edits
 abbrev pub clamped_child : AtHand → Child → ℕ

@@ -4,7 +4,7 @@ use Rattle.std.specs.Global.{Global, Vec}
 use Rattle.std.specs.List.{All, flat_map, list_any, starts_with}
 use Rattle.redraw_report.specs.declared.diagnostic.Child.{Child}
 use Rattle.redraw_report.specs.declared.diagnostic.Diagnostic.{Diagnostic}
-use Rattle.redraw_report.specs.declared.diagnostic.Edit.{Edit}
+use Rattle.redraw_report.specs.declared.diagnostic.SuggestedEdit.{SuggestedEdit}
 use Rattle.redraw_report.specs.declared.diagnostic.FileSpan.{FileSpan}
 use Rattle.redraw_read.specs.Extract.{is_named}
 use Rattle.redraw_read.specs.declared.sources.File.{File}
@@ -14,11 +14,11 @@ abbrev pub files_of : List FileSpan → List (List ℕ)
 files_of spans = map (λ (s : FileSpan). string_bytes s.file) spans
 
 -- the names of the files that some edits change
-abbrev pub files_in : Vec Edit → List (List ℕ)
-files_in edits = map (λ (e : Edit). string_bytes e.file) edits.items
+abbrev pub files_in : Vec SuggestedEdit → List (List ℕ)
+files_in edits = map (λ (e : SuggestedEdit). string_bytes e.file) edits.items
 
 -- the same of some alternatives
-abbrev pub edited_files : List (Vec Edit) → List (List ℕ)
+abbrev pub edited_files : List (Vec SuggestedEdit) → List (List ℕ)
 edited_files alternatives = flat_map files_in alternatives
 
 -- the names of the files that a child speaks of: by its places, and by its edits

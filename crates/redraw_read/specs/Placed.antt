@@ -10,14 +10,14 @@ use Rattle.redraw_report.specs.declared.diagnostic.Carried.{Carried}
 use Rattle.redraw_report.specs.declared.diagnostic.Child.{Child}
 use Rattle.redraw_report.specs.declared.diagnostic.Code.{Code}
 use Rattle.redraw_report.specs.declared.diagnostic.Diagnostic.{Diagnostic}
-use Rattle.redraw_report.specs.declared.diagnostic.Edit.{Edit}
+use Rattle.redraw_report.specs.declared.diagnostic.SuggestedEdit.{SuggestedEdit}
 use Rattle.redraw_report.specs.declared.diagnostic.FileSpan.{FileSpan}
 use Rattle.redraw_report.specs.declared.diagnostic.Region.{Region}
 use Rattle.redraw_report.specs.declared.diagnostic.Region.TheVariants as region
 use Rattle.redraw_report.specs.declared.finding.Content.{Content}
 use Rattle.redraw_report.specs.declared.finding.Content.TheVariants as content
 use Rattle.redraw_report.specs.declared.finding.Finding.{Finding}
-use Rattle.redraw_report.specs.declared.finding.Mark.{Mark}
+use Rattle.redraw_report.specs.declared.finding.MarkedSpan.{MarkedSpan}
 use Rattle.redraw_report.specs.declared.finding.Offer.{Offer}
 use Rattle.redraw_report.specs.declared.finding.Remark.{Remark}
 use Rattle.redraw_report.specs.declared.finding.Shown.{Shown}
@@ -115,14 +115,14 @@ abbrev pub IsSpot : List ℕ → Sight → Region → Spot → Type 0
 IsSpot file sight r spot = IsAt file sight r spot.source spot.start spot.end
 
 -- the mark of a place: where the place is, what is said of it, and whether it is the point of the report
-pub record IsMarkOf (hand : AtHand) (span : FileSpan) (m : Mark) : Type 0 where
+pub record IsMarkOf (hand : AtHand) (span : FileSpan) (m : MarkedSpan) : Type 0 where
   pub place : IsAt (string_bytes span.file) (sight_in hand (string_bytes span.file) span.region span.carried) span.region
       m.source m.start m.end
   pub label : lent m.label ≡ option_map string_bytes span.label
   pub primary : m.is_primary ≡ span.is_primary
 
 -- where an edit is
-abbrev pub IsSpotOf : AtHand → Edit → Spot → Type 0
+abbrev pub IsSpotOf : AtHand → SuggestedEdit → Spot → Type 0
 IsSpotOf hand e spot = IsSpot (string_bytes e.file) (sight_in hand (string_bytes e.file) e.region e.carried) e.region spot
 
 -- whether a source has lines of a file
@@ -141,12 +141,12 @@ one_source [] = None
 one_source (s ∷ spots) = if has_text s.source.content && are_in s.source spots then Some s.source else None
 
 -- an edit at this spot, if there is one, with the text that is to stand there
-abbrev pub edit_at : Option Spot → Edit → List Edited
+abbrev pub edit_at : Option Spot → SuggestedEdit → List Edited
 edit_at None e = []
 edit_at (Some s) e = record { start = s.start; end = s.end; text = string_bytes e.replacement } ∷ []
 
 -- edits at these spots, one after another
-abbrev pub edits_at : List Spot → List Edit → List Edited
+abbrev pub edits_at : List Spot → List SuggestedEdit → List Edited
 edits_at spots [] = []
 edits_at [] (e ∷ es) = []
 edits_at (s ∷ spots) (e ∷ es) = edit_at (Some s) e ++ edits_at spots es
@@ -161,7 +161,7 @@ abbrev pub offered_view : Offer → Offered
 offered_view o = record { source = o.source; edits = map edited_of o.changes.items; folded = o.is_folded }
 
 -- the offer of edits at these spots: all of them, where they are in one source; else none
-abbrev pub offer_at : List Spot → List Edit → Option Offered
+abbrev pub offer_at : List Spot → List SuggestedEdit → Option Offered
 offer_at spots edits = option_map (λ source. record { source = source; edits = edits_at spots edits; folded = true }) (one_source spots)
 
 -- whether a text is an attribute of Rust and a line's end, which is shown with the line below it
@@ -199,7 +199,7 @@ pub record IsAlone (text : List ℕ) (at : ℕ) : Type 0 where
 
 -- the offer of an attribute at this spot: all of the line around it is shown, of this text and with this number, and the attribute is
 -- put in where the spot is in that, before which nothing but blanks stands there
-pub record IsAttributeIn (text : List ℕ) (number : ℕ) (s : Spot) (e : Edit) (o : Offer) : Type 0 where
+pub record IsAttributeIn (text : List ℕ) (number : ℕ) (s : Spot) (e : SuggestedEdit) (o : Offer) : Type 0 where
   pub line : List ℕ
   pub before : List ℕ
   pub is_line : IsLineIn text line before
@@ -213,7 +213,7 @@ pub record IsAttributeIn (text : List ℕ) (number : ℕ) (s : Spot) (e : Edit) 
   pub unfolded : o.is_folded ≡ false
 
 -- the same in what is shown there of a region
-abbrev pub IsAttributeAt : Content → Region → Spot → Edit → Offer → Type 0
+abbrev pub IsAttributeAt : Content → Region → Spot → SuggestedEdit → Offer → Type 0
 IsAttributeAt (content.Lines text first) (region.Lines r) s e o =
     (is_attribute (string_bytes e.replacement) ≡ true) × IsAttributeIn (shown_text text) r.start_line s e o
 IsAttributeAt (content.Lines text first) (region.Bytes start end) s e o = ⊥
@@ -222,7 +222,7 @@ IsAttributeAt (content.Nothing line column) r s e o = ⊥
 IsAttributeAt (content.Blank line column) r s e o = ⊥
 
 -- the offer of an attribute alone
-abbrev pub IsAttributeOffer : List Spot → List Edit → Offer → Type 0
+abbrev pub IsAttributeOffer : List Spot → List SuggestedEdit → Offer → Type 0
 IsAttributeOffer (s ∷ []) (e ∷ []) o = IsAttributeAt s.source.content e.region s e o
 IsAttributeOffer [] edits o = ⊥
 IsAttributeOffer (s ∷ []) [] o = ⊥
@@ -239,7 +239,7 @@ IsAboveLine (content.Nothing line column) r at replacement = ⊥
 IsAboveLine (content.Blank line column) r at replacement = ⊥
 
 -- edits are one that puts an attribute above a line
-abbrev pub AreAboveLine : List Spot → List Edit → Type 0
+abbrev pub AreAboveLine : List Spot → List SuggestedEdit → Type 0
 AreAboveLine (s ∷ []) (e ∷ []) = IsAboveLine s.source.content e.region s.start (string_bytes e.replacement)
 AreAboveLine [] edits = ⊥
 AreAboveLine (s ∷ []) [] = ⊥
@@ -247,19 +247,19 @@ AreAboveLine (s ∷ []) (e ∷ f ∷ es) = ⊥
 AreAboveLine (s ∷ t ∷ ss) edits = ⊥
 
 -- the offer of edits at these spots, if there is one: of an attribute above a line that line with it; of any other edits all of them
-abbrev pub IsOfferAt : List Spot → List Edit → Option Offer → Type 0
+abbrev pub IsOfferAt : List Spot → List SuggestedEdit → Option Offer → Type 0
 IsOfferAt spots edits offer =
     ((AreAboveLine spots edits → ⊥) × (option_map offered_view offer ≡ offer_at spots edits))
     ⊎ ((o : Offer) × (offer ≡ Some o) × IsAttributeOffer spots edits o)
 
 -- the offer of an alternative, if there is one: never of a part of its edits
-abbrev pub IsOfferOf : AtHand → List Edit → Option Offer → Type 0
+abbrev pub IsOfferOf : AtHand → List SuggestedEdit → Option Offer → Type 0
 IsOfferOf hand edits offer = (spots : List Spot) × AllZip (IsSpotOf hand) edits spots × IsOfferAt spots edits offer
 
 -- the offers of some alternatives, in their order: of each the one that there is, if there is one
-abbrev pub AreOffersOf : AtHand → List (Vec Edit) → List Offer → Type 0
+abbrev pub AreOffersOf : AtHand → List (Vec SuggestedEdit) → List Offer → Type 0
 AreOffersOf hand alternatives offers =
-    (each : List (Option Offer)) × AllZip (λ (edits : Vec Edit). IsOfferOf hand edits.items) alternatives each
+    (each : List (Option Offer)) × AllZip (λ (edits : Vec SuggestedEdit). IsOfferOf hand edits.items) alternatives each
     × (offers ≡ filter_map (λ offer. offer) each)
 
 -- the remark that a child makes: its severity, its message, its places, and the edits that it offers

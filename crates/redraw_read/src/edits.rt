@@ -9,12 +9,12 @@ use crate::spans::{carried_of, region_of};
 use json_node::expectation::Expectation;
 use json_node::fault::Fault;
 use json_node::node::Node;
-use redraw_report::diagnostic::{Edit, LineRegion, Region};
+use redraw_report::diagnostic::{LineRegion, Region, SuggestedEdit};
 use serde_json::Value;
 use std::alloc::{AllocError, Global};
 
 /// The edits of a child: those of its places that have a text to stand there.
-pub fn edits_of(node: &Node<'_, '_>) -> Result<Vec<Edit>, Fault> {
+pub fn edits_of(node: &Node<'_, '_>) -> Result<Vec<SuggestedEdit>, Fault> {
     let list = node.needed("spans", Expectation::List)?;
     let values = listed(node, "spans")?;
     let mut edits = Vec::new(node.alloc);
@@ -26,7 +26,7 @@ pub fn edits_of(node: &Node<'_, '_>) -> Result<Vec<Edit>, Fault> {
 fn add_edits<'v>(
     list: &Node<'v, '_>,
     values: &'v [Value],
-    edits: &mut Vec<Edit>,
+    edits: &mut Vec<SuggestedEdit>,
 ) -> Result<(), Fault> {
     for (index, value) in values.iter().enumerate() {
         add_edit(&list.item(index, value), edits)?;
@@ -35,7 +35,7 @@ fn add_edits<'v>(
 }
 
 /// Adds the edit of a place, if a text is to stand there.
-fn add_edit(place: &Node<'_, '_>, edits: &mut Vec<Edit>) -> Result<(), Fault> {
+fn add_edit(place: &Node<'_, '_>, edits: &mut Vec<SuggestedEdit>) -> Result<(), Fault> {
     if let Some(replacement) = given_text(place, "suggested_replacement")? {
         edits.push(edit_of(place, replacement)?)?;
     }
@@ -44,7 +44,7 @@ fn add_edit(place: &Node<'_, '_>, edits: &mut Vec<Edit>) -> Result<(), Fault> {
 
 /// An edit: a place, and what is to stand there. An attribute above a line is to stand as far right as the line: so it
 /// is put in at the line's start, after what is blank there.
-fn edit_of(node: &Node<'_, '_>, replacement: &str) -> Result<Edit, Fault> {
+fn edit_of(node: &Node<'_, '_>, replacement: &str) -> Result<SuggestedEdit, Fault> {
     let region = region_of(node)?;
     let file = node.text("file_name")?;
     let carried = carried_of(node, region)?;
@@ -54,7 +54,7 @@ fn edit_of(node: &Node<'_, '_>, replacement: &str) -> Result<Edit, Fault> {
         ""
     };
     let replacement = format!(in node.alloc; "{blank}{replacement}")?;
-    Ok(Edit {
+    Ok(SuggestedEdit {
         file: owned(node.alloc, file)?,
         region: Region::Lines(moved_back(region, blank)),
         replacement,
@@ -90,12 +90,15 @@ fn text_before(span: &Value, region: LineRegion) -> Option<&str> {
 
 /// Edits as the alternatives that they are. rustc writes these one after another, and none of them has edits that
 /// overlap: so one begins with an edit that overlaps with one of the edits before.
-pub fn alternatives_of(alloc: Global, edits: Vec<Edit>) -> Result<Vec<Vec<Edit>>, AllocError>
+pub fn alternatives_of(
+    alloc: Global,
+    edits: Vec<SuggestedEdit>,
+) -> Result<Vec<Vec<SuggestedEdit>>, AllocError>
     ensures all { IfOk result (λ alternatives. flat_map (λ each. each.items) alternatives.items ≡ edits.items) }
     ensures some { IfOk result (λ alternatives. All (λ each. each.items ≢ []) alternatives.items) }
 {
     let mut alternatives = Vec::new(alloc);
-    let mut current: Vec<Edit> = Vec::new(alloc);
+    let mut current: Vec<SuggestedEdit> = Vec::new(alloc);
     for edit in edits {
         if overlaps_one(&edit, &current) {
             alternatives.push(current)?;
@@ -110,7 +113,7 @@ pub fn alternatives_of(alloc: Global, edits: Vec<Edit>) -> Result<Vec<Vec<Edit>>
 }
 
 /// Whether an edit overlaps with one of these.
-fn overlaps_one(edit: &Edit, others: &[Edit]) -> bool
+fn overlaps_one(edit: &SuggestedEdit, others: &[SuggestedEdit]) -> bool
     ensures none { others.now ≡ [] → result ≡ false }
 {
     for other in others {
@@ -122,7 +125,7 @@ fn overlaps_one(edit: &Edit, others: &[Edit]) -> bool
 }
 
 /// Whether two edits can be made together: they are of one file, and one ends where the other starts, or before it.
-fn are_apart(first: &Edit, second: &Edit) -> bool {
+fn are_apart(first: &SuggestedEdit, second: &SuggestedEdit) -> bool {
     let (Region::Lines(a), Region::Lines(b)) = (first.region, second.region) else {
         return false;
     };

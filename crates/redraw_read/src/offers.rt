@@ -16,8 +16,8 @@ ghost use Rattle.redraw_read.specs.Placed.{AreAboveLine, IsAboveLine, IsAlone, L
 use crate::hand::Hand;
 use crate::spot::{Placing, Spot, counted};
 use crate::words::{begins_with, finishes_with};
-use redraw_report::diagnostic::{Edit, Region};
-use redraw_report::finding::{Change, Content, Offer, Shown, is_same};
+use redraw_report::diagnostic::{Region, SuggestedEdit};
+use redraw_report::finding::{Content, Offer, Replacement, Shown, is_same};
 use redraw_report::shown_text::ShownText;
 use std::alloc::{AllocError, Global};
 
@@ -25,7 +25,7 @@ use std::alloc::{AllocError, Global};
 pub fn offers_of<'a>(
     placing: &mut Placing,
     hand: Hand<'a>,
-    alternatives: &'a Vec<Vec<Edit>>,
+    alternatives: &'a Vec<Vec<SuggestedEdit>>,
 ) -> Result<Vec<Offer<'a>>, AllocError>
     ensures are { IfOk result (λ offers. AreOffersOf (at_hand hand.entry) alternatives.now.items offers.items) }
     ensures counted { OnOk result (placing.new
@@ -54,7 +54,7 @@ fn add_offer<'a>(offers: &mut Vec<Offer<'a>>, offer: Option<Offer<'a>>) -> Resul
 fn offer_of<'a>(
     placing: &mut Placing,
     hand: Hand<'a>,
-    edits: &'a Vec<Edit>,
+    edits: &'a Vec<SuggestedEdit>,
 ) -> Result<Option<Offer<'a>>, AllocError>
     ensures is { IfOk result (IsOfferOf (at_hand hand.entry) edits.now.items) }
     ensures counted { OnOk result (placing.new
@@ -71,7 +71,7 @@ fn offer_of<'a>(
 fn spots_of<'a>(
     placing: &mut Placing,
     hand: Hand<'a>,
-    edits: &'a Vec<Edit>,
+    edits: &'a Vec<SuggestedEdit>,
 ) -> Result<Vec<Spot<'a>>, AllocError>
     ensures are { IfOk result (λ spots. AllZip (IsSpotOf (at_hand hand.entry)) edits.now.items spots.items) }
     ensures counted { OnOk result
@@ -88,7 +88,7 @@ fn spots_of<'a>(
 fn spot_of<'a>(
     placing: &mut Placing,
     hand: Hand<'a>,
-    edit: &'a Edit,
+    edit: &'a SuggestedEdit,
 ) -> Result<Spot<'a>, AllocError>
     ensures is { IfOk result (IsSpotOf (at_hand hand.entry) edit.now) }
     ensures counted { OnOk result (placing.new
@@ -101,7 +101,7 @@ fn spot_of<'a>(
 fn offer_by<'a>(
     alloc: Global,
     spots: &[Spot<'a>],
-    edits: &'a [Edit],
+    edits: &'a [SuggestedEdit],
 ) -> Result<Option<Offer<'a>>, AllocError>
     ensures is { IfOk result (IsOfferAt spots.now edits.now) }
     ensures drawn { IfOk result (λ offer. is_some offer ≡ is_some (spec.one_source spots.now)) }
@@ -116,7 +116,7 @@ fn offer_by<'a>(
 fn offer_at<'a>(
     alloc: Global,
     spots: &[Spot<'a>],
-    edits: &'a [Edit],
+    edits: &'a [SuggestedEdit],
 ) -> Result<Option<Offer<'a>>, AllocError>
     ensures value { IfOk result (λ offer. option_map offered_view offer ≡ spec.offer_at spots.now edits.now) }
 {
@@ -130,7 +130,7 @@ fn offer_at<'a>(
 }
 
 /// The offer of changes, of which only the lines around them are shown.
-fn folded_offer<'a>(source: Shown<'a>, changes: Vec<Change<'a>>) -> Offer<'a>
+fn folded_offer<'a>(source: Shown<'a>, changes: Vec<Replacement<'a>>) -> Offer<'a>
     ensures value { offered_view result
         ≡ record { source = source.entry; edits = map edited_of changes.entry.items; folded = true } }
 {
@@ -181,8 +181,8 @@ fn are_in(source: &Shown<'_>, spots: &[Spot<'_>]) -> bool
 fn changes_at<'a>(
     alloc: Global,
     spots: &[Spot<'_>],
-    edits: &'a [Edit],
-) -> Result<Vec<Change<'a>>, AllocError>
+    edits: &'a [SuggestedEdit],
+) -> Result<Vec<Replacement<'a>>, AllocError>
     ensures value { IfOk result (λ changes. map edited_of changes.items ≡ edits_at spots.now edits.now) }
 {
     let mut changes = Vec::new(alloc);
@@ -194,15 +194,15 @@ fn changes_at<'a>(
 
 /// Adds the change of an edit at this place, if there is one.
 fn add_change<'a>(
-    changes: &mut Vec<Change<'a>>,
+    changes: &mut Vec<Replacement<'a>>,
     spot: Option<&Spot<'_>>,
-    edit: &'a Edit,
+    edit: &'a SuggestedEdit,
 ) -> Result<(), AllocError>
     ensures added { OnOk result (map edited_of changes.new.items
         ≡ map edited_of changes.old.items ++ edit_at (option_map (λ s. s.now) spot.entry) edit.entry.now) }
 {
     if let Some(spot) = spot {
-        changes.push(Change {
+        changes.push(Replacement {
             start: spot.start,
             end: spot.end,
             text: edit.replacement.as_str(),
@@ -223,7 +223,7 @@ pub fn is_attribute(text: &str) -> bool
 fn attribute_of<'a>(
     alloc: Global,
     spots: &[Spot<'a>],
-    edits: &'a [Edit],
+    edits: &'a [SuggestedEdit],
 ) -> Result<Option<Offer<'a>>, AllocError>
     ensures is { IfOk result (λ offer. IfSome offer (IsAttributeOffer spots.now edits.now)) }
     ensures none { IfOk result (λ offer. offer ≡ None → AreAboveLine spots.now edits.now → ⊥) }
@@ -238,7 +238,7 @@ fn attribute_of<'a>(
 fn attribute_at<'a>(
     alloc: Global,
     spot: &Spot<'a>,
-    edit: &'a Edit,
+    edit: &'a SuggestedEdit,
 ) -> Result<Option<Offer<'a>>, AllocError>
     ensures is { IfOk result (λ offer. IfSome offer
         (IsAttributeAt spot.now.source.content edit.now.region spot.now edit.now)) }
@@ -259,7 +259,7 @@ fn attribute_if<'a>(
     text: &'a str,
     number: usize,
     spot: &Spot<'a>,
-    edit: &'a Edit,
+    edit: &'a SuggestedEdit,
 ) -> Result<Option<Offer<'a>>, AllocError>
     ensures is { IfOk result (λ offer. IfSome offer (λ o.
         (spec.is_attribute (string_bytes edit.now.replacement) ≡ true)
@@ -281,7 +281,7 @@ fn attribute_in<'a>(
     text: &'a str,
     number: usize,
     spot: &Spot<'a>,
-    edit: &'a Edit,
+    edit: &'a SuggestedEdit,
 ) -> Result<Option<Offer<'a>>, AllocError>
     ensures is { IfOk result (λ offer. IfSome offer (IsAttributeIn text.now number spot.now edit.now)) }
     ensures none { IfOk result (λ offer. offer ≡ None → IsAlone text.now spot.now.start → ⊥) }
@@ -310,12 +310,16 @@ fn is_blank_from(text: &str, start: usize, end: usize) -> bool
 }
 
 /// The change that puts the text of an edit in at a byte.
-fn one_change<'a>(alloc: Global, at: usize, edit: &'a Edit) -> Result<Vec<Change<'a>>, AllocError>
+fn one_change<'a>(
+    alloc: Global,
+    at: usize,
+    edit: &'a SuggestedEdit,
+) -> Result<Vec<Replacement<'a>>, AllocError>
     ensures value { IfOk result (λ changes. map edited_of changes.items
         ≡ record { start = at; end = at; text = string_bytes edit.now.replacement } ∷ []) }
 {
     let mut changes = Vec::new(alloc);
-    changes.push(Change {
+    changes.push(Replacement {
         start: at,
         end: at,
         text: edit.replacement.as_str(),
@@ -328,7 +332,7 @@ fn line_offer<'a>(
     path: &'a str,
     text: &'a str,
     first_line: usize,
-    changes: Vec<Change<'a>>,
+    changes: Vec<Replacement<'a>>,
 ) -> Offer<'a>
     ensures path { result.source.path.now ≡ path.now }
     ensures shows { sight_of result.source.content ≡ Lines text.now first_line }
@@ -346,13 +350,13 @@ fn line_offer<'a>(
 
 /// A line of a text, and the byte where it starts.
 #[derive(Clone, Copy)]
-struct Line<'a> {
+struct TextLine<'a> {
     start: usize,
     text: &'a str,
 }
 
 /// The line of a text around a byte.
-fn line_around<'a>(text: &'a str, at: usize) -> Option<Line<'a>>
+fn line_around<'a>(text: &'a str, at: usize) -> Option<TextLine<'a>>
     ensures is { IfSome result (λ line. IsLineIn text.now line.text.now (take line.start text.now)) }
     ensures start { IfSome result (λ line. length (take line.start text.now) ≡ line.start) }
     ensures from { IfSome result (λ line. line.start ≤ at) }
@@ -361,7 +365,7 @@ fn line_around<'a>(text: &'a str, at: usize) -> Option<Line<'a>>
     ensures none { result ≡ None → IsCharBoundary text.now at → ⊥ }
 {
     let start = last_start(text.get(..at)?);
-    Some(Line {
+    Some(TextLine {
         start,
         text: first_line(text.get(start..)?),
     })

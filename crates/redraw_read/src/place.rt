@@ -14,8 +14,8 @@ use crate::hand::Hand;
 use crate::offers::offers_of;
 use crate::sources::{SourceFiles, Sources, first_home};
 pub use crate::spot::Placing;
-use redraw_report::diagnostic::{Child, Diagnostic, Edit, FileSpan};
-use redraw_report::finding::{Finding, Mark, Remark};
+use redraw_report::diagnostic::{Child, Diagnostic, FileSpan, SuggestedEdit};
+use redraw_report::finding::{Finding, MarkedSpan, Remark};
 use std::alloc::{AllocError, Global};
 
 /// Reads each file that a diagnostic speaks of.
@@ -69,7 +69,7 @@ fn load_spans<S: SourceFiles + Drop>(
 fn load_edits<S: SourceFiles + Drop>(
     sources: &mut Sources<S>,
     homes: &[String],
-    alternatives: &[Vec<Edit>],
+    alternatives: &[Vec<SuggestedEdit>],
 ) -> Result<(), AllocError>
     ensures loads { OnOk result (Loads (home_of homes.now) (edited_files alternatives.now)
         sources.old.files.items sources.new.files.items
@@ -85,7 +85,7 @@ fn load_edits<S: SourceFiles + Drop>(
 fn load_edited<S: SourceFiles + Drop>(
     sources: &mut Sources<S>,
     homes: &[String],
-    edits: &Vec<Edit>,
+    edits: &Vec<SuggestedEdit>,
 ) -> Result<(), AllocError>
     ensures loads { OnOk result (Loads (home_of homes.now) (files_in edits.now)
         sources.old.files.items sources.new.files.items
@@ -158,7 +158,7 @@ fn marks_of<'a>(
     placing: &mut Placing,
     hand: Hand<'a>,
     spans: &'a Vec<FileSpan>,
-) -> Result<Vec<Mark<'a>>, AllocError>
+) -> Result<Vec<MarkedSpan<'a>>, AllocError>
     ensures are { IfOk result (λ marks. AllZip (IsMarkOf (at_hand hand.entry)) spans.now.items marks.items) }
     ensures counted { OnOk result
         (placing.new ≡ adds placing.old (clamped_spans (at_hand hand.entry) spans.now.items) 0) }
@@ -175,13 +175,13 @@ fn mark_of<'a>(
     placing: &mut Placing,
     hand: Hand<'a>,
     span: &'a FileSpan,
-) -> Result<Mark<'a>, AllocError>
+) -> Result<MarkedSpan<'a>, AllocError>
     ensures is { IfOk result (IsMarkOf (at_hand hand.entry) span.now) }
     ensures counted { OnOk result (placing.new
         ≡ adds placing.old (ones (is_clamped (sight_of_span (at_hand hand.entry) span.now) span.now.region)) 0) }
 {
     let spot = placing.spot(hand, &span.file, span.region, &span.carried)?;
-    Ok(Mark {
+    Ok(MarkedSpan {
         source: spot.source,
         start: spot.start,
         end: spot.end,

@@ -8,7 +8,7 @@ use std::alloc::{AllocError, Global};
 
 /// Where in a text a character stands.
 #[derive(Clone, Copy)]
-enum State {
+enum EscapeState {
     /// In what is shown.
     Shown,
     /// After an escape.
@@ -22,21 +22,22 @@ enum State {
 }
 
 /// Where the character after this one stands.
-fn state_after(state: State, character: char) -> State {
+fn state_after(state: EscapeState, character: char) -> EscapeState {
     match (state, character) {
-        (State::Address, '\u{1b}') => State::AddressEnd,
-        (State::Address, _) => State::Address,
-        (_, '\u{1b}') => State::Escape,
-        (State::Escape, '[') => State::Sequence,
-        (State::Escape, ']') => State::Address,
-        (State::Sequence, character) if !character.is_ascii_alphabetic() => State::Sequence,
-        _ => State::Shown,
+        (EscapeState::Address, '\u{1b}') => EscapeState::AddressEnd,
+        (EscapeState::Address, _) => EscapeState::Address,
+        (_, '\u{1b}') => EscapeState::Escape,
+        (EscapeState::Escape, '[') => EscapeState::Sequence,
+        (EscapeState::Escape, ']') => EscapeState::Address,
+        (EscapeState::Sequence, character) if !character.is_ascii_alphabetic() =>
+            EscapeState::Sequence,
+        _ => EscapeState::Shown,
     }
 }
 
 /// Whether a character is shown that stands here.
-fn is_shown(state: State, character: char) -> bool {
-    matches!(state, State::Shown) && character != '\u{1b}'
+fn is_shown(state: EscapeState, character: char) -> bool {
+    matches!(state, EscapeState::Shown) && character != '\u{1b}'
 }
 
 /// A text without styles and addresses.
@@ -60,7 +61,7 @@ fn has_escape(text: &str) -> bool
 /// The characters of a text that are shown.
 fn characters_shown(alloc: Global, text: &str) -> Result<String, AllocError> {
     let mut shown = String::new(alloc);
-    let mut state = State::Shown;
+    let mut state = EscapeState::Shown;
     for character in text.chars() {
         if is_shown(state, character) {
             shown.push(character)?;

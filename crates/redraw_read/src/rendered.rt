@@ -15,7 +15,7 @@ use crate::columns::show_columns;
 use crate::plain::without_styles;
 use crate::roles::settle_roles;
 use crate::words::{after, after_first, begins_with};
-use redraw_report::diagnostic::{Child, Diagnostic, Edit, FileSpan};
+use redraw_report::diagnostic::{Child, Diagnostic, FileSpan, SuggestedEdit};
 use snippet_text::normalized;
 use std::alloc::{AllocError, Global};
 
@@ -293,7 +293,11 @@ fn add_label(
 }
 
 /// Puts a label at the place of an edit: to a primary place there that has none, else as a place of its own.
-fn put_label(spans: &mut Vec<FileSpan>, edit: Edit, label: String) -> Result<(), AllocError> {
+fn put_label(
+    spans: &mut Vec<FileSpan>,
+    edit: SuggestedEdit,
+    label: String,
+) -> Result<(), AllocError> {
     match bare_primary(spans, &edit) {
         Some(index) => {
             if let Some(span) = spans.get_mut(index) {
@@ -306,7 +310,7 @@ fn put_label(spans: &mut Vec<FileSpan>, edit: Edit, label: String) -> Result<(),
 }
 
 /// The index of the primary place of an edit, if there is one without a label.
-fn bare_primary(spans: &[FileSpan], edit: &Edit) -> Option<usize> {
+fn bare_primary(spans: &[FileSpan], edit: &SuggestedEdit) -> Option<usize> {
     for (index, span) in spans.iter().enumerate() {
         if span.is_primary && span.label.is_none() && is_at(span, edit) {
             return Some(index);
@@ -316,12 +320,12 @@ fn bare_primary(spans: &[FileSpan], edit: &Edit) -> Option<usize> {
 }
 
 /// Whether a place is that of an edit.
-fn is_at(span: &FileSpan, edit: &Edit) -> bool {
+fn is_at(span: &FileSpan, edit: &SuggestedEdit) -> bool {
     span.region == edit.region && span.file == edit.file
 }
 
 /// The place of an edit with a label.
-fn label_span(edit: Edit, label: String) -> FileSpan {
+fn label_span(edit: SuggestedEdit, label: String) -> FileSpan {
     FileSpan {
         file: edit.file,
         region: edit.region,

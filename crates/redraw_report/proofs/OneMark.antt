@@ -8,7 +8,7 @@ use Rattle.std.proofs.lemmas.Bool.Decides.{Decides-eqb}
 use Rattle.std.proofs.lemmas.Slice.Eq.{bytes_eq-Decides}
 use Rattle.redraw_report.specs.declared.finding.Content.{Content}
 use Rattle.redraw_report.specs.declared.finding.Content.TheVariants.{Lines, Nothing, Blank}
-use Rattle.redraw_report.specs.declared.finding.Mark.{Mark}
+use Rattle.redraw_report.specs.declared.finding.MarkedSpan.{MarkedSpan}
 use Rattle.redraw_report.specs.declared.finding.Shown.{Shown}
 use Rattle.redraw_report.specs.Report.{content_parts, marked_parts, marks_in, source_parts, sources_of, with_shown}
 use Rattle.redraw_report.specs.SameSource.{same_content, same_source}
@@ -42,17 +42,17 @@ only_source : (primary : Bool) (s : Shown) → with_shown (if true && not primar
 only_source true s = ap (λ (b : Bool). if b || false then s ∷ [] else s ∷ s ∷ []) (itself s)
 only_source false s = refl
 
-only_mark : (m : Mark) → marks_in m.source (m ∷ []) ≡ m ∷ []
+only_mark : (m : MarkedSpan) → marks_in m.source (m ∷ []) ≡ m ∷ []
 only_mark m = ap (λ (b : Bool). if b then m ∷ [] else []) (itself m.source)
 
-one_mark : (m : Mark) → marked_parts (m ∷ []) ≡ content_parts (m ∷ []) m.source m.source.content
+one_mark : (m : MarkedSpan) → marked_parts (m ∷ []) ≡ content_parts (m ∷ []) m.source m.source.content
 one_mark m =
     let source : sources_of (m ∷ []) ≡ m.source ∷ [] = only_source m.is_primary m.source in
     ap (flat_map (source_parts (m ∷ []))) source ∙ append-nil (source_parts (m ∷ []) m.source)
-    ∙ ap (λ (ms : List Mark). content_parts ms m.source m.source.content) (only_mark m)
+    ∙ ap (λ (ms : List MarkedSpan). content_parts ms m.source m.source.content) (only_mark m)
 
 -- what is drawn of places of which there is one
-pub one_place : (ms : List Mark) (d : Mark) → 1 ≤ length ms → length ms < 2
+pub one_place : (ms : List MarkedSpan) (d : MarkedSpan) → 1 ≤ length ms → length ms < 2
     → marked_parts ms ≡ content_parts ms (get_or ms 0 d).source (get_or ms 0 d).source.content
 one_place [] d some few = absurd (omega (arith, some))
 one_place (m ∷ []) d some few = one_mark m

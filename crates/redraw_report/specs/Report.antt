@@ -13,11 +13,11 @@ use Rattle.snippet_model.specs.declared.snippet.AnnotationKind.TheVariants.{Prim
 use Rattle.redraw_report.specs.declared.diagnostic.Code.{Code}
 use Rattle.redraw_report.specs.declared.diagnostic.Severity.{Severity}
 use Rattle.redraw_report.specs.declared.diagnostic.Severity.TheVariants.{Error, Warning, Info, Note, Help, Plain}
-use Rattle.redraw_report.specs.declared.finding.Change.{Change}
+use Rattle.redraw_report.specs.declared.finding.Replacement.{Replacement}
 use Rattle.redraw_report.specs.declared.finding.Content.{Content}
 use Rattle.redraw_report.specs.declared.finding.Content.TheVariants as content
 use Rattle.redraw_report.specs.declared.finding.Finding.{Finding}
-use Rattle.redraw_report.specs.declared.finding.Mark.{Mark}
+use Rattle.redraw_report.specs.declared.finding.MarkedSpan.{MarkedSpan}
 use Rattle.redraw_report.specs.declared.finding.Offer.{Offer}
 use Rattle.redraw_report.specs.declared.finding.Remark.{Remark}
 use Rattle.redraw_report.specs.declared.finding.Shown.{Shown}
@@ -43,7 +43,7 @@ abbrev pub lent : Option (Bor (List ℕ)) → Option (List ℕ)
 lent text = option_map (λ (t : Bor (List ℕ)). t.now) text
 
 -- the mark of a place: a primary one where the place is the point of the report, else one of context; with what is said of the place
-abbrev pub marked_of : Mark → Marked
+abbrev pub marked_of : MarkedSpan → Marked
 marked_of m =
     record {
       start = m.start;
@@ -54,8 +54,8 @@ marked_of m =
     }
 
 -- those of some places that are in this source
-abbrev pub marks_in : Shown → List Mark → List Mark
-marks_in source marks = filter (λ (m : Mark). same_source m.source source) marks
+abbrev pub marks_in : Shown → List MarkedSpan → List MarkedSpan
+marks_in source marks = filter (λ (m : MarkedSpan). same_source m.source source) marks
 
 -- what is said of a place, if something is: below an empty row
 abbrev pub label_rows : Option (Bor (List ℕ)) → List Part
@@ -63,7 +63,7 @@ label_rows None = []
 label_rows (Some label) = Gap ∷ said Note label.now ∷ []
 
 -- the same of a place
-abbrev pub said_of_mark : Mark → List Part
+abbrev pub said_of_mark : MarkedSpan → List Part
 said_of_mark m = label_rows m.label
 
 -- lines of a file as they are shown
@@ -77,7 +77,7 @@ spaces_before column = repeat (column - 1) (codes " ")
 
 -- a source with places that are in it: its lines with a mark for each, or where it has none its place and what is said, or a line of
 -- blanks with the marks
-abbrev pub content_parts : List Mark → Shown → Content → List Part
+abbrev pub content_parts : List MarkedSpan → Shown → Content → List Part
 content_parts within source (content.Lines text first_line) =
     Marks (file_lines source.path.now (shown_text text) first_line true) (map marked_of within) ∷ []
 content_parts within source (content.Blank line column) =
@@ -85,7 +85,7 @@ content_parts within source (content.Blank line column) =
 content_parts within source (content.Nothing line column) = Names source.path.now line column ∷ flat_map said_of_mark within
 
 -- a source as it is shown, with those of some places that are in it
-abbrev pub source_parts : List Mark → Shown → List Part
+abbrev pub source_parts : List MarkedSpan → Shown → List Part
 source_parts marks source = content_parts (marks_in source marks) source source.content
 
 -- some sources, and one more if it isn't among them
@@ -93,24 +93,24 @@ abbrev pub with_shown : List Shown → Shown → List Shown
 with_shown order source = if list_any (λ known. same_source known source) order then order else order ++ source ∷ []
 
 -- some sources, and that of a place, but of a place that isn't primary only where all are taken
-abbrev pub with_source : Bool → List Shown → Mark → List Shown
+abbrev pub with_source : Bool → List Shown → MarkedSpan → List Shown
 with_source primary order m = if primary && not m.is_primary then order else with_shown order m.source
 
 -- the same of some places, one after another
-abbrev pub with_sources : Bool → List Shown → List Mark → List Shown
+abbrev pub with_sources : Bool → List Shown → List MarkedSpan → List Shown
 with_sources primary order [] = order
 with_sources primary order (m ∷ ms) = with_sources primary (with_source primary order m) ms
 
 -- the sources of some places, each once: those of primary places first, then the others as they come
-abbrev pub sources_of : List Mark → List Shown
+abbrev pub sources_of : List MarkedSpan → List Shown
 sources_of marks = with_sources false (with_sources true [] marks) marks
 
 -- what is shown of some places: each source with those that are in it
-abbrev pub marked_parts : List Mark → List Part
+abbrev pub marked_parts : List MarkedSpan → List Part
 marked_parts marks = flat_map (source_parts marks) (sources_of marks)
 
 -- an edit
-abbrev pub edited_of : Change → Edited
+abbrev pub edited_of : Replacement → Edited
 edited_of c = record { start = c.start; end = c.end; text = c.text.now }
 
 -- an offer: the lines of its source with all of its edits; nothing where the source has no lines

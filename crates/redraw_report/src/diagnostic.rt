@@ -49,7 +49,7 @@ pub struct Child {
     /// The places that it speaks of; none of an edit.
     pub spans: Vec<FileSpan>,
     /// The edits that it suggests: one of these lists is to be made, all of it.
-    pub alternatives: Vec<Vec<Edit>>,
+    pub alternatives: Vec<Vec<SuggestedEdit>>,
 }
 
 /// A place in a file that is spoken of.
@@ -69,7 +69,7 @@ pub struct FileSpan {
 
 /// A suggested edit: a part of a file, and the text that is to stand in its place.
 #[derive(Drop)]
-pub struct Edit {
+pub struct SuggestedEdit {
     /// The file, by the name that the tool gave it.
     pub file: String,
     /// The part of it that goes.

@@ -44,14 +44,14 @@ pub struct Finding<'a> {
     /// The name of the rule that it breaks, where it has one.
     pub code: Option<&'a Code>,
     /// The places that it speaks of.
-    pub marks: Vec<Mark<'a>>,
+    pub marks: Vec<MarkedSpan<'a>>,
     /// What else is said of it.
     pub remarks: Vec<Remark<'a>>,
 }
 
 /// A place that is spoken of.
 #[derive(Clone, Copy)]
-pub struct Mark<'a> {
+pub struct MarkedSpan<'a> {
     /// The source that it is in.
     pub source: Shown<'a>,
     /// The byte of the source where the place starts.
@@ -71,7 +71,7 @@ pub struct Remark<'a> {
     /// What is said. The text isn't trusted.
     pub message: &'a str,
     /// The places that it speaks of.
-    pub marks: Vec<Mark<'a>>,
+    pub marks: Vec<MarkedSpan<'a>>,
     /// The edits that it suggests, each of them instead of the others.
     pub offers: Vec<Offer<'a>>,
 }
@@ -81,14 +81,14 @@ pub struct Remark<'a> {
 pub struct Offer<'a> {
     /// The source that it changes.
     pub source: Shown<'a>,
-    pub changes: Vec<Change<'a>>,
+    pub changes: Vec<Replacement<'a>>,
     /// Whether only the lines around the edits are shown, and not all of the source.
     pub is_folded: bool,
 }
 
 /// A part of a source, and the text that is to stand in its place.
 #[derive(Clone, Copy)]
-pub struct Change<'a> {
+pub struct Replacement<'a> {
     /// The byte of the source where the part starts.
     pub start: usize,
     /// The byte after it.

@@ -10,7 +10,7 @@ ghost use Rattle.redraw_report.specs.View.{Gap, Marks, marked_view, part_view};
 ghost use Rattle.redraw_report.specs.declared.diagnostic.Severity.TheVariants.{Note};
 
 use crate::diagnostic::Severity;
-use crate::finding::{Content, Mark, Shown, is_same};
+use crate::finding::{Content, MarkedSpan, Shown, is_same};
 use crate::titles::message_of;
 use snippet_model::{Annotation, AnnotationKind, Element, Origin, Padding, Snippet, SourceText};
 use snippet_text::CowStr;
@@ -36,7 +36,7 @@ fn add_shown<'a>(order: &mut Vec<Shown<'a>>, source: Shown<'a>) -> Result<(), Al
 /// Adds the source of a place, but of a place that isn't primary only where all are taken.
 fn add_source_of<'a>(
     order: &mut Vec<Shown<'a>>,
-    mark: &Mark<'a>,
+    mark: &MarkedSpan<'a>,
     primary: bool,
 ) -> Result<(), AllocError>
     ensures order { OnOk result (order.new.items ≡ with_source primary order.old.items mark.now) }
@@ -50,7 +50,7 @@ fn add_source_of<'a>(
 /// Adds the sources of some places, or only of the primary ones.
 fn add_sources_of<'a>(
     order: &mut Vec<Shown<'a>>,
-    marks: &[Mark<'a>],
+    marks: &[MarkedSpan<'a>],
     primary: bool,
 ) -> Result<(), AllocError>
     ensures order { OnOk result (order.new.items ≡ with_sources primary order.old.items marks.now) }
@@ -62,7 +62,7 @@ fn add_sources_of<'a>(
 }
 
 /// The sources of some places, each once: those of primary places first, then the others as they come.
-fn sources_of<'a>(alloc: Global, marks: &[Mark<'a>]) -> Result<Vec<Shown<'a>>, AllocError>
+fn sources_of<'a>(alloc: Global, marks: &[MarkedSpan<'a>]) -> Result<Vec<Shown<'a>>, AllocError>
     ensures value { IfOk result (λ order. order.items ≡ spec.sources_of marks.now) }
 {
     let mut order = Vec::new(alloc);
@@ -72,7 +72,7 @@ fn sources_of<'a>(alloc: Global, marks: &[Mark<'a>]) -> Result<Vec<Shown<'a>>, A
 }
 
 /// How a place is marked.
-fn kind_of(mark: &Mark<'_>) -> AnnotationKind
+fn kind_of(mark: &MarkedSpan<'_>) -> AnnotationKind
     ensures value { result ≡ (marked_of mark.now).kind }
 {
     if mark.is_primary {
@@ -83,7 +83,7 @@ fn kind_of(mark: &Mark<'_>) -> AnnotationKind
 }
 
 /// The annotation of a place.
-fn annotation_of<'a>(mark: &Mark<'a>) -> Annotation<'a>
+fn annotation_of<'a>(mark: &MarkedSpan<'a>) -> Annotation<'a>
     ensures value { marked_view result ≡ marked_of mark.now }
 {
     Annotation {
@@ -101,8 +101,8 @@ fn annotation_of<'a>(mark: &Mark<'a>) -> Annotation<'a>
 fn marks_in<'a>(
     alloc: Global,
     source: &Shown<'a>,
-    marks: &[Mark<'a>],
-) -> Result<Vec<Mark<'a>>, AllocError>
+    marks: &[MarkedSpan<'a>],
+) -> Result<Vec<MarkedSpan<'a>>, AllocError>
     ensures value { IfOk result (λ within. within.items ≡ spec.marks_in source.now marks.now) }
 {
     let mut within = Vec::new(alloc);
@@ -115,7 +115,10 @@ fn marks_in<'a>(
 }
 
 /// The annotations of some places.
-fn annotations_of<'a>(alloc: Global, marks: &[Mark<'a>]) -> Result<Vec<Annotation<'a>>, AllocError>
+fn annotations_of<'a>(
+    alloc: Global,
+    marks: &[MarkedSpan<'a>],
+) -> Result<Vec<Annotation<'a>>, AllocError>
     ensures value { IfOk result (λ annotations. map marked_view annotations.items ≡ map marked_of marks.now) }
 {
     let mut annotations = Vec::new(alloc);
@@ -171,7 +174,7 @@ fn add_note<'a>(
 fn add_labels<'a>(
     alloc: Global,
     elements: &mut Vec<Element<'a>>,
-    marks: &[Mark<'a>],
+    marks: &[MarkedSpan<'a>],
 ) -> Result<(), AllocError>
     ensures added { OnOk result (map part_view elements.new.items
         ≡ map part_view elements.old.items ++ flat_map said_of_mark marks.now) }
@@ -187,7 +190,7 @@ fn add_source<'a>(
     alloc: Global,
     elements: &mut Vec<Element<'a>>,
     source: &Shown<'a>,
-    within: &[Mark<'a>],
+    within: &[MarkedSpan<'a>],
 ) -> Result<(), AllocError>
     ensures added { OnOk result (map part_view elements.new.items
         ≡ map part_view elements.old.items ++ content_parts within.now source.now source.now.content) }
@@ -225,7 +228,7 @@ fn add_marked<'a>(
     source: &Shown<'a>,
     text: SourceText<'a>,
     first_line: usize,
-    within: &[Mark<'a>],
+    within: &[MarkedSpan<'a>],
 ) -> Result<(), AllocError>
     ensures added { OnOk result (map part_view elements.new.items ≡ map part_view elements.old.items
         ++ Marks (file_lines source.now.path.now (cow_str_bytes text.entry) first_line true)
@@ -248,7 +251,7 @@ fn add_each_source<'a>(
     alloc: Global,
     elements: &mut Vec<Element<'a>>,
     order: &[Shown<'a>],
-    marks: &[Mark<'a>],
+    marks: &[MarkedSpan<'a>],
 ) -> Result<(), AllocError>
     ensures added { OnOk result (map part_view elements.new.items
         ≡ map part_view elements.old.items ++ flat_map (source_parts marks.now) order.now) }
@@ -265,7 +268,7 @@ fn add_each_source<'a>(
 fn add_marks<'a>(
     alloc: Global,
     elements: &mut Vec<Element<'a>>,
-    marks: &[Mark<'a>],
+    marks: &[MarkedSpan<'a>],
 ) -> Result<(), AllocError>
     ensures added { OnOk result (map part_view elements.new.items
         ≡ map part_view elements.old.items ++ marked_parts marks.now) }
@@ -282,7 +285,7 @@ fn add_marks<'a>(
 /// What is drawn of some places.
 pub fn marked_elements<'a>(
     alloc: Global,
-    marks: &[Mark<'a>],
+    marks: &[MarkedSpan<'a>],
 ) -> Result<Vec<Element<'a>>, AllocError>
     ensures value { IfOk result (λ elements. map part_view elements.items ≡ marked_parts marks.now) }
 {

@@ -6,7 +6,7 @@ ghost use Rattle.redraw_report.specs.Report.{edited_of, more_parts, offered, off
 ghost use Rattle.redraw_report.specs.View.{edited_view, part_view};
 
 use crate::diagnostic::Severity;
-use crate::finding::{Change, Content, Offer};
+use crate::finding::{Content, Offer, Replacement};
 use crate::titles::level_of;
 use snippet_model::{Element, Patch, Snippet};
 use snippet_text::CowStr;
@@ -16,7 +16,7 @@ use std::alloc::{AllocError, Global};
 const SHOWN_OFFERS: usize = 4;
 
 /// The patch of an edit.
-fn patch_of<'a>(change: &Change<'a>) -> Patch<'a>
+fn patch_of<'a>(change: &Replacement<'a>) -> Patch<'a>
     ensures value { edited_view result ≡ edited_of change.now }
 {
     Patch {
@@ -26,7 +26,7 @@ fn patch_of<'a>(change: &Change<'a>) -> Patch<'a>
 }
 
 /// The patches of some edits.
-fn patches_of<'a>(alloc: Global, changes: &[Change<'a>]) -> Result<Vec<Patch<'a>>, AllocError>
+fn patches_of<'a>(alloc: Global, changes: &[Replacement<'a>]) -> Result<Vec<Patch<'a>>, AllocError>
     ensures value { IfOk result (λ patches. map edited_view patches.items ≡ map edited_of changes.now) }
 {
     let mut patches = Vec::new(alloc);

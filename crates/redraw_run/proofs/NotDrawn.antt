@@ -23,7 +23,7 @@ use Rattle.annotate_snippets.proofs.AsSetLemmas.{unset-shows}
 use Rattle.program.specs.Standing.{Standing}
 use Rattle.redraw_command.specs.Workflow.{command}
 use Rattle.redraw_command.specs.declared.choice.Choice.{Choice}
-use Rattle.redraw_command.specs.declared.choice.Form.TheVariants.{Report}
+use Rattle.redraw_command.specs.declared.choice.OutputForm.TheVariants.{Report}
 use Rattle.redraw_command.specs.declared.tally.Tally.{Tally}
 use Rattle.redraw_read.specs.declared.sources.File.{File}
 use Rattle.redraw_report.specs.Report.{headed_of, is_bare, level_of, marked_parts, remark_section, section_of, sections_from, with_message}

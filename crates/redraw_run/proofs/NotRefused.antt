@@ -17,7 +17,7 @@ use Rattle.redraw_report.specs.Report.{headed_of, marked_parts, section_of, sect
 use Rattle.redraw_report.specs.View.{Section, part_view, section_view}
 use Rattle.redraw_report.specs.declared.diagnostic.Diagnostic.{Diagnostic}
 use Rattle.redraw_report.specs.declared.finding.Finding.{Finding}
-use Rattle.redraw_report.specs.declared.finding.Mark.{Mark}
+use Rattle.redraw_report.specs.declared.finding.MarkedSpan.{MarkedSpan}
 use Rattle.redraw_report.specs.declared.finding.Remark.{Remark}
 use Rattle.redraw_run.specs.Deeds.{State}
 use Rattle.redraw_run.specs.DrawnFinding.{RefusesFinding, refusal_of}
@@ -71,7 +71,7 @@ bare_finding_refused r files d why graphics long spans children h =
     let remarks : f.remarks.items ≡ [] = none_zipped _ d.children.items f.remarks.items children h.is.remarks in
     let graphic : form_of r.settings ≡ Graphic = rw (graphics, long) refl in
     let told : map section_view h.groups ≡ section_of (headed_of f) [] ∷ [] = h.told
-    ∙ ap₂ (λ (ms : List Mark) (rs : List Remark). sections_from (section_of (headed_of f) (marked_parts ms)) rs) marks remarks in
+    ∙ ap₂ (λ (ms : List MarkedSpan) (rs : List Remark). sections_from (section_of (headed_of f) (marked_parts ms)) rs) marks remarks in
     by_groups r h.groups (section_of (headed_of f) []) why graphic told refl h.refused
 
 -- ---- an input in UTF-16

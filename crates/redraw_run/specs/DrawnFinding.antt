@@ -13,8 +13,8 @@ use Rattle.program.specs.Standing.{Adds, Standing}
 use Rattle.redraw_command.specs.Choice.{is_sum}
 use Rattle.redraw_command.specs.Tally.{one_more, tallied}
 use Rattle.redraw_command.specs.Workflow.{command}
-use Rattle.redraw_command.specs.declared.choice.Form.{Form}
-use Rattle.redraw_command.specs.declared.choice.Form.TheVariants.{Report, Workflow}
+use Rattle.redraw_command.specs.declared.choice.OutputForm.{OutputForm}
+use Rattle.redraw_command.specs.declared.choice.OutputForm.TheVariants.{Report, Workflow}
 use Rattle.redraw_command.specs.declared.tally.Tally.{Tally}
 use Rattle.redraw_read.specs.Placed.{IsFindingOf, home_of}
 use Rattle.redraw_read.specs.declared.sources.File.{File}
@@ -104,6 +104,6 @@ pub record IsCommanded (d : Diagnostic) (old new : Standing) (before after : Tal
 
 -- what becomes of a finding, by the form that is asked for. As a report it is drawn, or refused: then nothing is written (Same), and
 -- it is counted as left out. As a command it is written, or it has none: then nothing is written, and nothing counted
-abbrev pub DrawsFinding : Form → ReportRenderer → List File → Diagnostic → Standing → Standing → Type 0 → Tally → Tally → Type 0
+abbrev pub DrawsFinding : OutputForm → ReportRenderer → List File → Diagnostic → Standing → Standing → Type 0 → Tally → Tally → Type 0
 DrawsFinding Report r files d old new Same before after = IsDrawn r files d old new before after ⊎ (Refuses r files d × Same × IsLeftOut before after)
 DrawsFinding Workflow r files d old new Same before after = IsCommanded d old new before after ⊎ ((command d ≡ None) × Same × (after ≡ before))

@@ -12,7 +12,7 @@ use Rattle.redraw_command.specs.Choice.{IsTaken}
 use Rattle.redraw_command.specs.Line.{begins_object, begins_utf16, mark}
 use Rattle.redraw_command.specs.Workflow.{command}
 use Rattle.redraw_command.specs.declared.choice.Choice.{Choice}
-use Rattle.redraw_command.specs.declared.choice.Form.TheVariants.{Report, Workflow}
+use Rattle.redraw_command.specs.declared.choice.OutputForm.TheVariants.{Report, Workflow}
 use Rattle.redraw_command.specs.declared.stop.Stop.{Stop}
 use Rattle.redraw_command.specs.declared.stop.Stop.TheVariants.{Memory, Unwritable, Unreadable, Utf16}
 use Rattle.redraw_report.specs.declared.diagnostic.Diagnostic.{Diagnostic}

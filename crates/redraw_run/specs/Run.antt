@@ -10,7 +10,7 @@ use Rattle.redraw_command.specs.declared.choice.Choice.{Choice}
 use Rattle.redraw_command.specs.declared.stop.Stop.{Stop}
 use Rattle.redraw_command.specs.declared.stop.Stop.TheVariants.{Memory, Unwritable, Unreadable, Utf16}
 use Rattle.redraw_command.specs.declared.terminal.Surroundings.{Surroundings}
-use Rattle.redraw_command.specs.declared.arguments.Request.{Request}
+use Rattle.redraw_command.specs.declared.arguments.RedrawRequest.{RedrawRequest}
 use Rattle.redraw_run.specs.Deeds.{State}
 use Rattle.redraw_run.specs.HtmlDocument.{closing, opening}
 use Rattle.redraw_run.specs.Inputs.{AreCut, AreDrawn, asked_names}
@@ -103,7 +103,7 @@ abbrev pub nothing_begun : ReportRenderer → Choice → Standing → Standing �
 nothing_begun r c out err = record { renderer = r; choice = c; tally = no_tally; out = out; err = err }
 
 -- a run draws what is asked for
-abbrev pub Draws : {File Standard : Type 0} → (File ⊎ Standard → Option (List ℕ)) → Request → Surroundings
+abbrev pub Draws : {File Standard : Type 0} → (File ⊎ Standard → Option (List ℕ)) → RedrawRequest → Surroundings
     → (old_out old_err out err : Standing) → ℕ → Type 0
 Draws held request around old_out old_err out err status =
     Runs held (asked_names request.inputs) (nothing_begun (looks request.look around) request.choice old_out old_err) out err status
@@ -124,7 +124,7 @@ pub record Misuses (app : App) (args : List Argument) (old_out old_err out err :
 -- the arguments ask for inputs: these are drawn
 pub record DrawsAsked (File Standard : Type 0) (held : File ⊎ Standard → Option (List ℕ)) (app : App) (args : List Argument) (around : Surroundings)
     (old_out old_err out err : Standing) (status : ℕ) : Type 0 where
-  pub request : Request
+  pub request : RedrawRequest
   pub asked : AsksFor app args request
   pub draws : Draws held request around old_out old_err out err status
 

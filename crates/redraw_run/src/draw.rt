@@ -15,7 +15,7 @@ ghost use Rattle.redraw_run.specs.Telling.{TellsAbout, TellsMany};
 ghost use Rattle.redraw_read.specs.Loaded.{texts_of};
 ghost use Rattle.serde_json.specs.View.{view};
 ghost use Rattle.redraw_read.specs.declared.sources.File.{File};
-ghost use Rattle.redraw_command.specs.declared.choice.Form.TheVariants.{Report, Workflow};
+ghost use Rattle.redraw_command.specs.declared.choice.OutputForm.TheVariants.{Report, Workflow};
 ghost use Rattle.program.specs.Standing.{Adds, Standing, known};
 
 use crate::html::escaped;
@@ -25,9 +25,9 @@ use crate::write::{pass, print};
 use annotate_snippets::renderer::RenderError;
 use json_node::fault::Fault;
 use program::stream::Stream;
-use redraw_command::choice::{Choice, Form, is_sum};
+use redraw_command::choice::{Choice, OutputForm, is_sum};
 use redraw_command::relative::make_relative;
-use redraw_command::seen::{Names, Seen};
+use redraw_command::seen::{Names, SeenDiagnostics};
 use redraw_command::stop::Stop;
 use redraw_command::tally::Tally;
 use redraw_command::tell::tell;
@@ -52,7 +52,7 @@ pub struct Drawing<'w, S: Drop> {
     pub folder: Option<String>,
     pub tally: Tally,
     /// What was drawn of cargo's diagnostics.
-    pub seen: Seen,
+    pub seen: SeenDiagnostics,
     /// The files in which what was drawn has its primary places.
     pub files: Names,
     /// The name of the input that is read, as messages give it.
@@ -250,8 +250,8 @@ impl<S: SourceFiles + Drop> Drawing<'_, S> {
             (standing self.new (known W.contents out.new) (known V.contents err.new)) }
     {
         match self.choice.form {
-            Form::Report => self.draw_report(diagnostic, out, err),
-            Form::Workflow => self.draw_command(diagnostic, out),
+            OutputForm::Report => self.draw_report(diagnostic, out, err),
+            OutputForm::Workflow => self.draw_command(diagnostic, out),
         }
     }
 

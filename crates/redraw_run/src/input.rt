@@ -16,7 +16,7 @@ use crate::kind::{Kind, kind_of};
 use crate::report::{cargo_message, sarif_log};
 use json::Scratch;
 use json_node::node::Node;
-use json_node::place::Place;
+use json_node::place::JsonPath;
 use program::stream::Stream;
 use redraw_command::line::{Line, is_utf16, line_of};
 use redraw_command::stop::Stop;
@@ -329,7 +329,7 @@ impl Reading {
         let node = Node {
             alloc: self.alloc,
             value,
-            place: Place::Line,
+            place: JsonPath::Line,
         };
         match kind {
             Kind::Rustc => drawing.finding(diagnostic_of(&node), None, out, err),

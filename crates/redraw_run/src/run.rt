@@ -22,9 +22,9 @@ use crate::input::draw_input;
 use crate::look::renderer_for;
 use crate::write::pass;
 use program::stream::Stream;
-use redraw_command::arguments::{Request, matches_of, request_of};
+use redraw_command::arguments::{RedrawRequest, matches_of, request_of};
 use redraw_command::relative::folder_of;
-use redraw_command::seen::{Names, Seen};
+use redraw_command::seen::{Names, SeenDiagnostics};
 use redraw_command::stop::Stop;
 use redraw_command::tally::{CLEAN, FAILED, Tally};
 use redraw_command::tell::{tell, tell_error, tell_memory};
@@ -105,7 +105,7 @@ fn print_text<W: Write>(text: &str, out: &mut Stream<W>) -> u8
 /// Draws what is asked for, and answers the status to end with.
 fn draw_all<'w, R: Files + Input + AllocGlobal, W: Write, V: Write>(
     rt: &R,
-    request: Request<'_, 'w>,
+    request: RedrawRequest<'_, 'w>,
     around: Surroundings<'w>,
     out: &mut Stream<W>,
     err: &mut Stream<V>,
@@ -134,7 +134,7 @@ fn draw_all<'w, R: Files + Input + AllocGlobal, W: Write, V: Write>(
         sources: Sources::new(alloc, source_files),
         folder,
         tally,
-        seen: Seen::new(alloc),
+        seen: SeenDiagnostics::new(alloc),
         files: Names::new(alloc),
         input: INPUT,
         line: 0,

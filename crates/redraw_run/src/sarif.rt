@@ -6,12 +6,12 @@ ghost use Rattle.redraw_run.specs.Fates.{AreRuns, Each, IsResult, IsLogRun};
 ghost use Rattle.program.specs.Standing.{known};
 
 use crate::draw::Drawing;
-use json_node::lenient::{List, Node, Problems};
-use json_node::place::Place;
+use json_node::lenient::{LenientNode, List, Problems};
+use json_node::place::JsonPath;
 use program::stream::Stream;
 use redraw_command::stop::Stop;
 use redraw_read::sources::SourceFiles;
-use redraw_sarif::sarif::Run;
+use redraw_sarif::sarif::SarifRun;
 use serde_json::Value;
 use std::io::Write;
 
@@ -28,10 +28,10 @@ pub fn draw_runs<S: SourceFiles + Drop, W: Write, V: Write>(
         (standing drawing.old (known W.contents out.old) (known V.contents err.old))
         (standing drawing.new (known W.contents out.new) (known V.contents err.new))) }
 {
-    let document = Place::Document;
+    let document = JsonPath::Document;
     let runs = List {
         items: runs,
-        place: Place::Field(&document, "runs"),
+        place: JsonPath::Field(&document, "runs"),
     };
     for (index, value) in runs.items.iter().enumerate() {
         draw_run(runs.node(index, value), drawing, out, err)?;
@@ -41,7 +41,7 @@ pub fn draw_runs<S: SourceFiles + Drop, W: Write, V: Write>(
 
 /// Draws what the results of a run tell.
 fn draw_run<S: SourceFiles + Drop, W: Write, V: Write>(
-    node: Node<'_, '_>,
+    node: LenientNode<'_, '_>,
     drawing: &mut Drawing<'_, S>,
     out: &mut Stream<W>,
     err: &mut Stream<V>,
@@ -50,7 +50,7 @@ fn draw_run<S: SourceFiles + Drop, W: Write, V: Write>(
         (standing drawing.new (known W.contents out.new) (known V.contents err.new)) }
 {
     let mut problems = Problems::new(drawing.alloc);
-    let run = Run::new(node, &mut problems);
+    let run = SarifRun::new(node, &mut problems);
     let results = run.results(&mut problems);
     tell_all(&problems, drawing, err)?;
     for (index, value) in results.items.iter().enumerate() {
@@ -61,8 +61,8 @@ fn draw_run<S: SourceFiles + Drop, W: Write, V: Write>(
 
 /// Draws what a result of a run reports, after what is wrong with it.
 fn draw_result<'v, S: SourceFiles + Drop, W: Write, V: Write>(
-    run: &Run<'v, '_>,
-    reported: &Node<'v, '_>,
+    run: &SarifRun<'v, '_>,
+    reported: &LenientNode<'v, '_>,
     drawing: &mut Drawing<'_, S>,
     out: &mut Stream<W>,
     err: &mut Stream<V>,

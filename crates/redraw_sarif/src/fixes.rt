@@ -4,8 +4,10 @@ use crate::location::Context;
 use crate::message::text_in;
 use crate::region::{carried_in, region_of};
 use crate::uri::path_in;
-use json_node::lenient::{List, Node, Problems};
-use redraw_report::diagnostic::{Carried, Child, Edit, LineRegion, Region, Severity, Unit};
+use json_node::lenient::{LenientNode, List, Problems};
+use redraw_report::diagnostic::{
+    Carried, Child, LineRegion, Region, Severity, SuggestedEdit, Unit,
+};
 use std::alloc::{AllocError, Global};
 
 /// What stands over a fix that isn't described.
@@ -28,7 +30,7 @@ pub fn add_fixes(
 /// Adds what is said of a fix, unless something is wrong in it.
 fn take_fix(
     children: &mut Vec<Child>,
-    fix: &Node<'_, '_>,
+    fix: &LenientNode<'_, '_>,
     context: &Context<'_>,
     problems: &mut Problems,
 ) -> Result<(), AllocError> {
@@ -43,7 +45,7 @@ fn take_fix(
 
 /// The description of a fix.
 fn description_of(
-    fix: &Node<'_, '_>,
+    fix: &LenientNode<'_, '_>,
     context: &Context<'_>,
     problems: &mut Problems,
 ) -> Result<String, AllocError> {
@@ -57,7 +59,7 @@ fn description_of(
 fn add_fix(
     children: &mut Vec<Child>,
     message: String,
-    edits: Vec<Edit>,
+    edits: Vec<SuggestedEdit>,
     context: &Context<'_>,
 ) -> Result<(), AllocError> {
     match last_said(children, message.as_str()) {
@@ -78,7 +80,11 @@ fn last_said<'c>(children: &'c mut Vec<Child>, message: &str) -> Option<&'c mut 
 }
 
 /// The help that one fix makes.
-fn help_of(message: String, edits: Vec<Edit>, context: &Context<'_>) -> Result<Child, AllocError> {
+fn help_of(
+    message: String,
+    edits: Vec<SuggestedEdit>,
+    context: &Context<'_>,
+) -> Result<Child, AllocError> {
     let mut alternatives = Vec::new(context.alloc);
     alternatives.push(edits)?;
     Ok(Child {
@@ -92,10 +98,10 @@ fn help_of(message: String, edits: Vec<Edit>, context: &Context<'_>) -> Result<C
 /// The edits of a fix, in all files; `None` where something is wrong with one of them, which is reported: the others
 /// alone would be another fix.
 fn edits_of(
-    fix: &Node<'_, '_>,
+    fix: &LenientNode<'_, '_>,
     context: &Context<'_>,
     problems: &mut Problems,
-) -> Result<Option<Vec<Edit>>, AllocError> {
+) -> Result<Option<Vec<SuggestedEdit>>, AllocError> {
     let told = problems.lines.len();
     let edits = edits_in(fix, context, problems)?;
     if problems.lines.len() > told {
@@ -107,10 +113,10 @@ fn edits_of(
 
 /// Those edits of a fix with which nothing is wrong.
 fn edits_in(
-    fix: &Node<'_, '_>,
+    fix: &LenientNode<'_, '_>,
     context: &Context<'_>,
     problems: &mut Problems,
-) -> Result<Vec<Edit>, AllocError> {
+) -> Result<Vec<SuggestedEdit>, AllocError> {
     let mut edits = Vec::new(context.alloc);
     let changes = fix.needed_list("artifactChanges", problems);
     for (index, value) in changes.items.iter().enumerate() {
@@ -121,8 +127,8 @@ fn edits_in(
 
 /// Adds the edits of one file.
 fn add_change(
-    edits: &mut Vec<Edit>,
-    change: &Node<'_, '_>,
+    edits: &mut Vec<SuggestedEdit>,
+    change: &LenientNode<'_, '_>,
     context: &Context<'_>,
     problems: &mut Problems,
 ) -> Result<(), AllocError> {
@@ -134,8 +140,8 @@ fn add_change(
 
 /// Adds the edits of a file that a change makes.
 fn add_replacements(
-    edits: &mut Vec<Edit>,
-    change: &Node<'_, '_>,
+    edits: &mut Vec<SuggestedEdit>,
+    change: &LenientNode<'_, '_>,
     file: &str,
     context: &Context<'_>,
     problems: &mut Problems,
@@ -155,8 +161,8 @@ fn add_replacements(
 
 /// Adds the edit of a replacement, if it is one that can be drawn.
 fn add_replacement(
-    edits: &mut Vec<Edit>,
-    replacement: &Node<'_, '_>,
+    edits: &mut Vec<SuggestedEdit>,
+    replacement: &LenientNode<'_, '_>,
     file: &str,
     context: &Context<'_>,
     problems: &mut Problems,
@@ -169,11 +175,11 @@ fn add_replacement(
 
 /// The edit of a replacement. One whose content is no text isn't one that can be drawn.
 fn edit_of(
-    replacement: &Node<'_, '_>,
+    replacement: &LenientNode<'_, '_>,
     file: &str,
     context: &Context<'_>,
     problems: &mut Problems,
-) -> Result<Option<Edit>, AllocError> {
+) -> Result<Option<SuggestedEdit>, AllocError> {
     let Some(deleted) = replacement.needed("deletedRegion", problems) else {
         return Ok(None);
     };
@@ -186,7 +192,11 @@ fn edit_of(
 }
 
 /// The part of a file that goes. Without columns it is all of its lines, with the blanks that they begin with.
-fn deleted_in(deleted: &Node<'_, '_>, unit: Unit, problems: &mut Problems) -> Option<Region> {
+fn deleted_in(
+    deleted: &LenientNode<'_, '_>,
+    unit: Unit,
+    problems: &mut Problems,
+) -> Option<Region> {
     match region_of(deleted, unit, problems) {
         Some(Region::Lines(lines)) => Some(Region::Lines(LineRegion {
             start_column: lines.start_column.or(Some(1)),
@@ -203,10 +213,10 @@ fn edit_with(
     region: Region,
     text: &str,
     carried: Option<Carried>,
-) -> Result<Edit, AllocError> {
+) -> Result<SuggestedEdit, AllocError> {
     let file = String::from_str(alloc, file)?;
     let replacement = String::from_str(alloc, text)?;
-    Ok(Edit {
+    Ok(SuggestedEdit {
         file,
         region,
         replacement,
@@ -215,7 +225,7 @@ fn edit_with(
 }
 
 /// The text that a replacement puts in: none where it only takes text away.
-fn inserted_in<'v>(replacement: &Node<'v, '_>, problems: &mut Problems) -> Option<&'v str> {
+fn inserted_in<'v>(replacement: &LenientNode<'v, '_>, problems: &mut Problems) -> Option<&'v str> {
     if !replacement.has("insertedContent") {
         return Some("");
     }

@@ -2,7 +2,7 @@
 
 use crate::location::{Context, message_at, place_at};
 use crate::steps::{left_out, shown_steps, step_label};
-use json_node::lenient::{List, Node, Problems};
+use json_node::lenient::{LenientNode, List, Problems};
 use redraw_report::diagnostic::{Child, FileSpan, Severity};
 use std::alloc::AllocError;
 
@@ -19,7 +19,7 @@ pub struct Told {
 /// Of many only the first and the last are shown, and a note says how many are left out.
 pub fn add_steps(
     told: &mut Told,
-    reported: &Node<'_, '_>,
+    reported: &LenientNode<'_, '_>,
     context: &Context<'_>,
     problems: &mut Problems,
 ) -> Result<(), AllocError> {
@@ -35,7 +35,10 @@ pub fn add_steps(
 }
 
 /// The first item of a list, if there is one that is an object.
-fn first_of<'v, 'n>(list: &'n List<'v, '_>, problems: &mut Problems) -> Option<Node<'v, 'n>> {
+fn first_of<'v, 'n>(
+    list: &'n List<'v, '_>,
+    problems: &mut Problems,
+) -> Option<LenientNode<'v, 'n>> {
     let first = list.node(0, list.items.first()?);
     if first.is_object(problems) {
         Some(first)
@@ -47,7 +50,7 @@ fn first_of<'v, 'n>(list: &'n List<'v, '_>, problems: &mut Problems) -> Option<N
 /// Adds the steps of a thread.
 fn add_thread(
     told: &mut Told,
-    thread: &Node<'_, '_>,
+    thread: &LenientNode<'_, '_>,
     context: &Context<'_>,
     problems: &mut Problems,
 ) -> Result<(), AllocError> {
@@ -85,7 +88,7 @@ fn add_step_at(
 /// Adds a step: a place, or where it has none a note with its message.
 fn add_step(
     told: &mut Told,
-    step: &Node<'_, '_>,
+    step: &LenientNode<'_, '_>,
     number: usize,
     context: &Context<'_>,
     problems: &mut Problems,

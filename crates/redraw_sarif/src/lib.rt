@@ -1,9 +1,9 @@
 //! Logs in the form SARIF 2.1.0: what their results tell, as findings.
 //!
-//! A log is one JSON document. `sarif::runs` gives its runs and `Run::finding` what one result of a run reports, so
-//! that each can be drawn before the next is read. What is wrong with a part of a log is reported with the path to it,
-//! as `runs[0].results[3].locations[0].physicalLocation.region.startLine`, and the rest is taken as it is. Fields that
-//! aren't named here are skipped.
+//! A log is one JSON document. `sarif::runs` gives its runs and `SarifRun::finding` what one result of a run reports,
+//! so that each can be drawn before the next is read. What is wrong with a part of a log is reported with the path to
+//! it, as `runs[0].results[3].locations[0].physicalLocation.region.startLine`, and the rest is taken as it is. Fields
+//! that aren't named here are skipped.
 #![tactic(auto)]
 
 pub mod expectation;

@@ -2,9 +2,9 @@
 
 use crate::message::text_in;
 use crate::region::{carried_of, region_of};
-use crate::rule::Rule;
+use crate::rule::SarifRule;
 use crate::uri::path_in;
-use json_node::lenient::{List, Node, Problems};
+use json_node::lenient::{LenientNode, List, Problems};
 use redraw_report::diagnostic::{FileSpan, Region, Unit};
 use serde_json::Value;
 use std::alloc::{AllocError, Global};
@@ -17,7 +17,7 @@ const START: Region = Region::Bytes { start: 0, end: 0 };
 pub struct Context<'v> {
     pub alloc: Global,
     pub run: &'v Value,
-    pub rule: Rule<'v>,
+    pub rule: SarifRule<'v>,
     /// What columns count.
     pub unit: Unit,
 }
@@ -41,7 +41,7 @@ pub fn add_spans(
 
 /// The place of a location, with its message as label.
 fn span_of(
-    location: &Node<'_, '_>,
+    location: &LenientNode<'_, '_>,
     context: &Context<'_>,
     is_primary: bool,
     problems: &mut Problems,
@@ -62,7 +62,7 @@ fn span_of(
 
 /// The message of a location.
 pub fn message_at(
-    location: &Node<'_, '_>,
+    location: &LenientNode<'_, '_>,
     context: &Context<'_>,
     problems: &mut Problems,
 ) -> Result<Option<String>, AllocError> {
@@ -71,7 +71,7 @@ pub fn message_at(
 
 /// The place of a location, as one of context of which nothing is said; `None` where it has no file.
 pub fn place_at(
-    location: &Node<'_, '_>,
+    location: &LenientNode<'_, '_>,
     context: &Context<'_>,
     problems: &mut Problems,
 ) -> Result<Option<FileSpan>, AllocError> {
@@ -87,7 +87,7 @@ pub fn place_at(
 /// The same in this file.
 fn place_in(
     file: String,
-    physical: &Node<'_, '_>,
+    physical: &LenientNode<'_, '_>,
     context: &Context<'_>,
     problems: &mut Problems,
 ) -> Result<FileSpan, AllocError> {
@@ -103,7 +103,11 @@ fn place_in(
 }
 
 /// The region of a location; the start of its file where it has none, or a wrong one.
-fn region_or_start(region: &Option<Node<'_, '_>>, unit: Unit, problems: &mut Problems) -> Region {
+fn region_or_start(
+    region: &Option<LenientNode<'_, '_>>,
+    unit: Unit,
+    problems: &mut Problems,
+) -> Region {
     match region {
         Some(region) => region_of(region, unit, problems).unwrap_or(START),
         None => START,

@@ -3,8 +3,8 @@
 use crate::expectation::SarifExpectation;
 use crate::links::without_links;
 use crate::placeholders::filled;
-use crate::rule::Rule;
-use json_node::lenient::{Node, Problems};
+use crate::rule::SarifRule;
+use json_node::lenient::{LenientNode, Problems};
 use serde_json::Value;
 use std::alloc::{AllocError, Global};
 
@@ -13,9 +13,9 @@ use std::alloc::{AllocError, Global};
 /// to a location is its text.
 pub fn text_in(
     alloc: Global,
-    object: &Node<'_, '_>,
+    object: &LenientNode<'_, '_>,
     name: &str,
-    rule: &Rule<'_>,
+    rule: &SarifRule<'_>,
     problems: &mut Problems,
 ) -> Result<Option<String>, AllocError> {
     match object.object(name, problems) {
@@ -27,8 +27,8 @@ pub fn text_in(
 /// The text of a message.
 fn text_of(
     alloc: Global,
-    message: &Node<'_, '_>,
-    rule: &Rule<'_>,
+    message: &LenientNode<'_, '_>,
+    rule: &SarifRule<'_>,
     problems: &mut Problems,
 ) -> Result<Option<String>, AllocError> {
     let arguments = message.list("arguments", problems).items;
@@ -60,8 +60,8 @@ fn with_arguments(
 
 /// The text of the rule that a message names by its id.
 fn text_by_id<'v>(
-    message: &Node<'_, '_>,
-    rule: &Rule<'v>,
+    message: &LenientNode<'_, '_>,
+    rule: &SarifRule<'v>,
     problems: &mut Problems,
 ) -> Option<&'v str> {
     match message.text("id", problems) {

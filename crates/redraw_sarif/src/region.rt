@@ -1,14 +1,18 @@
 //! The regions of files, and what a log itself holds of them.
 
 use crate::expectation::SarifExpectation;
-use json_node::lenient::{Node, Problems};
+use json_node::lenient::{LenientNode, Problems};
 use redraw_report::diagnostic::{Carried, LineRegion, Region, Unit};
 use serde_json::Value;
 use std::alloc::{AllocError, Global};
 
 /// The part of a file that a region names. Where it says no place to begin at, that is reported, unless what it says in
 /// its stead has been.
-pub fn region_of(region: &Node<'_, '_>, unit: Unit, problems: &mut Problems) -> Option<Region> {
+pub fn region_of(
+    region: &LenientNode<'_, '_>,
+    unit: Unit,
+    problems: &mut Problems,
+) -> Option<Region> {
     let told = problems.lines.len();
     let found = region_in(region, unit, problems);
     if found.is_none() && problems.lines.len() == told {
@@ -18,7 +22,7 @@ pub fn region_of(region: &Node<'_, '_>, unit: Unit, problems: &mut Problems) -> 
 }
 
 /// The part of a file that a region names: by lines and columns, else by characters, else by bytes.
-fn region_in(region: &Node<'_, '_>, unit: Unit, problems: &mut Problems) -> Option<Region> {
+fn region_in(region: &LenientNode<'_, '_>, unit: Unit, problems: &mut Problems) -> Option<Region> {
     if let Some(start_line) = region.from_one("startLine", problems) {
         return Some(Region::Lines(line_region(region, start_line, unit, problems)));
     }
@@ -37,7 +41,7 @@ fn region_in(region: &Node<'_, '_>, unit: Unit, problems: &mut Problems) -> Opti
 
 /// The region that begins on this line. Where it names no line to end with, it ends on this one.
 fn line_region(
-    region: &Node<'_, '_>,
+    region: &LenientNode<'_, '_>,
     start_line: usize,
     unit: Unit,
     problems: &mut Problems,
@@ -54,8 +58,8 @@ fn line_region(
 /// The lines that a location itself holds: those around its region, else those of the region.
 pub fn carried_of(
     alloc: Global,
-    around: &Option<Node<'_, '_>>,
-    region: &Option<Node<'_, '_>>,
+    around: &Option<LenientNode<'_, '_>>,
+    region: &Option<LenientNode<'_, '_>>,
     unit: Unit,
     problems: &mut Problems,
 ) -> Result<Option<Carried>, AllocError> {
@@ -74,7 +78,7 @@ pub fn carried_of(
 /// begins within its first line, blanks stand for what comes before it.
 pub fn carried_in(
     alloc: Global,
-    region: &Node<'_, '_>,
+    region: &LenientNode<'_, '_>,
     unit: Unit,
     problems: &mut Problems,
 ) -> Result<Option<Carried>, AllocError> {
@@ -96,7 +100,7 @@ pub fn carried_in(
 }
 
 /// The text of a region's snippet.
-fn snippet_in<'v>(region: &Node<'v, '_>, problems: &mut Problems) -> Option<&'v str> {
+fn snippet_in<'v>(region: &LenientNode<'v, '_>, problems: &mut Problems) -> Option<&'v str> {
     match region.object("snippet", problems) {
         Some(snippet) => snippet.text("text", problems),
         None => None,
@@ -104,7 +108,7 @@ fn snippet_in<'v>(region: &Node<'v, '_>, problems: &mut Problems) -> Option<&'v 
 }
 
 /// The line that a region begins on.
-fn first_line_of(region: &Node<'_, '_>) -> Option<usize> {
+fn first_line_of(region: &LenientNode<'_, '_>) -> Option<usize> {
     match region.value.get("startLine").and_then(Value::as_u64) {
         Some(number) if number > 0 => Some(number as usize),
         _ => None,

@@ -1,21 +1,21 @@
 //! The rule that a result breaks, and how severe that is.
 
 use crate::expectation::SarifExpectation;
-use json_node::lenient::{Node, Problems, field_at, item_at, text_at, text_field};
+use json_node::lenient::{LenientNode, Problems, field_at, item_at, text_at, text_field};
 use redraw_report::diagnostic::{Code, Severity};
 use serde_json::Value;
 use std::alloc::{AllocError, Global};
 
 /// The rule of a result, and the part of the tool that has it.
 #[derive(Clone, Copy)]
-pub struct Rule<'v> {
+pub struct SarifRule<'v> {
     /// The tool's driver or one of its extensions.
     component: Option<&'v Value>,
     /// The rule, where the component has it.
     rule: Option<&'v Value>,
 }
 
-impl<'v> Rule<'v> {
+impl<'v> SarifRule<'v> {
     /// A text of the rule by its name.
     fn text(&self, name: &str) -> Option<&'v str> {
         text_at(self.rule, name)
@@ -45,7 +45,11 @@ fn text_of_string<'v>(strings: Option<&'v Value>, id: &str) -> Option<&'v str> {
 }
 
 /// The rule of a result: by its number, or else by its id. Where it is the number of no rule, that is reported.
-pub fn rule_of<'v>(run: &'v Value, reported: &Node<'v, '_>, problems: &mut Problems) -> Rule<'v> {
+pub fn rule_of<'v>(
+    run: &'v Value,
+    reported: &LenientNode<'v, '_>,
+    problems: &mut Problems,
+) -> SarifRule<'v> {
     let index = index_of(reported, problems);
     let component = component_of(run, reported.value);
     let rules = rules_of(component);
@@ -56,11 +60,11 @@ pub fn rule_of<'v>(run: &'v Value, reported: &Node<'v, '_>, problems: &mut Probl
     if index.is_some() && rule.is_none() {
         reported.tell(problems, SarifExpectation::Rule);
     }
-    Rule { component, rule }
+    SarifRule { component, rule }
 }
 
 /// The number of the rule that a result names.
-fn index_of(reported: &Node<'_, '_>, problems: &mut Problems) -> Option<usize> {
+fn index_of(reported: &LenientNode<'_, '_>, problems: &mut Problems) -> Option<usize> {
     let own = reported.number("ruleIndex", problems);
     match reported.object("rule", problems) {
         Some(reference) => reference.number("index", problems).or(own),
@@ -135,7 +139,7 @@ fn is_part(own: &str, id: &str) -> bool {
 pub fn code_of(
     alloc: Global,
     reported: &Value,
-    rule: &Rule<'_>,
+    rule: &SarifRule<'_>,
 ) -> Result<Option<Code>, AllocError> {
     let Some(id) = id_of(reported).or(rule.text("id")) else {
         return Ok(None);
@@ -155,7 +159,11 @@ fn owned(alloc: Global, text: Option<&str>) -> Result<Option<String>, AllocError
 
 /// How severe a result is: by its level, else a note where it isn't of the kind `fail`, else by its rule, else a
 /// warning.
-pub fn severity_of(reported: &Node<'_, '_>, rule: &Rule<'_>, problems: &mut Problems) -> Severity {
+pub fn severity_of(
+    reported: &LenientNode<'_, '_>,
+    rule: &SarifRule<'_>,
+    problems: &mut Problems,
+) -> Severity {
     if let Some(level) = reported.text("level", problems) {
         match severity_by_name(level) {
             Some(severity) => return severity,

@@ -6,8 +6,8 @@ use crate::flow::{Told, add_steps};
 use crate::location::{Context, add_spans};
 use crate::message::text_in;
 use crate::primary::choose_primary;
-use crate::rule::{Rule, code_of, rule_of, severity_of};
-use json_node::lenient::{List, Node, Problems};
+use crate::rule::{SarifRule, code_of, rule_of, severity_of};
+use json_node::lenient::{LenientNode, List, Problems};
 use redraw_report::diagnostic::{Diagnostic, FileSpan, Unit};
 use std::alloc::{AllocError, Global};
 
@@ -16,18 +16,18 @@ const NO_MESSAGE: &str = "the log has no message";
 
 /// A run of a log.
 #[derive(Clone, Copy)]
-pub struct Run<'v, 'p> {
-    node: Node<'v, 'p>,
+pub struct SarifRun<'v, 'p> {
+    node: LenientNode<'v, 'p>,
     /// What its columns count.
     unit: Unit,
 }
 
-impl<'v, 'p> Run<'v, 'p> {
+impl<'v, 'p> SarifRun<'v, 'p> {
     /// The run that this value describes. A value that is no object is a run without results, and is reported.
-    pub fn new(node: Node<'v, 'p>, problems: &mut Problems) -> Run<'v, 'p> {
+    pub fn new(node: LenientNode<'v, 'p>, problems: &mut Problems) -> SarifRun<'v, 'p> {
         let _is_told = node.is_object(problems);
         let unit = unit_of(&node, problems);
-        Run { node, unit }
+        SarifRun { node, unit }
     }
 
     /// The results of the run.
@@ -39,7 +39,7 @@ impl<'v, 'p> Run<'v, 'p> {
     pub fn finding(
         &self,
         alloc: Global,
-        reported: &Node<'v, '_>,
+        reported: &LenientNode<'v, '_>,
         problems: &mut Problems,
     ) -> Result<Option<Diagnostic>, AllocError> {
         if !reported.is_object(problems) {
@@ -56,7 +56,7 @@ impl<'v, 'p> Run<'v, 'p> {
 }
 
 /// What the columns of a run count: units of UTF-16 where it doesn't say.
-fn unit_of(run: &Node<'_, '_>, problems: &mut Problems) -> Unit {
+fn unit_of(run: &LenientNode<'_, '_>, problems: &mut Problems) -> Unit {
     match run.text("columnKind", problems) {
         Some("unicodeCodePoints") => Unit::CodePoints,
         Some("utf16CodeUnits") | None => Unit::Utf16,
@@ -69,7 +69,7 @@ fn unit_of(run: &Node<'_, '_>, problems: &mut Problems) -> Unit {
 
 /// What a result reports.
 fn diagnostic_of(
-    reported: &Node<'_, '_>,
+    reported: &LenientNode<'_, '_>,
     context: &Context<'_>,
     problems: &mut Problems,
 ) -> Result<Diagnostic, AllocError> {
@@ -89,7 +89,7 @@ fn diagnostic_of(
 
 /// The message of a result; where it has none, what its rule says of itself.
 fn message_of(
-    reported: &Node<'_, '_>,
+    reported: &LenientNode<'_, '_>,
     context: &Context<'_>,
     problems: &mut Problems,
 ) -> Result<String, AllocError> {
@@ -100,13 +100,13 @@ fn message_of(
 }
 
 /// What a rule says of itself, or that there is no message.
-fn description_of<'v>(rule: &Rule<'v>) -> &'v str {
+fn description_of<'v>(rule: &SarifRule<'v>) -> &'v str {
     rule.description().unwrap_or(NO_MESSAGE)
 }
 
 /// The places of a result, and what is said beside its message: of the steps that lead to it, and of its fixes.
 fn told_of(
-    reported: &Node<'_, '_>,
+    reported: &LenientNode<'_, '_>,
     context: &Context<'_>,
     problems: &mut Problems,
 ) -> Result<Told, AllocError> {
@@ -121,7 +121,7 @@ fn told_of(
 
 /// The places of a result: those where it is, and those that help to see it.
 fn spans_of(
-    reported: &Node<'_, '_>,
+    reported: &LenientNode<'_, '_>,
     context: &Context<'_>,
     problems: &mut Problems,
 ) -> Result<Vec<FileSpan>, AllocError> {

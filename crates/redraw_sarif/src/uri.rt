@@ -1,7 +1,7 @@
 //! The files that a log names by addresses.
 
 use crate::expectation::SarifExpectation;
-use json_node::lenient::{Node, Problems, field_at, item_at, text_at, text_field};
+use json_node::lenient::{LenientNode, Problems, field_at, item_at, text_at, text_field};
 use percent_encoding::percent_decode;
 use serde_json::Value;
 use std::alloc::{AllocError, Global};
@@ -24,7 +24,7 @@ struct Address<'v> {
 /// artifact that has one; both are reported.
 pub fn path_in(
     alloc: Global,
-    object: &Node<'_, '_>,
+    object: &LenientNode<'_, '_>,
     run: &Value,
     problems: &mut Problems,
 ) -> Result<Option<String>, AllocError> {

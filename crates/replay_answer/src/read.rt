@@ -15,7 +15,7 @@ use annotate_snippets::renderer::{DEFAULT_TERM_WIDTH, DecorStyle, Stylesheet};
 use annotate_snippets::{Renderer, SourceLines};
 use json_node::fault::Fault;
 use json_node::node::Node;
-use json_node::place::Place;
+use json_node::place::JsonPath;
 use replay_read::list::parts_at;
 use replay_read::shape::{Shape, has_shape};
 use replay_read::sheet::sheets_of;
@@ -37,7 +37,7 @@ fn whole_line<'v>(alloc: Global, line: &'v Value) -> Node<'v, 'static>
     Node {
         alloc,
         value: line,
-        place: Place::Line,
+        place: JsonPath::Line,
     }
 }
 

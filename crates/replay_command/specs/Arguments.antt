@@ -13,8 +13,8 @@ use Rattle.clap.specs.Walk.{Row, Rule, all_of, first_of}
 use Rattle.clap.specs.declared.builder.action.ArgAction.TheVariants.{Append, Set, SetTrue}
 use Rattle.clap.specs.declared.error.kind.ErrorKind.TheVariants.{DisplayHelp, DisplayVersion}
 pub use Rattle.program.specs.Arguments.{Argument, arguments_at}
-use Rattle.replay_command.specs.declared.command.Command.{Command}
-use Rattle.replay_command.specs.declared.command.Command.TheVariants.{Answer, Check, Repeat}
+use Rattle.replay_command.specs.declared.command.ReplayCommand.{ReplayCommand}
+use Rattle.replay_command.specs.declared.command.ReplayCommand.TheVariants.{Answer, Check, Repeat}
 
 -- the argument that names standard input
 abbrev pub hyphen : Argument
@@ -119,12 +119,12 @@ abbrev pub IsCommandLine : List Argument → Type 0
 IsCommandLine args = ((task : Task) × AsksFor args task) ⊎ AsksToShow args
 
 -- what a command does, by its arguments
-abbrev pub task_of : Command → Task
+abbrev pub task_of : ReplayCommand → Task
 task_of (Answer texts keep_going inputs) = Answers texts keep_going (arguments_at inputs.now)
 task_of (Check files) = Checks (arguments_at files.now)
 task_of (Repeat times inputs) = Repeats times (arguments_at inputs.now)
 
 -- the same where it may be that none is asked for
-abbrev pub task_in : {E : Type 0} → Result Command E → Option Task
+abbrev pub task_in : {E : Type 0} → Result ReplayCommand E → Option Task
 task_in (Ok command) = Some (task_of command)
 task_in (Err error) = None

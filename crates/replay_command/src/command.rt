@@ -12,7 +12,7 @@ use std::alloc::Global;
 
 /// What a command line asks for. Inputs are files, or standard input by the name `-`.
 #[derive(Clone, Copy)]
-pub enum Command<'w, 'a> {
+pub enum ReplayCommand<'w, 'a> {
     /// Answers the cases of these inputs.
     Answer {
         /// As texts, and not as JSON.
@@ -36,7 +36,7 @@ pub enum Command<'w, 'a> {
 pub fn command_of<'w, 'a>(
     alloc: Global,
     matches: &'w ArgMatches<'a>,
-) -> Result<Command<'w, 'a>, Error>
+) -> Result<ReplayCommand<'w, 'a>, Error>
     ensures command { IfOk result (λ command. spec.asked (rows_of (found_of matches.now)) ≡ Some (task_of command)) }
     ensures none { IfErr result (λ error. (spec.asked (rows_of (found_of matches.now)) ≡ None)
         ⊎ (kind_of error ≡ kind.OutOfMemory)) }
@@ -50,7 +50,7 @@ pub fn command_of<'w, 'a>(
 }
 
 /// The command, or what is wrong, before it is told.
-fn asked<'w, 'a>(matches: &'w ArgMatches<'a>) -> Result<Command<'w, 'a>, UsageError<'a>>
+fn asked<'w, 'a>(matches: &'w ArgMatches<'a>) -> Result<ReplayCommand<'w, 'a>, UsageError<'a>>
     ensures value { task_in result ≡ spec.asked (rows_of (found_of matches.now)) }
 {
     let texts = has(matches, "text");
@@ -87,7 +87,7 @@ fn check_of<'w, 'a>(
     keep_going: bool,
     repeat: Option<&'a str>,
     files: &'w [&'a str],
-) -> Result<Command<'w, 'a>, UsageError<'a>>
+) -> Result<ReplayCommand<'w, 'a>, UsageError<'a>>
     ensures value { task_in result ≡ spec.asked_to_check texts keep_going (option_map (λ n. n.now) repeat.entry)
         (arguments_at files.now) }
 {
@@ -98,7 +98,7 @@ fn check_of<'w, 'a>(
     } else if repeat.is_some() {
         Err(UsageError::Together("--check", "--repeat <N>"))
     } else if are_pairs(files) {
-        Ok(Command::Check { files })
+        Ok(ReplayCommand::Check { files })
     } else {
         Err(UsageError::NoPair)
     }
@@ -117,13 +117,13 @@ fn draw_of<'w, 'a>(
     keep_going: bool,
     repeat: Option<&'a str>,
     inputs: &'w [&'a str],
-) -> Result<Command<'w, 'a>, UsageError<'a>>
+) -> Result<ReplayCommand<'w, 'a>, UsageError<'a>>
     ensures value { task_in result ≡ spec.asked_to_draw texts keep_going (option_map (λ n. n.now) repeat.entry)
         (arguments_at inputs.now) }
 {
     match repeat {
         Some(argument) => repeat_of(texts, keep_going, argument, inputs),
-        None => Ok(Command::Answer {
+        None => Ok(ReplayCommand::Answer {
             texts,
             keep_going,
             inputs,
@@ -137,7 +137,7 @@ fn repeat_of<'w, 'a>(
     keep_going: bool,
     argument: &'a str,
     inputs: &'w [&'a str],
-) -> Result<Command<'w, 'a>, UsageError<'a>>
+) -> Result<ReplayCommand<'w, 'a>, UsageError<'a>>
     ensures value { task_in result ≡ spec.asked_to_repeat texts keep_going argument.now (arguments_at inputs.now) }
 {
     if texts {
@@ -147,7 +147,7 @@ fn repeat_of<'w, 'a>(
         return Err(UsageError::Together("--repeat <N>", "--keep-going"));
     }
     match number_of(argument) {
-        Some(times) => Ok(Command::Repeat { times, inputs }),
+        Some(times) => Ok(ReplayCommand::Repeat { times, inputs }),
         None => Err(UsageError::NotNumber(argument)),
     }
 }

@@ -29,7 +29,7 @@ pub trait Read<'v> {
 }
 
 /// What a part of a report may be read as, by the sources that its case names.
-pub trait Part<'v> {
+pub trait ReadPart<'v> {
     /// What an item says, where these are the sources and it is read as this.
     ghost says: { List (List ℕ) → Data → Self → Type 0 };
 
@@ -114,7 +114,7 @@ pub fn list_at<'v, T: Read<'v> + Drop>(object: &Node<'v, '_>, name: &str) -> Res
 }
 
 /// What the items of the list in the field of this name are read as, in order, by these sources.
-pub fn parts_at<'v, T: Part<'v> + Drop>(
+pub fn parts_at<'v, T: ReadPart<'v> + Drop>(
     object: &Node<'v, '_>,
     name: &str,
     sources: &'v [SourceLines<'_>],
@@ -127,7 +127,7 @@ pub fn parts_at<'v, T: Part<'v> + Drop>(
 }
 
 /// What the items of a list are read as, in order, by these sources.
-fn parts_of<'v, T: Part<'v> + Drop>(
+fn parts_of<'v, T: ReadPart<'v> + Drop>(
     list: &Node<'v, '_>,
     sources: &'v [SourceLines<'_>],
 ) -> Result<Vec<T>, Fault>

@@ -12,7 +12,7 @@ ghost use Rattle.replay_read.specs.Report.{IsMessageOf, IsNameOf};
 ghost use Rattle.replay_read.specs.Report.{IsOriginOf, IsPatchOf, IsSnippetOf, IsTitleOf};
 ghost use Rattle.replay_read.specs.Kinds.{kind_name, mark_name};
 
-use crate::list::{Part, ReadMarker, markers_of, parts_at};
+use crate::list::{ReadMarker, ReadPart, markers_of, parts_at};
 use crate::shape::{FormatValue, Shape, has_shape};
 use crate::source::source_in;
 use crate::span::{Ruler, span_of, unit_in};
@@ -29,7 +29,7 @@ use snippet_model::{
 use snippet_style::LevelInner;
 use snippet_text::CowStr;
 
-impl<'v> Part<'v> for Group<'v> {
+impl<'v> ReadPart<'v> for Group<'v> {
     ghost says = { IsGroupOf };
 
     ghost fits = { GroupFits };
@@ -163,7 +163,7 @@ fn kind_of(node: &Node<'_, '_>) -> Result<LevelInner, Fault>
     Err(node.unexpected(FormatValue::LevelKind))
 }
 
-impl<'v> Part<'v> for Element<'v> {
+impl<'v> ReadPart<'v> for Element<'v> {
     ghost says = { IsElementOf };
 
     ghost fits = { ElementFits };

@@ -16,8 +16,8 @@ use Rattle.replay_run.specs.Answered.{AnswersReader, AppendsFirst, AreFirstRead,
 use Rattle.replay_run.specs.Checked.{most}
 use Rattle.replay_run.specs.Problem.{IsProblemWith, IsWrite}
 use Rattle.replay_run.specs.declared.lines.Way.{Way}
-use Rattle.replay_run.specs.declared.problem.Line.{Line}
-use Rattle.replay_run.specs.declared.problem.Line.TheVariants.{Case}
+use Rattle.replay_run.specs.declared.problem.InputLine.{InputLine}
+use Rattle.replay_run.specs.declared.problem.InputLine.TheVariants.{Case}
 use Rattle.replay_run.specs.declared.problem.Problem.{Problem}
 use Rattle.replay_run.specs.declared.problem.Problem.TheVariants.{NotText, NotJson, Wrong, Unpaired, TooManyLines, NotCases, Read, Clock, Write, Memory}
 use Rattle.replay_run.proofs.Growing.{appends_kept, appends_none, appends_twice}
@@ -247,7 +247,7 @@ stops_in way told here is_first still_first number more held left next old mid n
     }
 
 -- a line that is no case stands after the lines so far
-problem_after : {E : Type 0} (held left next : Option (List ℕ)) (lines : List Numbered) (at : Line) (line : Result (String Global) E) (problem : Problem)
+problem_after : {E : Type 0} (held left next : Option (List ℕ)) (lines : List Numbered) (at : InputLine) (line : Result (String Global) E) (problem : Problem)
     → LeavesAfter held left lines
     → YieldsKnownPiece string_bytes first_line 10 left (Some line) next → at ≡ following_line lines → IsProblemWith at line problem
     → StopsAfter held lines problem

@@ -10,8 +10,8 @@ use Rattle.clap.specs.declared.error.kind.ErrorKind.{ErrorKind}
 use Rattle.clap.specs.declared.error.kind.ErrorKind.TheVariants.{DisplayHelp, DisplayVersion, OutOfMemory}
 use Rattle.program.specs.Standing.{Standing}
 use Rattle.replay_command.specs.Arguments.{AsksToShow, Checks, IsCommandLine, Task, Argument, asked, replay_app, task_of, arguments_at}
-use Rattle.replay_command.specs.declared.command.Command.{Command}
-use Rattle.replay_command.specs.declared.command.Command.TheVariants.{Answer, Check, Repeat}
+use Rattle.replay_command.specs.declared.command.ReplayCommand.{ReplayCommand}
+use Rattle.replay_command.specs.declared.command.ReplayCommand.TheVariants.{Answer, Check, Repeat}
 use Rattle.replay_run.specs.Compared.{EndsComparison}
 use Rattle.replay_run.specs.Inputs.{IfAnswers, IfComparison, IsComparison, answers, are_texts, form_asked, way_of}
 use Rattle.replay_run.specs.declared.lines.AnswerForm.{AnswerForm}
@@ -28,7 +28,7 @@ way_is : (way : Way) (texts keep_going : Bool) → texts ≡ are_texts way.form 
 way_is way texts keep_going text keep = rw (text, keep, same_form way.form) refl
 
 -- what is known of the kind of a command's answers and of its inputs is known of those that are asked for
-pub answers_asked : (command : Command) (P : Way → List Argument → Type 0) (way : Way) (names : List Argument) → task_of command ≡ answers way names
+pub answers_asked : (command : ReplayCommand) (P : Way → List Argument → Type 0) (way : Way) (names : List Argument) → task_of command ≡ answers way names
     → IfAnswers command P → P way names
 answers_asked (Answer texts keep_going inputs) P way names is known =
     let text : texts ≡ are_texts way.form = cc is in
@@ -39,7 +39,7 @@ answers_asked (Check files) P way names is known = absurd cc
 answers_asked (Repeat times inputs) P way names is known = absurd cc
 
 -- the same of the files that it compares
-pub comparison_asked : (command : Command) (P : List Argument → Type 0) (files : List Argument) → task_of command ≡ Checks files → IfComparison command P
+pub comparison_asked : (command : ReplayCommand) (P : List Argument → Type 0) (files : List Argument) → task_of command ≡ Checks files → IfComparison command P
     → P files
 comparison_asked (Answer texts keep_going inputs) P files is known = absurd cc
 comparison_asked (Check given) P files is known =
@@ -48,35 +48,35 @@ comparison_asked (Check given) P files is known =
 comparison_asked (Repeat times inputs) P files is known = absurd cc
 
 -- a comparison is asked for
-pub files_compared : (command : Command) → IsComparison command → (files : List Argument) × (task_of command ≡ Checks files)
+pub files_compared : (command : ReplayCommand) → IsComparison command → (files : List Argument) × (task_of command ≡ Checks files)
 files_compared (Answer texts keep_going inputs) h = absurd h
 files_compared (Check files) h = (arguments_at files.now, refl)
 files_compared (Repeat times inputs) h = absurd h
 
 -- what is known of a command's answers tells more
-pub if_answers : (command : Command) (P Q : Way → List Argument → Type 0) → ((way : Way) (names : List Argument) → P way names → Q way names)
+pub if_answers : (command : ReplayCommand) (P Q : Way → List Argument → Type 0) → ((way : Way) (names : List Argument) → P way names → Q way names)
     → IfAnswers command P → IfAnswers command Q
 if_answers (Answer texts keep_going inputs) P Q tells h = tells _ _ h
 if_answers (Check files) P Q tells h = tt
 if_answers (Repeat times inputs) P Q tells h = tt
 
-pub if_comparison : (command : Command) (P Q : List Argument → Type 0) → ((files : List Argument) → P files → Q files) → IfComparison command P
+pub if_comparison : (command : ReplayCommand) (P Q : List Argument → Type 0) → ((files : List Argument) → P files → Q files) → IfComparison command P
     → IfComparison command Q
 if_comparison (Answer texts keep_going inputs) P Q tells h = tt
 if_comparison (Check files) P Q tells h = tells _ h
 if_comparison (Repeat times inputs) P Q tells h = tt
 
 -- what is known of answers, or of a comparison, is known of those of the command
-pub answers_done : (command : Command) (texts keep_going : Bool) (inputs : Bor (List (Bor Argument))) (P : Way → List Argument → Type 0) (way : Way)
+pub answers_done : (command : ReplayCommand) (texts keep_going : Bool) (inputs : Bor (List (Bor Argument))) (P : Way → List Argument → Type 0) (way : Way)
     → command ≡ Answer texts keep_going inputs → way ≡ way_of texts keep_going → P way (arguments_at inputs.now) → IfAnswers command P
 answers_done command texts keep_going inputs P way is same known =
-    subst (λ (c : Command). IfAnswers c P) (sym is) (subst (λ (w : Way). P w (arguments_at inputs.now)) same known)
+    subst (λ (c : ReplayCommand). IfAnswers c P) (sym is) (subst (λ (w : Way). P w (arguments_at inputs.now)) same known)
 
-pub comparison_done : {File : Type 0} (bytes : File → Option (List ℕ)) (command : Command) (files : Bor (List (Bor Argument))) (old new : Standing)
+pub comparison_done : {File : Type 0} (bytes : File → Option (List ℕ)) (command : ReplayCommand) (files : Bor (List (Bor Argument))) (old new : Standing)
     (status : ℕ) → command ≡ Check files → EndsComparison File bytes (length files.now) old new status
     → IfComparison command (λ names. EndsComparison File bytes (length names) old new status)
 comparison_done {File} bytes command files old new status is ends =
-    subst (λ (c : Command). IfComparison c (λ names. EndsComparison File bytes (length names) old new status)) (sym is)
+    subst (λ (c : ReplayCommand). IfComparison c (λ names. EndsComparison File bytes (length names) old new status)) (sym is)
     (subst (λ (n : ℕ). EndsComparison File bytes n old new status) (sym (length-map files.now (λ (w : Bor Argument). w.now))) ends)
 
 -- ---- what is asked for

@@ -15,8 +15,8 @@ use Rattle.program.proofs.NotGiven.{sound, told_nothing}
 use Rattle.std.specs.declared.io.Error.{Error}
 use Rattle.replay_run.specs.declared.lines.AnswerForm.TheVariants.{Json}
 use Rattle.replay_run.specs.declared.lines.Way.{Way}
-use Rattle.replay_run.specs.declared.problem.Line.{Line}
-use Rattle.replay_run.specs.declared.problem.Line.TheVariants.{Case, Expected}
+use Rattle.replay_run.specs.declared.problem.InputLine.{InputLine}
+use Rattle.replay_run.specs.declared.problem.InputLine.TheVariants.{Case, Expected}
 use Rattle.replay_run.specs.declared.problem.Problem.{Problem}
 use Rattle.replay_run.specs.declared.problem.Problem.TheVariants.{NotText, NotJson, Write}
 
@@ -63,7 +63,7 @@ invented way is_first b rest problem failed h = written h.written
         omega (arith, ap length same, ap length none)
 
 -- the number of a line
-abbrev number_in : Line → ℕ
+abbrev number_in : InputLine → ℕ
 number_in (Case number) = number
 number_in (Expected number) = number
 
@@ -102,7 +102,7 @@ unanswered keep_going is_first failed held h = written h.written
         one_answer keep_going h.told is_first h.lines h.texts (omega (arith, ap number_in place)) h.answered w.0
 
 -- where it is to go on, it doesn't stop at a line that is no JSON
-pub stopped_all_the_same : (is_first : Bool) (held : Option (List ℕ)) (old new : Standing) (at : Line)
+pub stopped_all_the_same : (is_first : Bool) (held : Option (List ℕ)) (old new : Standing) (at : InputLine)
     → StopsReader (json true) is_first held old new (NotJson at 1 false) → ⊥
 stopped_all_the_same is_first held old new at h = written h.written
   where

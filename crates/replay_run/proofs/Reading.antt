@@ -8,7 +8,7 @@ use Rattle.serde_json.specs.Read.{read}
 use Rattle.replay_run.specs.WrittenAnswer.{AnswersCaseAs, AnswersValue}
 use Rattle.replay_run.specs.Problem.{IsMisread, IsProblemWith}
 use Rattle.replay_run.specs.declared.lines.AnswerForm.{AnswerForm}
-use Rattle.replay_run.specs.declared.problem.Line.{Line}
+use Rattle.replay_run.specs.declared.problem.InputLine.{InputLine}
 use Rattle.replay_run.specs.declared.problem.Problem.{Problem}
 use Rattle.replay_run.specs.declared.problem.Problem.TheVariants.{NotText, NotJson, Wrong, Unpaired, TooManyLines, NotCases, Read, Clock, Write, Memory}
 use Rattle.replay_run.proofs.Checking.{ok_and}
@@ -27,7 +27,7 @@ line_answered form is_first line d (Ok text) reads h =
 line_answered form is_first line d (Err problem) reads h = tt
 
 -- a value that describes nothing is that of a line that does
-pub line_misread : {T E : Type 0} (at : Line) (line : Result (String Global) E) (d : Data) (r : Result T Problem)
+pub line_misread : {T E : Type 0} (at : InputLine) (line : Result (String Global) E) (d : Data) (r : Result T Problem)
     → IsOkAnd line (λ text. read (string_bytes text) ≡ Some d)
     → IfErr r (IsMisread at) → IfErr r (IsProblemWith at line)
 line_misread at line d (Ok x) reads h = tt

@@ -9,14 +9,14 @@ use Rattle.replay_run.specs.Answered.{StopsFor}
 use Rattle.replay_run.specs.Problem.{IsFault, IsFinal, IsProblemWith}
 use Rattle.replay_run.specs.declared.lines.LineAnswer.{LineAnswer}
 use Rattle.replay_run.specs.declared.lines.Way.{Way}
-use Rattle.replay_run.specs.declared.problem.Line.{Line}
-use Rattle.replay_run.specs.declared.problem.Line.TheVariants.{Case}
+use Rattle.replay_run.specs.declared.problem.InputLine.{InputLine}
+use Rattle.replay_run.specs.declared.problem.InputLine.TheVariants.{Case}
 use Rattle.replay_run.specs.declared.problem.Problem.{Problem}
 use Rattle.replay_run.specs.declared.problem.Problem.TheVariants.{NotText, NotJson, Wrong, Unpaired, TooManyLines, NotCases, Read, Clock, Write, Memory}
 use Rattle.replay_run.proofs.Checking.{ok_and}
 
 -- a line with such problem is no case
-no_case : {E : Type 0} (at : Line) (line : Result (String Global) E) (problem : Problem) (words : List ℕ) → IsProblemWith at line problem
+no_case : {E : Type 0} (at : InputLine) (line : Result (String Global) E) (problem : Problem) (words : List ℕ) → IsProblemWith at line problem
     → IsFault problem words → IsOkAnd line (λ text. IsNoCase (string_bytes text) words)
 no_case at line (NotText place) words with fault = absurd fault
 no_case at line (NotJson place column ends_early) words with fault =
@@ -43,7 +43,7 @@ answer_told way is_first number line problem (Ok answer) keep with told text =
     (no_case (Case number) line problem words with fault)
 answer_told way is_first number line problem (Err stop) keep with told text = tt
 
-stop_is : {E : Type 0} (at : Line) (line : Result (String Global) E) (problem stop : Problem) → IsProblemWith at line problem
+stop_is : {E : Type 0} (at : InputLine) (line : Result (String Global) E) (problem stop : Problem) → IsProblemWith at line problem
     → (stop ≡ problem) ⊎ (stop ≡ Memory) → IsProblemWith at line stop
 stop_is at line problem stop with (inl same) = subst (IsProblemWith at line) (sym same) with
 stop_is at line problem stop with (inr memory) = subst (IsProblemWith at line) (sym memory) tt

@@ -14,8 +14,8 @@ use Rattle.replay_run.specs.Problem.{IsFinal, IsRead, IsProblemWith, IsWrite}
 use Rattle.replay_command.specs.Arguments.{Argument}
 use Rattle.replay_run.specs.Inputs.{NamedInput, input_name}
 use Rattle.replay_run.specs.declared.lines.Way.{Way}
-use Rattle.replay_run.specs.declared.problem.Line.{Line}
-use Rattle.replay_run.specs.declared.problem.Line.TheVariants.{Case}
+use Rattle.replay_run.specs.declared.problem.InputLine.{InputLine}
+use Rattle.replay_run.specs.declared.problem.InputLine.TheVariants.{Case}
 use Rattle.replay_run.specs.declared.problem.Problem.{Problem}
 use Rattle.replay_run.specs.declared.problem.Problem.TheVariants.{NotText, NotJson, Wrong, Unpaired, TooManyLines, NotCases, Read, Clock, Write, Memory}
 
@@ -68,7 +68,7 @@ StopsLine way is_first number line old new problem =
     ⊎ (Keeps old.held new.held × IsProblemWith (Case number) line problem × StopsFor way problem)
 
 -- the line after these, by its number, as far as can be counted
-abbrev pub following_line : List Numbered → Line
+abbrev pub following_line : List Numbered → InputLine
 following_line lines = Case (following_number (length lines))
 
 -- it stops at the line after these, which is no case: it is no text, or no JSON, or JSON that describes none; or what the reader holds

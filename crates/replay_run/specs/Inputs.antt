@@ -2,8 +2,8 @@
 use Rattle.std.specs.Prelude.{◌≡◌, ◌⊎◌, ℕ, Bool, true, false, List, Option, codes, if◌then◌else◌, bytes_eq}
 use Rattle.std.proofs.Common.{inl, inr}
 use Rattle.replay_command.specs.Arguments.{Answers, AsksFor, Checks, Task, Argument, hyphen, arguments_at}
-use Rattle.replay_command.specs.declared.command.Command.{Command}
-use Rattle.replay_command.specs.declared.command.Command.TheVariants.{Answer, Check, Repeat}
+use Rattle.replay_command.specs.declared.command.ReplayCommand.{ReplayCommand}
+use Rattle.replay_command.specs.declared.command.ReplayCommand.TheVariants.{Answer, Check, Repeat}
 use Rattle.replay_run.specs.declared.lines.AnswerForm.{AnswerForm}
 use Rattle.replay_run.specs.declared.lines.AnswerForm.TheVariants.{Json, Texts}
 use Rattle.replay_run.specs.declared.lines.Way.{Way}
@@ -38,19 +38,19 @@ abbrev pub Compares : List Argument → Type 0
 Compares args = (files : List Argument) × AsksComparison args files
 
 -- P holds of the files that the command compares, if it does
-abbrev pub IfComparison : Command → (List Argument → Type 0) → Type 0
+abbrev pub IfComparison : ReplayCommand → (List Argument → Type 0) → Type 0
 IfComparison (Answer texts keep_going inputs) P = Unit {0}
 IfComparison (Check files) P = P (arguments_at files.now)
 IfComparison (Repeat times inputs) P = Unit {0}
 
 -- the command compares files
-abbrev pub IsComparison : Command → Type 0
+abbrev pub IsComparison : ReplayCommand → Type 0
 IsComparison (Answer texts keep_going inputs) = ⊥
 IsComparison (Check files) = Unit {0}
 IsComparison (Repeat times inputs) = ⊥
 
 -- P holds of the kind of the answers and of the inputs whose cases the command answers, if it does
-abbrev pub IfAnswers : Command → (Way → List Argument → Type 0) → Type 0
+abbrev pub IfAnswers : ReplayCommand → (Way → List Argument → Type 0) → Type 0
 IfAnswers (Answer texts keep_going inputs) P = P (way_of texts keep_going) (arguments_at inputs.now)
 IfAnswers (Check files) P = Unit {0}
 IfAnswers (Repeat times inputs) P = Unit {0}

@@ -9,19 +9,19 @@ use Rattle.program.specs.Standing.{Standing}
 use Rattle.serde_json.specs.Data.{Data}
 use Rattle.serde_json.specs.Read.{read}
 use Rattle.replay_answer.specs.Answer.{not_json_text}
-use Rattle.replay_run.specs.declared.problem.Line.{Line}
-use Rattle.replay_run.specs.declared.problem.Line.TheVariants.{Case, Expected}
+use Rattle.replay_run.specs.declared.problem.InputLine.{InputLine}
+use Rattle.replay_run.specs.declared.problem.InputLine.TheVariants.{Case, Expected}
 use Rattle.replay_run.specs.declared.problem.Problem.{Problem}
 use Rattle.replay_run.specs.declared.problem.Problem.TheVariants.{NotText, NotJson, Wrong, Unpaired, TooManyLines, NotCases, Read, Clock, Write, Memory}
 use Rattle.replay_command.specs.Arguments.{Argument}
 
 -- a line, by its number
-abbrev pub line_label : Line → List ℕ
+abbrev pub line_label : InputLine → List ℕ
 line_label (Case number) = codes "line " ++ decimal number
 line_label (Expected number) = codes "line " ++ (decimal number ++ codes " of what is expected")
 
 -- what is told of a line that isn't JSON from a column on, or that ends before it is
-abbrev pub json_text : Line → ℕ → Bool → List ℕ
+abbrev pub json_text : InputLine → ℕ → Bool → List ℕ
 json_text line column ends_early =
     line_label line ++ (codes ", column " ++ (decimal column ++ (if ends_early then codes ": not valid JSON: it ends too early" else codes ": not valid JSON")))
 
@@ -70,7 +70,7 @@ IsRead problem = (error : Error) × (problem ≡ Read error)
 
 -- a line has this place and is no case: it is no text, or no JSON, or JSON that describes none; or it couldn't be read, or there was no
 -- memory for that
-abbrev pub IsProblemWith : {E : Type 0} → Line → Result (String Global) E → Problem → Type 0
+abbrev pub IsProblemWith : {E : Type 0} → InputLine → Result (String Global) E → Problem → Type 0
 IsProblemWith at line (NotText place) = place ≡ at
 IsProblemWith at line (NotJson place column ends_early) = (place ≡ at) × IsOkAnd line (λ text. read (string_bytes text) ≡ None)
 IsProblemWith at line (Wrong place words) =
@@ -101,7 +101,7 @@ abbrev pub IsFinal : Problem → Type 0
 IsFinal problem = (told : List ℕ) → IsFault problem told → ⊥
 
 -- a value in a line that has this place describes nothing, or there was no memory to read it
-abbrev pub IsMisread : Line → Problem → Type 0
+abbrev pub IsMisread : InputLine → Problem → Type 0
 IsMisread at (NotText place) = ⊥
 IsMisread at (NotJson place column ends_early) = ⊥
 IsMisread at (Wrong place words) = place ≡ at

@@ -10,7 +10,7 @@ ghost use Rattle.replay_run.specs.Checked.{CountsLines, ChecksCase, ChecksLine, 
 
 use crate::expected::{Expected, expected_of, write_wanted};
 use crate::lines::{numbered_case, numbered_sources, print, value_of, write_line, write_outcome};
-use crate::problem::{Line, Problem, wrong_line};
+use crate::problem::{InputLine, Problem, wrong_line};
 use program::stream::Stream;
 use replay_answer::outcome::{Outcome, outcome_of};
 use serde_json::Value;
@@ -104,7 +104,7 @@ fn check_line<W: Write>(
     ensures added { OnOk result (Grows (known W.contents out.old) (known W.contents out.new)) }
     ensures silent { IfOk result (λ passes. passes ≡ true → out.new ≡ out.old) }
 {
-    let value = value_of(alloc, Line::Expected(number), answer)?;
+    let value = value_of(alloc, InputLine::Expected(number), answer)?;
     let expected = numbered_answer(alloc, &value, number)?;
     let passes = compare_line(alloc, number, &expected, line, out)?;
     Ok(passes)
@@ -118,7 +118,7 @@ fn numbered_answer<'v>(
 ) -> Result<Expected<'v>, Problem>
     ensures value { IfOk result (IsExpectedOf (view value.now)) }
 {
-    expected_of(alloc, value).map_err(|fault| wrong_line(Line::Expected(number), fault))
+    expected_of(alloc, value).map_err(|fault| wrong_line(InputLine::Expected(number), fault))
 }
 
 /// Whether the case of a line became what is expected; if not, it is written.
@@ -133,7 +133,7 @@ fn compare_line<W: Write>(
     ensures added { OnOk result (Grows (known W.contents out.old) (known W.contents out.new)) }
     ensures silent { IfOk result (λ passes. passes ≡ true → out.new ≡ out.old) }
 {
-    let value = value_of(alloc, Line::Case(number), line)?;
+    let value = value_of(alloc, InputLine::Case(number), line)?;
     let sources = numbered_sources(alloc, &value, number)?;
     let case = numbered_case(alloc, &value, &sources, number)?;
     let outcome = outcome_of(alloc, &case)?;

@@ -7,7 +7,7 @@ ghost use Rattle.replay_run.specs.Expected.{IsExpectedOf, IsMet, IsWanted, IsWan
 use crate::lines::write_line;
 use json_node::fault::Fault;
 use json_node::node::Node;
-use json_node::place::Place;
+use json_node::place::JsonPath;
 use replay_answer::outcome::{Outcome, name_of};
 use replay_read::list::list_at;
 use replay_read::shape::{Shape, has_shape};
@@ -39,7 +39,7 @@ pub fn expected_of<'v>(alloc: Global, line: &'v Value) -> Result<Expected<'v>, F
     let answer = Node {
         alloc,
         value: line,
-        place: Place::Line,
+        place: JsonPath::Line,
     };
     Ok(Expected {
         id: answer.text("id")?,

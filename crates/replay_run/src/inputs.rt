@@ -14,8 +14,8 @@ ghost use Rattle.replay_run.specs.Inputs.{NamedInput, held_by};
 use crate::check::{Counts, check_lines};
 use crate::lines::{Way, answer_lines, either};
 use crate::problem::Problem;
-use crate::repeat::{Tally, repeat_lines};
-use crate::stop::Stop;
+use crate::repeat::{TimedTally, repeat_lines};
+use crate::stop::StopAt;
 use program::stream::Stream;
 use std::fs;
 use std::io::{BufRead, BufReader, Write};
@@ -37,7 +37,7 @@ pub fn answer_inputs<'a, R: Files + Input + AllocGlobal, W: Write>(
     way: Way,
     names: &[&'a str],
     out: &mut Stream<W>,
-) -> Result<bool, Stop<'a>>
+) -> Result<bool, StopAt<'a>>
     ensures answers { IfOk result (λ told. AnswersInputs R.File R.Reader (held_by R.File.remaining R.Reader.remaining)
         way told (arguments_at names.now) (known W.contents out.old) (known W.contents out.new)) }
     ensures stops { IfErr result (λ stop. StopsInputs R.File R.Reader (held_by R.File.remaining R.Reader.remaining)
@@ -49,7 +49,7 @@ pub fn answer_inputs<'a, R: Files + Input + AllocGlobal, W: Write>(
         match answer_named(rt, way, name, &mut is_first, out) {
             Ok(here) => told = either(told, here),
             Err(problem) => {
-                return Err(Stop {
+                return Err(StopAt {
                     file: shown_name(*name),
                     problem,
                 });
@@ -168,7 +168,7 @@ pub fn repeat_named<R: Files + Input + Clock + AllocGlobal>(
     rt: &R,
     times: u64,
     name: &str,
-    tally: &mut Tally,
+    tally: &mut TimedTally,
 ) -> Result<(), Problem> {
     if name == "-" {
         let input = opened_standard(rt)?;

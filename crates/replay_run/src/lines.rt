@@ -22,7 +22,7 @@ ghost use Rattle.json_node.specs.Field.{given};
 ghost use Rattle.replay_run.specs.Problem.{IsFault, IsFinal, IsMisread, IsProblemWith};
 ghost use Rattle.replay_answer.specs.declared.outcome.Outcome.{Outcome};
 
-use crate::problem::{Line, Problem, fault_words, wrong_line};
+use crate::problem::{InputLine, Problem, fault_words, wrong_line};
 use annotate_snippets::SourceLines;
 use program::stream::Stream;
 use replay_answer::answer::{answer_json, told_json};
@@ -155,7 +155,8 @@ fn answer_for(
 ) -> Result<LineAnswer, Problem>
     ensures answers { IfOk result (λ answer. IsOkAnd line (λ line.
         AnswersLine way answer.told is_first (number, string_bytes line) answer.text.items)) }
-    ensures stops { IfErr result (λ problem. IsProblemWith (Line.Case number) line problem × StopsFor way problem) }
+    ensures stops { IfErr result (λ problem.
+        IsProblemWith (InputLine.Case number) line problem × StopsFor way problem) }
 {
     match text_for(alloc, line, number, way.form, is_first) {
         Ok(text) => Ok(LineAnswer { told: false, text }),
@@ -273,9 +274,9 @@ fn text_for(
 ) -> Result<Vec<u8>, Problem>
     ensures answers { IfOk result (λ text. IsOkAnd line (λ line.
         AnswersCaseAs form is_first (string_bytes line) text.items)) }
-    ensures stops { IfErr result (IsProblemWith (Line.Case number) line) }
+    ensures stops { IfErr result (IsProblemWith (InputLine.Case number) line) }
 {
-    match value_of(alloc, Line::Case(number), line) {
+    match value_of(alloc, InputLine::Case(number), line) {
         Ok(value) => text_of(alloc, &value, number, form, is_first),
         Err(problem) => Err(problem),
     }
@@ -290,7 +291,7 @@ fn text_of(
     is_first: bool,
 ) -> Result<Vec<u8>, Problem>
     ensures answers { IfOk result (λ text. AnswersValue form is_first (view value.now) text.items) }
-    ensures misread { IfErr result (IsMisread (Line.Case number)) }
+    ensures misread { IfErr result (IsMisread (InputLine.Case number)) }
 {
     let sources = numbered_sources(alloc, value, number)?;
     match numbered_case(alloc, value, &sources, number) {
@@ -327,11 +328,11 @@ pub fn numbered_sources<'v>(
     number: u64,
 ) -> Result<Vec<SourceLines<'v>>, Problem>
     ensures value { IfOk result (λ sources. AreSourcesOf (given (codes "sources") (view value.now)) sources.items) }
-    ensures misread { IfErr result (IsMisread (Line.Case number)) }
+    ensures misread { IfErr result (IsMisread (InputLine.Case number)) }
 {
     match case_sources(alloc, value) {
         Ok(sources) => Ok(sources),
-        Err(fault) => Err(wrong_line(Line::Case(number), fault)),
+        Err(fault) => Err(wrong_line(InputLine::Case(number), fault)),
     }
 }
 
@@ -345,16 +346,16 @@ pub fn numbered_case<'v>(
     requires sources { AreSourcesOf (given (codes "sources") (view value.now)) sources.now }
     ensures value { IfOk result (IsCaseOf (view value.now)) }
     ensures fits { IfOk result (λ case. ReportFits case.groups.items) }
-    ensures misread { IfErr result (IsMisread (Line.Case number)) }
+    ensures misread { IfErr result (IsMisread (InputLine.Case number)) }
 {
     match case_of(alloc, value, sources) {
         Ok(case) => Ok(case),
-        Err(fault) => Err(wrong_line(Line::Case(number), fault)),
+        Err(fault) => Err(wrong_line(InputLine::Case(number), fault)),
     }
 }
 
 /// What this line holds.
-pub fn value_of(alloc: Global, line: Line, text: io::Result<String>) -> Result<Value, Problem>
+pub fn value_of(alloc: Global, line: InputLine, text: io::Result<String>) -> Result<Value, Problem>
     ensures value { IfOk result (λ value. IsOkAnd text (λ text. read (string_bytes text) ≡ Some (view value))) }
     ensures stops { IfErr result (IsProblemWith line text) }
 {
@@ -369,7 +370,7 @@ pub fn value_of(alloc: Global, line: Line, text: io::Result<String>) -> Result<V
 }
 
 /// The problem with a line at which reading JSON met this.
-fn not_json(line: Line, error: Error) -> Problem
+fn not_json(line: InputLine, error: Error) -> Problem
     ensures memory { IsMemory error → result ≡ Problem.Memory }
     ensures text { (IsMemory error → ⊥) → (column : ℕ) × (ends_early : Bool)
         × (result ≡ Problem.NotJson line column ends_early) }

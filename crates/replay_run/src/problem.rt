@@ -13,11 +13,11 @@ use std::{fmt, io};
 #[derive(Drop)]
 pub enum Problem {
     /// A line isn't UTF-8.
-    NotText(Line),
+    NotText(InputLine),
     /// A line isn't valid JSON from this column on, or it ends before it is.
-    NotJson(Line, usize, bool),
+    NotJson(InputLine, usize, bool),
     /// A line describes no case, or no answer where one is expected: what is wrong with it, in words.
-    Wrong(Line, String),
+    Wrong(InputLine, String),
     /// At this line, counted from 1, there is a case or an expected answer, and not both.
     Unpaired(u64),
     /// There are more lines than can be counted.
@@ -36,7 +36,7 @@ pub enum Problem {
 
 /// A line, counted from 1.
 #[derive(Clone, Copy)]
-pub enum Line {
+pub enum InputLine {
     /// Of the cases.
     Case(u64),
     /// Of the expected answers.
@@ -55,19 +55,19 @@ impl<T: Drop> From<AllocFailed<T>> for Problem {
     }
 }
 
-impl fmt::Display for Line {
+impl fmt::Display for InputLine {
     ghost output = { λ line. Some (line_label line) };
 
     fn fmt<W: fmt::Write>(&self, f: &mut fmt::Formatter<W>) -> fmt::Result {
         match self {
-            Line::Case(number) => write!(f, "line {number}"),
-            Line::Expected(number) => write!(f, "line {number} of what is expected"),
+            InputLine::Case(number) => write!(f, "line {number}"),
+            InputLine::Expected(number) => write!(f, "line {number} of what is expected"),
         }
     }
 }
 
 /// The problem with a line of which this is wrong.
-pub fn wrong_line(line: Line, fault: Fault) -> Problem
+pub fn wrong_line(line: InputLine, fault: Fault) -> Problem
     ensures line { IsMisread line result }
 {
     match fault {
@@ -117,7 +117,7 @@ fn words_with(alloc: Global, problem: &Problem, said: &str) -> Result<String, Al
 /// What is told of a line that isn't valid JSON.
 fn json_words(
     alloc: Global,
-    line: Line,
+    line: InputLine,
     column: usize,
     ends_early: bool,
 ) -> Result<String, AllocError>

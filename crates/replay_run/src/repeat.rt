@@ -3,7 +3,7 @@
 ghost use Rattle.annotate_snippets.specs.Fits.{ReportFits};
 
 use crate::lines::{numbered_case, numbered_sources, print_line, value_of};
-use crate::problem::{Line, Problem};
+use crate::problem::{InputLine, Problem};
 use annotate_snippets::renderer::RenderError;
 use program::stream::Stream;
 use replay_answer::case::Case;
@@ -15,7 +15,7 @@ use std::time::{Duration, Instant};
 
 /// What was drawn, and in which time.
 #[derive(Clone, Copy, Default)]
-pub struct Tally {
+pub struct TimedTally {
     pub texts: u64,
     pub bytes: u64,
     pub time: Duration,
@@ -27,12 +27,12 @@ pub fn repeat_lines<K: Clock, B: BufRead + Drop>(
     alloc: Global,
     input: B,
     times: u64,
-    tally: &mut Tally,
+    tally: &mut TimedTally,
 ) -> Result<(), Problem> {
     let mut number = 0u64;
     for line in input.lines(alloc) {
         number = number.saturating_add(1);
-        let value = value_of(alloc, Line::Case(number), line)?;
+        let value = value_of(alloc, InputLine::Case(number), line)?;
         let sources = numbered_sources(alloc, &value, number)?;
         let case = numbered_case(alloc, &value, &sources, number)?;
         *tally = repeat_case(clock, alloc, &case, times, *tally)?;
@@ -46,8 +46,8 @@ fn repeat_case<K: Clock>(
     alloc: Global,
     case: &Case<'_>,
     times: u64,
-    tally: Tally,
-) -> Result<Tally, Problem>
+    tally: TimedTally,
+) -> Result<TimedTally, Problem>
     requires fits { ReportFits case.now.groups.items }
 {
     let start = Instant::now(clock).map_err(Problem::Clock)?;
@@ -66,8 +66,8 @@ fn draw_often(
     alloc: Global,
     case: &Case<'_>,
     times: u64,
-    tally: Tally,
-) -> Result<Tally, RenderError>
+    tally: TimedTally,
+) -> Result<TimedTally, RenderError>
     requires fits { ReportFits case.now.groups.items }
 {
     let mut drawn = tally;
@@ -84,10 +84,10 @@ fn draw_often(
 /// Prints what was drawn, and in which time.
 pub fn print_tally<W: Write>(
     alloc: Global,
-    tally: &Tally,
+    tally: &TimedTally,
     out: &mut Stream<W>,
 ) -> Result<(), Problem> {
-    let Tally { texts, bytes, time } = *tally;
+    let TimedTally { texts, bytes, time } = *tally;
     let (seconds, thousandths) = (time.as_secs(), time.subsec_millis());
     let line = format!(in alloc;
         "{texts} texts, {bytes} bytes, {seconds}.{thousandths:03} seconds"

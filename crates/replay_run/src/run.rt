@@ -22,12 +22,12 @@ use crate::check::Counts;
 use crate::inputs::{answer_inputs, check_pair, repeat_named, shown_name};
 use crate::lines::{AnswerForm, Way, print, print_line};
 use crate::problem::Problem;
-use crate::repeat::{Tally, print_tally};
-use crate::stop::{Stop, or_stop, tell_stop, tell_usage_error};
+use crate::repeat::{TimedTally, print_tally};
+use crate::stop::{StopAt, or_stop, tell_stop, tell_usage_error};
 use clap::ArgMatches;
 use program::stream::Stream;
 use replay_command::arguments::matches_of;
-use replay_command::command::{Command, command_of};
+use replay_command::command::{ReplayCommand, command_of};
 use std::alloc::Global;
 use std::io::Write;
 use std::rt::{Clock, Files};
@@ -143,7 +143,7 @@ fn answer_error<W: Write, V: Write>(
     match show(alloc, error, out) {
         Ok(()) => DONE,
         Err(problem) => {
-            let stop = Stop {
+            let stop = StopAt {
                 file: OUTPUT,
                 problem,
             };
@@ -169,9 +169,9 @@ fn show<W: Write>(alloc: Global, error: &clap::Error, out: &mut Stream<W>) -> Re
 /// Does what the command asks for, and sees to it that all of it is written.
 fn finish<'a, R: Files + Input + Clock + AllocGlobal, W: Write>(
     rt: &R,
-    command: &Command<'_, 'a>,
+    command: &ReplayCommand<'_, 'a>,
     out: &mut Stream<W>,
-) -> Result<u8, Stop<'a>>
+) -> Result<u8, StopAt<'a>>
     ensures status { IfOk result (λ status. status ≤ 1) }
     ensures differs { IfOk result (λ status. status ≡ 1 → IsComparison command.now) }
     ensures compares { IfOk result (λ status. IfComparison command.now (λ files.
@@ -187,7 +187,7 @@ fn finish<'a, R: Files + Input + Clock + AllocGlobal, W: Write>(
     match do_command(rt, command, out) {
         Ok(status) => match out.flush() {
             Ok(()) => Ok(status),
-            Err(error) => Err(Stop {
+            Err(error) => Err(StopAt {
                 file: OUTPUT,
                 problem: Problem::Write(error),
             }),
@@ -202,9 +202,9 @@ fn finish<'a, R: Files + Input + Clock + AllocGlobal, W: Write>(
 /// Does what the command asks for, and answers the status that tells what was found.
 fn do_command<'a, R: Files + Input + Clock + AllocGlobal, W: Write>(
     rt: &R,
-    command: &Command<'_, 'a>,
+    command: &ReplayCommand<'_, 'a>,
     out: &mut Stream<W>,
-) -> Result<u8, Stop<'a>>
+) -> Result<u8, StopAt<'a>>
     ensures status { IfOk result (λ status. status ≤ 1) }
     ensures differs { IfOk result (λ status. status ≡ 1 → IsComparison command.now) }
     ensures compares { IfOk result (λ status. IfComparison command.now (λ files.
@@ -218,13 +218,13 @@ fn do_command<'a, R: Files + Input + Clock + AllocGlobal, W: Write>(
         (known W.contents out.old) (known W.contents out.new) stop.file.now stop.problem)) }
 {
     match *command {
-        Command::Answer {
+        ReplayCommand::Answer {
             texts,
             keep_going,
             inputs,
         } => answer(rt, way_of(texts, keep_going), inputs, out),
-        Command::Check { files } => check(rt, files, out),
-        Command::Repeat { times, inputs } => repeat(rt, times, inputs, out),
+        ReplayCommand::Check { files } => check(rt, files, out),
+        ReplayCommand::Repeat { times, inputs } => repeat(rt, times, inputs, out),
     }
 }
 
@@ -246,7 +246,7 @@ fn answer<'a, R: Files + Input + AllocGlobal, W: Write>(
     way: Way,
     names: &[&'a str],
     out: &mut Stream<W>,
-) -> Result<u8, Stop<'a>>
+) -> Result<u8, StopAt<'a>>
     ensures status { IfOk result (λ status. status ≡ 0) }
     ensures answers { OnOk result (AnswersInputs R.File R.Reader (held_by R.File.remaining R.Reader.remaining)
         way false (arguments_at names.now) (known W.contents out.old) (known W.contents out.new)) }
@@ -260,14 +260,14 @@ fn answer<'a, R: Files + Input + AllocGlobal, W: Write>(
 }
 
 /// The status where all lines are answered: it is problem if one of the answers tells that its line is no case.
-fn ended<'a>(told: bool) -> Result<u8, Stop<'a>>
+fn ended<'a>(told: bool) -> Result<u8, StopAt<'a>>
     ensures status { IfOk result (λ status. status ≡ 0) }
     ensures cases { OnOk result (told ≡ false) }
     ensures stops { IfErr result (λ stop. told ≡ true × (stop.problem ≡ Problem.NotCases)
         × (stop.file.now ≡ codes "standard output")) }
 {
     if told {
-        Err(Stop {
+        Err(StopAt {
             file: OUTPUT,
             problem: Problem::NotCases,
         })
@@ -281,7 +281,7 @@ fn check<'a, R: Files + AllocGlobal, W: Write>(
     rt: &R,
     files: &[&'a str],
     out: &mut Stream<W>,
-) -> Result<u8, Stop<'a>>
+) -> Result<u8, StopAt<'a>>
     ensures status { IfOk result (λ status. status ≤ 1) }
     ensures ends { IfOk result (λ status.
         EndsComparison R.File R.File.remaining (length files.now) (known W.contents out.old) (known W.contents out.new)
@@ -293,7 +293,7 @@ fn check<'a, R: Files + AllocGlobal, W: Write>(
         match check_pair(rt, expected, cases, out) {
             Ok(more) => counts = counts.plus(more),
             Err(problem) => {
-                return Err(Stop {
+                return Err(StopAt {
                     file: cases,
                     problem,
                 });
@@ -320,10 +320,10 @@ fn repeat<'a, R: Files + Input + Clock + AllocGlobal, W: Write>(
     times: u64,
     names: &[&'a str],
     out: &mut Stream<W>,
-) -> Result<u8, Stop<'a>>
+) -> Result<u8, StopAt<'a>>
     ensures status { IfOk result (λ status. status ≡ 0) }
 {
-    let mut tally = Tally::default();
+    let mut tally = TimedTally::default();
     for name in names {
         or_stop(shown_name(*name), repeat_named(rt, times, name, &mut tally))?;
     }

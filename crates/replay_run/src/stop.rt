@@ -19,23 +19,23 @@ const OUT_OF_MEMORY: &str = "replay: out of memory";
 
 /// What stopped a run, and what was read or written then, as it is called.
 #[derive(Drop)]
-pub struct Stop<'a> {
+pub struct StopAt<'a> {
     pub file: &'a str,
     pub problem: Problem,
 }
 
 /// What was tried with what is called so; problem with it stops the run.
-pub fn or_stop<'a, T>(file: &'a str, tried: Result<T, Problem>) -> Result<T, Stop<'a>>
+pub fn or_stop<'a, T>(file: &'a str, tried: Result<T, Problem>) -> Result<T, StopAt<'a>>
     ensures done { IfOk result (λ done. tried ≡ Ok done) }
 {
     match tried {
         Ok(done) => Ok(done),
-        Err(problem) => Err(Stop { file, problem }),
+        Err(problem) => Err(StopAt { file, problem }),
     }
 }
 
 /// Tells what stopped a run, or that there was no memory for that.
-pub fn tell_stop<V: Write>(alloc: Global, stop: &Stop<'_>, err: &mut Stream<V>)
+pub fn tell_stop<V: Write>(alloc: Global, stop: &StopAt<'_>, err: &mut Stream<V>)
     ensures told { TellsStop stop.now.file.now stop.now.problem (Receives V.contents err.old err.new) }
 {
     match stop_message(alloc, stop) {
@@ -45,7 +45,7 @@ pub fn tell_stop<V: Write>(alloc: Global, stop: &Stop<'_>, err: &mut Stream<V>)
 }
 
 /// What is told of what stopped a run.
-fn stop_message(alloc: Global, stop: &Stop<'_>) -> Result<String, AllocError>
+fn stop_message(alloc: Global, stop: &StopAt<'_>) -> Result<String, AllocError>
     ensures message { IfOk result (λ text. (said : List ℕ)
         × (string_bytes text ≡ spec.normalized_text (stop_text stop.now.file.now stop.now.problem said))) }
 {

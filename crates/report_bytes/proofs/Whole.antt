@@ -3,7 +3,7 @@ use Rattle.std.proofs.Common.{◌≡◌, ℕ, List, [], ◌∷◌, Result, Ok, E
 use Rattle.std.specs.Prelude.{IsOkUnless}
 use Rattle.std.specs.List.{AllByRecursion}
 use Rattle.report_bytes.specs.Request.{IsReport, after_request, request_bytes}
-use Rattle.report_bytes.specs.declared.request.Request.{Request}
+use Rattle.report_bytes.specs.declared.request.DrawRequest.{DrawRequest}
 use Rattle.report_fields.specs.Bytes.{element_then, group_then, list_then, settings_then, sheet_then}
 use Rattle.report_fields.specs.Reading.{after_element, after_group, after_list, after_settings, after_sheet, Gives}
 use Rattle.report_fields.specs.Report.{IsElement, IsGroup}
@@ -16,14 +16,14 @@ any_all [] = tt
 any_all (x ∷ xs) = (tt, any_all xs)
 
 -- nothing is left of the bytes of a report
-pub request_again : (r : Request) → IsReport r → after_request (request_bytes r) ≡ Ok []
+pub request_again : (r : DrawRequest) → IsReport r → after_request (request_bytes r) ≡ Ok []
 unfolding after_request
 request_again r is =
     seq _ (settings_again r.settings _ tt) (seq _ (list_again sheet_then after_sheet Any sheet_again r.sheets.items _ (is.0, any_all r.sheets.items))
     (seq _ (list_again group_then after_group IsGroup group_again r.groups.items [] is.1) refl))
 
 -- what was returned for the bytes of a report is a value, or memory ran out
-pub no_fault : {X : Type 0} (result : Result X ReadError) (bytes : List ℕ) (r : Request)
+pub no_fault : {X : Type 0} (result : Result X ReadError) (bytes : List ℕ) (r : DrawRequest)
     → Gives (λ x. []) result (after_request bytes) → IsReport r → bytes ≡ request_bytes r → IsOkUnless result errors.Memory
 no_fault (Ok x) bytes r gives is same = tt
 no_fault (Err errors.Memory) bytes r gives is same = refl

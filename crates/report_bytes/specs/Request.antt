@@ -1,27 +1,27 @@
 -- A whole report as bytes, and how it is read.
 use Rattle.std.specs.Prelude.{ℕ, ◌^◌, ◌<◌, List, [], ◌∷◌, length, Result, Ok, Err}
-use Rattle.report_bytes.specs.declared.request.Request.{Request}
+use Rattle.report_bytes.specs.declared.request.DrawRequest.{DrawRequest}
 use Rattle.report_fields.specs.Bytes.{group_then, list_then, settings_then, sheet_then}
 use Rattle.report_fields.specs.Reading.{◌>>=◌, after_group, after_list, after_settings, after_sheet, fault_at}
 use Rattle.report_fields.specs.Report.{IsGroup, IsListOf}
-use Rattle.report_fields.specs.declared.fault.Fault.{Fault}
+use Rattle.report_fields.specs.declared.fault.ByteFault.{ByteFault}
 use Rattle.report_fields.specs.declared.fault.Wrong.TheVariants.{Trailing}
 
 -- the bytes of a report: its settings, its sheets, its groups, and nothing else
-abbrev pub request_bytes : Request → List ℕ
+abbrev pub request_bytes : DrawRequest → List ℕ
 request_bytes r = settings_then r.settings (list_then sheet_then r.sheets.items (list_then group_then r.groups.items []))
 
 -- a report that has bytes
-abbrev pub IsReport : Request → Type 0
+abbrev pub IsReport : DrawRequest → Type 0
 IsReport request = (length request.sheets.items < 2 ^ 64) × IsListOf IsGroup request.groups.items
 
 -- nothing is left
-abbrev pub ended : List ℕ → Result (List ℕ) Fault
+abbrev pub ended : List ℕ → Result (List ℕ) ByteFault
 ended [] = Ok []
 ended (byte ∷ rest) = Err (fault_at Trailing (byte ∷ rest))
 
 -- what is left of the bytes of a whole report, nothing, or the first fault
-unfoldable pub after_request : List ℕ → Result (List ℕ) Fault
+unfoldable pub after_request : List ℕ → Result (List ℕ) ByteFault
 after_request bytes = do
   rest ← after_settings bytes
   rest ← after_list after_sheet rest

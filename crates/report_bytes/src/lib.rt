@@ -3,4 +3,4 @@
 
 mod request;
 
-pub use request::{Request, read};
+pub use request::{DrawRequest, read};

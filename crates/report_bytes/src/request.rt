@@ -3,7 +3,7 @@
 ghost use Rattle.std.specs.Prelude.{◌≡◌, [], IfOk, IsOkUnless};
 ghost use Rattle.snippet_model.specs.Fits.{ReportFits};
 ghost use Rattle.report_bytes.specs.Request.{IsReport, after_request, request_bytes};
-ghost use Rattle.report_bytes.specs.declared.request.Request.{Request};
+ghost use Rattle.report_bytes.specs.declared.request.DrawRequest.{DrawRequest};
 ghost use Rattle.report_fields.specs.Reading.{Gives};
 ghost use Rattle.report_fields.specs.declared.fault.ReadError.TheVariants.{Memory};
 
@@ -14,7 +14,7 @@ use std::alloc::Global;
 
 /// What is to be drawn, and how. Its texts are those of the bytes that it was read from.
 #[derive(Debug, Drop)]
-pub struct Request<'v> {
+pub struct DrawRequest<'v> {
     pub settings: Settings,
     /// The sheets that the report is printed under, one text for each.
     pub sheets: Vec<Stylesheet>,
@@ -26,12 +26,12 @@ pub struct Request<'v> {
 /// # Errors
 ///
 /// What is wrong with the bytes, the first fault from left to right; `Memory` where there is none.
-pub fn read(alloc: Global, bytes: &[u8]) -> Result<Request<'_>, ReadError>
+pub fn read(alloc: Global, bytes: &[u8]) -> Result<DrawRequest<'_>, ReadError>
     // What is read is the report that the bytes are.
     ensures spelled { IfOk result (λ request. bytes.now ≡ request_bytes request) }
 
     // The bytes of a report are read, where memory is found.
-    ensures only { (request : Request) → IsReport request → bytes.now ≡ request_bytes request
+    ensures only { (request : DrawRequest) → IsReport request → bytes.now ≡ request_bytes request
         → IsOkUnless result Memory }
 
     // Bytes that are none are refused for the first fault.
@@ -43,7 +43,7 @@ pub fn read(alloc: Global, bytes: &[u8]) -> Result<Request<'_>, ReadError>
 
 /// The report at the front, after which there is nothing.
 #[tactic(auto, unfolding(crate::specs::Request::after_request))]
-fn whole(alloc: Global, bytes: &[u8]) -> Result<Request<'_>, ReadError>
+fn whole(alloc: Global, bytes: &[u8]) -> Result<DrawRequest<'_>, ReadError>
     ensures spelled { IfOk result (λ request. bytes.now ≡ request_bytes request) }
     ensures left { Gives (λ request. []) result (after_request bytes.now) }
     ensures fits { IfOk result (λ request. ReportFits request.groups.items) }
@@ -54,7 +54,7 @@ fn whole(alloc: Global, bytes: &[u8]) -> Result<Request<'_>, ReadError>
     if !rest.is_empty() {
         return Err(ReadError::at(Wrong::Trailing, rest));
     }
-    Ok(Request {
+    Ok(DrawRequest {
         settings,
         sheets,
         groups,

@@ -23,7 +23,7 @@ use Rattle.report_fields.specs.Reading.{after_settings, after_color, after_effec
 use Rattle.report_fields.specs.Reading.{after_level, after_id, after_title, after_message, after_span, after_annotation, after_patch, after_snippet}
 use Rattle.report_fields.specs.Reading.{after_origin, after_element, after_group}
 use Rattle.report_fields.specs.Report.{IsText, IsListOf, IsName, IsId, IsTitle, IsAnnotation, IsPatch, IsSnippet, IsElement, IsGroup}
-use Rattle.report_fields.specs.declared.fault.Fault.{Fault}
+use Rattle.report_fields.specs.declared.fault.ByteFault.{ByteFault}
 use Rattle.report_fields.specs.declared.fault.Wrong.TheVariants.{Short}
 use Rattle.report_fields.specs.declared.fault.ReadError.{ReadError}
 use Rattle.report_fields.specs.declared.fault.ReadError.TheVariants as errors
@@ -34,19 +34,19 @@ use Rattle.snippet_model.specs.declared.snippet.Element.TheVariants as element
 use Rattle.report_fields.proofs.Texts.{a_text}
 
 -- a thing's bytes are read as such a thing, and what follows is left
-abbrev pub Again : {X : Type 0} → (X → List ℕ → List ℕ) → (List ℕ → Result (List ℕ) Fault) → (X → Type 0) → Type 0
+abbrev pub Again : {X : Type 0} → (X → List ℕ → List ℕ) → (List ℕ → Result (List ℕ) ByteFault) → (X → Type 0) → Type 0
 Again {X} f after P = (x : X) (rest : List ℕ) → P x → after (f x rest) ≡ Ok rest
 
-abbrev ok : List ℕ → Result (List ℕ) Fault
+abbrev ok : List ℕ → Result (List ℕ) ByteFault
 ok x = Ok x
 
-pub clash : {x : List ℕ} {f : Fault} → ok x ≡ Err f → ⊥
+pub clash : {x : List ℕ} {f : ByteFault} → ok x ≡ Err f → ⊥
 clash e = cc
 
 abbrev pub Any : {X : Type 0} → X → Type 0
 Any x = Unit {0}
 
-abbrev pair : ℕ → List ℕ → Result (ℕ × List ℕ) Fault
+abbrev pair : ℕ → List ℕ → Result (ℕ × List ℕ) ByteFault
 pair n rest = Ok (n, rest)
 
 pub number_read : (n : ℕ) (rest : List ℕ) → n < 2 ^ 64 → read_number (number_then n rest) ≡ Ok (n, rest)
@@ -76,19 +76,19 @@ text_again text rest is =
     let sized = number_read (length bytes) (bytes ++ rest) (omega (arith, is.1)) in
     rw (sized, long, take_at bytes rest (length bytes) refl, drop_at bytes rest (length bytes) refl, a_text bytes is.0, lt-ltb _ _ is.1) refl
 
-pub option_again : {X : Type 0} (f : X → List ℕ → List ℕ) (after : List ℕ → Result (List ℕ) Fault) (P : X → Type 0)
+pub option_again : {X : Type 0} (f : X → List ℕ → List ℕ) (after : List ℕ → Result (List ℕ) ByteFault) (P : X → Type 0)
     → Again f after P → Again (option_then f) (after_option after) (λ o. IfSome o P)
 unfolding after_option
 option_again f after P again None rest _ = refl
 option_again f after P again (Some x) rest is = again x rest is
 
-pub members_again : {X : Type 0} (f : X → List ℕ → List ℕ) (after : List ℕ → Result (List ℕ) Fault) (P : X → Type 0)
+pub members_again : {X : Type 0} (f : X → List ℕ → List ℕ) (after : List ℕ → Result (List ℕ) ByteFault) (P : X → Type 0)
     → Again f after P → (xs : List X) (rest : List ℕ) → AllByRecursion P xs → after_members after (length xs) (members_then f xs rest) ≡ Ok rest
 unfolding after_members
 members_again f after P again [] rest _ = refl
 members_again f after P again (x ∷ xs) rest is = rw (again x (members_then f xs rest) is.0) (members_again f after P again xs rest is.1)
 
-pub list_again : {X : Type 0} (f : X → List ℕ → List ℕ) (after : List ℕ → Result (List ℕ) Fault) (P : X → Type 0)
+pub list_again : {X : Type 0} (f : X → List ℕ → List ℕ) (after : List ℕ → Result (List ℕ) ByteFault) (P : X → Type 0)
     → Again f after P → Again (list_then f) (after_list after) (IsListOf P)
 unfolding after_list
 list_again f after P again xs rest is = rw (number_read (length xs) (members_then f xs rest) is.0) (members_again f after P again xs rest is.1)
@@ -96,11 +96,12 @@ list_again f after P again xs rest is = rw (number_read (length xs) (members_the
 -- ---- one thing after another
 
 -- a thing is read, and then the others are
-pub seq : {r : Result (List ℕ) Fault} (next : List ℕ → Result (List ℕ) Fault) {mid rest : List ℕ} → r ≡ Ok mid → next mid ≡ Ok rest → (r >>= next) ≡ Ok rest
+pub seq : {r : Result (List ℕ) ByteFault} (next : List ℕ → Result (List ℕ) ByteFault) {mid rest : List ℕ} → r ≡ Ok mid
+    → next mid ≡ Ok rest → (r >>= next) ≡ Ok rest
 seq {r} next {mid} {rest} first others = ap (λ x. x >>= next) first ∙ others
 
 -- the same where a number is read
-pub seq_number : (n : ℕ) (mid : List ℕ) (next : List ℕ → Result (List ℕ) Fault) {rest : List ℕ}
+pub seq_number : (n : ℕ) (mid : List ℕ) (next : List ℕ → Result (List ℕ) ByteFault) {rest : List ℕ}
     → next mid ≡ Ok rest → (after_number (number_then n mid) >>= next) ≡ Ok rest
 seq_number n mid next {rest} others = seq next (number_again n mid tt) others
 
@@ -226,7 +227,7 @@ patch_again : Again patch_then after_patch IsPatch
 unfolding after_patch
 patch_again p rest is = seq _ (span_again p.span _ tt) (text_again p.replacement rest is)
 
-snippet_again : {T : Type 0} (f : T → List ℕ → List ℕ) (after : List ℕ → Result (List ℕ) Fault) (P : T → Type 0)
+snippet_again : {T : Type 0} (f : T → List ℕ → List ℕ) (after : List ℕ → Result (List ℕ) ByteFault) (P : T → Type 0)
     → Again f after P → Again (snippet_then f) (after_snippet after) (IsSnippet P)
 unfolding after_snippet
 snippet_again f after P again s rest is =

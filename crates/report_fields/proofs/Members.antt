@@ -4,7 +4,7 @@ use Rattle.std.proofs.lemmas.List.{length-append}
 use Rattle.std.proofs.lemmas.List.Elements.{All-push}
 use Rattle.report_fields.specs.Bytes.{members_then}
 use Rattle.report_fields.specs.Reading.{Fails, after_members}
-use Rattle.report_fields.specs.declared.fault.Fault.{Fault}
+use Rattle.report_fields.specs.declared.fault.ByteFault.{ByteFault}
 use Rattle.report_fields.specs.declared.fault.ReadError.{ReadError}
 use Rattle.report_fields.specs.declared.fault.ReadError.TheVariants as errors
 
@@ -29,7 +29,7 @@ pub count_more : {X : Type 0} (xs ys : List X) (x : X) (i : ℕ) → ys ≡ xs +
 count_more xs ys x i grown so_far = ap length grown ∙ length-append xs (x ∷ []) ∙ ap (λ n. n + 1) so_far
 
 -- a member was read, and the others are still to be read
-pub goes_on : (after : List ℕ → Result (List ℕ) Fault) (count i : ℕ) (bytes left : List ℕ) (total : Result (List ℕ) Fault) → i < count
+pub goes_on : (after : List ℕ → Result (List ℕ) ByteFault) (count i : ℕ) (bytes left : List ℕ) (total : Result (List ℕ) ByteFault) → i < count
     → after bytes ≡ Ok left → after_members after (count - i) bytes ≡ total → after_members after (count - (i + 1)) left ≡ total
 unfolding after_members
 goes_on after count i bytes left total lt one so_far =
@@ -38,7 +38,7 @@ goes_on after count i bytes left total lt one so_far =
     sym step ∙ so_far
 
 -- a member wasn't read
-pub ends : (after : List ℕ → Result (List ℕ) Fault) (e : ReadError) (count i : ℕ) (bytes : List ℕ) (total : Result (List ℕ) Fault) → i < count
+pub ends : (after : List ℕ → Result (List ℕ) ByteFault) (e : ReadError) (count i : ℕ) (bytes : List ℕ) (total : Result (List ℕ) ByteFault) → i < count
     → Fails e (after bytes) → after_members after (count - i) bytes ≡ total → Fails e total
 unfolding after_members
 ends after errors.Memory count i bytes total lt one so_far = tt
@@ -48,7 +48,7 @@ ends after (errors.Fault fault) count i bytes total lt one so_far =
     sym so_far ∙ step
 
 -- all members were read
-pub is_done : (after : List ℕ → Result (List ℕ) Fault) (count i : ℕ) (bytes : List ℕ) (total : Result (List ℕ) Fault) → count ≤ i
+pub is_done : (after : List ℕ → Result (List ℕ) ByteFault) (count i : ℕ) (bytes : List ℕ) (total : Result (List ℕ) ByteFault) → count ≤ i
     → after_members after (count - i) bytes ≡ total → total ≡ Ok bytes
 unfolding after_members
 is_done after count i bytes total le so_far =

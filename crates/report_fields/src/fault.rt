@@ -24,7 +24,7 @@ pub enum Wrong {
 
 /// What is wrong with bytes, and where.
 #[derive(Clone, Copy, Debug, PartialEq, Eq)]
-pub struct Fault {
+pub struct ByteFault {
     pub wrong: Wrong,
     /// How many bytes are left from there on: those of the field that is at fault, of a text those after its length,
     /// and all that follow.
@@ -37,7 +37,7 @@ pub enum ReadError {
     /// A growth of memory was refused.
     Memory,
     /// The bytes are no report.
-    Fault(Fault),
+    Fault(ByteFault),
 }
 
 impl ReadError {
@@ -48,7 +48,7 @@ impl ReadError {
     pub fn at(wrong: Wrong, left: &[u8]) -> ReadError
         ensures fault { result ≡ errors.Fault (fault_at wrong left.now) }
     {
-        ReadError::Fault(Fault {
+        ReadError::Fault(ByteFault {
             wrong,
             left: left.len(),
         })

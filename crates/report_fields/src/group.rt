@@ -9,12 +9,12 @@ ghost use Rattle.report_fields.specs.Reading.{Gives, after_element, after_group,
 use crate::fault::ReadError;
 use crate::field::{kind, text};
 use crate::kind::severity;
-use crate::part::{Part, list, option};
+use crate::part::{FromBytes, list, option};
 use crate::title::message;
 use snippet_model::{Element, Group, Origin, Padding, Snippet};
 use std::alloc::Global;
 
-impl<'v> Part<'v> for Group<'v> {
+impl<'v> FromBytes<'v> for Group<'v> {
     ghost part_then = { group_then };
 
     ghost after = { after_group };
@@ -35,7 +35,7 @@ impl<'v> Part<'v> for Group<'v> {
     }
 }
 
-impl<'v> Part<'v> for Element<'v> {
+impl<'v> FromBytes<'v> for Element<'v> {
     ghost part_then = { element_then };
 
     ghost after = { after_element };

@@ -11,6 +11,6 @@ mod sheet;
 mod snippet;
 mod title;
 
-pub use fault::{Fault, ReadError, Wrong};
+pub use fault::{ByteFault, ReadError, Wrong};
 pub use part::list;
 pub use settings::{Settings, settings_at};

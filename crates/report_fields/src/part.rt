@@ -5,7 +5,7 @@ ghost use Rattle.std.specs.Cow.{cow_str_bytes};
 ghost use Rattle.snippet_model.specs.Fits.{TextFits};
 ghost use Rattle.report_fields.specs.Bytes.{list_then, members_then, number_then, option_then, text_then};
 ghost use Rattle.report_fields.specs.Reading.{Gives, after_list, after_members, after_number, after_option, after_text};
-ghost use Rattle.report_fields.specs.declared.fault.Fault.{Fault};
+ghost use Rattle.report_fields.specs.declared.fault.ByteFault.{ByteFault};
 
 use crate::fault::ReadError;
 use crate::field::{flag, number, text};
@@ -13,12 +13,12 @@ use snippet_text::CowStr;
 use std::alloc::Global;
 
 /// A part of a report, as it stands in bytes.
-pub trait Part<'v> {
+pub trait FromBytes<'v> {
     /// The bytes of a part, and then those that follow it.
     ghost part_then: { Self → List ℕ → List ℕ };
 
     /// What is left of bytes once a part is read, or the first fault.
-    ghost after: { List ℕ → Result (List ℕ) Fault };
+    ghost after: { List ℕ → Result (List ℕ) ByteFault };
 
     /// What holds of each part that is read: that its texts fit.
     ghost fits: { Self → Type 0 };
@@ -30,7 +30,7 @@ pub trait Part<'v> {
         ensures fits { IfOk result (λ x. fits x.0) };
 }
 
-impl<'v> Part<'v> for usize {
+impl<'v> FromBytes<'v> for usize {
     ghost part_then = { number_then };
 
     ghost after = { after_number };
@@ -42,7 +42,7 @@ impl<'v> Part<'v> for usize {
     }
 }
 
-impl<'v> Part<'v> for CowStr<'v> {
+impl<'v> FromBytes<'v> for CowStr<'v> {
     ghost part_then = { text_then };
 
     ghost after = { after_text };
@@ -56,7 +56,7 @@ impl<'v> Part<'v> for CowStr<'v> {
 
 /// What may be missing at the front.
 #[tactic(auto, unfolding(crate::specs::Reading::after_option))]
-pub fn option<'v, T: Part<'v> + Drop>(
+pub fn option<'v, T: FromBytes<'v> + Drop>(
     alloc: Global,
     bytes: &'v [u8],
 ) -> Result<(Option<T>, &'v [u8]), ReadError>
@@ -75,7 +75,7 @@ pub fn option<'v, T: Part<'v> + Drop>(
 
 /// The list at the front.
 #[tactic(auto, unfolding(crate::specs::Reading::after_list))]
-pub fn list<'v, T: Part<'v> + Drop>(
+pub fn list<'v, T: FromBytes<'v> + Drop>(
     alloc: Global,
     bytes: &'v [u8],
 ) -> Result<(Vec<T>, &'v [u8]), ReadError>
@@ -88,7 +88,7 @@ pub fn list<'v, T: Part<'v> + Drop>(
 }
 
 /// So many members at the front. No memory is taken for those that aren't there.
-fn members<'v, T: Part<'v> + Drop>(
+fn members<'v, T: FromBytes<'v> + Drop>(
     alloc: Global,
     count: usize,
     bytes: &'v [u8],

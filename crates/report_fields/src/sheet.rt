@@ -8,11 +8,11 @@ ghost use Rattle.report_fields.specs.Reading.{after_parts, after_sheet, after_st
 use crate::fault::{ReadError, Wrong};
 use crate::field::{flag, kind};
 use crate::kind::ansi;
-use crate::part::{Part, option};
+use crate::part::{FromBytes, option};
 use snippet_style::{Color, Effects, Style, Stylesheet};
 use std::alloc::Global;
 
-impl<'v> Part<'v> for Stylesheet {
+impl<'v> FromBytes<'v> for Stylesheet {
     ghost part_then = { sheet_then };
 
     ghost after = { after_sheet };
@@ -84,7 +84,7 @@ fn parts(alloc: Global, bytes: &[u8]) -> Result<(Stylesheet, &[u8]), ReadError>
     Ok((sheet, rest))
 }
 
-impl<'v> Part<'v> for Style {
+impl<'v> FromBytes<'v> for Style {
     ghost part_then = { style_then };
 
     ghost after = { after_style };
@@ -100,7 +100,7 @@ impl<'v> Part<'v> for Style {
     }
 }
 
-impl<'v> Part<'v> for Color {
+impl<'v> FromBytes<'v> for Color {
     ghost part_then = { color_then };
 
     ghost after = { after_color };

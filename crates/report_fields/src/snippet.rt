@@ -8,12 +8,12 @@ ghost use Rattle.report_fields.specs.Reading.{Gives, after_annotation, after_pat
 use crate::fault::ReadError;
 use crate::field::{flag, kind, number, text};
 use crate::kind::mark;
-use crate::part::{Part, list, option};
+use crate::part::{FromBytes, list, option};
 use snippet_model::{Annotation, Patch, Snippet, SourceText};
 use std::alloc::Global;
 use std::ops::Range;
 
-impl<'v, T: Part<'v> + Drop> Part<'v> for Snippet<'v, T> {
+impl<'v, T: FromBytes<'v> + Drop> FromBytes<'v> for Snippet<'v, T> {
     ghost part_then = { snippet_then T.part_then };
 
     ghost after = { after_snippet T.after };
@@ -40,7 +40,7 @@ impl<'v, T: Part<'v> + Drop> Part<'v> for Snippet<'v, T> {
     }
 }
 
-impl<'v> Part<'v> for Annotation<'v> {
+impl<'v> FromBytes<'v> for Annotation<'v> {
     ghost part_then = { annotation_then };
 
     ghost after = { after_annotation };
@@ -63,7 +63,7 @@ impl<'v> Part<'v> for Annotation<'v> {
     }
 }
 
-impl<'v> Part<'v> for Patch<'v> {
+impl<'v> FromBytes<'v> for Patch<'v> {
     ghost part_then = { patch_then };
 
     ghost after = { after_patch };

@@ -9,12 +9,12 @@ ghost use Rattle.report_fields.specs.Reading.{Gives, after_id, after_level, afte
 use crate::fault::ReadError;
 use crate::field::{flag, kind, text};
 use crate::kind::severity;
-use crate::part::{Part, option};
+use crate::part::{FromBytes, option};
 use snippet_model::level::LevelName;
 use snippet_model::{Id, Level, Message, Title};
 use std::alloc::Global;
 
-impl<'v> Part<'v> for Title<'v> {
+impl<'v> FromBytes<'v> for Title<'v> {
     ghost part_then = { title_then };
 
     ghost after = { after_title };
@@ -37,7 +37,7 @@ impl<'v> Part<'v> for Title<'v> {
     }
 }
 
-impl<'v> Part<'v> for Id<'v> {
+impl<'v> FromBytes<'v> for Id<'v> {
     ghost part_then = { id_then };
 
     ghost after = { after_id };

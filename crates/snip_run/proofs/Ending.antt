@@ -7,9 +7,9 @@ use Rattle.std.specs.Option.{option_copied}
 use Rattle.annotate_snippets.specs.declared.renderer.RenderError.{RenderError}
 use Rattle.annotate_snippets.specs.declared.renderer.RenderError.TheVariants.{Memory}
 use Rattle.program.specs.Stream.{Output, Silent, Whole, CutShort, Told}
-use Rattle.snip_run.specs.declared.arguments.Command.{Command}
-use Rattle.snip_run.specs.declared.run.Failure.{Failure}
-use Rattle.snip_run.specs.declared.run.Failure.TheVariants.{Refused}
+use Rattle.snip_run.specs.declared.arguments.SnipCommand.{SnipCommand}
+use Rattle.snip_run.specs.declared.run.SnipFailure.{SnipFailure}
+use Rattle.snip_run.specs.declared.run.SnipFailure.TheVariants.{Refused}
 use Rattle.snip_run.specs.Report.{RefusesCommand}
 use Rattle.snip_run.specs.Run.{Ends, Failed, Fails, IsReadable, BadUsage, Printed, ShowsFile, Unprinted, message, normalized_text, usage}
 use Rattle.snip_run.specs.Text.{IsShownText}
@@ -37,15 +37,15 @@ of_text P None source value holds = tt
 of_text P (Some bytes) source value holds = subst P value.1 holds
 
 -- a report of that one that is refused is one of what FILE holds
-pub refused_file : (args : List Argument) (file : Option (List ℕ)) (command : Command) (source : Bor (List ℕ)) (refusal : RenderError) → IsReadable args file
-    → MatchOption file (IsNone (Some source)) (λ bytes. SomeIff (option_copied (Some source)) (IsShownText bytes) bytes)
+pub refused_file : (args : List Argument) (file : Option (List ℕ)) (command : SnipCommand) (source : Bor (List ℕ)) (refusal : RenderError)
+    → IsReadable args file → MatchOption file (IsNone (Some source)) (λ bytes. SomeIff (option_copied (Some source)) (IsShownText bytes) bytes)
     → (refusal ≡ Memory alloc_error) ⊎ RefusesCommand command source.now refusal → Fails args file command (Refused refusal)
 refused_file args file command source refusal readable value (inl want) = inl want
 refused_file args file command source refusal readable value (inr refused) =
     inr record { readable = readable; refused = of_text (λ s. RefusesCommand command s refusal) file source value refused }
 
 -- a run that tells why there is no report, or that there was no memory for that
-pub ends_failed : (args : List Argument) (file : Option (List ℕ)) (command : Command) (failure : Failure) (Out Err : Output → Type 0)
+pub ends_failed : (args : List Argument) (file : Option (List ℕ)) (command : SnipCommand) (failure : SnipFailure) (Out Err : Output → Type 0)
     → IsCommandOf args command → Fails args file command failure → Out Silent
     → Err (Told (message command.file.now failure)) ⊎ Err (Told (codes "snip: out of memory")) → Ends args file 1 Out Err
 ends_failed args file command failure Out Err of fails silent (inl told) =
@@ -70,12 +70,12 @@ pub shown_text : (shown : String Global) (name : List ℕ) → chars (string_byt
 shown_text shown name value = sym (encodes-chars (string_bytes shown) (IsUtf8-string_bytes shown)) ∙ ap encode_utf8_all value
 
 -- a run whose report is printed, and one whose report couldn't be
-pub ends_printed : (args : List Argument) (file : Option (List ℕ)) (command : Command) (text : List ℕ) (Out Err : Output → Type 0)
+pub ends_printed : (args : List Argument) (file : Option (List ℕ)) (command : SnipCommand) (text : List ℕ) (Out Err : Output → Type 0)
     → IsCommandOf args command → ShowsFile args file command text → Out (Whole text) → Err Silent → Ends args file 0 Out Err
 ends_printed args file command text Out Err of shows out err =
     record { end = Printed text; may = (command, of, shows); status_is = refl; out = out; err = err }
 
-pub ends_unprinted : (args : List Argument) (file : Option (List ℕ)) (command : Command) (text : List ℕ) (Out Err : Output → Type 0)
+pub ends_unprinted : (args : List Argument) (file : Option (List ℕ)) (command : SnipCommand) (text : List ℕ) (Out Err : Output → Type 0)
     → IsCommandOf args command → ShowsFile args file command text → Out (CutShort text) → Err Silent → Ends args file 1 Out Err
 ends_unprinted args file command text Out Err of shows out err =
     record { end = Unprinted text; may = (command, of, shows); status_is = refl; out = out; err = err }

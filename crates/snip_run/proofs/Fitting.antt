@@ -3,7 +3,7 @@ use Rattle.std.proofs.Common.{◌≡◌, ◌∷◌, List, All, Option, Some, Non
 use Rattle.std.specs.List.{Contains, flat_map}
 use Rattle.std.specs.Option.{option_map, option_to_list}
 use Rattle.std.proofs.lemmas.List.Elements.{All-contains, Contains-append_right}
-use Rattle.snip_run.specs.declared.arguments.Command.{Command}
+use Rattle.snip_run.specs.declared.arguments.SnipCommand.{SnipCommand}
 use Rattle.snip_run.specs.Arguments.{Argument, CommandLine, AreLine, Says, no_options, operands_of, arguments_of}
 use Rattle.snip_run.specs.Text.{TextFits}
 
@@ -16,7 +16,7 @@ operand_fits args line are fits argument among =
     (subst (λ ws. Contains ws argument) (sym are.whole) (Contains-append_right front (operands_of line) argument among))
 
 -- the title of a command fits, where the arguments do
-pub title_fits : (args : List Argument) (line : CommandLine) (command : Command) → AreLine args line → Says no_options line command → All TextFits args
+pub title_fits : (args : List Argument) (line : CommandLine) (command : SnipCommand) → AreLine args line → Says no_options line command → All TextFits args
     → TextFits command.title.now
 title_fits args line command are says fits =
     subst TextFits (sym says.title) (operand_fits args line are fits line.title (3, omega arith, refl))
@@ -38,7 +38,7 @@ own_label args line are fits (Some w) is =
     (4, omega arith, refl))
 
 -- the label of a command fits, where the arguments do
-pub label_fits : (args : List Argument) (line : CommandLine) (command : Command) → AreLine args line → Says no_options line command → All TextFits args
+pub label_fits : (args : List Argument) (line : CommandLine) (command : SnipCommand) → AreLine args line → Says no_options line command → All TextFits args
     → IfSome command.label (λ t. TextFits t.now)
 label_fits args line command are says fits =
     given_label command.label line.label says.label (own_label args line are fits line.label refl)

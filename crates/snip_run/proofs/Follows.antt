@@ -1,7 +1,7 @@
 -- What the end of a run says of its status, of FILE and of the two streams: each of these follows from it.
 use Rattle.std.proofs.Common.{◌≡◌, ◌⊎◌, ℕ, List, Option, Some, None, IsSomeAnd, IfSome, inl, inr, sym, ◌∙◌}
 use Rattle.program.specs.Stream.{Output, Silent, Whole}
-use Rattle.snip_run.specs.declared.arguments.Command.{Command}
+use Rattle.snip_run.specs.declared.arguments.SnipCommand.{SnipCommand}
 use Rattle.snip_run.specs.Report.{ShowsCommand}
 use Rattle.snip_run.specs.Run.{End, Ends, Failed, MayEnd, BadUsage, Printed, Unprinted, err_of, out_of, status_of}
 use Rattle.snip_run.specs.Text.{IsShownText}
@@ -26,7 +26,7 @@ module _ (args : List Argument) (file : Option (List ℕ)) (Out Err : Output →
   -- a line is written that shows the report of the arguments over a source
   abbrev Prints : List ℕ → Type 0
   Prints source =
-      (text : List ℕ) × Out (Whole text) × (command : Command) × IsCommandOf args command × ShowsCommand command source text
+      (text : List ℕ) × Out (Whole text) × (command : SnipCommand) × IsCommandOf args command × ShowsCommand command source text
 
   printed_at : (end : End) → MayEnd args file end → Out (out_of end) → status_of end ≡ 0 → IfSome file Prints
   printed_at (Printed text) may out is =

@@ -6,7 +6,7 @@ use Rattle.program.specs.Stream.{Output, Silent, Told, Receives, ended_line}
 use Rattle.program.specs.declared.stream.Stream.{Stream}
 use Rattle.program.proofs.NotGiven.{cut_unfailed, sound, told_nothing}
 use Rattle.snip_run.specs.Run.{End, Ends, Failed, MayEnd, BadUsage, Printed, Unprinted, err_of, message, out_of, status_of, usage}
-use Rattle.snip_run.specs.declared.run.Failure.TheVariants.{Unreadable}
+use Rattle.snip_run.specs.declared.run.SnipFailure.TheVariants.{Unreadable}
 use Rattle.snip_run.specs.Arguments.{Argument}
 
 silent_for : (args : List Argument) (Out : Output → Type 0) (end : End) → MayEnd args None end → Out (out_of end) → Out Silent

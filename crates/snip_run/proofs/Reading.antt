@@ -5,7 +5,7 @@ use Rattle.std.specs.List.{flat_map}
 use Rattle.std.specs.Option.{option_to_list}
 use Rattle.std.proofs.lemmas.List.Elements.{All-head, All-tail, All-cons}
 use Rattle.report_options.specs.declared.options.Options.{Options}
-use Rattle.snip_run.specs.declared.arguments.Command.{Command}
+use Rattle.snip_run.specs.declared.arguments.SnipCommand.{SnipCommand}
 use Rattle.snip_run.specs.Arguments.{Argument, Setting, Unicode, Text, Short, Styled, Width, arguments_of, option_names, IsSound, no_options, options_with}
 use Rattle.snip_run.specs.Arguments.{CommandLine}
 use Rattle.snip_run.specs.Arguments.{operands_of, HasOperands, AreLine, Says}
@@ -56,7 +56,7 @@ first_setting s rest (t ∷ later) file more e free =
 
 -- and the arguments after the option are the rest of the line
 pub after_option : (s : Setting) (rest : List Argument) (first : Options) (line : CommandLine) → AreLine (arguments_of s ++ rest) line
-    → (next : CommandLine) × AreLine rest next × ((c : Command) → Says (options_with first s) next c → Says first line c)
+    → (next : CommandLine) × AreLine rest next × ((c : SnipCommand) → Says (options_with first s) next c → Says first line c)
 after_option s rest first line h =
     let (later, same, after) = first_setting s rest line.settings line.file
     (line.start ∷ line.end ∷ line.title ∷ option_to_list line.label) h.whole h.operands.file in (
@@ -78,7 +78,7 @@ after_option s rest first line h =
 
 -- an option before a line makes a line
 pub before_option : (s : Setting) (rest : List Argument) (first : Options) → IsSound s → (next : CommandLine) → AreLine rest next
-    → (line : CommandLine) × AreLine (arguments_of s ++ rest) line × ((c : Command) → Says (options_with first s) next c → Says first line c)
+    → (line : CommandLine) × AreLine (arguments_of s ++ rest) line × ((c : SnipCommand) → Says (options_with first s) next c → Says first line c)
 before_option s rest first sound next h = (
   record next { settings = s ∷ next.settings },
   record {
@@ -140,9 +140,9 @@ same_operands a b e =
 -- the arguments read so far: each line that all arguments are goes on in the rest, and a line in the rest makes one of all arguments
 pub record Continues (args rest : List Argument) (options : Options) : Type 0 where
   pub reads : (line : CommandLine) → AreLine args line
-      → (next : CommandLine) × AreLine rest next × ((c : Command) → Says options next c → Says no_options line c)
+      → (next : CommandLine) × AreLine rest next × ((c : SnipCommand) → Says options next c → Says no_options line c)
   pub form : (next : CommandLine) → AreLine rest next
-      → (line : CommandLine) × AreLine args line × ((c : Command) → Says options next c → Says no_options line c)
+      → (line : CommandLine) × AreLine args line × ((c : SnipCommand) → Says options next c → Says no_options line c)
 
 -- the options are read on after one more sound setting
 pub continues_more : (args rest after : List Argument) (old new : Options) (s : Setting) → Continues args rest old → IsSound s → rest ≡ arguments_of s ++ after
@@ -161,7 +161,7 @@ continues_more args rest after old new s so_far sound begins set =
 
 -- at the operands: what is said of them is said of each line that all arguments are
 pub continues_all : (args rest : List Argument) (options : Options) → Continues args rest options → BeginsNone rest → (line : CommandLine) → AreLine args line
-    → (o : CommandLine) → o.settings ≡ [] → rest ≡ operands_of o → HasOperands o × ((c : Command) → Says options o c → Says no_options line c)
+    → (o : CommandLine) → o.settings ≡ [] → rest ≡ operands_of o → HasOperands o × ((c : SnipCommand) → Says options o c → Says no_options line c)
 continues_all args rest options so_far none line h o empty whole =
     let (next, here, from_next) = so_far.reads line h in
     let (bare, is) = only_operands rest none next here in

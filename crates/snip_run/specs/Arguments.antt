@@ -6,7 +6,7 @@ use Rattle.std.specs.Option.{option_map, option_to_list}
 use Rattle.std.specs.Str.Parse.{IsNumeral, digits_value}
 use Rattle.report_options.specs.declared.options.Options.{Options}
 pub use Rattle.program.specs.Arguments.{Argument, arguments_at}
-use Rattle.snip_run.specs.declared.arguments.Command.{Command}
+use Rattle.snip_run.specs.declared.arguments.SnipCommand.{SnipCommand}
 use Rattle.snip_run.specs.declared.arguments.Operands.{Operands}
 
 -- decimal digits alone, one or more, whose number fits in 64 bits
@@ -109,7 +109,7 @@ line_without_options o =
     }
 
 -- the command is what the line says, where its options stand after those given first
-pub record Says (first : Options) (line : CommandLine) (command : Command) : Type 0 where
+pub record Says (first : Options) (line : CommandLine) (command : SnipCommand) : Type 0 where
   pub options : command.options ≡ fold options_with first line.settings
   pub file : command.file.now ≡ line.file
   pub start : command.start ≡ number_in line.start
@@ -118,5 +118,5 @@ pub record Says (first : Options) (line : CommandLine) (command : Command) : Typ
   pub label : option_map (λ (t : Bor Argument). t.now) command.label ≡ line.label
 
 -- the command is what the arguments say
-abbrev pub IsCommandOf : List Argument → Command → Type 0
+abbrev pub IsCommandOf : List Argument → SnipCommand → Type 0
 IsCommandOf args command = (line : CommandLine) × AreLine args line × Says no_options line command

@@ -15,24 +15,24 @@ use Rattle.annotate_snippets.specs.Fault.{first_refusal}
 use Rattle.annotate_snippets.specs.FormLaws.{HasLaws}
 use Rattle.annotate_snippets.specs.Forms.{ShowsReport}
 use Rattle.report_options.specs.OptionSettings.{settings_of}
-use Rattle.snip_run.specs.declared.arguments.Command.{Command}
+use Rattle.snip_run.specs.declared.arguments.SnipCommand.{SnipCommand}
 
 -- the title of a command's report: an error with the text that the command gives
-pub record IsTitleFor (command : Command) (title : Title) : Type 0 where
+pub record IsTitleFor (command : SnipCommand) (title : Title) : Type 0 where
   pub level_is : title.level ≡ error_level
   pub text : cow_str_bytes title.text ≡ command.title.now
   pub id : title.id ≡ None
   pub untrusted : title.allows_styling ≡ false
 
 -- the annotation: a primary one of the bytes that the command gives, with its label
-pub record IsMarkFor (command : Command) (mark : Annotation) : Type 0 where
+pub record IsMarkFor (command : SnipCommand) (mark : Annotation) : Type 0 where
   pub kind : mark.kind ≡ Primary
   pub start : mark.span.start ≡ command.start
   pub end : mark.span.end ≡ command.end
   pub label : option_map cow_str_bytes mark.label ≡ option_map (λ (t : Bor (List ℕ)). t.now) command.label
 
 -- the snippet: the whole source, from line 1, with the one annotation
-pub record IsSnippetFor (command : Command) (source : List ℕ) (snippet : Snippet Annotation) : Type 0 where
+pub record IsSnippetFor (command : SnipCommand) (source : List ℕ) (snippet : Snippet Annotation) : Type 0 where
   pub mark : Annotation
   pub mark_is : IsMarkFor command mark
   pub markers : snippet.markers.items ≡ mark ∷ []
@@ -43,7 +43,7 @@ pub record IsSnippetFor (command : Command) (source : List ℕ) (snippet : Snipp
   pub fold : snippet.fold ≡ true
 
 -- the report that a command asks for over a source: one group, of the title and the snippet, in the styles of an error
-pub record IsReportFor (command : Command) (source : List ℕ) (groups : List Group) : Type 0 where
+pub record IsReportFor (command : SnipCommand) (source : List ℕ) (groups : List Group) : Type 0 where
   pub title : Title
   pub title_is : IsTitleFor command title
   pub snippet : Snippet Annotation
@@ -56,7 +56,7 @@ pub record IsReportFor (command : Command) (source : List ℕ) (groups : List Gr
 
 -- the text shows the command's report over the source, in the settings that its options ask for, and has its laws; it isn't refused in
 -- these
-pub record ShowsCommand (command : Command) (source text : List ℕ) : Type 0 where
+pub record ShowsCommand (command : SnipCommand) (source text : List ℕ) : Type 0 where
   pub groups : List Group
   pub report : IsReportFor command source groups
   pub allowed : first_refusal (settings_of command.options) groups ≡ None
@@ -64,7 +64,7 @@ pub record ShowsCommand (command : Command) (source text : List ℕ) : Type 0 wh
   pub laws : HasLaws (settings_of command.options) groups (settings_of command.options).stylesheet text
 
 -- the command's report over the source is refused, in these settings, and this is the first reason
-pub record RefusesCommand (command : Command) (source : List ℕ) (refusal : RenderError) : Type 0 where
+pub record RefusesCommand (command : SnipCommand) (source : List ℕ) (refusal : RenderError) : Type 0 where
   pub groups : List Group
   pub report : IsReportFor command source groups
   pub refused : first_refusal (settings_of command.options) groups ≡ Some refusal

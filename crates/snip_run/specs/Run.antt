@@ -8,9 +8,9 @@ use Rattle.program.specs.Stream.{Output, Silent, Whole, CutShort, Told}
 use Rattle.snip_run.specs.Report.{RefusesCommand, ShowsCommand}
 use Rattle.snip_run.specs.Text.{IsShownText, TextFits}
 use Rattle.snip_run.specs.Arguments.{Argument, IsCommandLine, IsCommandOf}
-use Rattle.snip_run.specs.declared.arguments.Command.{Command}
-use Rattle.snip_run.specs.declared.run.Failure.{Failure}
-use Rattle.snip_run.specs.declared.run.Failure.TheVariants.{Unreadable, Refused}
+use Rattle.snip_run.specs.declared.arguments.SnipCommand.{SnipCommand}
+use Rattle.snip_run.specs.declared.run.SnipFailure.{SnipFailure}
+use Rattle.snip_run.specs.declared.run.SnipFailure.TheVariants.{Unreadable, Refused}
 
 -- FILE holds a text that can be shown, and each argument can be shown
 pub record IsReadable (args : List Argument) (file : Option (List ℕ)) : Type 0 where
@@ -18,17 +18,17 @@ pub record IsReadable (args : List Argument) (file : Option (List ℕ)) : Type 0
   pub arguments_fit : All TextFits args
 
 -- a text shows the command's report over what FILE holds
-pub record ShowsFile (args : List Argument) (file : Option (List ℕ)) (command : Command) (text : List ℕ) : Type 0 where
+pub record ShowsFile (args : List Argument) (file : Option (List ℕ)) (command : SnipCommand) (text : List ℕ) : Type 0 where
   pub readable : IsReadable args file
   pub shows : IfSome file (λ source. ShowsCommand command source text)
 
 -- the command's report over what FILE holds is refused for this reason
-pub record RefusesFile (args : List Argument) (file : Option (List ℕ)) (command : Command) (refusal : RenderError) : Type 0 where
+pub record RefusesFile (args : List Argument) (file : Option (List ℕ)) (command : SnipCommand) (refusal : RenderError) : Type 0 where
   pub readable : IsReadable args file
   pub refused : IfSome file (λ source. RefusesCommand command source refusal)
 
 -- a command gives no report, for this reason: FILE or an argument can't be shown; or its report is refused, or memory was
-abbrev pub Fails : List Argument → Option (List ℕ) → Command → Failure → Type 0
+abbrev pub Fails : List Argument → Option (List ℕ) → SnipCommand → SnipFailure → Type 0
 Fails args file command Unreadable = IsReadable args file → ⊥
 Fails args file command (Refused refusal) = (refusal ≡ Memory alloc_error) ⊎ RefusesFile args file command refusal
 
@@ -37,7 +37,7 @@ abbrev pub usage : List ℕ
 usage = codes "usage: snip [--unicode] [--text] [--short] [--styled] [--width N] FILE START END TITLE [LABEL]"
 
 -- what is told where FILE of this name gives no report
-abbrev pub message : Argument → Failure → List ℕ
+abbrev pub message : Argument → SnipFailure → List ℕ
 message name Unreadable = codes "snip: cannot read " ++ normalized_text name
 message name (Refused refusal) = codes "snip: " ++ refusal_text refusal
 
@@ -45,15 +45,15 @@ message name (Refused refusal) = codes "snip: " ++ refusal_text refusal
 pub data End : Type 0 where
   Printed : (text : List ℕ) → End
   Unprinted : (text : List ℕ) → End
-  Failed : (name : Argument) (failure : Failure) → End
+  Failed : (name : Argument) (failure : SnipFailure) → End
   BadUsage : End
 
 -- whether a run of these arguments over what FILE holds may end so
 abbrev pub MayEnd : List Argument → Option (List ℕ) → End → Type 0
-MayEnd args file (Printed text) = (command : Command) × IsCommandOf args command × ShowsFile args file command text
-MayEnd args file (Unprinted text) = (command : Command) × IsCommandOf args command × ShowsFile args file command text
+MayEnd args file (Printed text) = (command : SnipCommand) × IsCommandOf args command × ShowsFile args file command text
+MayEnd args file (Unprinted text) = (command : SnipCommand) × IsCommandOf args command × ShowsFile args file command text
 MayEnd args file (Failed name failure) =
-    (command : Command) × IsCommandOf args command × (command.file.now ≡ name) × Fails args file command failure
+    (command : SnipCommand) × IsCommandOf args command × (command.file.now ≡ name) × Fails args file command failure
 MayEnd args file BadUsage = IsCommandLine args → ⊥
 
 -- the status that it ends with

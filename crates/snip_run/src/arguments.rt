@@ -12,7 +12,7 @@ use report_options::options::Options;
 
 /// What a command line asks for.
 #[derive(Clone, Copy, Debug, PartialEq, Eq)]
-pub struct Command<'a> {
+pub struct SnipCommand<'a> {
     /// How the report is drawn.
     pub options: Options,
     /// The path of the file whose text is shown.
@@ -105,7 +105,7 @@ fn operands_in<'a>(args: &[&'a str]) -> Option<Operands<'a>>
 }
 
 /// The command of these options and operands; `None` where FILE is an option's name, or START or END is no number.
-fn command_with<'a>(options: Options, operands: Operands<'a>) -> Option<Command<'a>>
+fn command_with<'a>(options: Options, operands: Operands<'a>) -> Option<SnipCommand<'a>>
     ensures says { IfSome result (Says options (line_without_options operands.entry)) }
     ensures form { IsSome result ↔ HasOperands (line_without_options operands.entry) }
 {
@@ -121,7 +121,7 @@ fn command_with<'a>(options: Options, operands: Operands<'a>) -> Option<Command<
     }
     let start = number_of(start)?;
     let end = number_of(end)?;
-    Some(Command {
+    Some(SnipCommand {
         options,
         file,
         start,
@@ -132,7 +132,7 @@ fn command_with<'a>(options: Options, operands: Operands<'a>) -> Option<Command<
 }
 
 /// The command that the arguments ask for; `None` where they aren't of the form.
-pub fn command_of<'a>(args: &[&'a str]) -> Option<Command<'a>>
+pub fn command_of<'a>(args: &[&'a str]) -> Option<SnipCommand<'a>>
     ensures command { IfSome result (IsCommandOf (arguments_at args.now)) }
     ensures each_line { (line : CommandLine) → AreLine (arguments_at args.now) line
         → IsSomeAnd result (Says no_options line) }

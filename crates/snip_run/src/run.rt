@@ -9,7 +9,7 @@ ghost use Rattle.snip_run.specs.Run.{Ends, Fails, ShowsFile, message};
 ghost use Rattle.snip_run.specs.Arguments.{arguments_at, IsCommandLine, IsCommandOf};
 ghost use Rattle.snip_run.specs.Text.{TextFits, IsShownText};
 
-use crate::arguments::{Command, command_of};
+use crate::arguments::{SnipCommand, command_of};
 use annotate_snippets::level::ERROR;
 use annotate_snippets::renderer::RenderError;
 use annotate_snippets::text::{normalize_untrusted_str, text_fits};
@@ -37,7 +37,7 @@ const MISUSED: u8 = 2;
 
 /// Why a command gives no report.
 #[derive(Debug, Drop)]
-enum Failure {
+enum SnipFailure {
     /// The file holds no text that can be drawn, or an argument is too long.
     Unreadable,
     /// The report is refused, or a growth of memory was.
@@ -63,7 +63,7 @@ fn arguments_fit(args: &[&str]) -> bool
 /// The report that the command asks for over this source: its one group.
 fn report_of<'a>(
     alloc: Global,
-    command: &Command<'a>,
+    command: &SnipCommand<'a>,
     source: &'a str,
 ) -> Result<Group<'a>, AllocError>
     requires title { TextFits command.now.title.now }
@@ -85,7 +85,7 @@ fn report_of<'a>(
 /// The text of the report that the command asks for, over this source.
 fn rendered<'a>(
     alloc: Global,
-    command: &Command<'a>,
+    command: &SnipCommand<'a>,
     source: &'a str,
 ) -> Result<String, RenderError>
     requires title { TextFits command.now.title.now }
@@ -103,41 +103,41 @@ fn rendered<'a>(
 fn report_text<'a>(
     alloc: Global,
     args: &[&str],
-    command: &Command<'a>,
+    command: &SnipCommand<'a>,
     file: Option<&'a [u8]>,
-) -> Result<String, Failure>
+) -> Result<String, SnipFailure>
     requires command { IsCommandOf (arguments_at args.now) command.now }
     ensures shows { IfOk result (λ text.
         ShowsFile (arguments_at args.now) (option_copied file.entry) command.now (string_bytes text)) }
     ensures fails { IfErr result (Fails (arguments_at args.now) (option_copied file.entry) command.now) }
 {
     let Some(source) = source_of(file) else {
-        return Err(Failure::Unreadable);
+        return Err(SnipFailure::Unreadable);
     };
     if !arguments_fit(args) {
-        return Err(Failure::Unreadable);
+        return Err(SnipFailure::Unreadable);
     }
     match rendered(alloc, command, source) {
         Ok(text) => Ok(text),
-        Err(refusal) => Err(Failure::Refused(refusal)),
+        Err(refusal) => Err(SnipFailure::Refused(refusal)),
     }
 }
 
 /// What is told of a failure, where FILE has this name.
-fn message_of(alloc: Global, failure: &Failure, name: &str) -> Result<String, AllocError>
+fn message_of(alloc: Global, failure: &SnipFailure, name: &str) -> Result<String, AllocError>
     ensures message { IfOk result (λ text. string_bytes text ≡ message name.now failure.now) }
 {
     match failure {
-        Failure::Unreadable => {
+        SnipFailure::Unreadable => {
             let shown = normalize_untrusted_str(alloc, name)?;
             format!(in alloc; "snip: cannot read {shown}")
         }
-        Failure::Refused(refusal) => format!(in alloc; "snip: {refusal}"),
+        SnipFailure::Refused(refusal) => format!(in alloc; "snip: {refusal}"),
     }
 }
 
 /// Tells a failure, or that there was no memory for that.
-fn tell<V: Write>(alloc: Global, failure: &Failure, name: &str, err: &mut Stream<V>)
+fn tell<V: Write>(alloc: Global, failure: &SnipFailure, name: &str, err: &mut Stream<V>)
     ensures told { Receives V.contents err.old err.new (Told (message name.now failure.now))
         ⊎ Receives V.contents err.old err.new (Told (codes "snip: out of memory")) }
 {

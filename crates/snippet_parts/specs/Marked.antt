@@ -1,5 +1,5 @@
 -- What an annotation marks: lines, columns, and the entry of one that stands on one line.
-use Rattle.std.specs.Prelude.{ℕ, ◌+◌, ◌<◌, max, Bool, List, Option}
+use Rattle.std.specs.Prelude.{ℕ, ◌+◌, max, Bool, List, Option}
 use Rattle.std.specs.Option.{option_map, option_copied}
 use Rattle.std.specs.Cow.{cow_str_bytes}
 use Rattle.snippet_model.specs.declared.snippet.Annotation.{Annotation}
@@ -8,7 +8,6 @@ use Rattle.snippet_lines.specs.declared.place.Loc.{Loc}
 use Rattle.snippet_parts.specs.declared.entries.LineAnnotation.{LineAnnotation}
 use Rattle.snippet_lines.specs.Lines.{source_lines, Source}
 use Rattle.snippet_lines.specs.Place.{line_of, locations_of}
-use Rattle.snippet_style.specs.Bounds.{IsColumn}
 
 -- the line on which an annotation starts, and the one on which it ends, from 0
 abbrev pub first_line : List ℕ → Annotation → ℕ
@@ -32,10 +31,6 @@ seen_entry e = record { start = e.start; end = e.end; kind = e.kind; label = opt
 -- the end of an entry that starts and ends at these: at least one column after the start
 abbrev pub widened : Loc → Loc → Loc
 widened start end = record end { display = max end.display (start.display + 1) }
-
--- between these an entry covers at least one column, and no more than sums of columns have room for
-abbrev pub HasColumns : Loc → Loc → Type 0
-HasColumns start end = (start.display < end.display) × IsColumn end.display
 
 -- the entry of an annotation that stands on one line
 abbrev pub entry_of : Source → Annotation → Entry

@@ -11,8 +11,8 @@ use Rattle.tidy_run.specs.Report.{Told}
 use Rattle.tidy_run.specs.Run.{AreGiven, AreKept, AreTextsOf, End, Ends, Failed, Fails, Found, IsReport, IsSource, MayEnd, BadUsage, Reads, ShowsTold, Unlogged}
 use Rattle.tidy_run.specs.Run.{Unprinted, all_logged, err_of, log_of, message, out_of, sheets_for, normalized_text, status_of, usage}
 use Rattle.tidy_run.specs.Arguments.{CommandLine, Argument, command_line_of}
-use Rattle.tidy_run.specs.declared.run.Failure.{Failure}
-use Rattle.tidy_run.specs.declared.run.Failure.TheVariants.{Memory, Unwritable}
+use Rattle.tidy_run.specs.declared.run.TidyFailure.{TidyFailure}
+use Rattle.tidy_run.specs.declared.run.TidyFailure.TheVariants.{Memory, Unwritable}
 
 -- where FILE holds this source and its name fits, it is read
 pub reads_file : (line : CommandLine) (file : Option (List ℕ)) (source : List ℕ) (N : Type 0) → MatchOption file N (λ bytes. IsSource bytes × (source ≡ bytes))
@@ -114,7 +114,7 @@ module _ (args : List Argument) (file : Option (List ℕ)) (tells : List ℕ →
   ends_as end may out err log = record { end = end; may = of_line end may; status_is = refl; out = out; err = err; log = log }
 
   -- a failure is told, or that there was no memory for that
-  pub ends_failed : (failure : Failure) → Fails line file failure → Out Silent → Err (Tells (message failure)) ⊎ Err (Tells (message Memory)) → Log Silent
+  pub ends_failed : (failure : TidyFailure) → Fails line file failure → Out Silent → Err (Tells (message failure)) ⊎ Err (Tells (message Memory)) → Log Silent
       → Ends args file tells 2 Out Err Log
   ends_failed failure fails out (inl told) log = ends_as (Failed failure) fails out told log
   ends_failed failure fails out (inr told) log = ends_as (Failed Memory) tt out told log

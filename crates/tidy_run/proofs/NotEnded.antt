@@ -9,7 +9,7 @@ use Rattle.program.proofs.NotGiven.{cut_unfailed, sound, told_nothing}
 use Rattle.tidy_run.specs.Report.{Told}
 use Rattle.tidy_run.specs.Run.{Clean, End, Ends, Failed, Found, MayEnd, BadUsage, Unlogged, Unprinted, err_of, log_of, message, normalized_text}
 use Rattle.tidy_run.specs.Run.{out_of, sheets_for, status_of, usage}
-use Rattle.tidy_run.specs.declared.run.Failure.TheVariants.{Unwritable}
+use Rattle.tidy_run.specs.declared.run.TidyFailure.TheVariants.{Unwritable}
 use Rattle.tidy_run.specs.Arguments.{CommandLine, Argument, command_line_of}
 
 module _ (file : Option (List ℕ)) (tells : List ℕ → List Told) (Out Err Log : Output → Type 0) where

@@ -3,7 +3,7 @@ use Rattle.std.specs.Prelude.{List, [], ◌∷◌, Option, Some, None, codes, by
 use Rattle.std.specs.Borrow.{Bor}
 use Rattle.std.specs.Option.{option_map}
 pub use Rattle.program.specs.Arguments.{Argument, arguments_at}
-use Rattle.tidy_run.specs.declared.arguments.Command.{Command}
+use Rattle.tidy_run.specs.declared.arguments.TidyCommand.{TidyCommand}
 
 -- what a command line asks for: LOG, where it is given, and FILE
 pub record CommandLine : Type 0 where
@@ -19,6 +19,6 @@ command_line_of (option ∷ log ∷ file ∷ []) = if bytes_eq option (codes "--
 command_line_of (option ∷ log ∷ file ∷ more ∷ args) = None
 
 -- the line that a command stands for
-abbrev pub said : Command → CommandLine
+abbrev pub said : TidyCommand → CommandLine
 said command =
     record { log = option_map (λ (w : Bor Argument). w.now) command.log; file = command.file.now }

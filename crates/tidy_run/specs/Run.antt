@@ -13,8 +13,8 @@ pub use Rattle.program.specs.Stream.{normalized_text}
 use Rattle.program.specs.Stream.{Output, Silent, Whole, CutShort, Told as Tells}
 use Rattle.tidy_run.specs.Report.{IsReportOf, Told}
 use Rattle.tidy_run.specs.Arguments.{CommandLine, Argument, command_line_of}
-use Rattle.tidy_run.specs.declared.run.Failure.{Failure}
-use Rattle.tidy_run.specs.declared.run.Failure.TheVariants.{Unreadable, Unwritable, Memory}
+use Rattle.tidy_run.specs.declared.run.TidyFailure.{TidyFailure}
+use Rattle.tidy_run.specs.declared.run.TidyFailure.TheVariants.{Unreadable, Unwritable, Memory}
 use Rattle.tidy_run.specs.declared.run.WriteOutcome.{WriteOutcome}
 use Rattle.tidy_run.specs.declared.run.WriteOutcome.TheVariants as written
 
@@ -53,13 +53,13 @@ pub record IsReport (line : CommandLine) (file : Option (List ℕ)) (tells : Lis
   pub shows : ShowsTold line.file source (tells source) (sheets_for line.log) (shown ∷ option_to_list logged)
 
 -- there is no report, for this reason: FILE of this name holds no source that can be looked through, or memory is refused
-abbrev pub Fails : CommandLine → Option (List ℕ) → Failure → Type 0
+abbrev pub Fails : CommandLine → Option (List ℕ) → TidyFailure → Type 0
 Fails line file (Unreadable name) = (name.now ≡ line.file) × ((source : List ℕ) → Reads line file source → ⊥)
 Fails line file (Unwritable name) = ⊥
 Fails line file Memory = Unit {0}
 
 -- what is told where LOG can't be written: that, by its name, or that there was no memory for that
-abbrev pub Unlogs : CommandLine → Failure → Type 0
+abbrev pub Unlogs : CommandLine → TidyFailure → Type 0
 Unlogs line (Unreadable name) = ⊥
 Unlogs line (Unwritable name) = line.log ≡ Some name.now
 Unlogs line Memory = Unit {0}
@@ -69,7 +69,7 @@ abbrev pub usage : List ℕ
 usage = codes "usage: tidy [--log LOG] FILE"
 
 -- what is told of a failure
-abbrev pub message : Failure → List ℕ
+abbrev pub message : TidyFailure → List ℕ
 message (Unreadable name) = codes "tidy: cannot read " ++ normalized_text name.now
 message (Unwritable name) = codes "tidy: cannot write " ++ normalized_text name.now
 message Memory = codes "tidy: out of memory"
@@ -80,8 +80,8 @@ pub data End : Type 0 where
   Clean : End
   Found : (shown : List ℕ) (logged : Option (List ℕ)) → End
   Unprinted : (shown : List ℕ) (logged : Option (List ℕ)) → End
-  Unlogged : (shown plain : List ℕ) (failure : Failure) → End
-  Failed : (failure : Failure) → End
+  Unlogged : (shown plain : List ℕ) (failure : TidyFailure) → End
+  Failed : (failure : TidyFailure) → End
   BadUsage : End
 
 -- whether a run for a line may end so, over what FILE holds and by what rules tell of a source

@@ -8,7 +8,7 @@ const LOG_OPTION: &str = "--log";
 
 /// What a command line asks for.
 #[derive(Clone, Copy, Debug, PartialEq, Eq)]
-pub struct Command<'a> {
+pub struct TidyCommand<'a> {
     /// The path of the file that the plain text is written to, where one is given.
     pub log: Option<&'a str>,
     /// The path of the file that is looked through.
@@ -16,7 +16,7 @@ pub struct Command<'a> {
 }
 
 /// The command that the arguments ask for: `--log LOG FILE` or `FILE`; `None` where they aren't of the form.
-pub fn command_of<'a>(args: &[&'a str]) -> Option<Command<'a>>
+pub fn command_of<'a>(args: &[&'a str]) -> Option<TidyCommand<'a>>
     ensures command { option_map said result ≡ command_line_of (arguments_at args.now) }
 {
     match *args {
@@ -24,12 +24,12 @@ pub fn command_of<'a>(args: &[&'a str]) -> Option<Command<'a>>
             if file == LOG_OPTION {
                 None
             } else {
-                Some(Command { log: None, file })
+                Some(TidyCommand { log: None, file })
             }
         }
         [option, log, file] => {
             if option == LOG_OPTION {
-                Some(Command {
+                Some(TidyCommand {
                     log: Some(log),
                     file,
                 })

@@ -15,7 +15,7 @@ ghost use Rattle.tidy_run.specs.Run.{AreTextsOf, Becomes, Ends, Fails, IsSource,
 ghost use Rattle.tidy_run.specs.Run.{normalized_text};
 ghost use Rattle.tidy_run.specs.Arguments.{command_line_of, said, arguments_at};
 
-use crate::arguments::{Command, command_of};
+use crate::arguments::{TidyCommand, command_of};
 use crate::lint::lint;
 use crate::report::report;
 use crate::rule::Rule;
@@ -44,7 +44,7 @@ const FAILED: u8 = 2;
 
 /// Why a command's texts aren't written.
 #[derive(Clone, Copy, Debug, PartialEq, Eq)]
-enum Failure<'a> {
+enum TidyFailure<'a> {
     /// The file of this name holds no text that can be looked through, or its name is too long.
     Unreadable(&'a str),
     /// LOG of this name couldn't be written.
@@ -109,7 +109,7 @@ fn rendered<'a>(
 fn rendered_for<'a>(
     alloc: Global,
     rules: &[Box<dyn Rule>],
-    command: &Command<'a>,
+    command: &TidyCommand<'a>,
     source: &'a str,
 ) -> Result<Vec<String>, AllocError>
     requires path { TextFits command.now.file.now }
@@ -131,9 +131,9 @@ fn rendered_for<'a>(
 fn texts_of<'a>(
     alloc: Global,
     rules: &[Box<dyn Rule>],
-    command: &Command<'a>,
+    command: &TidyCommand<'a>,
     file: Option<&'a [u8]>,
-) -> Result<Vec<String>, Failure<'a>>
+) -> Result<Vec<String>, TidyFailure<'a>>
     ensures read { IsOk result → IsSomeAnd (option_copied file.entry)
         (Reads (said command.now) (option_copied file.entry)) }
     ensures shows { IfOk result (λ texts. IfSome (option_copied file.entry) (λ source.
@@ -143,14 +143,14 @@ fn texts_of<'a>(
     ensures fails { IfErr result (Fails (said command.now) (option_copied file.entry)) }
 {
     let Some(source) = source_of(file) else {
-        return Err(Failure::Unreadable(command.file));
+        return Err(TidyFailure::Unreadable(command.file));
     };
     if !text_fits(command.file) {
-        return Err(Failure::Unreadable(command.file));
+        return Err(TidyFailure::Unreadable(command.file));
     }
     match rendered_for(alloc, rules, command, source) {
         Ok(texts) => Ok(texts),
-        Err(AllocError) => Err(Failure::Memory),
+        Err(AllocError) => Err(TidyFailure::Memory),
     }
 }
 
@@ -169,7 +169,7 @@ enum WriteOutcome<'a> {
 
 /// Writes a command's texts: the last to LOG where there is one, and then the first to `out`.
 fn write_texts<'a, W: Write, L: Write>(
-    command: &Command<'a>,
+    command: &TidyCommand<'a>,
     texts: &[String],
     out: &mut Stream<W>,
     log: &mut Stream<L>,
@@ -194,13 +194,13 @@ fn write_texts<'a, W: Write, L: Write>(
 }
 
 /// What is told of a failure.
-fn message_of(alloc: Global, failure: Failure<'_>) -> Result<String, AllocError>
+fn message_of(alloc: Global, failure: TidyFailure<'_>) -> Result<String, AllocError>
     ensures message { IfOk result (λ text. string_bytes text ≡ message failure.entry) }
 {
     match failure {
-        Failure::Unreadable(name) => cannot(alloc, "read", name),
-        Failure::Unwritable(name) => cannot(alloc, "write", name),
-        Failure::Memory => Err(AllocError),
+        TidyFailure::Unreadable(name) => cannot(alloc, "read", name),
+        TidyFailure::Unwritable(name) => cannot(alloc, "write", name),
+        TidyFailure::Memory => Err(AllocError),
     }
 }
 
@@ -214,9 +214,9 @@ fn cannot(alloc: Global, verb: &str, name: &str) -> Result<String, AllocError>
 }
 
 /// Tells a failure, or that there was no memory for that.
-fn tell<V: Write>(alloc: Global, failure: Failure<'_>, err: &mut Stream<V>)
+fn tell<V: Write>(alloc: Global, failure: TidyFailure<'_>, err: &mut Stream<V>)
     ensures told { Receives V.contents err.old err.new (Told (message failure.entry))
-        ⊎ Receives V.contents err.old err.new (Told (message Failure.Memory)) }
+        ⊎ Receives V.contents err.old err.new (Told (message TidyFailure.Memory)) }
 {
     match message_of(alloc, failure) {
         Ok(message) => write_line(message.as_str(), err),
@@ -274,7 +274,7 @@ pub fn run<W: Write, V: Write, L: Write>(
         WriteOutcome::Nothing => CLEAN,
         WriteOutcome::All => FOUND,
         WriteOutcome::Unlogged(name) => {
-            tell(alloc, Failure::Unwritable(name), err);
+            tell(alloc, TidyFailure::Unwritable(name), err);
             FAILED
         }
         WriteOutcome::Unprinted => FAILED,

@@ -12,13 +12,13 @@ use Rattle.annotate_snippets.specs.declared.renderer.Renderer.{Renderer}
 use Rattle.annotate_snippets.specs.declared.renderer.error.RenderError.{RenderError}
 use Rattle.annotate_snippets.specs.declared.renderer.error.RenderError.TheVariants as refusal
 use Rattle.report_bytes.specs.Request.{request_bytes}
-use Rattle.report_bytes.specs.declared.request.Request.{Request}
+use Rattle.report_bytes.specs.declared.request.DrawRequest.{DrawRequest}
 use Rattle.yazgult_c.specs.AnswerBytes.{IsAnswerTo, IsDrawn, answer_of_result, renderer_of}
 use Rattle.yazgult_c.specs.declared.answer.Answer.{Answer}
 use Rattle.yazgult_c.specs.declared.answer.Answer.TheVariants as answer
 
 -- what becomes of the report that some bytes are becomes of the bytes
-pub of_drawn : (input : List ℕ) (r : Request) (a : Answer) → input ≡ request_bytes r → IsDrawn r a → IsAnswerTo input a
+pub of_drawn : (input : List ℕ) (r : DrawRequest) (a : Answer) → input ≡ request_bytes r → IsDrawn r a → IsAnswerTo input a
 of_drawn input r (answer.Texts texts) same drawn = (r, same, drawn)
 of_drawn input r (answer.Refused refusal) same drawn = (r, same, drawn)
 of_drawn input r (answer.NoReport wrong place) same drawn = absurd drawn
@@ -37,7 +37,7 @@ first_is T None e other refused bounds = absurd (other (bounds refl))
 first_is T (Some x) e other refused bounds = ap Some (sym (error_is {T = T} refused))
 
 -- the same of the renderer and the groups of a report
-named : (made : Renderer) (groups : List Group) (r : Request) (e : RenderError) → made ≡ renderer_of r.settings → groups ≡ r.groups.items
+named : (made : Renderer) (groups : List Group) (r : DrawRequest) (e : RenderError) → made ≡ renderer_of r.settings → groups ≡ r.groups.items
     → ReportFits r.groups.items → (e ≡ refusal.Memory alloc_error → ⊥)
     → IfSome (first_refusal made groups) (λ x. failed {T = Vec (String Global) Global} e ≡ Err x)
     → (IsWithinBounds made groups → e ≡ refusal.Memory alloc_error) → first_refusal (renderer_of r.settings) r.groups.items ≡ Some e
@@ -47,7 +47,7 @@ named made groups r e m g fits other refused renders =
     ap (λ k. first_refusal k r.groups.items) (sym m) ∙ ap (first_refusal made) (sym g) ∙ found
 
 -- what was drawn of a report becomes of it
-pub drawn_is : (made : Renderer) (groups : List Group) (sheets : List Stylesheet) (r : Request) (result : Result (Vec (String Global) Global) RenderError)
+pub drawn_is : (made : Renderer) (groups : List Group) (sheets : List Stylesheet) (r : DrawRequest) (result : Result (Vec (String Global) Global) RenderError)
     → made ≡ renderer_of r.settings → groups ≡ r.groups.items → sheets ≡ r.sheets.items → ReportFits r.groups.items
     → IfSome (first_refusal made groups) (λ x. result ≡ Err x) → (IsWithinBounds made groups → IsOkUnless result (refusal.Memory alloc_error))
     → IfOk result (λ texts. TextsShown made groups sheets (map string_bytes texts.items))

@@ -14,7 +14,7 @@ use Rattle.annotate_snippets.specs.declared.renderer.error.RenderError.TheVarian
 use Rattle.report_bytes.specs.Request.{after_request, request_bytes}
 use Rattle.report_fields.specs.declared.fault.Wrong.{Wrong}
 use Rattle.report_fields.specs.declared.fault.Wrong.TheVariants.{Short, Flag, Kind, Long, NotText, Trailing}
-use Rattle.report_bytes.specs.declared.request.Request.{Request}
+use Rattle.report_bytes.specs.declared.request.DrawRequest.{DrawRequest}
 use Rattle.report_fields.specs.declared.settings.Settings.{Settings}
 use Rattle.replay_answer.specs.Line.{AnswersAlone}
 use Rattle.yazgult_c.specs.declared.answer.Answer.{Answer}
@@ -50,7 +50,7 @@ answer_of_result (Err refusal) = answer_of_refusal refusal
 
 -- what becomes of a report: texts that show it, one under each of its sheets, each with its laws, or the refusal that stands first, or
 -- nothing where memory ran out
-abbrev pub IsDrawn : Request → Answer → Type 0
+abbrev pub IsDrawn : DrawRequest → Answer → Type 0
 IsDrawn r (Texts texts) = TextsWithLaws (renderer_of r.settings) r.groups.items r.sheets.items (map string_bytes texts.items)
 IsDrawn r (Refused refusal) = first_refusal (renderer_of r.settings) r.groups.items ≡ Some refusal
 IsDrawn r (NoReport wrong place) = ⊥
@@ -59,8 +59,8 @@ IsDrawn r Memory = Unit {0}
 -- what becomes of some bytes: of the report that they are, or, where they are none, what is wrong with them and how many bytes stand
 -- before that, or nothing where memory ran out
 abbrev pub IsAnswerTo : List ℕ → Answer → Type 0
-IsAnswerTo input (Texts texts) = (r : Request) × (input ≡ request_bytes r) × IsDrawn r (Texts texts)
-IsAnswerTo input (Refused refusal) = (r : Request) × (input ≡ request_bytes r) × IsDrawn r (Refused refusal)
+IsAnswerTo input (Texts texts) = (r : DrawRequest) × (input ≡ request_bytes r) × IsDrawn r (Texts texts)
+IsAnswerTo input (Refused refusal) = (r : DrawRequest) × (input ≡ request_bytes r) × IsDrawn r (Refused refusal)
 IsAnswerTo input (NoReport wrong place) =
     (left : ℕ) × (after_request input ≡ Err (record { wrong = wrong; left = left })) × (place ≡ length input - left)
 IsAnswerTo input Memory = Unit {0}

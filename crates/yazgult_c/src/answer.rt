@@ -6,7 +6,7 @@ ghost use Rattle.yazgult_c.specs.AnswerBytes.{IsAnswerTo, IsDrawn, answer_of_res
 
 use annotate_snippets::Renderer;
 use annotate_snippets::renderer::{RenderError, Stylesheet};
-use report_bytes::{Request, read};
+use report_bytes::{DrawRequest, read};
 use report_fields::{ReadError, Settings, Wrong};
 use std::alloc::Global;
 
@@ -38,7 +38,7 @@ pub fn answer_to(alloc: Global, input: &[u8]) -> Answer
 }
 
 /// What becomes of what is asked for.
-fn drawn(alloc: Global, request: &Request<'_>) -> Answer
+fn drawn(alloc: Global, request: &DrawRequest<'_>) -> Answer
     requires fits { ReportFits request.now.groups.items }
     ensures drawn { IsDrawn request.now result }
 {

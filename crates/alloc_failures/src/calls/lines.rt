@@ -20,10 +20,10 @@ const CONTEXT: AnnotationKind = AnnotationKind::Context;
 const VISIBLE: AnnotationKind = AnnotationKind::Visible;
 
 /// A source, its spans, and whether lines that none of them touches are left out.
-type Row = (&'static str, &'static [Marked], bool);
+type MarkedSource = (&'static str, &'static [Marked], bool);
 
 /// The sources whose lines are printed.
-const ROWS: &[Row] = &[
+const ROWS: &[MarkedSource] = &[
     (
         "a\nb\nc\nd\ne\nf\ng",
         &[(PRIMARY, 0, 3), (CONTEXT, 4, 11), (PRIMARY, 6, 13)],

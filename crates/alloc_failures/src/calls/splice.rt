@@ -23,10 +23,10 @@ const REPLACED: &[(&str, &str)] = &[
 type Given = (usize, usize, &'static str);
 
 /// A source, its patches, and whether lines that none of them touches are left out.
-type Row = (&'static str, &'static [Given], bool);
+type PatchedSource = (&'static str, &'static [Given], bool);
 
 /// The sources that are spliced.
-const ROWS: &[Row] = &[
+const ROWS: &[PatchedSource] = &[
     ("abc", &[], true),
     ("abc", &[(0, 2, "x"), (1, 3, "y")], true),
     ("foo", &[(0, 3, "bar")], true),

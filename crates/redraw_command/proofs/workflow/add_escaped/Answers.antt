@@ -6,11 +6,11 @@ use Rattle.std.proofs.lemmas.Str.{encodes-append}
 use Rattle.std.proofs.lemmas.Iterator.{YieldsList-from_chars}
 use Rattle.std.proofs.lemmas.Iterator.Consumers.{YieldsList-end}
 use Rattle.redraw_command.specs.Workflow.{escape, escaped}
-use Rattle.redraw_command.specs.declared.workflow.Part.{Part}
+use Rattle.redraw_command.specs.declared.workflow.CommandPart.{CommandPart}
 use Rattle.redraw_command.proofs.workflow.add_escaped.Goals as goal
 
 -- a text that has the characters so far escaped, and one more, has them all escaped
-step : (part : Part) (before now after : List ℕ) (yielded : List ℕ) (character : ℕ) → now ≡ before ++ encode_utf8_all (escaped part yielded)
+step : (part : CommandPart) (before now after : List ℕ) (yielded : List ℕ) (character : ℕ) → now ≡ before ++ encode_utf8_all (escaped part yielded)
     → after ≡ now ++ encode_utf8_all (escape part character) → after ≡ before ++ encode_utf8_all (escaped part (yielded ++ character ∷ []))
 step part before now after yielded character so_far added =
     let more : escaped part (yielded ++ character ∷ []) ≡ escaped part yielded ++ escape part character =

@@ -1,5 +1,5 @@
 use Rattle.std.proofs.Common.{List, ap, is_some, subst, ◌∙◌}
-use Rattle.redraw_report.specs.declared.diagnostic.Edit.{Edit}
+use Rattle.redraw_report.specs.declared.diagnostic.SuggestedEdit.{SuggestedEdit}
 use Rattle.redraw_read.specs.declared.spot.Spot.{Spot}
 use Rattle.redraw_read.specs.Counted.{clamped_edits, is_drawn}
 use Rattle.redraw_read.specs.Placed.{IsOfferAt, at_hand, one_source}
@@ -11,7 +11,7 @@ returns c =
     let hand = at_hand c.args.hand in
     let offer = c.in_ok-offer.offer in
     let spots = c.in_ok-spots.spots.items in
-    let by_edits = subst (λ (es : List Edit). IsOfferAt c.deref.result.now es offer) c.deref-2.ensures.value c.in_ok-offer.ensures.is in
+    let by_edits = subst (λ (es : List SuggestedEdit). IsOfferAt c.deref.result.now es offer) c.deref-2.ensures.value c.in_ok-offer.ensures.is in
     record {
       is = (
         spots,

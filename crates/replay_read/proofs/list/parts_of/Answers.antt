@@ -10,11 +10,11 @@ pub loop-index-preserved : goal.loop-index-preserved
 loop-index-preserved g c =
     let values = c.deref-value-items.result.now in
     let i = c.loop-index.index in
-    let said = subst (λ v. (g.T.Part.says c.args.sources.now)
+    let said = subst (λ v. (g.T.ReadPart.says c.args.sources.now)
     (view v) c.in_ok-read.field-0) c.item.ensures.value c.in_ok-read.ensures.value in
-    let more = items_more (g.T.Part.says c.args.sources.now) values i c.value-item.result c.loop-index.items.items
+    let more = items_more (g.T.ReadPart.says c.args.sources.now) values i c.value-item.result c.loop-index.items.items
     c.in_ok-read.field-0 c.loop-index-test.true c.value-item.is c.loop-index.invariant.0 said in
-    let fit = All-push g.T.Part.fits c.loop-index.items.items c.in_ok-read.field-0 c.loop-index.invariant.1 c.in_ok-read.ensures.fits in (
-      subst (AllZip (g.T.Part.says c.args.sources.now) (map view (take (i + 1) values))) (sym c.in_ok-push.ensures.items) more,
-      subst (All g.T.Part.fits) (sym c.in_ok-push.ensures.items) fit,
+    let fit = All-push g.T.ReadPart.fits c.loop-index.items.items c.in_ok-read.field-0 c.loop-index.invariant.1 c.in_ok-read.ensures.fits in (
+      subst (AllZip (g.T.ReadPart.says c.args.sources.now) (map view (take (i + 1) values))) (sym c.in_ok-push.ensures.items) more,
+      subst (All g.T.ReadPart.fits) (sym c.in_ok-push.ensures.items) fit,
     )

@@ -6,5 +6,5 @@ use Rattle.report_fields.proofs.part.members.Given as goal
 -- so many members were read, with the bytes that they have, and the others are still to be read
 abbrev pub invariant-loop : goal.invariant-loop
 invariant-loop g l =
-    (after_members g.T.Part.after (l.count - l.counter) l.rest ≡ after_members g.T.Part.after l.count l.bytes)
-    × (l.bytes ≡ members_then g.T.Part.part_then l.parts.items l.rest) × (length l.parts.items ≡ l.counter) × All g.T.Part.fits l.parts.items
+    (after_members g.T.FromBytes.after (l.count - l.counter) l.rest ≡ after_members g.T.FromBytes.after l.count l.bytes)
+    × (l.bytes ≡ members_then g.T.FromBytes.part_then l.parts.items l.rest) × (length l.parts.items ≡ l.counter) × All g.T.FromBytes.fits l.parts.items

@@ -4,7 +4,7 @@ use Rattle.std.proofs.lemmas.List.{take_all, length-drop}
 use Rattle.std.proofs.lemmas.List.Elements.{All-nil}
 use Rattle.std.proofs.lemmas.Grind.{common_steps}
 use Rattle.report_options.specs.declared.options.Options.{Options}
-use Rattle.snip_run.specs.declared.arguments.Command.{Command}
+use Rattle.snip_run.specs.declared.arguments.SnipCommand.{SnipCommand}
 use Rattle.snip_run.specs.declared.arguments.Operands.{Operands}
 use Rattle.snip_run.specs.Arguments.{Argument, arguments_at, arguments_of, no_options, CommandLine, operands_of, line_without_options, HasOperands, AreLine}
 use Rattle.snip_run.specs.Arguments.{IsSound, IsCommandOf, TakesOption}
@@ -61,12 +61,12 @@ returns-in_err-operands_in-clause-each_line c = λ line h.
     absurd (no_line c.args.args.now c.loop-changed.at c.loop-changed.options c.loop-changed.invariant.so_far (c.in_default.ensures.none refl)
     (c.in_err-operands_in.ensures.none refl) line h)
 
-found : (r : Option Command) (P Q : Command → Type 0) → IsSome r → IfSome r P → ((c : Command) → P c → Q c) → IsSomeAnd r Q
+found : (r : Option SnipCommand) (P Q : SnipCommand → Type 0) → IsSome r → IfSome r P → ((c : SnipCommand) → P c → Q c) → IsSomeAnd r Q
 found None P Q some p q = absurd cc
 found (Some c) P Q some p q = q c p
 
 -- what is said of the operands is said of the line
-said : (ws : List (Bor Argument)) (at : ℕ) (options : Options) (o : Operands) (r : Option Command)
+said : (ws : List (Bor Argument)) (at : ℕ) (options : Options) (o : Operands) (r : Option SnipCommand)
     → Continues (arguments_at ws) (arguments_at (drop at ws)) options → BeginsNone (arguments_at (take (length ws - at) (drop at ws)))
     → arguments_at (take (length ws - at) (drop at ws)) ≡ operands_of (line_without_options o) → IfSome r (Says options (line_without_options o))
     → (HasOperands (line_without_options o) → IsSome r) → (line : CommandLine) → AreLine (arguments_at ws) line → IsSomeAnd r (Says no_options line)
@@ -80,7 +80,7 @@ pub returns-clause-each_line : goal.returns-clause-each_line
 returns-clause-each_line c = said c.args.args.now c.loop-changed.at c.loop-changed.options c.in_ok-operands_in.field-0 c.command_with.result
     c.loop-changed.invariant.so_far (c.in_default.ensures.none refl) c.in_ok-operands_in.ensures.whole c.command_with.ensures.says c.command_with.ensures.form.1
 
-commanded : (ws : List (Bor Argument)) (at : ℕ) (options : Options) (o : Operands) (r : Option Command)
+commanded : (ws : List (Bor Argument)) (at : ℕ) (options : Options) (o : Operands) (r : Option SnipCommand)
     → Continues (arguments_at ws) (arguments_at (drop at ws)) options → arguments_at (take (length ws - at) (drop at ws)) ≡ operands_of (line_without_options o)
     → IfSome r (Says options (line_without_options o)) → (IsSome r → HasOperands (line_without_options o)) → IfSome r (IsCommandOf (arguments_at ws))
 commanded ws at options o None so_far whole says has = tt

@@ -8,14 +8,14 @@ use Rattle.annotate_snippets.specs.Fault.{first_refusal}
 use Rattle.annotate_snippets.specs.Fits.{ReportFits}
 use Rattle.annotate_snippets.specs.FormLaws.{HasLaws}
 use Rattle.annotate_snippets.specs.Forms.{ShowsReport}
-use Rattle.snip_run.specs.declared.arguments.Command.{Command}
+use Rattle.snip_run.specs.declared.arguments.SnipCommand.{SnipCommand}
 use Rattle.snip_run.specs.Report.{IsReportFor, RefusesCommand, ShowsCommand}
 use Rattle.snip_run.proofs.Reporting.{allowed_and, ok_had, refused_or_want}
 use Rattle.snip_run.proofs.run.rendered.Goals as goal
 
 pub returns : goal.returns
 returns c =
-    let command : Command = c.args.command.now in
+    let command : SnipCommand = c.args.command.now in
     let source : List ℕ = c.args.source.now in
     let group : Group = c.in_ok-group.group in
     let given : (P : Group → Type 0) → IfOk c.report_of.result P → P group = λ P holds.

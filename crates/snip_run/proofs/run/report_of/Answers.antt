@@ -6,7 +6,7 @@ use Rattle.annotate_snippets.specs.declared.snippet.Element.{Element}
 use Rattle.annotate_snippets.specs.declared.snippet.Group.{Group}
 use Rattle.annotate_snippets.specs.declared.snippet.Snippet.{Snippet}
 use Rattle.annotate_snippets.specs.declared.snippet.Title.{Title}
-use Rattle.snip_run.specs.declared.arguments.Command.{Command}
+use Rattle.snip_run.specs.declared.arguments.SnipCommand.{SnipCommand}
 use Rattle.annotate_snippets.specs.KeptSettings.{KeepsSettings}
 use Rattle.snip_run.specs.Report.{IsMarkFor, IsSnippetFor, IsTitleFor}
 use Rattle.snip_run.proofs.Reporting.{ok_had}
@@ -14,7 +14,7 @@ use Rattle.snip_run.proofs.run.report_of.Goals as goal
 
 pub returns-clause-report : goal.returns-clause-report
 returns-clause-report c =
-    let command : Command = c.args.command.now in
+    let command : SnipCommand = c.args.command.now in
     let source : List ℕ = c.args.source.now in
     let mark : Annotation = c.label-mark.result in
     let snippet : Snippet Annotation = c.in_ok-snippet.snippet in

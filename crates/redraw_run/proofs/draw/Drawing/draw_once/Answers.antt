@@ -4,7 +4,7 @@ use Rattle.std.specs.Prelude.{option_map}
 use Rattle.serde_json.specs.Data.{Data}
 use Rattle.serde_json.specs.View.{view}
 use Rattle.redraw_command.specs.Seen.{IsSeen, digests_of}
-use Rattle.redraw_command.specs.declared.seen.Seen.{Seen}
+use Rattle.redraw_command.specs.declared.seen.SeenDiagnostics.{SeenDiagnostics}
 use Rattle.redraw_run.specs.declared.look.ReportRenderer.{ReportRenderer}
 use Rattle.redraw_command.specs.declared.choice.Choice.{Choice}
 use Rattle.redraw_command.specs.declared.tally.Tally.{Tally}
@@ -51,9 +51,9 @@ drawn_for {a} {b} {r} {s} {t} {u} files d o n Same after p q w h =
     (subst (λ (z : Tally). DrawsFinding a.form r files d o n Same z after) w h))
 
 -- what was seen stays
-seen_still : (d : Option Data) (again was : Bool) (old : List (List ℕ)) (a b : Seen) → b ≡ a → IsSeen d again was old (digests_of a)
+seen_still : (d : Option Data) (again was : Bool) (old : List (List ℕ)) (a b : SeenDiagnostics) → b ≡ a → IsSeen d again was old (digests_of a)
     → IsSeen d again was old (digests_of b)
-seen_still d again was old a b same h = subst (λ (s : Seen). IsSeen d again was old (digests_of s)) (sym same) h
+seen_still d again was old a b same h = subst (λ (s : SeenDiagnostics). IsSeen d again was old (digests_of s)) (sym same) h
 
 pub returns-clause-once : goal.returns-clause-once
 returns-clause-once g c =
