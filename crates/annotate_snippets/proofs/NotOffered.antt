@@ -1,6 +1,7 @@
 -- What is not offered: rows of suggestions that are wrong, each on a small report, contradict the definitions of what rows
 -- show.
-use Rattle.std.proofs.Common.{◌≡◌, ◌≢◌, ℕ, ◌-◌, ◌==◌, not, Bool, true, false, List, [], ◌∷◌, ◌++◌, codes, get_or, length}
+use Rattle.std.proofs.Common.{◌≡◌, ◌≢◌, ℕ, ◌-◌, ◌==◌, not, Bool, true, false, List, [], ◌∷◌, ◌++◌, codes, drop, get_or, length}
+use Rattle.snippet_grid.specs.Print.{row_text}
 use Rattle.std.proofs.Common.{refl, sym, ap, subst, ◌∙◌, arith, inl, inr}
 use Rattle.std.specs.Cow.{cow_str_bytes}
 use Rattle.std.specs.List.{All, Contains, list_all}
@@ -57,6 +58,31 @@ given_by s source es lines is given =
     ap (λ text. texts_of (lines_of (shown_text s.fold text (edits_of s)))) is.source_is
     ∙ ap (λ xs. texts_of (lines_of (shown_text s.fold source xs))) is.edits_are ∙ given s.fold
 
+-- a row that offers the one line that is given has the characters of that line
+offered_text : (s : Snippet Patch) (source : List ℕ) (es : List Edit) (line : List ℕ) → IsSnippetOf s source es
+    → ((fold : Bool) → texts_of (lines_of (shown_text fold source es)) ≡ line ∷ []) → (j : ℕ) (row : List Cell)
+    → IsOfferedRow plain_settings Ascii 1 s j row → row_text (drop 4 row) ≡ norm (chars line)
+offered_text s source es line is gives j row offers =
+    let given : given_lines s ≡ line ∷ [] = given_by s source es (line ∷ []) is gives in
+    let first : j - first_given s ≡ 0 = omega (arith, offers.from, offers.within, ap length given) in
+    offers.line ∙ ap (λ k. norm (chars (get_or (given_lines s) k []))) first ∙ ap (λ lines. norm (chars (get_or lines 0 []))) given
+
+-- what stands below the head of a suggestion is its rows
+below_head : {found : List Cell} (s : Snippet Patch) (layout : Layout) (around : ElementContext) (rows : List NamedRow)
+    → (shown : ShowsSuggestion plain_settings layout around found s (others (suggestion_head plain_settings layout around s) ++ rows)) → shown.after ≡ rows
+below_head s layout around rows shown =
+    append_cancel_left (others (suggestion_head plain_settings layout around s)) shown.after rows (sym shown.rows_are)
+
+-- each of them is what its name says
+rows_named : {found : List Cell} (s : Snippet Patch) (layout : Layout) → layout.gutter ≡ 1 → layout.decor ≡ Ascii
+    → (around : ElementContext) (rows : List NamedRow)
+    → ShowsSuggestion plain_settings layout around found s (others (suggestion_head plain_settings layout around s) ++ rows)
+    → All (λ r. IsSuggestionRow plain_settings Ascii 1 s r.name r.cells) rows
+rows_named s layout narrow ascii around rows shown =
+    subst (λ gutter. All (λ r. IsSuggestionRow plain_settings Ascii gutter s r.name r.cells) rows) narrow
+    (subst (λ decor. All (λ r. IsSuggestionRow plain_settings decor layout.gutter s r.name r.cells) rows) ascii
+    (subst (All (λ r. IsSuggestionRow plain_settings layout.decor layout.gutter s r.name r.cells)) (below_head s layout around rows shown) shown.named))
+
 -- ---- the source's own lines
 
 -- `ab`, with `c` in place of `b`, gives `ac`
@@ -74,10 +100,7 @@ gives_ac false = refl
 old_line_offered : (s : Snippet Patch) → IsSnippetOf s (codes "ab") one_edit → (j : ℕ) → IsOfferedRow plain_settings Ascii 1 s j (offering_row (codes "ab")) → ⊥
 unfolding char_width unicode_width norm chars
 old_line_offered s is j offers =
-    let given : given_lines s ≡ codes "ac" ∷ [] = given_by s (codes "ab") one_edit (codes "ac" ∷ []) is gives_ac in
-    let first : j - first_given s ≡ 0 = omega (arith, offers.from, offers.within, ap length given) in
-    let text : codes "ab" ≡ norm (chars (codes "ac")) = offers.line ∙ ap (λ k. norm (chars (get_or (given_lines s) k []))) first
-    ∙ ap (λ lines. norm (chars (get_or lines 0 []))) given in
+    let text : codes "ab" ≡ norm (chars (codes "ac")) = offered_text s (codes "ab") one_edit (codes "ac") is gives_ac j (offering_row (codes "ab")) offers in
     let letter : ◌≡◌ {A = ℕ} 98 99 = ap (λ (cs : List ℕ). get_or cs 1 0) text in
     absurd (omega (arith, letter))
 
@@ -145,13 +168,8 @@ suggestion_repeats_old_lines : {found : List Cell} (s : Snippet Patch) → IsSni
     → (around : ElementContext) (row : NamedRow) (before after : List NamedRow) → row.cells ≡ offering_row (codes "ab")
     → ShowsSuggestion plain_settings layout around found s (others (suggestion_head plain_settings layout around s) ++ (before ++ (row ∷ after))) → ⊥
 suggestion_repeats_old_lines s is layout narrow ascii around row before after row_is shown =
-    let rows : List NamedRow = before ++ (row ∷ after) in
-    let same : shown.after ≡ rows = append_cancel_left (others (suggestion_head plain_settings layout around s)) shown.after rows (sym shown.rows_are) in
-    let named : All (λ r. IsSuggestionRow plain_settings Ascii 1 s r.name r.cells) rows = subst (λ gutter.
-    All (λ r. IsSuggestionRow plain_settings Ascii gutter s r.name r.cells) rows) narrow (subst (λ decor. All
-    (λ r. IsSuggestionRow plain_settings decor layout.gutter s r.name r.cells) rows) ascii
-    (subst (All (λ r. IsSuggestionRow plain_settings layout.decor layout.gutter s r.name r.cells)) same shown.named)) in
-    old_row_named s is row.name row.cells row_is (row_named s before row after named).0
+    old_row_named s is row.name row.cells row_is (row_named s before row after (rows_named s layout narrow ascii around
+    (before ++ (row ∷ after)) shown)).0
 
 -- so no rows that offer it twice show the suggestion, after the row of its path, where that is named:
 --
@@ -165,12 +183,8 @@ second_copy_offered : {found : List Cell} (s : Snippet Patch) → IsSnippetOf s 
     (others (suggestion_head plain_settings layout around s) ++ (before ++ (row ∷ (between ++ (copy ∷ after))))) → ⊥
 second_copy_offered s is layout narrow ascii around row copy before between after row_is copy_is shown =
     let rows : List NamedRow = before ++ (row ∷ (between ++ (copy ∷ after))) in
-    let same : shown.after ≡ rows = append_cancel_left (others (suggestion_head plain_settings layout around s)) shown.after rows (sym shown.rows_are) in
-    let named : All (λ r. IsSuggestionRow plain_settings Ascii 1 s r.name r.cells) rows = subst (λ gutter.
-    All (λ r. IsSuggestionRow plain_settings Ascii gutter s r.name r.cells) rows) narrow (subst (λ decor. All
-    (λ r. IsSuggestionRow plain_settings decor layout.gutter s r.name r.cells) rows) ascii
-    (subst (All (λ r. IsSuggestionRow plain_settings layout.decor layout.gutter s r.name r.cells)) same shown.named)) in
-    let ordered : IsAscending (lines_offered rows) = subst (λ all. IsAscending (lines_offered all)) same shown.ordered in
+    let named = rows_named s layout narrow ascii around rows shown in
+    let ordered : IsAscending (lines_offered rows) = subst (λ all. IsAscending (lines_offered all)) (below_head s layout around rows shown) shown.ordered in
     let first = row_named s before row (between ++ (copy ∷ after)) named in
     let second = row_named s between copy after first.1 in
     let row_named : row.name ≡ OfferedLine 0 = named_first s is row.name row.cells row_is first.0 in
@@ -196,17 +210,42 @@ no_cr text none =
     clash true is isnt = cc
     clash false is isnt = cc
 
--- the promise speaks of the snippet
-offerable : (s : Snippet Patch) → IsSnippetOf s two_lines two_edits → IsOfferable s
-offerable s is =
+-- the promise speaks of a snippet with two edits, where no text has a CR and the source doesn't end with LF
+offerable : (s : Snippet Patch) (source : List ℕ) (e d : Edit) → IsSnippetOf s source (e ∷ d ∷ []) → HasNoCr source → HasNoCr e.text → HasNoCr d.text
+    → (last_byte source ≡ 10 → ⊥) → IsOfferable s
+offerable s source e d is none first second unended =
     record {
-      no_cr = subst HasNoCr (sym is.source_is) (no_cr two_lines refl);
-      no_cr_in = subst (All (λ (e : Edit). HasNoCr e.text)) (sym is.edits_are)
-          (All-cons (λ (e : Edit). HasNoCr e.text) (replaced 0 1 (codes "x")) (replaced 2 3 (codes "y") ∷ []) (no_cr (codes "x")
-          refl) (All-cons (λ (e : Edit). HasNoCr e.text) (replaced 2 3 (codes "y")) [] (no_cr (codes "y") refl)
-          (All-nil (λ (e : Edit). HasNoCr e.text))));
-      before = λ k d inside final. let other : ◌≡◌ {A = ℕ} 98 10 = subst (λ text. last_byte text ≡ 10) is.source_is final in absurd (omega (arith, other));
+      no_cr = subst HasNoCr (sym is.source_is) none;
+      no_cr_in = subst (All (λ (x : Edit). HasNoCr x.text)) (sym is.edits_are)
+          (All-cons (λ (x : Edit). HasNoCr x.text) e (d ∷ []) first (All-cons (λ (x : Edit). HasNoCr x.text) d [] second
+          (All-nil (λ (x : Edit). HasNoCr x.text))));
+      before = λ k x inside final. absurd (unended (subst (λ text. last_byte text ≡ 10) is.source_is final));
     }
+
+-- so a line of the patched source that is touched and isn't blank is offered, where the spliced text has two lines: rows that don't offer
+-- it don't show the snippet
+line_left_out : {found : List Cell} (s : Snippet Patch) (source : List ℕ) (es : List Edit) (one two : List ℕ) → IsSnippetOf s source es
+    → IsOfferable s → (j : ℕ) → IsTouched source es j → is_blank_text (text_at (source_lines (patched source es)) j) ≡ false
+    → ((fold : Bool) → texts_of (lines_of (spliced_text fold source es)) ≡ one ∷ two ∷ [])
+    → (layout : Layout) (around : ElementContext) (rows : List NamedRow) → (Contains (lines_offered rows) j → ⊥)
+    → ShowsSuggestion plain_settings layout around found s (others (suggestion_head plain_settings layout around s) ++ rows) → ⊥
+line_left_out s source es one two is may j touched visible spliced layout around rows out shown =
+    let reached : IsTouched (cow_str_bytes s.source) (edits_of s) j = subst (λ text.
+    IsTouched text (edits_of s) j) (sym is.source_is) (subst (λ xs. IsTouched source xs j) (sym is.edits_are) touched) in
+    let seen : is_blank_text (text_at (source_lines (patched (cow_str_bytes s.source) (edits_of s))) j) ≡ false =
+    ap (λ text. is_blank_text (text_at (source_lines (patched text (edits_of s))) j)) is.source_is
+    ∙ ap (λ xs. is_blank_text (text_at (source_lines (patched source xs)) j)) is.edits_are ∙ visible in
+    elim (shown.offered may j reached seen) [
+      | inl as_it_was ↦ changed as_it_was
+      | inr among ↦ out (subst (λ all. Contains (lines_offered all) j) (below_head s layout around rows shown) among)
+    ]
+  where
+    changed : IsAsItWas s → ⊥
+    changed same =
+        let both : one ∷ two ∷ [] ≡ last_reached s ∷ [] = sym (spliced s.fold)
+        ∙ ap (λ xs. texts_of (lines_of (spliced_text s.fold source xs))) (sym is.edits_are)
+        ∙ ap (λ text. texts_of (lines_of (spliced_text s.fold text (edits_of s)))) (sym is.source_is) ∙ same in
+        absurd (omega (arith, ap length both))
 
 -- the second line is touched
 second_touched : IsTouched two_lines two_edits 1
@@ -241,25 +280,14 @@ touched_left_out : {found : List Cell} (s : Snippet Patch) → IsSnippetOf s two
     → (layout : Layout) (around : ElementContext) (rows : List NamedRow)
     → (Contains (lines_offered rows) 1 → ⊥)
     → ShowsSuggestion plain_settings layout around found s (others (suggestion_head plain_settings layout around s) ++ rows) → ⊥
-touched_left_out s is layout around rows out shown =
-    let same : shown.after ≡ rows = append_cancel_left (others (suggestion_head plain_settings layout around s)) shown.after rows (sym shown.rows_are) in
-    let touched : IsTouched (cow_str_bytes s.source) (edits_of s) 1 = subst (λ text.
-    IsTouched text (edits_of s) 1) (sym is.source_is) (subst (λ es. IsTouched two_lines es 1) (sym is.edits_are) second_touched) in
-    let visible : is_blank_text (text_at (source_lines (patched (cow_str_bytes s.source) (edits_of s))) 1) ≡ false =
-    ap (λ text. is_blank_text (text_at (source_lines (patched text (edits_of s))) 1)) is.source_is
-    ∙ ap (λ es. is_blank_text (text_at (source_lines (patched two_lines es)) 1)) is.edits_are ∙ second_visible in
-    elim (shown.offered (offerable s is) 1 touched visible) [
-      | inl as_it_was ↦ changed as_it_was
-      | inr among ↦ out
-          (subst (λ all. Contains (lines_offered all) 1) same among)
-    ]
+touched_left_out s is =
+    line_left_out s two_lines two_edits (codes "x") (codes "y") is
+    (offerable s two_lines (replaced 0 1 (codes "x")) (replaced 2 3 (codes "y")) is (no_cr two_lines refl) (no_cr (codes "x") refl)
+    (no_cr (codes "y") refl) unended)
+    1 second_touched second_visible two_spliced
   where
-    changed : IsAsItWas s → ⊥
-    changed same =
-        let both : codes "x" ∷ codes "y" ∷ [] ≡ last_reached s ∷ [] = sym (two_spliced s.fold)
-        ∙ ap (λ es. texts_of (lines_of (spliced_text s.fold two_lines es))) (sym is.edits_are)
-        ∙ ap (λ text. texts_of (lines_of (spliced_text s.fold text (edits_of s)))) (sym is.source_is) ∙ same in
-        cc
+    unended : last_byte two_lines ≡ 10 → ⊥
+    unended final = let letter : ◌≡◌ {A = ℕ} 98 10 = final in absurd (omega (arith, letter))
 
 -- ---- a line that is lost
 
@@ -269,16 +297,6 @@ lines_of_three = codes "a" ++ 10 ∷ codes "bc"
 
 abbrev put_in_and_deleted : List Edit
 put_in_and_deleted = replaced 0 0 (codes "x") ∷ replaced 2 3 [] ∷ []
-
-deleted_offerable : (s : Snippet Patch) → IsSnippetOf s lines_of_three put_in_and_deleted → IsOfferable s
-deleted_offerable s is =
-    record {
-      no_cr = subst HasNoCr (sym is.source_is) (no_cr lines_of_three refl);
-      no_cr_in = subst (All (λ (e : Edit). HasNoCr e.text)) (sym is.edits_are)
-          (All-cons (λ (e : Edit). HasNoCr e.text) (replaced 0 0 (codes "x")) (replaced 2 3 [] ∷ []) (no_cr (codes "x")
-          refl) (All-cons (λ (e : Edit). HasNoCr e.text) (replaced 2 3 []) [] (no_cr [] refl) (All-nil (λ (e : Edit). HasNoCr e.text))));
-      before = λ k d inside final. let other : ◌≡◌ {A = ℕ} 99 10 = subst (λ text. last_byte text ≡ 10) is.source_is final in absurd (omega (arith, other));
-    }
 
 -- the second line is touched: the place of what is deleted lies in it
 rest_touched : IsTouched lines_of_three put_in_and_deleted 1
@@ -311,25 +329,13 @@ cut_at_any_line_feed : {found : List Cell} (s : Snippet Patch) → IsSnippetOf s
     → (layout : Layout) (around : ElementContext) (rows : List NamedRow)
     → (Contains (lines_offered rows) 1 → ⊥) → ShowsSuggestion plain_settings layout around found s
     (others (suggestion_head plain_settings layout around s) ++ rows) → ⊥
-cut_at_any_line_feed s is layout around rows out shown =
-    let same : shown.after ≡ rows = append_cancel_left (others (suggestion_head plain_settings layout around s)) shown.after rows (sym shown.rows_are) in
-    let touched : IsTouched (cow_str_bytes s.source) (edits_of s) 1 = subst (λ text.
-    IsTouched text (edits_of s) 1) (sym is.source_is) (subst (λ es. IsTouched lines_of_three es 1) (sym is.edits_are) rest_touched) in
-    let visible : is_blank_text (text_at (source_lines (patched (cow_str_bytes s.source) (edits_of s))) 1) ≡ false =
-    ap (λ text. is_blank_text (text_at (source_lines (patched text (edits_of s))) 1)) is.source_is
-    ∙ ap (λ es. is_blank_text (text_at (source_lines (patched lines_of_three es)) 1)) is.edits_are ∙ rest_visible in
-    elim (shown.offered (deleted_offerable s is) 1 touched visible) [
-      | inl as_it_was ↦ changed as_it_was
-      | inr among ↦ out
-          (subst (λ all. Contains (lines_offered all) 1) same among)
-    ]
+cut_at_any_line_feed s is =
+    line_left_out s lines_of_three put_in_and_deleted (codes "xa") (codes "c") is
+    (offerable s lines_of_three (replaced 0 0 (codes "x")) (replaced 2 3 []) is (no_cr lines_of_three refl) (no_cr (codes "x") refl) (no_cr [] refl) unended)
+    1 rest_touched rest_visible rest_spliced
   where
-    changed : IsAsItWas s → ⊥
-    changed same =
-        let both : codes "xa" ∷ codes "c" ∷ [] ≡ last_reached s ∷ [] = sym (rest_spliced s.fold)
-        ∙ ap (λ es. texts_of (lines_of (spliced_text s.fold lines_of_three es))) (sym is.edits_are)
-        ∙ ap (λ text. texts_of (lines_of (spliced_text s.fold text (edits_of s)))) (sym is.source_is) ∙ same in
-        cc
+    unended : last_byte lines_of_three ≡ 10 → ⊥
+    unended final = let letter : ◌≡◌ {A = ℕ} 99 10 = final in absurd (omega (arith, letter))
 
 -- ---- edits in another order
 
@@ -349,10 +355,8 @@ replacement_before_insertion : (s : Snippet Patch) → IsSnippetOf s (codes "a")
     → IsOfferedRow plain_settings Ascii 1 s j (offering_row (codes "bxa")) → ⊥
 unfolding char_width unicode_width norm chars
 replacement_before_insertion s is j offers =
-    let given : given_lines s ≡ codes "xb" ∷ [] = given_by s (codes "a") replaced_and_put_in (codes "xb" ∷ []) is gives_xb in
-    let first : j - first_given s ≡ 0 = omega (arith, offers.from, offers.within, ap length given) in
-    let text : codes "bxa" ≡ norm (chars (codes "xb")) = offers.line ∙ ap (λ k. norm (chars (get_or (given_lines s) k []))) first
-    ∙ ap (λ lines. norm (chars (get_or lines 0 []))) given in
+    let text : codes "bxa" ≡ norm (chars (codes "xb")) = offered_text s (codes "a") replaced_and_put_in (codes "xb") is gives_xb j
+    (offering_row (codes "bxa")) offers in
     let letter : ◌≡◌ {A = ℕ} 98 120 = ap (λ (cs : List ℕ). get_or cs 0 0) text in
     absurd (omega (arith, letter))
 
@@ -374,9 +378,7 @@ patches_at_old_offsets : (s : Snippet Patch) → IsSnippetOf s (codes "abcd") lo
     → IsOfferedRow plain_settings Ascii 1 s j (offering_row (codes "xyqbcd")) → ⊥
 unfolding char_width unicode_width norm chars
 patches_at_old_offsets s is j offers =
-    let given : given_lines s ≡ codes "xyzbqd" ∷ [] = given_by s (codes "abcd") longer_and_another (codes "xyzbqd" ∷ []) is gives_xyzbqd in
-    let first : j - first_given s ≡ 0 = omega (arith, offers.from, offers.within, ap length given) in
-    let text : codes "xyqbcd" ≡ norm (chars (codes "xyzbqd")) = offers.line ∙ ap (λ k. norm (chars (get_or (given_lines s) k []))) first
-    ∙ ap (λ lines. norm (chars (get_or lines 0 []))) given in
+    let text : codes "xyqbcd" ≡ norm (chars (codes "xyzbqd")) = offered_text s (codes "abcd") longer_and_another (codes "xyzbqd") is gives_xyzbqd j
+    (offering_row (codes "xyqbcd")) offers in
     let letter : ◌≡◌ {A = ℕ} 113 122 = ap (λ (cs : List ℕ). get_or cs 2 0) text in
     absurd (omega (arith, letter))

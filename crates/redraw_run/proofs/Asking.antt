@@ -9,7 +9,7 @@ use Rattle.program.specs.Standing.{Standing}
 use Rattle.redraw_command.specs.Told.{TellsMemory, TellsOfArguments}
 use Rattle.redraw_command.specs.Arguments.{AsksToShow, Argument}
 use Rattle.redraw_command.specs.declared.terminal.Surroundings.{Surroundings}
-use Rattle.redraw_run.specs.ReadLines.{IsPrinted}
+use Rattle.redraw_run.specs.ReadLines.{IsTextPrinted}
 use Rattle.redraw_run.specs.Run.{AnswersBy}
 
 -- the help or the version is asked for
@@ -36,7 +36,7 @@ pub record EndsBy (kind : ErrorKind) (old_out old_err out err : Standing) (statu
   pub told : kind ≢ DisplayHelp → kind ≢ DisplayVersion → TellsOfArguments old_err err
   pub memory : kind ≡ OutOfMemory → TellsMemory old_err err
   pub asked : IsShown kind → err ≡ old_err
-  pub printed : IsShown kind → IsPrinted old_out out status
+  pub printed : IsShown kind → IsTextPrinted old_out out status
 
 by_kind : {File Standard : Type 0} (held : File ⊎ Standard → Option (List ℕ)) (app : App) (args : List Argument) (around : Surroundings) (kind : ErrorKind)
     (old_out old_err out err : Standing) (status : ℕ) → EndsBy kind old_out old_err out err status → IsAmong kind (fault_of app args)

@@ -15,7 +15,7 @@ use Rattle.redraw_command.specs.declared.tally.Tally.{Tally}
 use Rattle.redraw_report.specs.declared.diagnostic.Severity.{Severity}
 use Rattle.redraw_report.specs.declared.diagnostic.Severity.TheVariants.{Error, Warning, Info, Note, Help, Plain}
 use Rattle.redraw_run.specs.Deeds.{State, Deed, Drawn, Commanded, HandedOn, Told, Refused, LeftOut, Repeated, BuildFailed, AreDeeds, printed, told}
-use Rattle.redraw_run.specs.Deeds.{tally_after, tally_by, with_files, Does, IsCutShort, IsPartOfDeeds, Stops, Goes}
+use Rattle.redraw_run.specs.Deeds.{tally_after, tally_by, with_files, Does, IsCutShort, IsPartOfDeeds, Stops, Happens}
 use Rattle.redraw_run.specs.Fates.{AreNone, Then}
 
 deeds_both : (r : ReportRenderer) (c : Choice) (ds es : List Deed) → AreDeeds r c ds → AreDeeds r c es → AreDeeds r c (ds ++ es)
@@ -180,12 +180,12 @@ stops_then P Q a b c Utf16 p q = absurd q
 
 -- the same, be it to the end or up to where it stops
 pub goes_as : {T : Type 0} (P Q : Choice → List Deed → Type 0) (a b : State) (r : Result T Stop) → ((ds : List Deed) → P a.choice ds → Q a.choice ds)
-    → Goes r P a b → Goes r Q a b
+    → Happens r P a b → Happens r Q a b
 goes_as P Q a b (Ok x) f p = does_as f p
 goes_as P Q a b (Err s) f p = stops_as (IsPartOfDeeds P) (IsPartOfDeeds Q) a b s (λ ds h. part_as a.choice ds f h) p
 
 pub goes_then : {T : Type 0} (P Q : Choice → List Deed → Type 0) (a b c : State) (r : Result T Stop) → ((ch : Choice) → (es : List Deed) × Q ch es)
-    → Does P a b → Goes r Q b c → Goes r (Then P Q) a c
+    → Does P a b → Happens r Q b c → Happens r (Then P Q) a c
 goes_then P Q a b c (Ok x) q p g = does_then p g
 goes_then P Q a b c (Err s) q p g =
     stops_as (Then P (IsPartOfDeeds Q)) (IsPartOfDeeds (Then P Q)) a c s (λ ds h. part_then a.choice ds (q a.choice) h)
@@ -201,13 +201,13 @@ stops_all {P} {a} {b} s is p = stops_any s is (does_as (part_all a.choice) p)
 
 -- what is an error goes as it stops
 pub goes_err : {T : Type 0} {Q : Stop → Type 0} (P : Choice → List Deed → Type 0) (a b : State) (r : Result T Stop) → IsErrAnd r Q
-    → ((s : Stop) → Q s → Stops s (IsPartOfDeeds P) a b) → Goes r P a b
+    → ((s : Stop) → Q s → Stops s (IsPartOfDeeds P) a b) → Happens r P a b
 goes_err P a b (Ok x) is f = absurd is
 goes_err P a b (Err s) is f = f s is
 
 -- what stops for a reason goes so
 pub goes_on : {T : Type 0} (P : Choice → List Deed → Type 0) (a b : State) (x : Stop) (r : Result T Stop) → IsErrAnd r (λ s. s ≡ x)
-    → Stops x (IsPartOfDeeds P) a b → Goes r P a b
+    → Stops x (IsPartOfDeeds P) a b → Happens r P a b
 goes_on P a b x (Ok done) is h = absurd is
 goes_on P a b x (Err s) is h = subst (λ (t : Stop). Stops t (IsPartOfDeeds P) a b) (sym is) h
 
@@ -215,7 +215,7 @@ none_then : {P : Choice → List Deed → Type 0} (c : Choice) (ds : List Deed) 
 none_then {P} c ds h = subst (P c) (sym (h.split ∙ ap (λ l. l ++ h.after) h.first)) h.next
 
 -- what goes after nothing was done
-pub goes_after : {T : Type 0} (P : Choice → List Deed → Type 0) (a b c : State) (r : Result T Stop) → Does AreNone a b → Goes r P b c → Goes r P a c
+pub goes_after : {T : Type 0} (P : Choice → List Deed → Type 0) (a b c : State) (r : Result T Stop) → Does AreNone a b → Happens r P b c → Happens r P a c
 goes_after P a b c (Ok x) p g = does_as (none_then {P = P} a.choice) (does_then {P = AreNone} {Q = P} p g)
 goes_after P a b c (Err s) p g =
     stops_as (Then AreNone (IsPartOfDeeds P)) (IsPartOfDeeds P) a c s (none_then {P = IsPartOfDeeds P} a.choice)

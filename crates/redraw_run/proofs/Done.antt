@@ -24,10 +24,10 @@ use Rattle.redraw_report.specs.declared.diagnostic.Diagnostic.{Diagnostic}
 use Rattle.redraw_run.specs.Deeds.{State, Deed, Drawn, Commanded, HandedOn, Told, Refused, LeftOut, Repeated, BuildFailed, AreDeeds, AreTold, TellsAll, printed}
 use Rattle.redraw_run.specs.Deeds.{told}
 use Rattle.redraw_run.specs.Deeds.{one_left_out, tally_by, with_files, repeated, Does, IsCutShort, IsUnwritable, Writes, Stops}
-use Rattle.redraw_run.specs.Deeds.{Goes}
+use Rattle.redraw_run.specs.Deeds.{Happens}
 use Rattle.redraw_run.specs.DrawnFinding.{IsCounted, RefusesFinding, ShowsFinding, ending_after}
 use Rattle.redraw_run.specs.HtmlDocument.{handed}
-use Rattle.redraw_run.specs.ReadLines.{Prints, SumsUp, TellsUnless}
+use Rattle.redraw_run.specs.ReadLines.{PrintsBytes, SumsUp, TellsUnless}
 use Rattle.redraw_run.specs.Fates.{AreMessages, AreNone, IsFailed, IsHandedOn, LeavesOut, IsRepeated, IsShown, IsTelling, IsWritten, IsWrong, Then}
 use Rattle.redraw_run.proofs.Doing.{does_as, does_then}
 
@@ -227,7 +227,7 @@ all_printed r deed text is = is ∙ sym (append-nil (printed r deed))
 -- a finding is drawn, and what it gives is written
 pub goes_drawn : {T : Type 0} (a b : State) (r : Result T Stop) (d : Diagnostic) (text bytes : List ℕ) (files : List File) → a.choice.form ≡ Report
     → ShowsFinding a.renderer files d text → IsCounted d a.tally b.tally → b.renderer ≡ a.renderer → b.choice ≡ a.choice → b.err ≡ a.err
-    → bytes ≡ text ++ (ending_after a.renderer.settings.short_message d.severity ++ 10 ∷ []) → Writes r a.out b.out bytes → Goes r (IsShown d) a b
+    → bytes ≡ text ++ (ending_after a.renderer.settings.short_message d.severity ++ 10 ∷ []) → Writes r a.out b.out bytes → Happens r (IsShown d) a b
 goes_drawn a b (Ok x) d text bytes files form shows counted renderer choice err is writes =
     record {
       deeds = Drawn d text ∷ [];
@@ -252,7 +252,7 @@ goes_drawn a b (Err s) d text bytes files form shows counted renderer choice err
 -- a finding is written as a command
 pub goes_commanded : {T : Type 0} (a b : State) (r : Result T Stop) (d : Diagnostic) (line bytes : List ℕ) → a.choice.form ≡ Workflow
     → command d ≡ Some line → IsCounted d a.tally b.tally → b.renderer ≡ a.renderer → b.choice ≡ a.choice → b.err ≡ a.err → bytes ≡ line ++ 10 ∷ []
-    → Writes r a.out b.out bytes → Goes r (IsWritten d) a b
+    → Writes r a.out b.out bytes → Happens r (IsWritten d) a b
 goes_commanded a b (Ok x) d line bytes form made counted renderer choice err is writes =
     record {
       deeds = Commanded d line ∷ [];
@@ -276,7 +276,7 @@ goes_commanded a b (Err s) d line bytes form made counted renderer choice err is
 
 -- a line is handed on
 pub goes_handed : {T : Type 0} (a b : State) (r : Result T Stop) (line bytes : List ℕ) → b.tally ≡ a.tally → b.renderer ≡ a.renderer
-    → b.choice ≡ a.choice → b.err ≡ a.err → bytes ≡ handed a.renderer.is_html line → Writes r a.out b.out bytes → Goes r (IsHandedOn line) a b
+    → b.choice ≡ a.choice → b.err ≡ a.err → bytes ≡ handed a.renderer.is_html line → Writes r a.out b.out bytes → Happens r (IsHandedOn line) a b
 goes_handed a b (Ok x) line bytes tally renderer choice err is writes =
     record {
       deeds = HandedOn line ∷ [];
@@ -305,8 +305,8 @@ writes_then a b c (Ok x) bs cs whole is p q = subst (Adds a c) (sym is) (adds_tw
 writes_then a b c (Err s) bs cs whole is p q = (q.0, subst (BreaksOff a c) (sym is) (adds_breaks a b c bs cs p q.1))
 
 -- the same where it is only printed
-pub prints_then : {T E : Type 0} (a b c : Standing) (r : Result T E) (bs cs whole : List ℕ) → whole ≡ bs ++ cs → Adds a b bs → Prints r b c cs
-    → Prints r a c whole
+pub prints_then : {T E : Type 0} (a b c : Standing) (r : Result T E) (bs cs whole : List ℕ) → whole ≡ bs ++ cs → Adds a b bs → PrintsBytes r b c cs
+    → PrintsBytes r a c whole
 prints_then a b c (Ok x) bs cs whole is p q = subst (Adds a c) (sym is) (adds_twice a b c bs cs p q)
 prints_then a b c (Err e) bs cs whole is p q = subst (BreaksOff a c) (sym is) (adds_breaks a b c bs cs p q)
 

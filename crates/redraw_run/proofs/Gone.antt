@@ -13,11 +13,11 @@ use Rattle.redraw_command.specs.declared.stop.Stop.{Stop}
 use Rattle.redraw_command.specs.declared.stop.Stop.TheVariants.{Memory, Unwritable, Unreadable, Utf16}
 use Rattle.redraw_command.specs.Line.{begins_utf16}
 use Rattle.redraw_run.specs.Deeds.{State, Deed, Does, IsCutShort, IsPartOfDeeds, IsUnreadable, Stops}
-use Rattle.redraw_run.specs.Fates.{AreNone, Each, Halts, IsHalted, IsOfUtf16, IsInput, IsLast, IsNextIn, IsSoFar, IsTelling, Then}
+use Rattle.redraw_run.specs.Fates.{AreNone, Each, Halts, IsHalted, IsOfUtf16, IsInput, IsEndOfInput, IsNextIn, IsSoFar, IsTelling, Then}
 use Rattle.redraw_run.specs.Inputs.{AreAllIn, AreCut, AreDrawn, AreFirstIn, Input, IsCutFrom, IsCutIn, IsInputCut, IsDrawnFrom, IsDrawnIn, IsDrawnOf}
 use Rattle.redraw_run.specs.Inputs.{IsOf, are_whole, held_by, held_in, names_of, standard}
 use Rattle.redraw_run.specs.ReadLines.{AreAllOf, AreFirstOf, SumsUp}
-use Rattle.redraw_run.specs.Run.{ArePartlyPrinted, ArePrinted, EndsInput, Runs, nothing_begun}
+use Rattle.redraw_run.specs.Run.{ArePartlyPrinted, AreInputsPrinted, EndsInput, Runs, nothing_begun}
 use Rattle.redraw_run.proofs.Doing.{cut_then, does_as, does_nothing, does_then, stops_as, stops_then}
 use Rattle.redraw_run.proofs.Done.{does_told}
 use Rattle.redraw_run.proofs.Fated.{each_more}
@@ -33,10 +33,10 @@ halts_next before line document a b c s p q =
 
 -- or at their end
 pub halts_end : (lines : List (List ℕ)) (document : Option (List ℕ)) (a b c : State) (s : Stop) → Does (IsSoFar lines document) a b
-    → Stops s (IsPartOfDeeds (IsLast document)) b c → Stops s (IsHalted lines) a c
+    → Stops s (IsPartOfDeeds (IsEndOfInput document)) b c → Stops s (IsHalted lines) a c
 halts_end lines document a b c s p q =
-    stops_as (Then (IsSoFar lines document) (IsPartOfDeeds (IsLast document))) (IsHalted lines) a c s (λ ds h. inl (document, h))
-    (stops_then (IsSoFar lines document) (IsPartOfDeeds (IsLast document)) a b c s p q)
+    stops_as (Then (IsSoFar lines document) (IsPartOfDeeds (IsEndOfInput document))) (IsHalted lines) a c s (λ ds h. inl (document, h))
+    (stops_then (IsSoFar lines document) (IsPartOfDeeds (IsEndOfInput document)) a b c s p q)
 
 halted : (lines : List (List ℕ)) (document : Option (List ℕ)) (c : Choice) (ds : List Deed) → IsSoFar lines document c ds → IsHalted lines c ds
 halted lines document c ds h =
@@ -74,10 +74,10 @@ halted_utf16 lines c ds (line, is, begins) none =
     inr ([], line, None, is, record { before = []; after = ds; split = refl; first = refl; next = record { is = inl none } })
 
 -- lines are read, and their end is
-pub reads_input : (lines : List (List ℕ)) (document : Option (List ℕ)) (a b c : State) → Does (IsSoFar lines document) a b → Does (IsLast document) b c
+pub reads_input : (lines : List (List ℕ)) (document : Option (List ℕ)) (a b c : State) → Does (IsSoFar lines document) a b → Does (IsEndOfInput document) b c
     → Does (IsInput lines) a c
 reads_input lines document a b c p q =
-    does_as (input_end lines document a.choice) (does_then {P = IsSoFar lines document} {Q = IsLast document} p q)
+    does_as (input_end lines document a.choice) (does_then {P = IsSoFar lines document} {Q = IsEndOfInput document} p q)
 
 -- ---- inputs
 
@@ -289,7 +289,7 @@ input_cut file input name (Err e) a b same (Some source, h) = (Some (inr source)
 
 -- it ends as it was summed up
 pub finishes : {File Standard : Type 0} (held : File ⊎ Standard → Option (List ℕ)) (names : List (List ℕ)) (a b : State) (is_whole : Bool)
-    (err : Standing) (status : ℕ) → ArePrinted File Standard held names is_whole a b
+    (err : Standing) (status : ℕ) → AreInputsPrinted File Standard held names is_whole a b
     → SumsUp a.choice.is_quiet b.tally b.err err → status ≡ status_of b.tally is_whole → Runs held names a b.out err status
 finishes held names a b is_whole err status drawn sum ends =
     inl record { is_whole = is_whole; end = b; drawn = drawn; printed = refl; sum = sum; ends = ends }
@@ -310,7 +310,7 @@ run_from P r looked c t out err is none h =
 
 -- what sums up a run by what is asked for at its end
 pub finishes_by : {File Standard : Type 0} (held : File ⊎ Standard → Option (List ℕ)) (names : List (List ℕ)) (a b : State) (is_whole : Bool)
-    (err : Standing) (status : ℕ) → ArePrinted File Standard held names is_whole a b
+    (err : Standing) (status : ℕ) → AreInputsPrinted File Standard held names is_whole a b
     → SumsUp b.choice.is_quiet b.tally b.err err → status ≡ status_of b.tally is_whole → Runs held names a b.out err status
 finishes_by held names a b is_whole err status drawn sum ends =
     let same : b.choice ≡ a.choice = ap (λ (s : State). s.choice) drawn.is ∙ drawn.drawn.does.choice in

@@ -13,8 +13,8 @@ use Rattle.redraw_command.specs.Line.{IsUnmarked, begins_object, first_of}
 use Rattle.redraw_command.specs.declared.choice.Choice.{Choice}
 use Rattle.redraw_command.specs.declared.stop.Stop.{Stop}
 use Rattle.redraw_command.specs.declared.stop.Stop.TheVariants.{Memory}
-use Rattle.redraw_run.specs.Deeds.{State, Deed, Does, Goes, IsPartOfDeeds, Stops}
-use Rattle.redraw_run.specs.Fates.{Advances, AreNone, Each, IsDocumentLine, IsHandedOn, IsInput, IsLast, IsFateOfLine, IsNext, IsNextIn}
+use Rattle.redraw_run.specs.Deeds.{State, Deed, Does, Happens, IsPartOfDeeds, Stops}
+use Rattle.redraw_run.specs.Fates.{Advances, AreNone, Each, IsDocumentLine, IsHandedOn, IsInput, IsEndOfInput, IsFateOfLine, IsNext, IsNextIn}
 use Rattle.redraw_run.specs.Fates.{IsNoValue, IsObject, IsOpen, IsSoFar, IsValue, Reads, document_of, IsTelling, IsTextOf, IsWhole, IsWithoutEnd, IsWrong}
 use Rattle.redraw_run.specs.Fates.{LeavesOpen, Then}
 use Rattle.redraw_run.specs.ReadLines.{AreAllOf, AreFirstOf, AreReadLines, AreReadOf, AreTaken, TakesLine, TakesNext}
@@ -97,7 +97,7 @@ so_far_more lines line (Some document) (Some text) c ds h =
     (open_more lines line document c ds record { before = h.before; after = h.after; split = h.split; first = h.first; next = h.next.1 })
 
 -- what becomes of lines, and of their end
-pub input_end : (lines : List (List ℕ)) (document : Option (List ℕ)) (c : Choice) (ds : List Deed) → Then (IsSoFar lines document) (IsLast document) c ds
+pub input_end : (lines : List (List ℕ)) (document : Option (List ℕ)) (c : Choice) (ds : List Deed) → Then (IsSoFar lines document) (IsEndOfInput document) c ds
     → IsInput lines c ds
 input_end lines None c ds h =
     record { alone = lines; last = []; split = sym (append-nil lines); becomes = h }
@@ -126,7 +126,7 @@ input_end lines (Some document) c ds h =
 
 -- a line that begins no document is taken by itself
 pub advances_alone : {T : Type 0} (r : Result T Stop) (line : List ℕ) (old new : Option (List ℕ)) (a b : State) → old ≡ None → new ≡ None
-    → Goes r (IsFateOfLine line) a b → Advances r line old new a b
+    → Happens r (IsFateOfLine line) a b → Advances r line old new a b
 advances_alone (Ok x) line old new a b was is g =
     subst (λ (o : Option (List ℕ)). Does (IsNext line o new) a b) (sym was)
     (subst (λ (o : Option (List ℕ)). Does (IsNext line None o) a b) (sym is) g)
@@ -148,7 +148,7 @@ pub line_as : (line text : List ℕ) (c : Choice) (ds : List Deed) → IsTextOf 
 line_as line text c ds is begins h = (text, is, inr (begins, h))
 
 goes_wrong : {T : Type 0} (r : Result T Stop) (line text : List ℕ) (a b : State) → IsTextOf line text → begins_object text ≡ true → IsNoValue text
-    → IfErr r (λ s. s ≡ Memory) → Does IsWrong a b → Goes r (IsFateOfLine line) a b
+    → IfErr r (λ s. s ≡ Memory) → Does IsWrong a b → Happens r (IsFateOfLine line) a b
 goes_wrong (Ok x) line text a b is begins none for d = does_as (λ ds h. line_as line text a.choice ds is begins (inl (none, inl h))) d
 goes_wrong (Err s) line text a b is begins none for d =
     stops_all s for (does_as (λ ds h. line_as line text a.choice ds is begins (inl (none, inl h))) d)
@@ -234,12 +234,12 @@ none_of (Some x) h = cc h
 
 -- the end of an input whose lines end with a document, or don't
 pub last_document : (o : Option (Vec ℕ)) (v : Vec ℕ) (text : List ℕ) → o ≡ Some v → text ≡ v.items → (c : Choice) (ds : List Deed) → IsWhole text c ds
-    → IsLast (document_of o) c ds
+    → IsEndOfInput (document_of o) c ds
 last_document o v text is same c ds h =
-    subst (λ (x : Option (Vec ℕ)). IsLast (document_of x) c ds) (sym is) (subst (λ (t : List ℕ). IsWhole t c ds) same h)
+    subst (λ (x : Option (Vec ℕ)). IsEndOfInput (document_of x) c ds) (sym is) (subst (λ (t : List ℕ). IsWhole t c ds) same h)
 
-pub last_none : (o : Option (Vec ℕ)) → o ≡ None → (c : Choice) (ds : List Deed) → (ds ≡ []) ⊎ IsTelling c ds → IsLast (document_of o) c ds
-last_none o is c ds h = subst (λ (x : Option (Vec ℕ)). IsLast (document_of x) c ds) (sym is) h
+pub last_none : (o : Option (Vec ℕ)) → o ≡ None → (c : Choice) (ds : List Deed) → (ds ≡ []) ⊎ IsTelling c ds → IsEndOfInput (document_of o) c ds
+last_none o is c ds h = subst (λ (x : Option (Vec ℕ)). IsEndOfInput (document_of x) c ds) (sym is) h
 
 -- ---- lines, one after another
 

@@ -5,7 +5,7 @@ use Rattle.std.specs.List.{flat_map}
 use Rattle.program.specs.Standing.{Adds, Standing}
 use Rattle.program.proofs.Writing.{adds_twice}
 use Rattle.redraw_run.specs.Deeds.{State, printed}
-use Rattle.redraw_run.specs.HtmlDocument.{closing, handed, opening}
+use Rattle.redraw_run.specs.HtmlDocument.{html_end, handed, html_start}
 use Rattle.redraw_run.specs.Run.{Finishes}
 
 -- a tag that another tool writes, here its `<`, is handed on as it is
@@ -23,13 +23,13 @@ undocumented held names a failed err status html empty run =
     let drawn = run.drawn in
     let within : List ℕ = flat_map (printed a.renderer) drawn.drawn.does.deeds in
     let html_is = a.renderer.is_html in
-    let opened : Adds a.out drawn.last.out (opening html_is ++ within) = adds_twice a.out drawn.opened drawn.last.out (opening html_is) within
+    let opened : Adds a.out drawn.last.out (html_start html_is ++ within) = adds_twice a.out drawn.opened drawn.last.out (html_start html_is) within
     drawn.opens drawn.drawn.does.out in
-    let all : Adds a.out run.end.out ((opening html_is ++ within) ++ closing html_is) = adds_twice a.out drawn.last.out run.end.out
-    (opening html_is ++ within) (closing html_is) opened drawn.closes in
-    let from : Appends (Some []) run.end.out.held ((opening html_is ++ within) ++ closing html_is) =
-    subst (λ (o : Option (List ℕ)). Appends o run.end.out.held ((opening html_is ++ within) ++ closing html_is)) empty all.added in
-    let to : Appends (Some []) (Some []) ((opening html_is ++ within) ++ closing html_is) =
-    subst (λ (o : Standing). Appends (Some []) o.held ((opening html_is ++ within) ++ closing html_is)) (sym run.printed) from in
-    let end : length (closing html_is) ≡ length (codes "</pre>\n</body>\n</html>\n") = ap (λ h. length (closing h)) html in
-    absurd (omega (arith, ap length to, length-append (opening html_is ++ within) (closing html_is), end))
+    let all : Adds a.out run.end.out ((html_start html_is ++ within) ++ html_end html_is) = adds_twice a.out drawn.last.out run.end.out
+    (html_start html_is ++ within) (html_end html_is) opened drawn.closes in
+    let from : Appends (Some []) run.end.out.held ((html_start html_is ++ within) ++ html_end html_is) =
+    subst (λ (o : Option (List ℕ)). Appends o run.end.out.held ((html_start html_is ++ within) ++ html_end html_is)) empty all.added in
+    let to : Appends (Some []) (Some []) ((html_start html_is ++ within) ++ html_end html_is) =
+    subst (λ (o : Standing). Appends (Some []) o.held ((html_start html_is ++ within) ++ html_end html_is)) (sym run.printed) from in
+    let end : length (html_end html_is) ≡ length (codes "</pre>\n</body>\n</html>\n") = ap (λ h. length (html_end h)) html in
+    absurd (omega (arith, ap length to, length-append (html_start html_is ++ within) (html_end html_is), end))

@@ -20,7 +20,7 @@ use Rattle.redraw_report.specs.declared.finding.Finding.{Finding}
 use Rattle.redraw_report.specs.declared.finding.MarkedSpan.{MarkedSpan}
 use Rattle.redraw_report.specs.declared.finding.Remark.{Remark}
 use Rattle.redraw_run.specs.Deeds.{State}
-use Rattle.redraw_run.specs.DrawnFinding.{RefusesFinding, refusal_of}
+use Rattle.redraw_run.specs.DrawnFinding.{RefusesFinding, refusal_by}
 use Rattle.redraw_run.specs.Fates.{Advances, Halts}
 use Rattle.redraw_run.specs.declared.look.ReportRenderer.{ReportRenderer}
 
@@ -47,14 +47,14 @@ refusal_as true r groups graphic = refl
 refusal_as false r groups graphic = ap (λ (form : Form). refusal_in form groups) graphic
 
 unrefused : (r : ReportRenderer) (groups : List Group) (why : RenderError) → form_of r.settings ≡ Graphic → first_fault groups ≡ None
-    → refusal_of r groups ≡ Some why → ⊥
+    → refusal_by r groups ≡ Some why → ⊥
 unrefused r groups why graphic none refused =
-    let never : refusal_of r groups ≡ None = refusal_as r.is_html r.settings groups graphic ∙ ap (λ (o : Option RenderError). option_or None o) none in
+    let never : refusal_by r groups ≡ None = refusal_as r.is_html r.settings groups graphic ∙ ap (λ (o : Option RenderError). option_or None o) none in
     cc (never, refused)
 
 by_groups : (r : ReportRenderer) (groups : List Group) (section : Section) (why : RenderError) → form_of r.settings ≡ Graphic
     → map section_view groups ≡ section ∷ []
-    → section.parts ≡ [] → refusal_of r groups ≡ Some why → ⊥
+    → section.parts ≡ [] → refusal_by r groups ≡ Some why → ⊥
 by_groups r [] section why graphic told none refused = cc told
 by_groups r (g ∷ []) section why graphic told none refused =
     let same : section_view g ≡ section = cc told in

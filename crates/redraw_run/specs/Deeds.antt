@@ -174,6 +174,6 @@ Stops (Unreadable error) Are a b = ⊥
 Stops Utf16 Are a b = ⊥
 
 -- things of a kind are done, be it to the end or up to where it stops
-abbrev pub Goes : {T : Type 0} → Result T Stop → (Choice → List Deed → Type 0) → State → State → Type 0
-Goes (Ok done) Are a b = Does Are a b
-Goes (Err stop) Are a b = Stops stop (IsPartOfDeeds Are) a b
+abbrev pub Happens : {T : Type 0} → Result T Stop → (Choice → List Deed → Type 0) → State → State → Type 0
+Happens (Ok done) Are a b = Does Are a b
+Happens (Err stop) Are a b = Stops stop (IsPartOfDeeds Are) a b

@@ -37,8 +37,8 @@ HasLawsAs true r groups text = HasHtmlLaws r groups text
 HasLawsAs false r groups text = HasLaws r groups r.stylesheet text
 
 -- why a report gives no text: the first reason in order
-abbrev pub refusal_of : ReportRenderer → List Group → Option RenderError
-refusal_of r groups = if r.is_html then refusal_in Graphic groups else first_refusal r.settings groups
+abbrev pub refusal_by : ReportRenderer → List Group → Option RenderError
+refusal_by r groups = if r.is_html then refusal_in Graphic groups else first_refusal r.settings groups
 
 -- the text shows the report of the finding that the diagnostic reports, its places looked for in these files; and it has the laws of
 -- that report's text
@@ -57,7 +57,7 @@ pub record RefusesFinding (r : ReportRenderer) (files : List File) (d : Diagnost
   pub is : IsFindingOf record { files = files; home = home_of d.homes.items; is_short = r.settings.short_message } d finding
   pub groups : List Group
   pub told : map section_view groups ≡ report_of finding
-  pub refused : refusal_of r groups ≡ Some why
+  pub refused : refusal_by r groups ≡ Some why
 
 -- for some reason
 abbrev pub Refuses : ReportRenderer → List File → Diagnostic → Type 0
@@ -69,7 +69,7 @@ IsUndrawn r files d why = RefusesFinding r files d why ⊎ (why ≡ Memory alloc
 
 -- the same of a report
 abbrev pub IsRefusalOf : ReportRenderer → List Group → RenderError → Type 0
-IsRefusalOf r groups why = (refusal_of r groups ≡ Some why) ⊎ (why ≡ Memory alloc_error)
+IsRefusalOf r groups why = (refusal_by r groups ≡ Some why) ⊎ (why ≡ Memory alloc_error)
 
 -- what stands after a report: an empty line, but nothing in the short form, and nothing after a text without a level
 abbrev pub ending_after : Bool → Severity → List ℕ

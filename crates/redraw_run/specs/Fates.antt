@@ -307,15 +307,15 @@ abbrev pub LeavesOpen : {T : Type 0} → Result T Stop → List ℕ → (old new
 LeavesOpen result text old new a b = ((new ≡ old) × Does IsWrong a b) ⊎ (OnOk result (new ≡ Some text) × Does AreNone a b)
 
 -- what becomes of the end of an input, where its lines end with a document of this text
-abbrev pub IsLast : Option (List ℕ) → Choice → List Deed → Type 0
-IsLast None c deeds = (deeds ≡ []) ⊎ IsTelling c deeds
-IsLast (Some document) c deeds = IsWhole document c deeds
+abbrev pub IsEndOfInput : Option (List ℕ) → Choice → List Deed → Type 0
+IsEndOfInput None c deeds = (deeds ≡ []) ⊎ IsTelling c deeds
+IsEndOfInput (Some document) c deeds = IsWhole document c deeds
 
 -- what becomes of the lines of an input that stops: of those that were read, and a part of what becomes of their end; or of those before
 -- the last one, and a part of what becomes of that
 abbrev pub IsHalted : List (List ℕ) → Choice → List Deed → Type 0
 IsHalted lines c deeds =
-    ((document : Option (List ℕ)) × Then (IsSoFar lines document) (IsPartOfDeeds (IsLast document)) c deeds)
+    ((document : Option (List ℕ)) × Then (IsSoFar lines document) (IsPartOfDeeds (IsEndOfInput document)) c deeds)
     ⊎ ((before : List (List ℕ)) × (line : List ℕ) × (document : Option (List ℕ)) × (lines ≡ before ++ line ∷ [])
     × Then (IsSoFar before document) (IsPartOfDeeds (IsNextIn line document)) c deeds)
 

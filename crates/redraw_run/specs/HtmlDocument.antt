@@ -14,11 +14,11 @@ head =
     ++ styles
 
 -- what stands before all that is drawn, and what stands after it: where HTML is written, the two ends of a document
-abbrev pub opening : Bool → List ℕ
-opening is_html = if is_html then head else []
+abbrev pub html_start : Bool → List ℕ
+html_start is_html = if is_html then head else []
 
-abbrev pub closing : Bool → List ℕ
-closing is_html = if is_html then codes "</pre>\n</body>\n</html>\n" else []
+abbrev pub html_end : Bool → List ℕ
+html_end is_html = if is_html then codes "</pre>\n</body>\n</html>\n" else []
 
 -- a line of the input as it is handed on: with escapes where HTML is written
 abbrev pub handed : Bool → List ℕ → List ℕ

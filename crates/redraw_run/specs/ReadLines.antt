@@ -38,13 +38,13 @@ abbrev pub SumsUp : Bool → Tally → Standing → Standing → Type 0
 SumsUp is_quiet t old new = TellsUnless (is_quiet || is_empty t) old new
 
 -- a text is printed, with status 0; or, with status 2, a first part of it where a write failed, or nothing for want of memory
-abbrev pub IsPrinted : Standing → Standing → ℕ → Type 0
-IsPrinted old new status =
+abbrev pub IsTextPrinted : Standing → Standing → ℕ → Type 0
+IsTextPrinted old new status =
     ((text : List ℕ) × Adds old new text × (status ≡ 0))
     ⊎ ((text : List ℕ) × BreaksOff old new text × (status ≡ 2))
     ⊎ ((new ≡ old) × (status ≡ 2))
 
 -- some bytes are printed: all of them, or, only where a write failed, a first part
-abbrev pub Prints : {T E : Type 0} → Result T E → (old new : Standing) → List ℕ → Type 0
-Prints (Ok done) old new bytes = Adds old new bytes
-Prints (Err error) old new bytes = BreaksOff old new bytes
+abbrev pub PrintsBytes : {T E : Type 0} → Result T E → (old new : Standing) → List ℕ → Type 0
+PrintsBytes (Ok done) old new bytes = Adds old new bytes
+PrintsBytes (Err error) old new bytes = BreaksOff old new bytes

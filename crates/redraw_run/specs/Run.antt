@@ -12,9 +12,9 @@ use Rattle.redraw_command.specs.declared.stop.Stop.TheVariants.{Memory, Unwritab
 use Rattle.redraw_command.specs.declared.terminal.Surroundings.{Surroundings}
 use Rattle.redraw_command.specs.declared.arguments.RedrawRequest.{RedrawRequest}
 use Rattle.redraw_run.specs.Deeds.{State}
-use Rattle.redraw_run.specs.HtmlDocument.{closing, opening}
+use Rattle.redraw_run.specs.HtmlDocument.{html_end, html_start}
 use Rattle.redraw_run.specs.Inputs.{AreCut, AreDrawn, asked_names}
-use Rattle.redraw_run.specs.ReadLines.{IsPrinted, SumsUp}
+use Rattle.redraw_run.specs.ReadLines.{IsTextPrinted, SumsUp}
 use Rattle.redraw_run.specs.ReportLook.{looks}
 use Rattle.redraw_run.specs.declared.look.ReportRenderer.{ReportRenderer}
 
@@ -32,34 +32,34 @@ abbrev pub with_out : State → Standing → State
 with_out a out = record a { out = out }
 
 -- inputs are gone through: in HTML after what a document begins with, and before what it ends with
-pub record ArePrinted (File Standard : Type 0) (held : File ⊎ Standard → Option (List ℕ)) (names : List (List ℕ)) (is_whole : Bool) (a b : State)
+pub record AreInputsPrinted (File Standard : Type 0) (held : File ⊎ Standard → Option (List ℕ)) (names : List (List ℕ)) (is_whole : Bool) (a b : State)
     : Type 0 where
   pub opened : Standing
-  pub opens : Adds a.out opened (opening a.renderer.is_html)
+  pub opens : Adds a.out opened (html_start a.renderer.is_html)
   pub last : State
   pub drawn : AreDrawn File Standard held names is_whole (with_out a opened) last
-  pub closes : Adds last.out b.out (closing a.renderer.is_html)
+  pub closes : Adds last.out b.out (html_end a.renderer.is_html)
   pub is : b ≡ with_out last b.out
 
 -- output couldn't be written where a document begins
 pub record IsCutAtFirst (a b : State) : Type 0 where
-  pub opens : BreaksOff a.out b.out (opening a.renderer.is_html)
+  pub opens : BreaksOff a.out b.out (html_start a.renderer.is_html)
   pub is : b ≡ with_out a b.out
 
 -- or where inputs were gone through
 pub record IsCutWithin (File Standard : Type 0) (held : File ⊎ Standard → Option (List ℕ)) (names : List (List ℕ)) (a b : State) : Type 0 where
   pub opened : Standing
-  pub opens : Adds a.out opened (opening a.renderer.is_html)
+  pub opens : Adds a.out opened (html_start a.renderer.is_html)
   pub drawn : AreCut File Standard held names (with_out a opened) b
 
 -- or where a document ends
 pub record IsCutAtLast (File Standard : Type 0) (held : File ⊎ Standard → Option (List ℕ)) (names : List (List ℕ)) (a b : State) : Type 0 where
   pub opened : Standing
-  pub opens : Adds a.out opened (opening a.renderer.is_html)
+  pub opens : Adds a.out opened (html_start a.renderer.is_html)
   pub is_whole : Bool
   pub last : State
   pub drawn : AreDrawn File Standard held names is_whole (with_out a opened) last
-  pub closes : BreaksOff last.out b.out (closing a.renderer.is_html)
+  pub closes : BreaksOff last.out b.out (html_end a.renderer.is_html)
   pub is : b ≡ with_out last b.out
 
 -- inputs are gone through up to where output couldn't be written
@@ -73,7 +73,7 @@ pub record Finishes (File Standard : Type 0) (held : File ⊎ Standard → Optio
     (out err : Standing) (status : ℕ) : Type 0 where
   pub is_whole : Bool
   pub end : State
-  pub drawn : ArePrinted File Standard held names is_whole a end
+  pub drawn : AreInputsPrinted File Standard held names is_whole a end
   pub printed : out ≡ end.out
   pub sum : SumsUp a.choice.is_quiet end.tally end.err err
   pub ends : status ≡ status_of end.tally is_whole
@@ -111,7 +111,7 @@ Draws held request around old_out old_err out err status =
 -- the arguments ask for the help or the version: a text is printed, and nothing is told
 pub record ShowsHelp (app : App) (args : List Argument) (old_out old_err out err : Standing) (status : ℕ) : Type 0 where
   pub asked : AsksToShow app args
-  pub printed : IsPrinted old_out out status
+  pub printed : IsTextPrinted old_out out status
   pub untold : err ≡ old_err
 
 -- the arguments are wrong: that is told, nothing is printed, and the status is 2

@@ -5,7 +5,7 @@ ghost use Rattle.std.specs.Prelude.{length, string_bytes};
 ghost use Rattle.redraw_command.specs.Seen.{IsSeen, digests_of};
 ghost use Rattle.redraw_command.specs.Tally.{one_more};
 ghost use Rattle.redraw_command.specs.Told.{Tells};
-ghost use Rattle.redraw_run.specs.Deeds.{Does, Goes, TellsAll, repeated, standing};
+ghost use Rattle.redraw_run.specs.Deeds.{Does, Happens, TellsAll, repeated, standing};
 ghost use Rattle.redraw_run.specs.Fates.{AreMessages, IsChosen, IsDrawing, IsTaking, LeavesOut, IsReported, IsShown};
 ghost use Rattle.redraw_run.specs.Fates.{IsHandedOn, IsWritten, IsWrong};
 ghost use Rattle.redraw_run.specs.DrawnFinding.{DrawsFinding, IsCounted, IsLeftOut, IsUndrawn, ShowsFinding};
@@ -70,7 +70,8 @@ impl<S: SourceFiles + Drop> Drawing<'_, S> {
         out: &mut Stream<W>,
         err: &mut Stream<V>,
     ) -> Result<(), Stop>
-        ensures does { Goes result IsReported (standing self.old (known W.contents out.old) (known V.contents err.old))
+        ensures does { Happens result IsReported
+            (standing self.old (known W.contents out.old) (known V.contents err.old))
             (standing self.new (known W.contents out.new) (known V.contents err.new)) }
     {
         match read {
@@ -138,7 +139,7 @@ impl<S: SourceFiles + Drop> Drawing<'_, S> {
 
     /// Hands on a line of the input as it is; in HTML with escapes.
     pub fn hand_on<W: Write>(&self, line: &[u8], out: &mut Stream<W>) -> Result<(), Stop>
-        ensures does { (err : Standing) → Goes result (IsHandedOn line.now)
+        ensures does { (err : Standing) → Happens result (IsHandedOn line.now)
             (standing self.now (known W.contents out.old) err) (standing self.now (known W.contents out.new) err) }
     {
         if self.renderer.is_html {
@@ -157,7 +158,8 @@ impl<S: SourceFiles + Drop> Drawing<'_, S> {
         out: &mut Stream<W>,
         err: &mut Stream<V>,
     ) -> Result<(), Stop>
-        ensures does { Goes result IsReported (standing self.old (known W.contents out.old) (known V.contents err.old))
+        ensures does { Happens result IsReported
+            (standing self.old (known W.contents out.old) (known V.contents err.old))
             (standing self.new (known W.contents out.new) (known V.contents err.new)) }
     {
         if let Some(folder) = &self.folder {
@@ -174,7 +176,7 @@ impl<S: SourceFiles + Drop> Drawing<'_, S> {
         out: &mut Stream<W>,
         err: &mut Stream<V>,
     ) -> Result<(), Stop>
-        ensures does { Goes result (IsTaking diagnostic.now)
+        ensures does { Happens result (IsTaking diagnostic.now)
             (standing self.old (known W.contents out.old) (known V.contents err.old))
             (standing self.new (known W.contents out.new) (known V.contents err.new)) }
     {
@@ -200,7 +202,7 @@ impl<S: SourceFiles + Drop> Drawing<'_, S> {
             × (was ≡ false → DrawsFinding self.old.choice.form self.old.renderer self.new.sources.files.items
             diagnostic.now (known W.contents out.old) (known W.contents out.new) (out.new ≡ out.old)
             self.old.tally self.new.tally)) }
-        ensures does { Goes result (IsChosen diagnostic.now)
+        ensures does { Happens result (IsChosen diagnostic.now)
             (standing self.old (known W.contents out.old) (known V.contents err.old))
             (standing self.new (known W.contents out.new) (known V.contents err.new)) }
     {
@@ -245,7 +247,7 @@ impl<S: SourceFiles + Drop> Drawing<'_, S> {
             self.old.tally self.new.tally) }
         ensures kept { (self.new.renderer ≡ self.old.renderer) × (self.new.choice ≡ self.old.choice) }
         ensures seen { self.new.seen ≡ self.old.seen }
-        ensures does { Goes result (IsDrawing diagnostic.now)
+        ensures does { Happens result (IsDrawing diagnostic.now)
             (standing self.old (known W.contents out.old) (known V.contents err.old))
             (standing self.new (known W.contents out.new) (known V.contents err.new)) }
     {
@@ -267,7 +269,7 @@ impl<S: SourceFiles + Drop> Drawing<'_, S> {
         ensures kept { (self.new.renderer ≡ self.old.renderer) × (self.new.choice ≡ self.old.choice) }
         ensures seen { self.new.seen ≡ self.old.seen }
         ensures does { self.old.choice.form ≡ Report
-            → Goes result (IsShown diagnostic.now)
+            → Happens result (IsShown diagnostic.now)
             (standing self.old (known W.contents out.old) (known V.contents err.old))
             (standing self.new (known W.contents out.new) (known V.contents err.new)) }
         ensures tells { OnOk result (TellsAbout self.old.renderer.settings.short_message self.old.sources.files.items
@@ -293,7 +295,7 @@ impl<S: SourceFiles + Drop> Drawing<'_, S> {
         ensures kept { (self.new.renderer ≡ self.old.renderer) × (self.new.choice ≡ self.old.choice) }
         ensures seen { self.new.seen ≡ self.old.seen }
         ensures does { self.old.choice.form ≡ Workflow → (err : Standing)
-            → Goes result (IsWritten diagnostic.now) (standing self.old (known W.contents out.old) err)
+            → Happens result (IsWritten diagnostic.now) (standing self.old (known W.contents out.old) err)
             (standing self.new (known W.contents out.new) err) }
     {
         match command_of(self.alloc, diagnostic)? {
@@ -373,7 +375,7 @@ impl<S: SourceFiles + Drop> Drawing<'_, S> {
             → (files : List File)
             → IfOk text (λ t. ShowsFinding self.old.renderer files diagnostic.now (string_bytes t))
             → IfErr text (IsUndrawn self.old.renderer files diagnostic.now)
-            → Goes result (IsShown diagnostic.now)
+            → Happens result (IsShown diagnostic.now)
             (standing self.old (known W.contents out.old) (known V.contents err.old))
             (standing self.new (known W.contents out.new) (known V.contents err.new)) }
         ensures sources { self.new.sources ≡ self.old.sources }
@@ -401,7 +403,7 @@ impl<S: SourceFiles + Drop> Drawing<'_, S> {
         ensures seen { self.new.seen ≡ self.old.seen }
         ensures does { self.old.choice.form ≡ Report
             → (files : List File) → IsUndrawn self.old.renderer files diagnostic.now error.now
-            → (out : Standing) → Goes result (IsShown diagnostic.now)
+            → (out : Standing) → Happens result (IsShown diagnostic.now)
             (standing self.old out (known V.contents err.old)) (standing self.new out (known V.contents err.new)) }
         ensures sources { self.new.sources ≡ self.old.sources }
     {

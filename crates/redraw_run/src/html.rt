@@ -1,7 +1,7 @@
 //! A document in HTML: what it begins and ends with, and lines of the input in it.
 ghost use Rattle.std.specs.Prelude.{◌≡◌, ◌++◌, [], IfOk, OnOk};
 ghost use Rattle.redraw_run.specs.HtmlDocument as spec;
-ghost use Rattle.redraw_run.specs.ReadLines.{Prints};
+ghost use Rattle.redraw_run.specs.ReadLines.{PrintsBytes};
 ghost use Rattle.snippet_grid.specs.Html as html;
 ghost use Rattle.program.specs.Standing.{known};
 
@@ -35,14 +35,15 @@ const END: &str = "</pre>
 
 /// Begins a document, where HTML is written.
 pub fn begin<W: Write>(is_html: bool, out: &mut Stream<W>) -> io::Result<()>
-    ensures prints { Prints result (known W.contents out.old) (known W.contents out.new) (spec.opening is_html) }
+    ensures prints { PrintsBytes result (known W.contents out.old) (known W.contents out.new)
+        (spec.html_start is_html) }
 {
     if is_html { print_head(out) } else { Ok(()) }
 }
 
 /// Prints what stands before all that is drawn.
 fn print_head<W: Write>(out: &mut Stream<W>) -> io::Result<()>
-    ensures prints { Prints result (known W.contents out.old) (known W.contents out.new) spec.head }
+    ensures prints { PrintsBytes result (known W.contents out.old) (known W.contents out.new) spec.head }
 {
     match out.write(HEAD.as_bytes()) {
         Ok(()) => print_styles(out),
@@ -52,7 +53,7 @@ fn print_head<W: Write>(out: &mut Stream<W>) -> io::Result<()>
 
 /// Prints the stylesheet, and what stands after it.
 fn print_styles<W: Write>(out: &mut Stream<W>) -> io::Result<()>
-    ensures prints { Prints result (known W.contents out.old) (known W.contents out.new) spec.styles }
+    ensures prints { PrintsBytes result (known W.contents out.old) (known W.contents out.new) spec.styles }
 {
     match out.write(HTML_STYLESHEET.as_bytes()) {
         Ok(()) => print(BODY, out),
@@ -62,14 +63,15 @@ fn print_styles<W: Write>(out: &mut Stream<W>) -> io::Result<()>
 
 /// Ends a document, where HTML is written.
 pub fn end<W: Write>(is_html: bool, out: &mut Stream<W>) -> io::Result<()>
-    ensures prints { Prints result (known W.contents out.old) (known W.contents out.new) (spec.closing is_html) }
+    ensures prints { PrintsBytes result (known W.contents out.old) (known W.contents out.new)
+        (spec.html_end is_html) }
 {
     if is_html { print(END, out) } else { Ok(()) }
 }
 
 /// Prints a text, and hands on what was written.
 fn print<W: Write>(text: &str, out: &mut Stream<W>) -> io::Result<()>
-    ensures prints { Prints result (known W.contents out.old) (known W.contents out.new) text.now }
+    ensures prints { PrintsBytes result (known W.contents out.old) (known W.contents out.new) text.now }
 {
     match out.write(text.as_bytes()) {
         Ok(()) => flush(out),
@@ -79,7 +81,7 @@ fn print<W: Write>(text: &str, out: &mut Stream<W>) -> io::Result<()>
 
 /// Hands on what was written.
 fn flush<W: Write>(out: &mut Stream<W>) -> io::Result<()>
-    ensures prints { Prints result (known W.contents out.old) (known W.contents out.new) [] }
+    ensures prints { PrintsBytes result (known W.contents out.old) (known W.contents out.new) [] }
 {
     match out.flush() {
         Ok(()) => Ok(()),

@@ -3,9 +3,9 @@ ghost use Rattle.std.specs.Prelude.{◌≡◌, ◌||◌, ◌++◌, not, ℕ, Lis
 ghost use Rattle.std.specs.Prelude.{IfErr, IfOk, OnErr, OnOk, option_map};
 ghost use Rattle.serde_json.specs.View.{view};
 ghost use Rattle.redraw_command.specs.Line.{begins_object, begins_utf16};
-ghost use Rattle.redraw_run.specs.Deeds.{Does, Goes, IsUnreadable, standing};
+ghost use Rattle.redraw_run.specs.Deeds.{Does, Happens, IsUnreadable, standing};
 ghost use Rattle.redraw_run.specs.Fates.{Advances, Halts, IsDocumentLine, IsInput, IsKnown};
-ghost use Rattle.redraw_run.specs.Fates.{IsLast, IsSoFar, IsTextOf, IsUnknown, IsValue, IsWhole};
+ghost use Rattle.redraw_run.specs.Fates.{IsEndOfInput, IsSoFar, IsTextOf, IsUnknown, IsValue, IsWhole};
 ghost use Rattle.redraw_run.specs.Fates.{LeavesOpen, Reads, document_of};
 ghost use Rattle.redraw_run.specs.ReadLines.{AreAllOf, AreFirstOf, TakesNext, TellsUnless};
 ghost use Rattle.program.specs.Standing.{Standing, known};
@@ -192,7 +192,7 @@ impl Reading {
         out: &mut Stream<W>,
         err: &mut Stream<V>,
     ) -> Result<(), Stop>
-        ensures does { Goes result (IsLast (document_of self.old.document))
+        ensures does { Happens result (IsEndOfInput (document_of self.old.document))
             (standing drawing.old (known W.contents out.old) (known V.contents err.old))
             (standing drawing.new (known W.contents out.new) (known V.contents err.new)) }
     {
@@ -211,7 +211,7 @@ impl Reading {
         drawing: &mut Drawing<'_, S>,
         err: &mut Stream<V>,
     )
-        ensures does { (out : Standing) → Does (IsLast None)
+        ensures does { (out : Standing) → Does (IsEndOfInput None)
             (standing drawing.old out (known V.contents err.old))
             (standing drawing.new out (known V.contents err.new)) }
         ensures one { TellsUnless (self.now.has_objects || not self.now.has_others) (known V.contents err.old)
@@ -234,7 +234,7 @@ impl Reading {
         out: &mut Stream<W>,
         err: &mut Stream<V>,
     ) -> Result<(), Stop>
-        ensures does { Goes result (IsWhole document.now)
+        ensures does { Happens result (IsWhole document.now)
             (standing drawing.old (known W.contents out.old) (known V.contents err.old))
             (standing drawing.new (known W.contents out.new) (known V.contents err.new)) }
     {
@@ -252,7 +252,7 @@ impl Reading {
         out: &mut Stream<W>,
         err: &mut Stream<V>,
     ) -> Result<(), Stop>
-        ensures does { Goes result (IsWhole text.now)
+        ensures does { Happens result (IsWhole text.now)
             (standing drawing.old (known W.contents out.old) (known V.contents err.old))
             (standing drawing.new (known W.contents out.new) (known V.contents err.new)) }
     {
@@ -276,7 +276,7 @@ impl Reading {
         err: &mut Stream<V>,
     ) -> Result<(), Stop>
         ensures same { self.new.document ≡ self.old.document }
-        ensures does { Goes result (IsValue (option_map (λ bytes. bytes.now) line.entry) (view value.now))
+        ensures does { Happens result (IsValue (option_map (λ bytes. bytes.now) line.entry) (view value.now))
             (standing drawing.old (known W.contents out.old) (known V.contents err.old))
             (standing drawing.new (known W.contents out.new) (known V.contents err.new)) }
     {
@@ -299,7 +299,7 @@ impl Reading {
         out: &mut Stream<W>,
         err: &mut Stream<V>,
     ) -> Result<(), Stop>
-        ensures does { Goes result (IsUnknown (option_map (λ bytes. bytes.now) line.entry))
+        ensures does { Happens result (IsUnknown (option_map (λ bytes. bytes.now) line.entry))
             (standing drawing.old (known W.contents out.old) (known V.contents err.old))
             (standing drawing.new (known W.contents out.new) (known V.contents err.new)) }
     {
@@ -322,7 +322,7 @@ impl Reading {
         err: &mut Stream<V>,
     ) -> Result<(), Stop>
         ensures same { self.new.document ≡ self.old.document }
-        ensures does { Goes result (IsKnown kind)
+        ensures does { Happens result (IsKnown kind)
             (standing drawing.old (known W.contents out.old) (known V.contents err.old))
             (standing drawing.new (known W.contents out.new) (known V.contents err.new)) }
     {

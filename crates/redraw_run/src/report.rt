@@ -1,5 +1,5 @@
 //! Values that hold what they report: a message of cargo, and a SARIF log.
-ghost use Rattle.redraw_run.specs.Deeds.{Goes, standing};
+ghost use Rattle.redraw_run.specs.Deeds.{Happens, standing};
 ghost use Rattle.redraw_run.specs.Fates.{IsLog, IsReported};
 ghost use Rattle.program.specs.Standing.{known};
 
@@ -21,7 +21,8 @@ pub fn cargo_message<S: SourceFiles + Drop, W: Write, V: Write>(
     out: &mut Stream<W>,
     err: &mut Stream<V>,
 ) -> Result<(), Stop>
-    ensures does { Goes result IsReported (standing drawing.old (known W.contents out.old) (known V.contents err.old))
+    ensures does { Happens result IsReported
+        (standing drawing.old (known W.contents out.old) (known V.contents err.old))
         (standing drawing.new (known W.contents out.new) (known V.contents err.new)) }
 {
     match node.needed("message", Expectation::Object) {
@@ -37,7 +38,7 @@ pub fn sarif_log<S: SourceFiles + Drop, W: Write, V: Write>(
     out: &mut Stream<W>,
     err: &mut Stream<V>,
 ) -> Result<(), Stop>
-    ensures does { Goes result IsLog (standing drawing.old (known W.contents out.old) (known V.contents err.old))
+    ensures does { Happens result IsLog (standing drawing.old (known W.contents out.old) (known V.contents err.old))
         (standing drawing.new (known W.contents out.new) (known V.contents err.new)) }
 {
     match listed(node, "runs") {

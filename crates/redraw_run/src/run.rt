@@ -10,8 +10,8 @@ ghost use Rattle.redraw_command.specs.Arguments.{arguments_at};
 ghost use Rattle.redraw_run.specs.Deeds.{standing};
 ghost use Rattle.redraw_run.specs.Inputs.{AreCut, AreDrawn, IsCutFrom, IsCutIn, IsInputCut, IsDrawnFrom, IsDrawnIn};
 ghost use Rattle.redraw_run.specs.Inputs.{IsDrawnOf, asked_names, given_names, held_by, held_in};
-ghost use Rattle.redraw_run.specs.ReadLines.{IsPrinted, SumsUp};
-ghost use Rattle.redraw_run.specs.Run.{Answers, ArePartlyPrinted, ArePrinted, Draws, EndsInput};
+ghost use Rattle.redraw_run.specs.ReadLines.{IsTextPrinted, SumsUp};
+ghost use Rattle.redraw_run.specs.Run.{Answers, ArePartlyPrinted, AreInputsPrinted, Draws, EndsInput};
 ghost use Rattle.std.specs.Io.Buffered.{reader_inner, reader_remaining};
 ghost use Rattle.program.specs.Standing.{known};
 
@@ -71,7 +71,7 @@ fn answer_error<W: Write, V: Write>(
     ensures asked { (kind_of error.now ≡ kind.DisplayHelp) ⊎ (kind_of error.now ≡ kind.DisplayVersion) → err.new
         ≡ err.old }
     ensures printed { (kind_of error.now ≡ kind.DisplayHelp) ⊎ (kind_of error.now ≡ kind.DisplayVersion)
-        → IsPrinted (known W.contents out.old) (known W.contents out.new) result }
+        → IsTextPrinted (known W.contents out.old) (known W.contents out.new) result }
 {
     if error.use_stderr() {
         tell_error(alloc, error, err);
@@ -82,7 +82,7 @@ fn answer_error<W: Write, V: Write>(
 
 /// Prints the help or the version.
 fn print_error<W: Write>(alloc: Global, error: &clap::Error, out: &mut Stream<W>) -> u8
-    ensures printed { IsPrinted (known W.contents out.old) (known W.contents out.new) result }
+    ensures printed { IsTextPrinted (known W.contents out.old) (known W.contents out.new) result }
     ensures status { result ≤ 2 }
 {
     match format!(in alloc; "{error}") {
@@ -93,7 +93,7 @@ fn print_error<W: Write>(alloc: Global, error: &clap::Error, out: &mut Stream<W>
 
 /// Prints a text.
 fn print_text<W: Write>(text: &str, out: &mut Stream<W>) -> u8
-    ensures printed { IsPrinted (known W.contents out.old) (known W.contents out.new) result }
+    ensures printed { IsTextPrinted (known W.contents out.old) (known W.contents out.new) result }
     ensures status { result ≤ 2 }
 {
     match pass(text.as_bytes(), out) {
@@ -160,8 +160,8 @@ fn draw_document<'r, R: Files + Input + AllocGlobal, S: SourceFiles + Drop, W: W
     out: &mut Stream<W>,
     err: &mut Stream<V>,
 ) -> io::Result<bool>
-    ensures drawn { IfOk result (λ is_whole. ArePrinted R.File R.Reader (held_by R.File.remaining R.Reader.remaining)
-        (asked_names names.entry) is_whole
+    ensures drawn { IfOk result (λ is_whole. AreInputsPrinted R.File R.Reader
+        (held_by R.File.remaining R.Reader.remaining) (asked_names names.entry) is_whole
         (standing drawing.old (known W.contents out.old) (known V.contents err.old))
         (standing drawing.new (known W.contents out.new) (known V.contents err.new))) }
     ensures cut { IfErr result (λ error. ArePartlyPrinted (held_by R.File.remaining R.Reader.remaining)

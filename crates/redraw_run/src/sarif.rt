@@ -1,7 +1,7 @@
 //! A SARIF log, whose results are drawn one after another.
 ghost use Rattle.std.specs.Prelude.{◌≡◌, IfErr, OnOk, map};
 ghost use Rattle.serde_json.specs.View.{view};
-ghost use Rattle.redraw_run.specs.Deeds.{Does, Goes, TellsAll, standing};
+ghost use Rattle.redraw_run.specs.Deeds.{Does, Happens, TellsAll, standing};
 ghost use Rattle.redraw_run.specs.Fates.{AreRuns, Each, IsResult, IsLogRun};
 ghost use Rattle.program.specs.Standing.{known};
 
@@ -22,7 +22,7 @@ pub fn draw_runs<S: SourceFiles + Drop, W: Write, V: Write>(
     out: &mut Stream<W>,
     err: &mut Stream<V>,
 ) -> Result<(), Stop>
-    ensures does { Goes result AreRuns (standing drawing.old (known W.contents out.old) (known V.contents err.old))
+    ensures does { Happens result AreRuns (standing drawing.old (known W.contents out.old) (known V.contents err.old))
         (standing drawing.new (known W.contents out.new) (known V.contents err.new)) }
     ensures each { OnOk result (Does (Each (λ run. IsLogRun) (map view runs.now))
         (standing drawing.old (known W.contents out.old) (known V.contents err.old))
@@ -46,7 +46,7 @@ fn draw_run<S: SourceFiles + Drop, W: Write, V: Write>(
     out: &mut Stream<W>,
     err: &mut Stream<V>,
 ) -> Result<(), Stop>
-    ensures does { Goes result IsLogRun (standing drawing.old (known W.contents out.old) (known V.contents err.old))
+    ensures does { Happens result IsLogRun (standing drawing.old (known W.contents out.old) (known V.contents err.old))
         (standing drawing.new (known W.contents out.new) (known V.contents err.new)) }
 {
     let mut problems = Problems::new(drawing.alloc);
@@ -67,7 +67,7 @@ fn draw_result<'v, S: SourceFiles + Drop, W: Write, V: Write>(
     out: &mut Stream<W>,
     err: &mut Stream<V>,
 ) -> Result<(), Stop>
-    ensures does { Goes result IsResult (standing drawing.old (known W.contents out.old) (known V.contents err.old))
+    ensures does { Happens result IsResult (standing drawing.old (known W.contents out.old) (known V.contents err.old))
         (standing drawing.new (known W.contents out.new) (known V.contents err.new)) }
 {
     let mut problems = Problems::new(drawing.alloc);
