@@ -162,7 +162,7 @@ cause_shown r layout around found s rows drawable room drawn =
         ends = ends;
         ordered = ordered;
         named = named.are;
-        drawn = named.drawn;
+        are = named.value;
         begins = named.begins;
         bars = bars_shown r layout (closes_with around) s drawable.spans named.part named.are named.drawn named.begins ordered ends room.bars;
       };

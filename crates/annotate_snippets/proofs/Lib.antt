@@ -11,11 +11,13 @@ pub mod ContextShown
 pub mod ContextTexts
 pub mod DisjointLemmas
 pub mod DrawnLines
+pub mod DrawnRows
 pub mod ElementRows
 pub mod ElementShown
 pub mod FaultLemmas
 pub mod FeedLaws
 pub mod FormExamples
+pub mod FormLines
 pub mod FormSteps
 pub mod FormsShown
 pub mod GridRows
@@ -29,6 +31,7 @@ pub mod LabelLemmas
 pub mod LeftLaws
 pub mod LineFeedLaws
 pub mod LineLemmas
+pub mod LineRowValues
 pub mod LineValue
 pub mod ListLemmas
 pub mod MarkLemmas

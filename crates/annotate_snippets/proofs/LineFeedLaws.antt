@@ -57,7 +57,8 @@ use Rattle.snippet_strokes.proofs.WriteLaws.{All-flat_map, painted-cell}
 use Rattle.annotate_snippets.specs.declared.renderer.Renderer.{Renderer}
 use Rattle.annotate_snippets.specs.Feeds.{HasNoFeed, HoldsNoFeed, IsNoFeed, IsOneLineLabel, IsOneLineText}
 use Rattle.annotate_snippets.specs.Gutter.{numbered_source}
-use Rattle.annotate_snippets.specs.SnippetLineRows.{AreRowsDrawn, IsLineDrawn, IsRowDrawn, entries_on, open_after}
+use Rattle.annotate_snippets.specs.GraphicForm.{entries_on}
+use Rattle.annotate_snippets.proofs.DrawnRows.{AreRowsDrawn, IsLineDrawn, IsRowDrawn, open_after}
 use Rattle.annotate_snippets.specs.Page.{Elision, NamedRow, OfferedLine, Other, RemovedLine, RowName, SourceRow, cells_of, rows_below}
 use Rattle.annotate_snippets.specs.ShownPage.{AreRowsOf, IsRowOf, normalized_chars}
 use Rattle.annotate_snippets.proofs.FeedLaws.{at_any, bare-plain, elided}

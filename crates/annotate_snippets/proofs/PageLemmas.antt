@@ -23,9 +23,9 @@ use Rattle.snippet_strokes.specs.Snippet as strokes
 use Rattle.snippet_strokes.specs.Snippet.{gap_row}
 use Rattle.annotate_snippets.specs.declared.renderer.Renderer.{Renderer}
 use Rattle.snippet_grid.specs.Layout.{Layout}
-use Rattle.annotate_snippets.specs.GraphicForm.{gap_below, named_line, rows_of_line, rows_of_lines}
+use Rattle.annotate_snippets.specs.GraphicForm.{bars_on, gap_below, named_line, rows_of_line, rows_of_lines}
 use Rattle.annotate_snippets.specs.Gutter.{line_numbers, numbered_source}
-use Rattle.annotate_snippets.specs.SnippetLineRows.{AreRowsDrawn, IsLineDrawn, bars_on}
+use Rattle.annotate_snippets.proofs.DrawnRows.{AreRowsDrawn, IsLineDrawn}
 use Rattle.annotate_snippets.specs.Page.{SourceRow, Elision, Other, NamedRow, lines_named, names_in, names_of_lines, cells_of, cells_below, others, rows_below}
 use Rattle.annotate_snippets.specs.ShownPage.{AreRowsOf, IsRowBelow, ShowsLabels, ShowsLineAndMarks, ShowsMarksOf, bounds_in, room_of}
 use Rattle.annotate_snippets.proofs.DrawnLines.{bars_seen, line_drawn}
@@ -52,7 +52,7 @@ below-first [] more some = absurd (omega arith)
 below-first (row ∷ below) more some = refl
 
 -- the rows of a line, up to the next
-below-own : (below : List (List Cell)) (more : List NamedRow) → rows_below more ≡ [] → rows_below (others below ++ more) ≡ below
+pub below-own : (below : List (List Cell)) (more : List NamedRow) → rows_below more ≡ [] → rows_below (others below ++ more) ≡ below
 below-own [] more ends = ends
 below-own (row ∷ below) more ends = ap (λ rs. row ∷ rs) (below-own below more ends)
 

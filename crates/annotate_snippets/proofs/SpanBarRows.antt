@@ -36,7 +36,8 @@ use Rattle.snippet_labels.specs.PlacedEntries.{is_end_part}
 use Rattle.annotate_snippets.specs.declared.renderer.Renderer.{Renderer}
 use Rattle.snippet_grid.specs.Layout.{Layout}
 use Rattle.annotate_snippets.specs.Gutter.{code_after, number_text}
-use Rattle.annotate_snippets.specs.SnippetLineRows.{AreRowsDrawn, IsRowDrawn, bars_on, entries_on, open_after}
+use Rattle.annotate_snippets.specs.GraphicForm.{bars_on, entries_on}
+use Rattle.annotate_snippets.proofs.DrawnRows.{AreRowsDrawn, IsRowDrawn, open_after}
 use Rattle.annotate_snippets.specs.Page.{Elision, IsAscending, NamedRow, OfferedLine, Other, RemovedLine, RowName, SourceRow, lines_named, rows_below}
 use Rattle.annotate_snippets.specs.Page.{shows_lines}
 use Rattle.annotate_snippets.specs.ShownPage.{AreRowsOf, IsRowOf, cells_left}

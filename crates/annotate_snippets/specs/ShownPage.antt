@@ -64,9 +64,8 @@ use Rattle.annotate_snippets.specs.Around.{closes_with, drawn_elements, file_of_
 use Rattle.annotate_snippets.specs.Around.{suggestion_rows}
 use Rattle.annotate_snippets.specs.DrawnReport.{found_at, suggestion_layout, suggestion_lines}
 pub use Rattle.annotate_snippets.specs.GraphicForm.{name_of_row}
-use Rattle.annotate_snippets.specs.GraphicForm.{graphic_form}
+use Rattle.annotate_snippets.specs.GraphicForm.{graphic_form, rows_of_lines}
 use Rattle.annotate_snippets.specs.Gutter.{layout_of_group, line_numbers, number_text, numbered_source}
-use Rattle.annotate_snippets.specs.SnippetLineRows.{AreRowsDrawn}
 use Rattle.annotate_snippets.specs.Page.{RowName, SourceRow, Elision, OfferedLine, RemovedLine, Other, NamedRow, lines_named, lines_offered, lines_removed}
 use Rattle.annotate_snippets.specs.Page.{names_in, names_of_lines, cells_below, cells_of, rows_below, others, GroupPage, Page, PrintsPage, IsAscending}
 use Rattle.annotate_snippets.specs.SpanBars.{ShowsBars}
@@ -294,7 +293,7 @@ pub record ShowsSnippet (r : Renderer) (layout : Layout) (around : ElementContex
       × Contains (lines_named after) (last_line (cow_str_bytes s.source) a)) s.markers.items
   pub ordered : IsAscending (lines_named after)
   pub named : AreRowsOf r layout (closes_with around) s after
-  pub drawn : AreRowsDrawn r layout (closes_with around) s [] after
+  pub are : after ≡ rows_of_lines r layout (closes_with around) s [] (shown_lines s.fold (cow_str_bytes s.source) s.markers.items)
   pub begins : rows_below after ≡ []
   pub bars : ShowsBars r layout s after
 

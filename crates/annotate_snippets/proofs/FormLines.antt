@@ -1,0 +1,88 @@
+-- The rows of a snippet's lines, read one by one: each source row with those below it is all rows of its line.
+use Rattle.std.proofs.Common.{◌≡◌, ℕ, ◌==◌, ◌&&◌, cond, nat_lt, ◌+◌, Bool, true, false, List, [], ◌∷◌, ◌++◌, length, refl, sym, ap, subst, ◌∙◌}
+use Rattle.snippet_model.specs.declared.snippet.Annotation.{Annotation}
+use Rattle.snippet_model.specs.declared.snippet.Snippet.{Snippet}
+use Rattle.snippet_style.specs.Cell.{Cell}
+use Rattle.snippet_strokes.specs.Bars.{Bar, open_past}
+use Rattle.snippet_strokes.specs.Snippet.{gap_row}
+use Rattle.snippet_grid.specs.Layout.{Layout}
+use Rattle.annotate_snippets.specs.declared.renderer.Renderer.{Renderer}
+use Rattle.annotate_snippets.specs.GraphicForm.{bars_on, gap_below, named_line, rows_of_line, rows_of_lines}
+use Rattle.annotate_snippets.specs.Page.{Elision, NamedRow, OfferedLine, Other, RemovedLine, RowName, SourceRow, others, rows_below}
+use Rattle.annotate_snippets.proofs.LabelLemmas.{head_same, tail_same}
+use Rattle.annotate_snippets.proofs.PageLemmas.{below-own}
+
+module _ (r : Renderer) (layout : Layout) (s : Snippet Annotation) where
+  -- a source row with those below it is all rows of its line, for some bars that are open above it
+  pub record IsWholeLine (k : ℕ) (row : List Cell) (rows : List NamedRow) : Type 0 where
+    pub closes : Bool
+    pub open_bars : List Bar
+    pub are : row ∷ rows_below rows ≡ rows_of_line r layout closes s open_bars k
+
+  -- a row of this name is such a one; or it stands in place of lines, and no row belongs to it
+  abbrev pub IsLineOf : RowName → List Cell → List NamedRow → Type 0
+  IsLineOf (SourceRow k) row rows = IsWholeLine k row rows
+  IsLineOf Elision row rows = rows_below rows ≡ []
+  IsLineOf (OfferedLine j) row rows = Unit {0}
+  IsLineOf (RemovedLine i) row rows = Unit {0}
+  IsLineOf Other row rows = Unit {0}
+
+  -- each row is
+  abbrev AreLinesOf : List NamedRow → Type 0
+  AreLinesOf [] = Unit {0}
+  AreLinesOf (row ∷ rows) = IsLineOf row.name row.cells rows × AreLinesOf rows
+
+  others_below : (below : List (List Cell)) (rows : List NamedRow) → AreLinesOf rows → AreLinesOf (others below ++ rows)
+  others_below [] rows are = are
+  others_below (row ∷ below) rows are = (tt, others_below below rows are)
+
+  -- rows of which the first belong to no line above them, and each is
+  record IsBegun (rows : List NamedRow) : Type 0 where
+    begins : rows_below rows ≡ []
+    are : AreLinesOf rows
+
+  line_begun : (closes : Bool) (open_bars : List Bar) (k : ℕ) (own : List (List Cell)) → own ≡ rows_of_line r layout closes s open_bars k
+      → (rows : List NamedRow) → IsBegun rows → IsBegun (named_line k own ++ rows)
+  line_begun closes open_bars k [] is rows rest = rest
+  line_begun closes open_bars k (row ∷ below) is rows rest =
+      record {
+        begins = refl;
+        are = (
+          record { closes = closes; open_bars = open_bars; are = ap (λ rs. row ∷ rs) (below-own below rows rest.begins) ∙ is },
+          others_below below rows rest.are,
+        );
+      }
+
+  gap_begun : (open_bars : List Bar) (j : ℕ) (ks : List ℕ) (rows : List NamedRow) → IsBegun rows → IsBegun (gap_below r layout open_bars j ks ++ rows)
+  gap_begun open_bars j [] rows rest = rest
+  gap_begun open_bars j (k ∷ ks) rows rest =
+      elim (nat_lt (j + 1) k) as (λ b.
+      IsBegun (cond b (record { name = Elision; cells = gap_row layout open_bars } ∷ []) [] ++ rows)) [
+        | true ↦ record { begins = refl; are = (rest.begins, rest.are) }
+        | false ↦ rest
+      ]
+
+  lines_begun : (closes : Bool) (open_bars : List Bar) (ks : List ℕ) → IsBegun (rows_of_lines r layout closes s open_bars ks)
+  lines_begun closes open_bars [] = record { begins = refl; are = tt }
+  lines_begun closes open_bars (k ∷ ks) =
+      let past : List Bar = open_past open_bars (bars_on s k) in
+      line_begun (closes && length ks == 0) open_bars k (rows_of_line r layout (closes && length ks == 0) s open_bars k) refl
+      (gap_below r layout past k ks ++ rows_of_lines r layout closes s past ks)
+      (gap_begun past k ks (rows_of_lines r layout closes s past ks) (lines_begun closes past ks))
+
+  -- what is known of each is known of one among them
+  one_of : (rows : List NamedRow) → AreLinesOf rows → (above : List NamedRow) (row : NamedRow) (below : List NamedRow) → rows ≡ above ++ row ∷ below
+      → IsLineOf row.name row.cells below
+  one_of [] are [] row below is = cc
+  one_of [] are (y ∷ above) row below is = cc
+  one_of (x ∷ rows) are [] row below is =
+      subst (λ more. IsLineOf row.name row.cells more) (tail_same x row rows below is)
+      (subst (λ (y : NamedRow). IsLineOf y.name y.cells rows) (head_same x row rows below is) are.0)
+  one_of (x ∷ rows) are (y ∷ above) row below is = one_of rows are.1 above row below (tail_same x y rows (above ++ row ∷ below) is)
+
+  -- so it is known of each row of a snippet's lines
+  pub line_of_rows : (closes : Bool) (open_bars : List Bar) (ks : List ℕ) (above : List NamedRow) (row : NamedRow) (below : List NamedRow)
+      → above ++ row ∷ below ≡ rows_of_lines r layout closes s open_bars ks → (name : RowName) → row.name ≡ name → IsLineOf name row.cells below
+  line_of_rows closes open_bars ks above row below are name named =
+      subst (λ n. IsLineOf n row.cells below) named
+      (one_of (rows_of_lines r layout closes s open_bars ks) (lines_begun closes open_bars ks).are above row below (sym are))
