@@ -54,6 +54,7 @@ pub mod NotTitled
 pub mod NotWhole
 pub mod NotWrapped
 pub mod NumberLaws
+pub mod OneLineTexts
 pub mod PageLemmas
 pub mod PartsFacts
 pub mod PatchRows
