@@ -158,12 +158,10 @@ cause_shown r layout around found s rows drawable room drawn =
         rows_are = refl;
         origin = names_place r layout around s drawable.spans (named.part ++ others tail);
         lines = named.lines;
-        elided = named.names;
         ends = ends;
         ordered = ordered;
         named = named.are;
         are = named.value;
-        begins = named.begins;
         bars = bars_shown r layout (closes_with around) s drawable.spans named.part named.are named.drawn named.begins ordered ends room.bars;
       };
       free = free_named part (subst (All IsFree) (sym (cells ∙ drawn.rows_are)) all_free);

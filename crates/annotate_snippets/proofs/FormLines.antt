@@ -1,16 +1,36 @@
 -- The rows of a snippet's lines, read one by one: each source row with those below it is all rows of its line.
-use Rattle.std.proofs.Common.{◌≡◌, ℕ, ◌==◌, ◌&&◌, cond, nat_lt, ◌+◌, Bool, true, false, List, [], ◌∷◌, ◌++◌, length, refl, sym, ap, subst, ◌∙◌}
+use Rattle.std.proofs.Common.{◌≡◌, ℕ, ◌+◌, ◌<◌, ◌==◌, ◌&&◌, cond, nat_lt, Bool, true, false, List, [], ◌∷◌, ◌++◌, filter, length, map, refl}
+use Rattle.std.proofs.Common.{sym, ap, subst, ◌∙◌, arith}
+use Rattle.std.specs.Cow.{cow_str_bytes}
 use Rattle.snippet_model.specs.declared.snippet.Annotation.{Annotation}
 use Rattle.snippet_model.specs.declared.snippet.Snippet.{Snippet}
 use Rattle.snippet_style.specs.Cell.{Cell}
+use Rattle.snippet_text.specs.Normalized.{norm}
+use Rattle.snippet_text.specs.Width.{width_of}
+use Rattle.snippet_window.specs.Margin.{bounds_of}
+use Rattle.snippet_window.specs.Window.{chars_at, dropped_part}
+use Rattle.snippet_window.specs.declared.margin.Margin.{Margin}
 use Rattle.snippet_strokes.specs.Bars.{Bar, open_past}
 use Rattle.snippet_strokes.specs.Snippet.{gap_row}
 use Rattle.snippet_grid.specs.Layout.{Layout}
 use Rattle.annotate_snippets.specs.declared.renderer.Renderer.{Renderer}
-use Rattle.annotate_snippets.specs.GraphicForm.{bars_on, gap_below, named_line, rows_of_line, rows_of_lines}
-use Rattle.annotate_snippets.specs.Page.{Elision, NamedRow, OfferedLine, Other, RemovedLine, RowName, SourceRow, others, rows_below}
+use Rattle.annotate_snippets.specs.GraphicForm.{bars_on, entries_on, gap_below, line_entry, margin_in, named_line, rows_of_line, rows_of_lines}
+use Rattle.annotate_snippets.specs.Page.{Elision, NamedRow, OfferedLine, Other, RemovedLine, RowName, SourceRow, others, rows_below, shows_lines}
 use Rattle.annotate_snippets.proofs.LabelLemmas.{head_same, tail_same}
+use Rattle.annotate_snippets.proofs.LineRowValues.{line_rows-some}
 use Rattle.annotate_snippets.proofs.PageLemmas.{below-own}
+
+-- the names of some rows, from top to bottom, without those of rows that show something else
+abbrev pub names_in : List NamedRow → List RowName
+names_in rows = filter shows_lines (map (λ (row : NamedRow). row.name) rows)
+
+-- the names of the rows that show these lines: the source row of each, and between two of them one row where lines are left
+-- out
+abbrev pub names_of_lines : List ℕ → List RowName
+names_of_lines [] = []
+names_of_lines (j ∷ []) = SourceRow j ∷ []
+names_of_lines (j ∷ k ∷ ks) =
+    cond (nat_lt (j + 1) k) (SourceRow j ∷ Elision ∷ names_of_lines (k ∷ ks)) (SourceRow j ∷ names_of_lines (k ∷ ks))
 
 module _ (r : Renderer) (layout : Layout) (s : Snippet Annotation) where
   -- a source row with those below it is all rows of its line, for some bars that are open above it
@@ -86,3 +106,44 @@ module _ (r : Renderer) (layout : Layout) (s : Snippet Annotation) where
   line_of_rows closes open_bars ks above row below are name named =
       subst (λ n. IsLineOf n row.cells below) named
       (one_of (rows_of_lines r layout closes s open_bars ks) (lines_begun closes open_bars ks).are above row below (sym are))
+
+  -- no row that shows no line stands above the first of them
+  pub none_above : (closes : Bool) (open_bars : List Bar) (ks : List ℕ) → rows_below (rows_of_lines r layout closes s open_bars ks) ≡ []
+  none_above closes open_bars ks = (lines_begun closes open_bars ks).begins
+
+  -- a line has a row at least
+  line_some : (closes : Bool) (open_bars : List Bar) (k : ℕ) → 0 < length (rows_of_line r layout closes s open_bars k)
+  line_some closes open_bars k =
+      let margin : Margin = margin_in r layout s in
+      let text : List ℕ = norm (chars_at (cow_str_bytes s.source) k) in
+      line_rows-some layout margin.term_width closes text (width_of (dropped_part (bounds_of margin).left text)) _ open_bars
+      (map line_entry (entries_on s k))
+
+  -- and these are the names of those that show lines, or stand in place of lines
+  pub names_of_rows : (closes : Bool) (open_bars : List Bar) (ks : List ℕ) → names_in (rows_of_lines r layout closes s open_bars ks) ≡ names_of_lines ks
+  names_of_rows closes open_bars [] = refl
+  names_of_rows closes open_bars (k ∷ ks) =
+      let past : List Bar = open_past open_bars (bars_on s k) in
+      let own : List (List Cell) = rows_of_line r layout (closes && length ks == 0) s open_bars k in
+      let rest : List NamedRow = rows_of_lines r layout closes s past ks in
+      line_name k own (gap_below r layout past k ks ++ rest) (line_some (closes && length ks == 0) open_bars k)
+      ∙ gap_name past k ks rest (names_of_rows closes past ks)
+    where
+      others_name : (below : List (List Cell)) (rows : List NamedRow) → names_in (others below ++ rows) ≡ names_in rows
+      others_name [] rows = refl
+      others_name (row ∷ below) rows = others_name below rows
+
+      line_name : (k : ℕ) (own : List (List Cell)) (rows : List NamedRow) → 0 < length own → names_in (named_line k own ++ rows) ≡ SourceRow k ∷ names_in rows
+      line_name k [] rows some = absurd (omega (arith, some))
+      line_name k (row ∷ below) rows some = ap (λ names. SourceRow k ∷ names) (others_name below rows)
+
+      gap_name : (open_bars : List Bar) (j : ℕ) (ks : List ℕ) (rows : List NamedRow) → names_in rows ≡ names_of_lines ks
+          → SourceRow j ∷ names_in (gap_below r layout open_bars j ks ++ rows) ≡ names_of_lines (j ∷ ks)
+      gap_name open_bars j [] rows named = ap (λ names. SourceRow j ∷ names) named
+      gap_name open_bars j (k ∷ ks) rows named =
+          elim (nat_lt (j + 1) k) as (λ b.
+          SourceRow j ∷ names_in (cond b (record { name = Elision; cells = gap_row layout open_bars } ∷ []) [] ++ rows)
+          ≡ cond b (SourceRow j ∷ Elision ∷ names_of_lines (k ∷ ks)) (SourceRow j ∷ names_of_lines (k ∷ ks))) [
+            | true ↦ ap (λ names. SourceRow j ∷ Elision ∷ names) named
+            | false ↦ ap (λ names. SourceRow j ∷ names) named
+          ]

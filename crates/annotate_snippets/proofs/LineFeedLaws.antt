@@ -399,7 +399,7 @@ module _ (r : Renderer) (layout : Layout) (closes : Bool) (s : Snippet Annotatio
         (rows_below rows) _ drawn,
   )
   one_row open_bars Elision cells rows shows drawn below =
-      (elided layout.decor layout cells shows, subst (All HasNoFeed) (sym drawn.1) (All-nil HasNoFeed))
+      (elided layout cells shows, subst (All HasNoFeed) (sym drawn.1) (All-nil HasNoFeed))
   one_row open_bars (OfferedLine j) cells rows shows drawn below = absurd shows
   one_row open_bars (RemovedLine i) cells rows shows drawn below = absurd shows
   one_row open_bars Other cells rows shows drawn below =

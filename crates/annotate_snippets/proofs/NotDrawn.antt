@@ -29,13 +29,13 @@ use Rattle.snippet_grid.specs.Layout.{Layout}
 use Rattle.annotate_snippets.specs.declared.renderer.element_context.ElementContext.{ElementContext}
 use Rattle.annotate_snippets.specs.Around.{closes_with}
 use Rattle.annotate_snippets.specs.GraphicForm.{bars_on, entries_on, line_entry, margin_in, rows_of_line}
-use Rattle.annotate_snippets.specs.Page.{Elision, NamedRow, OfferedLine, Other, RemovedLine, RowName, SourceRow, line_named, names_in, names_of_lines, others}
+use Rattle.annotate_snippets.specs.Page.{Elision, NamedRow, OfferedLine, Other, RemovedLine, RowName, SourceRow, line_named, others}
 use Rattle.annotate_snippets.specs.Page.{rows_below, shows_lines}
 use Rattle.annotate_snippets.specs.RowsWithoutSource.{cause_head, rows_after_cause}
 use Rattle.annotate_snippets.specs.Settings.{plain_settings}
 use Rattle.annotate_snippets.specs.ShownPage.{AreRowsOf, IsRowBelow, IsRowOf, ShowsSnippet, ShowsSourceLine}
 use Rattle.annotate_snippets.proofs.DrawnLines.{bars_seen}
-use Rattle.annotate_snippets.proofs.FormLines.{IsWholeLine, line_of_rows}
+use Rattle.annotate_snippets.proofs.FormLines.{IsWholeLine, line_of_rows, names_in, names_of_lines, names_of_rows, none_above}
 use Rattle.annotate_snippets.proofs.LineRowValues.{bar_beside_line, lone_line_rows}
 use Rattle.annotate_snippets.proofs.LineValue.{parts_seen}
 use Rattle.annotate_snippets.proofs.NotShown.{layout, span_of}
@@ -105,10 +105,12 @@ row_above_the_first_line s is around row more none shown =
     let same : shown.after ≡ row ∷ more = append_cancel_right shown.after (row ∷ more) tail
     (sym (append_cancel_left (others (cause_head plain_settings layout around s)) ((row ∷ more) ++ tail) (shown.after ++ tail) shown.rows_are)) in
     let named : IsRowOf plain_settings layout closes s row.name row.cells more = (subst (AreRowsOf plain_settings layout closes s) same shown.named).0 in
-    let names : names_in (row ∷ more) ≡ SourceRow 0 ∷ [] = ap names_in (sym same) ∙ shown.elided
+    let ks : List ℕ = shown_lines s.fold (cow_str_bytes s.source) s.markers.items in
+    let names : names_in (row ∷ more) ≡ SourceRow 0 ∷ [] = ap names_in (sym same ∙ shown.are) ∙ names_of_rows plain_settings layout s closes [] ks
     ∙ ap (λ source. names_of_lines (shown_lines s.fold source s.markers.items)) is.is.source_is
     ∙ ap (λ marks. names_of_lines (shown_lines s.fold (codes "a") marks)) is.is.marks_are ∙ one_line s.fold in
-    by_name row.name (unnamed closes s is row.name row.cells more none named) (subst (λ rows. rows_below rows ≡ []) same shown.begins) names
+    by_name row.name (unnamed closes s is row.name row.cells more none named)
+    (ap rows_below (sym same ∙ shown.are) ∙ none_above plain_settings layout s closes [] ks) names
   where
     -- it is no row of a line, a row in place of lines would be one too many, and any other belongs to a line above it
     by_name : (name : RowName) → line_named name ≡ None → rows_below (record { name = name; cells = row.cells } ∷ more) ≡ []

@@ -22,9 +22,9 @@ use Rattle.snippet_lines.specs.Lines.{last_byte, lines_of, source_lines, start_o
 use Rattle.snippet_lines.specs.Place.{line_of}
 use Rattle.snippet_splice.specs.Edits.{Edit, patched, trimmed_edit}
 use Rattle.snippet_splice.specs.ShownText.{shown_line, shown_text}
-use Rattle.snippet_splice.specs.Spliced.{HasNoCr, IsTouched, spliced_text, texts_of}
+use Rattle.snippet_splice.specs.Spliced.{HasNoCr, IsTouched, texts_of}
 use Rattle.snippet_splice.specs.Trim.{kept_before, sandwich}
-use Rattle.snippet_suggest.specs.Given.{IsAsItWas, IsOfferable, edits_of, first_given, given_lines, last_reached}
+use Rattle.snippet_suggest.specs.Given.{IsOfferable, edits_of, first_given, given_lines, last_reached}
 use Rattle.snippet_suggest.specs.Kind.{is_blank_text}
 use Rattle.snippet_suggest.specs.SuggestionRows.{IsBareRow}
 use Rattle.annotate_snippets.specs.Page.{Elision, NamedRow, OfferedLine, RemovedLine, Other, RowName, IsAscending, SourceRow, lines_offered, others}
@@ -228,11 +228,11 @@ second_visible : is_blank_text (text_at (source_lines (patched two_lines two_edi
 unfolding chars
 second_visible = refl
 
--- the spliced text has two lines
-two_spliced : (fold : Bool) → texts_of (lines_of (spliced_text fold two_lines two_edits)) ≡ codes "x" ∷ codes "y" ∷ []
-unfolding spliced_text trimmed_edit sandwich kept_before start_of line_of
-two_spliced true = refl
-two_spliced false = refl
+-- two lines are given
+gives_two : (fold : Bool) → texts_of (lines_of (shown_text fold two_lines two_edits)) ≡ codes "x" ∷ codes "y" ∷ []
+unfolding shown_text trimmed_edit sandwich kept_before start_of line_of
+gives_two true = refl
+gives_two false = refl
 
 -- so no rows show it that don't offer its second line, as where the text is cut off after the first:
 --
@@ -254,11 +254,10 @@ touched_left_out s is layout around rows out shown =
           (subst (λ all. Contains (lines_offered all) 1) same among)
     ]
   where
-    changed : IsAsItWas s → ⊥
+    changed : given_lines s ≡ last_reached s ∷ [] → ⊥
     changed same =
-        let both : codes "x" ∷ codes "y" ∷ [] ≡ last_reached s ∷ [] = sym (two_spliced s.fold)
-        ∙ ap (λ es. texts_of (lines_of (spliced_text s.fold two_lines es))) (sym is.edits_are)
-        ∙ ap (λ text. texts_of (lines_of (spliced_text s.fold text (edits_of s)))) (sym is.source_is) ∙ same in
+        let both : codes "x" ∷ codes "y" ∷ [] ≡ last_reached s ∷ [] = sym (given_by s two_lines two_edits (codes "x" ∷ codes "y" ∷ []) is gives_two)
+        ∙ same in
         cc
 
 -- ---- a line that is lost
@@ -299,10 +298,10 @@ rest_visible : is_blank_text (text_at (source_lines (patched lines_of_three put_
 unfolding chars
 rest_visible = refl
 
-rest_spliced : (fold : Bool) → texts_of (lines_of (spliced_text fold lines_of_three put_in_and_deleted)) ≡ codes "xa" ∷ codes "c" ∷ []
-unfolding spliced_text trimmed_edit sandwich kept_before start_of line_of
-rest_spliced true = refl
-rest_spliced false = refl
+gives_rest : (fold : Bool) → texts_of (lines_of (shown_text fold lines_of_three put_in_and_deleted)) ≡ codes "xa" ∷ codes "c" ∷ []
+unfolding shown_text trimmed_edit sandwich kept_before start_of line_of
+gives_rest true = refl
+gives_rest false = refl
 
 -- so no rows show it that don't offer its second line, as where the text is cut off after the line feed with which it ends so far:
 --
@@ -324,11 +323,10 @@ cut_at_any_line_feed s is layout around rows out shown =
           (subst (λ all. Contains (lines_offered all) 1) same among)
     ]
   where
-    changed : IsAsItWas s → ⊥
+    changed : given_lines s ≡ last_reached s ∷ [] → ⊥
     changed same =
-        let both : codes "xa" ∷ codes "c" ∷ [] ≡ last_reached s ∷ [] = sym (rest_spliced s.fold)
-        ∙ ap (λ es. texts_of (lines_of (spliced_text s.fold lines_of_three es))) (sym is.edits_are)
-        ∙ ap (λ text. texts_of (lines_of (spliced_text s.fold text (edits_of s)))) (sym is.source_is) ∙ same in
+        let both : codes "xa" ∷ codes "c" ∷ [] ≡ last_reached s ∷ [] =
+        sym (given_by s lines_of_three put_in_and_deleted (codes "xa" ∷ codes "c" ∷ []) is gives_rest) ∙ same in
         cc
 
 -- ---- edits in another order

@@ -240,7 +240,7 @@ named_first closes s is (OfferedLine j) cells rows same shows = absurd shows
 named_first closes s is (RemovedLine i) cells rows same shows = absurd shows
 named_first closes s is Elision cells rows same shows =
     let digit : true ≡ false = subst (λ row. is_ascii_alphanumeric (slice_index_or row 0 SPACE).ch ≡ false) same
-    (unnumbered_elided Ascii layout cells shows 0 (omega arith)) in
+    (unnumbered_elided layout cells shows 0 (omega arith)) in
     cc
 named_first closes s is Other cells rows same shows =
     let digit : true ≡ false = subst (λ row. is_ascii_alphanumeric (slice_index_or row 0 SPACE).ch ≡ false) same

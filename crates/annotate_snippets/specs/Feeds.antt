@@ -12,7 +12,7 @@ use Rattle.snippet_model.specs.declared.snippet.Group.{Group}
 use Rattle.snippet_model.specs.declared.snippet.Id.{Id}
 use Rattle.snippet_model.specs.declared.snippet.Title.{Title}
 use Rattle.annotate_snippets.specs.Around.{path_bytes}
-use Rattle.annotate_snippets.specs.Page.{GroupPage, Page, group_rows}
+use Rattle.annotate_snippets.specs.Page.{Page, group_rows}
 
 -- ---- rows
 
@@ -35,12 +35,9 @@ abbrev pub or_empty_line : List (List ℕ) → List (List ℕ)
 or_empty_line [] = [] ∷ []
 or_empty_line (line ∷ lines) = line ∷ lines
 
--- the lines that rows are: each is one. A group without rows is one empty line, and so is a page without groups
-abbrev pub group_lines : GroupPage → List (List ℕ)
-group_lines g = or_empty_line (map row_text (group_rows g))
-
+-- the lines that the rows of a page are: each is one. A group without rows is one empty line, and so is a page without groups
 abbrev pub page_lines : Page → List (List ℕ)
-page_lines page = or_empty_line (flat_map group_lines page)
+page_lines page = or_empty_line (flat_map (λ g. or_empty_line (map row_text (group_rows g))) page)
 
 -- ---- texts
 

@@ -16,7 +16,7 @@ use Rattle.snippet_text.specs.Normalized.{norm}
 use Rattle.snippet_text.specs.Width.{width_of}
 use Rattle.snippet_parts.specs.Annotated.{PartEntry, parts_on}
 use Rattle.snippet_parts.specs.Kept.{shown_lines}
-use Rattle.snippet_window.specs.Margin.{bounds_of}
+use Rattle.snippet_window.specs.Margin.{Bounds, bounds_of}
 use Rattle.snippet_window.specs.Measures.{margin_of}
 use Rattle.snippet_window.specs.Window.{chars_at, dropped_part}
 use Rattle.snippet_parts.specs.declared.entries.LineAnnotation.{LineAnnotation}
@@ -50,12 +50,19 @@ entries_on s k = parts_on (numbered_source s) s.markers.items k
 abbrev pub bars_on : Snippet Annotation → ℕ → List Bar
 bars_on s k = filter_map (λ e. bar_at e.part (is_primary e.entry.kind)) (entries_on s k)
 
--- the bounds between which a snippet's lines are shown, in a room of what is left of the width
+-- the columns that code has
+abbrev pub room_of : Renderer → Layout → ℕ
+room_of r layout = r.term_width - layout.code
+
+-- the bounds between which a snippet's lines are shown: those for the lines that are kept, and for its spans
+abbrev pub bounds_in : Renderer → Layout → Snippet Annotation → Bounds
+bounds_in r layout s = margin_of (room_of r layout) s.fold (numbered_source s) s.markers.items
+
+-- these bounds, and the room between them
 abbrev pub margin_in : Renderer → Layout → Snippet Annotation → Margin
 margin_in r layout s =
-    let room = r.term_width - layout.code in
-    let bounds = margin_of room s.fold (numbered_source s) s.markers.items in
-    record { computed_left = bounds.left; computed_right = bounds.right; term_width = room }
+    let bounds = bounds_in r layout s in
+    record { computed_left = bounds.left; computed_right = bounds.right; term_width = room_of r layout }
 
 -- a text that is lent, from wherever it stands
 abbrev pub lent : List ℕ → Bor (List ℕ)
