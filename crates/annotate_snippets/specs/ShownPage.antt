@@ -279,7 +279,7 @@ pub record ShowsSnippet (r : Renderer) (layout : Layout) (around : ElementContex
   pub ordered : IsAscending (lines_named after)
   pub named : AreRowsOf r layout (closes_with around) s after
   pub are : after ≡ rows_of_lines r layout (closes_with around) s [] (shown_lines s.fold (cow_str_bytes s.source) s.markers.items)
-  pub bars : ShowsBars r layout s after
+  pub bars : ShowsBars layout s after
 
 -- the row offers line j of the patched source: its number in the gutter, a separator, `+` or the glyph of a changed line after
 -- it, which where the number ends before it is the one that the kind, the number of lines and the line's new stretches ask for, and no
