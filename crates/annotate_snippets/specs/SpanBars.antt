@@ -17,15 +17,11 @@ use Rattle.snippet_strokes.specs.EndBars.{BarEnds, IsNoBar, bar_top, dotted_bar,
 use Rattle.annotate_snippets.specs.Gutter.{numbered_source}
 use Rattle.annotate_snippets.specs.Page.{RowName, SourceRow, Elision, NamedRow, lines_named, rows_below, shows_lines}
 
--- whether the bar of a span is primary: that span is, or another one with its place in the source, since these share a bar
-abbrev pub is_bar_primary : Snippet Annotation → Annotation → Bool
-is_bar_primary s a =
-    list_any (λ b. is_primary b.kind && (b.span.start == a.span.start && b.span.end == a.span.end)) s.markers.items
-
--- the bar of a span
+-- the bar of a span of several lines: primary where that span is, or another one with its place in the source, since these share a bar
 abbrev pub bar_of_span : Snippet Annotation → Annotation → Bar
 bar_of_span s a =
-    record { depth = depth_of (numbered_source s) s.markers.items a; primary = is_bar_primary s a }
+    let primary = list_any (λ b. is_primary b.kind && (b.span.start == a.span.start && b.span.end == a.span.end)) s.markers.items in
+    record { depth = depth_of (numbered_source s) s.markers.items a; primary = primary }
 
 -- the cell of a row in which it stands: at depth 1 the second after the separator
 abbrev pub bar_cell_of : Layout → Snippet Annotation → Annotation → ℕ
