@@ -17,7 +17,7 @@ use Rattle.snippet_model.specs.FreeRows.{IsFree}
 use Rattle.snippet_parts.proofs.PartLemmas.{All-unmapped}
 use Rattle.snippet_titles.specs.HeadingRows.{heading_rows}
 use Rattle.snippet_titles.specs.Origin.{origin_row, padding_row}
-use Rattle.snippet_titles.specs.ShownHeading.{IsFreeButText, heading_texts}
+use Rattle.snippet_titles.specs.ShownHeading.{IsFreeButText, LinksId, heading_texts}
 use Rattle.snippet_titles.specs.Title.{title_rows}
 use Rattle.snippet_titles.specs.declared.style.TitleStyle.{TitleStyle}
 use Rattle.snippet_titles.specs.declared.style.TitleStyle.TheVariants as style
@@ -52,7 +52,6 @@ heading_shown : (hyperlink : Bool) (place : TitleStyle) (heading : Heading) → 
 heading_shown hyperlink place heading =
     record {
       rows_are = refl;
-      links = heading_rows-places hyperlink place heading;
       free = heading_rows-free hyperlink place heading;
     }
 
@@ -61,6 +60,12 @@ pub texts_of : {hyperlink : Bool} {place : TitleStyle} {heading : Heading} {rows
     → row_text (row_at rows i) ≡ slice_index_or (heading_texts place heading) i []
 texts_of {hyperlink} {place} {heading} shown i =
     ap (λ rs. row_text (row_at rs i)) shown.rows_are ∙ heading_rows-texts hyperlink place heading i
+
+-- and the text of its id links to the id's address, where links are on and it has one, and nothing else links
+pub links_of_heading : {hyperlink : Bool} {place : TitleStyle} {heading : Heading} {rows : List (List Cell)} → ShowsHeading hyperlink place heading rows
+    → LinksId hyperlink place heading rows
+links_of_heading {hyperlink} {place} {heading} shown =
+    subst (LinksId hyperlink place heading) (sym shown.rows_are) (heading_rows-places hyperlink place heading)
 
 -- those of a message show it too
 pub message_shown : (r : Renderer) (layout : Layout) (around : ElementContext) (found : List Cell) (message : the_message.Message) (rows : List (List Cell))

@@ -50,7 +50,7 @@ use Rattle.snippet_strokes.specs.StrokeRows.{IsElisionRow}
 use Rattle.snippet_strokes.specs.SourceRows.{bare_row}
 use Rattle.snippet_titles.specs.HeadingRows.{heading_rows}
 use Rattle.snippet_titles.specs.Origin.{origin_text, padding_row}
-use Rattle.snippet_titles.specs.ShownHeading.{IsFreeButText, LinksId}
+use Rattle.snippet_titles.specs.ShownHeading.{IsFreeButText}
 use Rattle.snippet_titles.specs.Title.{id_links}
 use Rattle.snippet_titles.specs.declared.style.TitleStyle.{TitleStyle}
 use Rattle.snippet_titles.specs.declared.style.TitleStyle.TheVariants as style
@@ -77,7 +77,6 @@ use Rattle.annotate_snippets.specs.RowsWithoutSource.{suggestion_head}
 -- of its own text, which is trusted
 pub record ShowsHeading (hyperlink : Bool) (place : TitleStyle) (heading : Heading) (rows : List (List Cell)) : Type 0 where
   pub rows_are : rows ≡ heading_rows hyperlink place heading
-  pub links : LinksId hyperlink place heading rows
   pub free : All (IsFreeButText heading) rows
 
 -- the rows show a group's title, if it has one: after its own rows stands what sets off a message that follows, or closes the
