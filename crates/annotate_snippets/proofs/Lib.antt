@@ -2,6 +2,7 @@ pub mod AroundLaws
 pub mod AsSetFaults
 pub mod AsSetLemmas
 pub mod AsSetSteps
+pub mod Ascending
 pub mod BarExamples
 pub mod BoundsLaws
 pub mod CauseShown

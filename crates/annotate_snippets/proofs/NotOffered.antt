@@ -27,12 +27,14 @@ use Rattle.snippet_splice.specs.Trim.{kept_before, sandwich}
 use Rattle.snippet_suggest.specs.Given.{IsOfferable, edits_of, first_given, given_lines, last_reached}
 use Rattle.snippet_suggest.specs.Kind.{is_blank_text}
 use Rattle.snippet_suggest.specs.SuggestionRows.{IsBareRow}
-use Rattle.annotate_snippets.specs.Page.{Elision, NamedRow, OfferedLine, RemovedLine, Other, RowName, IsAscending, SourceRow, lines_offered, others}
+use Rattle.snippet_parts.specs.Entries.{Ascends}
+use Rattle.annotate_snippets.specs.Page.{Elision, NamedRow, OfferedLine, RemovedLine, Other, RowName, SourceRow, lines_offered, others}
 use Rattle.annotate_snippets.specs.RowsWithoutSource.{suggestion_head}
 use Rattle.annotate_snippets.specs.Settings.{plain_settings}
 use Rattle.snippet_grid.specs.Layout.{Layout}
 use Rattle.annotate_snippets.specs.declared.renderer.element_context.ElementContext.{ElementContext}
 use Rattle.annotate_snippets.specs.ShownPage.{IsOfferedRow, IsSuggestionRow, ShowsSuggestion}
+use Rattle.annotate_snippets.proofs.Ascending.{IsAscending, ascending}
 use Rattle.annotate_snippets.proofs.NotShown.{two_of_one}
 
 -- ---- small suggestions, and their rows
@@ -170,7 +172,8 @@ second_copy_offered s is layout narrow ascii around row copy before between afte
     All (λ r. IsSuggestionRow plain_settings Ascii gutter s r.name r.cells) rows) narrow (subst (λ decor. All
     (λ r. IsSuggestionRow plain_settings decor layout.gutter s r.name r.cells) rows) ascii
     (subst (All (λ r. IsSuggestionRow plain_settings layout.decor layout.gutter s r.name r.cells)) same shown.named)) in
-    let ordered : IsAscending (lines_offered rows) = subst (λ all. IsAscending (lines_offered all)) same shown.ordered in
+    let ordered : IsAscending (lines_offered rows) = ascending (lines_offered rows)
+    (subst (λ all. Ascends (lines_offered all)) same shown.ordered) in
     let first = row_named s before row (between ++ (copy ∷ after)) named in
     let second = row_named s between copy after first.1 in
     let row_named : row.name ≡ OfferedLine 0 = named_first s is row.name row.cells row_is first.0 in

@@ -40,10 +40,11 @@ use Rattle.snippet_grid.specs.Layout.{Layout, bar_cell}
 use Rattle.annotate_snippets.specs.Gutter.{code_after, number_text}
 use Rattle.annotate_snippets.specs.GraphicForm.{bars_on, entries_on}
 use Rattle.annotate_snippets.proofs.DrawnRows.{AreRowsDrawn, IsRowDrawn, open_after}
-use Rattle.annotate_snippets.specs.Page.{Elision, IsAscending, NamedRow, OfferedLine, Other, RemovedLine, RowName, SourceRow, lines_named, rows_below}
+use Rattle.annotate_snippets.specs.Page.{Elision, NamedRow, OfferedLine, Other, RemovedLine, RowName, SourceRow, lines_named, rows_below}
 use Rattle.annotate_snippets.specs.Page.{shows_lines}
 use Rattle.annotate_snippets.specs.ShownPage.{AreRowsOf, IsRowOf, cells_left}
 use Rattle.annotate_snippets.specs.SpanBars.{BarStarts, ShowsBars, bar_beside, bar_cell_of, line_beside}
+use Rattle.annotate_snippets.proofs.Ascending.{IsAscending}
 use Rattle.annotate_snippets.proofs.DrawnLines.{bar_shown, bars_seen}
 use Rattle.annotate_snippets.proofs.LabelLemmas.{head_same, tail_same}
 use Rattle.annotate_snippets.proofs.SpanOpen.{AreOpen, IsFreeAt, alone, ends_apart, open_apart, end_here, goes_past, longer, no_end, no_start, none_open}

@@ -31,12 +31,13 @@ use Rattle.snippet_titles.proofs.OriginFree.{origin_row-free}
 use Rattle.annotate_snippets.specs.Around.{begins_in_row_above, is_end, path_bytes, suggestion_rows}
 use Rattle.annotate_snippets.specs.DrawnReport.{HasRoomFor, IsSuggestionDrawn, suggestion_layout, suggestion_lines, under_of}
 use Rattle.annotate_snippets.specs.GraphicForm.{named_rows}
-use Rattle.annotate_snippets.specs.Page.{IsAscending, NamedRow, cells_of, lines_offered, others}
+use Rattle.annotate_snippets.specs.Page.{NamedRow, cells_of, lines_offered, others}
 use Rattle.annotate_snippets.specs.RowsWithoutSource.{origin_layout, patch_place, path_row, suggestion_head, suggestion_head_at}
 use Rattle.annotate_snippets.specs.ShownPage.{HasStrokes, ShowsSuggestion, name_of_row}
 use Rattle.annotate_snippets.specs.declared.renderer.Renderer.{Renderer}
 use Rattle.snippet_grid.specs.Layout.{Layout}
 use Rattle.annotate_snippets.specs.declared.renderer.element_context.ElementContext.{ElementContext}
+use Rattle.annotate_snippets.proofs.Ascending.{IsAscending, ascends}
 use Rattle.annotate_snippets.proofs.ElementShown.{ElementShown}
 use Rattle.annotate_snippets.proofs.PageLemmas.{cells_of-others}
 use Rattle.annotate_snippets.proofs.SuggestFeedLaws.{suggestion_one_line}
@@ -139,7 +140,7 @@ suggestion_shown r layout around found s rows suggestible some room ends drawn =
         | inl as_it_was ↦ inl (given_as_it_was s suggestible.spans suggestible.disjoint some offerable as_it_was)
         | inr among ↦ inr (subst (λ js. Contains js j) (sym lines) among)
       ];
-      ordered = subst IsAscending (sym lines) (rising_ascends (first_given s) end (offered_lines s) (offered-ascends s));
+      ordered = ascends (lines_offered after) (subst IsAscending (sym lines) (rising_ascends (first_given s) end (offered_lines s) (offered-ascends s)));
       order = names_of-named IsShown s shown lines_are are;
       cells = cells_of-named IsShown s shown lines_are are;
       strokes = subst (AllZip (HasStrokes layout.decor layout.gutter) shown) (sym (cells_of-named IsShown s shown lines_are are))

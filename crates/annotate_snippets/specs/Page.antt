@@ -102,9 +102,3 @@ pub record PrintsGrids (sheet : Stylesheet) (grids : List GroupGrid) (text : Lis
 -- rows that show no line
 abbrev pub others : List (List Cell) → List NamedRow
 others rows = map (λ cells. record { name = Other; cells = cells }) rows
-
--- each number is greater than the one before it
-abbrev pub IsAscending : List ℕ → Type 0
-IsAscending [] = Unit {0}
-IsAscending (j ∷ []) = Unit {0}
-IsAscending (j ∷ k ∷ ks) = (j < k) × IsAscending (k ∷ ks)

@@ -26,6 +26,7 @@ use Rattle.snippet_model.specs.declared.snippet.AnnotationKind.{AnnotationKind}
 use Rattle.snippet_model.specs.declared.snippet.Element.{Element}
 use Rattle.snippet_model.specs.declared.snippet.Element.TheVariants as element
 use Rattle.snippet_parts.specs.Annotated.{promoted, is_long, long_spans}
+use Rattle.snippet_parts.specs.Entries.{Ascends}
 use Rattle.snippet_parts.specs.Kept.{shown_lines}
 use Rattle.snippet_lines.specs.Lines.{source_lines, text_at}
 use Rattle.snippet_splice.specs.Edits.{patched}
@@ -66,7 +67,7 @@ pub use Rattle.annotate_snippets.specs.GraphicForm.{bounds_in, name_of_row, room
 use Rattle.annotate_snippets.specs.GraphicForm.{graphic_form, rows_of_lines}
 use Rattle.annotate_snippets.specs.Gutter.{layout_of_group, line_numbers, number_text, numbered_source}
 use Rattle.annotate_snippets.specs.Page.{RowName, SourceRow, Elision, OfferedLine, RemovedLine, Other, NamedRow, lines_named, lines_offered}
-use Rattle.annotate_snippets.specs.Page.{cells_below, cells_of, rows_below, others, GroupPage, Page, PrintsPage, IsAscending}
+use Rattle.annotate_snippets.specs.Page.{cells_below, cells_of, rows_below, others, GroupPage, Page, PrintsPage}
 use Rattle.annotate_snippets.specs.SpanBars.{ShowsBars}
 use Rattle.annotate_snippets.specs.RowsWithoutSource.{cause_head, message_style, origin_rows, place_found, place_given, rows_after_cause, rows_after_title}
 use Rattle.annotate_snippets.specs.RowsWithoutSource.{suggestion_head}
@@ -274,7 +275,7 @@ pub record ShowsSnippet (r : Renderer) (layout : Layout) (around : ElementContex
   pub lines : lines_named after ≡ shown_lines s.fold (cow_str_bytes s.source) s.markers.items
   pub ends : All (λ a. Contains (lines_named after) (first_line (cow_str_bytes s.source) a)
       × Contains (lines_named after) (last_line (cow_str_bytes s.source) a)) s.markers.items
-  pub ordered : IsAscending (lines_named after)
+  pub ordered : Ascends (lines_named after)
   pub named : AreRowsOf r layout (closes_with around) s after
   pub are : after ≡ rows_of_lines r layout (closes_with around) s [] (shown_lines s.fold (cow_str_bytes s.source) s.markers.items)
   pub bars : ShowsBars layout s after
@@ -334,7 +335,7 @@ pub record ShowsSuggestion (r : Renderer) (layout : Layout) (around : ElementCon
   pub order : map (λ row. row.name) after ≡ map (name_of_row s) (suggestion_rows around s)
   pub cells : cells_of after ≡ suggestion_lines r layout around found s
   pub strokes : AllZip (HasStrokes layout.decor layout.gutter) (suggestion_rows around s) (cells_of after)
-  pub ordered : IsAscending (lines_offered after)
+  pub ordered : Ascends (lines_offered after)
   pub named : All (λ row. IsSuggestionRow r layout.decor layout.gutter s row.name row.cells) after
 
 -- the rows show an element, where this stands in the row in which the one before it ends
