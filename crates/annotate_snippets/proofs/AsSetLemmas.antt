@@ -34,8 +34,7 @@ use Rattle.snippet_titles.specs.Title.{id_chars, id_links, text_links}
 use Rattle.annotate_snippets.specs.AsSet.{AreWithContext, AreWrapped, IsAsSet, IsRemade, adds_context, shows_as_given, wraps}
 use Rattle.annotate_snippets.specs.ContextLaws.{ShowsLinesAround}
 use Rattle.annotate_snippets.specs.Fault.{first_refusal, form_of}
-use Rattle.annotate_snippets.specs.Feeds.{HasOneLineTexts, IsNoFeed, IsOneLineElement, IsOneLineGroup, IsOneLineId, IsOneLineLabel}
-use Rattle.annotate_snippets.specs.Feeds.{IsOneLineText, IsOneLineTitle, page_lines, text_lines}
+use Rattle.annotate_snippets.specs.Feeds.{HasOneLineTexts, IsNoFeed, page_lines, text_lines}
 use Rattle.annotate_snippets.specs.FormLaws.{FormLaws, HasLaws, IsTextUnder, LawsIn}
 use Rattle.annotate_snippets.specs.Forms.{AreFree, ShowsForm, ShowsReport, TextsShown, links_in}
 use Rattle.annotate_snippets.specs.GraphicForm.{graphic_form}
@@ -47,6 +46,7 @@ use Rattle.annotate_snippets.specs.declared.renderer.Renderer.{Renderer}
 use Rattle.annotate_snippets.specs.declared.renderer.error.RenderError.{RenderError}
 use Rattle.annotate_snippets.specs.declared.renderer.form.Form.{Form}
 use Rattle.annotate_snippets.specs.declared.renderer.form.Form.TheVariants.{Graphic, Short, Text}
+use Rattle.annotate_snippets.proofs.OneLineTexts.{IsOneLineElement, IsOneLineGroup, IsOneLineId, IsOneLineLabel, IsOneLineText, IsOneLineTitle, one_line_texts}
 use Rattle.annotate_snippets.proofs.AsSetSteps.{feeds-set, first-pair, flat-same, remade-set, set-back, set-same, unset-same}
 use Rattle.annotate_snippets.proofs.ContextFaults.{refusal-same}
 use Rattle.annotate_snippets.proofs.ContextShown.{around-set}
@@ -307,7 +307,7 @@ plain-set form r groups shown set asked =
     let made : IsRemade form r groups shown = remade-set form r groups shown (feeds-set form r asked) set in
     let pairs : AllZip (IsGroupAsSet true) groups made.fed = subst (λ (feeds : Bool). AllZip (IsGroupAsSet feeds) groups made.fed) asked made.feeds in
     with-wrap (wraps form r) made.around shown made.wrap (with-context (adds_context form r) r.context_before r.context_after made.fed made.around made.context
-    (all-second (IsGroupAsSet true) IsOneLineGroup group-plain groups made.fed pairs))
+    (one_line_texts made.fed (all-second (IsGroupAsSet true) IsOneLineGroup group-plain groups made.fed pairs)))
   where
     with-wrap : (wrap : Bool) (xs ys : List Group) → AreWrapped wrap r xs ys → HasOneLineTexts xs → HasOneLineTexts ys
     with-wrap true xs ys pairs plain = wrapped-line r.term_width (gutter_of_report r xs) xs ys pairs plain

@@ -6,7 +6,7 @@ use Rattle.snippet_model.specs.declared.snippet.Annotation.{Annotation}
 use Rattle.snippet_model.specs.declared.snippet.AnnotationKind.TheVariants.{Context, Primary}
 use Rattle.snippet_model.specs.declared.snippet.Snippet.{Snippet}
 use Rattle.annotate_snippets.specs.Page.{Elision, NamedRow, Other, RowName, SourceRow}
-use Rattle.annotate_snippets.specs.SpanBars.{is_bar_primary, line_beside}
+use Rattle.annotate_snippets.specs.SpanBars.{bar_of_span, line_beside}
 use Rattle.annotate_snippets.proofs.NotShown.{span_of}
 
 -- a row of this name, whatever it holds
@@ -36,8 +36,8 @@ abbrev spans : List Annotation
 spans = span_of Context 0 5 ∷ span_of Primary 0 5 ∷ span_of Context 0 6 ∷ []
 
 -- the bar of the first two is primary, that of the third isn't
-shared_bar : (s : Snippet Annotation) → s.markers.items ≡ spans → is_bar_primary s (span_of Context 0 5) ≡ true
+shared_bar : (s : Snippet Annotation) → s.markers.items ≡ spans → (bar_of_span s (span_of Context 0 5)).primary ≡ true
 shared_bar s are = ap (list_any (λ (b : Annotation). is_primary b.kind && (b.span.start == 0 && b.span.end == 5))) are
 
-own_bar : (s : Snippet Annotation) → s.markers.items ≡ spans → is_bar_primary s (span_of Context 0 6) ≡ false
+own_bar : (s : Snippet Annotation) → s.markers.items ≡ spans → (bar_of_span s (span_of Context 0 6)).primary ≡ false
 own_bar s are = ap (list_any (λ (b : Annotation). is_primary b.kind && (b.span.start == 0 && b.span.end == 6))) are

@@ -36,11 +36,12 @@ use Rattle.annotate_snippets.specs.declared.renderer.element_context.ElementCont
 use Rattle.annotate_snippets.specs.Around.{closes_after, closes_with, is_before_message, is_first_group, path_bytes}
 use Rattle.annotate_snippets.specs.DrawnReport.{AreCauseRows, HasRoomFor, IsCauseDrawn}
 use Rattle.annotate_snippets.specs.Gutter.{code_after, depth_of_element, line_numbers, numbered_source}
-use Rattle.annotate_snippets.specs.Page.{IsAscending, NamedRow, cells_of, lines_named, others}
+use Rattle.annotate_snippets.specs.Page.{NamedRow, cells_of, lines_named, others}
 use Rattle.annotate_snippets.specs.PreparedReport.{IsDrawable}
 use Rattle.annotate_snippets.specs.RowsWithoutSource.{cause_head, closing_rows, origin_layout, place_found, place_named, rows_after_cause, separator_rows}
 use Rattle.annotate_snippets.specs.ShownPage.{NamesLocation}
 use Rattle.annotate_snippets.specs.Feeds.{HasNoFeed}
+use Rattle.annotate_snippets.proofs.Ascending.{IsAscending, ascends}
 use Rattle.annotate_snippets.proofs.ElementShown.{ElementShown}
 use Rattle.annotate_snippets.proofs.GutterLemmas.{numbers_fit}
 use Rattle.annotate_snippets.proofs.LineFeedLaws.{lines_one_line}
@@ -162,12 +163,10 @@ cause_shown r layout around found s rows drawable room drawn =
         rows_are = refl;
         origin = names_place r layout around s drawable.spans (named.part ++ others tail);
         lines = named.lines;
-        elided = named.names;
         ends = ends;
-        ordered = ordered;
+        ordered = ascends (lines_named named.part) ordered;
         named = named.are;
-        drawn = named.drawn;
-        begins = named.begins;
+        are = named.value;
         bars = bars_shown r layout (closes_with around) s drawable.spans named.part named.are named.drawn named.begins ordered ends room.bars;
       };
       free = free_named part (subst (All IsFree) (sym (cells ∙ drawn.rows_are)) all_free);

@@ -18,12 +18,14 @@ use Rattle.snippet_model.specs.declared.snippet.Snippet.{Snippet}
 use Rattle.snippet_model.specs.declared.snippet.Title.{Title}
 use Rattle.snippet_titles.specs.Title.{id_links}
 use Rattle.annotate_snippets.specs.Around.{path_bytes}
-use Rattle.annotate_snippets.specs.Feeds.{HasOneLineTexts, IsOneLineElement, IsOneLineGroup, IsOneLineLabel, IsOneLineText, IsOneLineTitle}
+use Rattle.annotate_snippets.specs.Feeds.{HasOneLineTexts}
 use Rattle.annotate_snippets.specs.Forms.{links_in}
 use Rattle.annotate_snippets.specs.ShownPage.{report_links}
 use Rattle.annotate_snippets.specs.declared.renderer.Renderer.{Renderer}
 use Rattle.annotate_snippets.specs.declared.renderer.form.Form.{Form}
 use Rattle.annotate_snippets.specs.declared.renderer.form.Form.TheVariants.{Graphic, Short, Text}
+use Rattle.annotate_snippets.proofs.OneLineTexts.{IsOneLineElement, IsOneLineGroup, IsOneLineLabel, IsOneLineText, IsOneLineTitle}
+use Rattle.annotate_snippets.proofs.OneLineTexts.{one_line_groups, one_line_texts}
 use Rattle.annotate_snippets.proofs.AsSetSteps.{all-over, first-pair, flat-same}
 
 module _ (before after : ℕ) where
@@ -97,7 +99,7 @@ module _ (before after : ℕ) where
 
   pub plain-around : (groups shown : List Group) → AllZip (IsGroupWithContext before after) groups shown → HasOneLineTexts groups → HasOneLineTexts shown
   plain-around groups shown pairs plain =
-      all-over (IsGroupWithContext before after) IsOneLineGroup (λ a b is texts. (
+      one_line_texts shown (all-over (IsGroupWithContext before after) IsOneLineGroup (λ a b is texts. (
         subst (λ (title : Option Title). IfSome title IsOneLineTitle) (sym is.title) texts.0,
         all-over (IsElementWithContext before after) IsOneLineElement element-plain a.elements.items b.elements.items is.elements texts.1,
-      )) groups shown pairs plain
+      )) groups shown pairs (one_line_groups groups plain))

@@ -2,13 +2,14 @@
 use Rattle.std.proofs.Common.{◌≡◌, All, List}
 use Rattle.snippet_style.specs.Cell.{Cell}
 use Rattle.snippet_model.specs.declared.snippet.Element.{Element}
-use Rattle.annotate_snippets.specs.Feeds.{HasNoFeed, IsOneLineElement}
+use Rattle.annotate_snippets.specs.Feeds.{HasNoFeed}
 use Rattle.annotate_snippets.specs.GraphicForm.{element_rows}
 use Rattle.annotate_snippets.specs.Page.{NamedRow, cells_of}
 use Rattle.annotate_snippets.specs.ShownPage.{IsFreeElement, ShowsElement}
 use Rattle.annotate_snippets.specs.declared.renderer.Renderer.{Renderer}
 use Rattle.snippet_grid.specs.Layout.{Layout}
 use Rattle.annotate_snippets.specs.declared.renderer.element_context.ElementContext.{ElementContext}
+use Rattle.annotate_snippets.proofs.OneLineTexts.{IsOneLineElement}
 
 -- rows that show an element once they have names, with which they are those of its value; and they hold no listed character but a message's own; and no line
 -- feed, where its texts

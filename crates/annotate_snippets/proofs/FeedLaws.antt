@@ -12,11 +12,11 @@ use Rattle.snippet_style.specs.declared.glyphs.DecorStyle.{DecorStyle}
 use Rattle.snippet_style.specs.declared.glyphs.DecorStyle.TheVariants.{Ascii, Unicode}
 use Rattle.snippet_style.specs.declared.role.ElementStyle.TheVariants.{LineNumber}
 use Rattle.snippet_strokes.specs.EntryMarks.{IsBarCell}
-use Rattle.snippet_strokes.specs.StrokeRows.{bare_elision_row}
+use Rattle.snippet_strokes.specs.StrokeRows.{IsElisionRow, bare_elision_row}
 use Rattle.snippet_strokes.specs.SourceRows.{bare_row}
 use Rattle.snippet_grid.specs.Layout.{Layout}
-use Rattle.annotate_snippets.specs.Feeds.{HasNoFeed, HoldsNoFeed, IsNoFeed}
-use Rattle.annotate_snippets.specs.ShownPage.{IsElided}
+use Rattle.annotate_snippets.specs.Feeds.{HasNoFeed, IsNoFeed}
+use Rattle.annotate_snippets.proofs.OneLineTexts.{HoldsNoFeed}
 use Rattle.annotate_snippets.proofs.ListLemmas.{from_any}
 use Rattle.snippet_titles.proofs.OriginFree.{each-fails}
 use Rattle.snippet_style.proofs.CellLemmas.{All-text_cells}
@@ -82,9 +82,10 @@ bare_elision Unicode gutter =
     (cells_plain LineNumber (elision_of Unicode) (each-fails (λ c. c == 10) (elision_of Unicode) refl))
 
 -- a row in place of lines that are left out holds none
-pub elided : (decor : DecorStyle) (layout : Layout) (row : List Cell) → IsElided decor layout row → HasNoFeed row
-elided decor layout row shown =
+pub elided : (layout : Layout) (row : List Cell) → IsElisionRow layout row → HasNoFeed row
+elided layout row shown =
     All-from_get_or HoldsNoFeed row SPACE (λ c within. elim (cases_lt c (layout.gutter + 3)) [
-      | inl left ↦ subst HoldsNoFeed (sym (shown.is.left c left)) (at_any (bare_elision_row decor layout.gutter) (bare_elision decor layout.gutter) c)
-      | inr after ↦ bar_cell decor (get_or row c SPACE) (shown.is.bar_cells c (omega (arith, after)) (omega (arith, within, shown.is.ends)))
+      | inl left ↦
+          subst HoldsNoFeed (sym (shown.left c left)) (at_any (bare_elision_row layout.decor layout.gutter) (bare_elision layout.decor layout.gutter) c)
+      | inr after ↦ bar_cell layout.decor (get_or row c SPACE) (shown.bar_cells c (omega (arith, after)) (omega (arith, within, shown.ends)))
     ])

@@ -38,7 +38,8 @@ use Rattle.snippet_grid.specs.Layout.{Layout}
 use Rattle.annotate_snippets.specs.declared.renderer.element_context.GroupPosition.{GroupPosition}
 use Rattle.annotate_snippets.specs.declared.renderer.element_context.Next.{Next}
 use Rattle.annotate_snippets.specs.declared.renderer.element_context.ElementContext.{ElementContext}
-use Rattle.annotate_snippets.specs.Feeds.{HasNoFeed, IsOneLineElement}
+use Rattle.annotate_snippets.specs.Feeds.{HasNoFeed}
+use Rattle.annotate_snippets.proofs.OneLineTexts.{IsOneLineElement}
 use Rattle.annotate_snippets.proofs.CauseShown.{cause_shown}
 use Rattle.annotate_snippets.proofs.ElementShown.{ElementShown}
 use Rattle.annotate_snippets.proofs.GroupShown.{GroupShown}

@@ -9,13 +9,13 @@ use Rattle.snippet_model.specs.declared.snippet.Group.{Group}
 use Rattle.snippet_model.specs.declared.snippet.Title.{Title}
 use Rattle.snippet_model.specs.Trusted.{trusted_texts}
 use Rattle.snippet_titles.specs.Title.{id_links}
-use Rattle.annotate_snippets.specs.Feeds.{HasOneLineRows, IsOneLineGroup}
 use Rattle.annotate_snippets.specs.GraphicForm.{group_page}
 use Rattle.annotate_snippets.specs.Page.{GroupPage, group_rows}
 use Rattle.annotate_snippets.specs.ShownPage.{IsFreeBut, ShowsGroup}
 use Rattle.annotate_snippets.specs.declared.renderer.Renderer.{Renderer}
 use Rattle.snippet_grid.specs.Layout.{Layout}
 use Rattle.annotate_snippets.specs.declared.renderer.element_context.GroupPosition.{GroupPosition}
+use Rattle.annotate_snippets.proofs.OneLineTexts.{HasOneLineRows, IsOneLineGroup}
 
 -- rows that show a group once they have names, with which they are its page: they link to what its title links to, and each listed character of them is one of
 -- its trusted texts; and they hold no line feed, where its texts bring none

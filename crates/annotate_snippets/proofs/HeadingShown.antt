@@ -3,6 +3,7 @@ use Rattle.std.proofs.Common.{◌≡◌, ◌∙◌, ℕ, ◌+◌, Bool, true, fa
 use Rattle.std.specs.Cow.{cow_str_bytes}
 use Rattle.std.specs.List.{All}
 use Rattle.std.proofs.lemmas.List.Elements.{All-cons, All-nil}
+use Rattle.std.specs.List.{slice_index_or}
 use Rattle.snippet_grid.specs.Grid.{row_at}
 use Rattle.snippet_style.specs.Cell.{Cell}
 use Rattle.snippet_grid.specs.Print.{row_text}
@@ -16,7 +17,7 @@ use Rattle.snippet_model.specs.FreeRows.{IsFree}
 use Rattle.snippet_parts.proofs.PartLemmas.{All-unmapped}
 use Rattle.snippet_titles.specs.HeadingRows.{heading_rows}
 use Rattle.snippet_titles.specs.Origin.{origin_row, padding_row}
-use Rattle.snippet_titles.specs.ShownHeading.{IsFreeButText}
+use Rattle.snippet_titles.specs.ShownHeading.{IsFreeButText, LinksId, heading_texts}
 use Rattle.snippet_titles.specs.Title.{title_rows}
 use Rattle.snippet_titles.specs.declared.style.TitleStyle.{TitleStyle}
 use Rattle.snippet_titles.specs.declared.style.TitleStyle.TheVariants as style
@@ -51,12 +52,22 @@ heading_shown : (hyperlink : Bool) (place : TitleStyle) (heading : Heading) → 
 heading_shown hyperlink place heading =
     record {
       rows_are = refl;
-      texts = heading_rows-texts hyperlink place heading;
-      links = heading_rows-places hyperlink place heading;
       free = heading_rows-free hyperlink place heading;
     }
 
--- so do those of a message
+-- so the text of each is that of the line that it shows, the first after the label
+pub texts_of : {hyperlink : Bool} {place : TitleStyle} {heading : Heading} {rows : List (List Cell)} → ShowsHeading hyperlink place heading rows → (i : ℕ)
+    → row_text (row_at rows i) ≡ slice_index_or (heading_texts place heading) i []
+texts_of {hyperlink} {place} {heading} shown i =
+    ap (λ rs. row_text (row_at rs i)) shown.rows_are ∙ heading_rows-texts hyperlink place heading i
+
+-- and the text of its id links to the id's address, where links are on and it has one, and nothing else links
+pub links_of_heading : {hyperlink : Bool} {place : TitleStyle} {heading : Heading} {rows : List (List Cell)} → ShowsHeading hyperlink place heading rows
+    → LinksId hyperlink place heading rows
+links_of_heading {hyperlink} {place} {heading} shown =
+    subst (LinksId hyperlink place heading) (sym shown.rows_are) (heading_rows-places hyperlink place heading)
+
+-- those of a message show it too
 pub message_shown : (r : Renderer) (layout : Layout) (around : ElementContext) (found : List Cell) (message : the_message.Message) (rows : List (List Cell))
     → rows ≡ message_rows r layout around message → ElementShown r layout around found (Message message) rows
 message_shown r layout around found message rows are =

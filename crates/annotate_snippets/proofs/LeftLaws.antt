@@ -14,11 +14,11 @@ use Rattle.snippet_style.proofs.CellLemmas.{length-text_cells}
 use Rattle.snippet_grid.specs.Print.{row_text}
 use Rattle.snippet_model.specs.FreeRows.{HasNoNumber}
 use Rattle.snippet_strokes.specs.SourceRows.{IsSourceRow}
-use Rattle.snippet_strokes.specs.StrokeRows.{bare_elision_row}
+use Rattle.snippet_strokes.specs.StrokeRows.{IsElisionRow, bare_elision_row}
 use Rattle.snippet_grid.specs.Layout.{Layout}
 use Rattle.snippet_strokes.proofs.BegunLemmas.{same_front}
 use Rattle.snippet_strokes.proofs.RowLemmas.{bare_row_left}
-use Rattle.annotate_snippets.specs.ShownPage.{IsElided, IsRowBelow, cells_left}
+use Rattle.annotate_snippets.specs.ShownPage.{IsRowBelow, cells_left}
 use Rattle.snippet_grid.proofs.RowLemmas.{row_text-text_cells}
 
 module _ (decor : DecorStyle) (gutter : ℕ) (shown : List ℕ) where
@@ -137,9 +137,9 @@ bare_unnumbered Unicode gutter c left =
     (omega (arith, left, length-replicate (gutter + 1) SPACE)) ∙ get_or-replicate (gutter + 1) c SPACE SPACE (omega (arith, left)))
 
 -- the row for lines that are left out has no number
-pub unnumbered_elided : (decor : DecorStyle) (layout : Layout) (row : List Cell) → IsElided decor layout row → HasNoNumber layout.gutter row
-unnumbered_elided decor layout row shown c left =
-    ap (λ (cell : Cell). is_ascii_alphanumeric cell.ch) (shown.is.left c (omega (arith, left))) ∙ bare_unnumbered decor layout.gutter c left
+pub unnumbered_elided : (layout : Layout) (row : List Cell) → IsElisionRow layout row → HasNoNumber layout.gutter row
+unnumbered_elided layout row shown c left =
+    ap (λ (cell : Cell). is_ascii_alphanumeric cell.ch) (shown.left c (omega (arith, left))) ∙ bare_unnumbered layout.decor layout.gutter c left
 
 -- ---- computed on small inputs
 

@@ -2,6 +2,7 @@ pub mod AroundLaws
 pub mod AsSetFaults
 pub mod AsSetLemmas
 pub mod AsSetSteps
+pub mod Ascending
 pub mod BarExamples
 pub mod BoundsLaws
 pub mod CauseShown
@@ -11,11 +12,13 @@ pub mod ContextShown
 pub mod ContextTexts
 pub mod DisjointLemmas
 pub mod DrawnLines
+pub mod DrawnRows
 pub mod ElementRows
 pub mod ElementShown
 pub mod FaultLemmas
 pub mod FeedLaws
 pub mod FormExamples
+pub mod FormLines
 pub mod FormSteps
 pub mod FormsShown
 pub mod GridRows
@@ -29,6 +32,7 @@ pub mod LabelLemmas
 pub mod LeftLaws
 pub mod LineFeedLaws
 pub mod LineLemmas
+pub mod LineRowValues
 pub mod LineValue
 pub mod ListLemmas
 pub mod MarkLemmas
@@ -51,6 +55,7 @@ pub mod NotTitled
 pub mod NotWhole
 pub mod NotWrapped
 pub mod NumberLaws
+pub mod OneLineTexts
 pub mod PageLemmas
 pub mod PartsFacts
 pub mod PatchRows

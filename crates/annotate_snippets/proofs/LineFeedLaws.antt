@@ -55,11 +55,13 @@ use Rattle.snippet_labels.proofs.PlacedLemmas.{entries_all}
 use Rattle.snippet_strokes.proofs.StemWrites.{All-stem_of, All-stems_of}
 use Rattle.snippet_strokes.proofs.WriteLaws.{All-flat_map, painted-cell}
 use Rattle.annotate_snippets.specs.declared.renderer.Renderer.{Renderer}
-use Rattle.annotate_snippets.specs.Feeds.{HasNoFeed, HoldsNoFeed, IsNoFeed, IsOneLineLabel, IsOneLineText}
+use Rattle.annotate_snippets.specs.Feeds.{HasNoFeed, IsNoFeed}
 use Rattle.annotate_snippets.specs.Gutter.{numbered_source}
-use Rattle.annotate_snippets.specs.SnippetLineRows.{AreRowsDrawn, IsLineDrawn, IsRowDrawn, entries_on, open_after}
+use Rattle.annotate_snippets.specs.GraphicForm.{entries_on}
+use Rattle.annotate_snippets.proofs.DrawnRows.{AreRowsDrawn, IsLineDrawn, IsRowDrawn, open_after}
 use Rattle.annotate_snippets.specs.Page.{Elision, NamedRow, OfferedLine, Other, RemovedLine, RowName, SourceRow, cells_of, rows_below}
 use Rattle.annotate_snippets.specs.ShownPage.{AreRowsOf, IsRowOf, normalized_chars}
+use Rattle.annotate_snippets.proofs.OneLineTexts.{HoldsNoFeed, IsOneLineLabel, IsOneLineText}
 use Rattle.annotate_snippets.proofs.FeedLaws.{at_any, bare-plain, elided}
 use Rattle.annotate_snippets.proofs.HeadingFeedLaws.{parts_plain}
 use Rattle.annotate_snippets.proofs.LabelLemmas.{tail_same}
@@ -397,7 +399,7 @@ module _ (r : Renderer) (layout : Layout) (closes : Bool) (s : Snippet Annotatio
         (rows_below rows) _ drawn,
   )
   one_row open_bars Elision cells rows shows drawn below =
-      (elided layout.decor layout cells shows, subst (All HasNoFeed) (sym drawn.1) (All-nil HasNoFeed))
+      (elided layout cells shows, subst (All HasNoFeed) (sym drawn.1) (All-nil HasNoFeed))
   one_row open_bars (OfferedLine j) cells rows shows drawn below = absurd shows
   one_row open_bars (RemovedLine i) cells rows shows drawn below = absurd shows
   one_row open_bars Other cells rows shows drawn below =

@@ -8,7 +8,7 @@ use Rattle.snippet_model.specs.declared.snippet.Snippet.{Snippet}
 use Rattle.snippet_style.specs.Cell.{Cell}
 use Rattle.snippet_text.specs.Normalized.{norm}
 use Rattle.snippet_text.specs.Width.{width_of}
-use Rattle.snippet_parts.specs.Annotated.{seen_part}
+use Rattle.snippet_parts.specs.Annotated.{PartEntry, seen_part}
 use Rattle.snippet_window.specs.Margin.{Bounds, bounds_of}
 use Rattle.snippet_window.specs.Window.{chars_at, dropped_part}
 use Rattle.snippet_parts.specs.declared.entries.LineAnnotation.{LineAnnotation}
@@ -22,9 +22,9 @@ use Rattle.snippet_strokes.specs.StrokeRows.{highlighted_row}
 use Rattle.snippet_strokes.proofs.LineValueLaws.{highlighted_is, highlighted_row-plain, line_rows-plain, line_rows_are}
 use Rattle.annotate_snippets.specs.declared.renderer.Renderer.{Renderer}
 use Rattle.snippet_grid.specs.Layout.{Layout}
-use Rattle.annotate_snippets.specs.GraphicForm.{lent, line_entry, margin_in, rows_of_line}
+use Rattle.annotate_snippets.specs.GraphicForm.{entries_on, lent, line_entry, margin_in, rows_of_line}
 use Rattle.annotate_snippets.specs.Gutter.{number_text}
-use Rattle.annotate_snippets.specs.SnippetLineRows.{IsLineDrawn, entries_on}
+use Rattle.annotate_snippets.proofs.DrawnRows.{IsLineDrawn}
 use Rattle.annotate_snippets.specs.ShownPage.{bounds_in, room_of}
 
 -- a label that is lent from nowhere has the text of the one that was lent
@@ -37,6 +37,17 @@ plain_parts : (es : List LineAnnotation) → map line_entry (map seen_part es) �
 plain_parts [] = refl
 plain_parts (e ∷ es) =
     ap (λ label. record e { label = label } ∷ map line_entry (map seen_part es)) (same_label e.label) ∙ ap (λ rest. plain_entry e ∷ rest) (plain_parts es)
+
+-- and entries that are drawn are seen as those of which they are made
+same_text : (label : Option (List ℕ)) → option_copied (option_map lent label) ≡ label
+same_text None = refl
+same_text (Some label) = refl
+
+pub parts_seen : (ps : List PartEntry) → map seen_part (map line_entry ps) ≡ ps
+parts_seen [] = refl
+parts_seen (p ∷ ps) =
+    ap (λ label. record { entry = record (p.entry) { label = label }; part = p.part } ∷ map seen_part (map line_entry ps)) (same_text p.entry.label)
+    ∙ ap (λ rest. p ∷ rest) (parts_seen ps)
 
 -- a margin of this room and these bounds
 abbrev margin_at : ℕ → Bounds → Margin

@@ -1,5 +1,5 @@
 -- Rows without the bars of spans, and with others: each contradicts what is said of bars.
-use Rattle.std.proofs.Common.{◌≡◌, ◌≢◌, ℕ, ◌+◌, ◌<◌, ◌≤◌, Bool, true, false, List, ◌∷◌, ◌++◌, All, Contains, sym, ap, ◌∙◌, arith, inl, inr}
+use Rattle.std.proofs.Common.{◌≡◌, ◌≢◌, ◌⊎◌, ℕ, ◌+◌, ◌<◌, ◌≤◌, Bool, true, false, List, ◌∷◌, ◌++◌, All, Contains, sym, ap, ◌∙◌, arith, inl, inr}
 use Rattle.std.specs.List.{slice_index_or}
 use Rattle.std.specs.Cow.{cow_str_bytes}
 use Rattle.std.proofs.lemmas.Bool.{both_ways, cases_eq}
@@ -16,8 +16,7 @@ use Rattle.snippet_parts.specs.Marked.{first_line, last_line}
 use Rattle.snippet_grid.specs.Grid.{cell_at}
 use Rattle.snippet_grid.specs.Layout.{Layout}
 use Rattle.snippet_strokes.specs.Bars.{Bar}
-use Rattle.snippet_strokes.specs.EndBars.{dotted_bar, end_corner, solid_bar}
-use Rattle.annotate_snippets.specs.declared.renderer.Renderer.{Renderer}
+use Rattle.snippet_strokes.specs.EndBars.{IsNoBar, dotted_bar, end_corner, solid_bar}
 use Rattle.annotate_snippets.specs.Page.{Elision, NamedRow, OfferedLine, Other, RemovedLine, RowName, SourceRow, rows_below, shows_lines}
 use Rattle.annotate_snippets.specs.SpanBars.{ShowsBars, bar_beside, bar_cell_of, bar_of_span, line_beside}
 
@@ -63,7 +62,7 @@ no_line layout bar primary same =
     by_kind Unicode false true is = omega (arith, is)
     by_kind Unicode false false is = omega (arith, is)
 
-module _ (r : Renderer) (layout : Layout) (s : Snippet Annotation) (rows : List NamedRow) (shown : ShowsBars r layout s rows) (above : List NamedRow)
+module _ (layout : Layout) (s : Snippet Annotation) (rows : List NamedRow) (shown : ShowsBars layout s rows) (above : List NamedRow)
     (row : NamedRow) (below : List NamedRow) (is : rows ≡ above ++ row ∷ below) where
   -- the row stands between the lines of a span of several lines
   record GoesPast (a : Annotation) : Type 0 where
@@ -74,7 +73,7 @@ module _ (r : Renderer) (layout : Layout) (s : Snippet Annotation) (rows : List 
 
   has_bar : (a : Annotation) → GoesPast a → slice_index_or row.cells (bar_cell_of layout s a) SPACE ≡ SPACE → ⊥
   has_bar a past empty =
-      let bar = shown.stand a past.among past.long above row below is past.first past.last in
+      let bar = (shown.each a past.among past.long above row below is).stand past.first past.last in
       no_space layout row.name (bar_of_span s a) (sym bar ∙ empty)
 
   -- a space in the cell of a bar, beside a line between the first and the last of its span:
@@ -89,15 +88,24 @@ module _ (r : Renderer) (layout : Layout) (s : Snippet Annotation) (rows : List 
       → slice_index_or row.cells (bar_cell_of layout s a) SPACE ≡ SPACE → ⊥
   bar_left_out a among long first last empty = has_bar a (record { among = among; long = long; first = first; last = last }) empty
 
+  -- a cell of bars, in a snippet that has no span of several lines
+  clear_of_bars : All (λ a. is_long (cow_str_bytes s.source) a ≡ false) s.markers.items → (c : ℕ) → layout.gutter + 3 ≤ c → c < layout.code
+      → (slice_index_or row.cells c SPACE ≡ SPACE) ⊎ ((shows_lines row.name ≡ false) × IsNoBar layout.decor (slice_index_or row.cells c SPACE))
+  clear_of_bars none c from to =
+      shown.others above row below is c from to (All-weaker (λ (a : Annotation). is_long (cow_str_bytes s.source) a ≡ false)
+      (λ a. is_long (cow_str_bytes s.source) a ≡ true → touches (cow_str_bytes s.source) a (line_beside above row.name) ≡ true → bar_cell_of layout s a ≢ c)
+      (λ a short long touched same. both_ways (is_long (cow_str_bytes s.source) a) short long) s.markers.items none)
+
   -- a bar of no span, beside a line or lines that are left out, in a snippet that has no span of several lines:
   --
   --     2 ┃ b
   pub bar_of_no_span : All (λ a. is_long (cow_str_bytes s.source) a ≡ false) s.markers.items → shows_lines row.name ≡ true → (c : ℕ) → layout.gutter + 3 ≤ c
       → c < layout.code → (slice_index_or row.cells c SPACE ≡ SPACE → ⊥) → ⊥
   bar_of_no_span none shows c from to filled =
-      filled (shown.spaces above row below is shows c from to (All-weaker (λ (a : Annotation). is_long (cow_str_bytes s.source) a ≡ false)
-      (λ a. is_long (cow_str_bytes s.source) a ≡ true → touches (cow_str_bytes s.source) a (line_beside above row.name) ≡ true → bar_cell_of layout s a ≢ c)
-      (λ a short long touched same. both_ways (is_long (cow_str_bytes s.source) a) short long) s.markers.items none))
+      elim (clear_of_bars none c from to) [
+        | inl space ↦ filled space
+        | inr below_a_line ↦ both_ways (shows_lines row.name) below_a_line.0 shows
+      ]
 
   -- nor below a line, whatever bar that is:
   --
@@ -108,12 +116,12 @@ module _ (r : Renderer) (layout : Layout) (s : Snippet Annotation) (rows : List 
       → slice_index_or row.cells (layout.gutter + 2 + bar.depth) SPACE ≡ solid_bar layout bar → ⊥
   bar_of_no_span_below none bar from to there =
       let c : ℕ = layout.gutter + 2 + bar.depth in
-      let clear = shown.others above row below is c from to (All-weaker (λ (a : Annotation). is_long (cow_str_bytes s.source) a ≡ false)
-      (λ a. is_long (cow_str_bytes s.source) a ≡ true → touches (cow_str_bytes s.source) a (line_beside above row.name) ≡ true → bar_cell_of layout s a ≢ c)
-      (λ a short long touched same. both_ways (is_long (cow_str_bytes s.source) a) short long) s.markers.items none) in
-      elim clear [
+      elim (clear_of_bars none c from to) [
         | inl space ↦ no_space layout Other bar (sym there ∙ space)
-        | inr line ↦ no_line layout bar line.0 (sym there ∙ line.1)
+        | inr below_a_line ↦ elim below_a_line.1 [
+          | inl space ↦ no_space layout Other bar (sym there ∙ space)
+          | inr line ↦ no_line layout bar line.0 (sym there ∙ line.1)
+        ]
       ]
 
   -- a space in the cell of a bar, beside the last line of its span:
@@ -125,7 +133,7 @@ module _ (r : Renderer) (layout : Layout) (s : Snippet Annotation) (rows : List 
   pub bar_left_out_at_its_end : (a : Annotation) → Contains s.markers.items a → is_long (cow_str_bytes s.source) a ≡ true
       → row.name ≡ SourceRow (last_line (cow_str_bytes s.source) a) → slice_index_or row.cells (bar_cell_of layout s a) SPACE ≡ SPACE → ⊥
   bar_left_out_at_its_end a among long last empty =
-      let ends = shown.end a among long above row below is last in
+      let ends = (shown.each a among long above row below is).end last in
       no_space layout Other (bar_of_span s a) (sym (ends.beside 0 ends.below) ∙ empty)
 
   -- no corner at which the bar ends, in any row of the last line of its span:
@@ -136,7 +144,7 @@ module _ (r : Renderer) (layout : Layout) (s : Snippet Annotation) (rows : List 
       → row.name ≡ SourceRow (last_line (cow_str_bytes s.source) a)
       → ((i : ℕ) → cell_at (row.cells ∷ rows_below below) i (bar_cell_of layout s a) ≡ end_corner layout (bar_of_span s a) → ⊥) → ⊥
   corner_left_out a among long last none =
-      let ends = shown.end a among long above row below is last in
+      let ends = (shown.each a among long above row below is).end last in
       none ends.corner ends.corner_is
 
   -- the bars of two spans in one cell, beside a line between the first and the last of both, so that spaces stand in all other cells of

@@ -1,5 +1,7 @@
 -- Rows that are none of a line, and cells that are none of a row: each contradicts what is said of all rows of a snippet's lines.
-use Rattle.std.proofs.Common.{◌≡◌, ℕ, ◌+◌, ◌<◌, Bool, true, false, cond, None, List, [], ◌∷◌, ◌++◌, codes, length, refl, sym, ap, subst, ◌∙◌, arith}
+use Rattle.std.proofs.Common.{◌≡◌, ℕ, ◌+◌, ◌<◌, ◌≤◌, Bool, true, false, cond, None, List, [], ◌∷◌, ◌++◌, codes, length, map, refl, sym, ap, subst, ◌∙◌}
+use Rattle.std.proofs.Common.{arith}
+use Rattle.std.specs.Cow.{cow_str_bytes}
 use Rattle.std.specs.Str.{chars}
 use Rattle.std.proofs.lemmas.List.{append_cancel_left, append_cancel_right, length-map}
 use Rattle.snippet_grid.specs.Grid.{cell_at}
@@ -13,22 +15,29 @@ use Rattle.snippet_style.specs.declared.glyphs.DecorStyle.TheVariants.{Ascii}
 use Rattle.snippet_style.specs.declared.role.ElementStyle.TheVariants.{LineNumber, Quotation}
 use Rattle.snippet_lines.specs.Lines.{start_of}
 use Rattle.snippet_lines.specs.Place.{line_of, place_of}
-use Rattle.snippet_parts.specs.Annotated.{seen_part}
+use Rattle.snippet_text.specs.Normalized.{norm}
+use Rattle.snippet_text.specs.Width.{width_of}
+use Rattle.snippet_parts.specs.declared.entries.LineAnnotation.{LineAnnotation}
+use Rattle.snippet_window.specs.Margin.{bounds_of}
+use Rattle.snippet_window.specs.Window.{chars_at, dropped_part}
+use Rattle.snippet_window.specs.declared.margin.Margin.{Margin}
 use Rattle.snippet_parts.specs.Kept.{shown_lines}
-use Rattle.snippet_strokes.specs.Bars.{Bar}
-use Rattle.snippet_strokes.proofs.LineRowLaws.{bar_beside, lone_rows}
+use Rattle.snippet_strokes.specs.Bars.{Bar, ends_of_bars}
 use Rattle.snippet_strokes.proofs.RowLemmas.{bare_row_left}
 use Rattle.annotate_snippets.specs.declared.renderer.Renderer.{Renderer}
 use Rattle.snippet_grid.specs.Layout.{Layout}
 use Rattle.annotate_snippets.specs.declared.renderer.element_context.ElementContext.{ElementContext}
 use Rattle.annotate_snippets.specs.Around.{closes_with}
-use Rattle.annotate_snippets.specs.SnippetLineRows.{AreRowsDrawn, IsLineDrawn, IsRowDrawn, bars_on, entries_on}
-use Rattle.annotate_snippets.specs.Page.{Elision, NamedRow, OfferedLine, Other, RemovedLine, RowName, SourceRow, line_named, names_in, names_of_lines, others}
+use Rattle.annotate_snippets.specs.GraphicForm.{bars_on, entries_on, line_entry, margin_in, rows_of_line}
+use Rattle.annotate_snippets.specs.Page.{Elision, NamedRow, OfferedLine, Other, RemovedLine, RowName, SourceRow, line_named, others}
 use Rattle.annotate_snippets.specs.Page.{rows_below, shows_lines}
 use Rattle.annotate_snippets.specs.RowsWithoutSource.{cause_head, rows_after_cause}
 use Rattle.annotate_snippets.specs.Settings.{plain_settings}
 use Rattle.annotate_snippets.specs.ShownPage.{AreRowsOf, IsRowBelow, IsRowOf, ShowsSnippet, ShowsSourceLine}
 use Rattle.annotate_snippets.proofs.DrawnLines.{bars_seen}
+use Rattle.annotate_snippets.proofs.FormLines.{IsWholeLine, line_of_rows, names_in, names_of_lines, names_of_rows, none_above}
+use Rattle.annotate_snippets.proofs.LineRowValues.{bar_beside_line, lone_line_rows}
+use Rattle.annotate_snippets.proofs.LineValue.{parts_seen}
 use Rattle.annotate_snippets.proofs.NotShown.{layout, span_of}
 use Rattle.annotate_snippets.proofs.NotWhole.{IsLineA, unnamed}
 
@@ -37,23 +46,36 @@ use Rattle.annotate_snippets.proofs.NotWhole.{IsLineA, unnamed}
 --     1 | ab cd
 --       | ^^
 --       |
-pub row_doubled : (r : Renderer) (layout : Layout) (closes : Bool) (s : Snippet Annotation) (open_bars : List Bar) (k : ℕ) (rows : List (List Cell))
-    → IsLineDrawn r layout closes s open_bars k rows → length (entries_on s k) ≡ 1 → 2 < length rows → ⊥
-row_doubled r layout closes s open_bars k rows line lone many =
-    let one : length line.entries ≡ 1 = sym (length-map line.entries seen_part) ∙ ap length line.are ∙ lone in
-    omega (arith, many, lone_rows layout line.margin.term_width closes line.text line.dropped line.highlighted rows open_bars line.entries line.drawn one)
+pub row_doubled : (r : Renderer) (layout : Layout) (around : ElementContext) (s : Snippet Annotation) (rows : List NamedRow)
+    → (shown : ShowsSnippet r layout around s rows) (above : List NamedRow) (row : NamedRow) (below : List NamedRow) → shown.after ≡ above ++ row ∷ below
+    → (k : ℕ) → row.name ≡ SourceRow k → length (entries_on s k) ≡ 1 → 1 < length (rows_below below) → ⊥
+row_doubled r layout around s rows shown above row below is k named lone many =
+    let line : IsWholeLine r layout s k row.cells below = line_of_rows r layout s (closes_with around) []
+    (shown_lines s.fold (cow_str_bytes s.source) s.markers.items) above row below (sym is ∙ shown.are) (SourceRow k) named in
+    omega (arith, many, ap length line.are, line_alone r layout line.closes s line.open_bars k lone)
+  where
+    line_alone : (r : Renderer) (layout : Layout) (closes : Bool) (s : Snippet Annotation) (open_bars : List Bar) (k : ℕ) → length (entries_on s k) ≡ 1
+        → length (rows_of_line r layout closes s open_bars k) ≤ 2
+    line_alone r layout closes s open_bars k lone =
+        let margin : Margin = margin_in r layout s in
+        let text : List ℕ = norm (chars_at (cow_str_bytes s.source) k) in
+        lone_line_rows layout margin.term_width closes text (width_of (dropped_part (bounds_of margin).left text)) _ open_bars (map line_entry (entries_on s k))
+        (length-map (entries_on s k) line_entry ∙ lone)
 
 -- beside a line on which no bar begins or ends, and above which one is open, a cell at its depth in another role than that of the
 -- bar's kind, be it of the other kind or a space:
 --
 --     2 ┃ b         where the span is for context
-pub bar_of_other_kind : (r : Renderer) (layout : Layout) (closes : Bool) (s : Snippet Annotation) (bar : Bar) (k : ℕ) (rows : List (List Cell))
-    → IsLineDrawn r layout closes s (bar ∷ []) k rows → bars_on s k ≡ [] → (i : ℕ) → i < length rows
-    → ((cell_at rows i (layout.gutter + 2 + bar.depth)).role ≡ underline_role bar.primary → ⊥) → ⊥
-bar_of_other_kind r layout closes s bar k rows line none i within other =
-    let ends = bars_seen s k line.entries line.are ∙ none in
-    other (ap (λ (cell : Cell). cell.role) (bar_beside layout line.margin.term_width closes line.text line.dropped line.highlighted rows bar line.entries
-    line.drawn ends i within))
+pub bar_of_other_kind : (r : Renderer) (layout : Layout) (closes : Bool) (s : Snippet Annotation) (bar : Bar) (k : ℕ) → bars_on s k ≡ [] → (i : ℕ)
+    → i < length (rows_of_line r layout closes s (bar ∷ []) k)
+    → ((cell_at (rows_of_line r layout closes s (bar ∷ []) k) i (layout.gutter + 2 + bar.depth)).role ≡ underline_role bar.primary → ⊥) → ⊥
+bar_of_other_kind r layout closes s bar k none i within other =
+    let margin : Margin = margin_in r layout s in
+    let text : List ℕ = norm (chars_at (cow_str_bytes s.source) k) in
+    let entries : List LineAnnotation = map line_entry (entries_on s k) in
+    let ends : ends_of_bars entries ≡ [] = bars_seen s k entries (parts_seen (entries_on s k)) ∙ none in
+    other (ap (λ (cell : Cell). cell.role)
+    (bar_beside_line layout margin.term_width closes text (width_of (dropped_part (bounds_of margin).left text)) _ bar entries ends i within))
 
 -- ---- rows that no line has
 
@@ -83,10 +105,12 @@ row_above_the_first_line s is around row more none shown =
     let same : shown.after ≡ row ∷ more = append_cancel_right shown.after (row ∷ more) tail
     (sym (append_cancel_left (others (cause_head plain_settings layout around s)) ((row ∷ more) ++ tail) (shown.after ++ tail) shown.rows_are)) in
     let named : IsRowOf plain_settings layout closes s row.name row.cells more = (subst (AreRowsOf plain_settings layout closes s) same shown.named).0 in
-    let names : names_in (row ∷ more) ≡ SourceRow 0 ∷ [] = ap names_in (sym same) ∙ shown.elided
+    let ks : List ℕ = shown_lines s.fold (cow_str_bytes s.source) s.markers.items in
+    let names : names_in (row ∷ more) ≡ SourceRow 0 ∷ [] = ap names_in (sym same ∙ shown.are) ∙ names_of_rows plain_settings layout s closes [] ks
     ∙ ap (λ source. names_of_lines (shown_lines s.fold source s.markers.items)) is.is.source_is
     ∙ ap (λ marks. names_of_lines (shown_lines s.fold (codes "a") marks)) is.is.marks_are ∙ one_line s.fold in
-    by_name row.name (unnamed closes s is row.name row.cells more none named) (subst (λ rows. rows_below rows ≡ []) same shown.begins) names
+    by_name row.name (unnamed closes s is row.name row.cells more none named)
+    (ap rows_below (sym same ∙ shown.are) ∙ none_above plain_settings layout s closes [] ks) names
   where
     -- it is no row of a line, a row in place of lines would be one too many, and any other belongs to a line above it
     by_name : (name : RowName) → line_named name ≡ None → rows_below (record { name = name; cells = row.cells } ∷ more) ≡ []
@@ -102,12 +126,13 @@ row_above_the_first_line s is around row more none shown =
 --     ...
 --       |
 --     9 | b
-pub row_below_an_elision : (r : Renderer) (layout : Layout) (closes : Bool) (s : Snippet Annotation) (open_bars : List Bar) (above row : NamedRow)
-    (more : List NamedRow) → above.name ≡ Elision → shows_lines row.name ≡ false → AreRowsDrawn r layout closes s open_bars (above ∷ row ∷ more) → ⊥
-row_below_an_elision r layout closes s open_bars above row more elided other drawn =
-    let own : IsRowDrawn r layout closes s open_bars Elision above.cells (row ∷ more) = subst (λ name.
-    IsRowDrawn r layout closes s open_bars name above.cells (row ∷ more)) elided drawn.0 in
-    let one : row.cells ∷ rows_below more ≡ [] = sym (ap (λ b. cond b [] (row.cells ∷ rows_below more)) other) ∙ own.1 in
+pub row_below_an_elision : (r : Renderer) (layout : Layout) (around : ElementContext) (s : Snippet Annotation) (rows : List NamedRow)
+    → (shown : ShowsSnippet r layout around s rows) (above : List NamedRow) (gap row : NamedRow) (more : List NamedRow)
+    → shown.after ≡ above ++ gap ∷ row ∷ more → gap.name ≡ Elision → shows_lines row.name ≡ false → ⊥
+row_below_an_elision r layout around s rows shown above gap row more is elided other =
+    let none : rows_below (row ∷ more) ≡ [] = line_of_rows r layout s (closes_with around) []
+    (shown_lines s.fold (cow_str_bytes s.source) s.markers.items) above gap (row ∷ more) (sym is ∙ shown.are) Elision elided in
+    let one : row.cells ∷ rows_below more ≡ [] = sym (ap (λ b. cond b [] (row.cells ∷ rows_below more)) other) ∙ none in
     absurd (omega (arith, ap length one))
 
 -- ---- cells that no row has left of the code

@@ -1,5 +1,5 @@
 -- What is not kept: rows of a line that a report leaves out, on a small report, contradict the definitions of what rows show.
-use Rattle.std.proofs.Common.{◌≡◌, ℕ, zero, suc, ◌+◌, ◌<◌, ◌==◌, ◌&&◌, Bool, true, false, List, [], ◌∷◌, ◌++◌, codes}
+use Rattle.std.proofs.Common.{◌≡◌, ℕ, zero, suc, ◌<◌, ◌==◌, ◌&&◌, Bool, true, false, List, [], ◌∷◌, ◌++◌, codes}
 use Rattle.std.proofs.Common.{length, drop, refl, sym, ap, subst, ◌∙◌, arith}
 use Rattle.std.specs.Char.{is_ascii_alphanumeric}
 use Rattle.std.specs.Cow.{cow_str_bytes}
@@ -66,7 +66,7 @@ named_second closes s is (OfferedLine j) cells rows same shows = absurd shows
 named_second closes s is (RemovedLine i) cells rows same shows = absurd shows
 named_second closes s is Elision cells rows same shows =
     let digit : true ≡ false = subst (λ row. is_ascii_alphanumeric (slice_index_or row 0 SPACE).ch ≡ false) same
-    (unnumbered_elided Ascii layout cells shows 0 (omega arith)) in
+    (unnumbered_elided layout cells shows 0 (omega arith)) in
     cc
 named_second closes s is Other cells rows same shows =
     let digit : true ≡ false = subst (λ row. is_ascii_alphanumeric (slice_index_or row 0 SPACE).ch ≡ false) same

@@ -23,17 +23,19 @@ use Rattle.snippet_lines.specs.Lines.{last_byte, lines_of, source_lines, start_o
 use Rattle.snippet_lines.specs.Place.{line_of}
 use Rattle.snippet_splice.specs.Edits.{Edit, patched, trimmed_edit}
 use Rattle.snippet_splice.specs.ShownText.{shown_line, shown_text}
-use Rattle.snippet_splice.specs.Spliced.{HasNoCr, IsTouched, spliced_text, texts_of}
+use Rattle.snippet_splice.specs.Spliced.{HasNoCr, IsTouched, texts_of}
 use Rattle.snippet_splice.specs.Trim.{kept_before, sandwich}
-use Rattle.snippet_suggest.specs.Given.{IsAsItWas, IsOfferable, edits_of, first_given, given_lines, last_reached}
+use Rattle.snippet_suggest.specs.Given.{IsOfferable, edits_of, first_given, given_lines, last_reached}
 use Rattle.snippet_suggest.specs.Kind.{is_blank_text}
 use Rattle.snippet_suggest.specs.SuggestionRows.{IsBareRow}
-use Rattle.annotate_snippets.specs.Page.{Elision, NamedRow, OfferedLine, RemovedLine, Other, RowName, IsAscending, SourceRow, lines_offered, others}
+use Rattle.snippet_parts.specs.Entries.{Ascends}
+use Rattle.annotate_snippets.specs.Page.{Elision, NamedRow, OfferedLine, RemovedLine, Other, RowName, SourceRow, lines_offered, others}
 use Rattle.annotate_snippets.specs.RowsWithoutSource.{suggestion_head}
 use Rattle.annotate_snippets.specs.Settings.{plain_settings}
 use Rattle.snippet_grid.specs.Layout.{Layout}
 use Rattle.annotate_snippets.specs.declared.renderer.element_context.ElementContext.{ElementContext}
 use Rattle.annotate_snippets.specs.ShownPage.{IsOfferedRow, IsSuggestionRow, ShowsSuggestion}
+use Rattle.annotate_snippets.proofs.Ascending.{IsAscending, ascending}
 use Rattle.annotate_snippets.proofs.NotShown.{two_of_one}
 
 -- ---- small suggestions, and their rows
@@ -184,7 +186,8 @@ second_copy_offered : {found : List Cell} (s : Snippet Patch) → IsSnippetOf s 
 second_copy_offered s is layout narrow ascii around row copy before between after row_is copy_is shown =
     let rows : List NamedRow = before ++ (row ∷ (between ++ (copy ∷ after))) in
     let named = rows_named s layout narrow ascii around rows shown in
-    let ordered : IsAscending (lines_offered rows) = subst (λ all. IsAscending (lines_offered all)) (below_head s layout around rows shown) shown.ordered in
+    let ordered : IsAscending (lines_offered rows) = ascending (lines_offered rows)
+    (subst (λ all. Ascends (lines_offered all)) (below_head s layout around rows shown) shown.ordered) in
     let first = row_named s before row (between ++ (copy ∷ after)) named in
     let second = row_named s between copy after first.1 in
     let row_named : row.name ≡ OfferedLine 0 = named_first s is row.name row.cells row_is first.0 in
@@ -222,14 +225,14 @@ offerable s source e d is none first second unended =
       before = λ k x inside final. absurd (unended (subst (λ text. last_byte text ≡ 10) is.source_is final));
     }
 
--- so a line of the patched source that is touched and isn't blank is offered, where the spliced text has two lines: rows that don't offer
+-- so a line of the patched source that is touched and isn't blank is offered, where two lines are given: rows that don't offer
 -- it don't show the snippet
 line_left_out : {found : List Cell} (s : Snippet Patch) (source : List ℕ) (es : List Edit) (one two : List ℕ) → IsSnippetOf s source es
     → IsOfferable s → (j : ℕ) → IsTouched source es j → is_blank_text (text_at (source_lines (patched source es)) j) ≡ false
-    → ((fold : Bool) → texts_of (lines_of (spliced_text fold source es)) ≡ one ∷ two ∷ [])
+    → ((fold : Bool) → texts_of (lines_of (shown_text fold source es)) ≡ one ∷ two ∷ [])
     → (layout : Layout) (around : ElementContext) (rows : List NamedRow) → (Contains (lines_offered rows) j → ⊥)
     → ShowsSuggestion plain_settings layout around found s (others (suggestion_head plain_settings layout around s) ++ rows) → ⊥
-line_left_out s source es one two is may j touched visible spliced layout around rows out shown =
+line_left_out s source es one two is may j touched visible gives layout around rows out shown =
     let reached : IsTouched (cow_str_bytes s.source) (edits_of s) j = subst (λ text.
     IsTouched text (edits_of s) j) (sym is.source_is) (subst (λ xs. IsTouched source xs j) (sym is.edits_are) touched) in
     let seen : is_blank_text (text_at (source_lines (patched (cow_str_bytes s.source) (edits_of s))) j) ≡ false =
@@ -240,11 +243,9 @@ line_left_out s source es one two is may j touched visible spliced layout around
       | inr among ↦ out (subst (λ all. Contains (lines_offered all) j) (below_head s layout around rows shown) among)
     ]
   where
-    changed : IsAsItWas s → ⊥
+    changed : given_lines s ≡ last_reached s ∷ [] → ⊥
     changed same =
-        let both : one ∷ two ∷ [] ≡ last_reached s ∷ [] = sym (spliced s.fold)
-        ∙ ap (λ xs. texts_of (lines_of (spliced_text s.fold source xs))) (sym is.edits_are)
-        ∙ ap (λ text. texts_of (lines_of (spliced_text s.fold text (edits_of s)))) (sym is.source_is) ∙ same in
+        let both : one ∷ two ∷ [] ≡ last_reached s ∷ [] = sym (given_by s source es (one ∷ two ∷ []) is gives) ∙ same in
         absurd (omega (arith, ap length both))
 
 -- the second line is touched
@@ -267,11 +268,11 @@ second_visible : is_blank_text (text_at (source_lines (patched two_lines two_edi
 unfolding chars
 second_visible = refl
 
--- the spliced text has two lines
-two_spliced : (fold : Bool) → texts_of (lines_of (spliced_text fold two_lines two_edits)) ≡ codes "x" ∷ codes "y" ∷ []
-unfolding spliced_text trimmed_edit sandwich kept_before start_of line_of
-two_spliced true = refl
-two_spliced false = refl
+-- two lines are given
+gives_two : (fold : Bool) → texts_of (lines_of (shown_text fold two_lines two_edits)) ≡ codes "x" ∷ codes "y" ∷ []
+unfolding shown_text trimmed_edit sandwich kept_before start_of line_of
+gives_two true = refl
+gives_two false = refl
 
 -- so no rows show it that don't offer its second line, as where the text is cut off after the first:
 --
@@ -284,7 +285,7 @@ touched_left_out s is =
     line_left_out s two_lines two_edits (codes "x") (codes "y") is
     (offerable s two_lines (replaced 0 1 (codes "x")) (replaced 2 3 (codes "y")) is (no_cr two_lines refl) (no_cr (codes "x") refl)
     (no_cr (codes "y") refl) unended)
-    1 second_touched second_visible two_spliced
+    1 second_touched second_visible gives_two
   where
     unended : last_byte two_lines ≡ 10 → ⊥
     unended final = let letter : ◌≡◌ {A = ℕ} 98 10 = final in absurd (omega (arith, letter))
@@ -317,10 +318,10 @@ rest_visible : is_blank_text (text_at (source_lines (patched lines_of_three put_
 unfolding chars
 rest_visible = refl
 
-rest_spliced : (fold : Bool) → texts_of (lines_of (spliced_text fold lines_of_three put_in_and_deleted)) ≡ codes "xa" ∷ codes "c" ∷ []
-unfolding spliced_text trimmed_edit sandwich kept_before start_of line_of
-rest_spliced true = refl
-rest_spliced false = refl
+gives_rest : (fold : Bool) → texts_of (lines_of (shown_text fold lines_of_three put_in_and_deleted)) ≡ codes "xa" ∷ codes "c" ∷ []
+unfolding shown_text trimmed_edit sandwich kept_before start_of line_of
+gives_rest true = refl
+gives_rest false = refl
 
 -- so no rows show it that don't offer its second line, as where the text is cut off after the line feed with which it ends so far:
 --
@@ -332,7 +333,7 @@ cut_at_any_line_feed : {found : List Cell} (s : Snippet Patch) → IsSnippetOf s
 cut_at_any_line_feed s is =
     line_left_out s lines_of_three put_in_and_deleted (codes "xa") (codes "c") is
     (offerable s lines_of_three (replaced 0 0 (codes "x")) (replaced 2 3 []) is (no_cr lines_of_three refl) (no_cr (codes "x") refl) (no_cr [] refl) unended)
-    1 rest_touched rest_visible rest_spliced
+    1 rest_touched rest_visible gives_rest
   where
     unended : last_byte lines_of_three ≡ 10 → ⊥
     unended final = let letter : ◌≡◌ {A = ℕ} 99 10 = final in absurd (omega (arith, letter))

@@ -1,5 +1,5 @@
 -- What does not stand there: rows of suggestions in another order, with another number, or of another kind, contradict the definitions.
-use Rattle.std.proofs.Common.{◌≡◌, ℕ, ◌-◌, ◌≤◌, ◌==◌, not, true, false, if◌then◌else◌, List, [], ◌∷◌, ◌++◌, Vec, codes, get_or, length, map, take}
+use Rattle.std.proofs.Common.{◌≡◌, ℕ, ◌≤◌, ◌==◌, not, true, false, if◌then◌else◌, List, [], ◌∷◌, ◌++◌, Vec, codes, get_or, length, map, take}
 use Rattle.std.proofs.Common.{refl, sym, ap, subst, ◌∙◌, arith}
 use Rattle.std.specs.List.{All, AllZip}
 use Rattle.std.specs.Str.{chars}

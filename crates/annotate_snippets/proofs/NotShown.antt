@@ -24,11 +24,12 @@ use Rattle.snippet_model.specs.declared.snippet.AnnotationKind.{AnnotationKind}
 use Rattle.snippet_model.specs.declared.snippet.AnnotationKind.TheVariants.{Primary, Context}
 use Rattle.snippet_lines.specs.Lines.{source_lines, start_of}
 use Rattle.snippet_lines.specs.Place.{line_of, place_of}
+use Rattle.snippet_parts.specs.Entries.{Ascends}
 use Rattle.snippet_parts.specs.Mark.{is_marked_on, qualifies_for_marks, start_column, end_column, span_width, IsMarkedAt, IsMarkOf}
 use Rattle.snippet_window.specs.Window.{chars_at, stands_whole}
 use Rattle.snippet_strokes.specs.EntryMarks.{IsMarkCell, has_mark_role}
 use Rattle.snippet_style.specs.Separators.{separator_row}
-use Rattle.annotate_snippets.specs.Page.{Elision, RowName, OfferedLine, RemovedLine, SourceRow, Other, NamedRow, lines_named, others, IsAscending}
+use Rattle.annotate_snippets.specs.Page.{Elision, RowName, OfferedLine, RemovedLine, SourceRow, Other, NamedRow, lines_named, others}
 use Rattle.annotate_snippets.specs.Around.{closes_with}
 use Rattle.annotate_snippets.specs.RowsWithoutSource.{cause_head, rows_after_cause}
 use Rattle.annotate_snippets.specs.Settings.{plain_settings}
@@ -38,6 +39,7 @@ use Rattle.snippet_style.specs.Glyphs.{IsMarkGlyph, char_of, placeholder_of}
 use Rattle.annotate_snippets.specs.ShownPage.{cell_of, room_of, normalized_chars, shown_label, ShowsSourceLine, ShowsMarksOf, ShowsLineAndMarks, IsRowBelow}
 use Rattle.annotate_snippets.specs.ShownPage.{IsRowOf, AreRowsOf, ShowsSnippet}
 use Rattle.annotate_snippets.specs.Gutter.{number_text}
+use Rattle.annotate_snippets.proofs.Ascending.{IsAscending, ascending}
 use Rattle.annotate_snippets.proofs.LeftLaws.{separator_of_left, unnumbered_below, unnumbered_elided}
 use Rattle.annotate_snippets.proofs.ListLemmas.{Contains-head, Contains-tail, Contains-cons_cases, Contains-nil}
 
@@ -240,7 +242,7 @@ named_first closes s is (OfferedLine j) cells rows same shows = absurd shows
 named_first closes s is (RemovedLine i) cells rows same shows = absurd shows
 named_first closes s is Elision cells rows same shows =
     let digit : true ≡ false = subst (λ row. is_ascii_alphanumeric (slice_index_or row 0 SPACE).ch ≡ false) same
-    (unnumbered_elided Ascii layout cells shows 0 (omega arith)) in
+    (unnumbered_elided layout cells shows 0 (omega arith)) in
     cc
 named_first closes s is Other cells rows same shows =
     let digit : true ≡ false = subst (λ row. is_ascii_alphanumeric (slice_index_or row 0 SPACE).ch ≡ false) same
@@ -302,7 +304,8 @@ second_copy_of_a_line s is around row copy before between after row_is copy_is s
     let from_copy : AreRowsOf plain_settings layout closes s (copy ∷ after) = rows_after closes s between (copy ∷ after) from_row.1 in
     let row_named : row.name ≡ SourceRow 0 = named_first closes s is row.name row.cells (between ++ (copy ∷ after)) row_is from_row.0 in
     let copy_named : copy.name ≡ SourceRow 0 = named_first closes s is copy.name copy.cells after copy_is from_copy.0 in
-    (second_copy 0 row copy before between after closes row_named copy_named).0 (subst (λ all. IsAscending (lines_named all)) same shown.ordered)
+    (second_copy 0 row copy before between after closes row_named copy_named).0 (ascending (lines_named rows)
+    (subst (λ all. Ascends (lines_named all)) same shown.ordered))
 
 -- the marks of a wider span below a narrower primary one, here of all of `abcdef` below `cd`:
 --

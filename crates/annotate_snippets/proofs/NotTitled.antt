@@ -26,6 +26,7 @@ use Rattle.annotate_snippets.specs.declared.renderer.Renderer.{Renderer}
 use Rattle.annotate_snippets.specs.declared.renderer.element_context.ElementContext.{ElementContext}
 use Rattle.annotate_snippets.specs.declared.renderer.element_context.GroupPosition.{GroupPosition}
 use Rattle.annotate_snippets.specs.declared.renderer.element_context.Next.{Next}
+use Rattle.annotate_snippets.proofs.HeadingShown.{texts_of}
 use Rattle.annotate_snippets.proofs.NotShown.{layout}
 use Rattle.annotate_snippets.proofs.SmallReports.{error_title}
 
@@ -39,7 +40,7 @@ unfolding chars norm
 titles_left_out place follows rows alone shown =
     let after : List (List Cell) = rows_after_title plain_settings layout place follows false in
     let none : length shown.own ≡ 0 = omega (arith, length-append shown.own after, ap length (sym shown.rows_are ∙ alone)) in
-    no_row shown.own none (shown.shows.texts 0)
+    no_row shown.own none (texts_of shown.shows 0)
   where
     no_row : (own : List (List Cell)) → length own ≡ 0 → row_text (row_at own 0) ≡ codes "error: e" → ⊥
     no_row [] none text = cc
@@ -51,7 +52,7 @@ messages_left_out : (r : Renderer) (layout : Layout) (around : ElementContext)
 unfolding chars norm
 messages_left_out r layout around shown =
     let sign : List ℕ = row_text (sign_cells (message_style r layout around)) in
-    let text : [] ≡ (sign ++ codes "note: ") ++ codes "m" = shown.shows.texts 0 in
+    let text : [] ≡ (sign ++ codes "note: ") ++ codes "m" = texts_of shown.shows 0 in
     absurd (omega (arith, ap length text, length-append (sign ++ codes "note: ") (codes "m")))
 
 -- ---- texts that are drawn as they are given, here U+001B, which is shown as U+241B
@@ -62,7 +63,7 @@ messages_left_out r layout around shown =
 id_drawn_raw : (place : GroupPosition) (follows : Next) (rows : List (List Cell)) → row_text (row_at rows 0) ≡ codes "error[" ++ 27 ∷ codes "]: e"
     → ShowsTitle plain_settings layout place follows (error_title (Some (record { id = Some (text_of (27 ∷ [])); url = None })) (codes "e")) rows → ⊥
 unfolding chars norm
-id_drawn_raw place follows rows wrong shown = in_own shown.own shown.rows_are (shown.shows.texts 0)
+id_drawn_raw place follows rows wrong shown = in_own shown.own shown.rows_are (texts_of shown.shows 0)
   where
     in_own : (own : List (List Cell)) → rows ≡ own ++ rows_after_title plain_settings layout place follows false
         → row_text (row_at own 0) ≡ codes "error[" ++ 0x241B ∷ codes "]: e" → ⊥

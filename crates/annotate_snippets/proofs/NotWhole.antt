@@ -50,6 +50,7 @@ use Rattle.annotate_snippets.specs.declared.renderer.element_context.GroupPositi
 use Rattle.annotate_snippets.specs.declared.renderer.element_context.Next.{Next}
 use Rattle.annotate_snippets.specs.declared.renderer.element_context.Next.TheVariants as next
 use Rattle.annotate_snippets.specs.declared.renderer.element_context.ElementContext.{ElementContext}
+use Rattle.annotate_snippets.proofs.HeadingShown.{links_of_heading, texts_of}
 use Rattle.annotate_snippets.proofs.LeftLaws.{number_of_left}
 use Rattle.annotate_snippets.proofs.ListLemmas.{Contains-head, Contains-tail, Contains-cons_cases, Contains-nil}
 use Rattle.annotate_snippets.proofs.NotShown.{IsSnippetOf, layout, row_below, span_of}
@@ -167,7 +168,7 @@ normalised_away : (text : CowStr Global)
     ++ 9243 ∷ codes "[1mx" → ShowsTitle plain_settings layout place follows (title_with_trusted_text text) rows → ⊥
 unfolding chars norm
 normalised_away text is place follows rows wrong shown =
-    in_own shown.own shown.rows_are (shown.shows.texts 0 ∙ ap (λ bytes.
+    in_own shown.own shown.rows_are (texts_of shown.shows 0 ∙ ap (λ bytes.
     slice_index_or (heading_texts style.Title (record { level = error_level; id = None; text = bytes; allows_styling = true })) 0 []) is)
   where
     in_own : (own : List (List Cell)) → rows ≡ own ++ rows_after_title plain_settings layout place follows true
@@ -190,7 +191,7 @@ linked_elsewhere : (r : Renderer) (text : CowStr Global) (id : Option Id) (trust
     → ShowsTitle r layout place follows (record { level = error_level; id = id; text = text; allows_styling = trusted }) rows → ⊥
 unfolding chars norm
 linked_elsewhere r text id trusted place follows rows url wrong shown =
-    in_own shown.own shown.rows_are (shown.shows.links 0 0)
+    in_own shown.own shown.rows_are (links_of_heading shown.shows 0 0)
   where
     below : (decor : DecorStyle) (first second : Bool)
         → (cell_at (if first then separator_row decor 1 ∷ [] else (if second then closing_row decor 1 ∷ [] else [])) 0 0).link ≡ None

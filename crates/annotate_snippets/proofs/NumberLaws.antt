@@ -33,7 +33,7 @@ use Rattle.annotate_snippets.specs.declared.renderer.element_context.GroupPositi
 use Rattle.snippet_grid.specs.Layout.{Layout}
 use Rattle.annotate_snippets.specs.Around.{closes_after, closes_with, context_at, is_before_message, is_end, is_first_group, path_bytes}
 use Rattle.annotate_snippets.specs.DrawnReport.{found_at}
-use Rattle.annotate_snippets.specs.Numbers.{HasNumbersOfLines, IsNumberedAsLine, shows_a_line}
+use Rattle.annotate_snippets.specs.Numbers.{IsNumberedAsLine, shows_a_line}
 use Rattle.annotate_snippets.specs.Page.{RowName, SourceRow, Elision, OfferedLine, RemovedLine, Other, NamedRow, GroupPage, cells_of, others}
 use Rattle.annotate_snippets.specs.RowsWithoutSource.{cause_head, closing_rows, origin_layout, origin_rows, origin_start, patch_place, path_row, place_given}
 use Rattle.annotate_snippets.specs.RowsWithoutSource.{rows_after_cause, separator_rows, suggestion_head, suggestion_head_at}
@@ -105,7 +105,7 @@ after_unnumbered r layout false closes = closing_unnumbered r layout closes
 row_numbered : (r : Renderer) (layout : Layout) (closes : Bool) (s : Snippet Annotation) (name : RowName) (cells : List Cell) (rows : List NamedRow)
     → IsRowOf r layout closes s name cells rows → shows_a_line name ≡ false → HasNoNumber layout.gutter cells
 row_numbered r layout closes s (SourceRow k) cells rows is none = absurd (false≢true (sym none))
-row_numbered r layout closes s Elision cells rows is none = unnumbered_elided layout.decor layout cells is
+row_numbered r layout closes s Elision cells rows is none = unnumbered_elided layout cells is
 row_numbered r layout closes s (OfferedLine j) cells rows is none = absurd is
 row_numbered r layout closes s (RemovedLine i) cells rows is none = absurd is
 row_numbered r layout closes s Other cells rows is none =
@@ -180,7 +180,7 @@ element_numbered r layout around found (element.Padding padding) rows shown =
 
 -- a group's elements have numbers beside lines alone
 pub group_numbered : (r : Renderer) (layout : Layout) (place : GroupPosition) (file : Option (List ℕ)) (es : List Element) (g : GroupPage)
-    → AreElementsShown r layout place file es g.elements → HasNumbersOfLines layout.gutter g
+    → AreElementsShown r layout place file es g.elements → All (λ rows. All (IsNumberedAsLine layout.gutter) rows) g.elements
 group_numbered r layout place file es g shown =
     All-from_get_or (λ rows. All (IsNumberedAsLine layout.gutter) rows) g.elements [] each
   where

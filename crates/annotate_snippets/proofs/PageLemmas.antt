@@ -28,10 +28,10 @@ use Rattle.snippet_strokes.specs.Snippet as strokes
 use Rattle.snippet_strokes.specs.Snippet.{gap_row}
 use Rattle.annotate_snippets.specs.declared.renderer.Renderer.{Renderer}
 use Rattle.snippet_grid.specs.Layout.{Layout}
-use Rattle.annotate_snippets.specs.GraphicForm.{gap_below, named_line, rows_of_line, rows_of_lines}
+use Rattle.annotate_snippets.specs.GraphicForm.{bars_on, gap_below, named_line, rows_of_line, rows_of_lines}
 use Rattle.annotate_snippets.specs.Gutter.{line_numbers, numbered_source}
-use Rattle.annotate_snippets.specs.SnippetLineRows.{AreRowsDrawn, IsLineDrawn, bars_on}
-use Rattle.annotate_snippets.specs.Page.{SourceRow, Elision, Other, NamedRow, lines_named, names_in, names_of_lines, cells_of, cells_below, others, rows_below}
+use Rattle.annotate_snippets.proofs.DrawnRows.{AreRowsDrawn, IsLineDrawn}
+use Rattle.annotate_snippets.specs.Page.{SourceRow, Elision, Other, NamedRow, lines_named, cells_of, cells_below, others, rows_below}
 use Rattle.annotate_snippets.specs.ShownPage.{AreRowsOf, IsRowBelow, ShowsLabels, ShowsLineAndMarks, ShowsMarksOf, bounds_in, room_of}
 use Rattle.annotate_snippets.proofs.DrawnLines.{bars_seen, line_drawn}
 use Rattle.annotate_snippets.proofs.LineValue.{line_value}
@@ -57,13 +57,9 @@ below-first [] more some = absurd (omega arith)
 below-first (row ∷ below) more some = refl
 
 -- the rows of a line, up to the next
-below-own : (below : List (List Cell)) (more : List NamedRow) → rows_below more ≡ [] → rows_below (others below ++ more) ≡ below
+pub below-own : (below : List (List Cell)) (more : List NamedRow) → rows_below more ≡ [] → rows_below (others below ++ more) ≡ below
 below-own [] more ends = ends
 below-own (row ∷ below) more ends = ap (λ rs. row ∷ rs) (below-own below more ends)
-
-names_in-others : (rows : List (List Cell)) (more : List NamedRow) → names_in (others rows ++ more) ≡ names_in more
-names_in-others [] more = refl
-names_in-others (row ∷ rows) more = names_in-others rows more
 
 -- numbers above 0 are both not 0
 some_more : (m n : ℕ) → (suc m == 0) ≡ (suc n == 0)
@@ -133,7 +129,6 @@ module _ (r : Renderer) (layout : Layout) (s : Snippet Annotation)
     pub part : List NamedRow
     pub cells : cells_of part ≡ rows
     pub lines : lines_named part ≡ ks
-    pub names : names_in part ≡ names_of_lines ks
     pub are : AreRowsOf r layout closes s part
     pub ends : (length part == 0) ≡ (length ks == 0)
     pub begins : rows_below part ≡ []
@@ -145,7 +140,6 @@ module _ (r : Renderer) (layout : Layout) (s : Snippet Annotation)
     pub gap : List NamedRow
     pub cells : cells_of gap ≡ rows
     pub lines : (more : List NamedRow) → lines_named (gap ++ more) ≡ lines_named more
-    pub names : (more : List NamedRow) → names_in more ≡ names_of_lines ks → SourceRow j ∷ names_in (gap ++ more) ≡ names_of_lines (j ∷ ks)
     pub are : (more : List NamedRow) → AreRowsOf r layout closes s more → AreRowsOf r layout closes s (gap ++ more)
     pub ends : (more : List NamedRow) → (length more == 0) ≡ (length ks == 0) → (length (gap ++ more) == 0) ≡ (length ks == 0)
     pub begins : (more : List NamedRow) → rows_below more ≡ [] → rows_below (gap ++ more) ≡ []
@@ -165,7 +159,6 @@ module _ (r : Renderer) (layout : Layout) (s : Snippet Annotation)
         gap = [];
         cells = sym gap;
         lines = λ more. refl;
-        names = λ more none. ap (λ names. SourceRow j ∷ names) none;
         are = λ more are.
             are;
         ends = λ more same. same;
@@ -187,9 +180,7 @@ module _ (r : Renderer) (layout : Layout) (s : Snippet Annotation)
               gap = row ∷ [];
               cells = sym left_out.2;
               lines = λ more. refl;
-              names = λ more named. ap (λ names. SourceRow j ∷ Elision ∷ names) named
-                  ∙ sym (ap (λ b. cond b (SourceRow j ∷ Elision ∷ names_of_lines (k ∷ ks)) (SourceRow j ∷ names_of_lines (k ∷ ks))) far);
-              are = λ more are. (record { is = left_out.3 }, are);
+              are = λ more are. (left_out.3, are);
               ends = λ more same. some_more (length more) (length ks);
               begins = λ more none. refl;
               drawn = λ more none drawn. ((left_out.4, none), drawn);
@@ -201,8 +192,6 @@ module _ (r : Renderer) (layout : Layout) (s : Snippet Annotation)
               gap = [];
               cells = sym next_to.1;
               lines = λ more. refl;
-              names = λ more named. ap (λ names. SourceRow j ∷ names) named
-                  ∙ sym (ap (λ b. cond b (SourceRow j ∷ Elision ∷ names_of_lines (k ∷ ks)) (SourceRow j ∷ names_of_lines (k ∷ ks))) near);
               are = λ more are. are;
               ends = λ more same. same;
               begins = λ more none. none;
@@ -244,7 +233,7 @@ module _ (r : Renderer) (layout : Layout) (s : Snippet Annotation)
       → map seen_kept infos ≡ map line_of_snippet ks → All NumberFits infos → All EntriesFit infos → All (HasBarRoom layout) open_bars
       → strokes.AreLinesShown layout margin (line_numbers r s.line_numbering) closes open_bars infos rows → AreNamed open_bars ks rows
   named_lines open_bars [] [] rows within lines fit entries bars shown = record
-      { part = []; cells = sym shown; lines = refl; names = refl; are = tt; ends = refl; begins = refl; drawn = tt; value = refl }
+      { part = []; cells = sym shown; lines = refl; are = tt; ends = refl; begins = refl; drawn = tt; value = refl }
   named_lines open_bars [] (info ∷ infos) rows within lines fit entries bars shown = cc
   named_lines open_bars (k ∷ ks) [] rows within lines fit entries bars shown = cc
   named_lines open_bars (k ∷ ks) (info ∷ infos) rows within lines fit entries bars shown =
@@ -278,7 +267,6 @@ module _ (r : Renderer) (layout : Layout) (s : Snippet Annotation)
             (cells_of-append between.gap rest.part ∙ ap (λ rs. rs ++ cells_of rest.part) between.cells ∙ ap (λ rs. shown.1 ++ rs) rest.cells))
             ∙ ap (λ rs. rs ++ (shown.1 ++ shown.2)) (sym shows.rows_are) ∙ sym (append_assoc shown.0 shown.1 shown.2) ∙ sym shown.3;
         lines = ap (λ js. k ∷ js) (lines_named-others shows.below after ∙ between.lines rest.part ∙ rest.lines);
-        names = ap (λ names. SourceRow k ∷ names) (names_in-others shows.below after) ∙ between.names rest.part rest.names;
         are = (
           line_and_marks (closes && last) open_bars k info shown.0 after (All-head (λ j. j < own_lines) k ks within)
               here (All-head NumberFits info infos fit) drawn shows (between.begins rest.part rest.begins),

@@ -42,20 +42,10 @@ use Rattle.snippet_strokes.specs.Drawable.{AreDrawable}
 use Rattle.snippet_strokes.specs.EntryMarks.{HasBarCell, HasBarCellAt}
 use Rattle.snippet_grid.specs.Layout.{Layout}
 use Rattle.annotate_snippets.specs.Gutter.{code_after}
+use Rattle.annotate_snippets.proofs.Ascending.{IsAscending, ascending}
 use Rattle.snippet_lines.specs.Span.{IsSpan}
 use Rattle.snippet_window.specs.Window.{stands_whole}
-use Rattle.annotate_snippets.specs.Page.{IsAscending}
 use Rattle.snippet_parts.proofs.RawDepthLemmas.{greatest-bound, places-bound}
-
--- numbers that ascend do so in the words of a page
-ascending : (ks : List ℕ) → Ascends ks → IsAscending ks
-ascending [] ascends = tt
-ascending (j ∷ []) ascends = tt
-ascending (j ∷ k ∷ ks) ascends = (
-  ascends 0 1 0 (omega arith) (omega arith),
-  ascending (k ∷ ks) (λ i l d less within.
-      ascends (suc i) (suc l) d (omega (arith, less)) (omega (arith, within))),
-)
 
 module _ (s : Source) (marks : List Annotation) (spans : All (λ a. IsSpan s.text a.span.start a.span.end) marks) where
   -- a line that no span of several lines touches has the parts of the spans that are marked on it

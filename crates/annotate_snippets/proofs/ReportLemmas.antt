@@ -23,7 +23,6 @@ use Rattle.annotate_snippets.specs.declared.renderer.graphic.GroupGrid.{GroupGri
 use Rattle.annotate_snippets.specs.Around.{drawn_elements, file_of_group, next_of, position_of_group}
 use Rattle.annotate_snippets.specs.DrawnReport.{AreGridsOf, IsGridAt}
 use Rattle.annotate_snippets.specs.Fault.{first_fault, first_refusal, form_of, missing_title}
-use Rattle.annotate_snippets.specs.Feeds.{HasOneLineRows, HasOneLineTexts, IsOneLineGroup}
 use Rattle.annotate_snippets.specs.GraphicForm.{graphic_form, group_page}
 use Rattle.annotate_snippets.specs.Gutter.{layout_of_group}
 use Rattle.annotate_snippets.specs.Page.{ArePrinted, GroupPage, Page, PrintsGrids, PrintsPage, group_rows, page_links, page_text}
@@ -31,6 +30,7 @@ use Rattle.annotate_snippets.specs.PageLaws.{PageLaws}
 use Rattle.annotate_snippets.specs.PreparedReport.{IsGroupDrawable}
 use Rattle.annotate_snippets.specs.ShownPage.{AreGroupsShown, IsFreeBut, SheetsShown, ShowsGroup, levels_of, report_links}
 use Rattle.annotate_snippets.specs.declared.renderer.error.RenderError.{RenderError}
+use Rattle.annotate_snippets.proofs.OneLineTexts.{HasOneLineRows, IsOneLineGroup, one_line_groups}
 use Rattle.annotate_snippets.proofs.FaultLemmas.{titled}
 use Rattle.annotate_snippets.proofs.GridRows.{GridsSoFar}
 use Rattle.annotate_snippets.proofs.GroupLemmas.{group_shown}
@@ -82,7 +82,7 @@ module _ (r : Renderer) (groups : List Group) where
     pub free : IsFreeBut (trusted_texts gs) (join_with_byte 10 (map grid_plain grids))
     pub printed : (sheet : Stylesheet) (parts : List (List ℕ)) → AllZip (λ (grid : GroupGrid) part. Prints sheet grid.level grid.buffer part) grids parts
         → ArePrinted sheet (levels_of gs) page parts
-    pub one_line : HasOneLineTexts gs → All HasOneLineRows page
+    pub one_line : All IsOneLineGroup gs → All HasOneLineRows page
 
   -- one more group above
   free_above : (g : Group) (gs : List Group) (grid : GroupGrid) (grids : List GroupGrid) → IsFreeBut (trusted_texts (g ∷ [])) (grid_plain grid)
@@ -252,8 +252,8 @@ module _ (r : Renderer) (groups : List Group) (grids : List GroupGrid) (drawable
         shows = page_shows;
         free = page_free;
         links = links_of_page;
-        one_line = report_page.one_line;
-        lines = λ plain. lines_of_page report_page.page (report_page.one_line plain);
+        one_line = λ plain. report_page.one_line (one_line_groups groups plain);
+        lines = λ plain. lines_of_page report_page.page (report_page.one_line (one_line_groups groups plain));
         numbers = λ i g part at there. group_numbered r (layout_of_group r groups g) (position_of_group (length groups) i) (file_of_group groups g)
             (drawn_elements g) part (page_shows.each i g part at there).elements;
         titles = λ i g part title at there titled words. group_title_unnumbered r (layout_of_group r groups g) (position_of_group (length groups) i)

@@ -26,7 +26,8 @@ use Rattle.annotate_snippets.specs.declared.renderer.Renderer.{Renderer}
 use Rattle.snippet_grid.specs.Layout.{Layout}
 use Rattle.annotate_snippets.specs.Gutter.{line_numbers, number_text}
 use Rattle.annotate_snippets.specs.ShownPage.{ShowsSourceLine, bounds_in, cells_left, room_of, wide_spans}
-use Rattle.annotate_snippets.specs.Feeds.{HasNoFeed, HoldsNoFeed, IsNoFeed}
+use Rattle.annotate_snippets.specs.Feeds.{HasNoFeed, IsNoFeed}
+use Rattle.annotate_snippets.proofs.OneLineTexts.{HoldsNoFeed}
 use Rattle.snippet_titles.proofs.OriginFree.{each-fails}
 use Rattle.annotate_snippets.proofs.FeedLaws.{at_any, bar_cell}
 use Rattle.annotate_snippets.proofs.PathFeedLaws.{alone, cells_plain, digit_plain, norm-plain}

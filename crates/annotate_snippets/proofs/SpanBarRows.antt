@@ -3,7 +3,7 @@ use Rattle.std.proofs.Common.{◌≡◌, ℕ, zero, suc, ◌+◌, ◌-◌, ◌<�
 use Rattle.std.proofs.Common.{◌⊎◌, fold, map, length, get_or, inl, inr, refl, sym, ap, subst, ◌∙◌, arith}
 use Rattle.std.specs.List.{All, Contains, filter}
 use Rattle.std.specs.Cow.{cow_str_bytes}
-use Rattle.std.proofs.lemmas.Bool.{le-leb, and_from}
+use Rattle.std.proofs.lemmas.Bool.{le-leb, and_from, cases_Bool, cases_eq, cond-false, cond-true, eq-eqb}
 use Rattle.std.proofs.lemmas.Bool.Decides.{nat_tests}
 use Rattle.std.proofs.lemmas.List.Elements.{All-contains, All-filter, All-head, All-nil, All-tail}
 use Rattle.snippet_model.specs.declared.snippet.Annotation.{Annotation}
@@ -26,21 +26,25 @@ use Rattle.snippet_parts.proofs.EntryFacts.{depth-within}
 use Rattle.snippet_parts.proofs.PartLemmas.{All-unmapped}
 use Rattle.snippet_strokes.specs.Bars.{Bar, HasOwnDepth, bars_apart, ends_of_bars, has_depth}
 use Rattle.snippet_strokes.specs.StrokeRows.{bare_elision_row}
-use Rattle.snippet_strokes.specs.EndBars.{BarBegins, BarEnds, IsNoBar}
+use Rattle.snippet_strokes.specs.EndBars.{BarBegins, BarEnds, IsNoBar, bar_top, start_corner}
 use Rattle.snippet_strokes.proofs.AmongLaws.{all_from_among, among_contains, contains_among}
 use Rattle.snippet_strokes.proofs.EndBarLaws.{bar_ends, elision_stands}
 use Rattle.snippet_strokes.proofs.SnippetLemmas.{highlighted_left}
 use Rattle.snippet_strokes.proofs.CrossedLaws.{line_clear}
+use Rattle.snippet_strokes.proofs.CellLemmas.{above_zero}
 use Rattle.snippet_strokes.proofs.SourceCellLaws.{begins, gap_space, line_source}
 use Rattle.snippet_labels.specs.PlacedEntries.{is_end_part}
 use Rattle.annotate_snippets.specs.declared.renderer.Renderer.{Renderer}
-use Rattle.snippet_grid.specs.Layout.{Layout}
+use Rattle.snippet_grid.specs.Grid.{cell_at}
+use Rattle.snippet_grid.specs.Layout.{Layout, bar_cell}
 use Rattle.annotate_snippets.specs.Gutter.{code_after, number_text}
-use Rattle.annotate_snippets.specs.SnippetLineRows.{AreRowsDrawn, IsRowDrawn, bars_on, entries_on, open_after}
-use Rattle.annotate_snippets.specs.Page.{Elision, IsAscending, NamedRow, OfferedLine, Other, RemovedLine, RowName, SourceRow, lines_named, rows_below}
+use Rattle.annotate_snippets.specs.GraphicForm.{bars_on, entries_on}
+use Rattle.annotate_snippets.proofs.DrawnRows.{AreRowsDrawn, IsRowDrawn, open_after}
+use Rattle.annotate_snippets.specs.Page.{Elision, NamedRow, OfferedLine, Other, RemovedLine, RowName, SourceRow, lines_named, rows_below}
 use Rattle.annotate_snippets.specs.Page.{shows_lines}
 use Rattle.annotate_snippets.specs.ShownPage.{AreRowsOf, IsRowOf, cells_left}
-use Rattle.annotate_snippets.specs.SpanBars.{ShowsBars, bar_beside, bar_cell_of, line_beside}
+use Rattle.annotate_snippets.specs.SpanBars.{BarStarts, ShowsBars, bar_beside, bar_cell_of, line_beside}
+use Rattle.annotate_snippets.proofs.Ascending.{IsAscending}
 use Rattle.annotate_snippets.proofs.DrawnLines.{bar_shown, bars_seen}
 use Rattle.annotate_snippets.proofs.LabelLemmas.{head_same, tail_same}
 use Rattle.annotate_snippets.proofs.SpanOpen.{AreOpen, IsFreeAt, alone, ends_apart, open_apart, end_here, goes_past, longer, no_end, no_start, none_open}
@@ -136,6 +140,47 @@ short_number decor gutter shown row same =
       length-text_cells LineNumber (separator_of decor ∷ []),
       length-replicate (gutter + 1 - length shown) SPACE,
     )
+
+-- a bar that begins in one of two ways begins in one of its rows, and the other way round
+begins_so : (layout : Layout) (bar : Bar) (rows : List (List Cell)) → BarBegins layout bar rows → BarStarts layout bar rows
+begins_so layout bar rows (inl beside) =
+    record {
+      at = 0;
+      within = omega (arith, beside.alone);
+      is = beside.top;
+      alone = λ _. beside.alone;
+      source = λ some. absurd (omega (arith, some));
+      beside = λ i below within. absurd (omega (arith, below, within, beside.alone));
+    }
+begins_so layout bar rows (inr below) =
+    record {
+      at = below.corner;
+      within = below.within;
+      is = below.corner_is ∙ sym (cond-false (below.corner == 0) (bar_top layout bar) (start_corner layout bar) (above_zero below.corner below.below));
+      alone = λ none. absurd (omega (arith, none, below.below));
+      source = λ _. below.source;
+      beside = below.beside;
+    }
+
+pub starts_so : (layout : Layout) (bar : Bar) (rows : List (List Cell)) → BarStarts layout bar rows → BarBegins layout bar rows
+starts_so layout bar rows starts =
+    elim (cases_eq starts.at 0) [
+      | inl top ↦ inl (record {
+        alone = starts.alone top;
+        top = ap (λ n. cell_at rows n (bar_cell layout bar.depth)) (sym top) ∙ starts.is
+            ∙ cond-true (starts.at == 0) (bar_top layout bar) (start_corner layout bar) (eq-eqb starts.at 0 top);
+      })
+      | inr some ↦
+          let lower : 0 < starts.at = omega (arith, some) in
+          inr (record {
+            corner = starts.at;
+            below = lower;
+            within = starts.within;
+            corner_is = starts.is ∙ cond-false (starts.at == 0) (bar_top layout bar) (start_corner layout bar) (above_zero starts.at lower);
+            source = starts.source lower;
+            beside = starts.beside;
+          })
+    ]
 
 -- ---- the rows
 
@@ -404,7 +449,7 @@ module _ (r : Renderer) (layout : Layout) (closes : Bool) (s : Snippet Annotatio
       → IsAscending (lines_named rows)
       → All (λ a. Contains (lines_named rows) (first_line (cow_str_bytes s.source) a) × Contains (lines_named rows) (last_line (cow_str_bytes s.source) a))
       (marks s)
-      → code_after layout.gutter (deepest (source s) (marks s)) ≤ layout.code → ShowsBars r layout s rows
+      → code_after layout.gutter (deepest (source s) (marks s)) ≤ layout.code → ShowsBars layout s rows
   bars_shown rows named drawn none_above ascends ends room =
       let ks : List ℕ = lines_named rows in
       let text : List ℕ = cow_str_bytes s.source in
@@ -419,28 +464,35 @@ module _ (r : Renderer) (layout : Layout) (closes : Bool) (s : Snippet Annotatio
         others = subst (All (HasNoOthers 0)) (sym none_above) (All-nil (HasNoOthers 0));
       } in
       record {
-        stand = λ a among long above row below is begun ended.
-            let line : line_from 0 above row.name ≡ line_beside above row.name = from_start above row.name in
-            (all_rows [] 0 rows ready above row below is).bars a among long (omega (arith, line, begun)) (omega (arith, line, ended))
-            ∙ ap (bar_beside layout row.name) (bar_given s a long);
-        begin = λ a among long above row below is name.
-            let line = renamed (SourceRow (first_line text a)) row below name (row_known [] rows named drawn above row below is) in
-            subst (λ bar. BarBegins layout bar (row.cells ∷ rows_below below)) (bar_given s a long)
-            (line_begins a among long (deep a among long) line.bars (first_line text a) row.cells below line.named line.drawn refl);
-        end = λ a among long above row below is name.
-            let line = renamed (SourceRow (last_line text a)) row below name (row_known [] rows named drawn above row below is) in
-            subst (λ bar. BarEnds layout bar (row.cells ∷ rows_below below)) (bar_given s a long)
-            (line_ends a among long (deep a among long) line.bars (last_line text a) row.cells below line.drawn refl);
+        each = λ a among long above row below is. record {
+          stand = λ begun ended.
+              let line : line_from 0 above row.name ≡ line_beside above row.name = from_start above row.name in
+              (all_rows [] 0 rows ready above row below is).bars a among long (omega (arith, line, begun)) (omega (arith, line, ended))
+              ∙ ap (bar_beside layout row.name) (bar_given s a long);
+          begin = λ name.
+              let line = renamed (SourceRow (first_line text a)) row below name (row_known [] rows named drawn above row below is) in
+              subst (λ bar. BarStarts layout bar (row.cells ∷ rows_below below)) (bar_given s a long)
+              (begins_so layout (bar_by_place s a) (row.cells ∷ rows_below below)
+              (line_begins a among long (deep a among long) line.bars (first_line text a) row.cells below line.named line.drawn refl));
+          end = λ name.
+              let line = renamed (SourceRow (last_line text a)) row below name (row_known [] rows named drawn above row below is) in
+              subst (λ bar. BarEnds layout bar (row.cells ∷ rows_below below)) (bar_given s a long)
+              (line_ends a among long (deep a among long) line.bars (last_line text a) row.cells below line.drawn refl);
+        };
         within = λ a among long. let depth = depth-within (source s) (marks s) a among long in inside (depth_of (source s) (marks s) a) depth.0 depth.1;
-        spaces = λ above row below is shows c from to free.
-            let cell : layout.gutter + 2 + (c - (layout.gutter + 2)) ≡ c = omega (arith, from) in
-            ap (λ n. get_or row.cells n SPACE) (sym cell) ∙ (all_rows [] 0 rows ready above row below is).spaces shows (c - (layout.gutter + 2))
-            (omega (arith, from)) (omega (arith, to, cell)) (free_there above row c from free);
         others = λ above row below is c from to free.
             let cell : layout.gutter + 2 + (c - (layout.gutter + 2)) ≡ c = omega (arith, from) in
-            subst (λ n. IsNoBar layout.decor (get_or row.cells n SPACE)) cell
-            ((all_rows [] 0 rows ready above row below is).others (c - (layout.gutter + 2)) (omega (arith, from)) (omega (arith, to, cell))
-            (free_there above row c from free));
+            elim (cases_Bool (shows_lines row.name)) [
+              | inl shows ↦
+                  inl (ap (λ n. get_or row.cells n SPACE) (sym cell) ∙ (all_rows [] 0 rows ready above row below is).spaces shows (c - (layout.gutter + 2))
+                  (omega (arith, from)) (omega (arith, to, cell)) (free_there above row c from free))
+              | inr other ↦ inr (
+                other,
+                subst (λ n. IsNoBar layout.decor (get_or row.cells n SPACE)) cell
+                    ((all_rows [] 0 rows ready above row below is).others (c - (layout.gutter + 2)) (omega (arith, from)) (omega (arith, to, cell))
+                    (free_there above row c from free)),
+              )
+            ];
         apart = λ a b among-a among-b long-a long-b from to same.
             bytes_same (source s) a b (one_place (source s) (marks s) spans a b among-a among-b long-a long-b from to (omega (arith, same)));
       }

@@ -19,7 +19,7 @@ use Rattle.snippet_parts.proofs.AmongLemmas.{among_filter, among_in_order, among
 use Rattle.snippet_parts.proofs.RawDepthLemmas.{same-refl, same-true}
 use Rattle.snippet_strokes.specs.Bars.{Bar}
 use Rattle.annotate_snippets.specs.Gutter.{numbered_source}
-use Rattle.annotate_snippets.specs.SpanBars.{bar_of_span, is_bar_primary}
+use Rattle.annotate_snippets.specs.SpanBars.{bar_of_span}
 use Rattle.annotate_snippets.proofs.SpanOpen.{bar_at_place, place_in}
 use Rattle.annotate_snippets.proofs.SpanParts.{is_primary_at}
 
@@ -89,9 +89,9 @@ module _ (s : Snippet Annotation) where
   pub bar_given : (a : Annotation) → is_long source.text a ≡ true → bar_by_place a ≡ bar_of_span s a
   bar_given a long =
       ap (λ b. record { depth = depth_of source marks a; primary = b })
-      (pass_alike (is_primary_at (long_spans source marks) (place_in source a)) (is_bar_primary s a) given back)
+      (pass_alike (is_primary_at (long_spans source marks) (place_in source a)) (bar_of_span s a).primary given back)
     where
-      given : is_primary_at (long_spans source marks) (place_in source a) ≡ true → is_bar_primary s a ≡ true
+      given : is_primary_at (long_spans source marks) (place_in source a) ≡ true → (bar_of_span s a).primary ≡ true
       given there =
           let d = any_cases (λ (d : Entry). is_primary d.kind && same_place (place_in source a) (long_place d)) (long_spans source marks) there in
           let made = map_cases (long_entry source) (filter (is_long source.text) marks) d.0
@@ -106,7 +106,7 @@ module _ (s : Snippet Annotation) where
           (and_from (b.span.start == a.span.start) (b.span.end == a.span.end) (eq-eqb b.span.start a.span.start bytes.0)
           (eq-eqb b.span.end a.span.end bytes.1)))
 
-      back : is_bar_primary s a ≡ true → is_primary_at (long_spans source marks) (place_in source a) ≡ true
+      back : (bar_of_span s a).primary ≡ true → is_primary_at (long_spans source marks) (place_in source a) ≡ true
       back there =
           let found = any_cases (λ (b : Annotation). is_primary b.kind && (b.span.start == a.span.start && b.span.end == a.span.end)) marks there in
           let b : Annotation = found.0 in

@@ -1,18 +1,22 @@
 -- The rows of a suggestion's lines, with their names.
-use Rattle.std.proofs.Common.{◌≡◌, ◌≢◌, ℕ, ◌+◌, ◌-◌, ◌<◌, ◌≤◌, List, [], ◌∷◌, map, length, take, chars, get_or, refl, sym, ap, subst, ◌∙◌, arith}
-use Rattle.std.specs.List.{All, AllZip}
+use Rattle.std.proofs.Common.{◌≡◌, ◌≢◌, ℕ, ◌+◌, ◌-◌, ◌<◌, ◌≤◌, Option, None, Some, List, [], ◌∷◌, map, length, take, chars, get_or, refl}
+use Rattle.std.proofs.Common.{sym, ap, subst, ◌∙◌, arith}
+use Rattle.std.specs.List.{All, AllZip, cons_option, filter_map}
 use Rattle.std.proofs.lemmas.List.Elements.{All-nil, All-cons, All-head, All-tail}
 use Rattle.snippet_model.specs.declared.snippet.Patch.{Patch}
 use Rattle.snippet_model.specs.declared.snippet.Snippet.{Snippet}
-use Rattle.snippet_style.specs.Cell.{Cell}
+use Rattle.snippet_style.specs.Cell.{Cell, SPACE}
+use Rattle.snippet_style.specs.Glyphs.{suggestion_glyph_of}
 use Rattle.snippet_grid.specs.Print.{row_text}
 use Rattle.snippet_text.specs.Normalized.{norm}
 use Rattle.snippet_lines.specs.Number.{shown_number}
 use Rattle.snippet_model.specs.FreeRows.{IsFree}
-use Rattle.snippet_suggest.specs.Given.{first_given, given_lines}
+use Rattle.snippet_suggest.specs.Cells.{sign_of}
+use Rattle.snippet_suggest.specs.Given.{first_given, given_lines, shown_kind}
 use Rattle.snippet_suggest.specs.PreparedSuggestion.{IsSuggestible}
 use Rattle.snippet_suggest.specs.RowOrder.{Begins, Empty, Ends, Offers, Removes, Skips, SuggestionRow, lines_taken, number_after, numbers_offered}
 use Rattle.snippet_suggest.specs.RowOrder.{removed_number}
+use Rattle.snippet_suggest.specs.Suggested.{HasSign, new_on}
 use Rattle.snippet_suggest.specs.SuggestionRows.{IsRemovedRow, Shows}
 use Rattle.snippet_suggest.specs.SuggestedLines.{AreRising}
 use Rattle.snippet_suggest.proofs.OfferLaws.{given-is-patched}
@@ -20,9 +24,11 @@ use Rattle.snippet_suggest.proofs.OrderLaws.{IsRowOf}
 use Rattle.annotate_snippets.specs.DrawnReport.{suggestion_layout}
 use Rattle.annotate_snippets.specs.GraphicForm.{named_rows}
 use Rattle.annotate_snippets.specs.Gutter.{line_numbers, number_text}
-use Rattle.annotate_snippets.specs.Page.{IsAscending, NamedRow, OfferedLine, Other, RemovedLine, cells_of, lines_offered, lines_removed}
+use Rattle.annotate_snippets.specs.Page.{Elision, NamedRow, OfferedLine, Other, RemovedLine, RowName, SourceRow}
+use Rattle.annotate_snippets.specs.Page.{cells_of, line_offered, lines_offered}
 use Rattle.annotate_snippets.specs.ShownPage.{HasStrokes, IsOfferedRow, IsSuggestionRow, name_of_row}
 use Rattle.annotate_snippets.specs.declared.renderer.Renderer.{Renderer}
+use Rattle.annotate_snippets.proofs.Ascending.{IsAscending}
 use Rattle.snippet_grid.specs.Layout.{Layout}
 use Rattle.snippet_suggest.proofs.RisingLemmas.{rising_bound as rising_within}
 
@@ -51,33 +57,53 @@ names_of-named P s (shows ∷ shown) [] are = absurd are
 names_of-named P s (shows ∷ shown) (row ∷ part) are =
     ap (λ names. name_of_row s shows ∷ names) (names_of-named P s shown part are.1)
 
--- they offer the lines that they show, and show the others as removed
-pub lines_offered-named : (P : SuggestionRow → List Cell → Type 0) (s : Snippet Patch) (shown : List SuggestionRow) (part : List (List Cell))
-    → AllZip P shown part → lines_offered (named_rows s shown part) ≡ map (λ k. first_given s + k) (numbers_offered shown)
-lines_offered-named P s [] [] are = refl
-lines_offered-named P s [] (row ∷ part) are = absurd are
-lines_offered-named P s (shows ∷ shown) [] are = absurd are
-lines_offered-named P s (Begins start ∷ shown) (row ∷ part) are = lines_offered-named P s shown part are.1
-lines_offered-named P s (Offers k ∷ shown) (row ∷ part) are =
-    ap (λ (ks : List ℕ). (first_given s + k) ∷ ks) (lines_offered-named P s shown part are.1)
-lines_offered-named P s (Skips ∷ shown) (row ∷ part) are = lines_offered-named P s shown part are.1
-lines_offered-named P s (Removes i number text ∷ shown) (row ∷ part) are = lines_offered-named P s shown part are.1
-lines_offered-named P s (Empty ∷ shown) (row ∷ part) are = lines_offered-named P s shown part are.1
-lines_offered-named P s (Ends follows ∷ shown) (row ∷ part) are = lines_offered-named P s shown part are.1
+-- so they offer the lines that these offer
+offered_names : (rows : List NamedRow) → lines_offered rows ≡ filter_map line_offered (map (λ (row : NamedRow). row.name) rows)
+offered_names [] = refl
+offered_names (row ∷ rows) = ap (cons_option (line_offered row.name)) (offered_names rows)
 
--- the lines that a suggestion's rows show as removed are those that what they show takes
-pub lines_removed-named : (P : SuggestionRow → List Cell → Type 0) (s : Snippet Patch) (shown : List SuggestionRow) (part : List (List Cell))
-    → AllZip P shown part → lines_removed (named_rows s shown part) ≡ lines_taken shown
-lines_removed-named P s [] [] are = refl
-lines_removed-named P s [] (row ∷ part) are = absurd are
-lines_removed-named P s (shows ∷ shown) [] are = absurd are
-lines_removed-named P s (Begins start ∷ shown) (row ∷ part) are = lines_removed-named P s shown part are.1
-lines_removed-named P s (Offers k ∷ shown) (row ∷ part) are = lines_removed-named P s shown part are.1
-lines_removed-named P s (Skips ∷ shown) (row ∷ part) are = lines_removed-named P s shown part are.1
-lines_removed-named P s (Removes i number text ∷ shown) (row ∷ part) are =
-    ap (λ (ks : List ℕ). i ∷ ks) (lines_removed-named P s shown part are.1)
-lines_removed-named P s (Empty ∷ shown) (row ∷ part) are = lines_removed-named P s shown part are.1
-lines_removed-named P s (Ends follows ∷ shown) (row ∷ part) are = lines_removed-named P s shown part are.1
+offers_of : (s : Snippet Patch) (shown : List SuggestionRow)
+    → filter_map line_offered (map (name_of_row s) shown) ≡ map (λ k. first_given s + k) (numbers_offered shown)
+offers_of s [] = refl
+offers_of s (Begins start ∷ shown) = offers_of s shown
+offers_of s (Offers k ∷ shown) = ap (λ (ks : List ℕ). (first_given s + k) ∷ ks) (offers_of s shown)
+offers_of s (Skips ∷ shown) = offers_of s shown
+offers_of s (Removes i number text ∷ shown) = offers_of s shown
+offers_of s (Empty ∷ shown) = offers_of s shown
+offers_of s (Ends follows ∷ shown) = offers_of s shown
+
+pub lines_offered-order : (s : Snippet Patch) (shown : List SuggestionRow) (rows : List NamedRow)
+    → map (λ row. row.name) rows ≡ map (name_of_row s) shown → lines_offered rows ≡ map (λ k. first_given s + k) (numbers_offered shown)
+lines_offered-order s shown rows order = offered_names rows ∙ ap (filter_map line_offered) order ∙ offers_of s shown
+
+-- the line that a row names as removed, and those that some rows name so
+abbrev pub line_removed : RowName → Option ℕ
+line_removed (SourceRow k) = None
+line_removed Elision = None
+line_removed (OfferedLine j) = None
+line_removed (RemovedLine i) = Some i
+line_removed Other = None
+
+abbrev pub lines_removed : List NamedRow → List ℕ
+lines_removed rows = filter_map (λ (row : NamedRow). line_removed row.name) rows
+
+-- and show as removed those that these take
+removed_names : (rows : List NamedRow) → lines_removed rows ≡ filter_map line_removed (map (λ (row : NamedRow). row.name) rows)
+removed_names [] = refl
+removed_names (row ∷ rows) = ap (cons_option (line_removed row.name)) (removed_names rows)
+
+takes_of : (s : Snippet Patch) (shown : List SuggestionRow) → filter_map line_removed (map (name_of_row s) shown) ≡ lines_taken shown
+takes_of s [] = refl
+takes_of s (Begins start ∷ shown) = takes_of s shown
+takes_of s (Offers k ∷ shown) = takes_of s shown
+takes_of s (Skips ∷ shown) = takes_of s shown
+takes_of s (Removes i number text ∷ shown) = ap (λ (ks : List ℕ). i ∷ ks) (takes_of s shown)
+takes_of s (Empty ∷ shown) = takes_of s shown
+takes_of s (Ends follows ∷ shown) = takes_of s shown
+
+pub lines_removed-order : (s : Snippet Patch) (shown : List SuggestionRow) (rows : List NamedRow)
+    → map (λ row. row.name) rows ≡ map (name_of_row s) shown → lines_removed rows ≡ lines_taken shown
+lines_removed-order s shown rows order = removed_names rows ∙ ap (filter_map line_removed) order ∙ takes_of s shown
 
 module _ (r : Renderer) (layout : Layout) (s : Snippet Patch) where
   -- the rows of a suggestion, each of which shows this
@@ -129,8 +155,8 @@ module _ (r : Renderer) (layout : Layout) (s : Snippet Patch) where
     -- the row of a line that is given offers it
     offered_row : (k : ℕ) (row : List Cell) → k < length (given_lines s)
         → Shows (suggestion_layout r layout s) (s.line_start + first_given s) (given_lines s) (Offers k) row
-        → IsOfferedRow r layout.decor layout.gutter s (first_given s + k) row
-    offered_row k row within shows =
+        → HasSign (suggestion_layout r layout s) s (Offers k) row → IsOfferedRow r layout.decor layout.gutter s (first_given s + k) row
+    offered_row k row within shows signed =
         let number = number_is k within in
         let back : first_given s + k - first_given s ≡ k = omega arith in
         record {
@@ -139,6 +165,11 @@ module _ (r : Renderer) (layout : Layout) (s : Snippet Patch) where
           number = subst (λ shown. row_text (take (length shown) row) ≡ shown) number shows.numbered;
           beside = λ c right left. shows.beside c (omega (arith, ap length number, right)) left;
           sign = shows.sign;
+          asked = λ fits.
+              let left : length (shown_number (line_numbers r s.line_numbering) layout.gutter (number_after (s.line_start + first_given s) k))
+              ≤ layout.gutter + 1 = omega (arith, fits, ap length number) in
+              subst (λ i. (get_or row (layout.gutter + 1) SPACE).ch ≡ get_or (suggestion_glyph_of layout.decor
+              (sign_of (shown_kind s) (length (given_lines s)) (get_or (given_lines s) i []) (new_on s i))) 0 32) (sym back) (signed left);
           space = shows.space;
           line = shows.holds ∙ ap (λ i. norm (chars (get_or (given_lines s) i []))) (sym back);
           patched_line = λ offerable.
@@ -161,28 +192,28 @@ module _ (r : Renderer) (layout : Layout) (s : Snippet Patch) where
     -- so each row is what its name says
     pub rows_named : (from : ℕ) (shown : List SuggestionRow) (part : List (List Cell))
         → AreRising from (first_given s + length (given_lines s)) (map (λ k. first_given s + k) (numbers_offered shown)) → All (IsRowOf s) shown
-        → AreShown shown part → All IsNamed (named_rows s shown part)
-    rows_named from [] part rising own are = All-nil IsNamed
-    rows_named from (shows ∷ shown) [] rising own are = absurd are
-    rows_named from (Offers k ∷ shown) (row ∷ part) rising own are =
+        → AreShown shown part → AllZip (HasSign (suggestion_layout r layout s) s) shown part → All IsNamed (named_rows s shown part)
+    rows_named from [] part rising own are signs = All-nil IsNamed
+    rows_named from (shows ∷ shown) [] rising own are signs = absurd are
+    rows_named from (Offers k ∷ shown) (row ∷ part) rising own are signs =
         let last : first_given s + k + 1 ≤ first_given s + length (given_lines s) = rising_within (first_given s + k + 1)
         (first_given s + length (given_lines s)) _ rising.1 in
         All-cons IsNamed (record { name = OfferedLine (first_given s + k); cells = row }) (named_rows s shown part)
-        (offered_row k row (omega (arith, last)) are.0) (rows_named (first_given s + k + 1) shown part rising.1
-        (All-tail (IsRowOf s) (Offers k) shown own) are.1)
-    rows_named from (Removes i number text ∷ shown) (row ∷ part) rising own are =
+        (offered_row k row (omega (arith, last)) are.0 signs.0) (rows_named (first_given s + k + 1) shown part rising.1
+        (All-tail (IsRowOf s) (Offers k) shown own) are.1 signs.1)
+    rows_named from (Removes i number text ∷ shown) (row ∷ part) rising own are signs =
         let of = All-head (IsRowOf s) (Removes i number text) shown own in
         All-cons IsNamed (record { name = RemovedLine i; cells = row }) (named_rows s shown part) (removed_row_shown i number text row of are.0)
-        (rows_named from shown part rising (All-tail (IsRowOf s) (Removes i number text) shown own) are.1)
-    rows_named from (Begins start ∷ shown) (row ∷ part) rising own are =
+        (rows_named from shown part rising (All-tail (IsRowOf s) (Removes i number text) shown own) are.1 signs.1)
+    rows_named from (Begins start ∷ shown) (row ∷ part) rising own are signs =
         All-cons IsNamed (record { name = Other; cells = row }) (named_rows s shown part) are.0.bare
-        (rows_named from shown part rising (All-tail (IsRowOf s) (Begins start) shown own) are.1)
-    rows_named from (Skips ∷ shown) (row ∷ part) rising own are =
+        (rows_named from shown part rising (All-tail (IsRowOf s) (Begins start) shown own) are.1 signs.1)
+    rows_named from (Skips ∷ shown) (row ∷ part) rising own are signs =
         All-cons IsNamed (record { name = Other; cells = row }) (named_rows s shown part) are.0.bare
-        (rows_named from shown part rising (All-tail (IsRowOf s) Skips shown own) are.1)
-    rows_named from (Empty ∷ shown) (row ∷ part) rising own are =
+        (rows_named from shown part rising (All-tail (IsRowOf s) Skips shown own) are.1 signs.1)
+    rows_named from (Empty ∷ shown) (row ∷ part) rising own are signs =
         All-cons IsNamed (record { name = Other; cells = row }) (named_rows s shown part) are.0.bare
-        (rows_named from shown part rising (All-tail (IsRowOf s) Empty shown own) are.1)
-    rows_named from (Ends follows ∷ shown) (row ∷ part) rising own are =
+        (rows_named from shown part rising (All-tail (IsRowOf s) Empty shown own) are.1 signs.1)
+    rows_named from (Ends follows ∷ shown) (row ∷ part) rising own are signs =
         All-cons IsNamed (record { name = Other; cells = row }) (named_rows s shown part) are.0.bare
-        (rows_named from shown part rising (All-tail (IsRowOf s) (Ends follows) shown own) are.1)
+        (rows_named from shown part rising (All-tail (IsRowOf s) (Ends follows) shown own) are.1 signs.1)

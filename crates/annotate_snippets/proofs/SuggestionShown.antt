@@ -1,6 +1,7 @@
 -- The rows of a suggestion show it.
 use Rattle.std.proofs.Common.{◌≡◌, ◌≢◌, ◌∙◌, ℕ, ◌+◌, Bool, true, false, not, if◌then◌else◌, Option, None, Some, List, [], ◌∷◌, ◌++◌, map, length, refl, sym, ap}
 use Rattle.std.proofs.Common.{subst, inl, inr}
+use Rattle.std.specs.Cow.{cow_str_bytes}
 use Rattle.std.specs.List.{All, AllZip, Contains}
 use Rattle.std.proofs.lemmas.List.{append-nil, map-append}
 use Rattle.std.proofs.lemmas.List.Elements.{All-append, All-cons, All-nil, filter_map-append}
@@ -10,7 +11,10 @@ use Rattle.snippet_model.specs.declared.snippet.Snippet.{Snippet}
 use Rattle.snippet_style.specs.Cell.{Cell}
 use Rattle.snippet_model.specs.FreeRows.{IsFree}
 use Rattle.snippet_parts.proofs.PartLemmas.{All-unmapped}
-use Rattle.snippet_suggest.specs.Given.{first_given, given_lines, numbers_given, offered_lines, removed_lines}
+use Rattle.snippet_lines.specs.Lines.{lines_of}
+use Rattle.snippet_splice.specs.Overlap.{AreDisjoint}
+use Rattle.snippet_splice.specs.Spliced.{spliced_text, texts_of}
+use Rattle.snippet_suggest.specs.Given.{IsAsItWas, IsOfferable, edits_of, first_given, given_lines, last_reached, numbers_given, offered_lines, removed_lines}
 use Rattle.snippet_suggest.specs.RowOrder.{Ends, SuggestionRow, line_taken, lines_taken, number_offered, numbers_offered, rows_of_suggestion}
 use Rattle.snippet_suggest.specs.PreparedSuggestion.{IsSuggestible}
 use Rattle.snippet_suggest.specs.Suggested.{HasSign}
@@ -19,7 +23,7 @@ use Rattle.snippet_suggest.specs.SuggestionRows.{Shows}
 use Rattle.snippet_suggest.specs.SuggestedLines.{AreRising}
 use Rattle.snippet_suggest.specs.declared.SuggestionStart.{SuggestionStart}
 use Rattle.snippet_suggest.specs.declared.SuggestionStart.TheVariants as start
-use Rattle.snippet_suggest.proofs.OfferLaws.{offered-ascends}
+use Rattle.snippet_suggest.proofs.OfferLaws.{HaveSpans, given-part, offered-ascends}
 use Rattle.snippet_suggest.proofs.OrderLaws.{IsRowOf, rows-offer, rows-own, rows-take}
 use Rattle.snippet_suggest.proofs.TouchLaws.{touched-offered}
 use Rattle.snippet_titles.specs.Origin.{primary_start}
@@ -27,18 +31,19 @@ use Rattle.snippet_titles.proofs.OriginFree.{origin_row-free}
 use Rattle.annotate_snippets.specs.Around.{begins_in_row_above, is_end, path_bytes, suggestion_rows}
 use Rattle.annotate_snippets.specs.DrawnReport.{HasRoomFor, IsSuggestionDrawn, suggestion_layout, suggestion_lines, under_of}
 use Rattle.annotate_snippets.specs.GraphicForm.{named_rows}
-use Rattle.annotate_snippets.specs.Page.{IsAscending, NamedRow, cells_of, lines_offered, others}
+use Rattle.annotate_snippets.specs.Page.{NamedRow, cells_of, lines_offered, others}
 use Rattle.annotate_snippets.specs.RowsWithoutSource.{origin_layout, patch_place, path_row, suggestion_head, suggestion_head_at}
-use Rattle.annotate_snippets.specs.ShownPage.{HasStrokes, ShowsSuggestion}
+use Rattle.annotate_snippets.specs.ShownPage.{HasStrokes, ShowsSuggestion, name_of_row}
 use Rattle.annotate_snippets.specs.declared.renderer.Renderer.{Renderer}
 use Rattle.snippet_grid.specs.Layout.{Layout}
 use Rattle.annotate_snippets.specs.declared.renderer.element_context.ElementContext.{ElementContext}
+use Rattle.annotate_snippets.proofs.Ascending.{IsAscending, ascends}
 use Rattle.annotate_snippets.proofs.ElementShown.{ElementShown}
 use Rattle.annotate_snippets.proofs.PageLemmas.{cells_of-others}
 use Rattle.annotate_snippets.proofs.SuggestFeedLaws.{suggestion_one_line}
 use Rattle.annotate_snippets.proofs.SuggestionLines.{IsEnding, lines_each, lines_show}
-use Rattle.annotate_snippets.proofs.SuggestionLemmas.{cells_of-named, lines_free, lines_offered-named, lines_removed-named, names_of-named, rising_ascends}
-use Rattle.annotate_snippets.proofs.SuggestionLemmas.{rows_named, strokes_shown}
+use Rattle.annotate_snippets.proofs.SuggestionLemmas.{cells_of-named, lines_free, lines_offered-order, lines_removed, lines_removed-order, names_of-named}
+use Rattle.annotate_snippets.proofs.SuggestionLemmas.{rising_ascends, rows_named, strokes_shown}
 
 -- the row of its path holds no listed character and no link
 path_row-free : (r : Renderer) (layout : Layout) (first : Bool) (s : Snippet Patch) (path : Option (List ℕ)) → All IsFree (path_row r layout first s path)
@@ -82,8 +87,32 @@ module _ (around : ElementContext) (s : Snippet Patch) where
       filter_map-append line_taken rows (ends around.shared) ∙ ap (λ ks. lines_taken rows ++ ks) (ends_take around.shared) ∙ append-nil (lines_taken rows)
       ∙ rows-take around.start s
 
+  -- so rows with their names, in their order, offer just the lines that the suggestion offers, and show as removed those that it takes away
+  pub offered_in_order : (after : List NamedRow) → map (λ row. row.name) after ≡ map (name_of_row s) (suggestion_rows around s)
+      → lines_offered after ≡ offered_lines s
+  offered_in_order after order = lines_offered-order s (suggestion_rows around s) after order ∙ ap (map (λ k. first_given s + k)) all_offer
+
+  pub removed_in_order : (after : List NamedRow) → map (λ row. row.name) after ≡ map (name_of_row s) (suggestion_rows around s)
+      → lines_removed after ≡ removed_lines s
+  removed_in_order after order = lines_removed-order s (suggestion_rows around s) after order ∙ all_take
+
   all_own : All (IsRowOf s) (suggestion_rows around s)
   all_own = All-append (IsRowOf s) rows (ends around.shared) (rows-own around.start s) (ends_own around.shared)
+
+-- the lines that are given are those of the spliced text, so either is as it was where the other is
+same_lines_given : (s : Snippet Patch) → HaveSpans s → AreDisjoint (edits_of s) → s.markers.items ≢ [] → IsOfferable s
+    → texts_of (lines_of (spliced_text s.fold (cow_str_bytes s.source) (edits_of s))) ≡ given_lines s
+same_lines_given s spans disjoint some offerable =
+    let part = given-part s spans disjoint some offerable in
+    ap (λ text. texts_of (lines_of text)) (part.spliced ∙ sym part.text)
+
+pub given_as_it_was : (s : Snippet Patch) → HaveSpans s → AreDisjoint (edits_of s) → s.markers.items ≢ [] → IsOfferable s → IsAsItWas s
+    → given_lines s ≡ last_reached s ∷ []
+given_as_it_was s spans disjoint some offerable as_it_was = sym (same_lines_given s spans disjoint some offerable) ∙ as_it_was
+
+pub spliced_as_it_was : (s : Snippet Patch) → HaveSpans s → AreDisjoint (edits_of s) → s.markers.items ≢ [] → IsOfferable s
+    → given_lines s ≡ last_reached s ∷ [] → IsAsItWas s
+spliced_as_it_was s spans disjoint some offerable same = same_lines_given s spans disjoint some offerable ∙ same
 
 -- the rows of a suggestion show it, once they have names: after the row of its path those of its lines
 pub suggestion_shown : (r : Renderer) (layout : Layout) (around : ElementContext) (found : List Cell) (s : Snippet Patch) (rows : List (List Cell))
@@ -97,7 +126,7 @@ suggestion_shown r layout around found s rows suggestible some room ends drawn =
     let are : AllZip IsShown shown lines_are = lines_show r layout around found s suggestible some room ends in
     let after : List NamedRow = named_rows s shown lines_are in
     let same : map (λ k. first_given s + k) (numbers_offered shown) ≡ offered_lines s = ap (map (λ k. first_given s + k)) (all_offer around s) in
-    let lines : lines_offered after ≡ offered_lines s = lines_offered-named IsShown s shown lines_are are ∙ same in
+    let lines : lines_offered after ≡ offered_lines s = offered_in_order around s after (names_of-named IsShown s shown lines_are are) in
     let end : ℕ = first_given s + length (given_lines s) in
     let cells : cells_of (others head ++ after) ≡ rows = map-append (λ (row : NamedRow). row.cells) (others head) after
     ∙ ap (λ rs. rs ++ cells_of after) (cells_of-others head) ∙ ap (λ rs. head ++ rs) (cells_of-named IsShown s shown lines_are are)
@@ -108,21 +137,17 @@ suggestion_shown r layout around found s rows suggestible some room ends drawn =
       after = after;
       rows_are = refl;
       offered = λ offerable j touched visible. elim (touched-offered s suggestible.spans suggestible.disjoint offerable j touched visible) [
-        | inl as_it_was ↦ inl as_it_was
+        | inl as_it_was ↦ inl (given_as_it_was s suggestible.spans suggestible.disjoint some offerable as_it_was)
         | inr among ↦ inr (subst (λ js. Contains js j) (sym lines) among)
       ];
-      ordered = subst IsAscending (sym lines) (rising_ascends (first_given s) end (offered_lines s) (offered-ascends s));
-      lines = lines;
+      ordered = ascends (lines_offered after) (subst IsAscending (sym lines) (rising_ascends (first_given s) end (offered_lines s) (offered-ascends s)));
       order = names_of-named IsShown s shown lines_are are;
       cells = cells_of-named IsShown s shown lines_are are;
-      signs = subst (AllZip (HasSign (suggestion_layout r layout s) s) shown) (sym (cells_of-named IsShown s shown lines_are are))
-          (lines_each r layout around found s (HasSign (suggestion_layout r layout s) s) (body_signs (suggestion_layout r layout s) around.start s
-          (under_of r layout around.start found)) tt);
       strokes = subst (AllZip (HasStrokes layout.decor layout.gutter) shown) (sym (cells_of-named IsShown s shown lines_are are))
           (strokes_shown r layout s shown lines_are are);
-      removed = lines_removed-named IsShown s shown lines_are are ∙ all_take around s;
       named = rows_named r layout s suggestible some (first_given s) shown lines_are (subst (AreRising (first_given s) end) (sym same) (offered-ascends s))
-          (all_own around s) are;
+          (all_own around s) are (lines_each r layout around found s (HasSign (suggestion_layout r layout s) s)
+          (body_signs (suggestion_layout r layout s) around.start s (under_of r layout around.start found)) tt);
     } in
     record {
       part = others head ++ after;

@@ -23,6 +23,7 @@ use Rattle.annotate_snippets.specs.declared.renderer.Renderer.{Renderer}
 use Rattle.snippet_grid.specs.Layout.{Layout}
 use Rattle.annotate_snippets.specs.declared.renderer.element_context.GroupPosition.{GroupPosition}
 use Rattle.annotate_snippets.specs.declared.renderer.element_context.Next.{Next}
+use Rattle.annotate_snippets.proofs.HeadingShown.{texts_of}
 
 -- a character that is neither a space nor a digit begins no number
 no_number : (space digit rest : Bool) → not (space || digit) ≡ true → cond space rest digit ≡ false
@@ -101,7 +102,7 @@ title_unnumbered r layout place follows title rows shown words =
     let text_at : List ℕ → ℕ → List ℕ = λ first i. slice_index_or (texts_below first (row_text (replicate (label_width heading) SPACE))
     (heading_lines heading)) i [] in
     let each : (i : ℕ) → i < length shown.own → IsUnnumbered layout.gutter (get_or shown.own i []) =
-    λ i within. ap (λ text. begins_with_number (take (layout.gutter + 1) text)) (shown.shows.texts i ∙ ap (λ first. text_at first i) label)
+    λ i within. ap (λ text. begins_with_number (take (layout.gutter + 1) text)) (texts_of shown.shows i ∙ ap (λ first. text_at first i) label)
     ∙ text_of_row (layout.gutter + 1) (norm (chars (name_of title.level))) after_name (label_width heading) words.word (omega (arith, words.wide))
     (heading_lines heading) i in
     subst (All (IsUnnumbered layout.gutter)) (sym shown.rows_are) (All-append (IsUnnumbered layout.gutter) shown.own

@@ -33,7 +33,7 @@ use Rattle.snippet_wrap.specs.WrapLaws.{AreWithin, IsAmong, IsRewrapped, lines_i
 use Rattle.snippet_wrap.proofs.DrawnLemmas.{message-within, title-within}
 use Rattle.snippet_wrap.proofs.LawLemmas.{wrapped-laws}
 use Rattle.annotate_snippets.specs.Fault.{element_faults, faults_from, first_fault, first_of, group_faults, missing_title, refusal_in}
-use Rattle.annotate_snippets.specs.Feeds.{HasOneLineTexts, IsOneLineElement, IsOneLineGroup, IsOneLineId, IsOneLineName, IsOneLineTitle}
+use Rattle.annotate_snippets.specs.Feeds.{HasOneLineTexts}
 use Rattle.annotate_snippets.specs.Forms.{links_in}
 use Rattle.annotate_snippets.specs.Gutter.{gutter_of_report, width_wanted}
 use Rattle.annotate_snippets.specs.Rewrapped.{AreRewrapped, IsElementRewrapped, IsGroupRewrapped, IsTextRewrapped, IsTitleRewrapped}
@@ -45,6 +45,7 @@ use Rattle.annotate_snippets.specs.declared.renderer.error.RenderError.{RenderEr
 use Rattle.annotate_snippets.specs.declared.renderer.error.RenderError.TheVariants.{NoTitle}
 use Rattle.annotate_snippets.specs.declared.renderer.form.Form.{Form}
 use Rattle.annotate_snippets.specs.declared.renderer.form.Form.TheVariants.{Graphic, Short, Text}
+use Rattle.annotate_snippets.proofs.OneLineTexts.{IsOneLineElement, IsOneLineGroup, IsOneLineId, IsOneLineName, IsOneLineTitle, one_line_groups, one_line_texts}
 
 -- ---- lists of things that stand in the places of others
 
@@ -241,10 +242,10 @@ module _ (term_width gutter : ℕ) where
   -- labels, paths, ids and names of levels hold no line feed where they held none
   pub wrapped-line : (groups shown : List Group) → AreGroupsWrapped term_width gutter groups shown → HasOneLineTexts groups → HasOneLineTexts shown
   wrapped-line groups shown pairs plain =
-      all-over GroupWraps IsOneLineGroup (λ a b is texts. (
+      one_line_texts shown (all-over GroupWraps IsOneLineGroup (λ a b is texts. (
         title-line a.title b.title is.1 texts.0,
         all-over Wraps IsOneLineElement element-line a.elements.items b.elements.items is.2 texts.1,
-      )) groups shown pairs plain
+      )) groups shown pairs (one_line_groups groups plain))
 
   -- ---- listed characters
 

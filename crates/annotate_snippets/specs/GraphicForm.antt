@@ -2,9 +2,10 @@
 use Rattle.std.specs.Prelude.{ℕ, ◌+◌, ◌-◌, ◌==◌, ◌&&◌, nat_lt, not, List, [], ◌∷◌, ◌++◌, Bool, Option, filter, length, map, if◌then◌else◌}
 use Rattle.std.specs.Borrow.{Bor}
 use Rattle.std.specs.Cow.{cow_str_bytes}
-use Rattle.std.specs.List.{enumerate_from}
+use Rattle.std.specs.List.{enumerate_from, filter_map}
 use Rattle.std.specs.Option.{option_map}
 use Rattle.snippet_style.specs.Cell.{Cell}
+use Rattle.snippet_model.specs.AnnotationKind.{is_primary}
 use Rattle.snippet_model.specs.declared.snippet.Annotation.{Annotation}
 use Rattle.snippet_model.specs.declared.snippet.Element.{Element}
 use Rattle.snippet_model.specs.declared.snippet.Element.TheVariants as element
@@ -13,16 +14,16 @@ use Rattle.snippet_model.specs.declared.snippet.Patch.{Patch}
 use Rattle.snippet_model.specs.declared.snippet.Snippet.{Snippet}
 use Rattle.snippet_text.specs.Normalized.{norm}
 use Rattle.snippet_text.specs.Width.{width_of}
-use Rattle.snippet_parts.specs.Annotated.{PartEntry}
+use Rattle.snippet_parts.specs.Annotated.{PartEntry, parts_on}
 use Rattle.snippet_parts.specs.Kept.{shown_lines}
-use Rattle.snippet_window.specs.Margin.{bounds_of}
+use Rattle.snippet_window.specs.Margin.{Bounds, bounds_of}
 use Rattle.snippet_window.specs.Measures.{margin_of}
 use Rattle.snippet_window.specs.Window.{chars_at, dropped_part}
 use Rattle.snippet_parts.specs.declared.entries.LineAnnotation.{LineAnnotation}
 use Rattle.snippet_window.specs.declared.margin.Margin.{Margin}
 use Rattle.snippet_labels.specs.PlacedEntries.{is_end_part}
 use Rattle.snippet_strokes.specs.SourceRows.{source_row, window_cells}
-use Rattle.snippet_strokes.specs.Bars.{Bar, open_past}
+use Rattle.snippet_strokes.specs.Bars.{Bar, bar_at, open_past}
 use Rattle.snippet_strokes.specs.LineRows.{line_rows}
 use Rattle.snippet_strokes.specs.StrokeRows.{highlighted_row}
 use Rattle.snippet_strokes.specs.Snippet.{gap_row}
@@ -36,18 +37,32 @@ use Rattle.annotate_snippets.specs.declared.renderer.element_context.ElementCont
 use Rattle.annotate_snippets.specs.Around.{closes_with, context_at, drawn_elements, file_of_group, is_end, next_of, position_of_group, suggestion_rows}
 use Rattle.annotate_snippets.specs.DrawnReport.{found_at, suggestion_lines}
 use Rattle.annotate_snippets.specs.Gutter.{layout_of_group, number_text, numbered_source}
-use Rattle.annotate_snippets.specs.SnippetLineRows.{bars_on, entries_on}
 use Rattle.annotate_snippets.specs.Page.{Elision, GroupPage, NamedRow, OfferedLine, Other, Page, RemovedLine, RowName, SourceRow, others}
 use Rattle.annotate_snippets.specs.RowsWithoutSource.{cause_head, message_rows, origin_rows, rows_after_cause, suggestion_head, title_part}
 
 -- ---- lines
 
--- the bounds between which a snippet's lines are shown, in a room of what is left of the width
+-- the entries of a snippet's spans on line k
+abbrev pub entries_on : Snippet Annotation → ℕ → List PartEntry
+entries_on s k = parts_on (numbered_source s) s.markers.items k
+
+-- the bar that the start or the end of a span of several lines has, and those of all that stand on line k
+abbrev pub bars_on : Snippet Annotation → ℕ → List Bar
+bars_on s k = filter_map (λ e. bar_at e.part (is_primary e.entry.kind)) (entries_on s k)
+
+-- the columns that code has
+abbrev pub room_of : Renderer → Layout → ℕ
+room_of r layout = r.term_width - layout.code
+
+-- the bounds between which a snippet's lines are shown: those for the lines that are kept, and for its spans
+abbrev pub bounds_in : Renderer → Layout → Snippet Annotation → Bounds
+bounds_in r layout s = margin_of (room_of r layout) s.fold (numbered_source s) s.markers.items
+
+-- these bounds, and the room between them
 abbrev pub margin_in : Renderer → Layout → Snippet Annotation → Margin
 margin_in r layout s =
-    let room = r.term_width - layout.code in
-    let bounds = margin_of room s.fold (numbered_source s) s.markers.items in
-    record { computed_left = bounds.left; computed_right = bounds.right; term_width = room }
+    let bounds = bounds_in r layout s in
+    record { computed_left = bounds.left; computed_right = bounds.right; term_width = room_of r layout }
 
 -- a text that is lent, from wherever it stands
 abbrev pub lent : List ℕ → Bor (List ℕ)

@@ -1,5 +1,5 @@
 -- A page: the rows of a report's text, each of them part of a title or of an element; and the texts that print it.
-use Rattle.std.specs.Prelude.{◌≡◌, ℕ, ◌+◌, ◌<◌, nat_lt, Bool, true, false, List, [], ◌∷◌, ◌++◌, Option, Some, None, map, filter, if◌then◌else◌}
+use Rattle.std.specs.Prelude.{◌≡◌, ℕ, ◌<◌, Bool, true, false, List, [], ◌∷◌, ◌++◌, Option, Some, None, map, if◌then◌else◌}
 use Rattle.std.specs.List.{AllZip, flat_map, filter_map, join_with_byte}
 use Rattle.snippet_style.specs.Cell.{Cell}
 use Rattle.snippet_grid.specs.Print.{plain_text}
@@ -25,10 +25,7 @@ pub record NamedRow : Type 0 where
 -- the line that a source row is named by
 abbrev pub line_named : RowName → Option ℕ
 line_named (SourceRow k) = Some k
-line_named Elision = None
-line_named (OfferedLine j) = None
-line_named (RemovedLine i) = None
-line_named Other = None
+line_named name = None
 
 -- the lines that some rows are named by
 abbrev pub lines_named : List NamedRow → List ℕ
@@ -36,45 +33,17 @@ lines_named rows = filter_map (λ row. line_named row.name) rows
 
 -- the line of the patched source that a row is named by, and those that some rows are named by
 abbrev pub line_offered : RowName → Option ℕ
-line_offered (SourceRow k) = None
-line_offered Elision = None
 line_offered (OfferedLine j) = Some j
-line_offered (RemovedLine i) = None
-line_offered Other = None
+line_offered name = None
 
 abbrev pub lines_offered : List NamedRow → List ℕ
 lines_offered rows = filter_map (λ row. line_offered row.name) rows
-
--- the line that a row names as removed, and those that some rows name so
-abbrev pub line_removed : RowName → Option ℕ
-line_removed (SourceRow k) = None
-line_removed Elision = None
-line_removed (OfferedLine j) = None
-line_removed (RemovedLine i) = Some i
-line_removed Other = None
-
-abbrev pub lines_removed : List NamedRow → List ℕ
-lines_removed rows = filter_map (λ row. line_removed row.name) rows
 
 -- whether a row shows a line of the source, or that lines are left out
 abbrev pub shows_lines : RowName → Bool
 shows_lines (SourceRow k) = true
 shows_lines Elision = true
-shows_lines (OfferedLine j) = false
-shows_lines (RemovedLine i) = false
-shows_lines Other = false
-
--- the names of some rows, from top to bottom, without those of rows that show something else
-abbrev pub names_in : List NamedRow → List RowName
-names_in rows = filter shows_lines (map (λ row. row.name) rows)
-
--- the names of the rows that show these lines: the source row of each, and between two of them one row where lines are left
--- out
-abbrev pub names_of_lines : List ℕ → List RowName
-names_of_lines [] = []
-names_of_lines (j ∷ []) = SourceRow j ∷ []
-names_of_lines (j ∷ k ∷ ks) =
-    if nat_lt (j + 1) k then SourceRow j ∷ Elision ∷ names_of_lines (k ∷ ks) else SourceRow j ∷ names_of_lines (k ∷ ks)
+shows_lines name = false
 
 -- the cells of some rows
 abbrev pub cells_of : List NamedRow → List (List Cell)
@@ -133,9 +102,3 @@ pub record PrintsGrids (sheet : Stylesheet) (grids : List GroupGrid) (text : Lis
 -- rows that show no line
 abbrev pub others : List (List Cell) → List NamedRow
 others rows = map (λ cells. record { name = Other; cells = cells }) rows
-
--- each number is greater than the one before it
-abbrev pub IsAscending : List ℕ → Type 0
-IsAscending [] = Unit {0}
-IsAscending (j ∷ []) = Unit {0}
-IsAscending (j ∷ k ∷ ks) = (j < k) × IsAscending (k ∷ ks)

@@ -4,10 +4,10 @@ use Rattle.std.specs.List.{slice_get}
 use Rattle.snippet_model.specs.Trusted.{trusted_texts}
 use Rattle.snippet_model.specs.declared.snippet.Group.{Group}
 use Rattle.snippet_model.specs.declared.snippet.Title.{Title}
-use Rattle.annotate_snippets.specs.Feeds.{HasOneLineRows, HasOneLineTexts, page_lines, text_lines}
+use Rattle.annotate_snippets.specs.Feeds.{HasNoFeed, HasOneLineTexts, page_lines, text_lines}
 use Rattle.annotate_snippets.specs.Gutter.{layout_of_group}
-use Rattle.annotate_snippets.specs.Numbers.{HasNumbersOfLines, IsTitleOfWords, IsUnnumbered}
-use Rattle.annotate_snippets.specs.Page.{GroupPage, Page, page_links, page_text}
+use Rattle.annotate_snippets.specs.Numbers.{IsNumberedAsLine, IsTitleOfWords, IsUnnumbered}
+use Rattle.annotate_snippets.specs.Page.{GroupPage, Page, group_rows, page_links, page_text}
 use Rattle.annotate_snippets.specs.ShownPage.{AreGroupsShown, IsFreeBut, report_links}
 use Rattle.annotate_snippets.specs.declared.renderer.Renderer.{Renderer}
 
@@ -20,9 +20,9 @@ pub record PageLaws (r : Renderer) (groups : List Group) (page : Page) : Type 0 
   pub shows : AreGroupsShown r groups page
   pub free : IsFreeBut (trusted_texts groups) (page_text page)
   pub links : page_links page ≡ report_links r groups
-  pub one_line : HasOneLineTexts groups → All HasOneLineRows page
+  pub one_line : HasOneLineTexts groups → All (λ g. All HasNoFeed (group_rows g)) page
   pub lines : HasOneLineTexts groups → text_lines (page_text page) ≡ page_lines page
   pub numbers : (i : ℕ) (g : Group) (part : GroupPage) → slice_get groups i ≡ Some g → slice_get page i ≡ Some part
-      → HasNumbersOfLines (layout_of_group r groups g).gutter part
+      → All (λ rows. All (IsNumberedAsLine (layout_of_group r groups g).gutter) rows) part.elements
   pub titles : (i : ℕ) (g : Group) (part : GroupPage) (title : Title) → slice_get groups i ≡ Some g → slice_get page i ≡ Some part → g.title ≡ Some title
       → IsTitleOfWords (layout_of_group r groups g).gutter title → All (IsUnnumbered (layout_of_group r groups g).gutter) part.title

@@ -26,24 +26,24 @@ use Rattle.snippet_model.specs.declared.snippet.AnnotationKind.{AnnotationKind}
 use Rattle.snippet_model.specs.declared.snippet.Element.{Element}
 use Rattle.snippet_model.specs.declared.snippet.Element.TheVariants as element
 use Rattle.snippet_parts.specs.Annotated.{promoted, is_long, long_spans}
+use Rattle.snippet_parts.specs.Entries.{Ascends}
 use Rattle.snippet_parts.specs.Kept.{shown_lines}
 use Rattle.snippet_lines.specs.Lines.{source_lines, text_at}
 use Rattle.snippet_splice.specs.Edits.{patched}
 use Rattle.snippet_splice.specs.Spliced.{IsTouched}
-use Rattle.snippet_suggest.specs.Given.{IsAsItWas, IsOfferable, edits_of, first_given, given_lines, offered_lines, removed_lines}
+use Rattle.snippet_suggest.specs.Given.{IsOfferable, edits_of, first_given, given_lines, last_reached, shown_kind}
 use Rattle.snippet_suggest.specs.Kind.{is_blank_text}
-use Rattle.snippet_suggest.specs.RowOrder.{Begins, Empty, Ends, Offers, Removes, Skips, SuggestionRow, removed_number}
+use Rattle.snippet_suggest.specs.RowOrder.{Begins, Empty, Ends, Skips, SuggestionRow, removed_number}
 use Rattle.snippet_suggest.specs.SuggestionRows.{HasLeft, IsBareRow, IsRemovedRow, IsSign, begin_glyph, beside_gutter, end_glyph, gap_left}
-use Rattle.snippet_suggest.specs.Suggested.{HasSign}
-use Rattle.snippet_window.specs.Margin.{Bounds}
-use Rattle.snippet_window.specs.Measures.{margin_of}
+use Rattle.snippet_suggest.specs.Cells.{sign_of}
+use Rattle.snippet_suggest.specs.Suggested.{new_on}
 use Rattle.snippet_parts.specs.Marked.{Entry, first_line, last_line}
 use Rattle.snippet_parts.specs.Mark.{is_marked_on, is_marking, is_wide, qualifies_for_marks, start_column, end_column, IsMarkedAt, IsMarkOf}
 use Rattle.snippet_parts.specs.Location.{IsLocation}
 use Rattle.snippet_parts.specs.declared.location.Location.{Location}
 use Rattle.snippet_window.specs.Window.{chars_at, stands_whole, IsWindowOf}
 use Rattle.snippet_model.specs.FreeRows.{IsFree}
-use Rattle.snippet_style.specs.Glyphs.{separator_of, placeholder_of}
+use Rattle.snippet_style.specs.Glyphs.{separator_of, placeholder_of, suggestion_glyph_of}
 use Rattle.snippet_strokes.specs.EntryMarks.{IsMarkCell, IsBarCell, has_mark_role}
 use Rattle.snippet_labels.specs.PlacedEntries.{label_role}
 use Rattle.snippet_strokes.specs.Labels.{IsStemCell, IsStrokeCell}
@@ -51,7 +51,7 @@ use Rattle.snippet_strokes.specs.StrokeRows.{IsElisionRow}
 use Rattle.snippet_strokes.specs.SourceRows.{bare_row}
 use Rattle.snippet_titles.specs.HeadingRows.{heading_rows}
 use Rattle.snippet_titles.specs.Origin.{origin_text, padding_row}
-use Rattle.snippet_titles.specs.ShownHeading.{IsFreeButText, LinksId, heading_texts}
+use Rattle.snippet_titles.specs.ShownHeading.{IsFreeButText}
 use Rattle.snippet_titles.specs.Title.{id_links}
 use Rattle.snippet_titles.specs.declared.style.TitleStyle.{TitleStyle}
 use Rattle.snippet_titles.specs.declared.style.TitleStyle.TheVariants as style
@@ -62,13 +62,12 @@ use Rattle.annotate_snippets.specs.declared.renderer.element_context.Next.{Next}
 use Rattle.annotate_snippets.specs.declared.renderer.element_context.ElementContext.{ElementContext}
 use Rattle.annotate_snippets.specs.Around.{closes_with, drawn_elements, file_of_group, is_end, next_of, path_bytes, position_of_group, context_at}
 use Rattle.annotate_snippets.specs.Around.{suggestion_rows}
-use Rattle.annotate_snippets.specs.DrawnReport.{found_at, suggestion_layout, suggestion_lines}
-pub use Rattle.annotate_snippets.specs.GraphicForm.{name_of_row}
-use Rattle.annotate_snippets.specs.GraphicForm.{graphic_form}
+use Rattle.annotate_snippets.specs.DrawnReport.{found_at, suggestion_lines}
+pub use Rattle.annotate_snippets.specs.GraphicForm.{bounds_in, name_of_row, room_of}
+use Rattle.annotate_snippets.specs.GraphicForm.{graphic_form, rows_of_lines}
 use Rattle.annotate_snippets.specs.Gutter.{layout_of_group, line_numbers, number_text, numbered_source}
-use Rattle.annotate_snippets.specs.SnippetLineRows.{AreRowsDrawn}
-use Rattle.annotate_snippets.specs.Page.{RowName, SourceRow, Elision, OfferedLine, RemovedLine, Other, NamedRow, lines_named, lines_offered, lines_removed}
-use Rattle.annotate_snippets.specs.Page.{names_in, names_of_lines, cells_below, cells_of, rows_below, others, GroupPage, Page, PrintsPage, IsAscending}
+use Rattle.annotate_snippets.specs.Page.{RowName, SourceRow, Elision, OfferedLine, RemovedLine, Other, NamedRow, lines_named, lines_offered}
+use Rattle.annotate_snippets.specs.Page.{cells_below, cells_of, rows_below, others, GroupPage, Page, PrintsPage}
 use Rattle.annotate_snippets.specs.SpanBars.{ShowsBars}
 use Rattle.annotate_snippets.specs.RowsWithoutSource.{cause_head, message_style, origin_rows, place_found, place_given, rows_after_cause, rows_after_title}
 use Rattle.annotate_snippets.specs.RowsWithoutSource.{suggestion_head}
@@ -79,8 +78,6 @@ use Rattle.annotate_snippets.specs.RowsWithoutSource.{suggestion_head}
 -- of its own text, which is trusted
 pub record ShowsHeading (hyperlink : Bool) (place : TitleStyle) (heading : Heading) (rows : List (List Cell)) : Type 0 where
   pub rows_are : rows ≡ heading_rows hyperlink place heading
-  pub texts : (i : ℕ) → row_text (row_at rows i) ≡ slice_index_or (heading_texts place heading) i []
-  pub links : LinksId hyperlink place heading rows
   pub free : All (IsFreeButText heading) rows
 
 -- the rows show a group's title, if it has one: after its own rows stands what sets off a message that follows, or closes the
@@ -106,14 +103,6 @@ pub record ShowsOrigin (r : Renderer) (layout : Layout) (around : ElementContext
   pub rows_are : rows ≡ others (origin_rows r layout around o)
   pub text : row_text (drop (layout.gutter + 4) (row_at (cells_of rows) 0))
       ≡ origin_text r.anonymized_origin_line_numbers (cow_str_bytes o.path) (place_given o)
-
--- the columns that code has
-abbrev pub room_of : Renderer → Layout → ℕ
-room_of r layout = r.term_width - layout.code
-
--- the bounds between which a snippet's lines are shown: those for the lines that are kept, and for its spans
-abbrev pub bounds_in : Renderer → Layout → Snippet Annotation → Bounds
-bounds_in r layout s = margin_of (room_of r layout) s.fold (numbered_source s) s.markers.items
 
 -- how many spans that are marked below line k are wide
 abbrev pub wide_spans : ℕ → ℕ → Snippet Annotation → ℕ → ℕ
@@ -248,19 +237,14 @@ pub record IsRowBelow (decor : DecorStyle) (layout : Layout) (closes : Bool) (ro
   pub left : (c : ℕ) → c < inner_cell layout → slice_index_or row c SPACE ≡ slice_index_or (bare_row decor layout.gutter closes) c SPACE
   pub bars : HasBarsAlone decor layout row
 
--- a row in place of lines that are left out: up to the bars it has just the cells of what stands for such lines, so that it can't
--- be taken for the row of a line; bars that run past them, and nothing more
-pub record IsElided (decor : DecorStyle) (layout : Layout) (row : List Cell) : Type 0 where
-  pub is : IsElisionRow (record { gutter = layout.gutter; code = layout.code; decor = decor }) row
-
 -- a row of an annotated snippet's lines, with the rows below it, is what its name says; the group's window may close with the
--- last one
+-- last one. A row in place of lines that are left out has, up to the bars, just the cells of what stands for such lines, so that it can't
+-- be taken for the row of a line; bars that run past them, and nothing more
 abbrev pub IsRowOf : Renderer → Layout → Bool → Snippet Annotation → RowName → List Cell → List NamedRow → Type 0
 IsRowOf r layout closes s (SourceRow k) row rows = ShowsLineAndMarks r layout s k row (cells_below rows) (rows_below rows)
-IsRowOf r layout closes s Elision row rows = IsElided layout.decor layout row
-IsRowOf r layout closes s (OfferedLine j) row rows = ⊥
-IsRowOf r layout closes s (RemovedLine i) row rows = ⊥
+IsRowOf r layout closes s Elision row rows = IsElisionRow layout row
 IsRowOf r layout closes s Other row rows = IsRowBelow layout.decor layout (closes && length rows == 0) row
+IsRowOf r layout closes s name row rows = ⊥
 
 -- each row is what its name says
 abbrev pub AreRowsOf : Renderer → Layout → Bool → Snippet Annotation → List NamedRow → Type 0
@@ -289,17 +273,16 @@ pub record ShowsSnippet (r : Renderer) (layout : Layout) (around : ElementContex
   pub origin : around.primary ≡ true → (path : List ℕ) → path_bytes s.path ≡ Some path → list_any (λ a. is_marking a.kind) s.markers.items ≡ true
       → All (λ a. is_long (cow_str_bytes s.source) a ≡ false) s.markers.items → NamesLocation r layout s path (row_at (cells_of rows) 0)
   pub lines : lines_named after ≡ shown_lines s.fold (cow_str_bytes s.source) s.markers.items
-  pub elided : names_in after ≡ names_of_lines (shown_lines s.fold (cow_str_bytes s.source) s.markers.items)
   pub ends : All (λ a. Contains (lines_named after) (first_line (cow_str_bytes s.source) a)
       × Contains (lines_named after) (last_line (cow_str_bytes s.source) a)) s.markers.items
-  pub ordered : IsAscending (lines_named after)
+  pub ordered : Ascends (lines_named after)
   pub named : AreRowsOf r layout (closes_with around) s after
-  pub drawn : AreRowsDrawn r layout (closes_with around) s [] after
-  pub begins : rows_below after ≡ []
-  pub bars : ShowsBars r layout s after
+  pub are : after ≡ rows_of_lines r layout (closes_with around) s [] (shown_lines s.fold (cow_str_bytes s.source) s.markers.items)
+  pub bars : ShowsBars layout s after
 
 -- the row offers line j of the patched source: its number in the gutter, a separator, `+` or the glyph of a changed line after
--- it and no other letter or digit between them and the line; and three cells after the gutter, to the row's end, the
+-- it, which where the number ends before it is the one that the kind, the number of lines and the line's new stretches ask for, and no
+-- other letter or digit between them and the line; and three cells after the gutter, to the row's end, the
 -- normalised line of the text that is shown, which is the patched source's, for all sources that the promise speaks of
 pub record IsOfferedRow (r : Renderer) (decor : DecorStyle) (gutter : ℕ) (s : Snippet Patch) (j : ℕ) (row : List Cell) : Type 0 where
   pub from : first_given s ≤ j
@@ -308,6 +291,9 @@ pub record IsOfferedRow (r : Renderer) (decor : DecorStyle) (gutter : ℕ) (s : 
   pub beside : (c : ℕ) → length (number_text r s.line_numbering gutter (s.line_start + j)) ≤ c → c < gutter + 3
       → is_ascii_alphanumeric (slice_index_or row c SPACE).ch ≡ false
   pub sign : IsSign decor (slice_index_or row (gutter + 1) SPACE).ch
+  pub asked : length (number_text r s.line_numbering gutter (s.line_start + j)) ≤ gutter + 1 → let k = j - first_given s in
+      (slice_index_or row (gutter + 1) SPACE).ch ≡ slice_index_or (suggestion_glyph_of decor (sign_of (shown_kind s) (length (given_lines s))
+      (slice_index_or (given_lines s) k []) (new_on s k))) 0 32
   pub space : (slice_index_or row (gutter + 2) SPACE).ch ≡ 32
   pub line : row_text (drop (gutter + 3) row) ≡ norm (chars (slice_index_or (given_lines s) (j - first_given s) []))
   pub patched_line : IsOfferable s
@@ -318,42 +304,38 @@ pub record IsOfferedRow (r : Renderer) (decor : DecorStyle) (gutter : ℕ) (s : 
 -- beside it, if that ends before the sign, `-` after the gutter, the line's normalised text from three cells after it on, and no letter
 -- before the sign, but `LL`, or after the text; or it shows no line: it holds nothing but what stands left of lines, and after that marks
 abbrev pub IsSuggestionRow : Renderer → DecorStyle → ℕ → Snippet Patch → RowName → List Cell → Type 0
-IsSuggestionRow r decor gutter s (SourceRow k) row = ⊥
-IsSuggestionRow r decor gutter s Elision row = ⊥
 IsSuggestionRow r decor gutter s (OfferedLine j) row = IsOfferedRow r decor gutter s j row
 IsSuggestionRow r decor gutter s (RemovedLine i) row =
     IsRemovedRow (line_numbers r s.line_numbering) decor gutter (number_text r s.line_numbering gutter (removed_number s i))
     (norm (chars (text_at (source_lines (cow_str_bytes s.source)) i))) row
 IsSuggestionRow r decor gutter s Other row = IsBareRow decor gutter row
+IsSuggestionRow r decor gutter s name row = ⊥
 
 -- left of the lines a row of a suggestion that shows none holds just what such a row has: what the suggestion begins or ends with,
 -- what stands for lines that are left out, or nothing
 abbrev pub HasStrokes : DecorStyle → ℕ → SuggestionRow → List Cell → Type 0
 HasStrokes decor gutter (Begins start) row = HasLeft gutter (beside_gutter gutter (begin_glyph decor start)) row
-HasStrokes decor gutter (Offers k) row = Unit {0}
 HasStrokes decor gutter Skips row = HasLeft gutter (gap_left decor gutter) row
-HasStrokes decor gutter (Removes i number text) row = Unit {0}
 HasStrokes decor gutter Empty row = HasLeft gutter [] row
 HasStrokes decor gutter (Ends follows) row = HasLeft gutter (beside_gutter gutter (end_glyph decor follows)) row
+HasStrokes decor gutter shows row = Unit {0}
 
 -- the rows show a suggestion: after the row of its path, where it names that, stand the rows that it has, in this order and no others.
 -- So they offer lines of the patched source, each once and in order, they show as removed the lines of the source that it takes away,
 -- in order, above the line in their place, where one stands there; and each row is what its name says. Each line
--- that a patch touches is offered, if it isn't blank; but not where the spliced text has one line, and that is the last source line
--- that is reached. Where the suggestion begins in the row in which the one before it ends, that row holds what is found there
+-- that a patch touches is offered, if it isn't blank; but not where one line is given, and that is the last source line that is
+-- reached. Where the suggestion begins in the row in which the one before it ends, that row holds what is found there
 pub record ShowsSuggestion (r : Renderer) (layout : Layout) (around : ElementContext) (found : List Cell) (s : Snippet Patch)
     (rows : List NamedRow) : Type 0 where
   pub after : List NamedRow
   pub rows_are : rows ≡ others (suggestion_head r layout around s) ++ after
   pub offered : IsOfferable s → (j : ℕ) → IsTouched (cow_str_bytes s.source) (edits_of s) j
-      → is_blank_text (text_at (source_lines (patched (cow_str_bytes s.source) (edits_of s))) j) ≡ false → IsAsItWas s ⊎ Contains (lines_offered after) j
+      → is_blank_text (text_at (source_lines (patched (cow_str_bytes s.source) (edits_of s))) j) ≡ false
+      → (given_lines s ≡ last_reached s ∷ []) ⊎ Contains (lines_offered after) j
   pub order : map (λ row. row.name) after ≡ map (name_of_row s) (suggestion_rows around s)
   pub cells : cells_of after ≡ suggestion_lines r layout around found s
-  pub signs : AllZip (HasSign (suggestion_layout r layout s) s) (suggestion_rows around s) (cells_of after)
   pub strokes : AllZip (HasStrokes layout.decor layout.gutter) (suggestion_rows around s) (cells_of after)
-  pub ordered : IsAscending (lines_offered after)
-  pub lines : lines_offered after ≡ offered_lines s
-  pub removed : lines_removed after ≡ removed_lines s
+  pub ordered : Ascends (lines_offered after)
   pub named : All (λ row. IsSuggestionRow r layout.decor layout.gutter s row.name row.cells) after
 
 -- the rows show an element, where this stands in the row in which the one before it ends
@@ -368,10 +350,7 @@ ShowsElement r layout around found (element.Padding padding) rows =
 -- a row of an element that isn't a message holds no listed character, and no link; for a message see ShowsHeading
 abbrev pub IsFreeElement : Element → List NamedRow → Type 0
 IsFreeElement (element.Message message) rows = All (λ row. IsFreeButText (heading_of_message message) row.cells) rows
-IsFreeElement (element.Cause snippet) rows = All (λ row. IsFree row.cells) rows
-IsFreeElement (element.Suggestion snippet) rows = All (λ row. IsFree row.cells) rows
-IsFreeElement (element.Origin origin) rows = All (λ row. IsFree row.cells) rows
-IsFreeElement (element.Padding padding) rows = All (λ row. IsFree row.cells) rows
+IsFreeElement e rows = All (λ row. IsFree row.cells) rows
 
 -- the parts of a group's page show these elements, which are all that are drawn, one by one, in order
 pub record AreElementsShown (r : Renderer) (layout : Layout) (place : GroupPosition) (file : Option (List ℕ)) (es : List Element)

@@ -1,30 +1,27 @@
 -- The bars of spans of several lines: in which cell each stands, of which kind it is, and beside which rows it stands.
-use Rattle.std.specs.Prelude.{◌≡◌, ◌≢◌, ℕ, ◌+◌, ◌-◌, ◌<◌, ◌≤◌, ◌==◌, ◌&&◌, Bool, true, List, ◌∷◌, ◌++◌, All, Contains, fold}
+use Rattle.std.specs.Prelude.{◌≡◌, ◌≢◌, ◌⊎◌, ℕ, ◌+◌, ◌-◌, ◌<◌, ◌≤◌, ◌==◌, ◌&&◌, Bool, false, true, List, ◌∷◌, ◌++◌, All, Contains, fold}
+use Rattle.std.specs.Prelude.{length, if◌then◌else◌}
 use Rattle.std.specs.List.{list_any, slice_index_or}
 use Rattle.std.specs.Cow.{cow_str_bytes}
 use Rattle.snippet_model.specs.AnnotationKind.{is_primary}
 use Rattle.snippet_model.specs.declared.snippet.Annotation.{Annotation}
 use Rattle.snippet_model.specs.declared.snippet.Snippet.{Snippet}
 use Rattle.snippet_style.specs.Cell.{Cell, SPACE}
+use Rattle.snippet_grid.specs.Grid.{cell_at}
 use Rattle.snippet_grid.specs.Layout.{Layout, bar_cell, inner_cell}
 use Rattle.snippet_parts.specs.Annotated.{depth_of, is_long}
 use Rattle.snippet_parts.specs.Mark.{touches}
 use Rattle.snippet_parts.specs.Marked.{first_line, last_line}
 use Rattle.snippet_strokes.specs.Bars.{Bar}
-use Rattle.snippet_strokes.specs.EndBars.{BarBegins, BarEnds, IsNoBar, dotted_bar, solid_bar}
-use Rattle.annotate_snippets.specs.declared.renderer.Renderer.{Renderer}
+use Rattle.snippet_strokes.specs.EndBars.{BarEnds, IsNoBar, bar_top, dotted_bar, solid_bar, start_corner}
 use Rattle.annotate_snippets.specs.Gutter.{numbered_source}
-use Rattle.annotate_snippets.specs.Page.{RowName, SourceRow, Elision, OfferedLine, RemovedLine, Other, NamedRow, lines_named, rows_below, shows_lines}
+use Rattle.annotate_snippets.specs.Page.{RowName, SourceRow, Elision, NamedRow, lines_named, rows_below, shows_lines}
 
--- whether the bar of a span is primary: that span is, or another one with its place in the source, since these share a bar
-abbrev pub is_bar_primary : Snippet Annotation → Annotation → Bool
-is_bar_primary s a =
-    list_any (λ b. is_primary b.kind && (b.span.start == a.span.start && b.span.end == a.span.end)) s.markers.items
-
--- the bar of a span
+-- the bar of a span of several lines: primary where that span is, or another one with its place in the source, since these share a bar
 abbrev pub bar_of_span : Snippet Annotation → Annotation → Bar
 bar_of_span s a =
-    record { depth = depth_of (numbered_source s) s.markers.items a; primary = is_bar_primary s a }
+    let primary = list_any (λ b. is_primary b.kind && (b.span.start == a.span.start && b.span.end == a.span.end)) s.markers.items in
+    record { depth = depth_of (numbered_source s) s.markers.items a; primary = primary }
 
 -- the cell of a row in which it stands: at depth 1 the second after the separator
 abbrev pub bar_cell_of : Layout → Snippet Annotation → Annotation → ℕ
@@ -39,52 +36,45 @@ line_after rows = fold (λ before k. k + 1) 0 (lines_named rows)
 abbrev pub line_beside : List NamedRow → RowName → ℕ
 line_beside above (SourceRow k) = k
 line_beside above Elision = line_after above
-line_beside above (OfferedLine j) = line_after above - 1
-line_beside above (RemovedLine i) = line_after above - 1
-line_beside above Other = line_after above - 1
+line_beside above name = line_after above - 1
 
 -- the cell of a bar beside a row of this name: dotted beside one in place of lines
 abbrev pub bar_beside : Layout → RowName → Bar → Cell
-bar_beside layout (SourceRow k) bar = solid_bar layout bar
 bar_beside layout Elision bar = dotted_bar layout bar
-bar_beside layout (OfferedLine j) bar = solid_bar layout bar
-bar_beside layout (RemovedLine i) bar = solid_bar layout bar
-bar_beside layout Other bar = solid_bar layout bar
+bar_beside layout name bar = solid_bar layout bar
 
--- the rows, those of a snippet's lines, have the bars of its spans of several lines. In each row between the first and the last line of
--- such a span its bar stands in its own cell and in its kind, whatever else the row holds. In the rows of the first line it begins, in
--- those of the last it ends. The cell is one of those between the separator and the code. Two such spans that share a line, be it the
--- last of one and the first of the other, have cells of their own, unless they have the same place in the source. In a row that shows a
--- line, or stands in place of lines, a space stands in each of those cells that no such span has which touches the line; in a row below a
--- line a space stands there too, or a part of a line that leads from another bar to a mark
-pub record ShowsBars (r : Renderer) (layout : Layout) (s : Snippet Annotation) (rows : List NamedRow) : Type 0 where
-  pub stand : (a : Annotation) → Contains s.markers.items a → is_long (cow_str_bytes s.source) a ≡ true
-      → (above : List NamedRow) (row : NamedRow) (below : List NamedRow)
-      → rows ≡ above ++ row ∷ below → first_line (cow_str_bytes s.source) a < line_beside above row.name
-      → line_beside above row.name < last_line (cow_str_bytes s.source) a
+-- in the rows of a line the bar begins: in one row below the source row stands its corner, or in the source row, below which the line then
+-- has none, its top. In each row below that stands the bar, and in the source row, where it isn't that, a space
+pub record BarStarts (layout : Layout) (bar : Bar) (rows : List (List Cell)) : Type 0 where
+  pub at : ℕ
+  pub within : at < length rows
+  pub is : cell_at rows at (bar_cell layout bar.depth) ≡ (if at == 0 then bar_top layout bar else start_corner layout bar)
+  pub alone : at ≡ 0 → length rows ≡ 1
+  pub source : 0 < at → cell_at rows 0 (bar_cell layout bar.depth) ≡ SPACE
+  pub beside : (i : ℕ) → at < i → i < length rows → cell_at rows i (bar_cell layout bar.depth) ≡ solid_bar layout bar
+
+-- a row, with those above and below it, has the bar of a span of several lines: between the span's first and last line it stands in its own
+-- cell and in its kind, whatever else the row holds. In the rows of the first line it begins, in those of the last it ends
+pub record HasBar (layout : Layout) (s : Snippet Annotation) (a : Annotation) (above : List NamedRow) (row : NamedRow) (below : List NamedRow) : Type 0 where
+  pub stand : first_line (cow_str_bytes s.source) a < line_beside above row.name → line_beside above row.name < last_line (cow_str_bytes s.source) a
       → slice_index_or row.cells (bar_cell_of layout s a) SPACE ≡ bar_beside layout row.name (bar_of_span s a)
-  pub begin : (a : Annotation) → Contains s.markers.items a → is_long (cow_str_bytes s.source) a ≡ true
-      → (above : List NamedRow) (row : NamedRow) (below : List NamedRow)
-      → rows ≡ above ++ row ∷ below → row.name ≡ SourceRow (first_line (cow_str_bytes s.source) a)
-      → BarBegins layout (bar_of_span s a) (row.cells ∷ rows_below below)
-  pub end : (a : Annotation) → Contains s.markers.items a → is_long (cow_str_bytes s.source) a ≡ true
-      → (above : List NamedRow) (row : NamedRow) (below : List NamedRow)
-      → rows ≡ above ++ row ∷ below → row.name ≡ SourceRow (last_line (cow_str_bytes s.source) a)
-      → BarEnds layout (bar_of_span s a) (row.cells ∷ rows_below below)
+  pub begin : row.name ≡ SourceRow (first_line (cow_str_bytes s.source) a) → BarStarts layout (bar_of_span s a) (row.cells ∷ rows_below below)
+  pub end : row.name ≡ SourceRow (last_line (cow_str_bytes s.source) a) → BarEnds layout (bar_of_span s a) (row.cells ∷ rows_below below)
+
+-- the rows, those of a snippet's lines, have the bars of its spans of several lines. The cell of each is one of those between the separator
+-- and the code. Two such spans that share a line, be it the last of one and the first of the other, have cells of their own, unless they
+-- have the same place in the source. In each of those cells that no such span has which touches the line a space stands, or in a row
+-- below a line a part of a line that leads from another bar to a mark
+pub record ShowsBars (layout : Layout) (s : Snippet Annotation) (rows : List NamedRow) : Type 0 where
+  pub each : (a : Annotation) → Contains s.markers.items a → is_long (cow_str_bytes s.source) a ≡ true
+      → (above : List NamedRow) (row : NamedRow) (below : List NamedRow) → rows ≡ above ++ row ∷ below → HasBar layout s a above row below
   pub within : (a : Annotation) → Contains s.markers.items a → is_long (cow_str_bytes s.source) a ≡ true
       → (inner_cell layout ≤ bar_cell_of layout s a) × (bar_cell_of layout s a + 1 < layout.code)
   pub apart : (a b : Annotation) → Contains s.markers.items a → Contains s.markers.items b → is_long (cow_str_bytes s.source) a ≡ true
-      → is_long (cow_str_bytes s.source) b ≡ true
-      → first_line (cow_str_bytes s.source) a ≤ last_line (cow_str_bytes s.source) b
+      → is_long (cow_str_bytes s.source) b ≡ true → first_line (cow_str_bytes s.source) a ≤ last_line (cow_str_bytes s.source) b
       → first_line (cow_str_bytes s.source) b ≤ last_line (cow_str_bytes s.source) a → bar_cell_of layout s a ≡ bar_cell_of layout s b
       → (a.span.start ≡ b.span.start) × (a.span.end ≡ b.span.end)
-  pub spaces : (above : List NamedRow) (row : NamedRow) (below : List NamedRow) → rows ≡ above ++ row ∷ below → shows_lines row.name ≡ true → (c : ℕ)
-      → inner_cell layout ≤ c → c < layout.code
-      → All (λ a. is_long (cow_str_bytes s.source) a ≡ true
-      → touches (cow_str_bytes s.source) a (line_beside above row.name) ≡ true → bar_cell_of layout s a ≢ c) s.markers.items
-      → slice_index_or row.cells c SPACE ≡ SPACE
-  pub others : (above : List NamedRow) (row : NamedRow) (below : List NamedRow) → rows ≡ above ++ row ∷ below → (c : ℕ)
-      → inner_cell layout ≤ c → c < layout.code
-      → All (λ a. is_long (cow_str_bytes s.source) a ≡ true
-      → touches (cow_str_bytes s.source) a (line_beside above row.name) ≡ true → bar_cell_of layout s a ≢ c) s.markers.items
-      → IsNoBar layout.decor (slice_index_or row.cells c SPACE)
+  pub others : (above : List NamedRow) (row : NamedRow) (below : List NamedRow) → rows ≡ above ++ row ∷ below → (c : ℕ) → inner_cell layout ≤ c
+      → c < layout.code → All (λ a. is_long (cow_str_bytes s.source) a ≡ true → touches (cow_str_bytes s.source) a (line_beside above row.name) ≡ true
+      → bar_cell_of layout s a ≢ c) s.markers.items → (slice_index_or row.cells c SPACE ≡ SPACE)
+      ⊎ ((shows_lines row.name ≡ false) × IsNoBar layout.decor (slice_index_or row.cells c SPACE))

@@ -1,20 +1,19 @@
--- The rows of a snippet's lines, as what the spans of the snippet make of its lines.
-use Rattle.std.specs.Prelude.{◌≡◌, ℕ, ◌+◌, ◌-◌, ◌==◌, ◌&&◌, Bool, not, List, [], ◌∷◌, filter, length, map}
-use Rattle.std.specs.List.{filter_map}
-use Rattle.std.specs.Cow.{cow_str_bytes}
-use Rattle.snippet_model.specs.AnnotationKind.{is_primary}
+-- The rows of a snippet's lines as they are drawn: what is known of each line's rows, and of those in place of lines. The graphic form has the
+-- same rows as a value (LineValue, PageLemmas).
+use Rattle.std.proofs.Common.{◌≡◌, ℕ, ◌+◌, ◌-◌, ◌==◌, ◌&&◌, Bool, not, List, [], ◌∷◌, filter, length, map}
 use Rattle.snippet_model.specs.declared.snippet.Annotation.{Annotation}
 use Rattle.snippet_model.specs.declared.snippet.Snippet.{Snippet}
+use Rattle.std.specs.Cow.{cow_str_bytes}
 use Rattle.snippet_style.specs.Cell.{Cell}
 use Rattle.snippet_text.specs.Normalized.{norm}
 use Rattle.snippet_text.specs.Width.{width_of}
-use Rattle.snippet_parts.specs.Annotated.{PartEntry, parts_on, seen_part}
+use Rattle.snippet_parts.specs.Annotated.{seen_part}
 use Rattle.snippet_window.specs.Margin.{bounds_of}
 use Rattle.snippet_window.specs.Measures.{margin_of}
 use Rattle.snippet_window.specs.Window.{chars_at, dropped_part}
 use Rattle.snippet_parts.specs.declared.entries.LineAnnotation.{LineAnnotation}
 use Rattle.snippet_window.specs.declared.margin.Margin.{Margin}
-use Rattle.snippet_strokes.specs.Bars.{Bar, bar_at, open_past}
+use Rattle.snippet_strokes.specs.Bars.{Bar, open_past}
 use Rattle.snippet_labels.specs.PlacedEntries.{is_end_part}
 use Rattle.snippet_strokes.specs.LineRows.{AreLineRows}
 use Rattle.snippet_strokes.specs.StrokeRows.{IsHighlighted}
@@ -22,16 +21,9 @@ use Rattle.snippet_strokes.specs.SourceRows.{IsSourceRow, window_cells}
 use Rattle.snippet_strokes.specs.Snippet.{gap_row}
 use Rattle.annotate_snippets.specs.declared.renderer.Renderer.{Renderer}
 use Rattle.snippet_grid.specs.Layout.{Layout}
+use Rattle.annotate_snippets.specs.GraphicForm.{bars_on, entries_on}
 use Rattle.annotate_snippets.specs.Gutter.{number_text, numbered_source}
 use Rattle.annotate_snippets.specs.Page.{RowName, SourceRow, Elision, OfferedLine, RemovedLine, Other, NamedRow, rows_below}
-
--- the entries of a snippet's spans on line k
-abbrev pub entries_on : Snippet Annotation → ℕ → List PartEntry
-entries_on s k = parts_on (numbered_source s) s.markers.items k
-
--- the bar that the start or the end of a span of several lines has, and those of all that stand on line k
-abbrev pub bars_on : Snippet Annotation → ℕ → List Bar
-bars_on s k = filter_map (λ e. bar_at e.part (is_primary e.entry.kind)) (entries_on s k)
 
 -- the bars that are open below a row of this name, where these are open above it
 abbrev pub open_after : Snippet Annotation → RowName → List Bar → List Bar

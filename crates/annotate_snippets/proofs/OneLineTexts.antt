@@ -1,0 +1,194 @@
+-- Texts on one line, one by one: what HasOneLineTexts says of all texts of a report, by groups, titles and elements.
+use Rattle.std.proofs.Common.{ℕ, List, [], ◌∷◌, ◌++◌, All, Option, None, Some, IfSome, chars}
+use Rattle.std.specs.Cow.{cow_str_bytes}
+use Rattle.std.specs.List.{cons_option, filter_map, flat_map}
+use Rattle.std.specs.Option.{option_map, option_to_list}
+use Rattle.std.proofs.lemmas.List.Elements.{All-append, All-cons, All-head, All-nil, All-tail}
+use Rattle.snippet_style.specs.Cell.{Cell}
+use Rattle.snippet_model.specs.Level.{name_of}
+use Rattle.snippet_model.specs.declared.level.Level.{Level}
+use Rattle.snippet_model.specs.declared.snippet.Annotation.{Annotation}
+use Rattle.snippet_model.specs.declared.snippet.Element.{Element}
+use Rattle.snippet_model.specs.declared.snippet.Element.TheVariants as element
+use Rattle.snippet_model.specs.declared.snippet.Group.{Group}
+use Rattle.snippet_model.specs.declared.snippet.Id.{Id}
+use Rattle.snippet_model.specs.declared.snippet.Title.{Title}
+use Rattle.annotate_snippets.specs.Around.{path_bytes}
+use Rattle.annotate_snippets.specs.Feeds.{HasNoFeed, HasOneLineTexts, IsNoFeed, row_texts_of_element, row_texts_of_title}
+use Rattle.annotate_snippets.specs.Page.{GroupPage, group_rows}
+
+-- ---- rows
+
+-- a cell whose character is no line feed
+abbrev pub HoldsNoFeed : Cell → Type 0
+HoldsNoFeed cell = IsNoFeed cell.ch
+
+-- a group in each row of which no cell is one
+abbrev pub HasOneLineRows : GroupPage → Type 0
+HasOneLineRows g = All HasNoFeed (group_rows g)
+
+-- ---- texts
+
+-- the bytes of a text, if there is one, spell no line feed: the text is on one line
+abbrev pub IsOneLineText : Option (List ℕ) → Type 0
+IsOneLineText None = Unit {0}
+IsOneLineText (Some text) = All IsNoFeed (chars text)
+
+-- so is the name that is shown for a level
+abbrev pub IsOneLineName : Level → Type 0
+IsOneLineName level = IsOneLineText (Some (name_of level))
+
+-- so is the text of an id, if there is one
+abbrev pub IsOneLineId : Option Id → Type 0
+IsOneLineId None = Unit {0}
+IsOneLineId (Some id) = IsOneLineText (option_map cow_str_bytes id.id)
+
+-- so are a title's level and its id.
+abbrev pub IsOneLineTitle : Title → Type 0
+IsOneLineTitle title = IsOneLineName title.level × IsOneLineId title.id
+
+-- so is the label of a span, if it has one
+abbrev pub IsOneLineLabel : Annotation → Type 0
+IsOneLineLabel a = IsOneLineText (option_map cow_str_bytes a.label)
+
+-- so are a message's level, a path, and the labels of a snippet's spans
+abbrev pub IsOneLineElement : Element → Type 0
+IsOneLineElement (element.Message message) = IsOneLineName message.level
+IsOneLineElement (element.Cause snippet) =
+    IsOneLineText (path_bytes snippet.path) × All IsOneLineLabel snippet.markers.items
+IsOneLineElement (element.Suggestion snippet) = IsOneLineText (path_bytes snippet.path)
+IsOneLineElement (element.Origin origin) = IsOneLineText (Some (cow_str_bytes origin.path))
+IsOneLineElement (element.Padding padding) = Unit {0}
+
+-- so are those of a group
+abbrev pub IsOneLineGroup : Group → Type 0
+IsOneLineGroup g = IfSome g.title IsOneLineTitle × All IsOneLineElement g.elements.items
+
+-- ---- the same of all texts
+
+-- a text holds no line feed
+abbrev IsPlain : List ℕ → Type 0
+IsPlain text = All IsNoFeed (chars text)
+
+All-before : (xs ys : List (List ℕ)) → All IsPlain (xs ++ ys) → All IsPlain xs
+All-before [] ys all = All-nil IsPlain
+All-before (x ∷ xs) ys all = All-cons IsPlain x xs (All-head IsPlain x (xs ++ ys) all) (All-before xs ys (All-tail IsPlain x (xs ++ ys) all))
+
+All-after : (xs ys : List (List ℕ)) → All IsPlain (xs ++ ys) → All IsPlain ys
+All-after [] ys all = all
+All-after (x ∷ xs) ys all = All-after xs ys (All-tail IsPlain x (xs ++ ys) all)
+
+-- some texts of each of some things are plain, and back
+module _ {X : Type 0} (P : X → Type 0) (f : X → List (List ℕ)) (read : (x : X) → All IsPlain (f x) → P x)
+    (written : (x : X) → P x → All IsPlain (f x)) where
+  each_read : (xs : List X) → All IsPlain (flat_map f xs) → All P xs
+  each_read [] all = All-nil P
+  each_read (x ∷ xs) all = All-cons P x xs (read x (All-before (f x) (flat_map f xs) all)) (each_read xs (All-after (f x) (flat_map f xs) all))
+
+  each_written : (xs : List X) → All P xs → All IsPlain (flat_map f xs)
+  each_written [] all = All-nil IsPlain
+  each_written (x ∷ xs) all = All-append IsPlain (f x) (flat_map f xs) (written x (All-head P x xs all)) (each_written xs (All-tail P x xs all))
+
+-- a text that may be there
+text_read : (text : Option (List ℕ)) → All IsPlain (option_to_list text) → IsOneLineText text
+text_read None all = tt
+text_read (Some text) all = All-head IsPlain text [] all
+
+text_written : (text : Option (List ℕ)) → IsOneLineText text → All IsPlain (option_to_list text)
+text_written None plain = All-nil IsPlain
+text_written (Some text) plain = All-cons IsPlain text [] plain (All-nil IsPlain)
+
+-- an id, and a title
+abbrev id_texts : Option Id → List (List ℕ)
+id_texts id = flat_map (λ (x : Id). option_to_list (option_map cow_str_bytes x.id)) (option_to_list id)
+
+id_read : (id : Option Id) → All IsPlain (id_texts id) → IsOneLineId id
+id_read None all = tt
+id_read (Some id) all = text_read (option_map cow_str_bytes id.id) (All-before (option_to_list (option_map cow_str_bytes id.id)) [] all)
+
+id_written : (id : Option Id) → IsOneLineId id → All IsPlain (id_texts id)
+id_written None plain = All-nil IsPlain
+id_written (Some id) plain =
+    All-append IsPlain (option_to_list (option_map cow_str_bytes id.id)) [] (text_written (option_map cow_str_bytes id.id) plain) (All-nil IsPlain)
+
+title_read : (title : Title) → All IsPlain (row_texts_of_title title) → IsOneLineTitle title
+title_read title all =
+    (All-head IsPlain (name_of title.level) (id_texts title.id) all, id_read title.id (All-tail IsPlain (name_of title.level) (id_texts title.id) all))
+
+title_written : (title : Title) → IsOneLineTitle title → All IsPlain (row_texts_of_title title)
+title_written title plain = All-cons IsPlain (name_of title.level) (id_texts title.id) plain.0 (id_written title.id plain.1)
+
+-- the labels of spans
+abbrev label_texts : List Annotation → List (List ℕ)
+label_texts marks = filter_map (λ (a : Annotation). option_map cow_str_bytes a.label) marks
+
+labels_read : (marks : List Annotation) → All IsPlain (label_texts marks) → All IsOneLineLabel marks
+labels_read [] all = All-nil IsOneLineLabel
+labels_read (a ∷ marks) all =
+    let split : IsOneLineText (option_map cow_str_bytes a.label) × All IsPlain (label_texts marks) = by_label (option_map cow_str_bytes a.label) all in
+    All-cons IsOneLineLabel a marks split.0 (labels_read marks split.1)
+  where
+    by_label : (label : Option (List ℕ)) → All IsPlain (cons_option label (label_texts marks)) → IsOneLineText label × All IsPlain (label_texts marks)
+    by_label None all = (tt, all)
+    by_label (Some text) all = (All-head IsPlain text (label_texts marks) all, All-tail IsPlain text (label_texts marks) all)
+
+labels_written : (marks : List Annotation) → All IsOneLineLabel marks → All IsPlain (label_texts marks)
+labels_written [] plain = All-nil IsPlain
+labels_written (a ∷ marks) plain =
+    by_label (option_map cow_str_bytes a.label) (All-head IsOneLineLabel a marks plain) (labels_written marks (All-tail IsOneLineLabel a marks plain))
+  where
+    by_label : (label : Option (List ℕ)) → IsOneLineText label → All IsPlain (label_texts marks) → All IsPlain (cons_option label (label_texts marks))
+    by_label None plain rest = rest
+    by_label (Some text) plain rest = All-cons IsPlain text (label_texts marks) plain rest
+
+-- an element
+element_read : (e : Element) → All IsPlain (row_texts_of_element e) → IsOneLineElement e
+element_read (element.Message message) all = All-head IsPlain (name_of message.level) [] all
+element_read (element.Cause snippet) all =
+    let path : List (List ℕ) = option_to_list (path_bytes snippet.path) in
+    let labels : List (List ℕ) = label_texts snippet.markers.items in
+    (text_read (path_bytes snippet.path) (All-before path labels all), labels_read snippet.markers.items (All-after path labels all))
+element_read (element.Suggestion snippet) all = text_read (path_bytes snippet.path) all
+element_read (element.Origin origin) all = All-head IsPlain (cow_str_bytes origin.path) [] all
+element_read (element.Padding padding) all = tt
+
+element_written : (e : Element) → IsOneLineElement e → All IsPlain (row_texts_of_element e)
+element_written (element.Message message) plain = All-cons IsPlain (name_of message.level) [] plain (All-nil IsPlain)
+element_written (element.Cause snippet) plain =
+    All-append IsPlain (option_to_list (path_bytes snippet.path)) (label_texts snippet.markers.items) (text_written (path_bytes snippet.path) plain.0)
+    (labels_written snippet.markers.items plain.1)
+element_written (element.Suggestion snippet) plain = text_written (path_bytes snippet.path) plain
+element_written (element.Origin origin) plain = All-cons IsPlain (cow_str_bytes origin.path) [] plain (All-nil IsPlain)
+element_written (element.Padding padding) plain = All-nil IsPlain
+
+-- a group
+abbrev group_texts : Group → List (List ℕ)
+group_texts g = flat_map row_texts_of_title (option_to_list g.title) ++ flat_map row_texts_of_element g.elements.items
+
+titles_read : (title : Option Title) → All IsPlain (flat_map row_texts_of_title (option_to_list title)) → IfSome title IsOneLineTitle
+titles_read None all = tt
+titles_read (Some title) all = title_read title (All-before (row_texts_of_title title) [] all)
+
+titles_written : (title : Option Title) → IfSome title IsOneLineTitle → All IsPlain (flat_map row_texts_of_title (option_to_list title))
+titles_written None plain = All-nil IsPlain
+titles_written (Some title) plain = All-append IsPlain (row_texts_of_title title) [] (title_written title plain) (All-nil IsPlain)
+
+group_read : (g : Group) → All IsPlain (group_texts g) → IsOneLineGroup g
+group_read g all =
+    let titles : List (List ℕ) = flat_map row_texts_of_title (option_to_list g.title) in
+    let elements : List (List ℕ) = flat_map row_texts_of_element g.elements.items in (
+      titles_read g.title (All-before titles elements all),
+      each_read IsOneLineElement row_texts_of_element element_read element_written g.elements.items (All-after titles elements all),
+    )
+
+group_written : (g : Group) → IsOneLineGroup g → All IsPlain (group_texts g)
+group_written g plain =
+    All-append IsPlain (flat_map row_texts_of_title (option_to_list g.title)) (flat_map row_texts_of_element g.elements.items)
+    (titles_written g.title plain.0) (each_written IsOneLineElement row_texts_of_element element_read element_written g.elements.items plain.1)
+
+-- the texts of all groups are on one line where those of each are
+pub one_line_groups : (groups : List Group) → HasOneLineTexts groups → All IsOneLineGroup groups
+one_line_groups groups all = each_read IsOneLineGroup group_texts group_read group_written groups all
+
+pub one_line_texts : (groups : List Group) → All IsOneLineGroup groups → HasOneLineTexts groups
+one_line_texts groups plain = each_written IsOneLineGroup group_texts group_read group_written groups plain
