@@ -32,14 +32,15 @@ use Rattle.snippet_text.specs.Normalized.{norm, shown}
 use Rattle.snippet_titles.proofs.OriginFree.{each-fails}
 use Rattle.snippet_titles.specs.Title.{id_chars, id_links, text_links}
 use Rattle.annotate_snippets.specs.AsSet.{AreWithContext, AreWrapped, IsAsSet, IsRemade, adds_context, shows_as_given, wraps}
-use Rattle.annotate_snippets.specs.ContextLaws.{ShowsLinesAround}
+use Rattle.annotate_snippets.specs.Laws.Context.{ShowsLinesAround}
 use Rattle.annotate_snippets.specs.Fault.{first_refusal, form_of}
-use Rattle.annotate_snippets.specs.Feeds.{HasOneLineTexts, IsNoFeed, page_lines, text_lines}
-use Rattle.annotate_snippets.specs.FormLaws.{FormLaws, HasLaws, IsTextUnder, LawsIn}
+use Rattle.annotate_snippets.specs.Laws.Feeds.{HasOneLineTexts, IsNoFeed, page_lines, text_lines}
+use Rattle.annotate_snippets.specs.Laws.Forms.{FormLaws, HasLaws, IsTextUnder, LawsIn}
 use Rattle.annotate_snippets.specs.Forms.{AreFree, ShowsForm, ShowsReport, TextsShown, links_in}
 use Rattle.annotate_snippets.specs.GraphicForm.{graphic_form}
 use Rattle.annotate_snippets.specs.Page.{page_text}
-use Rattle.annotate_snippets.specs.ShownPage.{IsFreeBut, report_links}
+use Rattle.annotate_snippets.specs.Laws.Free.{IsFreeBut}
+use Rattle.annotate_snippets.specs.ShownPage.{report_links}
 use Rattle.annotate_snippets.specs.Gutter.{gutter_of_report}
 use Rattle.annotate_snippets.specs.Written.{IsTextIn, ShowsIn, WritesPart, WritesText}
 use Rattle.annotate_snippets.specs.declared.renderer.Renderer.{Renderer}

@@ -6,7 +6,7 @@ use Rattle.snippet_model.specs.declared.snippet.Annotation.{Annotation}
 use Rattle.snippet_model.specs.declared.snippet.AnnotationKind.TheVariants.{Context, Primary}
 use Rattle.snippet_model.specs.declared.snippet.Snippet.{Snippet}
 use Rattle.annotate_snippets.specs.Page.{Elision, NamedRow, Other, RowName, SourceRow}
-use Rattle.annotate_snippets.specs.SpanBars.{bar_of_span, line_beside}
+use Rattle.annotate_snippets.specs.Laws.Bars.{bar_of_span, line_beside}
 use Rattle.annotate_snippets.proofs.NotShown.{span_of}
 
 -- a row of this name, whatever it holds

@@ -39,8 +39,8 @@ use Rattle.annotate_snippets.specs.Gutter.{code_after, depth_of_element, line_nu
 use Rattle.annotate_snippets.specs.Page.{NamedRow, cells_of, lines_named, others}
 use Rattle.annotate_snippets.specs.PreparedReport.{IsDrawable}
 use Rattle.annotate_snippets.specs.RowsWithoutSource.{cause_head, closing_rows, origin_layout, place_found, place_named, rows_after_cause, separator_rows}
-use Rattle.annotate_snippets.specs.ShownPage.{NamesLocation}
-use Rattle.annotate_snippets.specs.Feeds.{HasNoFeed}
+use Rattle.annotate_snippets.specs.Laws.Paths.{NamesLocation}
+use Rattle.annotate_snippets.specs.Laws.Feeds.{HasNoFeed}
 use Rattle.annotate_snippets.proofs.Ascending.{IsAscending, ascends}
 use Rattle.annotate_snippets.proofs.ElementShown.{ElementShown}
 use Rattle.annotate_snippets.proofs.GutterLemmas.{numbers_fit}

@@ -26,12 +26,12 @@ use Rattle.annotate_snippets.specs.Around.{context_at, drawn_elements, file_of_g
 use Rattle.snippet_wrap.specs.AsWrapped.{AreGroupsWrapped, IsElementWrapped, IsGroupWrapped}
 use Rattle.annotate_snippets.specs.AsSet.{AreWithContext, AreWrapped, IsAsSet, IsRemade, adds_context, wraps}
 use Rattle.annotate_snippets.specs.Gutter.{gutter_of_report}
-use Rattle.annotate_snippets.specs.ContextLaws.{ShowsLinesAround, lines_with_context}
+use Rattle.annotate_snippets.specs.Laws.Context.{ShowsLinesAround, lines_with_context}
 use Rattle.annotate_snippets.specs.Gutter.{layout_of_group}
 use Rattle.annotate_snippets.specs.Page.{GroupPage, NamedRow, Page, line_named, lines_named, others}
-use Rattle.annotate_snippets.specs.PageLaws.{PageLaws}
+use Rattle.annotate_snippets.specs.Laws.Page.{PageLaws}
 use Rattle.annotate_snippets.specs.RowsWithoutSource.{cause_head, rows_after_cause}
-use Rattle.annotate_snippets.specs.ShownPage.{ShowsSnippet}
+use Rattle.annotate_snippets.specs.Laws.Snippets.{ShowsSnippet}
 use Rattle.annotate_snippets.specs.declared.renderer.Renderer.{Renderer}
 use Rattle.annotate_snippets.specs.declared.renderer.element_context.ElementContext.{ElementContext}
 use Rattle.annotate_snippets.specs.declared.renderer.form.Form.{Form}

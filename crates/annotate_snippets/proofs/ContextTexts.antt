@@ -18,7 +18,7 @@ use Rattle.snippet_model.specs.declared.snippet.Snippet.{Snippet}
 use Rattle.snippet_model.specs.declared.snippet.Title.{Title}
 use Rattle.snippet_titles.specs.Title.{id_links}
 use Rattle.annotate_snippets.specs.Around.{path_bytes}
-use Rattle.annotate_snippets.specs.Feeds.{HasOneLineTexts}
+use Rattle.annotate_snippets.specs.Laws.Feeds.{HasOneLineTexts}
 use Rattle.annotate_snippets.specs.Forms.{links_in}
 use Rattle.annotate_snippets.specs.ShownPage.{report_links}
 use Rattle.annotate_snippets.specs.declared.renderer.Renderer.{Renderer}

@@ -25,7 +25,7 @@ use Rattle.snippet_grid.specs.Layout.{Layout}
 use Rattle.annotate_snippets.specs.Gutter.{line_numbers, number_text, numbered_source}
 use Rattle.annotate_snippets.specs.GraphicForm.{bars_on, entries_on}
 use Rattle.annotate_snippets.proofs.DrawnRows.{IsLineDrawn}
-use Rattle.annotate_snippets.specs.ShownPage.{bounds_in, room_of}
+use Rattle.annotate_snippets.specs.GraphicForm.{bounds_in, room_of}
 
 bars_of_parts : (es : List LineAnnotation) → ends_of_bars es ≡ filter_map (λ (p : PartEntry). bar_at p.part (is_primary p.entry.kind)) (map seen_part es)
 bars_of_parts [] = refl

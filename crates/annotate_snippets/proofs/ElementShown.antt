@@ -2,10 +2,11 @@
 use Rattle.std.proofs.Common.{◌≡◌, All, List}
 use Rattle.snippet_style.specs.Cell.{Cell}
 use Rattle.snippet_model.specs.declared.snippet.Element.{Element}
-use Rattle.annotate_snippets.specs.Feeds.{HasNoFeed}
+use Rattle.annotate_snippets.specs.Laws.Feeds.{HasNoFeed}
 use Rattle.annotate_snippets.specs.GraphicForm.{element_rows}
 use Rattle.annotate_snippets.specs.Page.{NamedRow, cells_of}
-use Rattle.annotate_snippets.specs.ShownPage.{IsFreeElement, ShowsElement}
+use Rattle.annotate_snippets.specs.Laws.Free.{IsFreeElement}
+use Rattle.annotate_snippets.specs.Laws.Groups.{ShowsElement}
 use Rattle.annotate_snippets.specs.declared.renderer.Renderer.{Renderer}
 use Rattle.snippet_grid.specs.Layout.{Layout}
 use Rattle.annotate_snippets.specs.declared.renderer.element_context.ElementContext.{ElementContext}

@@ -17,7 +17,7 @@ use Rattle.snippet_lines.specs.Place.{end_location, line_of, location_of, locati
 use Rattle.snippet_style.specs.Cell.{written}
 use Rattle.snippet_suggest.proofs.Examples.{text_of}
 use Rattle.annotate_snippets.specs.GraphicForm.{rows_of_lines}
-use Rattle.annotate_snippets.specs.Numbers.{begins_with_number}
+use Rattle.annotate_snippets.specs.Laws.Numbers.{begins_with_number}
 use Rattle.annotate_snippets.specs.Page.{Elision, NamedRow, Other, RowName, SourceRow}
 use Rattle.annotate_snippets.specs.Settings.{plain_settings}
 use Rattle.annotate_snippets.proofs.NotShown.{layout, labelled_span, span_of}

@@ -20,12 +20,13 @@ use Rattle.annotate_snippets.specs.declared.renderer.error.RenderError.{RenderEr
 use Rattle.annotate_snippets.specs.declared.renderer.form.Form.{Form}
 use Rattle.annotate_snippets.specs.declared.renderer.form.Form.TheVariants.{Graphic, Short, Text}
 use Rattle.annotate_snippets.specs.Fault.{first_refusal, form_of, missing_title}
-use Rattle.annotate_snippets.specs.FormLaws.{FormLaws, IsTextUnder, LawsIn}
+use Rattle.annotate_snippets.specs.Laws.Forms.{FormLaws, IsTextUnder, LawsIn}
 use Rattle.annotate_snippets.specs.Forms.{AreFree, ShortShown, ShowsForm, links_in, plain_in}
 use Rattle.annotate_snippets.specs.GraphicForm.{graphic_form}
 use Rattle.annotate_snippets.specs.Page.{Page, PrintsPage, page_text}
-use Rattle.annotate_snippets.specs.PageLaws.{PageLaws}
-use Rattle.annotate_snippets.specs.ShownPage.{IsFreeBut, levels_of, report_links}
+use Rattle.annotate_snippets.specs.Laws.Page.{PageLaws}
+use Rattle.annotate_snippets.specs.Laws.Free.{IsFreeBut}
+use Rattle.annotate_snippets.specs.ShownPage.{levels_of, report_links}
 use Rattle.annotate_snippets.proofs.FaultLemmas.{first-there, title-there}
 use Rattle.snippet_model.proofs.ZipLemmas.{AllZip-weaker}
 use Rattle.annotate_snippets.proofs.ReportLemmas.{page_woven, titled-from_ok}

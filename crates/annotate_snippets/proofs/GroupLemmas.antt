@@ -32,13 +32,14 @@ use Rattle.annotate_snippets.specs.GraphicForm.{element_rows, rows_of_elements}
 use Rattle.annotate_snippets.specs.Page.{NamedRow, cells_of}
 use Rattle.annotate_snippets.specs.PreparedReport.{IsElementDrawable, IsGroupDrawable}
 use Rattle.annotate_snippets.specs.RowsWithoutSource.{rows_after_title, title_part}
-use Rattle.annotate_snippets.specs.ShownPage.{IsFreeBut, IsFreeElement, ShowsElement}
+use Rattle.annotate_snippets.specs.Laws.Free.{IsFreeBut, IsFreeElement}
+use Rattle.annotate_snippets.specs.Laws.Groups.{ShowsElement}
 use Rattle.annotate_snippets.specs.declared.renderer.Renderer.{Renderer}
 use Rattle.snippet_grid.specs.Layout.{Layout}
 use Rattle.annotate_snippets.specs.declared.renderer.element_context.GroupPosition.{GroupPosition}
 use Rattle.annotate_snippets.specs.declared.renderer.element_context.Next.{Next}
 use Rattle.annotate_snippets.specs.declared.renderer.element_context.ElementContext.{ElementContext}
-use Rattle.annotate_snippets.specs.Feeds.{HasNoFeed}
+use Rattle.annotate_snippets.specs.Laws.Feeds.{HasNoFeed}
 use Rattle.annotate_snippets.proofs.OneLineTexts.{IsOneLineElement}
 use Rattle.annotate_snippets.proofs.CauseShown.{cause_shown}
 use Rattle.annotate_snippets.proofs.ElementShown.{ElementShown}

@@ -11,7 +11,8 @@ use Rattle.snippet_model.specs.Trusted.{trusted_texts}
 use Rattle.snippet_titles.specs.Title.{id_links}
 use Rattle.annotate_snippets.specs.GraphicForm.{group_page}
 use Rattle.annotate_snippets.specs.Page.{GroupPage, group_rows}
-use Rattle.annotate_snippets.specs.ShownPage.{IsFreeBut, ShowsGroup}
+use Rattle.annotate_snippets.specs.Laws.Free.{IsFreeBut}
+use Rattle.annotate_snippets.specs.Laws.Groups.{ShowsGroup}
 use Rattle.annotate_snippets.specs.declared.renderer.Renderer.{Renderer}
 use Rattle.snippet_grid.specs.Layout.{Layout}
 use Rattle.annotate_snippets.specs.declared.renderer.element_context.GroupPosition.{GroupPosition}

@@ -32,7 +32,7 @@ use Rattle.snippet_grid.specs.Layout.{Layout}
 use Rattle.annotate_snippets.specs.declared.renderer.element_context.GroupPosition.{GroupPosition}
 use Rattle.annotate_snippets.specs.declared.renderer.element_context.Next.{Next as NextElement}
 use Rattle.annotate_snippets.specs.Around.{is_before_message}
-use Rattle.annotate_snippets.specs.Feeds.{HasNoFeed, IsNoFeed}
+use Rattle.annotate_snippets.specs.Laws.Feeds.{HasNoFeed, IsNoFeed}
 use Rattle.annotate_snippets.specs.RowsWithoutSource.{closing_rows, rows_after_title, separator_rows, title_part}
 use Rattle.annotate_snippets.proofs.OneLineTexts.{HoldsNoFeed, IsOneLineId, IsOneLineName, IsOneLineText, IsOneLineTitle}
 use Rattle.snippet_titles.proofs.OriginFree.{each-fails}

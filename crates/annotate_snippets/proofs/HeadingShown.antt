@@ -30,13 +30,13 @@ use Rattle.annotate_snippets.specs.Around.{closes_after, is_end}
 use Rattle.annotate_snippets.specs.Page.{NamedRow, cells_of, others}
 use Rattle.annotate_snippets.specs.RowsWithoutSource.{closing_rows, message_rows, message_style, origin_layout, origin_rows, origin_start, place_given}
 use Rattle.annotate_snippets.specs.RowsWithoutSource.{title_part}
-use Rattle.annotate_snippets.specs.ShownPage.{ShowsHeading, ShowsTitlePart}
+use Rattle.annotate_snippets.specs.Laws.Titles.{ShowsHeading, ShowsTitlePart}
 use Rattle.annotate_snippets.specs.declared.renderer.Renderer.{Renderer}
 use Rattle.snippet_grid.specs.Layout.{Layout}
 use Rattle.annotate_snippets.specs.declared.renderer.element_context.GroupPosition.{GroupPosition}
 use Rattle.annotate_snippets.specs.declared.renderer.element_context.Next.{Next}
 use Rattle.annotate_snippets.specs.declared.renderer.element_context.ElementContext.{ElementContext}
-use Rattle.annotate_snippets.specs.Feeds.{HasNoFeed}
+use Rattle.annotate_snippets.specs.Laws.Feeds.{HasNoFeed}
 use Rattle.annotate_snippets.proofs.ElementShown.{ElementShown}
 use Rattle.annotate_snippets.proofs.HeadingFeedLaws.{heading_one_line}
 use Rattle.annotate_snippets.proofs.PageLemmas.{cells_of-others}

@@ -30,8 +30,10 @@ use Rattle.snippet_labels.specs.PlacedEntries.{label_role, label_text, shifted}
 use Rattle.snippet_strokes.proofs.SeenLabels.{IsLabelledAtEnd, IsLedTo, LabelsStand, PlacedLabel, StandsIn, is_cell_of}
 use Rattle.snippet_labels.specs.Positions.{is_start_part}
 use Rattle.snippet_grid.specs.Layout.{Layout}
-use Rattle.annotate_snippets.specs.ShownPage.{HasStem, ShowsLabel, ShowsLabels, ShownLabel, SpanLabel, promoted_spans, is_in_label, label_of_end, label_of_span}
-use Rattle.annotate_snippets.specs.ShownPage.{normalized_chars, shown_label}
+use Rattle.annotate_snippets.specs.Laws.Labels.{HasStem, ShowsLabel, ShowsLabels, ShownLabel, SpanLabel, promoted_spans, is_in_label, label_of_end}
+use Rattle.annotate_snippets.specs.Laws.Labels.{label_of_span}
+use Rattle.snippet_text.specs.Normalized.{normalized_chars}
+use Rattle.annotate_snippets.specs.Laws.Marks.{shown_label}
 use Rattle.annotate_snippets.proofs.MarkLemmas.{end_of_entry, label_is, start_of_entry}
 
 -- lists that are the same begin with the same

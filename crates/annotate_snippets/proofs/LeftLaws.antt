@@ -18,7 +18,7 @@ use Rattle.snippet_strokes.specs.StrokeRows.{IsElisionRow, bare_elision_row}
 use Rattle.snippet_grid.specs.Layout.{Layout}
 use Rattle.snippet_strokes.proofs.BegunLemmas.{same_front}
 use Rattle.snippet_strokes.proofs.RowLemmas.{bare_row_left}
-use Rattle.annotate_snippets.specs.ShownPage.{IsRowBelow, cells_left}
+use Rattle.annotate_snippets.specs.Laws.Lines.{IsRowBelow, cells_left}
 use Rattle.snippet_grid.proofs.RowLemmas.{row_text-text_cells}
 
 module _ (decor : DecorStyle) (gutter : ℕ) (shown : List ℕ) where

@@ -46,7 +46,10 @@ use Rattle.snippet_grid.specs.Layout.{Layout}
 use Rattle.snippet_strokes.proofs.SnippetLemmas.{highlighted_left, highlighted_text}
 use Rattle.annotate_snippets.specs.declared.renderer.Renderer.{Renderer}
 use Rattle.annotate_snippets.specs.Gutter.{line_numbers, number_text, numbered_source}
-use Rattle.annotate_snippets.specs.ShownPage.{IsRowBelow, ShowsLabels, ShowsMarksOf, ShowsSourceLine, bounds_in, cells_left, room_of, shown_label, wide_spans}
+use Rattle.annotate_snippets.specs.Laws.Lines.{IsRowBelow, ShowsSourceLine, cells_left, wide_spans}
+use Rattle.annotate_snippets.specs.Laws.Labels.{ShowsLabels}
+use Rattle.annotate_snippets.specs.Laws.Marks.{ShowsMarksOf, shown_label}
+use Rattle.annotate_snippets.specs.GraphicForm.{bounds_in, room_of}
 use Rattle.annotate_snippets.proofs.LabelLemmas.{labelled_at_end, labels_shown, head_same, tail_same}
 use Rattle.annotate_snippets.proofs.LeftLaws.{left_of_source, space_of_source}
 use Rattle.annotate_snippets.proofs.MarkLemmas.{span_of_entry, IsEntryOf, mark_of_entries, unmarked_by_entries, entries_after, unlabelled_entries, lone_entry}

@@ -25,7 +25,7 @@ use Rattle.snippet_grid.specs.Layout.{Layout}
 use Rattle.annotate_snippets.specs.GraphicForm.{entries_on, lent, line_entry, margin_in, rows_of_line}
 use Rattle.annotate_snippets.specs.Gutter.{number_text}
 use Rattle.annotate_snippets.proofs.DrawnRows.{IsLineDrawn}
-use Rattle.annotate_snippets.specs.ShownPage.{bounds_in, room_of}
+use Rattle.annotate_snippets.specs.GraphicForm.{bounds_in, room_of}
 
 -- a label that is lent from nowhere has the text of the one that was lent
 same_label : (label : Option (Bor (List ℕ))) → option_map lent (option_copied label) ≡ option_map (λ t. lent t.now) label

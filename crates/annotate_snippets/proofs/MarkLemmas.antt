@@ -16,7 +16,8 @@ use Rattle.snippet_parts.specs.Mark.{is_marking, is_single_line, is_marked_on, s
 use Rattle.std.specs.Borrow.{Bor}
 use Rattle.std.specs.Option.{option_copied}
 use Rattle.snippet_labels.specs.PlacedEntries as entry
-use Rattle.annotate_snippets.specs.ShownPage.{shown_label, normalized_chars}
+use Rattle.annotate_snippets.specs.Laws.Marks.{shown_label}
+use Rattle.snippet_text.specs.Normalized.{normalized_chars}
 use Rattle.snippet_strokes.proofs.PlainEntries.{EntryCovers, IsEntryMark}
 use Rattle.snippet_labels.specs.PlacedEntries.{shifted}
 use Rattle.snippet_model.specs.AnnotationKind.{is_primary}

@@ -15,9 +15,9 @@ use Rattle.snippet_lines.specs.Place.{line_of}
 use Rattle.snippet_parts.specs.Kept.{kept_lines, with_between}
 use Rattle.snippet_style.specs.declared.stylesheet.Stylesheet.{Stylesheet}
 use Rattle.annotate_snippets.specs.AsSet.{adds_context}
-use Rattle.annotate_snippets.specs.ContextLaws.{ShowsLinesAround, lines_with_context}
+use Rattle.annotate_snippets.specs.Laws.Context.{ShowsLinesAround, lines_with_context}
 use Rattle.annotate_snippets.specs.Fault.{form_of}
-use Rattle.annotate_snippets.specs.FormLaws.{HasLaws}
+use Rattle.annotate_snippets.specs.Laws.Forms.{HasLaws}
 use Rattle.annotate_snippets.specs.GraphicForm.{graphic_form}
 use Rattle.annotate_snippets.specs.Page.{GroupPage, Page, lines_named}
 use Rattle.annotate_snippets.specs.declared.renderer.Renderer.{Renderer}

@@ -18,7 +18,7 @@ use Rattle.snippet_grid.specs.Layout.{Layout}
 use Rattle.snippet_strokes.specs.Bars.{Bar}
 use Rattle.snippet_strokes.specs.EndBars.{IsNoBar, dotted_bar, end_corner, solid_bar}
 use Rattle.annotate_snippets.specs.Page.{Elision, NamedRow, OfferedLine, Other, RemovedLine, RowName, SourceRow, rows_below, shows_lines}
-use Rattle.annotate_snippets.specs.SpanBars.{ShowsBars, bar_beside, bar_cell_of, bar_of_span, line_beside}
+use Rattle.annotate_snippets.specs.Laws.Bars.{ShowsBars, bar_beside, bar_cell_of, bar_of_span, line_beside}
 
 -- no bar is a space
 no_space : (layout : Layout) (name : RowName) (bar : Bar) → bar_beside layout name bar ≡ SPACE → ⊥

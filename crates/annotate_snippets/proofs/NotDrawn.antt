@@ -33,7 +33,8 @@ use Rattle.annotate_snippets.specs.Page.{Elision, NamedRow, OfferedLine, Other, 
 use Rattle.annotate_snippets.specs.Page.{rows_below, shows_lines}
 use Rattle.annotate_snippets.specs.RowsWithoutSource.{cause_head, rows_after_cause}
 use Rattle.annotate_snippets.specs.Settings.{plain_settings}
-use Rattle.annotate_snippets.specs.ShownPage.{AreRowsOf, IsRowBelow, IsRowOf, ShowsSnippet, ShowsSourceLine}
+use Rattle.annotate_snippets.specs.Laws.Snippets.{AreRowsOf, IsRowOf, ShowsSnippet}
+use Rattle.annotate_snippets.specs.Laws.Lines.{IsRowBelow, ShowsSourceLine}
 use Rattle.annotate_snippets.proofs.DrawnLines.{bars_seen}
 use Rattle.annotate_snippets.proofs.FormLines.{IsWholeLine, line_of_rows, names_in, names_of_lines, names_of_rows, none_above}
 use Rattle.annotate_snippets.proofs.LineRowValues.{bar_beside_line, lone_line_rows}

@@ -26,7 +26,7 @@ use Rattle.annotate_snippets.specs.Around.{closes_with}
 use Rattle.annotate_snippets.specs.RowsWithoutSource.{cause_head, rows_after_cause}
 use Rattle.annotate_snippets.specs.Settings.{plain_settings}
 use Rattle.annotate_snippets.specs.declared.renderer.element_context.ElementContext.{ElementContext}
-use Rattle.annotate_snippets.specs.ShownPage.{IsRowOf, AreRowsOf, ShowsSnippet}
+use Rattle.annotate_snippets.specs.Laws.Snippets.{IsRowOf, AreRowsOf, ShowsSnippet}
 use Rattle.annotate_snippets.proofs.LeftLaws.{unnumbered_below, unnumbered_elided}
 use Rattle.annotate_snippets.proofs.NotShown.{layout, span_of, IsSnippetOf, is_whole, rows_after}
 

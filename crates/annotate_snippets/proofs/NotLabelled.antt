@@ -21,7 +21,7 @@ use Rattle.snippet_strokes.specs.EntryMarks.{has_mark_role, is_mark_role}
 use Rattle.snippet_strokes.specs.Labels.{IsStemCell}
 use Rattle.snippet_labels.specs.PlacedEntries.{label_role}
 use Rattle.snippet_grid.specs.Layout.{Layout}
-use Rattle.annotate_snippets.specs.ShownPage.{HasStem, ShowsLabel, ShowsLabels, ShownLabel, SpanLabel, is_in_label, labels_ending_on}
+use Rattle.annotate_snippets.specs.Laws.Labels.{HasStem, ShowsLabel, ShowsLabels, ShownLabel, SpanLabel, is_in_label, labels_ending_on}
 
 -- whether a role is that of labels
 abbrev pub is_label_role : ElementStyle → Bool

@@ -34,7 +34,7 @@ use Rattle.annotate_snippets.specs.RowsWithoutSource.{suggestion_head}
 use Rattle.annotate_snippets.specs.Settings.{plain_settings}
 use Rattle.snippet_grid.specs.Layout.{Layout}
 use Rattle.annotate_snippets.specs.declared.renderer.element_context.ElementContext.{ElementContext}
-use Rattle.annotate_snippets.specs.ShownPage.{IsOfferedRow, IsSuggestionRow, ShowsSuggestion}
+use Rattle.annotate_snippets.specs.Laws.Suggestions.{IsOfferedRow, IsSuggestionRow, ShowsSuggestion}
 use Rattle.annotate_snippets.proofs.Ascending.{IsAscending, ascending}
 use Rattle.annotate_snippets.proofs.NotShown.{two_of_one}
 

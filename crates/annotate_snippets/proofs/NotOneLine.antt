@@ -17,15 +17,15 @@ use Rattle.snippet_style.specs.declared.glyphs.DecorStyle.TheVariants.{Ascii}
 use Rattle.snippet_style.specs.declared.role.ElementStyle.TheVariants.{LabelPrimary, NoStyle, UnderlinePrimary}
 use Rattle.annotate_snippets.specs.declared.renderer.Renderer.{Renderer}
 use Rattle.annotate_snippets.specs.Fault.{form_of}
-use Rattle.annotate_snippets.specs.Feeds.{HasNoFeed, HasOneLineTexts, text_lines}
-use Rattle.annotate_snippets.specs.FormLaws.{FormLaws, HasLaws}
+use Rattle.annotate_snippets.specs.Laws.Feeds.{HasNoFeed, HasOneLineTexts, text_lines}
+use Rattle.annotate_snippets.specs.Laws.Forms.{FormLaws, HasLaws}
 use Rattle.annotate_snippets.specs.GraphicForm.{graphic_form}
 use Rattle.annotate_snippets.specs.declared.renderer.form.Form.{Form}
 use Rattle.annotate_snippets.specs.declared.renderer.form.Form.TheVariants.{Graphic}
 use Rattle.annotate_snippets.specs.Gutter.{layout_of_group}
-use Rattle.annotate_snippets.specs.Numbers.{IsNumberedAsLine}
+use Rattle.annotate_snippets.specs.Laws.Numbers.{IsNumberedAsLine}
 use Rattle.annotate_snippets.specs.Page.{GroupPage, NamedRow, Other, Page, group_rows}
-use Rattle.annotate_snippets.specs.PageLaws.{PageLaws}
+use Rattle.annotate_snippets.specs.Laws.Page.{PageLaws}
 use Rattle.annotate_snippets.proofs.OneLineTexts.{HasOneLineRows}
 
 -- the row of the marks of `let x = 1;` with a label that is `here`, a line feed, and what looks like a second line

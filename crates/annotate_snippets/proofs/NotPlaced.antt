@@ -32,7 +32,8 @@ use Rattle.annotate_snippets.specs.RowsWithoutSource.{suggestion_head}
 use Rattle.annotate_snippets.specs.Settings.{plain_settings}
 use Rattle.snippet_grid.specs.Layout.{Layout}
 use Rattle.annotate_snippets.specs.declared.renderer.element_context.ElementContext.{ElementContext}
-use Rattle.annotate_snippets.specs.ShownPage.{HasStrokes, IsSuggestionRow, ShowsSuggestion, name_of_row}
+use Rattle.annotate_snippets.specs.Laws.Suggestions.{HasStrokes, IsSuggestionRow, ShowsSuggestion}
+use Rattle.annotate_snippets.specs.GraphicForm.{name_of_row}
 use Rattle.annotate_snippets.proofs.NotOffered.{offering_row}
 
 -- ---- rows in another order, with another number, or of another kind

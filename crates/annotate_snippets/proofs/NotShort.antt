@@ -25,7 +25,7 @@ use Rattle.snippet_titles.specs.HeadingRows.{label_cells}
 use Rattle.snippet_titles.specs.Origin.{origin_text}
 use Rattle.snippet_titles.specs.ShortRows.{short_rows}
 use Rattle.snippet_parts.specs.Annotated.{is_long}
-use Rattle.annotate_snippets.specs.FormLaws.{ShowsShort}
+use Rattle.annotate_snippets.specs.Laws.Forms.{ShowsShort}
 use Rattle.annotate_snippets.specs.Forms.{ShowsReport}
 use Rattle.annotate_snippets.specs.Settings.{plain_settings}
 use Rattle.annotate_snippets.specs.ShortForm.{short_form}

@@ -36,8 +36,12 @@ use Rattle.annotate_snippets.specs.Settings.{plain_settings}
 use Rattle.snippet_grid.specs.Layout.{Layout}
 use Rattle.annotate_snippets.specs.declared.renderer.element_context.ElementContext.{ElementContext}
 use Rattle.snippet_style.specs.Glyphs.{IsMarkGlyph, char_of, placeholder_of}
-use Rattle.annotate_snippets.specs.ShownPage.{cell_of, room_of, normalized_chars, shown_label, ShowsSourceLine, ShowsMarksOf, ShowsLineAndMarks, IsRowBelow}
-use Rattle.annotate_snippets.specs.ShownPage.{IsRowOf, AreRowsOf, ShowsSnippet}
+use Rattle.annotate_snippets.specs.Laws.Marks.{cell_of, shown_label, ShowsMarksOf}
+use Rattle.annotate_snippets.specs.GraphicForm.{room_of}
+use Rattle.snippet_text.specs.Normalized.{normalized_chars}
+use Rattle.annotate_snippets.specs.Laws.Lines.{ShowsSourceLine, IsRowBelow}
+use Rattle.annotate_snippets.specs.Laws.Snippets.{ShowsLineAndMarks}
+use Rattle.annotate_snippets.specs.Laws.Snippets.{IsRowOf, AreRowsOf, ShowsSnippet}
 use Rattle.annotate_snippets.specs.Gutter.{number_text}
 use Rattle.annotate_snippets.proofs.Ascending.{IsAscending, ascending}
 use Rattle.annotate_snippets.proofs.LeftLaws.{separator_of_left, unnumbered_below, unnumbered_elided}

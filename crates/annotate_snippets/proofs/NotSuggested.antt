@@ -22,7 +22,7 @@ use Rattle.annotate_snippets.specs.Gutter.{line_numbers}
 use Rattle.annotate_snippets.specs.DrawnReport.{suggestion_layout, suggestion_lines, under_of}
 use Rattle.annotate_snippets.specs.Page.{NamedRow, cells_of}
 use Rattle.annotate_snippets.specs.Settings.{plain_settings}
-use Rattle.annotate_snippets.specs.ShownPage.{ShowsSuggestion}
+use Rattle.annotate_snippets.specs.Laws.Suggestions.{ShowsSuggestion}
 use Rattle.snippet_grid.specs.Layout.{Layout}
 use Rattle.annotate_snippets.specs.declared.renderer.element_context.ElementContext.{ElementContext}
 

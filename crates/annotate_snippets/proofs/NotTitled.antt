@@ -21,7 +21,8 @@ use Rattle.snippet_titles.specs.Origin.{line_text, origin_text}
 use Rattle.annotate_snippets.specs.Page.{NamedRow, cells_of}
 use Rattle.annotate_snippets.specs.RowsWithoutSource.{message_style, rows_after_title}
 use Rattle.annotate_snippets.specs.Settings.{plain_settings}
-use Rattle.annotate_snippets.specs.ShownPage.{NamesLocation, ShowsMessage, ShowsOrigin, ShowsTitle}
+use Rattle.annotate_snippets.specs.Laws.Paths.{NamesLocation, ShowsOrigin}
+use Rattle.annotate_snippets.specs.Laws.Titles.{ShowsMessage, ShowsTitle}
 use Rattle.annotate_snippets.specs.declared.renderer.Renderer.{Renderer}
 use Rattle.annotate_snippets.specs.declared.renderer.element_context.ElementContext.{ElementContext}
 use Rattle.annotate_snippets.specs.declared.renderer.element_context.GroupPosition.{GroupPosition}

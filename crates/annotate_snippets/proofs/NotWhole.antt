@@ -43,7 +43,10 @@ use Rattle.annotate_snippets.specs.Levels.{error_level}
 use Rattle.annotate_snippets.specs.Page.{Elision, NamedRow, OfferedLine, Other, RemovedLine, RowName, SourceRow, cells_of, line_named, lines_named, others}
 use Rattle.annotate_snippets.specs.RowsWithoutSource.{cause_head, rows_after_cause, rows_after_title}
 use Rattle.annotate_snippets.specs.Settings.{plain_settings}
-use Rattle.annotate_snippets.specs.ShownPage.{AreElementsShown, AreRowsOf, IsRowOf, NamesLocation, ShowsSnippet, ShowsTitle}
+use Rattle.annotate_snippets.specs.Laws.Groups.{AreElementsShown}
+use Rattle.annotate_snippets.specs.Laws.Snippets.{AreRowsOf, IsRowOf, ShowsSnippet}
+use Rattle.annotate_snippets.specs.Laws.Paths.{NamesLocation}
+use Rattle.annotate_snippets.specs.Laws.Titles.{ShowsTitle}
 use Rattle.annotate_snippets.specs.declared.renderer.Renderer.{Renderer}
 use Rattle.annotate_snippets.specs.declared.renderer.element_context.GroupPosition.{GroupPosition}
 use Rattle.annotate_snippets.specs.declared.renderer.element_context.GroupPosition.TheVariants as place

@@ -14,8 +14,8 @@ use Rattle.snippet_text.specs.Width.{char_width, width_of}
 use Rattle.snippet_wrap.specs.WrapLaws.{AreWithin, IsRewrapped, lines_in, words_of}
 use Rattle.annotate_snippets.specs.AsSet.{wraps}
 use Rattle.annotate_snippets.specs.Fault.{form_of}
-use Rattle.annotate_snippets.specs.FormLaws.{HasLaws}
-use Rattle.annotate_snippets.specs.Rewrapped.{AreRewrapped, IsTextRewrapped, IsTitleRewrapped}
+use Rattle.annotate_snippets.specs.Laws.Forms.{HasLaws}
+use Rattle.annotate_snippets.specs.Laws.Wrapped.{AreRewrapped, IsTextRewrapped, IsTitleRewrapped}
 use Rattle.annotate_snippets.specs.declared.renderer.Renderer.{Renderer}
 
 -- the title that is given

@@ -33,11 +33,13 @@ use Rattle.annotate_snippets.specs.declared.renderer.element_context.GroupPositi
 use Rattle.snippet_grid.specs.Layout.{Layout}
 use Rattle.annotate_snippets.specs.Around.{closes_after, closes_with, context_at, is_before_message, is_end, is_first_group, path_bytes}
 use Rattle.annotate_snippets.specs.DrawnReport.{found_at}
-use Rattle.annotate_snippets.specs.Numbers.{IsNumberedAsLine, shows_a_line}
+use Rattle.annotate_snippets.specs.Laws.Numbers.{IsNumberedAsLine, shows_a_line}
 use Rattle.annotate_snippets.specs.Page.{RowName, SourceRow, Elision, OfferedLine, RemovedLine, Other, NamedRow, GroupPage, cells_of, others}
 use Rattle.annotate_snippets.specs.RowsWithoutSource.{cause_head, closing_rows, origin_layout, origin_rows, origin_start, patch_place, path_row, place_given}
 use Rattle.annotate_snippets.specs.RowsWithoutSource.{rows_after_cause, separator_rows, suggestion_head, suggestion_head_at}
-use Rattle.annotate_snippets.specs.ShownPage.{AreElementsShown, AreRowsOf, IsRowOf, IsSuggestionRow, ShowsElement}
+use Rattle.annotate_snippets.specs.Laws.Groups.{AreElementsShown, ShowsElement}
+use Rattle.annotate_snippets.specs.Laws.Snippets.{AreRowsOf, IsRowOf}
+use Rattle.annotate_snippets.specs.Laws.Suggestions.{IsSuggestionRow}
 use Rattle.annotate_snippets.proofs.LeftLaws.{unnumbered_below, unnumbered_elided}
 
 -- ---- characters

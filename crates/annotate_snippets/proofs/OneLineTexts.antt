@@ -14,7 +14,7 @@ use Rattle.snippet_model.specs.declared.snippet.Group.{Group}
 use Rattle.snippet_model.specs.declared.snippet.Id.{Id}
 use Rattle.snippet_model.specs.declared.snippet.Title.{Title}
 use Rattle.annotate_snippets.specs.Around.{path_bytes}
-use Rattle.annotate_snippets.specs.Feeds.{HasNoFeed, HasOneLineTexts, IsNoFeed, row_texts_of_element, row_texts_of_title}
+use Rattle.annotate_snippets.specs.Laws.Feeds.{HasNoFeed, HasOneLineTexts, IsNoFeed, row_texts_of_element, row_texts_of_title}
 use Rattle.annotate_snippets.specs.Page.{GroupPage, group_rows}
 
 -- ---- rows

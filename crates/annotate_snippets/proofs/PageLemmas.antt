@@ -32,7 +32,11 @@ use Rattle.annotate_snippets.specs.GraphicForm.{bars_on, gap_below, named_line, 
 use Rattle.annotate_snippets.specs.Gutter.{line_numbers, numbered_source}
 use Rattle.annotate_snippets.proofs.DrawnRows.{AreRowsDrawn, IsLineDrawn}
 use Rattle.annotate_snippets.specs.Page.{SourceRow, Elision, Other, NamedRow, lines_named, cells_of, cells_below, others, rows_below}
-use Rattle.annotate_snippets.specs.ShownPage.{AreRowsOf, IsRowBelow, ShowsLabels, ShowsLineAndMarks, ShowsMarksOf, bounds_in, room_of}
+use Rattle.annotate_snippets.specs.Laws.Snippets.{AreRowsOf, ShowsLineAndMarks}
+use Rattle.annotate_snippets.specs.Laws.Lines.{IsRowBelow}
+use Rattle.annotate_snippets.specs.Laws.Labels.{ShowsLabels}
+use Rattle.annotate_snippets.specs.Laws.Marks.{ShowsMarksOf}
+use Rattle.annotate_snippets.specs.GraphicForm.{bounds_in, room_of}
 use Rattle.annotate_snippets.proofs.DrawnLines.{bars_seen, line_drawn}
 use Rattle.annotate_snippets.proofs.LineValue.{line_value}
 use Rattle.annotate_snippets.proofs.LineLemmas.{labels_of_line, marks_of_line, marks_there, row_below, source_line}

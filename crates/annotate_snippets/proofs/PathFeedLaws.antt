@@ -31,7 +31,7 @@ use Rattle.annotate_snippets.specs.Gutter.{numbered_source}
 use Rattle.annotate_snippets.specs.RowsWithoutSource.{cause_head, closing_rows, origin_layout, origin_rows, origin_start, place_given, place_named}
 use Rattle.annotate_snippets.specs.RowsWithoutSource.{rows_after_cause}
 use Rattle.annotate_snippets.specs.RowsWithoutSource.{separator_rows}
-use Rattle.annotate_snippets.specs.Feeds.{HasNoFeed, IsNoFeed}
+use Rattle.annotate_snippets.specs.Laws.Feeds.{HasNoFeed, IsNoFeed}
 use Rattle.annotate_snippets.proofs.OneLineTexts.{HoldsNoFeed, IsOneLineText}
 use Rattle.annotate_snippets.proofs.FeedLaws.{after_spaces, bare-plain}
 pub use Rattle.annotate_snippets.proofs.FeedLaws.{cells_plain}

@@ -26,9 +26,11 @@ use Rattle.annotate_snippets.specs.Fault.{first_fault, first_refusal, form_of, m
 use Rattle.annotate_snippets.specs.GraphicForm.{graphic_form, group_page}
 use Rattle.annotate_snippets.specs.Gutter.{layout_of_group}
 use Rattle.annotate_snippets.specs.Page.{ArePrinted, GroupPage, Page, PrintsGrids, PrintsPage, group_rows, page_links, page_text}
-use Rattle.annotate_snippets.specs.PageLaws.{PageLaws}
+use Rattle.annotate_snippets.specs.Laws.Page.{PageLaws}
 use Rattle.annotate_snippets.specs.PreparedReport.{IsGroupDrawable}
-use Rattle.annotate_snippets.specs.ShownPage.{AreGroupsShown, IsFreeBut, SheetsShown, ShowsGroup, levels_of, report_links}
+use Rattle.annotate_snippets.specs.Laws.Groups.{AreGroupsShown, ShowsGroup}
+use Rattle.annotate_snippets.specs.Laws.Free.{IsFreeBut}
+use Rattle.annotate_snippets.specs.ShownPage.{SheetsShown, levels_of, report_links}
 use Rattle.annotate_snippets.specs.declared.renderer.error.RenderError.{RenderError}
 use Rattle.annotate_snippets.proofs.OneLineTexts.{HasOneLineRows, IsOneLineGroup, one_line_groups}
 use Rattle.annotate_snippets.proofs.FaultLemmas.{titled}

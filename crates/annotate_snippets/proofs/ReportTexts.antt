@@ -12,7 +12,8 @@ use Rattle.snippet_model.specs.declared.snippet.Group.{Group}
 use Rattle.snippet_model.specs.declared.snippet.Id.{Id}
 use Rattle.snippet_model.specs.declared.snippet.Title.{Title}
 use Rattle.snippet_titles.specs.Title.{id_links, text_links}
-use Rattle.annotate_snippets.specs.ShownPage.{IsFreeBut, report_links}
+use Rattle.annotate_snippets.specs.Laws.Free.{IsFreeBut}
+use Rattle.annotate_snippets.specs.ShownPage.{report_links}
 use Rattle.annotate_snippets.specs.declared.renderer.Renderer.{Renderer}
 
 -- the trusted texts of a group

@@ -6,7 +6,7 @@ use Rattle.std.proofs.lemmas.List.{take_at}
 use Rattle.std.proofs.lemmas.Slice.Zip.{AllZip-long}
 use Rattle.snippet_model.specs.declared.snippet.Group.{Group}
 use Rattle.snippet_style.specs.declared.stylesheet.Stylesheet.{Stylesheet}
-use Rattle.annotate_snippets.specs.FormLaws.{IsTextUnder}
+use Rattle.annotate_snippets.specs.Laws.Forms.{IsTextUnder}
 use Rattle.annotate_snippets.specs.PreparedReport.{IsGroupDrawable}
 use Rattle.annotate_snippets.specs.Written.{AddsGrid, AddsToPage, IsEmptyPage}
 use Rattle.annotate_snippets.specs.declared.renderer.Renderer.{Renderer}

@@ -42,7 +42,7 @@ use Rattle.snippet_titles.proofs.OriginText.{place_text-each}
 use Rattle.snippet_titles.proofs.OriginFree.{digit_unlisted}
 use Rattle.annotate_snippets.specs.Around.{path_bytes}
 use Rattle.annotate_snippets.specs.DrawnReport.{IsShortForm}
-use Rattle.annotate_snippets.specs.FormLaws.{BeginsWithPlace, IsTextUnder, LawsIn, ShortLaws, ShowsShort}
+use Rattle.annotate_snippets.specs.Laws.Forms.{BeginsWithPlace, IsTextUnder, LawsIn, ShortLaws, ShowsShort}
 use Rattle.annotate_snippets.specs.Forms.{ShortShown, short_links}
 use Rattle.annotate_snippets.specs.Gutter.{numbered_source}
 use Rattle.annotate_snippets.specs.PreparedReport.{IsDrawable, IsGroupDrawable}

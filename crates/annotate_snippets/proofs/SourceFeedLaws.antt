@@ -25,8 +25,9 @@ use Rattle.snippet_model.specs.declared.snippet.Snippet.{Snippet}
 use Rattle.annotate_snippets.specs.declared.renderer.Renderer.{Renderer}
 use Rattle.snippet_grid.specs.Layout.{Layout}
 use Rattle.annotate_snippets.specs.Gutter.{line_numbers, number_text}
-use Rattle.annotate_snippets.specs.ShownPage.{ShowsSourceLine, bounds_in, cells_left, room_of, wide_spans}
-use Rattle.annotate_snippets.specs.Feeds.{HasNoFeed, IsNoFeed}
+use Rattle.annotate_snippets.specs.Laws.Lines.{ShowsSourceLine, cells_left, wide_spans}
+use Rattle.annotate_snippets.specs.GraphicForm.{bounds_in, room_of}
+use Rattle.annotate_snippets.specs.Laws.Feeds.{HasNoFeed, IsNoFeed}
 use Rattle.annotate_snippets.proofs.OneLineTexts.{HoldsNoFeed}
 use Rattle.snippet_titles.proofs.OriginFree.{each-fails}
 use Rattle.annotate_snippets.proofs.FeedLaws.{at_any, bar_cell}

@@ -42,8 +42,9 @@ use Rattle.annotate_snippets.specs.GraphicForm.{bars_on, entries_on}
 use Rattle.annotate_snippets.proofs.DrawnRows.{AreRowsDrawn, IsRowDrawn, open_after}
 use Rattle.annotate_snippets.specs.Page.{Elision, NamedRow, OfferedLine, Other, RemovedLine, RowName, SourceRow, lines_named, rows_below}
 use Rattle.annotate_snippets.specs.Page.{shows_lines}
-use Rattle.annotate_snippets.specs.ShownPage.{AreRowsOf, IsRowOf, cells_left}
-use Rattle.annotate_snippets.specs.SpanBars.{BarStarts, ShowsBars, bar_beside, bar_cell_of, line_beside}
+use Rattle.annotate_snippets.specs.Laws.Snippets.{AreRowsOf, IsRowOf}
+use Rattle.annotate_snippets.specs.Laws.Lines.{cells_left}
+use Rattle.annotate_snippets.specs.Laws.Bars.{BarStarts, ShowsBars, bar_beside, bar_cell_of, line_beside}
 use Rattle.annotate_snippets.proofs.Ascending.{IsAscending}
 use Rattle.annotate_snippets.proofs.DrawnLines.{bar_shown, bars_seen}
 use Rattle.annotate_snippets.proofs.LabelLemmas.{head_same, tail_same}

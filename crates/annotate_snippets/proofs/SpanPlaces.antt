@@ -19,7 +19,7 @@ use Rattle.snippet_parts.proofs.AmongLemmas.{among_filter, among_in_order, among
 use Rattle.snippet_parts.proofs.RawDepthLemmas.{same-refl, same-true}
 use Rattle.snippet_strokes.specs.Bars.{Bar}
 use Rattle.annotate_snippets.specs.Gutter.{numbered_source}
-use Rattle.annotate_snippets.specs.SpanBars.{bar_of_span}
+use Rattle.annotate_snippets.specs.Laws.Bars.{bar_of_span}
 use Rattle.annotate_snippets.proofs.SpanOpen.{bar_at_place, place_in}
 use Rattle.annotate_snippets.proofs.SpanParts.{is_primary_at}
 

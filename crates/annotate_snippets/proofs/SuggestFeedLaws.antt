@@ -44,7 +44,7 @@ use Rattle.annotate_snippets.specs.declared.renderer.element_context.ElementCont
 use Rattle.snippet_grid.specs.Layout.{Layout}
 use Rattle.annotate_snippets.specs.Around.{path_bytes, suggestion_rows}
 use Rattle.annotate_snippets.specs.DrawnReport.{IsSuggestionDrawn, suggestion_layout, suggestion_lines, under_of}
-use Rattle.annotate_snippets.specs.Feeds.{HasNoFeed, IsNoFeed}
+use Rattle.annotate_snippets.specs.Laws.Feeds.{HasNoFeed, IsNoFeed}
 use Rattle.annotate_snippets.specs.RowsWithoutSource.{origin_layout, patch_place, path_row, suggestion_head, suggestion_head_at}
 use Rattle.annotate_snippets.proofs.OneLineTexts.{HoldsNoFeed, IsOneLineText}
 use Rattle.annotate_snippets.proofs.FeedLaws.{at_any}

@@ -26,7 +26,8 @@ use Rattle.annotate_snippets.specs.GraphicForm.{named_rows}
 use Rattle.annotate_snippets.specs.Gutter.{line_numbers, number_text}
 use Rattle.annotate_snippets.specs.Page.{Elision, NamedRow, OfferedLine, Other, RemovedLine, RowName, SourceRow}
 use Rattle.annotate_snippets.specs.Page.{cells_of, line_offered, lines_offered}
-use Rattle.annotate_snippets.specs.ShownPage.{HasStrokes, IsOfferedRow, IsSuggestionRow, name_of_row}
+use Rattle.annotate_snippets.specs.Laws.Suggestions.{HasStrokes, IsOfferedRow, IsSuggestionRow}
+use Rattle.annotate_snippets.specs.GraphicForm.{name_of_row}
 use Rattle.annotate_snippets.specs.declared.renderer.Renderer.{Renderer}
 use Rattle.annotate_snippets.proofs.Ascending.{IsAscending}
 use Rattle.snippet_grid.specs.Layout.{Layout}

@@ -33,7 +33,8 @@ use Rattle.annotate_snippets.specs.DrawnReport.{HasRoomFor, IsSuggestionDrawn, s
 use Rattle.annotate_snippets.specs.GraphicForm.{named_rows}
 use Rattle.annotate_snippets.specs.Page.{NamedRow, cells_of, lines_offered, others}
 use Rattle.annotate_snippets.specs.RowsWithoutSource.{origin_layout, patch_place, path_row, suggestion_head, suggestion_head_at}
-use Rattle.annotate_snippets.specs.ShownPage.{HasStrokes, ShowsSuggestion, name_of_row}
+use Rattle.annotate_snippets.specs.Laws.Suggestions.{HasStrokes, ShowsSuggestion}
+use Rattle.annotate_snippets.specs.GraphicForm.{name_of_row}
 use Rattle.annotate_snippets.specs.declared.renderer.Renderer.{Renderer}
 use Rattle.snippet_grid.specs.Layout.{Layout}
 use Rattle.annotate_snippets.specs.declared.renderer.element_context.ElementContext.{ElementContext}

@@ -28,9 +28,10 @@ use Rattle.snippet_text_form.proofs.FreeLaws.{cause-free, heading-free, origin-f
 use Rattle.snippet_text_form.proofs.LinkLaws.{cause-links, heading-links, origin-links, suggestion-links}
 use Rattle.snippet_text_form.proofs.OrderLaws.{cause-holds, heading_stays, plain-append, stand-append}
 use Rattle.annotate_snippets.specs.Around.{drawn_elements, file_of_group, first_two_share, is_drawn}
-use Rattle.annotate_snippets.specs.FormLaws.{IsTextUnder, LawsIn, TextLaws}
+use Rattle.annotate_snippets.specs.Laws.Forms.{IsTextUnder, LawsIn, TextLaws}
 use Rattle.annotate_snippets.specs.Forms.{TextShown}
-use Rattle.annotate_snippets.specs.ShownPage.{IsFreeBut, report_links}
+use Rattle.annotate_snippets.specs.Laws.Free.{IsFreeBut}
+use Rattle.annotate_snippets.specs.ShownPage.{report_links}
 use Rattle.annotate_snippets.specs.TextForm.{PreviousSuggestion, before_next, element_form, element_texts, elements_form, group_form, group_texts, report_texts}
 use Rattle.annotate_snippets.specs.TextForm.{suggestion_place, text_form, whole_text}
 use Rattle.annotate_snippets.specs.declared.renderer.Renderer.{Renderer}

@@ -16,9 +16,9 @@ use Rattle.snippet_text.specs.Normalized.{norm}
 use Rattle.snippet_titles.specs.HeadingRows.{colon_of, heading_lines, id_text, heading_label_text, label_width}
 use Rattle.snippet_titles.specs.ShownHeading.{texts_below}
 use Rattle.snippet_titles.proofs.OriginNumbers.{closing_row-unnumbered, separator_row-unnumbered}
-use Rattle.annotate_snippets.specs.Numbers.{IsTitleOfWords, IsUnnumbered, begins_with_number, begins_with_word}
+use Rattle.annotate_snippets.specs.Laws.Numbers.{IsTitleOfWords, IsUnnumbered, begins_with_number, begins_with_word}
 use Rattle.annotate_snippets.specs.RowsWithoutSource.{closing_rows, rows_after_title, separator_rows}
-use Rattle.annotate_snippets.specs.ShownPage.{ShowsTitlePart}
+use Rattle.annotate_snippets.specs.Laws.Titles.{ShowsTitlePart}
 use Rattle.annotate_snippets.specs.declared.renderer.Renderer.{Renderer}
 use Rattle.snippet_grid.specs.Layout.{Layout}
 use Rattle.annotate_snippets.specs.declared.renderer.element_context.GroupPosition.{GroupPosition}

@@ -23,7 +23,7 @@ use Rattle.snippet_titles.proofs.OriginFree.{closing_row-free, separator_row-fre
 use Rattle.annotate_snippets.specs.Around.{is_before_message}
 use Rattle.annotate_snippets.specs.Page.{NamedRow, cells_of}
 use Rattle.annotate_snippets.specs.RowsWithoutSource.{closing_rows, rows_after_title, separator_rows, title_part}
-use Rattle.annotate_snippets.specs.ShownPage.{IsFreeBut, IsFreeElement}
+use Rattle.annotate_snippets.specs.Laws.Free.{IsFreeBut, IsFreeElement}
 use Rattle.annotate_snippets.specs.declared.renderer.Renderer.{Renderer}
 use Rattle.snippet_grid.specs.Layout.{Layout}
 use Rattle.annotate_snippets.specs.declared.renderer.element_context.GroupPosition.{GroupPosition}

@@ -15,7 +15,7 @@ use Rattle.snippet_wrap.specs.AsWrapped.{AreGroupsWrapped}
 use Rattle.snippet_wrap.specs.WrapLaws.{IsRewrapped}
 use Rattle.annotate_snippets.specs.AsSet.{AreWithContext, AreWrapped, IsAsSet, IsRemade, adds_context, wraps}
 use Rattle.annotate_snippets.specs.Gutter.{gutter_of_report}
-use Rattle.annotate_snippets.specs.Rewrapped.{AreRewrapped, IsElementRewrapped, IsGroupRewrapped, IsTextRewrapped, IsTitleRewrapped}
+use Rattle.annotate_snippets.specs.Laws.Wrapped.{AreRewrapped, IsElementRewrapped, IsGroupRewrapped, IsTextRewrapped, IsTitleRewrapped}
 use Rattle.annotate_snippets.specs.declared.renderer.Renderer.{Renderer}
 use Rattle.annotate_snippets.specs.declared.renderer.form.Form.{Form}
 use Rattle.annotate_snippets.proofs.AsSetSteps.{remade-set, wrap-set}

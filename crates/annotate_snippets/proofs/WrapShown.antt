@@ -33,11 +33,12 @@ use Rattle.snippet_wrap.specs.WrapLaws.{AreWithin, IsAmong, IsRewrapped, lines_i
 use Rattle.snippet_wrap.proofs.DrawnLemmas.{message-within, title-within}
 use Rattle.snippet_wrap.proofs.LawLemmas.{wrapped-laws}
 use Rattle.annotate_snippets.specs.Fault.{element_faults, faults_from, first_fault, first_of, group_faults, missing_title, refusal_in}
-use Rattle.annotate_snippets.specs.Feeds.{HasOneLineTexts}
+use Rattle.annotate_snippets.specs.Laws.Feeds.{HasOneLineTexts}
 use Rattle.annotate_snippets.specs.Forms.{links_in}
 use Rattle.annotate_snippets.specs.Gutter.{gutter_of_report, width_wanted}
-use Rattle.annotate_snippets.specs.Rewrapped.{AreRewrapped, IsElementRewrapped, IsGroupRewrapped, IsTextRewrapped, IsTitleRewrapped}
-use Rattle.annotate_snippets.specs.ShownPage.{IsFreeBut, report_links}
+use Rattle.annotate_snippets.specs.Laws.Wrapped.{AreRewrapped, IsElementRewrapped, IsGroupRewrapped, IsTextRewrapped, IsTitleRewrapped}
+use Rattle.annotate_snippets.specs.Laws.Free.{IsFreeBut}
+use Rattle.annotate_snippets.specs.ShownPage.{report_links}
 use Rattle.annotate_snippets.proofs.AsSetSteps.{all-over, first-pair, flat-same}
 use Rattle.snippet_model.proofs.ZipLemmas.{AllZip-weaker}
 use Rattle.annotate_snippets.specs.declared.renderer.Renderer.{Renderer}

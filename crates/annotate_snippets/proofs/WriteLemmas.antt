@@ -14,7 +14,7 @@ use Rattle.snippet_model.specs.declared.snippet.Group.{Group}
 use Rattle.snippet_style.specs.declared.role.LevelInner.{LevelInner}
 use Rattle.snippet_style.specs.declared.stylesheet.Stylesheet.{Stylesheet}
 use Rattle.annotate_snippets.specs.DrawnReport.{AreGridsOf}
-use Rattle.annotate_snippets.specs.FormLaws.{IsTextUnder}
+use Rattle.annotate_snippets.specs.Laws.Forms.{IsTextUnder}
 use Rattle.annotate_snippets.specs.GraphicForm.{graphic_form}
 use Rattle.annotate_snippets.specs.Page.{ArePrinted, Page, PrintsGrids, PrintsPage}
 use Rattle.annotate_snippets.specs.PreparedReport.{IsGroupDrawable}

@@ -12,7 +12,8 @@ use Rattle.annotate_snippets.specs.Fault.{form_of}
 use Rattle.annotate_snippets.specs.GraphicForm.{graphic_form}
 use Rattle.annotate_snippets.specs.Page.{page_text}
 use Rattle.annotate_snippets.specs.ShortForm.{short_form, short_page}
-use Rattle.annotate_snippets.specs.ShownPage.{IsFreeBut, SheetsShown, report_links}
+use Rattle.annotate_snippets.specs.Laws.Free.{IsFreeBut}
+use Rattle.annotate_snippets.specs.ShownPage.{SheetsShown, report_links}
 use Rattle.annotate_snippets.specs.TextForm.{text_form}
 use Rattle.annotate_snippets.specs.declared.renderer.Renderer.{Renderer}
 use Rattle.annotate_snippets.specs.declared.renderer.form.Form.{Form}

@@ -82,7 +82,7 @@ impl Renderer {
     ghost use Rattle.snippet_model.specs.Fits.{ReportFits};
     ghost use Rattle.annotate_snippets.specs.Fault as spec;
     ghost use Rattle.annotate_snippets.specs.Fault.{IsWithinBounds};
-    ghost use Rattle.annotate_snippets.specs.FormLaws.{HasLaws, IsTextUnder, LawsIn};
+    ghost use Rattle.annotate_snippets.specs.Laws.Forms.{HasLaws, IsTextUnder, LawsIn};
     ghost use Rattle.annotate_snippets.specs.Forms.{AreFree, ShowsForm, ShowsReport, TextsShown, links_in};
     ghost use Rattle.std.specs.List.{AllZip};
     ghost use Rattle.annotate_snippets.specs.Html.{HasHtmlLaws, IsReportHtml, report_html};

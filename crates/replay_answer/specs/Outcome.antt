@@ -3,7 +3,7 @@ use Rattle.std.specs.Prelude.{◌≡◌, ℕ, Bool, true, false, List, [], ◌�
 use Rattle.serde_json.specs.Data.{Data}
 use Rattle.serde_json.specs.Read.{read}
 use Rattle.annotate_snippets.specs.Fault.{first_refusal, refusal_in}
-use Rattle.annotate_snippets.specs.FormLaws.{TextsWithLaws}
+use Rattle.annotate_snippets.specs.Laws.Forms.{TextsWithLaws}
 use Rattle.annotate_snippets.specs.Html.{HasHtmlLaws, IsReportHtml}
 use Rattle.annotate_snippets.specs.declared.renderer.form.Form.TheVariants.{Graphic}
 use Rattle.annotate_snippets.specs.declared.renderer.RenderError.{RenderError}

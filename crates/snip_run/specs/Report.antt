@@ -12,7 +12,7 @@ use Rattle.annotate_snippets.specs.declared.snippet.Snippet.{Snippet}
 use Rattle.annotate_snippets.specs.declared.snippet.Title.{Title}
 use Rattle.annotate_snippets.specs.Levels.{error_level}
 use Rattle.annotate_snippets.specs.Fault.{first_refusal}
-use Rattle.annotate_snippets.specs.FormLaws.{HasLaws}
+use Rattle.annotate_snippets.specs.Laws.Forms.{HasLaws}
 use Rattle.annotate_snippets.specs.Forms.{ShowsReport}
 use Rattle.report_options.specs.OptionSettings.{settings_of}
 use Rattle.snip_run.specs.declared.arguments.SnipCommand.{SnipCommand}

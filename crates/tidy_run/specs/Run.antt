@@ -6,7 +6,7 @@ use Rattle.std.specs.Str.{IsUtf8}
 use Rattle.annotate_snippets.specs.declared.renderer.style.Stylesheet.{Stylesheet}
 use Rattle.annotate_snippets.specs.declared.snippet.Group.{Group}
 use Rattle.annotate_snippets.specs.Fits.{TextFits}
-use Rattle.annotate_snippets.specs.FormLaws.{HasLaws}
+use Rattle.annotate_snippets.specs.Laws.Forms.{HasLaws}
 use Rattle.annotate_snippets.specs.Forms.{TextsShown}
 use Rattle.annotate_snippets.specs.Settings.{plain_settings, styled_settings}
 pub use Rattle.program.specs.Stream.{normalized_text}

@@ -5,7 +5,7 @@ ghost use Rattle.std.specs.List.{AllZip, flat_map};
 ghost use Rattle.std.specs.Option.{option_copied};
 ghost use Rattle.annotate_snippets.specs.Fault.{IsWithinBounds};
 ghost use Rattle.annotate_snippets.specs.Fits.{TextFits};
-ghost use Rattle.annotate_snippets.specs.FormLaws.{HasLaws};
+ghost use Rattle.annotate_snippets.specs.Laws.Forms.{HasLaws};
 ghost use Rattle.annotate_snippets.specs.Forms.{TextsShown};
 ghost use Rattle.annotate_snippets.specs.Settings.{plain_settings};
 ghost use Rattle.program.specs.Stream.{Receives, Told};

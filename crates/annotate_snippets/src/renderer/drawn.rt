@@ -3,7 +3,7 @@ ghost use Rattle.std.specs.Prelude.{◌≡◌, All, None, IfOk, map, string_byte
 ghost use Rattle.std.specs.List.{AllZip};
 ghost use Rattle.annotate_snippets.specs.DrawnReport.{IsShortForm};
 ghost use Rattle.annotate_snippets.specs.Fault as fault;
-ghost use Rattle.annotate_snippets.specs.FormLaws.{IsTextUnder, LawsIn};
+ghost use Rattle.annotate_snippets.specs.Laws.Forms.{IsTextUnder, LawsIn};
 ghost use Rattle.annotate_snippets.specs.Forms.{ShowsForm};
 ghost use Rattle.annotate_snippets.specs.PreparedReport.{IsGroupDrawable};
 ghost use Rattle.annotate_snippets.specs.declared.renderer.form.Form.TheVariants as form;

@@ -2,7 +2,7 @@
 //! in the room that it took, so that memory holds the rows of one group at a time.
 ghost use Rattle.std.specs.Prelude.{◌≡◌, ◌++◌, [], ◌∷◌, All, IfOk, None, string_bytes, if◌then◌else◌};
 ghost use Rattle.annotate_snippets.specs.Fault as spec;
-ghost use Rattle.annotate_snippets.specs.FormLaws.{IsTextUnder};
+ghost use Rattle.annotate_snippets.specs.Laws.Forms.{IsTextUnder};
 ghost use Rattle.annotate_snippets.specs.PreparedReport.{IsGroupDrawable};
 ghost use Rattle.annotate_snippets.specs.declared.renderer.form.Form.TheVariants as form;
 

@@ -4,7 +4,7 @@ ghost use Rattle.std.specs.Prelude.{string_bytes, if◌then◌else◌};
 ghost use Rattle.snippet_model.specs.Fits.{ReportFits};
 ghost use Rattle.annotate_snippets.specs.Fault as spec;
 ghost use Rattle.annotate_snippets.specs.Fault.{IsWithinBounds};
-ghost use Rattle.annotate_snippets.specs.FormLaws.{HasLaws};
+ghost use Rattle.annotate_snippets.specs.Laws.Forms.{HasLaws};
 ghost use Rattle.annotate_snippets.specs.Forms.{ShowsReport};
 ghost use Rattle.annotate_snippets.specs.PreparedReport.{IsGroupDrawable};
 ghost use Rattle.annotate_snippets.specs.Written.{IsStop, IsTextIn, PrintsGrid, ShowsIn, WritesPart, WritesText};

@@ -6,7 +6,7 @@ use Rattle.annotate_snippets.specs.declared.snippet.Group.{Group}
 use Rattle.annotate_snippets.proofs.ReportLemmas.{IfOk-both, IfOk-map_err}
 use Rattle.annotate_snippets.specs.Fault.{first_refusal}
 use Rattle.annotate_snippets.specs.Fits.{ReportFits}
-use Rattle.annotate_snippets.specs.FormLaws.{HasLaws}
+use Rattle.annotate_snippets.specs.Laws.Forms.{HasLaws}
 use Rattle.annotate_snippets.specs.Forms.{ShowsReport}
 use Rattle.snip_run.specs.declared.arguments.SnipCommand.{SnipCommand}
 use Rattle.snip_run.specs.Report.{IsReportFor, RefusesCommand, ShowsCommand}

@@ -3,7 +3,7 @@ use Rattle.std.proofs.lemmas.Result.{IfOk-weaker}
 use Rattle.std.specs.List.{AllZip}
 use Rattle.snippet_model.specs.declared.snippet.Group.{Group}
 use Rattle.annotate_snippets.specs.Fault.{first_refusal, form_of}
-use Rattle.annotate_snippets.specs.FormLaws.{IsTextUnder}
+use Rattle.annotate_snippets.specs.Laws.Forms.{IsTextUnder}
 use Rattle.annotate_snippets.specs.declared.renderer.error.RenderError.{RenderError}
 use Rattle.annotate_snippets.proofs.ReportLemmas.{IfOk-map_err, faultless}
 use Rattle.annotate_snippets.proofs.renderer.Renderer.one_text.Goals as goal

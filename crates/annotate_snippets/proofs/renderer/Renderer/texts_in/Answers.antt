@@ -4,7 +4,7 @@ use Rattle.std.proofs.lemmas.Result.{IfOk-weaker}
 use Rattle.snippet_model.specs.declared.snippet.Group.{Group}
 use Rattle.snippet_style.specs.declared.stylesheet.Stylesheet.{Stylesheet}
 use Rattle.annotate_snippets.specs.Fault.{first_fault, form_of, missing_title, refusal_in}
-use Rattle.annotate_snippets.specs.FormLaws.{IsTextUnder, LawsIn}
+use Rattle.annotate_snippets.specs.Laws.Forms.{IsTextUnder, LawsIn}
 use Rattle.annotate_snippets.specs.Forms.{ShowsForm}
 use Rattle.annotate_snippets.proofs.FaultLemmas.{groups-drawable, titled, unrefused}
 use Rattle.annotate_snippets.proofs.FormsShown.{none-laws, none-shown, one_sheet, one_shown}

@@ -4,7 +4,7 @@ use Rattle.std.proofs.lemmas.List.{map-append, take_all}
 use Rattle.snippet_model.specs.declared.snippet.Group.{Group}
 use Rattle.snippet_model.proofs.ZipLemmas.{AllZip-weaker}
 use Rattle.snippet_style.specs.declared.stylesheet.Stylesheet.{Stylesheet}
-use Rattle.annotate_snippets.specs.FormLaws.{LawsIn}
+use Rattle.annotate_snippets.specs.Laws.Forms.{LawsIn}
 use Rattle.annotate_snippets.specs.declared.renderer.form.Form.TheVariants.{Text}
 use Rattle.annotate_snippets.proofs.ListLemmas.{AllZip-push}
 use Rattle.annotate_snippets.proofs.TextShown.{IsFormText, form-text, text-law, text-shown}

@@ -4,11 +4,13 @@ use Rattle.std.specs.List.{slice_get}
 use Rattle.snippet_model.specs.Trusted.{trusted_texts}
 use Rattle.snippet_model.specs.declared.snippet.Group.{Group}
 use Rattle.snippet_model.specs.declared.snippet.Title.{Title}
-use Rattle.annotate_snippets.specs.Feeds.{HasNoFeed, HasOneLineTexts, page_lines, text_lines}
+use Rattle.annotate_snippets.specs.Laws.Feeds.{HasNoFeed, HasOneLineTexts, page_lines, text_lines}
 use Rattle.annotate_snippets.specs.Gutter.{layout_of_group}
-use Rattle.annotate_snippets.specs.Numbers.{IsNumberedAsLine, IsTitleOfWords, IsUnnumbered}
+use Rattle.annotate_snippets.specs.Laws.Numbers.{IsNumberedAsLine, IsTitleOfWords, IsUnnumbered}
 use Rattle.annotate_snippets.specs.Page.{GroupPage, Page, group_rows, page_links, page_text}
-use Rattle.annotate_snippets.specs.ShownPage.{AreGroupsShown, IsFreeBut, report_links}
+use Rattle.annotate_snippets.specs.Laws.Groups.{AreGroupsShown}
+use Rattle.annotate_snippets.specs.Laws.Free.{IsFreeBut}
+use Rattle.annotate_snippets.specs.ShownPage.{report_links}
 use Rattle.annotate_snippets.specs.declared.renderer.Renderer.{Renderer}
 
 -- a page has the laws of a report's page. It shows each group, in order. Each listed character of it is one of a trusted text. It links to

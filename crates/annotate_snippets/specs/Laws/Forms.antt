@@ -25,18 +25,18 @@ use Rattle.snippet_titles.specs.ShortRows.{short_texts}
 use Rattle.snippet_titles.specs.ShownHeading.{IsFreeButText}
 use Rattle.annotate_snippets.specs.Around.{path_bytes}
 use Rattle.annotate_snippets.specs.AsSet.{IsAsSet, adds_context, wraps}
-use Rattle.annotate_snippets.specs.ContextLaws.{ShowsLinesAround}
+use Rattle.annotate_snippets.specs.Laws.Context.{ShowsLinesAround}
 use Rattle.annotate_snippets.specs.Fault.{form_of}
-use Rattle.annotate_snippets.specs.Feeds.{HasOneLineTexts, page_lines, text_lines}
+use Rattle.annotate_snippets.specs.Laws.Feeds.{HasOneLineTexts, page_lines, text_lines}
 use Rattle.annotate_snippets.specs.Forms.{links_in, plain_in, short_links, ShowsForm, TextsShown}
 use Rattle.annotate_snippets.specs.GraphicForm.{graphic_form}
 use Rattle.annotate_snippets.specs.Gutter.{numbered_source}
 use Rattle.annotate_snippets.specs.Page.{page_text}
-use Rattle.annotate_snippets.specs.PageLaws.{PageLaws}
-use Rattle.annotate_snippets.specs.Rewrapped.{AreRewrapped}
+use Rattle.annotate_snippets.specs.Laws.Page.{PageLaws}
+use Rattle.annotate_snippets.specs.Laws.Wrapped.{AreRewrapped}
 use Rattle.annotate_snippets.specs.RowsWithoutSource.{place_found}
 use Rattle.annotate_snippets.specs.ShortForm.{before_title, after_title, first_cause, short_form}
-use Rattle.annotate_snippets.specs.ShownPage.{IsFreeBut}
+use Rattle.annotate_snippets.specs.Laws.Free.{IsFreeBut}
 use Rattle.annotate_snippets.specs.TextForm.{report_texts, text_form}
 use Rattle.annotate_snippets.specs.declared.renderer.Renderer.{Renderer}
 use Rattle.annotate_snippets.specs.declared.renderer.form.Form.{Form}
