@@ -3,7 +3,7 @@ use Rattle.std.proofs.Common.{◌≡◌, ℕ, ◌+◌, ◌<◌, ◌≤◌, ◌^�
 use Rattle.std.specs.List.{All, Contains, filter, list_all}
 use Rattle.snippet_model.specs.declared.snippet.Annotation.{Annotation}
 use Rattle.snippet_parts.specs.declared.entries.AnnotatedLineInfo.{AnnotatedLineInfo}
-use Rattle.std.proofs.Common.{cond, ◌==◌, ◌||◌, suc, sym, subst, ◌∙◌, get_or, ap, arith, inl, inr, IfSome, [], ◌∷◌}
+use Rattle.std.proofs.Common.{cond, ◌==◌, ◌||◌, sym, subst, ◌∙◌, get_or, ap, arith, inl, inr, IfSome, [], ◌∷◌}
 use Rattle.std.specs.List.{list_any}
 use Rattle.std.proofs.lemmas.Bool.{cases_Bool, cond-true, cond-false, or_parts}
 use Rattle.std.proofs.lemmas.Bool.Decides.{nat_tests}
@@ -22,7 +22,7 @@ use Rattle.snippet_parts.specs.declared.entries.LineAnnotation.{LineAnnotation}
 use Rattle.snippet_parts.specs.declared.entries.LineAnnotationType.{LineAnnotationType}
 use Rattle.snippet_parts.specs.declared.entries.LineAnnotationType.TheVariants.{Singleline, MultilineStart, MultilineEnd, MultilineLine}
 use Rattle.snippet_window.specs.declared.margin.Margin.{Margin}
-use Rattle.snippet_parts.specs.Entries.{Ascends, HasDepthWithin, HasColumnRoom}
+use Rattle.snippet_parts.specs.Entries.{HasDepthWithin, HasColumnRoom}
 use Rattle.snippet_parts.proofs.EntryFacts.{depths-fit, each-line, labels-fit, places-fit, texts-fit, untouched-parts, wide-count}
 use Rattle.snippet_window.proofs.MarginLaws.{margin_of_kept}
 use Rattle.snippet_window.proofs.UncutLaws.{margin_whole}

@@ -1,4 +1,4 @@
-use Rattle.std.proofs.Common.{◌≡◌, ◌∙◌, ap, length}
+use Rattle.std.proofs.Common.{◌∙◌, ap, length}
 use Rattle.std.specs.Cow.{cow_str_bytes}
 use Rattle.snippet_lines.specs.Lines.{source_lines}
 use Rattle.snippet_parts.proofs.TableLemmas.{length-starts_from}
