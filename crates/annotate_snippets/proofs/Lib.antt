@@ -3,6 +3,7 @@ pub mod AsSetFaults
 pub mod AsSetLemmas
 pub mod AsSetSteps
 pub mod Ascending
+pub mod BarBeginnings
 pub mod BarExamples
 pub mod BoundsLaws
 pub mod CauseShown

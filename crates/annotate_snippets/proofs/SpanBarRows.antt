@@ -3,7 +3,7 @@ use Rattle.std.proofs.Common.{◌≡◌, ℕ, zero, suc, ◌+◌, ◌-◌, ◌<�
 use Rattle.std.proofs.Common.{◌⊎◌, fold, map, length, get_or, inl, inr, refl, sym, ap, subst, ◌∙◌, arith}
 use Rattle.std.specs.List.{All, Contains, filter}
 use Rattle.std.specs.Cow.{cow_str_bytes}
-use Rattle.std.proofs.lemmas.Bool.{le-leb, and_from, cases_Bool, cases_eq, cond-false, cond-true, eq-eqb}
+use Rattle.std.proofs.lemmas.Bool.{le-leb, and_from, cases_Bool}
 use Rattle.std.proofs.lemmas.Bool.Decides.{nat_tests}
 use Rattle.std.proofs.lemmas.List.Elements.{All-contains, All-filter, All-head, All-nil, All-tail}
 use Rattle.snippet_model.specs.declared.snippet.Annotation.{Annotation}
@@ -26,17 +26,15 @@ use Rattle.snippet_parts.proofs.EntryFacts.{depth-within}
 use Rattle.snippet_parts.proofs.PartLemmas.{All-unmapped}
 use Rattle.snippet_strokes.specs.Bars.{Bar, HasOwnDepth, bars_apart, ends_of_bars, has_depth}
 use Rattle.snippet_strokes.specs.StrokeRows.{bare_elision_row}
-use Rattle.snippet_strokes.specs.EndBars.{BarBegins, BarEnds, IsNoBar, bar_top, start_corner}
+use Rattle.snippet_strokes.specs.EndBars.{BarBegins, BarEnds, IsNoBar}
 use Rattle.snippet_strokes.proofs.AmongLaws.{all_from_among, among_contains, contains_among}
 use Rattle.snippet_strokes.proofs.EndBarLaws.{bar_ends, elision_stands}
 use Rattle.snippet_strokes.proofs.SnippetLemmas.{highlighted_left}
 use Rattle.snippet_strokes.proofs.CrossedLaws.{line_clear}
-use Rattle.snippet_strokes.proofs.CellLemmas.{above_zero}
 use Rattle.snippet_strokes.proofs.SourceCellLaws.{begins, gap_space, line_source}
 use Rattle.snippet_labels.specs.PlacedEntries.{is_end_part}
 use Rattle.annotate_snippets.specs.declared.renderer.Renderer.{Renderer}
-use Rattle.snippet_grid.specs.Grid.{cell_at}
-use Rattle.snippet_grid.specs.Layout.{Layout, bar_cell}
+use Rattle.snippet_grid.specs.Layout.{Layout}
 use Rattle.annotate_snippets.specs.Gutter.{code_after, number_text}
 use Rattle.annotate_snippets.specs.GraphicForm.{bars_on, entries_on}
 use Rattle.annotate_snippets.proofs.DrawnRows.{AreRowsDrawn, IsRowDrawn, open_after}
@@ -46,6 +44,7 @@ use Rattle.annotate_snippets.specs.Laws.Snippets.{AreRowsOf, IsRowOf}
 use Rattle.annotate_snippets.specs.Laws.Lines.{cells_left}
 use Rattle.annotate_snippets.specs.Laws.Bars.{BarStarts, ShowsBars, bar_beside, bar_cell_of, line_beside}
 use Rattle.annotate_snippets.proofs.Ascending.{IsAscending}
+use Rattle.annotate_snippets.proofs.BarBeginnings.{begins_so}
 use Rattle.annotate_snippets.proofs.DrawnLines.{bar_shown, bars_seen}
 use Rattle.annotate_snippets.proofs.LabelLemmas.{head_same, tail_same}
 use Rattle.annotate_snippets.proofs.SpanOpen.{AreOpen, IsFreeAt, alone, ends_apart, open_apart, end_here, goes_past, longer, no_end, no_start, none_open}
@@ -141,47 +140,6 @@ short_number decor gutter shown row same =
       length-text_cells LineNumber (separator_of decor ∷ []),
       length-replicate (gutter + 1 - length shown) SPACE,
     )
-
--- a bar that begins in one of two ways begins in one of its rows, and the other way round
-begins_so : (layout : Layout) (bar : Bar) (rows : List (List Cell)) → BarBegins layout bar rows → BarStarts layout bar rows
-begins_so layout bar rows (inl beside) =
-    record {
-      at = 0;
-      within = omega (arith, beside.alone);
-      is = beside.top;
-      alone = λ _. beside.alone;
-      source = λ some. absurd (omega (arith, some));
-      beside = λ i below within. absurd (omega (arith, below, within, beside.alone));
-    }
-begins_so layout bar rows (inr below) =
-    record {
-      at = below.corner;
-      within = below.within;
-      is = below.corner_is ∙ sym (cond-false (below.corner == 0) (bar_top layout bar) (start_corner layout bar) (above_zero below.corner below.below));
-      alone = λ none. absurd (omega (arith, none, below.below));
-      source = λ _. below.source;
-      beside = below.beside;
-    }
-
-pub starts_so : (layout : Layout) (bar : Bar) (rows : List (List Cell)) → BarStarts layout bar rows → BarBegins layout bar rows
-starts_so layout bar rows starts =
-    elim (cases_eq starts.at 0) [
-      | inl top ↦ inl (record {
-        alone = starts.alone top;
-        top = ap (λ n. cell_at rows n (bar_cell layout bar.depth)) (sym top) ∙ starts.is
-            ∙ cond-true (starts.at == 0) (bar_top layout bar) (start_corner layout bar) (eq-eqb starts.at 0 top);
-      })
-      | inr some ↦
-          let lower : 0 < starts.at = omega (arith, some) in
-          inr (record {
-            corner = starts.at;
-            below = lower;
-            within = starts.within;
-            corner_is = starts.is ∙ cond-false (starts.at == 0) (bar_top layout bar) (start_corner layout bar) (above_zero starts.at lower);
-            source = starts.source lower;
-            beside = starts.beside;
-          })
-    ]
 
 -- ---- the rows
 
