@@ -2,7 +2,7 @@
 use Rattle.std.proofs.Common.{◌≡◌, ◌∙◌, ℕ, ◌+◌, ◌-◌, ◌<◌, ◌==◌, ◌&&◌, ◌||◌, nat_eq, not, Bool, true, false, List, [], ◌∷◌, ◌++◌, Option, Some, length, map}
 use Rattle.std.proofs.Common.{take, drop, get_or, refl, sym, ap, arith, inl, inr}
 use Rattle.std.specs.List.{list_any, slice_get}
-use Rattle.std.specs.Option.{option_map}
+use Rattle.std.specs.Option.{is_some, option_map}
 use Rattle.std.proofs.lemmas.Bool.{cases_lt}
 use Rattle.std.proofs.lemmas.Bool.Decides.{nat_tests}
 use Rattle.std.proofs.lemmas.List.{drop-map, get_or_append_left, length-drop, length_push, take_all, take_more}
@@ -15,8 +15,12 @@ use Rattle.annotate_snippets.specs.declared.renderer.preprocess.PreparedElement.
 use Rattle.annotate_snippets.specs.declared.renderer.element_context.GroupPosition.{GroupPosition}
 use Rattle.annotate_snippets.specs.declared.renderer.element_context.Next.{Next}
 use Rattle.annotate_snippets.specs.declared.renderer.element_context.ElementContext.{ElementContext}
-use Rattle.annotate_snippets.specs.Around.{first_two_share, has_file, next_of, suggestion_start, context_at}
+use Rattle.annotate_snippets.specs.Around.{context_at, file_of_element, first_two_share, next_of, suggestion_start}
 use Rattle.annotate_snippets.specs.PreparedReport.{AreAround, element_of}
+
+-- whether an element is of a file
+abbrev pub has_file : Element → Bool
+has_file e = is_some (file_of_element e)
 
 -- whether no element before this one is of a file, and whether the one before it and it are suggestions for one file
 abbrev pub primary_before : List Element → ℕ → Bool

@@ -23,7 +23,7 @@ use Rattle.snippet_suggest.specs.PreparedSuggestion.{IsSuggestible}
 use Rattle.snippet_suggest.proofs.PreparedLemmas.{last-fits}
 use Rattle.annotate_snippets.specs.Around.{drawn_elements, is_drawn}
 use Rattle.annotate_snippets.specs.DrawnReport.{HasRoomFor}
-use Rattle.annotate_snippets.specs.Gutter.{code_after, depth_of_element, depth_of_group, layout_of_group, greatest_wanted, gutter_of_report, width_wanted}
+use Rattle.annotate_snippets.specs.Gutter.{code_after, depth_of_element, depth_of_group, layout_of_group, gutter_of_report, width_wanted}
 use Rattle.annotate_snippets.specs.PreparedReport.{IsElementDrawable, IsGroupDrawable}
 use Rattle.annotate_snippets.specs.declared.renderer.Renderer.{Renderer}
 use Rattle.annotate_snippets.proofs.GutterLemmas.{counted-small}
@@ -113,7 +113,7 @@ gutter-small r groups drawable =
     let Low : Element → Type 0 = λ e. width_wanted e ≤ 20 in
     let each : All (λ (g : Group). All Low g.elements.items) groups = All-weaker IsGroupDrawable (λ (g : Group). All Low g.elements.items) (λ g can.
     All-weaker IsElementDrawable Low wanted-low g.elements.items can.1) groups drawable in
-    cond_both r.anonymized_snippet_line_numbers 2 (greatest_wanted (flat_map elements_of groups)) (λ n. n ≤ 20) (λ _. omega arith) (λ _.
+    cond_both r.anonymized_snippet_line_numbers 2 (fold (greater width_wanted) 0 (flat_map elements_of groups)) (λ n. n ≤ 20) (λ _. omega arith) (λ _.
     widest-low width_wanted 0 20 (flat_map elements_of groups) (omega arith) (all_elements Low groups each))
 
 -- ---- and the layout has room
@@ -133,7 +133,7 @@ code-monotone gutter depth more low = by (depth == 0) (more == 0) refl refl
 pub room_in_report : (r : Renderer) (groups : List Group) → All IsGroupDrawable groups → (i : ℕ) (g : Group) → slice_get groups i ≡ Some g
     → All (HasRoomFor r (layout_of_group r groups g)) (drawn_elements g)
 room_in_report r groups drawable i g is =
-    let widest : ℕ = greatest_wanted (flat_map elements_of groups) in
+    let widest : ℕ = fold (greater width_wanted) 0 (flat_map elements_of groups) in
     let each : All (λ e. width_wanted e ≤ widest) g.elements.items = widest-group width_wanted 0 groups i g is in
     let deep : All (λ e. depth_of_element e ≤ depth_of_group g) g.elements.items = widest-each depth_of_element 0 g.elements.items in
     All-filter is_drawn (HasRoomFor r (layout_of_group r groups g)) g.elements.items (λ k d within. record {

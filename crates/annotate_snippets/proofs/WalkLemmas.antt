@@ -9,7 +9,7 @@ use Rattle.snippet_model.specs.declared.snippet.Annotation.{Annotation}
 use Rattle.snippet_model.specs.declared.snippet.Origin.{Origin as PlaceGiven}
 use Rattle.snippet_model.specs.declared.snippet.Snippet.{Snippet}
 use Rattle.snippet_model.specs.declared.snippet.Group.{Group}
-use Rattle.annotate_snippets.specs.Around.{file_of_element, primary_path, report_path}
+use Rattle.annotate_snippets.specs.Around.{file_of_element, primary_path}
 
 -- what the rest of a list gives, one item on
 pub filter_map-rest : {X Y : Type 0} (h : X → Option Y) (xs : List X) (i : ℕ) (x : X) → i < length xs → x ≡ get_or xs i x
@@ -59,6 +59,6 @@ no_file (Padding p) cause origin = refl
 
 -- the path of a report's primary file
 pub report_path-first : (gs : List Group) (i : ℕ) (g : Group) (path : List ℕ) → filter_map primary_path gs ≡ filter_map primary_path (drop i gs) → i < length gs
-    → g ≡ get_or gs i g → primary_path g ≡ Some path → Some path ≡ report_path gs
+    → g ≡ get_or gs i g → primary_path g ≡ Some path → Some path ≡ slice_get (filter_map primary_path gs) 0
 report_path-first gs i g path none within is some =
     sym (filter_map-first primary_path gs i g path none within is some)

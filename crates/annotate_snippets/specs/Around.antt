@@ -23,11 +23,8 @@ use Rattle.annotate_snippets.specs.declared.renderer.element_context.ElementCont
 
 -- whether an element is drawn: a snippet of patches without patches is left out, as if it weren't there
 abbrev pub is_drawn : Element → Bool
-is_drawn (Message message) = true
-is_drawn (Cause snippet) = true
 is_drawn (Suggestion snippet) = not (length snippet.markers.items == 0)
-is_drawn (Origin origin) = true
-is_drawn (Padding padding) = true
+is_drawn other = true
 
 -- the elements of a group that are drawn, in order
 abbrev pub drawn_elements : Group → List Element
@@ -36,10 +33,7 @@ drawn_elements g = filter is_drawn g.elements.items
 -- whether an element is a message
 abbrev pub is_message : Element → Bool
 is_message (Message message) = true
-is_message (Cause snippet) = false
-is_message (Suggestion snippet) = false
-is_message (Origin origin) = false
-is_message (Padding padding) = false
+is_message other = false
 
 -- the bytes of a path, if there is one
 abbrev pub path_bytes : Option (CowStr Global) → Option (List ℕ)
@@ -47,39 +41,25 @@ path_bytes path = option_map cow_str_bytes path
 
 -- whether two paths are the same, as they are given; so are two that are missing
 abbrev pub is_same_file : Option (List ℕ) → Option (List ℕ) → Bool
-is_same_file None None = true
-is_same_file None (Some other) = false
-is_same_file (Some path) None = false
 is_same_file (Some path) (Some other) = bytes_eq path other
+is_same_file None None = true
+is_same_file path other = false
 
 -- the file that an element is of: that of an annotated snippet, which may have no path, or of an origin; other elements are of
 -- none
 abbrev pub file_of_element : Element → Option (Option (List ℕ))
-file_of_element (Message message) = None
 file_of_element (Cause snippet) = Some (path_bytes snippet.path)
-file_of_element (Suggestion snippet) = None
 file_of_element (Origin origin) = Some (Some (cow_str_bytes origin.path))
-file_of_element (Padding padding) = None
-
--- whether it is of a file
-abbrev pub has_file : Element → Bool
-has_file (Message message) = false
-has_file (Cause snippet) = true
-has_file (Suggestion snippet) = false
-has_file (Origin origin) = true
-has_file (Padding padding) = false
+file_of_element other = None
 
 -- the path of a group's primary file: that of the first element that is of a file, if it has one
 abbrev pub primary_path : Group → Option (List ℕ)
 primary_path g = option_flatten (slice_get (filter_map file_of_element g.elements.items) 0)
 
--- that of a report: the first that a group has
-abbrev pub report_path : List Group → Option (List ℕ)
-report_path groups = slice_get (filter_map primary_path groups) 0
-
--- the file that a group's suggestions are for where they name no other: its primary file, or else the report's
+-- the file that a group's suggestions are for where they name no other: its primary file, or else the report's, which is the first that a
+-- group has
 abbrev pub file_of_group : List Group → Group → Option (List ℕ)
-file_of_group groups g = option_or (primary_path g) (report_path groups)
+file_of_group groups g = option_or (primary_path g) (slice_get (filter_map primary_path groups) 0)
 
 -- whether two elements are suggestions for one file
 abbrev pub share_file : Element → Element → Bool
@@ -88,14 +68,12 @@ share_file e other = false
 
 -- whether the first two of some elements are such
 abbrev pub first_two_share : List Element → Bool
-first_two_share [] = false
-first_two_share (e ∷ []) = false
 first_two_share (e ∷ d ∷ es) = share_file e d
+first_two_share es = false
 
 -- whether a path is there and is another than this file's
 abbrev pub is_other_file : Option (List ℕ) → Option (List ℕ) → Bool
-is_other_file file None = false
-is_other_file file (Some path) = not (is_same_file file (Some path))
+is_other_file file path = is_some path && not (is_same_file file path)
 
 -- how a suggestion begins: in the last row of a suggestion for the same file right before it, or below its path where that is
 -- another than the group's file, or else in a row of its own, as any other element
@@ -115,7 +93,7 @@ context_at place file es i e =
     record {
       place = place;
       first = i == 0;
-      primary = not (list_any has_file (take i es));
+      primary = not (list_any (λ d. is_some (file_of_element d)) (take i es));
       start = suggestion_start file (not (i == 0) && first_two_share (drop (i - 1) es)) e;
       shared = first_two_share (drop i es);
       next = next_of (drop (i + 1) es);
@@ -127,25 +105,21 @@ position_of_group count i = if count == 1 then place.Only else (if i == 0 then p
 
 -- whether a group is its report's first, and whether it is the first of several
 abbrev pub is_first_group : GroupPosition → Bool
-is_first_group place.Only = true
-is_first_group place.First = true
 is_first_group place.Later = false
+is_first_group position = true
 
 abbrev pub is_first_of_several : GroupPosition → Bool
-is_first_of_several place.Only = false
 is_first_of_several place.First = true
-is_first_of_several place.Later = false
+is_first_of_several position = false
 
 -- whether nothing follows, and whether a message does
 abbrev pub is_end : Next → Bool
 is_end next.Nothing = true
-is_end next.Message = false
-is_end next.Other = false
+is_end follows = false
 
 abbrev pub is_before_message : Next → Bool
-is_before_message next.Nothing = false
 is_before_message next.Message = true
-is_before_message next.Other = false
+is_before_message follows = false
 
 -- whether the group's window closes with the last row of an element's lines; and whether it closes after its rows, since
 -- another group follows, below which it doesn't go on
@@ -163,9 +137,8 @@ suggestion_rows around s =
 
 -- whether an element begins in the last row of the one before it
 abbrev pub is_next_start : SuggestionStart → Bool
-is_next_start start.Opening = false
 is_next_start start.Next = true
-is_next_start start.Path = false
+is_next_start begin = false
 
 -- the same, of what stands around it
 abbrev pub begins_in_row_above : ElementContext → Bool

@@ -74,12 +74,8 @@ suggestion_layout r layout s =
 
 -- the row that an element ends with, before a further one or not, in which a suggestion after it may begin: a suggestion has one
 abbrev pub last_row : Renderer → Layout → Bool → Option Element → List Cell
-last_row r layout follows None = []
-last_row r layout follows (Some (Message message)) = []
-last_row r layout follows (Some (Cause snippet)) = []
 last_row r layout follows (Some (Suggestion snippet)) = row_cells (suggestion_layout r layout snippet) snippet [] (Ends follows)
-last_row r layout follows (Some (Origin origin)) = []
-last_row r layout follows (Some (Padding padding)) = []
+last_row r layout follows other = []
 
 -- what element i of a group finds in the row that the one before it ends with, if it begins there
 abbrev pub found_at : Renderer → Layout → List Element → ℕ → List Cell

@@ -122,19 +122,15 @@ snippet_rows r layout around s =
 
 -- what the row of a suggestion is named by
 abbrev pub name_of_row : Snippet Patch → SuggestionRow → RowName
-name_of_row s (Begins start) = Other
 name_of_row s (Offers k) = OfferedLine (first_given s + k)
-name_of_row s Skips = Other
 name_of_row s (Removes i number text) = RemovedLine i
-name_of_row s Empty = Other
-name_of_row s (Ends follows) = Other
+name_of_row s other = Other
 
 -- rows of a suggestion with their names
 abbrev pub named_rows : Snippet Patch → List SuggestionRow → List (List Cell) → List NamedRow
-named_rows s [] rows = []
-named_rows s (shows ∷ shown) [] = []
 named_rows s (shows ∷ shown) (row ∷ rows) =
     record { name = name_of_row s shows; cells = row } ∷ named_rows s shown rows
+named_rows s shown rows = []
 
 -- the rows of a suggestion: that of its path, where it names that, and those of its lines, where this stands in the row in which the
 -- element before ends

@@ -22,27 +22,17 @@ use Rattle.annotate_snippets.specs.declared.renderer.Renderer.{Renderer}
 abbrev pub gutter_of : Snippet Annotation → ℕ
 gutter_of s = if s.line_numbering then length (decimal (counted_number s)) else 0
 
--- the width that a suggestion wants: the same of the number that it counts; one without patches isn't there
-abbrev pub gutter_of_suggestion : Snippet Patch → ℕ
-gutter_of_suggestion s =
-    if s.line_numbering && not (length s.markers.items == 0) then length (decimal (counted_line s)) else 0
 
--- the width that an element wants
+-- the width that an element wants: a suggestion that of the number that it counts; one without patches isn't there
 abbrev pub width_wanted : Element → ℕ
-width_wanted (Cause snippet) = gutter_of snippet
-width_wanted (Suggestion snippet) = gutter_of_suggestion snippet
-width_wanted (Message message) = 0
-width_wanted (Origin origin) = 0
-width_wanted (Padding padding) = 0
+width_wanted (Cause s) = gutter_of s
+width_wanted (Suggestion s) = if s.line_numbering && not (length s.markers.items == 0) then length (decimal (counted_line s)) else 0
+width_wanted other = 0
 
--- the greatest width that one of some elements wants
-abbrev pub greatest_wanted : List Element → ℕ
-greatest_wanted es = fold (λ gutter e. max (width_wanted e) gutter) 0 es
-
--- the width of a report's gutter: the greatest that is wanted, or that of `LL` where it stands in place of all numbers
+-- the width of a report's gutter: the greatest that an element wants, or that of `LL` where it stands in place of all numbers
 abbrev pub gutter_of_report : Renderer → List Group → ℕ
 gutter_of_report r groups =
-    if r.anonymized_snippet_line_numbers then 2 else greatest_wanted (flat_map (λ g. g.elements.items) groups)
+    if r.anonymized_snippet_line_numbers then 2 else fold (λ gutter e. max (width_wanted e) gutter) 0 (flat_map (λ g. g.elements.items) groups)
 
 -- what the gutter shows beside the lines of a snippet: their numbers, `LL`, or nothing where they aren't numbered
 abbrev pub line_numbers : Renderer → Bool → LineNumbers
@@ -56,10 +46,7 @@ number_text r numbered gutter number = shown_number (line_numbers r numbered) gu
 -- how many bars stand side by side left of an element's code: the greatest depth of its spans of several lines
 abbrev pub depth_of_element : Element → ℕ
 depth_of_element (Cause snippet) = deepest (numbered_source snippet) snippet.markers.items
-depth_of_element (Suggestion snippet) = 0
-depth_of_element (Message message) = 0
-depth_of_element (Origin origin) = 0
-depth_of_element (Padding padding) = 0
+depth_of_element other = 0
 
 -- the greatest number of those of a group's elements
 abbrev pub depth_of_group : Group → ℕ

@@ -7,8 +7,10 @@
 //!   |     ^
 //! ```
 ghost use Rattle.std.specs.Prelude.{◌≡◌, ◌+◌, ◌<◌, ◌≤◌, ◌^◌, [], All, IfOk, Some, length, slice_get, string_bytes};
+ghost use Rattle.std.specs.List.{filter_map};
 ghost use Rattle.std.specs.Option.{option_copied};
-ghost use Rattle.annotate_snippets.specs.Around.{file_of_group, position_of_group, report_path};
+ghost use Rattle.annotate_snippets.specs.Around as spec;
+ghost use Rattle.annotate_snippets.specs.Around.{file_of_group, position_of_group};
 ghost use Rattle.annotate_snippets.specs.DrawnReport.{AreGridsOf, HasRoomFor, IsGridAt, IsGroupGrid};
 ghost use Rattle.annotate_snippets.specs.Gutter.{gutter_of_report, layout_of_group};
 ghost use Rattle.annotate_snippets.specs.Page.{PrintsGrids};
@@ -66,7 +68,8 @@ pub fn draw_at<'a>(
     requires here { slice_get report.now.groups.now number ≡ Some group.group.now }
     requires gutter { report.now.gutter ≡ gutter_of_report renderer.now report.now.groups.now }
     requires small { report.now.gutter ≤ 20 }
-    requires file { option_copied report.now.file ≡ report_path report.now.groups.now }
+    requires file { option_copied report.now.file
+        ≡ slice_get (filter_map spec.primary_path report.now.groups.now) 0 }
     ensures level { IfOk result (λ grid. grid.level ≡ group.entry.group.now.level) }
     ensures drawn { IfOk result (λ grid. IsGridAt renderer.now report.now.groups.now number
         group.entry.group.now grid) }
@@ -85,7 +88,8 @@ pub fn group_context<'r>(
     requires prepared { IsGroupPrepared group.now }
     requires gutter { report.now.gutter ≡ gutter_of_report renderer.now report.now.groups.now }
     requires small { report.now.gutter ≤ 20 }
-    requires file { option_copied report.now.file ≡ report_path report.now.groups.now }
+    requires file { option_copied report.now.file
+        ≡ slice_get (filter_map spec.primary_path report.now.groups.now) 0 }
     ensures layout { result.layout ≡ layout_of_group renderer.now report.now.groups.now group.now.group.now }
     ensures place { result.place ≡ position_of_group (length report.now.groups.now) number }
     ensures file { option_copied result.file ≡ file_of_group report.now.groups.now group.now.group.now }

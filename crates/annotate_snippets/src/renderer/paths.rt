@@ -1,8 +1,9 @@
 //! The files that elements, groups and reports are of.
 ghost use Rattle.std.specs.Prelude.{◌≡◌};
+ghost use Rattle.std.specs.List.{filter_map, slice_get};
 ghost use Rattle.std.specs.Option.{option_copied};
 ghost use Rattle.annotate_snippets.specs.Around as spec;
-ghost use Rattle.annotate_snippets.specs.Around.{path_bytes, report_path};
+ghost use Rattle.annotate_snippets.specs.Around.{path_bytes};
 
 use snippet_model::snippet::{Element, Group, Patch, Snippet};
 use snippet_text::CowStr;
@@ -51,7 +52,7 @@ pub fn primary_path<'r>(group: &'r Group<'_>) -> Option<&'r str>
 
 /// The path of a report's primary file: the first that a group has.
 pub fn report_file<'r>(groups: &'r [Group<'_>]) -> Option<&'r str>
-    ensures value { option_copied result ≡ report_path groups.now }
+    ensures value { option_copied result ≡ slice_get (filter_map spec.primary_path groups.now) 0 }
 {
     for group in groups {
         if let Some(path) = primary_path(group) {

@@ -1,6 +1,7 @@
 //! What is known of a report before any row is drawn: the lines of each source, the entries on them, the patched texts.
 //! Each is found once, and the gutter's width needs them all.
 ghost use Rattle.std.specs.Prelude.{◌≡◌, ◌∷◌, ◌++◌, [], All, IfOk, OnOk, filter, map};
+ghost use Rattle.std.specs.Option.{is_some};
 ghost use Rattle.annotate_snippets.specs.Around as spec;
 ghost use Rattle.annotate_snippets.specs.Around.{is_drawn, share_file};
 ghost use Rattle.annotate_snippets.specs.Gutter.{depth_of_group};
@@ -58,7 +59,7 @@ pub struct PreparedCause<'a> {
 impl<'a> PreparedElement<'a> {
     /// Whether it is of a file: an annotated snippet, with a path or without, or an origin.
     pub fn has_file(&self) -> bool
-        ensures value { result ≡ spec.has_file (element_of self.now) }
+        ensures value { result ≡ is_some (spec.file_of_element (element_of self.now)) }
     {
         matches!(self, PreparedElement::Cause(_) | PreparedElement::Origin(_))
     }

@@ -4,7 +4,7 @@ use Rattle.std.proofs.lemmas.List.{take_all}
 use Rattle.std.proofs.lemmas.List.Elements.{All-same}
 use Rattle.std.proofs.lemmas.List.Folds.{flat_map-map}
 use Rattle.snippet_model.specs.declared.snippet.Group.{Group}
-use Rattle.annotate_snippets.specs.Gutter.{greatest_wanted, width_wanted}
+use Rattle.annotate_snippets.specs.Gutter.{width_wanted}
 use Rattle.annotate_snippets.specs.PreparedReport.{IsElementPrepared, IsGroupPrepared}
 use Rattle.annotate_snippets.specs.declared.renderer.preprocess.PreparedGroup.{PreparedGroup}
 use Rattle.annotate_snippets.proofs.WidestLemmas.{elements_in, greater, widest-more_groups, widest-prepared, width-undrawn}
@@ -39,5 +39,5 @@ returns-clause-value c =
     let all : c.loop-group.gutter ≡ fold (greater width_wanted) 0 (flat_map elements_in ps) = c.loop-group.invariant.value
     ∙ ap (λ (qs : List PreparedGroup). fold (greater width_wanted) 0 (flat_map elements_in qs))
     (take_all c.loop-group.group-index ps c.loop-group-test.false) in
-    all ∙ sym (ap (λ b. cond b 2 (greatest_wanted (flat_map (λ (g : Group). g.elements.items) gs))) c.if-renderer.false
+    all ∙ sym (ap (λ b. cond b 2 (fold (greater width_wanted) 0 (flat_map (λ (g : Group). g.elements.items) gs))) c.if-renderer.false
     ∙ ap (fold (greater width_wanted) 0) (flat_map-map (λ (g : Group). g.elements.items) (λ (p : PreparedGroup). p.group.now) ps))
