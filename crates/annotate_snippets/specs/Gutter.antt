@@ -22,7 +22,6 @@ use Rattle.annotate_snippets.specs.declared.renderer.Renderer.{Renderer}
 abbrev pub gutter_of : Snippet Annotation → ℕ
 gutter_of s = if s.line_numbering then length (decimal (counted_number s)) else 0
 
-
 -- the width that an element wants: a suggestion that of the number that it counts; one without patches isn't there
 abbrev pub width_wanted : Element → ℕ
 width_wanted (Cause s) = gutter_of s
