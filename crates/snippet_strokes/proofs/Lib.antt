@@ -30,7 +30,6 @@ pub mod LineFacts
 pub mod LineFromValue
 pub mod LineExamples
 pub mod LineLemmas
-pub mod LineRowLaws
 pub mod LineRowLemmas
 pub mod LineValueLaws
 pub mod LowerWrites

@@ -6,7 +6,7 @@ use Rattle.snippet_style.specs.declared.role.ElementStyle.{ElementStyle}
 use Rattle.snippet_strokes.specs.Writes.{Write, glyph_at, painted, stretch_of}
 use Rattle.snippet_style.specs.Glyphs.{strokes_of}
 use Rattle.snippet_parts.specs.declared.entries.LineAnnotationType.{LineAnnotationType}
-use Rattle.snippet_parts.specs.declared.entries.LineAnnotationType.TheVariants.{Singleline, MultilineStart, MultilineEnd, MultilineLine}
+use Rattle.snippet_parts.specs.declared.entries.LineAnnotationType.TheVariants.{MultilineStart, MultilineEnd}
 use Rattle.snippet_model.specs.AnnotationKind.{is_primary}
 use Rattle.snippet_grid.specs.Layout.{Layout, bar_cell, code_cell, inner_cell}
 use Rattle.snippet_labels.specs.declared.positions.PlacedEntry.{PlacedEntry}
@@ -69,10 +69,9 @@ line_to layout row e depth =
 
 -- the line to the bar of an entry that stands for this part of a span: a start or an end has one
 abbrev pub connector_by : Layout → ℕ → PlacedEntry → LineAnnotationType → List Write
-connector_by layout row e Singleline = []
 connector_by layout row e (MultilineStart depth) = line_to layout row e depth
 connector_by layout row e (MultilineEnd depth) = line_to layout row e depth
-connector_by layout row e (MultilineLine depth) = []
+connector_by layout row e other = []
 
 -- the line to the bar of an entry
 abbrev pub connector_of : Layout → ℕ → PlacedEntry → List Write
@@ -93,27 +92,19 @@ abbrev pub bar_writes : Layout → PlacedEntry → ℕ → ℕ → ℕ → List 
 bar_writes layout e depth start end =
     column_of start end (bar_cell layout depth) (strokes_of layout.decor (is_primary e.entry.kind)).bar (stroke_role e)
 
--- the top of a start's bar: the corner in the row of its position, and the bar in all rows below it, of which there are `count`
--- in all; the line's source row is `row`
-abbrev pub top_of : Layout → ℕ → ℕ → PlacedEntry → ℕ → List Write
-top_of layout row count e depth =
+-- the bar of an entry that stands for this part of a span, with its corner in the row of the entry's position; the line's source row is
+-- `row`. That of a start goes on in all rows below, of which there are `count` in all; that of an end stands in all from the source row
+-- down to it. No other part has one
+abbrev pub corner_by : Layout → ℕ → ℕ → PlacedEntry → LineAnnotationType → List Write
+corner_by layout row count e (MultilineStart depth) =
     let corner = row + 1 + e.position in
     glyph_at corner (bar_cell layout depth) (strokes_of layout.decor (is_primary e.entry.kind)).bar_top (stroke_role e) ∷ bar_writes layout e depth
     (corner + 1) count
-
--- the bottom of an end's bar: the bar in all rows from the source row down to that of its position, and the corner there
-abbrev pub bottom_of : Layout → ℕ → PlacedEntry → ℕ → List Write
-bottom_of layout row e depth =
+corner_by layout row count e (MultilineEnd depth) =
     let corner = row + 1 + e.position in
     bar_writes layout e depth row corner ++ glyph_at corner (bar_cell layout depth) (strokes_of layout.decor (is_primary e.entry.kind)).bar_bottom
     (stroke_role e) ∷ []
-
--- the bar of an entry that stands for this part of a span: a start or an end has one
-abbrev pub corner_by : Layout → ℕ → ℕ → PlacedEntry → LineAnnotationType → List Write
-corner_by layout row count e Singleline = []
-corner_by layout row count e (MultilineStart depth) = top_of layout row count e depth
-corner_by layout row count e (MultilineEnd depth) = bottom_of layout row e depth
-corner_by layout row count e (MultilineLine depth) = []
+corner_by layout row count e other = []
 
 -- the bar of an entry, with its corner
 abbrev pub corner_of : Layout → ℕ → ℕ → PlacedEntry → List Write
