@@ -5,7 +5,7 @@ use Rattle.std.specs.Char.{is_whitespace}
 use Rattle.std.specs.List.{filter_map, list_all, list_any}
 use Rattle.snippet_parts.specs.declared.entries.LineAnnotation.{LineAnnotation}
 use Rattle.snippet_parts.specs.declared.entries.LineAnnotationType.{LineAnnotationType}
-use Rattle.snippet_parts.specs.declared.entries.LineAnnotationType.TheVariants.{Singleline, MultilineStart, MultilineEnd, MultilineLine}
+use Rattle.snippet_parts.specs.declared.entries.LineAnnotationType.TheVariants.{MultilineStart, MultilineEnd}
 use Rattle.snippet_parts.specs.Entries.{is_bar}
 use Rattle.snippet_style.specs.Glyphs.{strokes_of, underline_role}
 use Rattle.snippet_style.specs.Cell.{Cell, SPACE, unlinked_cell, written}
@@ -23,10 +23,9 @@ Bar = OpenBar
 
 -- the bar that the start or the end of a span of several lines opens or closes
 abbrev pub bar_at : LineAnnotationType → Bool → Option OpenBar
-bar_at Singleline primary = None
 bar_at (MultilineStart depth) primary = Some (record { depth = depth; primary = primary })
 bar_at (MultilineEnd depth) primary = Some (record { depth = depth; primary = primary })
-bar_at (MultilineLine depth) primary = None
+bar_at other primary = None
 
 -- the bar that an entry opens or closes
 abbrev pub bar_of : LineAnnotation → Option OpenBar

@@ -1,12 +1,12 @@
 -- What is written for the strokes of a line, as lists of writes: its labels, its stems, the lines that lead to bars, the bars of
 -- the spans that begin or end on it, and all of them, over which its marks are painted.
-use Rattle.std.specs.Prelude.{ℕ, ◌+◌, ◌-◌, ◌≡◌, List, [], ◌∷◌, map, if◌then◌else◌, ◌==◌, ◌&&◌, nat_le, Bool, false, ◌++◌, length, replicate, drop, take}
+use Rattle.std.specs.Prelude.{ℕ, ◌+◌, ◌-◌, List, [], ◌∷◌, map, if◌then◌else◌, ◌==◌, ◌&&◌, nat_le, Bool, false, ◌++◌, replicate, drop, take}
 use Rattle.std.specs.List.{range_with_len, flat_map}
 use Rattle.snippet_style.specs.declared.role.ElementStyle.{ElementStyle}
 use Rattle.snippet_strokes.specs.Writes.{Write, glyph_at, painted, stretch_of}
 use Rattle.snippet_style.specs.Glyphs.{strokes_of}
 use Rattle.snippet_parts.specs.declared.entries.LineAnnotationType.{LineAnnotationType}
-use Rattle.snippet_parts.specs.declared.entries.LineAnnotationType.TheVariants.{Singleline, MultilineStart, MultilineEnd, MultilineLine}
+use Rattle.snippet_parts.specs.declared.entries.LineAnnotationType.TheVariants.{MultilineStart, MultilineEnd}
 use Rattle.snippet_model.specs.AnnotationKind.{is_primary}
 use Rattle.snippet_grid.specs.Layout.{Layout, bar_cell, code_cell, inner_cell}
 use Rattle.snippet_labels.specs.declared.positions.PlacedEntry.{PlacedEntry}
@@ -16,7 +16,7 @@ use Rattle.snippet_style.specs.Cell.{Cell}
 use Rattle.snippet_style.specs.Separators.{separator_row}
 use Rattle.snippet_strokes.specs.Drawing.{foot_glyph, row_count}
 use Rattle.snippet_strokes.specs.Painting.{painting_order, marks_of, stroke_role}
-use Rattle.snippet_labels.specs.Positions.{ArePlaced, has_label, has_stem, label_place, placed_of}
+use Rattle.snippet_labels.specs.Positions.{has_label, has_stem, label_place, placed_of}
 use Rattle.snippet_strokes.specs.Cuts.{cut_row, cuts_of, overlapped}
 use Rattle.snippet_strokes.specs.SourceRows.{bare_row}
 
@@ -69,10 +69,9 @@ line_to layout row e depth =
 
 -- the line to the bar of an entry that stands for this part of a span: a start or an end has one
 abbrev pub connector_by : Layout → ℕ → PlacedEntry → LineAnnotationType → List Write
-connector_by layout row e Singleline = []
 connector_by layout row e (MultilineStart depth) = line_to layout row e depth
 connector_by layout row e (MultilineEnd depth) = line_to layout row e depth
-connector_by layout row e (MultilineLine depth) = []
+connector_by layout row e other = []
 
 -- the line to the bar of an entry
 abbrev pub connector_of : Layout → ℕ → PlacedEntry → List Write
@@ -93,27 +92,19 @@ abbrev pub bar_writes : Layout → PlacedEntry → ℕ → ℕ → ℕ → List 
 bar_writes layout e depth start end =
     column_of start end (bar_cell layout depth) (strokes_of layout.decor (is_primary e.entry.kind)).bar (stroke_role e)
 
--- the top of a start's bar: the corner in the row of its position, and the bar in all rows below it, of which there are `count`
--- in all; the line's source row is `row`
-abbrev pub top_of : Layout → ℕ → ℕ → PlacedEntry → ℕ → List Write
-top_of layout row count e depth =
+-- the bar of an entry that stands for this part of a span, with its corner in the row of the entry's position; the line's source row is
+-- `row`. That of a start goes on in all rows below, of which there are `count` in all; that of an end stands in all from the source row
+-- down to it. No other part has one
+abbrev pub corner_by : Layout → ℕ → ℕ → PlacedEntry → LineAnnotationType → List Write
+corner_by layout row count e (MultilineStart depth) =
     let corner = row + 1 + e.position in
     glyph_at corner (bar_cell layout depth) (strokes_of layout.decor (is_primary e.entry.kind)).bar_top (stroke_role e) ∷ bar_writes layout e depth
     (corner + 1) count
-
--- the bottom of an end's bar: the bar in all rows from the source row down to that of its position, and the corner there
-abbrev pub bottom_of : Layout → ℕ → PlacedEntry → ℕ → List Write
-bottom_of layout row e depth =
+corner_by layout row count e (MultilineEnd depth) =
     let corner = row + 1 + e.position in
     bar_writes layout e depth row corner ++ glyph_at corner (bar_cell layout depth) (strokes_of layout.decor (is_primary e.entry.kind)).bar_bottom
     (stroke_role e) ∷ []
-
--- the bar of an entry that stands for this part of a span: a start or an end has one
-abbrev pub corner_by : Layout → ℕ → ℕ → PlacedEntry → LineAnnotationType → List Write
-corner_by layout row count e Singleline = []
-corner_by layout row count e (MultilineStart depth) = top_of layout row count e depth
-corner_by layout row count e (MultilineEnd depth) = bottom_of layout row e depth
-corner_by layout row count e (MultilineLine depth) = []
+corner_by layout row count e other = []
 
 -- the bar of an entry, with its corner
 abbrev pub corner_of : Layout → ℕ → ℕ → PlacedEntry → List Write
@@ -152,25 +143,3 @@ stroke_rows layout room closes es source =
     let whole = painted (line_strokes layout 0 (count + 1) placed order) (begun_rows layout closes count source) in
     let cuts = cuts_of layout room order (overlapped placed) in
     map (cut_row layout.decor cuts) (take 2 whole) ++ drop 2 whole
-
--- what is known of rows that are those, whatever the placed entries hold their labels in: as many as the entries ask for, and over them
--- all strokes. The entries are placed from right to left, and their marks painted in the order of painting. Of the first two rows, the
--- source row and that of the marks, stretches are cut where entries are wide
-pub record StrokesPainted (layout : Layout) (room : ℕ) (closes : Bool) (es : List LineAnnotation) (source : List Cell) (rows : List (List Cell)) : Type 0 where
-  pub placed : List PlacedEntry
-  pub are : ArePlaced es placed
-  pub top : List Cell
-  pub marks : List Cell
-  pub lower : List (List Cell)
-  pub painted_are : top ∷ marks ∷ lower ≡ painted (line_strokes layout 0 (row_count placed + 1) placed (painting_order placed))
-      (begun_rows layout closes (row_count placed) source)
-  pub rows_are : rows ≡ (let cuts = cuts_of layout room (painting_order placed)
-      (overlapped placed) in cut_row layout.decor cuts top ∷ cut_row layout.decor cuts marks ∷ lower)
-  pub count : length rows ≡ row_count placed + 1
-
--- the strokes of a line were drawn below its source row, which is the last row that is there, and beside it
-pub record AddsPainted (layout : Layout) (room : ℕ) (closes : Bool) (es : List LineAnnotation) (above : List (List Cell)) (source : List Cell)
-    (new : List (List Cell)) : Type 0 where
-  pub rows : List (List Cell)
-  pub added : new ≡ above ++ rows
-  pub painted_are : StrokesPainted layout room closes es source rows
