@@ -13,16 +13,16 @@ use Rattle.snippet_text.specs.Normalized.{has_control_picture, is_bidirectional_
 use Rattle.snippet_model.specs.declared.snippet.Annotation.{Annotation}
 use Rattle.snippet_model.specs.declared.snippet.Origin as origin
 use Rattle.snippet_model.specs.declared.snippet.Snippet.{Snippet}
-use Rattle.snippet_titles.specs.Origin.{file_glyph, file_row, origin_row, origin_text, padding_row, place_text, snippet_head}
+use Rattle.snippet_titles.specs.Origin.{file_glyph, file_row, line_text, origin_row, origin_text, padding_row, snippet_head}
 use Rattle.snippet_titles.specs.declared.origin.FileStart.{FileStart}
 use Rattle.snippet_titles.specs.declared.origin.FileStart.TheVariants.{Alone, First, Later, Secondary}
 use Rattle.snippet_titles.specs.declared.origin.OriginLayout.{OriginLayout}
 use Rattle.snippet_titles.specs.declared.origin.OriginLocation.{OriginLocation}
 use Rattle.snippet_titles.proofs.DigitLemmas.{IsDigit}
-use Rattle.snippet_titles.proofs.HeadFacts.{opening_head-each}
+use Rattle.snippet_titles.proofs.HeadFacts.{opening_rows-each}
 use Rattle.snippet_titles.proofs.HeadLemmas.{nameless_head-each, primary_head-each, secondary_head-each}
 use Rattle.snippet_titles.proofs.OriginFree.{each-fails}
-use Rattle.snippet_titles.proofs.OriginText.{place_text-each}
+use Rattle.snippet_titles.proofs.OriginText.{place-each}
 use Rattle.annotate_snippets.specs.declared.renderer.Renderer.{Renderer}
 use Rattle.annotate_snippets.specs.declared.renderer.element_context.ElementContext.{ElementContext}
 use Rattle.snippet_grid.specs.Layout.{Layout}
@@ -94,8 +94,8 @@ file_plain layout start =
 origin_text-plain : (anonymized : Bool) (path : List ℕ) (place : OriginLocation) → All IsNoFeed (chars path) → All IsNoFeed (origin_text anonymized path place)
 unfolding origin_text
 origin_text-plain anonymized path place plain =
-    All-append IsNoFeed (norm (chars path)) (place_text anonymized place) (norm-plain (chars path) plain)
-    (place_text-each IsNoFeed digit_plain refl refl anonymized place)
+    All-append IsNoFeed (norm (chars path)) (line_text anonymized place.line place.column) (norm-plain (chars path) plain)
+    (place-each IsNoFeed digit_plain refl refl anonymized place)
 
 -- the row of a path that holds none holds none
 pub row_plain : (layout : OriginLayout) (start : FileStart) (path : List ℕ) (place : OriginLocation) → All IsNoFeed (chars path)
@@ -109,7 +109,7 @@ row_plain layout start path place plain =
 head_plain : (layout : OriginLayout) (primary first : Bool) (named : Option (List ℕ)) (place : OriginLocation) → IsOneLineText named
     → All HasNoFeed (snippet_head layout primary first named place)
 head_plain layout true first None place plain =
-    opening_head-each HasNoFeed layout (bare-plain layout.base.decor layout.base.gutter false) (file_plain layout) first
+    opening_rows-each HasNoFeed layout (bare-plain layout.base.decor layout.base.gutter false) (file_plain layout) layout.base.decor first
 head_plain layout true first (Some path) place plain =
     primary_head-each HasNoFeed layout (bare-plain layout.base.decor layout.base.gutter false) path place (λ start.
     row_plain layout start path place plain) first

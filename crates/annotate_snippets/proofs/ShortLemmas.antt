@@ -26,7 +26,7 @@ use Rattle.snippet_labels.proofs.CharLemmas.{is_empty-chars}
 use Rattle.snippet_style.proofs.CellLemmas.{length-chars_le}
 use Rattle.snippet_text.specs.Normalized.{norm}
 use Rattle.snippet_text.proofs.NormLemmas.{length-norm}
-use Rattle.snippet_titles.specs.Origin.{column_text, line_name, line_text, origin_text, place_text}
+use Rattle.snippet_titles.specs.Origin.{column_text, line_name, line_text, origin_text}
 use Rattle.snippet_titles.specs.declared.origin.OriginLocation.{OriginLocation}
 use Rattle.annotate_snippets.specs.Around.{path_bytes}
 use Rattle.annotate_snippets.specs.Gutter.{numbered_source}
@@ -137,7 +137,7 @@ unfolding origin_text
 origin_text-short anonymized path place fits =
     omega (
       arith,
-      length-append (norm (chars path)) (place_text anonymized place),
+      length-append (norm (chars path)) (line_text anonymized place.line place.column),
       length-norm
           (chars path),
       length-chars_le path,

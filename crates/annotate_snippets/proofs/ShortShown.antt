@@ -32,13 +32,13 @@ use Rattle.snippet_grid.proofs.WovenLemmas.{IsWoven-from_prints, plain_woven}
 use Rattle.snippet_text.specs.Normalized.{is_listed, norm}
 use Rattle.snippet_titles.proofs.ShortLaws.{short-free, links_of-short_rows, row_text-short_rows}
 use Rattle.snippet_titles.specs.HeadingRows.{shown_text, heading_lines, indent_cells, heading_label_text, label_width}
-use Rattle.snippet_titles.specs.Origin.{origin_text, place_text}
+use Rattle.snippet_titles.specs.Origin.{line_text, origin_text}
 use Rattle.snippet_titles.specs.ShortRows.{with_end}
 use Rattle.snippet_titles.specs.ShownHeading.{IsFreeButText, texts_below}
 use Rattle.snippet_titles.specs.Title.{id_links}
 use Rattle.snippet_titles.specs.declared.style.TitleStyle.TheVariants as style
 use Rattle.snippet_titles.specs.declared.origin.OriginLocation.{OriginLocation}
-use Rattle.snippet_titles.proofs.OriginText.{place_text-each}
+use Rattle.snippet_titles.proofs.OriginText.{place-each}
 use Rattle.snippet_titles.proofs.OriginFree.{digit_unlisted}
 use Rattle.annotate_snippets.specs.Around.{path_bytes}
 use Rattle.annotate_snippets.specs.DrawnReport.{IsShortForm}
@@ -104,8 +104,8 @@ after-free (Some s) = joined-free (primary_labels s.markers.items) (primary-free
 origin-free : (anonymized : Bool) (path : List ℕ) (place : OriginLocation) → All IsUnlisted (origin_text anonymized path place)
 unfolding origin_text
 origin-free anonymized path place =
-    All-append IsUnlisted (norm (chars path)) (place_text anonymized place) (norm-free (chars path))
-    (place_text-each IsUnlisted digit_unlisted refl refl anonymized place)
+    All-append IsUnlisted (norm (chars path)) (line_text anonymized place.line place.column) (norm-free (chars path))
+    (place-each IsUnlisted digit_unlisted refl refl anonymized place)
 
 path-free : (r : Renderer) (s : Snippet Annotation) (path : Option (List ℕ)) → All IsUnlisted (place_of_path r s path)
 path-free r s None = All-nil IsUnlisted

@@ -27,7 +27,7 @@ use Rattle.snippet_parts.proofs.PartLemmas.{All-unmapped}
 use Rattle.snippet_suggest.specs.Cells.{line_cells, offered_cells, put, sign_of, with_stretches}
 use Rattle.snippet_suggest.specs.Given.{first_given, given_lines, given_text, shown_kind}
 use Rattle.snippet_style.specs.Glyphs.{suggestion_glyph_of, suggestion_role_of}
-use Rattle.snippet_suggest.specs.RowOrder.{Begins, Empty, Ends, Offers, Removes, Skips, SuggestionRow, number_after, rows_of_suggestion}
+use Rattle.snippet_suggest.specs.RowOrder.{Begins, Empty, Ends, Offers, Removes, Skips, SuggestionRow, rows_of_suggestion}
 use Rattle.snippet_suggest.specs.SuggestionRows.{IsBareRow, IsBeforeSign, IsLeftOver, IsMarkOrSpace, IsRemovedRow, Shows, is_stroke}
 use Rattle.snippet_suggest.specs.Suggested.{body_cells, suggested_cells as row_cells, new_on}
 use Rattle.snippet_suggest.specs.declared.SuggestionLayout.{SuggestionLayout}
@@ -52,6 +52,7 @@ use Rattle.annotate_snippets.proofs.LineFeedLaws.{line_plain, row_written}
 use Rattle.annotate_snippets.proofs.PathFeedLaws.{cells_plain, norm-plain, row_plain}
 use Rattle.annotate_snippets.proofs.SourceFeedLaws.{number_plain}
 use Rattle.annotate_snippets.proofs.SuggestionLines.{lines_each}
+use Rattle.snippet_window.specs.Margin.{capped_sum}
 
 -- ---- characters
 
@@ -212,7 +213,7 @@ module _ (suggested : SuggestionLayout) (s : Snippet Patch) (utf8 : IsUtf8 (give
   offer_plain under (Offers k) =
       let line : List ℕ = slice_index_or (given_lines s) k [] in
       let glyph : SuggestionGlyph = sign_of (shown_kind s) (length (given_lines s)) line (new_on s k) in
-      let number : ℕ = number_after (s.line_start + first_given s) k in
+      let number : ℕ = capped_sum (s.line_start + first_given s) k in
       let row : List Cell = line_cells suggested glyph number line in
       same_plain (with_stretches Addition suggested.base.gutter (chars line) (new_on s k) row) row
       (with_same Addition suggested.base.gutter (chars line) (new_on s k) row)

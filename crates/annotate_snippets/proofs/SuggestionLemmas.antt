@@ -14,7 +14,7 @@ use Rattle.snippet_model.specs.FreeRows.{IsFree}
 use Rattle.snippet_suggest.specs.Cells.{sign_of}
 use Rattle.snippet_suggest.specs.Given.{first_given, given_lines, shown_kind}
 use Rattle.snippet_suggest.specs.PreparedSuggestion.{IsSuggestible}
-use Rattle.snippet_suggest.specs.RowOrder.{Begins, Empty, Ends, Offers, Removes, Skips, SuggestionRow, lines_taken, number_after, numbers_offered}
+use Rattle.snippet_suggest.specs.RowOrder.{Begins, Empty, Ends, Offers, Removes, Skips, SuggestionRow, lines_taken, numbers_offered}
 use Rattle.snippet_suggest.specs.RowOrder.{removed_number}
 use Rattle.snippet_suggest.specs.Suggested.{HasSign, new_on}
 use Rattle.snippet_suggest.specs.SuggestionRows.{IsRemovedRow, Shows}
@@ -32,6 +32,7 @@ use Rattle.annotate_snippets.specs.declared.renderer.Renderer.{Renderer}
 use Rattle.annotate_snippets.proofs.Ascending.{IsAscending}
 use Rattle.snippet_grid.specs.Layout.{Layout}
 use Rattle.snippet_suggest.proofs.RisingLemmas.{rising_bound as rising_within}
+use Rattle.snippet_window.specs.Margin.{capped_sum}
 
 -- numbers that rise between two bounds ascend
 pub rising_ascends : (from to : ℕ) (ks : List ℕ) → AreRising from to ks → IsAscending ks
@@ -147,10 +148,10 @@ module _ (r : Renderer) (layout : Layout) (s : Snippet Patch) where
   module _ (suggestible : IsSuggestible s) (some : s.markers.items ≢ []) where
     -- there is a number for each line that is given, and it is shown
     number_is : (k : ℕ) → k < length (given_lines s)
-        → shown_number (line_numbers r s.line_numbering) layout.gutter (number_after (s.line_start + first_given s) k)
+        → shown_number (line_numbers r s.line_numbering) layout.gutter (capped_sum (s.line_start + first_given s) k)
         ≡ number_text r s.line_numbering layout.gutter (s.line_start + (first_given s + k))
     number_is k within =
-        let same : number_after (s.line_start + first_given s) k ≡ s.line_start + (first_given s + k) = omega (arith, suggestible.numbers) in
+        let same : capped_sum (s.line_start + first_given s) k ≡ s.line_start + (first_given s + k) = omega (arith, suggestible.numbers) in
         ap (shown_number (line_numbers r s.line_numbering) layout.gutter) same
 
     -- the row of a line that is given offers it
@@ -167,7 +168,7 @@ module _ (r : Renderer) (layout : Layout) (s : Snippet Patch) where
           beside = λ c right left. shows.beside c (omega (arith, ap length number, right)) left;
           sign = shows.sign;
           asked = λ fits.
-              let left : length (shown_number (line_numbers r s.line_numbering) layout.gutter (number_after (s.line_start + first_given s) k))
+              let left : length (shown_number (line_numbers r s.line_numbering) layout.gutter (capped_sum (s.line_start + first_given s) k))
               ≤ layout.gutter + 1 = omega (arith, fits, ap length number) in
               subst (λ i. (get_or row (layout.gutter + 1) SPACE).ch ≡ get_or (suggestion_glyph_of layout.decor
               (sign_of (shown_kind s) (length (given_lines s)) (get_or (given_lines s) i []) (new_on s i))) 0 32) (sym back) (signed left);

@@ -1,5 +1,5 @@
 -- Numbers that ascend: in pairs, between their bounds, and counted from elsewhere.
-use Rattle.std.proofs.Common.{◌≡◌, ℕ, ◌+◌, ◌<◌, ◌≤◌, List, [], ◌∷◌, map, subst, arith}
+use Rattle.std.proofs.Common.{◌≡◌, ℕ, ◌+◌, List, [], ◌∷◌, map, subst, arith}
 use Rattle.snippet_suggest.specs.SuggestedLines.{AreRising}
 
 -- so do they counted from elsewhere

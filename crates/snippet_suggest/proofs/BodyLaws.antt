@@ -1,6 +1,6 @@
 -- What the rows of a suggestion show, one below the other.
-use Rattle.std.proofs.Common.{◌≡◌, ℕ, ◌+◌, ◌-◌, ◌^◌, ◌<◌, Bool, true, false, if◌then◌else◌, ◌&&◌, All, List, [], ◌∷◌, ◌++◌, chars, length, map, ◌∙◌}
-use Rattle.std.proofs.Common.{arith}
+use Rattle.std.proofs.Common.{◌≡◌, ℕ, ◌+◌, ◌-◌, ◌^◌, ◌<◌, Bool, true, false, if◌then◌else◌, ◌&&◌, All, List, [], ◌∷◌, ◌++◌, chars, length, map, ◌∙◌, ◌==◌}
+use Rattle.std.proofs.Common.{arith, subst, sym}
 use Rattle.std.specs.Cow.{cow_str_bytes}
 use Rattle.std.specs.List.{AllZip}
 use Rattle.std.specs.Str.{bytes_eq}
@@ -29,16 +29,19 @@ use Rattle.snippet_suggest.specs.Cells.{end_cells, left_out_cells, on_last}
 use Rattle.snippet_suggest.specs.Given.{edits_of, emptied_lines, first_end, first_given, given_lines, given_ranges, is_left_out, last_reached, lines_touched}
 use Rattle.snippet_suggest.specs.Given.{removed_lines, removed_of, replaced_lines, shown_kind, trimmed_of}
 use Rattle.snippet_suggest.specs.PreparedSuggestion.{IsSuggestible}
-use Rattle.snippet_suggest.specs.RowOrder.{Begins, Empty, Ends, Offers, Removes, Skips, SuggestionRow, changed_rows, is_diff, number_after, number_beside}
-use Rattle.snippet_suggest.specs.RowOrder.{removed_number, removed_row, row_of_shown, rows_of_suggestion, rows_where}
+use Rattle.snippet_suggest.specs.RowOrder.{Begins, Empty, Ends, Offers, Removes, Skips, SuggestionRow, changed_rows}
+use Rattle.snippet_suggest.specs.RowOrder.{removed_number, row_of_shown, rows_of_suggestion, rows_where}
 use Rattle.snippet_suggest.specs.Suggested.{body_cells, suggested_cells, cells_over, marked_edits, new_on, removed_in, suggested_stretches, with_left_out}
-use Rattle.snippet_suggest.specs.SuggestedLines.{is_touched, lines_suggested}
+use Rattle.snippet_suggest.specs.SuggestedLines.{is_touched, shown_from}
 use Rattle.snippet_suggest.specs.SuggestionRows.{HasGutter, IsBareRow, IsRowOfRemoved, IsUnder, NumberFits, Shows}
 use Rattle.snippet_suggest.proofs.BareLemmas.{bare_none, stroke_none}
 use Rattle.snippet_suggest.proofs.GutterFits.{numbers_fit}
 use Rattle.snippet_suggest.proofs.RepaintLemmas.{same_shows, without_role}
 use Rattle.snippet_suggest.proofs.RisingLemmas.{rooms_shown}
 use Rattle.snippet_suggest.proofs.RowLaws.{begin_shows, end_shows, gap_shows, marks_show, offered_shows, removed_shows, replaced_shows, under_bare, with_same}
+use Rattle.snippet_window.specs.Margin.{capped_sum}
+use Rattle.std.proofs.lemmas.Bool.Decides.{nat_tests}
+use Rattle.snippet_suggest.proofs.OrderLaws.{removed_row}
 
 -- two lists, and others after them
 pub zip_append : {A B : Type 0} (R : A → B → Type 0) (xs vs : List A) (ys ws : List B) → AllZip R xs ys → AllZip R vs ws → AllZip R (xs ++ vs) (ys ++ ws)
@@ -81,7 +84,7 @@ module _ (layout : SuggestionLayout) (s : Snippet Patch) (P : SuggestionRow → 
       → AllZip P shown (with_left_out layout s lines rows)
   holds_left_out [] shown rows have = have
   holds_left_out (line ∷ lines) shown rows have =
-      let test : Bool = is_diff (shown_kind s) && is_touched s.fold (given_ranges s) 0 && is_left_out (shown_kind s) (line ∷ lines) (last_reached s) in
+      let test : Bool = is_left_out (shown_kind s) (line ∷ lines) (last_reached s) && is_touched s.fold (given_ranges s) 0 in
       let gone : List SubstitutionHighlight = if bytes_eq line (last_reached s) then suggested_stretches s
       (last_line_reached (cow_str_bytes s.source) (edits_of s) - first_given s) else [] in
       let f : List Cell → List Cell = left_out_cells layout.base.gutter line gone (new_on s 0) in
@@ -126,18 +129,25 @@ emptied_within s =
     (All (λ k. k < length (source_lines source))) (λ folds. touched_within source (first_start es) (first_end es))
     (λ whole. touched_within source 0 (length source))
 
+none_of_some : (line : List ℕ) (lines : List (List ℕ)) → (length (line ∷ lines) == 0) ≡ false
+none_of_some line lines = grind (arith, nat_tests)
+
 beside_small : (lines : List (List ℕ)) (kind : DisplaySuggestion) (own counted : ℕ → ℕ) (emptied replaced : List ℕ) → All (λ k. own k < 2 ^ 64) emptied
-    → ((k : ℕ) → counted k < 2 ^ 64) → All (λ k. number_beside lines (own k) (counted k) < 2 ^ 64) (removed_of lines kind emptied replaced)
+    → ((k : ℕ) → counted k < 2 ^ 64) → All (λ k. (if length lines == 0 then own k else counted k) < 2 ^ 64) (removed_of lines kind emptied replaced)
 beside_small [] kind own counted emptied replaced small few = small
-beside_small (line ∷ lines) Diff own counted emptied replaced small few = λ i d inside. few _
-beside_small (line ∷ lines) Underline own counted emptied replaced small few = All-nil (λ k. counted k < 2 ^ 64)
-beside_small (line ∷ lines) Plain own counted emptied replaced small few = All-nil (λ k. counted k < 2 ^ 64)
-beside_small (line ∷ lines) Add own counted emptied replaced small few = All-nil (λ k. counted k < 2 ^ 64)
+beside_small (line ∷ lines) Diff own counted emptied replaced small few =
+    subst (λ (b : Bool). All (λ k. (if b then own k else counted k) < 2 ^ 64) replaced) (sym (none_of_some line lines)) (λ i d inside. few _)
+beside_small (line ∷ lines) Underline own counted emptied replaced small few =
+    All-nil (λ k. (if length (line ∷ lines) == 0 then own k else counted k) < 2 ^ 64)
+beside_small (line ∷ lines) Plain own counted emptied replaced small few =
+    All-nil (λ k. (if length (line ∷ lines) == 0 then own k else counted k) < 2 ^ 64)
+beside_small (line ∷ lines) Add own counted emptied replaced small few =
+    All-nil (λ k. (if length (line ∷ lines) == 0 then own k else counted k) < 2 ^ 64)
 
 removed_small : (s : Snippet Patch) → IsSuggestible s → All (λ k. removed_number s k < 2 ^ 64) (removed_lines s)
 removed_small s can =
     let begin : ℕ = line_of (source_lines (cow_str_bytes s.source)) (first_start (trimmed_of s)) in
-    beside_small (given_lines s) (shown_kind s) (λ k. s.line_start + k) (λ k. number_after (s.line_start + first_given s) (k - begin)) (emptied_lines s)
+    beside_small (given_lines s) (shown_kind s) (λ k. s.line_start + k) (λ k. capped_sum (s.line_start + first_given s) (k - begin)) (emptied_lines s)
     (replaced_lines s) (λ i d inside. omega (arith, emptied_within s i d inside, can.lines)) (λ k. omega arith)
 
 module _ (layout : SuggestionLayout) (s : Snippet Patch) where
@@ -162,7 +172,7 @@ module _ (layout : SuggestionLayout) (s : Snippet Patch) where
   row_shows : (under : List Cell) (shown : SuggestionRow) → Fits under shown → IsShown shown (suggested_cells layout s under shown)
   unfolding suggested_cells
   row_shows under (Begins start) fits = begin_shows layout start under fits
-  row_shows under (Offers k) fits = offered_shows layout (shown_kind s) (length (given_lines s)) (number_after (s.line_start + first_given s) k) _
+  row_shows under (Offers k) fits = offered_shows layout (shown_kind s) (length (given_lines s)) (capped_sum (s.line_start + first_given s) k) _
       (new_on s k) (omega arith) fits
   row_shows under Skips fits = gap_shows layout
   row_shows under (Removes i number text) fits = removed_shown (given_lines s) (suggested_stretches s (i - first_given s)) number text under fits.0 fits.1
@@ -209,15 +219,23 @@ module _ (layout : SuggestionLayout) (s : Snippet Patch) where
   changed_fit true false removed fit room = All-append (Fits []) removed (Offers 0 ∷ []) fit (All-cons (Fits []) (Offers 0) [] room (All-nil (Fits [])))
   changed_fit false left removed fit room = All-cons (Fits []) Empty [] tt (All-nil (Fits []))
 
-  fit_where : (lines : List (List ℕ)) (diff touched left : Bool) (start : SuggestionStart) (under : List Cell) (removed shown : List SuggestionRow)
+  fit_where : (lines : List (List ℕ)) (kind : DisplaySuggestion) (touched left : Bool) (start : SuggestionStart) (under : List Cell)
+      (removed shown : List SuggestionRow)
       → IsUnder layout.base.decor layout.base.gutter start under → AreEach Fits under removed → All (Fits []) removed → All (Fits []) shown
       → (0 < length lines → NumberFits layout (s.line_start + first_given s) (Line 0))
-      → AreEach Fits under (rows_where lines diff (Begins start) removed (changed_rows touched left removed) shown)
-  fit_where [] true touched left start under removed shown begun over fit rooms one = (begun, fit)
-  fit_where [] false touched left start under removed shown begun over fit rooms one = over
-  fit_where (line ∷ lines) true touched left start under removed shown begun over fit rooms one =
+      → AreEach Fits under (rows_where lines kind (Begins start) removed (changed_rows touched left removed) shown)
+  fit_where [] Diff touched left start under removed shown begun over fit rooms one = (begun, fit)
+  fit_where [] Underline touched left start under removed shown begun over fit rooms one = over
+  fit_where [] Plain touched left start under removed shown begun over fit rooms one = over
+  fit_where [] Add touched left start under removed shown begun over fit rooms one = over
+  fit_where (line ∷ lines) Diff touched left start under removed shown begun over fit rooms one =
       (begun, changed_fit touched left removed fit (one (omega arith)))
-  fit_where (line ∷ lines) false touched left start under removed shown begun over fit rooms one = (begun, rooms)
+  fit_where (line ∷ lines) Underline touched left start under removed shown begun over fit rooms one =
+      (begun, rooms)
+  fit_where (line ∷ lines) Plain touched left start under removed shown begun over fit rooms one =
+      (begun, rooms)
+  fit_where (line ∷ lines) Add touched left start under removed shown begun over fit rooms one =
+      (begun, rooms)
 
   -- the rows of a suggestion show what they are to show, each, where the gutter has room for the number that it counts
   pub body_shows : (start : SuggestionStart) (under : List Cell) → IsSuggestible s → HasGutter layout s
@@ -229,10 +247,10 @@ module _ (layout : SuggestionLayout) (s : Snippet Patch) where
       let small : All (λ k. removed_number s k < 2 ^ 64) (removed_lines s) = removed_small s can in
       body_each layout s IsShown (same_shows layout (s.line_start + first_given s) (given_lines s)) start under
       (rows_show under (rows_of_suggestion start s)
-      (fit_where (given_lines s) (is_diff (shown_kind s)) (touched 0) (is_left_out (shown_kind s) (given_lines s) (last_reached s)) start under
-      (map (removed_row s) (removed_lines s)) (map row_of_shown (lines_suggested touched n)) begun
+      (fit_where (given_lines s) (shown_kind s) (touched 0) (is_left_out (shown_kind s) (given_lines s) (last_reached s)) start under
+      (map (removed_row s) (removed_lines s)) (map row_of_shown (shown_from touched 0 0 n)) begun
       (removed_over under (removed_lines s) (under_bare layout start under begun) small) (removed_fit (removed_lines s) small)
-      (shown_fit (lines_suggested touched n) (rooms_shown layout (s.line_start + first_given s) n touched fits)) (fits 0)))
+      (shown_fit (shown_from touched 0 0 n) (rooms_shown layout (s.line_start + first_given s) n touched fits)) (fits 0)))
 
   -- and the last one what it ends with
   pub last_shows : (follows : Bool) → IsShown (Ends follows) (suggested_cells layout s [] (Ends follows))

@@ -1,15 +1,15 @@
 -- Why the gutter that has room for the number that a suggestion counts has room for the number of each line that it gives.
 use Rattle.std.proofs.Common.{◌≡◌, ℕ, ◌+◌, ◌<◌, ◌≤◌, ◌^◌, nat_le, ◌&&◌, Bool, true, false, if◌then◌else◌, List, [], ◌∷◌, All, length, map, refl, sym, ap, ◌∙◌}
-use Rattle.std.proofs.Common.{arith, subst}
+use Rattle.std.proofs.Common.{arith, subst, ◌==◌}
 use Rattle.std.specs.Cow.{cow_str_bytes}
-use Rattle.std.specs.List.{list_any}
+use Rattle.std.specs.List.{list_any, list_all}
 use Rattle.std.proofs.lemmas.Bool.{cond-true, cond_both}
 use Rattle.std.proofs.lemmas.Bool.Decides.{nat_tests}
 use Rattle.std.proofs.lemmas.List.{length-map}
 use Rattle.std.proofs.lemmas.List.Elements.{All-map}
 use Rattle.snippet_model.specs.declared.snippet.Snippet.{Snippet}
 use Rattle.snippet_model.specs.declared.snippet.Patch.{Patch}
-use Rattle.snippet_lines.specs.Lines.{lines_of, source_lines, newline_count}
+use Rattle.snippet_lines.specs.Lines.{lines_of, source_lines, newline_count, last_byte}
 use Rattle.snippet_lines.specs.Number.{number_width, shown_number}
 use Rattle.snippet_lines.specs.declared.number.LineNumbers.{LineNumbers}
 use Rattle.snippet_lines.specs.Place.{line_of}
@@ -25,11 +25,12 @@ use Rattle.snippet_suggest.specs.declared.kind.DisplaySuggestion.TheVariants.{Un
 use Rattle.snippet_suggest.specs.declared.layout.SuggestionLayout.{SuggestionLayout}
 use Rattle.snippet_suggest.specs.declared.shown.SuggestionLine.TheVariants.{Line}
 use Rattle.snippet_suggest.specs.Given.{counted_folded, counted_line, edits_of, first_end, first_given, given_lines, given_text, shown_kind, trimmed_of}
-use Rattle.snippet_suggest.specs.Kind.{adds_lines, is_only_replacement, kind_of, takes_away}
+use Rattle.snippet_suggest.specs.Kind.{kind_of, takes_away}
 use Rattle.snippet_suggest.specs.PreparedSuggestion.{IsSuggestible}
-use Rattle.snippet_suggest.specs.RowOrder.{number_after}
 use Rattle.snippet_suggest.specs.SuggestionRows.{HasGutter, NumberFits}
 use Rattle.snippet_suggest.proofs.SpanLemmas.{spans_in_order}
+use Rattle.snippet_window.specs.Margin.{capped_sum}
+use Rattle.std.specs.Str.{bytes_eq, trim}
 
 -- the test of the kinds, each question answered. Of a kind that gives one line at most the last one is never counted
 abbrev kind_by : Bool → Bool → Bool → Bool → DisplaySuggestion
@@ -48,7 +49,7 @@ few_by false takes false adds kind is one = let same : counted_folded Plain 0 0 
 pub one_given : (source : List ℕ) (ts : List Edit) (text : List ℕ) → counted_folded (kind_of source ts text) 0 0 1 ≡ 0 → length (lines_of text) ≤ 1
 one_given source ts text one =
     let few : nat_le (length (lines_of text)) 1 ≡ true = few_by (nat_le (length (lines_of text)) 1) (list_any (takes_away source) ts)
-    (is_only_replacement ts text) (adds_lines ts) (kind_of source ts text) refl one in
+    (length ts == 1 && list_all (λ e. bytes_eq (trim e.text) (trim text)) ts) (list_any (λ e. last_byte e.text == 10) ts) (kind_of source ts text) refl one in
     grind (arith, nat_tests)
 
 -- a text that has lines has one more than newlines are counted in it
@@ -122,6 +123,6 @@ pub numbers_fit : (layout : SuggestionLayout) (s : Snippet Patch) → IsSuggesti
 numbers_fit layout s can room k within =
     let first : ℕ = s.line_start + first_given s in
     let counted = counted_last s can k within in
-    let same : number_after first k ≡ first + k = omega (arith, counted.0, counted.1) in
+    let same : capped_sum first k ≡ first + k = omega (arith, counted.0, counted.1) in
     subst (λ (n : ℕ). length (shown_number layout.numbers layout.base.gutter n) ≤ layout.base.gutter + 1) (sym same)
     (shown_fits layout.numbers layout.base.gutter (first + k) (counted_line s) room counted.0 counted.1)

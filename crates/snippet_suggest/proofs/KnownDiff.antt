@@ -16,7 +16,7 @@ use Rattle.snippet_suggest.specs.declared.kind.DisplaySuggestion.TheVariants.{Di
 use Rattle.snippet_suggest.specs.declared.layout.SuggestionStart.{SuggestionStart}
 use Rattle.snippet_suggest.specs.declared.prepared.PreparedSuggestion.{PreparedSuggestion}
 use Rattle.snippet_suggest.specs.Given.{edits_of, first_given, given_lines, given_ranges, is_left_out, last_reached, last_removed, trimmed_of, texts_at}
-use Rattle.snippet_suggest.specs.Given.{unless_stays}
+use Rattle.snippet_suggest.specs.Cells.{unless_stays}
 use Rattle.snippet_suggest.specs.RowOrder.{Begins, SuggestionRow, changed_rows, counted_from, numbered_at, removed_from, rows_of_suggestion}
 use Rattle.snippet_suggest.specs.PreparedSuggestion.{IsPrepared}
 use Rattle.snippet_suggest.specs.SuggestedLines.{is_touched}

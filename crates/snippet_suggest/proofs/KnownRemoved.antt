@@ -1,4 +1,5 @@
 -- Which lines a suggestion that is prepared shows as removed, and their texts.
+use Rattle.std.proofs.Common.{◌==◌}
 use Rattle.std.proofs.Common.{◌≡◌, ℕ, zero, suc, ◌+◌, ◌-◌, ◌≤◌, Bool, true, false, if◌then◌else◌, List, [], ◌∷◌, length, map, take, refl, sym, ap, ◌∙◌, arith}
 use Rattle.std.specs.Cow.{cow_str_bytes}
 use Rattle.std.specs.List.{range_with_len, slice_index_or}
@@ -16,12 +17,15 @@ use Rattle.snippet_suggest.specs.declared.prepared.PreparedSuggestion.{PreparedS
 use Rattle.snippet_suggest.specs.declared.kind.DisplaySuggestion.TheVariants.{Diff}
 use Rattle.snippet_suggest.specs.Given.{edits_of, emptied_lines, first_end, first_original, first_original_end, first_given, given_lines, last_reached}
 use Rattle.snippet_suggest.specs.Given.{last_removed, lines_touched, removed_lines, removed_of, replaced_lines, shown_kind, texts_at, texts_of_source}
-use Rattle.snippet_suggest.specs.Given.{trimmed_of, unless_stays}
-use Rattle.snippet_suggest.specs.RowOrder.{Removes, SuggestionRow, counted_from, number_after, number_beside, numbered_at, removed_from, removed_row}
+use Rattle.snippet_suggest.specs.Given.{trimmed_of}
+use Rattle.snippet_suggest.specs.Cells.{unless_stays}
+use Rattle.snippet_suggest.specs.RowOrder.{Removes, SuggestionRow, counted_from, numbered_at, removed_from}
 use Rattle.snippet_suggest.specs.PreparedSuggestion.{IsPrepared}
 use Rattle.snippet_suggest.specs.SuggestedLines.{is_touched}
 use Rattle.snippet_suggest.proofs.KnownLemmas.{known_first_end, known_first_start}
 use Rattle.snippet_suggest.proofs.ReachLemmas.{touched_numbered, touched_texts}
+use Rattle.snippet_window.specs.Margin.{capped_sum}
+use Rattle.snippet_suggest.proofs.OrderLaws.{removed_row}
 
 -- the texts of the lines that a span touches are those of the source
 touched_source : (p : PreparedSuggestion) → IsPrepared p → (infos : List LineInfo) (start end : ℕ) → map table_entry infos ≡ touched_entries p.map start end
@@ -58,15 +62,15 @@ range_removed f a zero = refl
 range_removed f a (suc n) = ap (λ rows. Removes a (f a).0 (f a).1 ∷ rows) (range_removed f (a + 1) n)
 
 range_counted : (f : ℕ → List ℕ) (first a b j n : ℕ) → b ≡ a + j
-    → counted_from first j (map f (range_with_len b n)) ≡ map {B = ℕ × List ℕ} (λ k. (number_after first (k - a), f k)) (range_with_len b n)
+    → counted_from first j (map f (range_with_len b n)) ≡ map {B = ℕ × List ℕ} (λ k. (capped_sum first (k - a), f k)) (range_with_len b n)
 range_counted f first a b j zero at = refl
 range_counted f first a b j (suc n) at =
     let here : j ≡ b - a = omega (arith, at) in
     let rest : counted_from first (j + 1) (map f (range_with_len (b + 1) n))
-    ≡ map {B = ℕ × List ℕ} (λ k. (number_after first (k - a), f k)) (range_with_len (b + 1) n) = range_counted f first a (b + 1) (j + 1) n
+    ≡ map {B = ℕ × List ℕ} (λ k. (capped_sum first (k - a), f k)) (range_with_len (b + 1) n) = range_counted f first a (b + 1) (j + 1) n
     (omega (arith, at)) in
-    ap (λ ls. (number_after first j, f b) ∷ ls) rest ∙ ap (λ (m : ℕ). (number_after first m, f b) ∷ map {B = ℕ × List ℕ} (λ k.
-    (number_after first (k - a), f k)) (range_with_len (b + 1) n)) here
+    ap (λ ls. (capped_sum first j, f b) ∷ ls) rest ∙ ap (λ (m : ℕ). (capped_sum first m, f b) ∷ map {B = ℕ × List ℕ} (λ k.
+    (capped_sum first (k - a), f k)) (range_with_len (b + 1) n)) here
 
 -- the rows of those that are removed where no line stands in their place
 pub known_emptied_rows : (p : PreparedSuggestion) → IsPrepared p → (infos : List LineInfo) (start end : ℕ) → given_lines p.snippet.now ≡ []
@@ -82,8 +86,9 @@ known_emptied_rows p is infos start end none starts ends are =
     let n : ℕ = line_of ls end + 1 - a in
     let own : ℕ → ℕ × List ℕ = λ k. (p.map.first + k, text_at ls k) in
     let begin : ℕ = line_of (source_lines source) (first_start (trimmed_of s)) in
-    let counted : ℕ → ℕ = λ k. number_after (s.line_start + first_given s) (k - begin) in
-    let row : List (List ℕ) → ℕ → SuggestionRow = λ given k. Removes k (number_beside given (s.line_start + k) (counted k)) (text_at (source_lines source) k) in
+    let counted : ℕ → ℕ = λ k. capped_sum (s.line_start + first_given s) (k - begin) in
+    let row : List (List ℕ) → ℕ → SuggestionRow = λ given k.
+    Removes k (if length given == 0 then s.line_start + k else counted k) (text_at (source_lines source) k) in
     let ks : List ℕ = removed_lines s in
     let lines : lines_touched source start end ≡ ks = known_emptied p is start end starts ends
     ∙ ap (λ (given : List (List ℕ)). removed_of given (shown_kind s) (emptied_lines s) (replaced_lines s)) (sym none) in
@@ -168,7 +173,8 @@ known_replaced_rows p is line infos start end first diff one touches starts ends
     let stays : Bool = bytes_eq line (last_reached s) in
     let m : ℕ = if stays then n - 1 else n in
     let text : ℕ → List ℕ = text_at ls in
-    let row : List (List ℕ) → ℕ → ℕ → SuggestionRow = λ given at k. Removes k (number_beside given (s.line_start + k) (number_after at (k - a))) (text k) in
+    let row : List (List ℕ) → ℕ → ℕ → SuggestionRow = λ given at k.
+    Removes k (if length given == 0 then s.line_start + k else capped_sum at (k - a)) (text k) in
     let ks : List ℕ = removed_lines s in
     let lines : replaced_lines s ≡ range_with_len a m = replaced_touched p is line one touches ∙ unless_range stays a n in
     let removed : range_with_len a m ≡ ks = sym lines ∙ sym (removes_replaced p is line diff one) in
@@ -177,6 +183,6 @@ known_replaced_rows p is line infos start end first diff one touches starts ends
     let begun : a ≡ a + 0 = omega arith in
     let rows : removed_from a (counted_from first 0 (map text (range_with_len a m)))
     ≡ map (row (line ∷ []) first) (range_with_len a m) = ap (removed_from a) (range_counted text first a a 0 m begun)
-    ∙ range_removed (λ k. (number_after first (k - a), text k)) a m in
+    ∙ range_removed (λ k. (capped_sum first (k - a), text k)) a m in
     ap (λ (ts : List (List ℕ)). removed_from a (counted_from first 0 ts)) texts ∙ rows ∙ ap (map (row (line ∷ []) first)) removed
     ∙ ap (λ (at : ℕ). map (row (line ∷ []) at) ks) numbered ∙ ap (λ (given : List (List ℕ)). map (row given (s.line_start + first_given s)) ks) (sym one)

@@ -17,12 +17,12 @@ use Rattle.snippet_suggest.specs.declared.layout.SuggestionLayout.{SuggestionLay
 use Rattle.snippet_suggest.specs.declared.marks.PatchColumns.{PatchColumns}
 use Rattle.snippet_suggest.specs.Cells.{put}
 use Rattle.std.proofs.lemmas.List.{length-replicate, map-append, places, same_lists, take_more}
-use Rattle.snippet_suggest.specs.Marks.{edit_columns, left_of, patch_mark_end, mark_glyph_of, mark_start, to_left, with_mark, with_marks}
+use Rattle.snippet_suggest.specs.Marks.{edit_columns, left_of, patch_mark_end, mark_glyph_of, mark_start, with_mark, with_marks}
 use Rattle.snippet_suggest.proofs.PutLemmas.{put_none}
 
 -- ---- what patches move
 
-left_more : (cs : List PatchColumns) (c : PatchColumns) → to_left (cs ++ c ∷ []) ≡ capped (to_left cs + c.end)
+left_more : (cs : List PatchColumns) (c : PatchColumns) → capped (sum_by (λ c. c.end) (cs ++ c ∷ [])) ≡ capped (capped (sum_by (λ c. c.end) cs) + c.end)
 left_more cs c =
     let f : PatchColumns → ℕ = λ d. d.end in
     let all : sum_by f (cs ++ c ∷ []) ≡ sum_by f cs + (0 + c.end) = sum_by-append f cs (c ∷ []) in

@@ -17,7 +17,7 @@ use Rattle.snippet_splice.proofs.SpliceLemmas.{IsShownPart, IsShownPart-plain}
 use Rattle.snippet_splice.proofs.LineLemmas.{AreFrom-at, AreFrom-shown}
 use Rattle.snippet_suggest.specs.Given.{IsOfferable, edits_of, first_given, given_lines, given_ranges, is_left_out, last_reached, numbers_given, offered_lines}
 use Rattle.snippet_suggest.specs.Given.{shown_kind}
-use Rattle.snippet_suggest.specs.SuggestedLines.{AreRising, is_touched, numbers_shown, lines_suggested}
+use Rattle.snippet_suggest.specs.SuggestedLines.{AreRising, is_touched, numbers_shown, shown_from}
 use Rattle.snippet_suggest.proofs.AscendLemmas.{rising-moved}
 use Rattle.snippet_suggest.proofs.RisingLemmas.{rising_shown}
 
@@ -57,7 +57,7 @@ given-is-patched s spans disjoint some offerable k low =
     (within, at.1 ∙ get_or-map (λ l. l.0) ls (first_given s + k) ([], Eof) [] within)
 
 -- the lines that it offers ascend, and are among those that are given
-numbers-ascend : (left_out : Bool) (touched : ℕ → Bool) (count : ℕ) → AreRising 0 count (if left_out then [] else numbers_shown (lines_suggested touched count))
+numbers-ascend : (left_out : Bool) (touched : ℕ → Bool) (count : ℕ) → AreRising 0 count (if left_out then [] else numbers_shown (shown_from touched 0 0 count))
 numbers-ascend true touched count = omega arith
 numbers-ascend false touched count = rising_shown touched count
 

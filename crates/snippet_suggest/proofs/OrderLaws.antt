@@ -14,20 +14,39 @@ use Rattle.snippet_suggest.specs.declared.shown.SuggestionLine.{SuggestionLine}
 use Rattle.snippet_suggest.specs.declared.shown.SuggestionLine.TheVariants.{Gap, Line}
 use Rattle.snippet_suggest.specs.Given.{counted_folded, emptied_lines, given_lines, given_ranges, given_text, is_left_out, last_reached, numbers_given}
 use Rattle.snippet_suggest.specs.Given.{numbers_of, removed_lines, removed_of, replaced_lines, shown_kind, trimmed_of}
-use Rattle.snippet_suggest.specs.RowOrder.{Begins, Empty, Ends, Offers, Removes, Skips, SuggestionRow, changed_rows, is_diff, line_taken, lines_taken}
-use Rattle.snippet_suggest.specs.RowOrder.{number_offered, numbers_offered, removed_number, removed_row, row_of_shown, rows_of_suggestion, rows_where}
-use Rattle.snippet_suggest.specs.SuggestedLines.{is_touched, numbers_shown, lines_suggested}
+use Rattle.snippet_suggest.specs.RowOrder.{Begins, Empty, Ends, Offers, Removes, Skips, SuggestionRow, changed_rows, line_taken, lines_taken}
+use Rattle.snippet_suggest.specs.RowOrder.{number_offered, numbers_offered, removed_number, row_of_shown, rows_of_suggestion, rows_where}
+use Rattle.snippet_suggest.specs.SuggestedLines.{is_touched, numbers_shown, shown_from}
 use Rattle.snippet_suggest.proofs.GutterFits.{one_given}
 use Rattle.snippet_suggest.proofs.KnownNumbers.{diff_numbers, none_numbers}
 
 -- ---- which rows stand there
 
--- the test for a diff answers no for each other kind
-pub not_diff : (kind : DisplaySuggestion) → kind ≢ Diff → is_diff kind ≡ false
-not_diff Diff other = absurd (other refl)
-not_diff Underline other = refl
-not_diff Plain other = refl
-not_diff Add other = refl
+-- where no line is given, and where some are, the rows of any kind but a diff
+none_where : (kind : DisplaySuggestion) (begin : SuggestionRow) (removed changed shown : List SuggestionRow) → kind ≢ Diff
+    → rows_where [] kind begin removed changed shown ≡ removed
+none_where Diff begin removed changed shown other = absurd (other refl)
+none_where Underline begin removed changed shown other = refl
+none_where Plain begin removed changed shown other = refl
+none_where Add begin removed changed shown other = refl
+
+some_where : (line : List ℕ) (lines : List (List ℕ)) (kind : DisplaySuggestion) (begin : SuggestionRow) (removed changed shown : List SuggestionRow)
+    → kind ≢ Diff → rows_where (line ∷ lines) kind begin removed changed shown ≡ begin ∷ shown
+some_where line lines Diff begin removed changed shown other = absurd (other refl)
+some_where line lines Underline begin removed changed shown other = refl
+some_where line lines Plain begin removed changed shown other = refl
+some_where line lines Add begin removed changed shown other = refl
+
+-- no line is left out but of a diff
+pub none_left_out : (kind : DisplaySuggestion) (lines : List (List ℕ)) (last : List ℕ) → kind ≢ Diff → is_left_out kind lines last ≡ false
+none_left_out Diff lines last other = absurd (other refl)
+none_left_out Underline lines last other = refl
+none_left_out Plain lines last other = refl
+none_left_out Add lines last other = refl
+
+-- the row of line i of the source, as removed
+abbrev pub removed_row : Snippet Patch → ℕ → SuggestionRow
+removed_row s i = Removes i (removed_number s i) (text_at (source_lines (cow_str_bytes s.source)) i)
 
 module _ (start : SuggestionStart) (s : Snippet Patch) where
   abbrev taken : List SuggestionRow
@@ -40,22 +59,24 @@ module _ (start : SuggestionStart) (s : Snippet Patch) where
   left_out = is_left_out (shown_kind s) (given_lines s) (last_reached s)
 
   abbrev offered : List SuggestionRow
-  offered = map row_of_shown (lines_suggested (is_touched s.fold (given_ranges s)) (length (given_lines s)))
+  offered = map row_of_shown (shown_from (is_touched s.fold (given_ranges s)) 0 0 (length (given_lines s)))
 
-  by_case : (lines : List (List ℕ)) (diff : Bool) → given_lines s ≡ lines → is_diff (shown_kind s) ≡ diff
-      → rows_of_suggestion start s ≡ rows_where lines diff (Begins start) taken (changed_rows touched_first left_out taken) offered
-  by_case lines diff lines_are kind_is =
-      let changed : List SuggestionRow = changed_rows touched_first left_out taken in
-      ap (λ ls. rows_where ls (is_diff (shown_kind s)) (Begins start) taken changed offered) lines_are
-      ∙ ap (λ d. rows_where lines d (Begins start) taken changed offered) kind_is
+  abbrev in_diff : List SuggestionRow
+  in_diff = changed_rows touched_first left_out taken
+
+  by_case : (lines : List (List ℕ)) (kind : DisplaySuggestion) → given_lines s ≡ lines → shown_kind s ≡ kind
+      → rows_of_suggestion start s ≡ rows_where lines kind (Begins start) taken in_diff offered
+  by_case lines kind lines_are kind_is =
+      ap (λ ls. rows_where ls (shown_kind s) (Begins start) taken in_diff offered) lines_are
+      ∙ ap (λ k. rows_where lines k (Begins start) taken in_diff offered) kind_is
 
   -- where no line is given
   pub rows_none_diff : given_lines s ≡ [] → shown_kind s ≡ Diff → rows_of_suggestion start s ≡ Begins start ∷ map (removed_row s) (removed_lines s)
-  rows_none_diff none diff = by_case [] true none (ap is_diff diff)
+  rows_none_diff none diff = by_case [] Diff none diff
 
   -- a suggestion that gives no line, and is no diff, has the rows of removed lines alone
   pub rows_none : given_lines s ≡ [] → shown_kind s ≢ Diff → rows_of_suggestion start s ≡ map (removed_row s) (removed_lines s)
-  rows_none none other = by_case [] false none (not_diff (shown_kind s) other)
+  rows_none none other = by_case [] (shown_kind s) none refl ∙ none_where (shown_kind s) (Begins start) taken in_diff offered other
 
   -- in a diff, where lines are given
   pub rows_diff : (line : List ℕ) (lines : List (List ℕ)) (touched left : Bool) → given_lines s ≡ line ∷ lines → shown_kind s ≡ Diff
@@ -64,13 +85,14 @@ module _ (start : SuggestionStart) (s : Snippet Patch) where
   rows_diff line lines touched left some diff touches leaves =
       let left_is : left_out ≡ left = ap (λ k. is_left_out k (given_lines s) (last_reached s)) diff ∙ ap (λ ls. is_left_out Diff ls (last_reached s)) some
       ∙ leaves in
-      by_case (line ∷ lines) true some (ap is_diff diff) ∙ ap (λ t. Begins start ∷ changed_rows t left_out taken) touches
+      by_case (line ∷ lines) Diff some diff ∙ ap (λ t. Begins start ∷ changed_rows t left_out taken) touches
       ∙ ap (λ l. Begins start ∷ changed_rows touched l taken) left_is
 
   -- in another kind
   pub rows_others : (line : List ℕ) (lines : List (List ℕ)) → given_lines s ≡ line ∷ lines → shown_kind s ≢ Diff
-      → rows_of_suggestion start s ≡ Begins start ∷ map row_of_shown (lines_suggested (is_touched s.fold (given_ranges s)) (length (given_lines s)))
-  rows_others line lines some other = by_case (line ∷ lines) false some (not_diff (shown_kind s) other)
+      → rows_of_suggestion start s ≡ Begins start ∷ map row_of_shown (shown_from (is_touched s.fold (given_ranges s)) 0 0 (length (given_lines s)))
+  rows_others line lines some other =
+      by_case (line ∷ lines) (shown_kind s) some refl ∙ some_where line lines (shown_kind s) (Begins start) taken in_diff offered other
 
 -- ---- laws
 
@@ -108,9 +130,9 @@ changed_take false left removed ks taken untouched = sym (untouched refl)
 -- a line is offered for each number that is given, in order
 offered_where : (kind : DisplaySuggestion) (lines : List (List ℕ)) (folds : Bool) (ranges : List LineRange) (last : List ℕ) (start : SuggestionStart)
     (removed : List SuggestionRow) → numbers_offered removed ≡ [] → (kind ≡ Diff → length lines ≤ 1)
-    → numbers_offered (rows_where lines (is_diff kind) (Begins start)
+    → numbers_offered (rows_where lines kind (Begins start)
     removed (changed_rows (is_touched folds ranges 0) (is_left_out kind lines last) removed)
-    (map row_of_shown (lines_suggested (is_touched folds ranges) (length lines)))) ≡ numbers_of kind folds ranges lines last
+    (map row_of_shown (shown_from (is_touched folds ranges) 0 0 (length lines)))) ≡ numbers_of kind folds ranges lines last
 offered_where Diff [] folds ranges last start removed none few = none ∙ sym (none_numbers Diff folds ranges last)
 offered_where Underline [] folds ranges last start removed none few = none ∙ sym (none_numbers Underline folds ranges last)
 offered_where Plain [] folds ranges last start removed none few = none ∙ sym (none_numbers Plain folds ranges last)
@@ -120,11 +142,11 @@ offered_where Diff (line ∷ []) folds ranges last start removed none few =
     ∙ sym (diff_numbers folds ranges line last (is_touched folds ranges 0) refl)
 offered_where Diff (line ∷ other ∷ lines) folds ranges last start removed none few = absurd (omega (arith, few refl))
 offered_where Underline (line ∷ lines) folds ranges last start removed none few =
-    shown_offer (lines_suggested (is_touched folds ranges) (length (line ∷ lines)))
+    shown_offer (shown_from (is_touched folds ranges) 0 0 (length (line ∷ lines)))
 offered_where Plain (line ∷ lines) folds ranges last start removed none few =
-    shown_offer (lines_suggested (is_touched folds ranges) (length (line ∷ lines)))
+    shown_offer (shown_from (is_touched folds ranges) 0 0 (length (line ∷ lines)))
 offered_where Add (line ∷ lines) folds ranges last start removed none few =
-    shown_offer (lines_suggested (is_touched folds ranges) (length (line ∷ lines)))
+    shown_offer (shown_from (is_touched folds ranges) 0 0 (length (line ∷ lines)))
 
 few_in_diff : (s : Snippet Patch) → shown_kind s ≡ Diff → length (given_lines s) ≤ 1
 few_in_diff s diff =
@@ -145,7 +167,7 @@ rows-offer start s =
 taken_where : (kind : DisplaySuggestion) (lines : List (List ℕ)) (touched left : Bool) (start : SuggestionStart) (removed : List SuggestionRow)
     (shown : List SuggestionLine) (emptied replaced : List ℕ) → lines_taken removed ≡ removed_of lines kind emptied replaced
     → (touched ≡ false → replaced ≡ []) → lines_taken
-    (rows_where lines (is_diff kind) (Begins start) removed (changed_rows touched left removed) (map row_of_shown shown))
+    (rows_where lines kind (Begins start) removed (changed_rows touched left removed) (map row_of_shown shown))
     ≡ removed_of lines kind emptied replaced
 taken_where Diff [] touched left start removed shown emptied replaced taken untouched = taken
 taken_where Underline [] touched left start removed shown emptied replaced taken untouched = taken
@@ -166,7 +188,7 @@ pub rows-take : (start : SuggestionStart) (s : Snippet Patch) → lines_taken (r
 rows-take start s =
     let touched : Bool = is_touched s.fold (given_ranges s) 0 in
     taken_where (shown_kind s) (given_lines s) touched (is_left_out (shown_kind s) (given_lines s) (last_reached s))
-    start (map (removed_row s) (removed_lines s)) (lines_suggested (is_touched s.fold (given_ranges s)) (length (given_lines s))) (emptied_lines s)
+    start (map (removed_row s) (removed_lines s)) (shown_from (is_touched s.fold (given_ranges s)) 0 0 (length (given_lines s))) (emptied_lines s)
     (replaced_lines s) (removed_take s (removed_lines s)) (none_untouched touched _)
 
 -- the row of a line that is removed is that of the snippet
@@ -195,12 +217,16 @@ changed_own s true false removed own =
     All-append (IsRowOf s) removed (Offers 0 ∷ []) own (All-cons (IsRowOf s) (Offers 0) [] tt (All-nil (IsRowOf s)))
 changed_own s false left removed own = All-cons (IsRowOf s) Empty [] tt (All-nil (IsRowOf s))
 
-own_where : (s : Snippet Patch) (lines : List (List ℕ)) (diff : Bool) (start : SuggestionStart) (removed changed shown : List SuggestionRow)
-    → All (IsRowOf s) removed → All (IsRowOf s) changed → All (IsRowOf s) shown → All (IsRowOf s) (rows_where lines diff (Begins start) removed changed shown)
-own_where s [] true start removed changed shown r c o = All-cons (IsRowOf s) (Begins start) removed tt r
-own_where s [] false start removed changed shown r c o = r
-own_where s (line ∷ lines) true start removed changed shown r c o = All-cons (IsRowOf s) (Begins start) changed tt c
-own_where s (line ∷ lines) false start removed changed shown r c o = All-cons (IsRowOf s) (Begins start) shown tt o
+own_where : (s : Snippet Patch) (lines : List (List ℕ)) (kind : DisplaySuggestion) (start : SuggestionStart) (removed changed shown : List SuggestionRow)
+    → All (IsRowOf s) removed → All (IsRowOf s) changed → All (IsRowOf s) shown → All (IsRowOf s) (rows_where lines kind (Begins start) removed changed shown)
+own_where s [] Diff start removed changed shown r c o = All-cons (IsRowOf s) (Begins start) removed tt r
+own_where s [] Underline start removed changed shown r c o = r
+own_where s [] Plain start removed changed shown r c o = r
+own_where s [] Add start removed changed shown r c o = r
+own_where s (line ∷ lines) Diff start removed changed shown r c o = All-cons (IsRowOf s) (Begins start) changed tt c
+own_where s (line ∷ lines) Underline start removed changed shown r c o = All-cons (IsRowOf s) (Begins start) shown tt o
+own_where s (line ∷ lines) Plain start removed changed shown r c o = All-cons (IsRowOf s) (Begins start) shown tt o
+own_where s (line ∷ lines) Add start removed changed shown r c o = All-cons (IsRowOf s) (Begins start) shown tt o
 
 -- each row of a suggestion is one that a row of it may be
 pub rows-own : (start : SuggestionStart) (s : Snippet Patch) → All (IsRowOf s) (rows_of_suggestion start s)
@@ -208,6 +234,6 @@ rows-own start s =
     let touched : ℕ → Bool = is_touched s.fold (given_ranges s) in
     let removed : List SuggestionRow = map (removed_row s) (removed_lines s) in
     let left : Bool = is_left_out (shown_kind s) (given_lines s) (last_reached s) in
-    let shown : List SuggestionLine = lines_suggested touched (length (given_lines s)) in
-    own_where s (given_lines s) (is_diff (shown_kind s)) start removed (changed_rows (touched 0) left removed) (map row_of_shown shown)
+    let shown : List SuggestionLine = shown_from touched 0 0 (length (given_lines s)) in
+    own_where s (given_lines s) (shown_kind s) start removed (changed_rows (touched 0) left removed) (map row_of_shown shown)
     (own_rows s (removed_lines s)) (changed_own s (touched 0) left removed (own_rows s (removed_lines s))) (shown_rows s shown)

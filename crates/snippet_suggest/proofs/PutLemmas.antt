@@ -26,7 +26,6 @@ use Rattle.snippet_suggest.specs.declared.kind.DisplaySuggestion.TheVariants.{Di
 use Rattle.snippet_suggest.specs.declared.layout.SuggestionStart.TheVariants.{Next, Opening, Path}
 use Rattle.snippet_suggest.specs.Cells.{begin_cells, opened_cells, end_cells, gap_cells, line_cells, lines_shown, offered_cells, put, removed_cells, row_shown}
 use Rattle.snippet_suggest.specs.Cells.{sign_of, with_stretches}
-use Rattle.snippet_suggest.specs.RowOrder.{number_after}
 use Rattle.snippet_suggest.specs.declared.lines.SuggestedText.{SuggestedText}
 use Rattle.snippet_suggest.specs.declared.shown.SuggestionLine.TheVariants.{Line}
 use Rattle.snippet_splice.specs.EditStretches.{line_stretches}
@@ -34,6 +33,7 @@ use Rattle.std.specs.List.{slice_index_or}
 use Rattle.snippet_suggest.specs.SuggestionRows.{end_glyph}
 use Rattle.std.proofs.lemmas.List.{get_or_past, length-map, places, same_lists}
 use Rattle.snippet_style.specs.Glyphs.{suggestion_glyph_of, suggestion_role_of}
+use Rattle.snippet_window.specs.Margin.{capped_sum}
 
 -- a text that isn't empty has characters
 chars_some : (b : ℕ) (bs : List ℕ) → IsUtf8 (b ∷ bs) → chars (b ∷ bs) ≢ []
@@ -247,14 +247,14 @@ offered_is layout kind glyph count counted number numbered line text ss new sign
 
 -- the row of a line of a text
 pub shown_is : (layout : SuggestionLayout) (text : SuggestedText) (k : ℕ) (glyph : SuggestionGlyph) (number : ℕ) (line : List ℕ)
-    (new : List SubstitutionHighlight) → glyph ≡ sign_of text.kind (length text.lines.now) line new → number ≡ number_after text.first k
+    (new : List SubstitutionHighlight) → glyph ≡ sign_of text.kind (length text.lines.now) line new → number ≡ capped_sum text.first k
     → line ≡ slice_index_or (lines_shown text) k [] → new ≡ line_stretches text.stretches.now k
     → with_stretches Addition layout.base.gutter (chars line) new (line_cells layout glyph number line) ≡ row_shown layout text (Line k)
 shown_is layout text k glyph number line new sign numbers lines stretches =
     let count : ℕ = length text.lines.now in
-    offered_is layout text.kind glyph count count number (number_after text.first k) line (slice_index_or (lines_shown text) k []) new
+    offered_is layout text.kind glyph count count number (capped_sum text.first k) line (slice_index_or (lines_shown text) k []) new
     (line_stretches text.stretches.now k) sign refl numbers lines stretches
-    ∙ ap (λ n. offered_cells layout text.kind n (number_after text.first k) (slice_index_or (lines_shown text) k []) (line_stretches text.stretches.now k))
+    ∙ ap (λ n. offered_cells layout text.kind n (capped_sum text.first k) (slice_index_or (lines_shown text) k []) (line_stretches text.stretches.now k))
     (sym (length-map text.lines.now (λ l. l.now)))
 
 -- writing so many rows below all

@@ -14,10 +14,11 @@ use Rattle.snippet_model.specs.FreeRows.{IsFree}
 use Rattle.snippet_lines.specs.Number.{shown_number}
 use Rattle.snippet_lines.specs.declared.number.LineNumbers.{LineNumbers}
 use Rattle.snippet_suggest.specs.declared.layout.SuggestionLayout.{SuggestionLayout}
-use Rattle.snippet_suggest.specs.RowOrder.{Begins, Empty, Ends, Offers, Removes, Skips, SuggestionRow, number_after}
+use Rattle.snippet_suggest.specs.RowOrder.{Begins, Empty, Ends, Offers, Removes, Skips, SuggestionRow}
 use Rattle.snippet_suggest.specs.SuggestionRows.{IsBareRow, IsBeforeSign, IsLeftOver, IsLineRow, IsRemovedRow}
 use Rattle.snippet_style.specs.Glyphs.{char_of, removed_sign_of}
 use Rattle.snippet_suggest.specs.SuggestionRows.{IsMarkOrSpace, IsSign, IsEdgeRow, Shows, begin_glyph, beside_gutter, end_glyph, gap_left, is_stroke}
+use Rattle.snippet_window.specs.Margin.{capped_sum}
 
 -- the character and the link of a cell, whatever its role
 abbrev pub without_role : Cell → ℕ × Option (List ℕ)
@@ -140,7 +141,7 @@ pub same_shows : (layout : SuggestionLayout) (first : ℕ) (lines : List (List �
 same_shows layout first lines (Begins start) now last same is =
     same_stroke layout.base.decor layout.base.gutter (beside_gutter layout.base.gutter (begin_glyph layout.base.decor start)) now last same is
 same_shows layout first lines (Offers k) now last same is =
-    same_line layout.base.decor layout.base.gutter (shown_number layout.numbers layout.base.gutter (number_after first k))
+    same_line layout.base.decor layout.base.gutter (shown_number layout.numbers layout.base.gutter (capped_sum first k))
     (norm (chars (get_or lines k []))) now last same is
 same_shows layout first lines Skips now last same is =
     same_stroke layout.base.decor layout.base.gutter (gap_left layout.base.decor layout.base.gutter) now last same is

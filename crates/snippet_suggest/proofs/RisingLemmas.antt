@@ -1,6 +1,6 @@
 -- The lines that are shown ascend, and each touched line is among them.
 use Rattle.std.proofs.Common.{◌≡◌, ℕ, zero, suc, ◌+◌, ◌-◌, ◌<◌, ◌≤◌, nat_le, Bool, true, false, List, [], ◌∷◌, ◌++◌, if◌then◌else◌, refl, sym, ap, ◌∙◌, arith}
-use Rattle.std.proofs.Common.{subst, All, Contains, inl, inr}
+use Rattle.std.proofs.Common.{subst, All, Contains, inl, inr, map}
 use Rattle.std.proofs.lemmas.Bool.Decides.{nat_tests}
 use Rattle.std.proofs.lemmas.List.Elements.{filter_map-append, All-cons, All-nil, Contains-append_right}
 use Rattle.std.proofs.lemmas.Bool.{cases_eq}
@@ -9,7 +9,8 @@ use Rattle.snippet_suggest.specs.declared.layout.SuggestionLayout.{SuggestionLay
 use Rattle.snippet_suggest.specs.declared.shown.SuggestionLine.{SuggestionLine}
 use Rattle.snippet_suggest.specs.declared.shown.SuggestionLine.TheVariants.{Line, Gap}
 use Rattle.snippet_suggest.specs.SuggestionRows.{NumberFits}
-use Rattle.snippet_suggest.specs.SuggestedLines.{lines_from, shown_run, shown_from, lines_suggested, number_of, numbers_shown, AreRising}
+use Rattle.snippet_suggest.specs.SuggestedLines.{shown_run, shown_from, number_of, numbers_shown, AreRising}
+use Rattle.std.specs.List.{range_with_len}
 
 -- the bounds of ascending numbers, and two such lists joined
 pub rising_bound : (from to : ℕ) (ks : List ℕ) → AreRising from to ks → from ≤ to
@@ -25,12 +26,12 @@ rising_append from mid to [] ls front back = rising_lower from mid to ls front b
 rising_append from mid to (k ∷ ks) ls front back = (front.0, rising_append (k + 1) mid to ks ls front.1 back)
 
 -- those of a run
-rising_lines : (from n to : ℕ) → from + n ≡ to → AreRising from to (numbers_shown (lines_from from n))
+rising_lines : (from n to : ℕ) → from + n ≡ to → AreRising from to (numbers_shown (map Line (range_with_len from n)))
 rising_lines from zero to is = omega (arith, is)
 rising_lines from (suc n) to is = (omega arith, rising_lines (from + 1) n to (omega (arith, is)))
 
 rising_run_by : (from to : ℕ) (few : Bool) → nat_le (to - from) 3 ≡ few → from ≤ to
-    → AreRising from to (numbers_shown (if few then lines_from from (to - from) else Line from ∷ Gap ∷ Line (to - 1) ∷ []))
+    → AreRising from to (numbers_shown (if few then map Line (range_with_len from (to - from)) else Line from ∷ Gap ∷ Line (to - 1) ∷ []))
 rising_run_by from to true is ordered = rising_lines from (to - from) to (omega (arith, ordered))
 rising_run_by from to false is ordered =
     let many : 3 < to - from = grind (arith, nat_tests) in
@@ -60,10 +61,10 @@ rising_from touched from k (suc left) ordered =
     (rising_from touched from (k + 1) left (omega (arith, ordered))))
 
 -- the numbers of shown lines rise
-pub rising_shown : (touched : ℕ → Bool) (count : ℕ) → AreRising 0 count (numbers_shown (lines_suggested touched count))
+pub rising_shown : (touched : ℕ → Bool) (count : ℕ) → AreRising 0 count (numbers_shown (shown_from touched 0 0 count))
 rising_shown touched count =
     let same : 0 + count ≡ count = omega arith in
-    subst (λ (to : ℕ). AreRising 0 to (numbers_shown (lines_suggested touched count))) same (rising_from touched 0 0 count (omega arith))
+    subst (λ (to : ℕ). AreRising 0 to (numbers_shown (shown_from touched 0 0 count))) same (rising_from touched 0 0 count (omega arith))
 
 -- where there is room for the number of each line, there is for those that are shown
 rooms_of : (layout : SuggestionLayout) (first low count : ℕ) (shown : List SuggestionLine) → AreRising low count (numbers_shown shown)
@@ -77,9 +78,9 @@ rooms_of layout first low count (Gap ∷ shown) rising rooms =
 
 -- the numbers of shown lines fit the gutter where those of all lines do
 pub rooms_shown : (layout : SuggestionLayout) (first count : ℕ) (touched : ℕ → Bool) → ((k : ℕ) → k < count → NumberFits layout first (Line k))
-    → All (NumberFits layout first) (lines_suggested touched count)
+    → All (NumberFits layout first) (shown_from touched 0 0 count)
 rooms_shown layout first count touched rooms =
-    rooms_of layout first 0 count (lines_suggested touched count) (rising_shown touched count) rooms
+    rooms_of layout first 0 count (shown_from touched 0 0 count) (rising_shown touched count) rooms
 
 -- at the end nothing is still to come
 pub shown_all : (touched : ℕ → Bool) (shown all : List SuggestionLine) (after line count : ℕ) → count ≤ line
@@ -116,5 +117,5 @@ touched_from touched from k (suc left) j low high holds =
     touched_from touched next (k + 1) left j more (omega (arith, high)) holds)
 
 -- a line that is touched is shown
-pub touched_shown : (touched : ℕ → Bool) (count j : ℕ) → j < count → touched j ≡ true → Contains (numbers_shown (lines_suggested touched count)) j
+pub touched_shown : (touched : ℕ → Bool) (count j : ℕ) → j < count → touched j ≡ true → Contains (numbers_shown (shown_from touched 0 0 count)) j
 touched_shown touched count j below holds = touched_from touched 0 0 count j (omega arith) (omega (arith, below)) holds

@@ -14,11 +14,13 @@ use Rattle.snippet_suggest.specs.declared.layout.SuggestionLayout.{SuggestionLay
 use Rattle.snippet_suggest.specs.Cells.{diff_cells, emptied_cells, gone_of, left_out_cells, offered_cells, on_last, removed_cells, taken_cells, with_stretches}
 use Rattle.snippet_splice.specs.declared.stretches.SubstitutionHighlight.{SubstitutionHighlight}
 use Rattle.snippet_suggest.specs.declared.kind.DisplaySuggestion.TheVariants.{Diff}
-use Rattle.snippet_suggest.specs.Given.{is_left_out, last_removed, unless_stays}
+use Rattle.snippet_suggest.specs.Given.{is_left_out, last_removed}
+use Rattle.snippet_suggest.specs.Cells.{unless_stays}
 use Rattle.snippet_suggest.specs.Kind.{is_blank_text}
-use Rattle.snippet_suggest.specs.RowOrder.{number_after, numbered_at}
+use Rattle.snippet_suggest.specs.RowOrder.{numbered_at}
 use Rattle.std.proofs.lemmas.List.{append-nil, drop_all, drop_more, get_or-map as mapped, length-map, length-take, map-append, take_all, take_more}
 use Rattle.snippet_suggest.proofs.StretchRows.{with_none}
+use Rattle.snippet_window.specs.Margin.{capped_sum}
 
 -- one row more for each of some items
 pub drawn_next : {A : Type 0} (f : A → List Cell) (xs : List A) (i : ℕ) (d : A) (old now new : List (List Cell)) → i < length xs
@@ -120,18 +122,18 @@ emptied_done layout above under lines at count now some all drawn =
 taken-append : (layout : SuggestionLayout) (first : ℕ) (replaced : ℕ → List SubstitutionHighlight) (k : ℕ) (infos : List LineInfo) (info : LineInfo)
     → taken_cells layout first replaced k (infos ++ info ∷ [])
     ≡ taken_cells layout first replaced k infos ++ with_stretches Removal layout.base.gutter (chars info.line.now) (replaced (info.line_index - first))
-    (removed_cells layout NoStyle (number_after first (k + length infos)) info.line.now []) ∷ []
+    (removed_cells layout NoStyle (capped_sum first (k + length infos)) info.line.now []) ∷ []
 unfolding taken_cells
 taken-append layout first replaced k [] info =
     let here : k ≡ k + 0 = omega arith in
     ap (λ n. with_stretches Removal layout.base.gutter (chars info.line.now) (replaced (info.line_index - first))
-    (removed_cells layout NoStyle (number_after first n) info.line.now []) ∷ []) here
+    (removed_cells layout NoStyle (capped_sum first n) info.line.now []) ∷ []) here
 taken-append layout first replaced k (one ∷ infos) info =
     let here : k + 1 + length infos ≡ k + length (one ∷ infos) = omega arith in
     let Row : ℕ → List Cell = λ n. with_stretches Removal layout.base.gutter (chars info.line.now) (replaced (info.line_index - first))
-    (removed_cells layout NoStyle (number_after first n) info.line.now []) in
+    (removed_cells layout NoStyle (capped_sum first n) info.line.now []) in
     let top : List Cell = with_stretches Removal layout.base.gutter (chars one.line.now) (replaced (one.line_index - first))
-    (removed_cells layout NoStyle (number_after first k) one.line.now []) in
+    (removed_cells layout NoStyle (capped_sum first k) one.line.now []) in
     ap (λ rows. top ∷ rows) (taken-append layout first replaced (k + 1) infos info)
     ∙ ap (λ n. top ∷ (taken_cells layout first replaced (k + 1) infos ++ Row n ∷ [])) here
 
@@ -143,7 +145,7 @@ taken_none layout first replaced infos old = sym (append-nil old)
 
 -- the next of them
 pub taken_next : (layout : SuggestionLayout) (first : ℕ) (replaced : ℕ → List SubstitutionHighlight) (infos : List LineInfo) (i number : ℕ)
-    (d : LineInfo) (ss : List SubstitutionHighlight) (old now new : List (List Cell)) → i < length infos → number ≡ number_after first i
+    (d : LineInfo) (ss : List SubstitutionHighlight) (old now new : List (List Cell)) → i < length infos → number ≡ capped_sum first i
     → ss ≡ replaced ((get_or infos i d).line_index - first) → now ≡ old ++ taken_cells layout first replaced 0 (take i infos)
     → new ≡ now ++ with_stretches Removal layout.base.gutter (chars (get_or infos i d).line.now)
     ss (removed_cells layout NoStyle number (get_or infos i d).line.now []) ∷ []
@@ -154,9 +156,9 @@ taken_next layout first replaced infos i number d ss old now new within number_i
     let Row : ℕ → List SubstitutionHighlight → List Cell = λ n es. with_stretches Removal layout.base.gutter (chars info.line.now) es
     (removed_cells layout NoStyle n info.line.now []) in
     let count : i ≡ 0 + length (take i infos) = omega (arith, length-take i infos, within) in
-    let row : Row number ss ≡ Row (number_after first (0 + length (take i infos))) (replaced (info.line_index - first)) = ap (λ n.
-    Row n ss) (number_is ∙ ap (number_after first) count) ∙ ap (Row (number_after first (0 + length (take i infos)))) ss_is in
-    let more : taken_cells layout first replaced 0 (take (i + 1) infos) ≡ front ++ Row (number_after first (0 + length (take i infos)))
+    let row : Row number ss ≡ Row (capped_sum first (0 + length (take i infos))) (replaced (info.line_index - first)) = ap (λ n.
+    Row n ss) (number_is ∙ ap (capped_sum first) count) ∙ ap (Row (capped_sum first (0 + length (take i infos)))) ss_is in
+    let more : taken_cells layout first replaced 0 (take (i + 1) infos) ≡ front ++ Row (capped_sum first (0 + length (take i infos)))
     (replaced (info.line_index - first)) ∷ [] =
     ap (taken_cells layout first replaced 0) (take_more infos i d within) ∙ taken-append layout first replaced 0 (take i infos) info in
     adds ∙ ap (λ rows. rows ++ Row number ss ∷ []) is ∙ append_assoc old front (Row number ss ∷ []) ∙ ap (λ r. old ++ (front ++ r ∷ [])) row

@@ -1,16 +1,21 @@
 -- Which lines are shown, one line after another.
-use Rattle.std.proofs.Common.{◌≡◌, ℕ, suc, ◌+◌, ◌-◌, ◌<◌, Bool, true, false, List, [], ◌∷◌, ◌++◌, if◌then◌else◌, sym, ap, ◌∙◌, arith, append_assoc}
+use Rattle.std.proofs.Common.{◌≡◌, ℕ, suc, ◌+◌, ◌-◌, ◌<◌, Bool, true, false, List, [], ◌∷◌, ◌++◌, if◌then◌else◌, sym, ap, ◌∙◌, arith, append_assoc, map}
 use Rattle.snippet_suggest.specs.declared.shown.SuggestionLine.{SuggestionLine}
 use Rattle.snippet_suggest.specs.declared.shown.SuggestionLine.TheVariants.{Line}
-use Rattle.snippet_suggest.specs.SuggestedLines.{lines_from, shown_run, shown_from}
+use Rattle.snippet_suggest.specs.SuggestedLines.{shown_run, shown_from}
+use Rattle.std.specs.List.{range_with_len}
+
+-- the lines of a run from one to before another
+abbrev pub run_of : ℕ → ℕ → List SuggestionLine
+run_of from to = map Line (range_with_len from (to - from))
 
 -- one line more of a run
-pub run_step : (done new all : List SuggestionLine) (line to : ℕ) → line < to → new ≡ done ++ Line line ∷ [] → done ++ lines_from line (to - line) ≡ all
-    → new ++ lines_from (line + 1) (to - (line + 1)) ≡ all
+pub run_step : (done new all : List SuggestionLine) (line to : ℕ) → line < to → new ≡ done ++ Line line ∷ [] → done ++ run_of line to ≡ all
+    → new ++ run_of (line + 1) to ≡ all
 run_step done new all line to below pushed is =
     let left : to - line ≡ suc (to - (line + 1)) = omega arith in
-    ap (λ xs. xs ++ lines_from (line + 1) (to - (line + 1))) pushed ∙ append_assoc done (Line line ∷ []) (lines_from (line + 1) (to - (line + 1)))
-    ∙ sym (ap (λ n. done ++ lines_from line n) left) ∙ is
+    ap (λ xs. xs ++ run_of (line + 1) to) pushed ∙ append_assoc done (Line line ∷ []) (run_of (line + 1) to)
+    ∙ sym (ap (λ n. done ++ map Line (range_with_len line n)) left) ∙ is
 
 -- what is still to come, where the line is touched, and where it isn't
 pub touched_step : (touched : ℕ → Bool) (done mid new all : List SuggestionLine) (after line count : ℕ) → line < count → touched line ≡ true

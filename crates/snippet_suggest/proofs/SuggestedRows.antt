@@ -24,11 +24,11 @@ use Rattle.snippet_suggest.specs.declared.layout.SuggestionStart.TheVariants.{Ne
 use Rattle.snippet_suggest.specs.declared.shown.SuggestionLine.{SuggestionLine}
 use Rattle.snippet_suggest.specs.declared.shown.SuggestionLine.TheVariants.{Gap, Line}
 use Rattle.snippet_suggest.specs.Cells.{begin_cells, diff_cells, emptied_cells, end_cells, gone_of, left_out_cells, offered_cells, on_last, removed_cells}
-use Rattle.snippet_suggest.specs.Cells.{suggestion_row, taken_cells, with_stretches}
+use Rattle.snippet_suggest.specs.Cells.{taken_cells, with_stretches, suggestion_row}
 use Rattle.snippet_suggest.specs.Given.{edits_of, first_given, given_lines, given_ranges, is_left_out, last_reached, last_removed, shown_kind, trimmed_of}
-use Rattle.snippet_suggest.specs.Given.{unless_stays}
+use Rattle.snippet_suggest.specs.Cells.{unless_stays}
 use Rattle.snippet_parts.specs.Numbered.{numbered_source}
-use Rattle.snippet_suggest.specs.RowOrder.{Begins, Empty, Ends, Offers, Removes, SuggestionRow, changed_rows, counted_from, is_diff, number_after, numbered_at}
+use Rattle.snippet_suggest.specs.RowOrder.{Begins, Empty, Ends, Offers, Removes, SuggestionRow, changed_rows, counted_from, numbered_at}
 use Rattle.snippet_suggest.specs.RowOrder.{removed_from, row_of_shown, rows_of_suggestion}
 use Rattle.snippet_suggest.specs.SuggestionRows.{rows_shared}
 use Rattle.snippet_suggest.specs.SuggestedLines.{is_touched}
@@ -37,7 +37,9 @@ use Rattle.snippet_suggest.specs.Suggested.{with_left_out}
 use Rattle.snippet_suggest.specs.Marks.{with_marks}
 use Rattle.snippet_suggest.proofs.KnownRemoved.{unless_range}
 use Rattle.snippet_suggest.proofs.RowsDrawn.{diff_left, diff_shown}
-use Rattle.snippet_suggest.proofs.OrderLaws.{not_diff}
+use Rattle.snippet_suggest.proofs.OrderLaws.{none_left_out}
+use Rattle.snippet_window.specs.Margin.{capped_sum}
+use Rattle.std.proofs.Math.Bool.{and-false}
 
 -- ---- rows one by one
 
@@ -123,13 +125,13 @@ body_emptied_diff layout start s under i lines none is =
 -- the rows where no line gives its roles to another row
 body_plain : (layout : SuggestionLayout) (start : SuggestionStart) (s : Snippet Patch) (under : List Cell) (line : List ℕ) (lines : List (List ℕ))
     (rows : List SuggestionRow) → given_lines s ≡ line ∷ lines
-    → (is_diff (shown_kind s) && is_touched s.fold (given_ranges s) 0 && is_left_out (shown_kind s) (line ∷ lines) (last_reached s)) ≡ false
+    → (is_left_out (shown_kind s) (line ∷ lines) (last_reached s) && is_touched s.fold (given_ranges s) 0) ≡ false
     → rows_of_suggestion start s ≡ rows → body_cells layout start s under ≡ cells_over (suggested_cells layout s) under rows
 unfolding body_cells
 body_plain layout start s under line lines rows some stays is =
     let all : List (List Cell) = cells_over (suggested_cells layout s) under (rows_of_suggestion start s) in
     ap (λ (ls : List (List ℕ)). with_left_out layout s ls all) some
-    ∙ cond-false (is_diff (shown_kind s) && is_touched s.fold (given_ranges s) 0 && is_left_out (shown_kind s) (line ∷ lines) (last_reached s)) _ all stays
+    ∙ cond-false (is_left_out (shown_kind s) (line ∷ lines) (last_reached s) && is_touched s.fold (given_ranges s) 0) _ all stays
     ∙ ap (cells_over (suggested_cells layout s) under) is
 
 -- where lines are given, and no diff is shown, the beginning and the rows of the shown lines are the suggestion's
@@ -139,8 +141,8 @@ pub body_shown : (layout : SuggestionLayout) (start : SuggestionStart) (s : Snip
     shown ≡ body_cells layout start s under
 body_shown layout start s under line lines shown some other is =
     let t : Bool = is_touched s.fold (given_ranges s) 0 in
-    let l : Bool = is_left_out (shown_kind s) (line ∷ lines) (last_reached s) in
-    let stays : (is_diff (shown_kind s) && t && l) ≡ false = ap (λ (b : Bool). b && t && l) (not_diff (shown_kind s) other) in
+    let stays : (is_left_out (shown_kind s) (line ∷ lines) (last_reached s) && t) ≡ false = ap (λ (b : Bool). b && t)
+    (none_left_out (shown_kind s) (line ∷ lines) (last_reached s) other) in
     sym (body_plain layout start s under line lines (Begins start ∷ map row_of_shown shown) some stays is
     ∙ ap (λ row. row ∷ map (suggested_cells layout s []) (map row_of_shown shown)) (begins_is layout s under start)
     ∙ ap (λ rows. begin_cells layout start under ∷ rows) (shown_is layout s shown))
@@ -153,8 +155,7 @@ pub body_untouched : (layout : SuggestionLayout) (start : SuggestionStart) (s : 
     → rows_of_suggestion start s ≡ Begins start ∷ Empty ∷ [] → begin_cells layout start under ∷ [] ∷ [] ≡ body_cells layout start s under
 body_untouched layout start s under line one diff untouched is =
     let l : Bool = is_left_out (shown_kind s) (line ∷ []) (last_reached s) in
-    let stays : (is_diff (shown_kind s) && is_touched s.fold (given_ranges s) 0 && l)
-    ≡ false = ap (λ (b : Bool). b && is_touched s.fold (given_ranges s) 0 && l) (ap is_diff diff) ∙ ap (λ (b : Bool). b && l) untouched in
+    let stays : (l && is_touched s.fold (given_ranges s) 0) ≡ false = ap (λ (b : Bool). l && b) untouched ∙ and-false l in
     sym (body_plain layout start s under line [] (Begins start ∷ Empty ∷ []) one stays is
     ∙ ap (λ row. row ∷ suggested_cells layout s [] Empty ∷ []) (begins_is layout s under start)
     ∙ ap (λ (row : List Cell). begin_cells layout start under ∷ row ∷ []) (empty_is layout s []))
@@ -184,13 +185,13 @@ taken_rows layout s line replaced (info ∷ infos) f a (suc m) k one same are =
     let text : info.line.now ≡ f a = ap (λ (p : ℕ × List ℕ). p.1) pair in
     let index : info.line_index - first ≡ a - first_given s = omega (arith, own) in
     let Row : List ℕ → List SubstitutionHighlight → List Cell = λ t ss.
-    with_stretches Removal layout.base.gutter (chars t) ss (removed_cells layout NoStyle (number_after first k) t []) in
+    with_stretches Removal layout.base.gutter (chars t) ss (removed_cells layout NoStyle (capped_sum first k) t []) in
     let row : Row info.line.now (replaced (info.line_index - first))
     ≡ Row (f a) (suggested_stretches s (a - first_given s)) = ap (λ t. Row t (replaced (info.line_index - first))) text
     ∙ ap (Row (f a)) (ap replaced index ∙ same (a - first_given s)) in
-    let is = removed_some layout s [] line a (number_after first k) (f a) one in
+    let is = removed_some layout s [] line a (capped_sum first k) (f a) one in
     ap (λ r. r ∷ taken_cells layout first replaced (k + 1) infos) (row ∙ sym is)
-    ∙ ap (λ rows. suggested_cells layout s [] (Removes a (number_after first k) (f a)) ∷ rows)
+    ∙ ap (λ rows. suggested_cells layout s [] (Removes a (capped_sum first k) (f a)) ∷ rows)
     (taken_rows layout s line replaced infos f (a + 1) m (k + 1) one same rest)
 
 -- a suggestion shares at most one row
@@ -287,9 +288,9 @@ module _ (layout : SuggestionLayout) (s : Snippet Patch) (line : List ℕ) (f : 
   offered_is : suggested_cells layout s [] (Offers 0) ≡ offered_cells layout Diff 1 first line (new_on s 0)
   unfolding suggested_cells
   offered_is =
-      let number : number_after first 0 ≡ first = omega (arith, known.small) in
-      ap (λ (ls : List (List ℕ)). offered_cells layout (shown_kind s) (length ls) (number_after first 0) (get_or ls 0 []) (new_on s 0)) known.one
-      ∙ ap (λ k. offered_cells layout k 1 (number_after first 0) line (new_on s 0)) known.diff
+      let number : capped_sum first 0 ≡ first = omega (arith, known.small) in
+      ap (λ (ls : List (List ℕ)). offered_cells layout (shown_kind s) (length ls) (capped_sum first 0) (get_or ls 0 []) (new_on s 0)) known.one
+      ∙ ap (λ k. offered_cells layout k 1 (capped_sum first 0) line (new_on s 0)) known.diff
       ∙ ap (λ m. offered_cells layout Diff 1 m line (new_on s 0)) number
 
   -- where the line isn't shown, and where it is
@@ -301,9 +302,9 @@ module _ (layout : SuggestionLayout) (s : Snippet Patch) (line : List ℕ) (f : 
       let all : List (List Cell) = cells_over (suggested_cells layout s) under (rows_of_suggestion start s) in
       let Painted : List SubstitutionHighlight → List (List Cell) → List (List Cell) = λ ss rs.
       on_last (left_out_cells layout.base.gutter line ss (new_on s 0)) rs in
-      let test : (is_diff (shown_kind s) && is_touched s.fold (given_ranges s) 0 && is_left_out (shown_kind s) (line ∷ []) (last_reached s)) ≡ true =
-      ap (λ k. is_diff k && is_touched s.fold (given_ranges s) 0 && is_left_out k (line ∷ []) (last_reached s)) known.diff
-      ∙ ap (λ (t : Bool). t && left) known.touched ∙ leaves in
+      let test : (is_left_out (shown_kind s) (line ∷ []) (last_reached s) && is_touched s.fold (given_ranges s) 0) ≡ true =
+      ap (λ k. is_left_out k (line ∷ []) (last_reached s) && is_touched s.fold (given_ranges s) 0) known.diff
+      ∙ ap (λ (t : Bool). left && t) known.touched ∙ ap (λ (l : Bool). l && true) leaves in
       let body : with_left_out layout s (given_lines s) all ≡ Painted gone all = ap (λ (ls : List (List ℕ)). with_left_out layout s ls all) known.one
       ∙ cond-true _ (Painted gone all) all test in
       let shown : all ≡ begin_cells layout start under ∷ taken_cells layout first replaced 0 (unless_stays stays infos) =
@@ -321,9 +322,9 @@ module _ (layout : SuggestionLayout) (s : Snippet Patch) (line : List ℕ) (f : 
   body_offered start under shown rows =
       let row : List Cell = offered_cells layout Diff 1 first line (new_on s 0) in
       let begin : List Cell = begin_cells layout start under in
-      let test : (is_diff (shown_kind s) && is_touched s.fold (given_ranges s) 0 && is_left_out (shown_kind s) (line ∷ []) (last_reached s)) ≡ false =
-      ap (λ k. is_diff k && is_touched s.fold (given_ranges s) 0 && is_left_out k (line ∷ []) (last_reached s)) known.diff
-      ∙ ap (λ (t : Bool). t && left) known.touched ∙ shown in
+      let test : (is_left_out (shown_kind s) (line ∷ []) (last_reached s) && is_touched s.fold (given_ranges s) 0) ≡ false =
+      ap (λ k. is_left_out k (line ∷ []) (last_reached s) && is_touched s.fold (given_ranges s) 0) known.diff
+      ∙ ap (λ (t : Bool). left && t) known.touched ∙ ap (λ (l : Bool). l && true) shown in
       let body = body_plain layout start s under line [] (Begins start ∷ (removed ++ Offers 0 ∷ [])) known.one test
       (rows ∙ ap (λ l. Begins start ∷ changed_rows true l removed) shown) in
       let cells : map (suggested_cells layout s []) (removed ++ Offers 0 ∷ []) ≡ taken_cells layout first replaced 0 (unless_stays stays infos) ++ row ∷ [] =

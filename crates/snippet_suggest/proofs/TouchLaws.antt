@@ -3,12 +3,12 @@ use Rattle.std.proofs.Common.{◌≡◌, ◌≢◌, ℕ, ◌+◌, ◌-◌, ◌<�
 use Rattle.std.proofs.Common.{length, map, get_or, refl, sym, ap, subst, ◌∙◌, ⊎_elim, arith}
 use Rattle.std.proofs.lemmas.List.{length-map, get_or-map}
 use Rattle.std.proofs.lemmas.List.Folds.{list_any_at}
-use Rattle.std.proofs.lemmas.Bool.{true≢false, and_from, or_cases, or_right, le-leb, leb-true, cases_Bool}
+use Rattle.std.proofs.lemmas.Bool.{true≢false, and_from, or_cases, or_right, le-leb, cases_Bool}
 use Rattle.std.proofs.lemmas.Slice.Eq.{bytes_eq-Decides}
 use Rattle.std.proofs.lemmas.Str.{chars-nil}
 use Rattle.std.specs.Cow.{cow_str_bytes}
 use Rattle.std.specs.Char.{is_whitespace}
-use Rattle.std.specs.List.{list_all, list_any}
+use Rattle.std.specs.List.{list_all}
 use Rattle.std.specs.Str.{bytes_eq}
 use Rattle.snippet_model.specs.declared.snippet.Snippet.{Snippet}
 use Rattle.snippet_model.specs.declared.snippet.Patch.{Patch}
@@ -24,14 +24,15 @@ use Rattle.snippet_splice.proofs.TouchLemmas.{IsHeld, shown-touched, touched-hel
 use Rattle.snippet_suggest.specs.declared.kind.DisplaySuggestion.{DisplaySuggestion}
 use Rattle.snippet_suggest.specs.declared.kind.DisplaySuggestion.TheVariants.{Underline, Diff, Plain, Add}
 use Rattle.snippet_suggest.specs.Given.{IsAsItWas, IsOfferable, edits_of, first_given, given_lines, given_ranges, given_text, is_left_out, last_reached}
-use Rattle.snippet_suggest.specs.Given.{numbers_given, numbers_of, offered_lines, shown_kind, trimmed_of}
-use Rattle.snippet_suggest.specs.Kind.{adds_lines, is_blank_text, is_only_replacement, kind_of, takes_away}
-use Rattle.snippet_suggest.specs.SuggestedLines.{is_in_ranges, is_touched, numbers_shown, lines_suggested}
+use Rattle.snippet_suggest.specs.Given.{numbers_given, numbers_of, offered_lines, shown_kind, trimmed_of, counted_folded}
+use Rattle.snippet_suggest.specs.Kind.{is_blank_text, kind_of}
+use Rattle.snippet_suggest.specs.SuggestedLines.{is_touched, numbers_shown, shown_from}
 use Rattle.snippet_suggest.proofs.RisingLemmas.{touched_shown}
 use Rattle.snippet_suggest.proofs.OfferLaws.{HaveSpans, edits-apart, given-is-patched, given-part}
+use Rattle.snippet_suggest.proofs.GutterFits.{one_given}
 
 -- a line in one of some ranges of the patched source is held by the same range counted from a later line on
-held-later : (base j : ℕ) (ranges : List LineRange) → IsHeld (ranges_from base ranges) j → is_in_ranges ranges (j - base) ≡ true
+held-later : (base j : ℕ) (ranges : List LineRange) → IsHeld (ranges_from base ranges) j → is_touched true ranges (j - base) ≡ true
 held-later base j ranges h =
     let shift : LineRange → LineRange = λ r. record { first = base + r.first; last = base + r.last } in
     let i : ℕ = h.among.0 in
@@ -56,17 +57,8 @@ left_out Plain lines last is = absurd (true≢false (sym is))
 left_out Add lines last is = absurd (true≢false (sym is))
 
 -- a diff has at most one line
-diff-by : (few takes whole closes : Bool)
-    → (if few && takes then Diff else if whole then (if closes then Add else Plain) else if few then Underline else Plain) ≡ Diff → few ≡ true
-diff-by true takes whole closes is = refl
-diff-by false takes true true is = absurd (cc)
-diff-by false takes true false is = absurd (cc)
-diff-by false takes false closes is = absurd (cc)
-
 diff-one : (source : List ℕ) (ts : List Edit) (text : List ℕ) → kind_of source ts text ≡ Diff → length (lines_of text) ≤ 1
-diff-one source ts text is =
-    leb-true (length (lines_of text)) 1 (diff-by (nat_le (length (lines_of text)) 1) (list_any (takes_away source) ts) (is_only_replacement ts text)
-    (adds_lines ts) is)
+diff-one source ts text is = one_given source ts text (ap (λ k. counted_folded k 0 0 1) is)
 
 -- a line that isn't blank isn't empty
 not-empty : (text : List ℕ) → is_blank_text text ≡ false → text ≢ []
@@ -88,9 +80,9 @@ contains-moved base k j ks is among =
 
 -- where none is left out they are those that are shown
 none-left-out : (kind : DisplaySuggestion) (folds : Bool) (ranges : List LineRange) (lines : List (List ℕ)) (last : List ℕ)
-    → is_left_out kind lines last ≡ false → numbers_of kind folds ranges lines last ≡ numbers_shown (lines_suggested (is_touched folds ranges) (length lines))
+    → is_left_out kind lines last ≡ false → numbers_of kind folds ranges lines last ≡ numbers_shown (shown_from (is_touched folds ranges) 0 0 (length lines))
 none-left-out kind folds ranges lines last none =
-    ap (λ b. if b then [] else numbers_shown (lines_suggested (is_touched folds ranges) (length lines))) none
+    ap (λ b. if b then [] else numbers_shown (shown_from (is_touched folds ranges) 0 0 (length lines))) none
 
 -- where the line of a text is left out, it is blank or the text is as it was
 lone_patch_left_out : (s : Snippet Patch) → HaveSpans s → AreDisjoint (edits_of s) → s.markers.items ≢ [] → IsOfferable s → 0 < length (given_lines s)
@@ -142,10 +134,10 @@ touched-offered s spans disjoint offerable j touched filled =
     (λ as_it_was. inl as_it_was) why.1)
     (λ shown. let ranges : ranges_from base (given_ranges s) ≡ line_ranges source es = ranges_from-written_ranges s.fold source es offerable.no_cr
     offerable.before (edits-apart s spans disjoint) in
-    let held : is_in_ranges (given_ranges s) k ≡ true = held-later base j (given_ranges s)
+    let held : is_touched true (given_ranges s) k ≡ true = held-later base j (given_ranges s)
     (subst (λ rs. IsHeld rs j) (sym ranges) (touched-held source es j touched)) in
-    let among : Contains (numbers_shown (lines_suggested (is_touched s.fold (given_ranges s)) (length (given_lines s)))) k = touched_shown
-    (is_touched s.fold (given_ranges s)) (length (given_lines s)) k low (or_right (not s.fold) (is_in_ranges (given_ranges s) k) held) in
+    let among : Contains (numbers_shown (shown_from (is_touched s.fold (given_ranges s)) 0 0 (length (given_lines s)))) k = touched_shown
+    (is_touched s.fold (given_ranges s)) (length (given_lines s)) k low (or_right (not s.fold) (is_touched true (given_ranges s) k) held) in
     inr (contains-moved base k j (numbers_given s) is_j (subst (λ ks.
     Contains ks k) (sym (none-left-out (shown_kind s) s.fold (given_ranges s) (given_lines s) (last_reached s) shown)) among)))
     (cases_Bool (is_left_out (shown_kind s) (given_lines s) (last_reached s)))

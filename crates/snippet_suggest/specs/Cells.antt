@@ -15,7 +15,7 @@ use Rattle.snippet_splice.specs.EditStretches.{capped, line_stretches}
 use Rattle.snippet_style.specs.declared.glyphs.SuggestionGlyph.{SuggestionGlyph}
 use Rattle.snippet_style.specs.declared.glyphs.SuggestionGlyph.TheVariants as sign
 use Rattle.snippet_suggest.specs.declared.kind.DisplaySuggestion.{DisplaySuggestion}
-use Rattle.snippet_suggest.specs.declared.kind.DisplaySuggestion.TheVariants.{Underline, Diff, Plain, Add}
+use Rattle.snippet_suggest.specs.declared.kind.DisplaySuggestion.TheVariants.{Diff, Add}
 use Rattle.snippet_suggest.specs.declared.layout.SuggestionLayout.{SuggestionLayout}
 use Rattle.snippet_suggest.specs.declared.layout.SuggestionStart.{SuggestionStart}
 use Rattle.snippet_suggest.specs.declared.layout.SuggestionStart.TheVariants.{Opening, Next, Path}
@@ -23,11 +23,11 @@ use Rattle.snippet_parts.specs.declared.source_map.LineInfo.{LineInfo}
 use Rattle.snippet_suggest.specs.declared.lines.SuggestedText.{SuggestedText}
 use Rattle.snippet_suggest.specs.declared.shown.SuggestionLine.{SuggestionLine}
 use Rattle.snippet_suggest.specs.declared.shown.SuggestionLine.TheVariants.{Line, Gap}
-use Rattle.snippet_suggest.specs.Given.{is_left_out, last_removed, unless_stays}
+use Rattle.snippet_suggest.specs.Given.{is_left_out, last_removed}
 use Rattle.snippet_style.specs.Glyphs.{suggestion_glyph_of, suggestion_role_of}
-use Rattle.snippet_suggest.specs.RowOrder.{number_after}
 use Rattle.snippet_suggest.specs.SuggestionRows.{end_glyph}
 use Rattle.snippet_grid.specs.Layout.{inner_cell, separator_cell}
+use Rattle.snippet_window.specs.Margin.{capped_sum}
 
 -- a row after characters were put into it in a role, from a cell on; none leave it as it was
 unfoldable pub put : ElementStyle → List ℕ → ℕ → List Cell → List Cell
@@ -38,10 +38,9 @@ put role (c ∷ cs) at row = written SPACE row at (text_cells role (c ∷ cs))
 
 -- the sign beside the one line of a suggestion: that of a new line where it is new, or stands in place of removed ones, else a separator
 abbrev pub sign_alone : DisplaySuggestion → SuggestionGlyph
-sign_alone Underline = sign.Alone
 sign_alone Diff = sign.Added
-sign_alone Plain = sign.Alone
 sign_alone Add = sign.Added
+sign_alone kind = sign.Alone
 
 -- as the original does, by bytes: the sign beside one of several lines that has one stretch: `+` where the stretch goes from its start to
 -- as many characters as the line has bytes, a separator where it is empty and stands at the start, else the glyph of a changed line
@@ -118,7 +117,7 @@ end_cells layout follows = put LineNumber (end_glyph layout.base.decor follows) 
 -- the row of a line of some that is shown, of which the first has this number, and one in place of lines that are left out
 abbrev pub suggestion_row : SuggestionLayout → DisplaySuggestion → ℕ → List (List ℕ) → (ℕ → List SubstitutionHighlight) → SuggestionLine → List Cell
 suggestion_row layout kind first lines stretches (Line k) =
-    offered_cells layout kind (length lines) (number_after first k) (slice_index_or lines k []) (stretches k)
+    offered_cells layout kind (length lines) (capped_sum first k) (slice_index_or lines k []) (stretches k)
 suggestion_row layout kind first lines stretches Gap = gap_cells layout
 
 -- the lines of a text of a suggestion
@@ -144,7 +143,7 @@ unfoldable pub taken_cells : SuggestionLayout → ℕ → (ℕ → List Substitu
 taken_cells layout first replaced k [] = []
 taken_cells layout first replaced k (info ∷ infos) =
     with_stretches Removal layout.base.gutter (chars info.line.now) (replaced (info.line_index - first))
-    (removed_cells layout NoStyle (number_after first k) info.line.now [])
+    (removed_cells layout NoStyle (capped_sum first k) info.line.now [])
     ∷ taken_cells layout first replaced (k + 1) infos
 
 -- some rows, the last of them changed
@@ -163,6 +162,10 @@ left_out_cells gutter line gone added row =
 abbrev pub gone_of : Bool → ℕ → (ℕ → List SubstitutionHighlight) → List LineInfo → List SubstitutionHighlight
 gone_of stays first replaced infos =
     if stays then replaced (slice_index_or (map (λ info. info.line_index) infos) (length infos - 1) 0 - first) else []
+
+-- some items, without the last if that stays
+abbrev pub unless_stays : {A : Type 0} → Bool → List A → List A
+unless_stays stays xs = if stays then take (length xs - 1) xs else xs
 
 -- the rows of a diff from the one that the suggestion begins with on: the lines that are removed, but the last where it is the same
 -- as the line in their place, and that line; where it isn't shown, the row above it gets its roles

@@ -16,9 +16,9 @@ use Rattle.snippet_splice.specs.Edits.{Edit, edit_of, in_order, trimmed_edits}
 use Rattle.snippet_splice.specs.ShownText.{first_start, shown_line, shown_start, shown_text}
 use Rattle.snippet_splice.specs.Spliced.{HasNoCr, IsBeforeFinalLf, last_line_reached, spliced_text, texts_of}
 use Rattle.snippet_suggest.specs.declared.kind.DisplaySuggestion.{DisplaySuggestion}
-use Rattle.snippet_suggest.specs.declared.kind.DisplaySuggestion.TheVariants.{Underline, Diff, Plain, Add}
+use Rattle.snippet_suggest.specs.declared.kind.DisplaySuggestion.TheVariants.{Underline, Diff}
 use Rattle.snippet_suggest.specs.Kind.{is_blank_text, kind_of}
-use Rattle.snippet_suggest.specs.SuggestedLines.{is_touched, numbers_shown, lines_suggested}
+use Rattle.snippet_suggest.specs.SuggestedLines.{is_touched, numbers_shown, shown_from}
 
 -- how many lines some patches may add: the line feeds of their replacements
 abbrev pub added_lines : List Patch → ℕ
@@ -60,9 +60,7 @@ last_reached s =
 abbrev pub is_left_out : DisplaySuggestion → List (List ℕ) → List ℕ → Bool
 is_left_out Diff lines last =
     is_blank_text (slice_index_or lines 0 []) || bytes_eq (slice_index_or lines 0 []) last
-is_left_out Underline lines last = false
-is_left_out Plain lines last = false
-is_left_out Add lines last = false
+is_left_out kind lines last = false
 
 -- the texts of some lines, and that of the last of them
 abbrev pub texts_at : List LineInfo → List (List ℕ)
@@ -74,7 +72,7 @@ last_removed infos = slice_index_or (texts_at infos) (length infos - 1) []
 -- which of some lines are shown, counted from the first of them
 abbrev pub numbers_of : DisplaySuggestion → Bool → List LineRange → List (List ℕ) → List ℕ → List ℕ
 numbers_of kind folds ranges lines last =
-    if is_left_out kind lines last then [] else numbers_shown (lines_suggested (is_touched folds ranges) (length lines))
+    if is_left_out kind lines last then [] else numbers_shown (shown_from (is_touched folds ranges) 0 0 (length lines))
 
 -- which of its lines a suggestion shows: unfolded all; folded those that patches touch, and of the lines between two of
 -- these all, or of more than three the first and the last; but not one that is left out
@@ -91,10 +89,6 @@ lines_touched source start end =
     let ls = source_lines source in
     range_with_len (line_of ls start) (line_of ls end + 1 - line_of ls start)
 
--- some items, without the last if that stays
-abbrev pub unless_stays : {A : Type 0} → Bool → List A → List A
-unless_stays stays xs = if stays then take (length xs - 1) xs else xs
-
 -- where the first of some edits ends
 abbrev pub first_end : List Edit → ℕ
 first_end [] = 0
@@ -110,17 +104,15 @@ emptied_lines s =
 -- which the last ends, without this if it is the same as the line in their place; but none if no patch touches that
 abbrev pub replaced_lines : Snippet Patch → List ℕ
 replaced_lines s =
-    let source = cow_str_bytes s.source in
-    if is_touched s.fold (given_ranges s) 0 then unless_stays (bytes_eq (slice_index_or (given_lines s) 0 []) (last_reached s))
-    (lines_touched source (first_start (trimmed_of s)) (end_from 0 (trimmed_of s))) else []
+    let lines = lines_touched (cow_str_bytes s.source) (first_start (trimmed_of s)) (end_from 0 (trimmed_of s)) in
+    let stays = bytes_eq (slice_index_or (given_lines s) 0 []) (last_reached s) in
+    if is_touched s.fold (given_ranges s) 0 then (if stays then take (length lines - 1) lines else lines) else []
 
 -- those that are removed, by the lines that are given and how they are shown: lines are removed if none is given, or in a diff
 abbrev pub removed_of : List (List ℕ) → DisplaySuggestion → List ℕ → List ℕ → List ℕ
 removed_of [] kind emptied replaced = emptied
-removed_of (line ∷ lines) Diff emptied replaced = replaced
-removed_of (line ∷ lines) Underline emptied replaced = []
-removed_of (line ∷ lines) Plain emptied replaced = []
-removed_of (line ∷ lines) Add emptied replaced = []
+removed_of lines Diff emptied replaced = replaced
+removed_of lines kind emptied replaced = []
 
 -- which lines of the source a suggestion shows as removed
 abbrev pub removed_lines : Snippet Patch → List ℕ
@@ -156,8 +148,7 @@ first_original_end (p ∷ ps) = p.original_span.end
 abbrev pub counted_folded : DisplaySuggestion → ℕ → ℕ → ℕ → ℕ
 counted_folded Underline first removed last = first
 counted_folded Diff first removed last = removed
-counted_folded Plain first removed last = last
-counted_folded Add first removed last = last
+counted_folded kind first removed last = last
 
 -- the line number that a suggestion counts for the gutter's width
 abbrev pub counted_line : Snippet Patch → ℕ

@@ -1,8 +1,9 @@
 -- How a suggestion is shown: as a value, by what its patches do.
-use Rattle.std.specs.Prelude.{ℕ, nat_lt, nat_le, ◌==◌, ◌&&◌, ◌||◌, not, Bool, true, false, Option, Some, None, is_none, List, [], ◌∷◌, length, chars}
+use Rattle.std.specs.Prelude.{ℕ, nat_lt, nat_le, ◌==◌, ◌&&◌, ◌||◌, not, Bool, true, Option, Some, None, is_none, List, length, chars}
 use Rattle.std.specs.Prelude.{if◌then◌else◌}
 use Rattle.std.specs.Char.{is_whitespace}
 use Rattle.std.specs.List.{list_all, list_any, slice_range}
+use Rattle.std.specs.Option.{option_map_or}
 use Rattle.std.specs.Str.{bytes_eq, trim}
 use Rattle.snippet_lines.specs.Lines.{last_byte, lines_of}
 use Rattle.snippet_splice.specs.Edits.{Edit}
@@ -23,38 +24,25 @@ abbrev pub is_under_text : Edit → Option (List ℕ) → Bool
 is_under_text e None = not (e.start == e.end)
 is_under_text e (Some text) = not (is_blank_text text)
 
--- whether its text keeps less than all of that text, whitespace around both apart
-abbrev pub loses_text : Edit → Option (List ℕ) → Bool
-loses_text e None = true
-loses_text e (Some text) = is_none (sandwich (trim text) (trim e.text))
-
--- whether a trimmed edit deletes or destroys text that isn't blank
+-- whether a trimmed edit deletes or destroys text that isn't blank: its text is blank, or keeps less than all of that text, whitespace around
+-- both apart
 abbrev pub takes_away : List ℕ → Edit → Bool
 takes_away source e =
-    is_under_text e (text_under source e) && (is_blank_text e.text || loses_text e (text_under source e))
+    is_under_text e (text_under source e)
+    && (is_blank_text e.text || option_map_or (λ text. is_none (sandwich (trim text) (trim e.text))) (text_under source e) true)
 
 -- whether a trimmed edit adds text, and stands over nothing but whitespace
 abbrev pub adds_text : List ℕ → Edit → Bool
 adds_text source e =
     nat_lt 0 (length e.text) && not (is_under_text e (text_under source e))
 
--- whether a text is that of the one edit, whitespace around both apart
-abbrev pub is_only_replacement : List Edit → List ℕ → Bool
-is_only_replacement [] text = false
-is_only_replacement (e ∷ []) text = bytes_eq (trim e.text) (trim text)
-is_only_replacement (e ∷ d ∷ es) text = false
-
--- whether the text of the one edit ends with LF
-abbrev pub adds_lines : List Edit → Bool
-adds_lines [] = false
-adds_lines (e ∷ es) = last_byte e.text == 10
-
 -- how these trimmed edits of a source are shown, if they give this text: as removed lines and one in their place where something
--- is taken away and there is at most one line; as new lines where the one edit gives all of it and ends with LF; as one line
--- with marks where several or a part give it; else as the lines that it has
+-- is taken away and there is at most one line; where just one edit gives all of it, whitespace around both apart, as new lines if it
+-- ends with LF, and else as they are; as one line with marks where several edits or a part of one give that; else as the lines that
+-- there are
 abbrev pub kind_of : List ℕ → List Edit → List ℕ → DisplaySuggestion
 kind_of source ts text =
     if nat_le (length (lines_of text)) 1 && list_any (takes_away source) ts then Diff
-    else if is_only_replacement ts text then (if adds_lines ts then Add else Plain)
+    else if length ts == 1 && list_all (λ e. bytes_eq (trim e.text) (trim text)) ts then (if list_any (λ e. last_byte e.text == 10) ts then Add else Plain)
     else if nat_le (length (lines_of text)) 1 then Underline
     else Plain

@@ -31,17 +31,12 @@ edit_columns s e =
 abbrev pub left_of : ℕ → List PatchColumns → List PatchColumns
 left_of start earlier = filter (λ c. nat_le c.end start) earlier
 
--- how far some edits move what stands after them to the right, and then to the left: together by what they make the line longer or
--- shorter
-abbrev pub to_right : List PatchColumns → ℕ
-to_right earlier = capped (sum_by (λ c. c.width + c.start) earlier)
-
-abbrev pub to_left : List PatchColumns → ℕ
-to_left earlier = capped (sum_by (λ c. c.end) earlier)
-
--- where a column stands then, of what starts at column `start`
+-- where a column of what starts at column `start` stands in the line as it will be: the edits left of it move it to the right, and then to
+-- the left, together by what they make the line longer or shorter
 abbrev pub moved : ℕ → List PatchColumns → ℕ → ℕ
-moved start earlier column = capped (column + to_right (left_of start earlier)) - to_left (left_of start earlier)
+moved start earlier column =
+    let left = left_of start earlier in
+    capped (column + capped (sum_by (λ c. c.width + c.start) left)) - capped (sum_by (λ c. c.end) left)
 
 -- as the original does, in bytes: how much whitespace a text begins with, none if it is nothing else; and the columns of the text without
 -- the whitespace around it, or of all of it if it is nothing else

@@ -1,13 +1,13 @@
 -- What the patches before one move, as the code keeps it.
-use Rattle.std.specs.Prelude.{◌≡◌, ◌≤◌, All, List}
+use Rattle.std.specs.Prelude.{◌≡◌, ◌+◌, ◌≤◌, All, List, sum_by}
+use Rattle.snippet_splice.specs.EditStretches.{capped}
 use Rattle.snippet_suggest.specs.declared.marks.Moves.{Moves}
 use Rattle.snippet_suggest.specs.declared.marks.PatchColumns.{PatchColumns}
 use Rattle.snippet_suggest.specs.declared.marks.Shift.{Shift}
-use Rattle.snippet_suggest.specs.Marks.{to_left, to_right}
 
 -- what some patches move
 abbrev pub shift_of : List PatchColumns → Shift
-shift_of earlier = record { right = to_right earlier; left = to_left earlier }
+shift_of earlier = record { right = capped (sum_by (λ c. c.width + c.start) earlier); left = capped (sum_by (λ c. c.end) earlier) }
 
 -- the columns of these patches are kept, with what they move together, and a column that none of them ends after
 pub record AreMoves (earlier : List PatchColumns) (m : Moves) : Type 0 where

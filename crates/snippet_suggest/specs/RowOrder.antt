@@ -1,5 +1,5 @@
 -- What the rows of a suggestion show, from top to bottom: a value, by short rules from its snippet.
-use Rattle.std.specs.Prelude.{ℕ, ◌+◌, ◌-◌, Bool, true, false, Option, Some, None, List, [], ◌∷◌, ◌++◌, length, map, if◌then◌else◌}
+use Rattle.std.specs.Prelude.{ℕ, ◌+◌, ◌-◌, Bool, true, false, Option, Some, None, List, [], ◌∷◌, ◌++◌, length, map, if◌then◌else◌, ◌==◌}
 use Rattle.std.specs.Cow.{cow_str_bytes}
 use Rattle.std.specs.List.{filter_map}
 use Rattle.snippet_window.specs.Margin.{capped_sum}
@@ -10,12 +10,12 @@ use Rattle.snippet_lines.specs.Lines.{source_lines, text_at}
 use Rattle.snippet_lines.specs.Place.{line_of}
 use Rattle.snippet_splice.specs.ShownText.{first_start}
 use Rattle.snippet_suggest.specs.declared.kind.DisplaySuggestion.{DisplaySuggestion}
-use Rattle.snippet_suggest.specs.declared.kind.DisplaySuggestion.TheVariants.{Underline, Diff, Plain, Add}
+use Rattle.snippet_suggest.specs.declared.kind.DisplaySuggestion.TheVariants.{Diff}
 use Rattle.snippet_suggest.specs.declared.layout.SuggestionStart.{SuggestionStart}
 use Rattle.snippet_suggest.specs.declared.shown.SuggestionLine.{SuggestionLine}
 use Rattle.snippet_suggest.specs.declared.shown.SuggestionLine.TheVariants.{Line, Gap}
 use Rattle.snippet_suggest.specs.Given.{first_given, given_lines, given_ranges, is_left_out, last_reached, removed_lines, shown_kind, trimmed_of}
-use Rattle.snippet_suggest.specs.SuggestedLines.{is_touched, lines_suggested}
+use Rattle.snippet_suggest.specs.SuggestedLines.{is_touched, shown_from}
 
 -- what a row of a suggestion shows: what the suggestion begins with; a line that it offers, counted from the first that is given;
 -- that lines are left out; line i of the source as removed, with this number beside it and this text; nothing; or what it ends
@@ -30,20 +30,12 @@ pub data SuggestionRow : Type 0 where
 
 -- the line that such a row offers, and the line of the source that it shows as removed
 abbrev pub number_offered : SuggestionRow → Option ℕ
-number_offered (Begins start) = None
 number_offered (Offers k) = Some k
-number_offered Skips = None
-number_offered (Removes i number text) = None
-number_offered Empty = None
-number_offered (Ends follows) = None
+number_offered row = None
 
 abbrev pub line_taken : SuggestionRow → Option ℕ
-line_taken (Begins start) = None
-line_taken (Offers k) = None
-line_taken Skips = None
 line_taken (Removes i number text) = Some i
-line_taken Empty = None
-line_taken (Ends follows) = None
+line_taken row = None
 
 -- those of some rows
 abbrev pub numbers_offered : List SuggestionRow → List ℕ
@@ -53,26 +45,12 @@ numbers_offered shown = filter_map number_offered shown
 abbrev pub lines_taken : List SuggestionRow → List ℕ
 lines_taken shown = filter_map line_taken shown
 
--- the number of the line so many lines after one, as far as there are numbers
-abbrev pub number_after : ℕ → ℕ → ℕ
-number_after first lines = capped_sum first lines
-
--- the number beside a line that is removed: its own where no line is given in place of those that are removed, else one that is
--- counted
-abbrev pub number_beside : List (List ℕ) → ℕ → ℕ → ℕ
-number_beside [] own counted = own
-number_beside (line ∷ lines) own counted = counted
-
--- the number beside line i of the source, if that is removed. Where a line stands in the place of those that are removed, they
--- are counted as it is: the first of them has its number
+-- the number beside line i of the source, if that is removed: its own where no line is given. Where one stands in the place of those that
+-- are removed, they are counted as it is: the first of them has its number
 abbrev pub removed_number : Snippet Patch → ℕ → ℕ
 removed_number s i =
     let begin = line_of (source_lines (cow_str_bytes s.source)) (first_start (trimmed_of s)) in
-    number_beside (given_lines s) (s.line_start + i) (number_after (s.line_start + first_given s) (i - begin))
-
--- the row of line i of the source, as removed
-abbrev pub removed_row : Snippet Patch → ℕ → SuggestionRow
-removed_row s i = Removes i (removed_number s i) (text_at (source_lines (cow_str_bytes s.source)) i)
+    if length (given_lines s) == 0 then s.line_start + i else capped_sum (s.line_start + first_given s) (i - begin)
 
 -- the row of a line that is shown, and one between two lines in place of those that are left out
 abbrev pub row_of_shown : SuggestionLine → SuggestionRow
@@ -85,29 +63,22 @@ abbrev pub changed_rows : Bool → Bool → List SuggestionRow → List Suggesti
 changed_rows true left_out removed = removed ++ (if left_out then [] else Offers 0 ∷ [])
 changed_rows false left_out removed = Empty ∷ []
 
--- whether a suggestion is shown as removed lines and one in their place
-abbrev pub is_diff : DisplaySuggestion → Bool
-is_diff Underline = false
-is_diff Diff = true
-is_diff Plain = false
-is_diff Add = false
-
--- which of these rows stand there, by the lines that are given, and whether it is a diff. Where no line is given, those of removed
+-- which of these rows stand there, by the lines that are given, and how they are shown. Where no line is given, those of removed
 -- lines, in a diff below the row that it begins with, and else from that row on; where lines are given, after this row those
 -- of a diff, or those of the lines that are shown
-abbrev pub rows_where : List (List ℕ) → Bool → SuggestionRow → List SuggestionRow → List SuggestionRow → List SuggestionRow → List SuggestionRow
-rows_where [] true begin removed changed shown = begin ∷ removed
-rows_where [] false begin removed changed shown = removed
-rows_where (line ∷ lines) true begin removed changed shown = begin ∷ changed
-rows_where (line ∷ lines) false begin removed changed shown = begin ∷ shown
+abbrev pub rows_where : List (List ℕ) → DisplaySuggestion → SuggestionRow → List SuggestionRow → List SuggestionRow → List SuggestionRow → List SuggestionRow
+rows_where [] Diff begin removed changed shown = begin ∷ removed
+rows_where [] kind begin removed changed shown = removed
+rows_where lines Diff begin removed changed shown = begin ∷ changed
+rows_where lines kind begin removed changed shown = begin ∷ shown
 
--- what the rows of a suggestion show, but the last one, which is what it ends with
+-- what the rows of a suggestion show, but the last one, which is what it ends with. The row of line i of the source shows it as removed
 abbrev pub rows_of_suggestion : SuggestionStart → Snippet Patch → List SuggestionRow
 rows_of_suggestion start s =
     let touched = is_touched s.fold (given_ranges s) in
-    let removed = map (removed_row s) (removed_lines s) in
+    let removed = map (λ i. Removes i (removed_number s i) (text_at (source_lines (cow_str_bytes s.source)) i)) (removed_lines s) in
     let changed = changed_rows (touched 0) (is_left_out (shown_kind s) (given_lines s) (last_reached s)) removed in
-    rows_where (given_lines s) (is_diff (shown_kind s)) (Begins start) removed changed (map row_of_shown (lines_suggested touched (length (given_lines s))))
+    rows_where (given_lines s) (shown_kind s) (Begins start) removed changed (map row_of_shown (shown_from touched 0 0 (length (given_lines s))))
 
 -- some lines that are removed, with the numbers beside them: their own
 abbrev pub numbered_at : List LineInfo → List (ℕ × List ℕ)
@@ -116,7 +87,7 @@ numbered_at infos = map (λ info. (info.line_index, info.line.now)) infos
 -- or counted, from so many after the first number on
 abbrev pub counted_from : ℕ → ℕ → List (List ℕ) → List (ℕ × List ℕ)
 counted_from first k [] = []
-counted_from first k (text ∷ texts) = (number_after first k, text) ∷ counted_from first (k + 1) texts
+counted_from first k (text ∷ texts) = (capped_sum first k, text) ∷ counted_from first (k + 1) texts
 
 -- the rows of such lines, of which the first is line i of the source
 abbrev pub removed_from : ℕ → List (ℕ × List ℕ) → List SuggestionRow

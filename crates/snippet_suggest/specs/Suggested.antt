@@ -12,19 +12,21 @@ use Rattle.snippet_splice.specs.Edits.{Edit}
 use Rattle.snippet_splice.specs.Spliced.{last_line_reached}
 use Rattle.snippet_splice.specs.EditStretches.{new_stretches, replaced_stretches}
 use Rattle.snippet_suggest.specs.declared.kind.DisplaySuggestion.{DisplaySuggestion}
-use Rattle.snippet_suggest.specs.declared.kind.DisplaySuggestion.TheVariants.{Underline, Diff, Plain, Add}
+use Rattle.snippet_suggest.specs.declared.kind.DisplaySuggestion.TheVariants.{Underline}
 use Rattle.snippet_suggest.specs.declared.layout.SuggestionLayout.{SuggestionLayout}
 use Rattle.snippet_suggest.specs.declared.layout.SuggestionStart.{SuggestionStart}
 use Rattle.snippet_suggest.specs.declared.shown.SuggestionLine.TheVariants.{Line}
-use Rattle.snippet_suggest.specs.Cells.{begin_cells, end_cells, gap_cells, left_out_cells, on_last, removed_cells, suggestion_row, sign_of, with_stretches}
+use Rattle.snippet_suggest.specs.Cells.{begin_cells, end_cells, gap_cells, left_out_cells, on_last, removed_cells, sign_of, with_stretches}
 use Rattle.snippet_style.specs.Glyphs.{suggestion_glyph_of}
 use Rattle.snippet_suggest.specs.SuggestionRows.{NumberFits}
 use Rattle.snippet_suggest.specs.Given.{edits_of, first_given, given_lines, given_ranges, is_left_out, last_reached, shown_kind, trimmed_of}
 use Rattle.snippet_parts.specs.Numbered.{numbered_source}
 use Rattle.snippet_suggest.specs.Marks.{with_marks}
-use Rattle.snippet_suggest.specs.RowOrder.{Begins, Empty, Ends, Offers, Removes, Skips, SuggestionRow, is_diff, rows_of_suggestion}
+use Rattle.snippet_suggest.specs.RowOrder.{Begins, Empty, Ends, Offers, Removes, Skips, SuggestionRow, rows_of_suggestion}
 use Rattle.snippet_suggest.specs.SuggestedLines.{is_touched}
 use Rattle.snippet_grid.specs.Layout.{separator_cell}
+use Rattle.snippet_window.specs.Margin.{capped_sum}
+use Rattle.snippet_suggest.specs.Cells.{offered_cells}
 
 -- the stretches of line k that is given which are new, and those of line k after the first in the source which are replaced
 abbrev pub new_on : Snippet Patch → ℕ → List SubstitutionHighlight
@@ -43,15 +45,14 @@ removed_in layout (line ∷ lines) replaced number text under =
 -- the edits of which marks stand in the last row: all, where one line is given by several patches or by a part of one
 abbrev pub marked_edits : DisplaySuggestion → List Edit → List Edit
 marked_edits Underline es = es
-marked_edits Diff es = []
-marked_edits Plain es = []
-marked_edits Add es = []
+marked_edits kind es = []
 
 -- what a row of a suggestion holds, over one that is there or has no cells
 unfoldable pub suggested_cells : SuggestionLayout → Snippet Patch → List Cell → SuggestionRow → List Cell
 suggested_cells layout s under (Begins start) = begin_cells layout start under
 suggested_cells layout s under (Offers k) =
-    suggestion_row layout (shown_kind s) (s.line_start + first_given s) (given_lines s) (new_on s) (Line k)
+    let lines = given_lines s in
+    offered_cells layout (shown_kind s) (length lines) (capped_sum (s.line_start + first_given s) k) (slice_index_or lines k []) (new_on s k)
 suggested_cells layout s under Skips = gap_cells layout
 suggested_cells layout s under (Removes i number text) =
     removed_in layout (given_lines s) (suggested_stretches s (i - first_given s)) number text under
@@ -70,8 +71,8 @@ abbrev pub with_left_out : SuggestionLayout → Snippet Patch → List (List ℕ
 with_left_out layout s [] rows = rows
 with_left_out layout s (line ∷ lines) rows =
     let gone = if bytes_eq line (last_reached s) then suggested_stretches s (last_line_reached (cow_str_bytes s.source) (edits_of s) - first_given s) else [] in
-    if is_diff (shown_kind s) && is_touched s.fold (given_ranges s) 0
-    && is_left_out (shown_kind s) (line ∷ lines) (last_reached s) then on_last (left_out_cells layout.base.gutter line gone (new_on s 0)) rows else rows
+    if is_left_out (shown_kind s) (line ∷ lines) (last_reached s) && is_touched s.fold (given_ranges s) 0 then on_last
+    (left_out_cells layout.base.gutter line gone (new_on s 0)) rows else rows
 
 -- the rows of a suggestion but the last, the first of them over one that is there or has no cells
 unfoldable pub body_cells : SuggestionLayout → SuggestionStart → Snippet Patch → List Cell → List (List Cell)
@@ -86,12 +87,8 @@ suggestion_cells layout start follows s under =
 -- the row of a line that is offered has its sign one cell after the gutter: the one that the kind, the number of lines and the line's
 -- new stretches ask for; where its number ends before that
 abbrev pub HasSign : SuggestionLayout → Snippet Patch → SuggestionRow → List Cell → Type 0
-HasSign layout s (Begins start) row = Unit {0}
 HasSign layout s (Offers k) row =
     let glyph = sign_of (shown_kind s) (length (given_lines s)) (slice_index_or (given_lines s) k []) (new_on s k) in
     NumberFits layout (s.line_start + first_given s) (Line k) → (slice_index_or row (separator_cell layout.base) SPACE).ch
     ≡ slice_index_or (suggestion_glyph_of layout.base.decor glyph) 0 32
-HasSign layout s Skips row = Unit {0}
-HasSign layout s (Removes i number text) row = Unit {0}
-HasSign layout s Empty row = Unit {0}
-HasSign layout s (Ends follows) row = Unit {0}
+HasSign layout s shown row = Unit {0}

@@ -21,10 +21,11 @@ use Rattle.snippet_suggest.specs.declared.layout.SuggestionStart.TheVariants.{Op
 use Rattle.snippet_suggest.specs.declared.shown.SuggestionLine.{SuggestionLine}
 use Rattle.snippet_suggest.specs.declared.shown.SuggestionLine.TheVariants.{Line, Gap}
 use Rattle.snippet_suggest.specs.Given.{counted_line}
-use Rattle.snippet_suggest.specs.RowOrder.{Begins, Empty, Ends, Offers, Removes, Skips, SuggestionRow, number_after}
+use Rattle.snippet_suggest.specs.RowOrder.{Begins, Empty, Ends, Offers, Removes, Skips, SuggestionRow}
 use Rattle.snippet_style.specs.declared.glyphs.SuggestionGlyph.TheVariants as sign
 use Rattle.snippet_style.specs.Glyphs.{separator_of, suggestion_glyph_of}
 use Rattle.snippet_grid.specs.Layout.{separator_cell}
+use Rattle.snippet_window.specs.Margin.{capped_sum}
 
 -- what stands beside a line that is offered: a separator, or the glyph of a changed or of a new line
 abbrev pub IsSign : DecorStyle → ℕ → Type 0
@@ -130,7 +131,7 @@ abbrev pub Shows : SuggestionLayout → ℕ → List (List ℕ) → SuggestionRo
 Shows layout first lines (Begins start) row =
     IsEdgeRow layout.base.decor layout.base.gutter (beside_gutter layout.base.gutter (begin_glyph layout.base.decor start)) row
 Shows layout first lines (Offers k) row =
-    IsLineRow layout.base.decor layout.base.gutter (shown_number layout.numbers layout.base.gutter (number_after first k))
+    IsLineRow layout.base.decor layout.base.gutter (shown_number layout.numbers layout.base.gutter (capped_sum first k))
     (norm (chars (slice_index_or lines k []))) row
 Shows layout first lines Skips row =
     IsEdgeRow layout.base.decor layout.base.gutter (gap_left layout.base.decor layout.base.gutter) row
@@ -142,7 +143,7 @@ Shows layout first lines (Ends follows) row =
 -- the number of a line that is shown stands left of the sign
 abbrev pub NumberFits : SuggestionLayout → ℕ → SuggestionLine → Type 0
 NumberFits layout first (Line k) =
-    length (shown_number layout.numbers layout.base.gutter (number_after first k)) ≤ separator_cell layout.base
+    length (shown_number layout.numbers layout.base.gutter (capped_sum first k)) ≤ separator_cell layout.base
 NumberFits layout first Gap = Unit {0}
 
 -- whether a suggestion begins in a row that is there

@@ -1,14 +1,14 @@
 //! How a suggestion is shown.
-ghost use Rattle.std.specs.Prelude.{◌≡◌, ◌==◌, nat_le, true, false, All, IfSome, IfNone, length, map};
-ghost use Rattle.std.specs.List.{list_any};
-ghost use Rattle.std.specs.Option.{option_copied};
+ghost use Rattle.std.specs.Prelude.{◌≡◌, ◌==◌, ◌&&◌, nat_le, true, false, All, IfSome, IfNone, is_none, length, map};
+ghost use Rattle.std.specs.List.{list_all, list_any};
+ghost use Rattle.std.specs.Option.{option_copied, option_map_or};
+ghost use Rattle.std.specs.Str.{bytes_eq, trim};
 ghost use Rattle.std.specs.String.{string_bytes};
 ghost use Rattle.snippet_lines.specs.Lines.{last_byte, lines_of};
 ghost use Rattle.snippet_lines.specs.Span.{IsSpan};
 ghost use Rattle.snippet_splice.specs.Edits.{trimmed_edit_of};
-ghost use Rattle.snippet_suggest.specs.Kind.{adds_lines, adds_text, is_only_replacement, is_under_text, kind_of};
-ghost use Rattle.snippet_suggest.specs.Kind.{loses_text};
-ghost use Rattle.snippet_suggest.specs.Kind.{text_under};
+ghost use Rattle.snippet_splice.specs.Trim.{sandwich};
+ghost use Rattle.snippet_suggest.specs.Kind.{adds_text, is_under_text, kind_of, text_under};
 ghost use Rattle.snippet_suggest.specs.Kind as spec;
 
 use snippet_lines::{ends_with_line_feed, newline_count};
@@ -59,8 +59,10 @@ fn has_one_line(text: &str) -> bool
 /// The replacement of the one patch, if there is just one and it gives the whole text, whitespace around them apart.
 fn only_replacement<'a>(patches: &[TrimmedPatch<'a>], text: &str) -> Option<&'a str>
     ensures some { let ts = map trimmed_edit_of patches.now in IfSome result (λ t.
-        (is_only_replacement ts text.now ≡ true) × ((last_byte t.now == 10) ≡ adds_lines ts)) }
-    ensures none { IfNone result (is_only_replacement (map trimmed_edit_of patches.now) text.now ≡ false) }
+        ((length ts == 1 && list_all (λ e. bytes_eq (trim e.text) (trim text.now)) ts) ≡ true)
+        × ((last_byte t.now == 10) ≡ list_any (λ e. last_byte e.text == 10) ts)) }
+    ensures none { let ts = map trimmed_edit_of patches.now in
+        IfNone result ((length ts == 1 && list_all (λ e. bytes_eq (trim e.text) (trim text.now)) ts) ≡ false) }
 {
     match patches {
         [patch] if patch.replacement.trim() == text.trim() => Some(patch.replacement),
@@ -92,7 +94,8 @@ fn deletes_or_destroys(source: &str, patch: &TrimmedPatch<'_>) -> bool
 /// Whether a patch that overwrites text keeps less than all of it.
 fn destroys(source: &str, patch: &TrimmedPatch<'_>) -> bool
     requires span { IsSpan source.now patch.now.span.start patch.now.span.end }
-    ensures value { let e = trimmed_edit_of patch.now in result ≡ loses_text e (text_under source.now e) }
+    ensures value { let e = trimmed_edit_of patch.now in
+        result ≡ option_map_or (λ text. is_none (sandwich (trim text) (trim e.text))) (text_under source.now e) true }
 {
     match text_under(source, patch) {
         Some(text) => as_substr(text.trim(), patch.replacement.trim()).is_none(),

@@ -6,8 +6,8 @@ ghost use Rattle.snippet_lines.specs.Lines.{lines_of};
 ghost use Rattle.snippet_splice.specs.Spliced.{texts_of};
 ghost use Rattle.snippet_suggest.specs.Cells.{sign_alone, sign_of, sign_touched, row_shown};
 ghost use Rattle.snippet_suggest.specs.declared.shown.SuggestionLine.TheVariants.{Line};
-ghost use Rattle.snippet_suggest.specs.SuggestedLines.{is_touched, lines_suggested};
-ghost use Rattle.snippet_suggest.specs.RowOrder.{number_after};
+ghost use Rattle.snippet_suggest.specs.SuggestedLines.{is_touched, shown_from};
+ghost use Rattle.snippet_window.specs.Margin.{capped_sum};
 
 use crate::kind::DisplaySuggestion;
 use crate::layout::SuggestionLayout;
@@ -70,7 +70,7 @@ pub(crate) fn draw_lines(
     fold: bool,
 ) -> Result<(), AllocError>
     ensures cells { OnOk result (buffer.new ≡ buffer.old ++ map (row_shown layout.now text.now)
-        (lines_suggested (is_touched fold ranges.now) (length text.now.lines.now))) }
+        (shown_from (is_touched fold ranges.now) 0 0 (length text.now.lines.now))) }
 {
     let shown = shown_lines(alloc, text.lines.len(), ranges, fold)?;
     draw_shown(alloc, buffer, layout, text, &shown)?;
@@ -144,7 +144,7 @@ fn line_at<'a>(lines: &[&'a str], k: usize) -> &'a str
 
 /// The number of the line this many lines after another.
 pub(crate) fn number_after(first: usize, lines: usize) -> usize
-    ensures value { result ≡ number_after first lines }
+    ensures value { result ≡ capped_sum first lines }
 {
     first.saturating_add(lines)
 }

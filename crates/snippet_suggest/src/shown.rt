@@ -25,7 +25,7 @@ pub(crate) fn shown_lines(
     ranges: &[LineRange],
     fold: bool,
 ) -> Result<Vec<SuggestionLine>, AllocError>
-    ensures value { IfOk result (λ shown. shown.items ≡ spec.lines_suggested (spec.is_touched fold ranges.now) count) }
+    ensures value { IfOk result (λ shown. shown.items ≡ spec.shown_from (spec.is_touched fold ranges.now) 0 0 count) }
 {
     let touched = touched_table(alloc, count, ranges, fold)?;
     let mut shown = Vec::with_capacity(alloc, ranges.len())?;
@@ -79,7 +79,7 @@ pub(crate) fn is_touched(fold: bool, ranges: &[LineRange], line: usize) -> bool
 
 /// Whether one of the ranges holds a line.
 fn is_held(ranges: &[LineRange], line: usize) -> bool
-    ensures value { result ≡ spec.is_in_ranges ranges.now line }
+    ensures value { result ≡ spec.is_touched true ranges.now line }
 {
     ranges
         .iter()

@@ -25,7 +25,7 @@ use Rattle.snippet_titles.specs.declared.style.TitleStyle.TheVariants.{Message}
 use Rattle.snippet_titles.specs.HeadingRows.{colon_of, heading_lines, heading_rows, id_cells, indent_cells, label_cells, label_width, lines_below, note_bar_of}
 use Rattle.snippet_titles.specs.HeadingRows.{roles_of, sign_cells}
 use Rattle.snippet_style.specs.Glyphs.{note_sign_of}
-use Rattle.snippet_titles.specs.Origin.{file_glyph, file_row, opening_head, opening_rows, origin_row, origin_text, snippet_head}
+use Rattle.snippet_titles.specs.Origin.{file_glyph, file_row, opening_rows, origin_row, origin_text, snippet_head}
 use Rattle.snippet_style.specs.Separators.{separator_row}
 use Rattle.snippet_titles.proofs.FreeLemmas.{All-trimmed}
 use Rattle.snippet_titles.proofs.HeadLemmas.{nameless_head-each, primary_head-each, secondary_head-each}
@@ -39,19 +39,15 @@ use Rattle.snippet_grid.proofs.RowLemmas.{row_text-text_cells}
 -- what holds of separator rows, of those that lead to a file, and of those of paths
 module _ (P : List Cell → Type 0) (layout : OriginLayout) (separator : P (separator_row layout.base.decor layout.base.gutter))
     (file : (start : FileStart) → P (file_row layout start)) where
-  opening_rows-each : (decor : DecorStyle) (first : Bool) → All P (opening_rows decor layout first)
+  pub opening_rows-each : (decor : DecorStyle) (first : Bool) → All P (opening_rows decor layout first)
   opening_rows-each Ascii first = All-cons P (separator_row layout.base.decor layout.base.gutter) [] separator (All-nil P)
   opening_rows-each Unicode true = All-cons P (file_row layout First) [] (file First) (All-nil P)
   opening_rows-each Unicode false = All-cons P (file_row layout Later) [] (file Later) (All-nil P)
 
-  -- what holds of the cells of a head's spaces and glyphs holds of the opening head
-  pub opening_head-each : (first : Bool) → All P (opening_head layout first)
-  opening_head-each first = opening_rows-each layout.base.decor first
-
   -- holds of each that a snippet begins with
   module _ (place : OriginLocation) (origin : (path : List ℕ) (start : FileStart) → P (origin_row layout start path place)) where
     pub snippet_head-each : (primary first : Bool) (path : Option (List ℕ)) → All P (snippet_head layout primary first path place)
-    snippet_head-each true first None = opening_head-each first
+    snippet_head-each true first None = opening_rows-each layout.base.decor first
     snippet_head-each true first (Some path) = primary_head-each P layout separator path place (origin path) first
     snippet_head-each false first None = nameless_head-each P layout separator (file Secondary)
     snippet_head-each false first (Some path) = secondary_head-each P layout separator path place (origin path)

@@ -1,12 +1,12 @@
 -- What holds of the rows of paths, and of separator rows, holds of each row that a snippet begins with.
-use Rattle.std.proofs.Common.{ℕ, Bool, true, false, List, [], ◌∷◌, All}
+use Rattle.std.proofs.Common.{ℕ, Bool, true, false, Some, List, [], ◌∷◌, All}
 use Rattle.std.proofs.lemmas.List.Elements.{All-nil, All-cons}
 use Rattle.snippet_style.specs.Cell.{Cell}
 use Rattle.snippet_titles.specs.declared.origin.FileStart.{FileStart}
 use Rattle.snippet_titles.specs.declared.origin.FileStart.TheVariants.{First, Later, Secondary}
 use Rattle.snippet_titles.specs.declared.origin.OriginLocation.{OriginLocation}
 use Rattle.snippet_titles.specs.declared.origin.OriginLayout.{OriginLayout}
-use Rattle.snippet_titles.specs.Origin.{file_row, origin_row, primary_head, secondary_head, nameless_head}
+use Rattle.snippet_titles.specs.Origin.{file_row, origin_row, snippet_head}
 use Rattle.snippet_style.specs.Separators.{separator_row}
 
 module _ (P : List Cell → Type 0) (layout : OriginLayout) (separator : P (separator_row layout.base.decor layout.base.gutter)) where
@@ -15,7 +15,7 @@ module _ (P : List Cell → Type 0) (layout : OriginLayout) (separator : P (sepa
   ends = All-cons P (separator_row layout.base.decor layout.base.gutter) [] separator (All-nil P)
 
   -- the head of a snippet without a path
-  pub nameless_head-each : P (file_row layout Secondary) → All P (nameless_head layout)
+  pub nameless_head-each : P (file_row layout Secondary) → All P (separator_row layout.base.decor layout.base.gutter ∷ file_row layout Secondary ∷ [])
   nameless_head-each file =
       All-cons P (separator_row layout.base.decor layout.base.gutter) (file_row layout Secondary ∷ []) separator
       (All-cons P (file_row layout Secondary) [] file (All-nil P))
@@ -23,14 +23,14 @@ module _ (P : List Cell → Type 0) (layout : OriginLayout) (separator : P (sepa
   -- those of snippets with a path
   module _ (path : List ℕ) (place : OriginLocation) (origin : (start : FileStart) → P (origin_row layout start path place)) where
     -- of a primary file, or of what stands for it,
-    pub primary_head-each : (first : Bool) → All P (primary_head layout first path place)
+    pub primary_head-each : (first : Bool) → All P (snippet_head layout true first (Some path) place)
     primary_head-each true =
         All-cons P (origin_row layout First path place) (separator_row layout.base.decor layout.base.gutter ∷ []) (origin First) ends
     primary_head-each false =
         All-cons P (origin_row layout Later path place) (separator_row layout.base.decor layout.base.gutter ∷ []) (origin Later) ends
 
     -- and of another file
-    pub secondary_head-each : All P (secondary_head layout path place)
+    pub secondary_head-each : All P (snippet_head layout false false (Some path) place)
     secondary_head-each =
         All-cons P (separator_row layout.base.decor layout.base.gutter)
         (origin_row layout Secondary path place ∷ separator_row layout.base.decor layout.base.gutter ∷ []) separator

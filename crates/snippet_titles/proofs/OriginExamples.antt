@@ -6,7 +6,7 @@ use Rattle.snippet_style.specs.declared.glyphs.DecorStyle.TheVariants.{Ascii, Un
 use Rattle.snippet_grid.specs.Print.{plain_text, row_text}
 use Rattle.snippet_text.specs.Normalized.{norm}
 use Rattle.snippet_titles.specs.declared.origin.FileStart.TheVariants.{Alone, First}
-use Rattle.snippet_titles.specs.Origin.{file_row, origin_row, origin_text, padding_row, primary_head, secondary_head, nameless_head}
+use Rattle.snippet_titles.specs.Origin.{file_row, origin_row, origin_text, padding_row, snippet_head}
 
 -- the first element's path, in both styles, and with its line anonymized
 primary : row_text (origin_row (record { base = record { gutter = 1; code = 4; decor = Ascii }; anonymized = false }) First (codes "a.rs")
@@ -37,17 +37,18 @@ unfolding digits chars norm file_row origin_row origin_text
 column_alone = refl
 
 -- the heads of snippets
-later_file : plain_text (primary_head (record { base = record { gutter = 1; code = 4; decor = Unicode }; anonymized = false }) false (codes "a.rs")
+later_file : plain_text (snippet_head (record { base = record { gutter = 1; code = 4; decor = Unicode }; anonymized = false }) true false (Some (codes "a.rs"))
     (record { line = Some 12; column = Some 1 })) ≡ codes "  ├▸ a.rs:12:1\n  │"
 unfolding digits chars norm file_row origin_row origin_text
 later_file = refl
 
-other_file : plain_text (secondary_head (record { base = record { gutter = 1; code = 4; decor = Ascii }; anonymized = false }) (codes "b.rs")
+other_file : plain_text (snippet_head (record { base = record { gutter = 1; code = 4; decor = Ascii }; anonymized = false }) false false (Some (codes "b.rs"))
     (record { line = Some 1; column = Some 1 })) ≡ codes "  |\n ::: b.rs:1:1\n  |"
 unfolding digits chars norm file_row origin_row origin_text
 other_file = refl
 
-no_file : plain_text (nameless_head (record { base = record { gutter = 1; code = 4; decor = Unicode }; anonymized = false })) ≡ codes "  │\n  ⸬  "
+no_file : plain_text (snippet_head (record { base = record { gutter = 1; code = 4; decor = Unicode }; anonymized = false }) false false None
+    (record { line = None; column = None })) ≡ codes "  │\n  ⸬  "
 unfolding file_row
 no_file = refl
 

@@ -16,10 +16,10 @@ use Rattle.snippet_titles.specs.declared.origin.FileStart.{FileStart}
 use Rattle.snippet_titles.specs.declared.origin.FileStart.TheVariants.{Alone, First, Later, Secondary}
 use Rattle.snippet_titles.specs.declared.origin.OriginLocation.{OriginLocation}
 use Rattle.snippet_titles.specs.declared.origin.OriginLayout.{OriginLayout}
-use Rattle.snippet_titles.specs.Origin.{file_glyph, file_row, origin_row, origin_text, place_text, padding_row}
+use Rattle.snippet_titles.specs.Origin.{file_glyph, file_row, line_text, origin_row, origin_text, padding_row}
 use Rattle.snippet_style.specs.Separators.{closing_row}
 use Rattle.snippet_titles.proofs.DigitLemmas.{IsDigit}
-use Rattle.snippet_titles.proofs.OriginText.{place_text-each}
+use Rattle.snippet_titles.proofs.OriginText.{place-each}
 pub use Rattle.snippet_model.proofs.RowLemmas.{each_fails as each-fails, free_drawn as text_cells-free, free_separator_row as separator_row-free}
 
 -- no glyph is a listed character
@@ -66,8 +66,8 @@ origin_text-free : (anonymized : Bool) (path : List ℕ) (place : OriginLocation
 unfolding origin_text
 origin_text-free anonymized path place =
     let P : ℕ → Type 0 = λ c. is_listed c ≡ false in
-    All-append P (norm (chars path)) (place_text anonymized place) (each-fails is_listed (norm (chars path)) (list_any-norm (chars path)))
-    (place_text-each P digit_unlisted refl refl anonymized place)
+    All-append P (norm (chars path)) (line_text anonymized place.line place.column) (each-fails is_listed (norm (chars path)) (list_any-norm (chars path)))
+    (place-each P digit_unlisted refl refl anonymized place)
 
 -- the row of an origin has no listed character and no link
 pub origin_row-free : (layout : OriginLayout) (start : FileStart) (path : List ℕ) (place : OriginLocation) → IsFree (origin_row layout start path place)

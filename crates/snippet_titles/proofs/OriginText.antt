@@ -7,7 +7,7 @@ use Rattle.std.proofs.lemmas.Str.{chars-append, chars-IsAscii}
 use Rattle.std.proofs.lemmas.Str.Ascii.{IsAscii-from_all}
 use Rattle.snippet_text.specs.Normalized.{norm}
 use Rattle.snippet_titles.specs.declared.origin.OriginLocation.{OriginLocation}
-use Rattle.snippet_titles.specs.Origin.{line_name, column_text, line_text, place_text, origin_text}
+use Rattle.snippet_titles.specs.Origin.{line_name, column_text, line_text, origin_text}
 use Rattle.snippet_titles.proofs.DigitLemmas.{IsDigit, decimal-all}
 
 -- a fact that holds of the digits, of a colon and of an L holds of each character after a path
@@ -30,19 +30,21 @@ module _ (P : ℕ → Type 0) (digit : (c : ℕ) → IsDigit c → P c) (colon :
       (All-cons P 58 (line_name anonymized line) colon (line_name-each anonymized line)) (column_text-each column)
 
   -- what holds of what a place is made of holds of its text
-  pub place_text-each : (anonymized : Bool) (place : OriginLocation) → All P (place_text anonymized place)
-  place_text-each anonymized place = line_text-each anonymized place.line place.column
+  pub place-each : (anonymized : Bool) (place : OriginLocation) → All P (line_text anonymized place.line place.column)
+  place-each anonymized place = line_text-each anonymized place.line place.column
 
 -- they are their own bytes
-pub place_text-chars : (anonymized : Bool) (place : OriginLocation) → chars (place_text anonymized place) ≡ place_text anonymized place
-place_text-chars anonymized place =
-    chars-IsAscii (place_text anonymized place) (IsAscii-from_all (place_text anonymized place)
-    (place_text-each (λ c. c < 128) (λ c is. omega (arith, is.1)) (omega arith) (omega arith) anonymized place))
+pub place-chars : (anonymized : Bool) (place : OriginLocation)
+    → chars (line_text anonymized place.line place.column) ≡ line_text anonymized place.line place.column
+place-chars anonymized place =
+    chars-IsAscii (line_text anonymized place.line place.column) (IsAscii-from_all (line_text anonymized place.line place.column)
+    (place-each (λ c. c < 128) (λ c is. omega (arith, is.1)) (omega arith) (omega arith) anonymized place))
 
 -- a normalised path, and the place added to it
 pub origin_text-added : (path before after : List ℕ) (anonymized : Bool) (place : OriginLocation) → IsUtf8 before → chars before ≡ norm (chars path)
-    → after ≡ before ++ place_text anonymized place → chars after ≡ origin_text anonymized path place
+    → after ≡ before ++ line_text anonymized place.line place.column → chars after ≡ origin_text anonymized path place
 unfolding origin_text
 origin_text-added path before after anonymized place utf8 shown added =
-    ap chars added ∙ chars-append before (place_text anonymized place) utf8 ∙ ap (λ cs. cs ++ chars (place_text anonymized place)) shown
-    ∙ ap (λ cs. norm (chars path) ++ cs) (place_text-chars anonymized place)
+    ap chars added ∙ chars-append before (line_text anonymized place.line place.column) utf8
+    ∙ ap (λ cs. cs ++ chars (line_text anonymized place.line place.column)) shown
+    ∙ ap (λ cs. norm (chars path) ++ cs) (place-chars anonymized place)

@@ -5,7 +5,7 @@ use Rattle.std.specs.List.{slice_split}
 use Rattle.std.specs.Option.{option_map}
 use Rattle.std.specs.Cow.{cow_str_bytes}
 use Rattle.snippet_style.specs.declared.glyphs.DecorStyle.{DecorStyle}
-use Rattle.snippet_style.specs.declared.glyphs.DecorStyle.TheVariants.{Ascii, Unicode}
+use Rattle.snippet_style.specs.declared.glyphs.DecorStyle.TheVariants.{Unicode}
 use Rattle.snippet_style.specs.declared.role.ElementStyle.{ElementStyle}
 use Rattle.snippet_style.specs.declared.role.ElementStyle.TheVariants as role
 use Rattle.snippet_style.specs.declared.role.LevelInner.{LevelInner}
@@ -89,45 +89,31 @@ heading_label_text heading =
 abbrev pub label_width : Heading → ℕ
 label_width heading = width_of (heading_label_text heading)
 
--- the role of a title's colon, and of its text if that isn't trusted; in the short form or not
-abbrev pub title_role : Bool → Bool → ElementStyle
-title_role short true = role.HeaderMsg
-title_role true false = role.NoStyle
-title_role false false = role.MainHeaderMsg
-
--- the role of a title's text: a trusted one is unstyled
-abbrev pub text_role : Bool → Bool → ElementStyle
-text_role short trusted = if trusted then role.NoStyle else title_role short trusted
-
--- the roles of a heading's parts
+-- the roles of a heading's parts. A title's trusted text is unstyled; one that isn't has a role of its own, but not in the short form
 abbrev pub roles_of : TitleStyle → LevelInner → Bool → HeadingRoles
 roles_of Title kind trusted =
-    record { label = role.Level kind; colon = title_role false trusted; text = text_role false trusted }
-roles_of Short kind trusted =
-    record { label = role.Level kind; colon = title_role true trusted; text = text_role true trusted }
-roles_of (Message place) kind trusted =
-    record { label = role.MainHeaderMsg; colon = role.NoStyle; text = role.NoStyle }
+    let plain = role.MainHeaderMsg in
+    record { label = role.Level kind; colon = if trusted then role.HeaderMsg else plain; text = if trusted then role.NoStyle else plain }
+roles_of Short kind trusted = record { label = role.Level kind; colon = if trusted then role.HeaderMsg else role.NoStyle; text = role.NoStyle }
+roles_of (Message place) kind trusted = record { label = role.MainHeaderMsg; colon = role.NoStyle; text = role.NoStyle }
 
 -- what stands below what leads to a message: in Unicode the stroke that leads to the element that follows, if there is one; else a space
 abbrev pub note_bar_of : DecorStyle → Bool → Cell
-note_bar_of Ascii followed = SPACE
 note_bar_of Unicode true = unlinked_cell role.LineNumber (separator_of Unicode)
-note_bar_of Unicode false = SPACE
+note_bar_of decor followed = SPACE
 
 -- what a heading's first row begins with: nothing for a title, and for a message the sign after the gutter
 abbrev pub sign_cells : TitleStyle → List Cell
-sign_cells Title = []
-sign_cells Short = []
 sign_cells (Message place) =
     replicate (separator_cell place.layout) SPACE ++ text_cells role.LineNumber (note_sign_of place.layout.decor place.followed)
+sign_cells other = []
 
 -- what a further row begins with, below a label of this width: as many spaces, and in a message three more than the gutter is
 -- wide, of which one gives its place to the stroke
 abbrev pub indent_cells : TitleStyle → ℕ → List Cell
-indent_cells Title width = replicate width SPACE
-indent_cells Short width = replicate width SPACE
 indent_cells (Message place) width =
     replicate (separator_cell place.layout) SPACE ++ note_bar_of place.layout.decor place.followed ∷ replicate (width + 1) SPACE
+indent_cells other width = replicate width SPACE
 
 -- the rows of lines: the first line stands after these cells, each further one after those
 abbrev pub lines_below : List Cell → List Cell → ElementStyle → List (List ℕ) → List (List Cell)

@@ -28,13 +28,9 @@ abbrev pub line_text : Bool → Option ℕ → Option ℕ → List ℕ
 line_text anonymized None column = []
 line_text anonymized (Some line) column = codes ":" ++ line_name anonymized line ++ column_text column
 
--- the same of a place
-abbrev pub place_text : Bool → OriginLocation → List ℕ
-place_text anonymized place = line_text anonymized place.line place.column
-
 -- a path, normalised, with the place after it
 unfoldable pub origin_text : Bool → List ℕ → OriginLocation → List ℕ
-origin_text anonymized path place = norm (chars path) ++ place_text anonymized place
+origin_text anonymized path place = norm (chars path) ++ line_text anonymized place.line place.column
 
 -- what leads from the gutter to a path: to the group's primary file, where its path is all that the group shows, from the
 -- first element or from a later one, or to any other file
@@ -68,28 +64,12 @@ abbrev pub opening_rows : DecorStyle → OriginLayout → Bool → List (List Ce
 opening_rows Ascii layout first = separator_row layout.base.decor layout.base.gutter ∷ []
 opening_rows Unicode layout first = file_row layout (primary_start first) ∷ []
 
-abbrev pub opening_head : OriginLayout → Bool → List (List Cell)
-opening_head layout first = opening_rows layout.base.decor layout first
-
--- what a snippet with a path begins with where it is the group's primary one, as the first element or as a later one: the
--- row of the path, and a separator row
-abbrev pub primary_head : OriginLayout → Bool → List ℕ → OriginLocation → List (List Cell)
-primary_head layout first path place =
-    origin_row layout (primary_start first) path place ∷ separator_row layout.base.decor layout.base.gutter ∷ []
-
--- the same where it isn't primary: the row of the path between two separator rows
-abbrev pub secondary_head : OriginLayout → List ℕ → OriginLocation → List (List Cell)
-secondary_head layout path place =
-    separator_row layout.base.decor layout.base.gutter ∷ origin_row layout Secondary path place ∷ separator_row layout.base.decor layout.base.gutter ∷ []
-
--- what a snippet without a path begins with where it isn't primary: a separator row, and a row that leads to no path
-abbrev pub nameless_head : OriginLayout → List (List Cell)
-nameless_head layout = separator_row layout.base.decor layout.base.gutter ∷ file_row layout Secondary ∷ []
-
--- what a snippet begins with: whether it is the group's primary one, and the first element, with its path, if it has one, and
--- the place that is named after that
+-- what a snippet begins with: whether it is the group's primary one, and the first element, with its path, if it has one, and the place
+-- that is named after that. The row of its path stands above a separator row, and where the snippet isn't primary below another one
 abbrev pub snippet_head : OriginLayout → Bool → Bool → Option (List ℕ) → OriginLocation → List (List Cell)
-snippet_head layout true first None place = opening_head layout first
-snippet_head layout true first (Some path) place = primary_head layout first path place
-snippet_head layout false first None place = nameless_head layout
-snippet_head layout false first (Some path) place = secondary_head layout path place
+snippet_head layout true first None place = opening_rows layout.base.decor layout first
+snippet_head layout true first (Some path) place =
+    origin_row layout (primary_start first) path place ∷ separator_row layout.base.decor layout.base.gutter ∷ []
+snippet_head layout false first None place = separator_row layout.base.decor layout.base.gutter ∷ file_row layout Secondary ∷ []
+snippet_head layout false first (Some path) place =
+    separator_row layout.base.decor layout.base.gutter ∷ origin_row layout Secondary path place ∷ separator_row layout.base.decor layout.base.gutter ∷ []

@@ -1,6 +1,8 @@
 //! The rows that a snippet begins with.
-ghost use Rattle.std.specs.Prelude.{◌≡◌, ◌+◌, ◌^◌, ◌<◌, ◌++◌, OnOk};
-ghost use Rattle.snippet_titles.specs.Origin.{nameless_head, opening_head, primary_head, secondary_head};
+ghost use Rattle.std.specs.Prelude.{◌≡◌, ◌+◌, ◌^◌, ◌<◌, [], ◌∷◌, ◌++◌, false, true, OnOk, Some};
+ghost use Rattle.snippet_style.specs.Separators.{separator_row};
+ghost use Rattle.snippet_titles.specs.declared.origin.FileStart.TheVariants.{Secondary};
+ghost use Rattle.snippet_titles.specs.Origin.{file_row, opening_rows, snippet_head};
 ghost use Rattle.snippet_titles.specs.Origin as spec;
 
 use crate::origin::{FileStart, OriginLayout, OriginLocation, begin_file_row, draw_origin};
@@ -26,7 +28,7 @@ pub fn draw_opening_head(
     layout: OriginLayout,
     first: bool,
 ) -> Result<(), AllocError>
-    ensures rows { OnOk result (buffer.new ≡ buffer.old ++ opening_head layout first) }
+    ensures rows { OnOk result (buffer.new ≡ buffer.old ++ opening_rows layout.base.decor layout first) }
 {
     let base = layout.base;
     match base.decor {
@@ -57,7 +59,7 @@ pub fn draw_primary_head(
     path: &str,
     place: OriginLocation,
 ) -> Result<(), AllocError>
-    ensures rows { OnOk result (buffer.new ≡ buffer.old ++ primary_head layout first path.now place) }
+    ensures rows { OnOk result (buffer.new ≡ buffer.old ++ snippet_head layout true first (Some path.now) place) }
 {
     let base = layout.base;
     draw_origin(alloc, buffer, layout, primary_start(first), path, place)?;
@@ -82,7 +84,7 @@ pub fn draw_secondary_head(
     path: &str,
     place: OriginLocation,
 ) -> Result<(), AllocError>
-    ensures rows { OnOk result (buffer.new ≡ buffer.old ++ secondary_head layout path.now place) }
+    ensures rows { OnOk result (buffer.new ≡ buffer.old ++ snippet_head layout false false (Some path.now) place) }
 {
     let base = layout.base;
     draw_separator(buffer, base)?;
@@ -102,7 +104,8 @@ pub fn draw_secondary_head(
 ///
 /// There is no memory for the rows. The grid may then hold some of them.
 pub fn draw_nameless_head(buffer: &mut StyledBuffer, layout: OriginLayout) -> Result<(), AllocError>
-    ensures rows { OnOk result (buffer.new ≡ buffer.old ++ nameless_head layout) }
+    ensures rows { OnOk result (buffer.new ≡
+        buffer.old ++ separator_row layout.base.decor layout.base.gutter ∷ file_row layout Secondary ∷ []) }
 {
     draw_separator(buffer, layout.base)?;
     begin_file_row(buffer, layout, FileStart::Secondary)?;

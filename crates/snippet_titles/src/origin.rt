@@ -3,7 +3,7 @@ ghost use Rattle.std.specs.Prelude.{◌≡◌, ◌∷◌, ◌++◌, [], length, 
 ghost use Rattle.std.specs.Fmt.{decimal};
 ghost use Rattle.snippet_text.specs.Normalized.{norm};
 ghost use Rattle.snippet_titles.specs.Origin as spec;
-ghost use Rattle.snippet_titles.specs.Origin.{file_glyph, file_row, origin_row, place_text};
+ghost use Rattle.snippet_titles.specs.Origin.{file_glyph, file_row, line_text, origin_row};
 ghost use Rattle.snippet_style.specs.Bounds.{IsRowNumber};
 
 use itoa::Buffer;
@@ -96,7 +96,8 @@ fn shown_path(alloc: Global, path: &str) -> Result<String, AllocError>
 
 /// Adds the place that stands after a path.
 fn push_place(text: &mut String, place: OriginLocation, anonymized: bool) -> Result<(), AllocError>
-    ensures added { OnOk result (string_bytes text.new ≡ string_bytes text.old ++ place_text anonymized place) }
+    ensures added { OnOk result (string_bytes text.new ≡
+        string_bytes text.old ++ line_text anonymized place.line place.column) }
 {
     let Some(line) = place.line else {
         return Ok(());

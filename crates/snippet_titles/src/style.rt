@@ -1,10 +1,10 @@
 //! Where a title or message stands, and what that makes of its rows: the roles of their parts, and what they begin
 //! with.
-ghost use Rattle.std.specs.Prelude.{◌≡◌, ◌<◌, chars, length};
+ghost use Rattle.std.specs.Prelude.{◌≡◌, ◌<◌, chars, length, if◌then◌else◌};
 ghost use Rattle.snippet_style.specs.Cell.{unlinked_cell};
 ghost use Rattle.snippet_style.specs.Glyphs.{note_sign_of};
 ghost use Rattle.snippet_titles.specs.HeadingRows as spec;
-ghost use Rattle.snippet_style.specs.declared.role.ElementStyle.TheVariants.{Level};
+ghost use Rattle.snippet_titles.specs.declared.style.TitleStyle.TheVariants.{Short, Title};
 ghost use Rattle.snippet_style.specs.Bounds.{IsSignWidth};
 
 use snippet_grid::Layout;
@@ -58,9 +58,7 @@ pub fn roles_of(style: &TitleStyle, kind: LevelInner, trusted: bool) -> HeadingR
 
 /// The roles of a title of this kind, in the short form or not.
 fn title_roles(short: bool, kind: LevelInner, trusted: bool) -> HeadingRoles
-    ensures label { result.label ≡ Level kind }
-    ensures colon { result.colon ≡ spec.title_role short trusted }
-    ensures text { result.text ≡ spec.text_role short trusted }
+    ensures value { result ≡ spec.roles_of (if short then Short else Title) kind trusted }
 {
     let (colon, text) = match (trusted, short) {
         (true, _) => (ElementStyle::HeaderMsg, ElementStyle::NoStyle),

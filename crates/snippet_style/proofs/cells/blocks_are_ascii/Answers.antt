@@ -1,4 +1,4 @@
-use Rattle.std.proofs.Common.{◌+◌, ◌-◌, ◌≡◌, ◌<◌, ◌≤◌, All, arith, drop, length, subst, take}
+use Rattle.std.proofs.Common.{◌+◌, ◌-◌, ◌≡◌, ◌<◌, All, arith, drop, length, subst, take}
 use Rattle.snippet_style.proofs.ByteLemmas.{All-further, All-overlapping}
 use Rattle.snippet_style.proofs.cells.blocks_are_ascii.Goals as goal
 

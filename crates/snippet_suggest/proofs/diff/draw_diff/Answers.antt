@@ -5,7 +5,8 @@ use Rattle.std.proofs.lemmas.Bool.{cases_Bool}
 use Rattle.std.proofs.lemmas.Result.{on_ok_weaker}
 use Rattle.std.specs.Str.{bytes_eq}
 use Rattle.snippet_style.specs.Cell.{Cell}
-use Rattle.snippet_suggest.specs.Given.{last_removed, unless_stays}
+use Rattle.snippet_suggest.specs.Given.{last_removed}
+use Rattle.snippet_suggest.specs.Cells.{unless_stays}
 use Rattle.snippet_style.specs.declared.role.ElementStyle.TheVariants.{Removal}
 use Rattle.snippet_splice.specs.EditStretches.{line_stretches}
 use Rattle.snippet_suggest.specs.Cells.{diff_cells, gone_of, left_out_cells, offered_cells, taken_cells, with_stretches}

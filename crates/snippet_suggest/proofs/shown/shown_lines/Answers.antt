@@ -1,7 +1,7 @@
 use Rattle.std.proofs.Common.{◌≡◌, ◌+◌, ◌<◌, ◌∙◌, false, length, get_or, sym, subst, arith, ℕ, Vec, Global}
 use Rattle.std.proofs.lemmas.List.{get_or_default}
 use Rattle.snippet_suggest.specs.declared.shown.SuggestionLine.{SuggestionLine}
-use Rattle.snippet_suggest.specs.SuggestedLines.{is_touched, lines_suggested}
+use Rattle.snippet_suggest.specs.SuggestedLines.{is_touched, shown_from}
 use Rattle.snippet_suggest.proofs.RisingLemmas.{shown_all}
 use Rattle.snippet_suggest.proofs.ShownLemmas.{touched_step, untouched_step}
 use Rattle.snippet_suggest.proofs.shown.shown_lines.Invariants.{Shows}
@@ -39,6 +39,6 @@ returns c =
     let touched = is_touched c.args.fold c.args.ranges.now in
     let l = c.loop-line in
     record {
-      value = shown_all touched l.shown.items (lines_suggested touched c.args.count) l.after l.line c.args.count
+      value = shown_all touched l.shown.items (shown_from touched 0 0 c.args.count) l.after l.line c.args.count
           (omega (arith, c.loop-line-test.false)) l.invariant.whole;
     }

@@ -18,7 +18,7 @@ use Rattle.snippet_suggest.specs.contracts.kind.DisplaySuggestion.{the_type}
 use Rattle.snippet_suggest.specs.declared.kind.DisplaySuggestion.TheVariants.{Diff}
 use Rattle.snippet_splice.specs.declared.splice.LineRange.{LineRange}
 use Rattle.snippet_suggest.specs.Given.{first_given, first_original, given_lines, given_ranges, shown_kind}
-use Rattle.snippet_suggest.specs.SuggestedLines.{is_touched, lines_suggested}
+use Rattle.snippet_suggest.specs.SuggestedLines.{is_touched, shown_from}
 use Rattle.snippet_suggest.proofs.KnownLemmas.{known_first, known_originals, known_some}
 use Rattle.snippet_suggest.proofs.KnownNumbers.{known_one, lines_none, lines_some}
 use Rattle.snippet_suggest.proofs.OrderLaws.{rows_others}
@@ -73,12 +73,12 @@ returns-clause-cells c = λ above tail is count.
     let size : length a.lines.now ≡ length lines = sym (length-map a.lines.now (λ l. l.now)) ∙ ap length c.requires.lines in
     let other : p.kind ≢ Diff = λ same. cc (c.if-eq.false, c.eq.ensures, true_same the_type p.kind Diff same) in
     let ranges : c.deref-3.result.now ≡ given_ranges s = c.deref-3.ensures.value ∙ c.requires.prepared.ranges in
-    let shown = lines_suggested (is_touched s.fold (given_ranges s)) (length lines) in
+    let shown = shown_from (is_touched s.fold (given_ranges s)) 0 0 (length lines) in
     let begin : List Cell = begin_cells l a.start (row_at tail 0) in
     let stretches : ℕ → List SubstitutionHighlight = line_stretches c.deref-2.result.now in
     let same : (k : ℕ) → stretches k ≡ new_on s k = λ k. ap (λ vs. line_stretches vs k) c.deref-2.ensures.value ∙ c.requires.prepared.new k in
     let Rows : DisplaySuggestion → ℕ → List (List ℕ) → List LineRange → ℕ → List (List Cell) = λ kind m ls rs k.
-    map (suggestion_row l kind m ls stretches) (lines_suggested (is_touched s.fold rs) k) in
+    map (suggestion_row l kind m ls stretches) (shown_from (is_touched s.fold rs) 0 0 k) in
     let drawn : Rows p.kind n (map (λ l. l.now) a.lines.now) c.deref-3.result.now (length a.lines.now) ≡ Rows (shown_kind s) at lines (given_ranges s)
     (length lines) = ap (λ kind. Rows kind n (map (λ l. l.now) a.lines.now) c.deref-3.result.now (length a.lines.now)) c.requires.prepared.kind
     ∙ ap (λ m. Rows (shown_kind s) m (map (λ l. l.now) a.lines.now) c.deref-3.result.now (length a.lines.now)) first

@@ -15,10 +15,10 @@ use Rattle.snippet_parts.specs.declared.source_map.LineInfo.{LineInfo}
 use Rattle.snippet_suggest.specs.contracts.kind.DisplaySuggestion.{the_type}
 use Rattle.snippet_suggest.specs.declared.kind.DisplaySuggestion.TheVariants.{Diff}
 use Rattle.snippet_suggest.specs.Given.{first_original, first_original_end, removed_lines}
-use Rattle.snippet_suggest.specs.RowOrder.{Begins, numbered_at, removed_from, removed_row}
+use Rattle.snippet_suggest.specs.RowOrder.{Begins, numbered_at, removed_from}
 use Rattle.snippet_suggest.proofs.KnownLemmas.{known_originals, known_some}
 use Rattle.snippet_suggest.proofs.KnownRemoved.{known_emptied_rows}
-use Rattle.snippet_suggest.proofs.OrderLaws.{rows_none, rows_none_diff}
+use Rattle.snippet_suggest.proofs.OrderLaws.{rows_none, rows_none_diff, removed_row}
 use Rattle.snippet_suggest.proofs.ReachLemmas.{touched_some}
 use Rattle.snippet_suggest.proofs.suggestion.draw_emptied.Goals as goal
 
