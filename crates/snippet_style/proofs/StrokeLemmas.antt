@@ -1,10 +1,21 @@
 -- The table of strokes: what a test says of each of its glyphs, by one computation for each decor and kind.
-use Rattle.std.proofs.Common.{◌≡◌, ℕ, Bool, true, false, ◌==◌, get_or, map, replicate, refl, ap}
+use Rattle.std.proofs.Common.{◌≡◌, ℕ, Bool, true, false, List, [], ◌∷◌, ◌==◌, get_or, map, replicate, refl, ap}
 use Rattle.std.specs.List.{list_any}
-use Rattle.snippet_style.specs.Glyphs.{bar_glyphs, bar_strokes, code_strokes, stem_strokes, strokes_of}
+use Rattle.snippet_style.specs.Glyphs.{bar_glyphs, strokes_of}
 use Rattle.snippet_style.specs.declared.glyphs.DecorStyle.{DecorStyle}
 use Rattle.snippet_style.specs.declared.glyphs.DecorStyle.TheVariants.{Ascii, Unicode}
 use Rattle.snippet_style.specs.declared.glyphs.Strokes.{Strokes}
+
+-- the glyphs of bars, of stems, and all from the code on, of one table
+abbrev bar_strokes : Strokes → List ℕ
+bar_strokes s = s.bar ∷ s.elided_bar ∷ s.connector ∷ s.whole_line ∷ s.bar_top ∷ s.bar_bottom ∷ []
+
+abbrev stem_strokes : Strokes → List ℕ
+stem_strokes s = s.stem ∷ s.corner ∷ s.corner_with_label ∷ []
+
+abbrev code_strokes : Strokes → List ℕ
+code_strokes s =
+    s.underline ∷ s.label_start ∷ s.end_down ∷ s.end_flat ∷ s.connector ∷ stem_strokes s
 
 -- it holds of each glyph of bars
 pub record EachBar (P : ℕ → Type 0) (s : Strokes) : Type 0 where
