@@ -124,10 +124,8 @@ abbrev pub stroke_rows : Layout → ℕ → Bool → List LineAnnotation → Lis
 stroke_rows layout room closes es source =
     let placed = placed_of es in
     let order = painting_order placed in
-    let count = row_count placed in
-    let whole = painted (line_strokes layout 0 (count + 1) placed order) (begun_rows layout closes count source) in
-    let cuts = cuts_of layout room order (overlapped placed) in
-    map (cut_row layout.decor cuts) (take 2 whole) ++ drop 2 whole
+    let whole = painted (line_strokes layout 0 (row_count placed + 1) placed order) (begun_rows layout closes (row_count placed) source) in
+    map (cut_row layout.decor (cuts_of layout room order (overlapped placed))) (take 2 whole) ++ drop 2 whole
 
 -- ---- a part of them, as its painter promises it
 
