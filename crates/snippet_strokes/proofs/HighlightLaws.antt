@@ -16,7 +16,7 @@ use Rattle.snippet_style.specs.Cell.{Cell, SPACE, gives_way}
 use Rattle.snippet_style.specs.Glyphs.{underline_role}
 use Rattle.snippet_style.specs.declared.role.ElementStyle.{ElementStyle}
 use Rattle.snippet_style.specs.declared.role.ElementStyle.TheVariants.{UnderlinePrimary, UnderlineSecondary}
-use Rattle.snippet_strokes.specs.StrokeRows.{highlighted_row, highlights, holds_character, role_in_source}
+use Rattle.snippet_strokes.specs.StrokeRows.{highlighted_row, highlights, role_in_source}
 use Rattle.snippet_strokes.proofs.LineFromValue.{highlighted_row_is}
 
 -- ---- rows of which one is changed
@@ -201,7 +201,7 @@ module _ (code dropped : ℕ) (es : List LineAnnotation) (e : LineAnnotation) wh
       let kept : highlights code dropped c e ≡ false → get_or (restyle lit) c SPACE ≡ get_or lit c SPACE → get_or (restyle lit) c SPACE ≡ get_or all c SPACE =
       λ unasked stays. stays ∙ was.cells c inside ∙ ap (λ (r : ElementStyle). record cell { role = r }) (role_unasked c cell.role unasked)
       ∙ sym (is.cells c inside) in
-      let unheld : holds_character code dropped c e ≡ false → highlights code dropped c e ≡ false = and_right e.highlight_source _ in
+      let unheld : (nat_le first_cell c && nat_lt c end_cell) ≡ false → highlights code dropped c e ≡ false = and_right e.highlight_source _ in
       elim (cases_lt c first_cell) [
         | inl left ↦
             kept (unheld (and_left (nat_le first_cell c) (nat_lt c end_cell) (lt-leb first_cell c left)))
@@ -212,7 +212,7 @@ module _ (code dropped : ℕ) (es : List LineAnnotation) (e : LineAnnotation) wh
               (slice_index_or-changed_within_after (restyled (underline_role p) p) first_cell end_cell lit c SPACE past)
           | inl held ↦
               let from : first_cell ≤ c = omega (arith, reached) in
-              let asked : highlights code dropped c e ≡ true = and_from e.highlight_source (holds_character code dropped c e) asks
+              let asked : highlights code dropped c e ≡ true = and_from e.highlight_source (nat_le first_cell c && nat_lt c end_cell) asks
               (and_from (nat_le first_cell c) (nat_lt c end_cell) (le-leb first_cell c from) (lt-ltb c end_cell held)) in
               let before : ElementStyle = role_in_source code dropped es c cell.role in
               slice_index_or-changed_within_inside (restyled (underline_role p) p) first_cell end_cell lit c SPACE from held (omega (arith, inside, was.width))

@@ -37,6 +37,7 @@ pub mod MarkLemmas
 pub mod MarkStrokeLemmas
 pub mod MarkWriteLemmas
 pub mod NoStrokes
+pub mod OneStep
 pub mod OpenLemmas
 pub mod PaintLemmas
 pub mod PaintOrder

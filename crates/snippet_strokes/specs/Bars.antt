@@ -33,7 +33,7 @@ bar_of e = bar_at e.annotation_type (is_primary e.kind)
 
 -- the bars of the starts and ends on a line
 abbrev pub ends_of_bars : List LineAnnotation → List OpenBar
-ends_of_bars es = filter_map bar_of es
+ends_of_bars es = filter_map (λ e. bar_at e.annotation_type (is_primary e.kind)) es
 
 -- whether one of these bars has this depth
 abbrev pub has_depth : List OpenBar → ℕ → Bool
@@ -88,13 +88,10 @@ abbrev pub bar_cell_part : Layout → BarStroke → OpenBar → Cell
 bar_cell_part layout stroke bar =
     unlinked_cell (underline_role bar.primary) (bar_glyph stroke layout.decor bar.primary)
 
--- a row with a part of a bar in the cell of its depth, and with parts of some bars: of two of one depth the later one stands
-abbrev pub with_bar : Layout → BarStroke → List Cell → OpenBar → List Cell
-with_bar layout stroke row bar =
-    written SPACE row (bar_cell layout bar.depth) (bar_cell_part layout stroke bar ∷ [])
-
+-- a row with a part of each of some bars in the cell of its depth: of two of one depth the later one stands
 abbrev pub with_bars : Layout → BarStroke → List OpenBar → List Cell → List Cell
-with_bars layout stroke bars row = fold (with_bar layout stroke) row bars
+with_bars layout stroke bars row =
+    fold (λ cells bar. written SPACE cells (bar_cell layout bar.depth) (bar_cell_part layout stroke bar ∷ [])) row bars
 
 -- rows of which each from `row` on is changed by a rule
 abbrev pub changed_from : (List Cell → List Cell) → ℕ → List (List Cell) → List (List Cell)
