@@ -12,14 +12,14 @@ use Rattle.snippet_lines.specs.Place.{line_of}
 use Rattle.snippet_lines.proofs.BoundsLemmas.{IsLine-at}
 use Rattle.snippet_lines.proofs.LinesLemmas.{length-lines_of, length-source_lines, start_of-zero}
 use Rattle.snippet_lines.proofs.PlaceLemmas.{line_of-within, start_of-inside}
-use Rattle.snippet_splice.specs.Copied.{copied, end_from, in_text, is_inside_line_end, text_end, written_from}
+use Rattle.snippet_splice.specs.Copied.{copied, end_from, in_text, is_inside_line_end, written_from}
 use Rattle.snippet_splice.specs.Edits.{Edit, AreApart, in_order, precedes, trimmed_edit, trimmed_edits}
 use Rattle.snippet_splice.specs.ShownText.{closes_line, first_start, shown_line, shown_rest, shown_start, shown_text, without_final_line_feeds}
 use Rattle.snippet_splice.proofs.EditLemmas.{IsShrunk, trimmed_edit-shrunk}
 use Rattle.snippet_splice.proofs.LineLemmas.{Shortens, Shortens-final}
 use Rattle.snippet_splice.proofs.RangeLemmas.{feeds, feeds-append, feeds-none, feeds-shown}
 use Rattle.snippet_splice.proofs.ShownLemmas.{shown-apart}
-use Rattle.snippet_splice.proofs.WriteLemmas.{count-with_line_feeds, in_text-mono}
+use Rattle.snippet_splice.proofs.WriteLemmas.{count-with_line_feeds, in_text-mono, text_end}
 
 -- a text has at most one line more than LF, and a source no more LF than lines
 lines-feeds : (text : List ℕ) → length (lines_of text) ≤ feeds text + 1

@@ -13,11 +13,11 @@ use Rattle.snippet_lines.specs.Lines.{Line, lines_of, line_with_byte, with_first
 use Rattle.snippet_lines.specs.Place.{line_of}
 use Rattle.snippet_lines.proofs.PlaceLemmas.{line_of-within, text_at-end}
 use Rattle.snippet_splice.specs.Edits.{Edit, in_order, trimmed_edits, edited_from, patched, AreApart}
-use Rattle.snippet_splice.specs.Copied.{is_inside_line_end, text_end, in_text, with_line_feeds, copied, written_from, end_from}
-use Rattle.snippet_splice.specs.ShownText.{first_start, last_text, closes_line, shown_start, without_final_line_feeds, shown_text}
+use Rattle.snippet_splice.specs.Copied.{is_inside_line_end, in_text, with_line_feeds, copied, written_from, end_from}
+use Rattle.snippet_splice.specs.ShownText.{first_start, closes_line, shown_start, without_final_line_feeds, shown_text}
 use Rattle.snippet_splice.specs.Spliced.{stands_from, stands, last_end, spliced_end, spliced_text, HasNoCr, IsBeforeFinalLf}
 use Rattle.snippet_splice.proofs.EditLemmas.{slice_split, edited_from-earlier, edited_from-trimmed}
-use Rattle.snippet_splice.proofs.WriteLemmas.{with_line_feeds-none}
+use Rattle.snippet_splice.proofs.WriteLemmas.{text_end, with_line_feeds-none, last_text, closes-last}
 use Rattle.snippet_splice.proofs.ShownLemmas.{shown-apart}
 
 -- ---- without CR, bytes are copied as they are
@@ -279,8 +279,8 @@ IsShownPart-plain true source es none before apart some =
       whole = whole;
       before = refl;
       size = size;
-      stops = inr (last-written source s ts (eqb-true (last_byte (last_text ts)) 10 t));
-      closes = inr (some_bytes (last_text ts) (eqb-true (last_byte (last_text ts)) 10 t));
+      stops = inr (last-written source s ts (eqb-true (last_byte (last_text ts)) 10 (sym (closes-last ts) ∙ t)));
+      closes = inr (some_bytes (last_text ts) (eqb-true (last_byte (last_text ts)) 10 (sym (closes-last ts) ∙ t)));
       ends = omega arith;
       text = ap (λ l. without_final_line_feeds (w ++ l)) (cond-true (closes_line ts) [] (text_at (source_lines r) 0) t)
           ∙ ap without_final_line_feeds (append-nil w);

@@ -17,7 +17,7 @@ use Rattle.snippet_lines.specs.Lines.{is_lf, last_byte}
 use Rattle.snippet_lines.proofs.CursorLemmas.{last_byte-not}
 use Rattle.snippet_style.proofs.CellLemmas.{length-chars_le}
 use Rattle.snippet_splice.specs.declared.stretches.SubstitutionHighlight.{SubstitutionHighlight}
-use Rattle.snippet_splice.specs.EditStretches.{after_last_lf, capped, line_stretches, pieces_of, taken_on, without_cr}
+use Rattle.snippet_splice.specs.EditStretches.{after_last_lf, capped, line_stretches, taken_on, without_cr}
 use Rattle.snippet_splice.proofs.RangeLemmas.{feeds-append}
 use Rattle.snippet_splice.proofs.WriteLemmas.{utf8-after}
 
@@ -216,27 +216,31 @@ chars_anew front text i within lf none =
 record Pieces (text : List ℕ) : Type 0 where
   pub first : List ℕ
   pub rest : List (List ℕ)
-  pub are : pieces_of text ≡ first ∷ rest
+  pub are : slice_split is_lf text ≡ first ∷ rest
 
 pieces_some : (text : List ℕ) → Pieces text
 pieces_some [] = record { first = []; rest = []; are = refl }
 pieces_some (b ∷ bs) =
     let later = pieces_some bs in
     elim (cases_Bool (is_lf b)) [
-      | inl lf ↦ record { first = []; rest = pieces_of bs; are = cond-true (is_lf b) ([] ∷ pieces_of bs) (onto_first b (pieces_of bs)) lf }
+      | inl lf ↦ record {
+        first = [];
+        rest = slice_split is_lf bs;
+        are = cond-true (is_lf b) ([] ∷ slice_split is_lf bs) (onto_first b (slice_split is_lf bs)) lf;
+      }
       | inr other ↦
           record {
             first = b ∷ later.first;
             rest = later.rest;
-            are = cond-false (is_lf b) ([] ∷ pieces_of bs) (onto_first b (pieces_of bs)) other ∙ ap (onto_first b) later.are;
+            are = cond-false (is_lf b) ([] ∷ slice_split is_lf bs) (onto_first b (slice_split is_lf bs)) other ∙ ap (onto_first b) later.are;
           }
     ]
 
 -- what the first of several takes, and the others
 pub taken_cut : (k line before start end : ℕ) (piece after : List ℕ)
-    → taken_on k line before start end (piece ∷ pieces_of after)
+    → taken_on k line before start end (piece ∷ slice_split is_lf after)
     ≡ (if line == k then record { start = start; end = capped (before + length (chars (without_cr piece))) } ∷ [] else [])
-    ++ taken_on k (capped (line + 1)) 0 0 end (pieces_of after)
+    ++ taken_on k (capped (line + 1)) 0 0 end (slice_split is_lf after)
 taken_cut k line before start end piece after =
     let later = pieces_some after in
     let one : List SubstitutionHighlight = if line == k then record { start = start; end = capped (before + length (chars (without_cr piece))) } ∷ [] else [] in

@@ -1,18 +1,18 @@
 -- Laws of what is written for edits, and of the end of the text that is shown.
 use Rattle.std.proofs.Common.{◌≡◌, ◌≢◌, ℕ, suc, ◌+◌, ◌-◌, ◌<◌, ◌≤◌, Bool, false, cond, ◌&&◌, eqb, min, List, [], ◌∷◌, ◌++◌, length, map, take, drop, get_or}
-use Rattle.std.proofs.Common.{count_by, refl, sym, ap, subst, ◌∙◌, ⊎_elim, arith, append_assoc, zero-add}
+use Rattle.std.proofs.Common.{count_by, refl, sym, ap, subst, ◌∙◌, ⊎_elim, arith, append_assoc, zero-add, ◌==◌, if◌then◌else◌}
 use Rattle.std.proofs.lemmas.List.{length-append, take_at, take-take, drop_at, get_or_at, length_push}
 use Rattle.std.proofs.lemmas.Str.{IsUtf8-take, IsUtf8-drop, IsCharBoundary-before_ascii, IsCharBoundary-after_ascii}
 use Rattle.std.specs.Str.{IsUtf8}
 use Rattle.std.proofs.lemmas.List.Sums.{sum_by-append, sum_by-cons}
 use Rattle.std.proofs.lemmas.Bool.{cases_Bool, cases_eq, cond-true, cond-false, and_parts, and_left, eqb-true, ne_eqb, cond_both}
-use Rattle.snippet_lines.specs.Lines.{is_lf}
+use Rattle.snippet_lines.specs.Lines.{is_lf, last_byte}
 use Rattle.snippet_lines.specs.Span.{IsSpanBorder}
 use Rattle.snippet_splice.specs.declared.splice.LineRange.{LineRange}
 use Rattle.snippet_splice.specs.declared.patches.TrimmedPatch.{TrimmedPatch}
 use Rattle.snippet_splice.specs.Edits.{Edit, trimmed_edit_of, AreApart}
-use Rattle.snippet_splice.specs.Copied.{is_inside_line_end, text_end, in_text, with_line_feeds, copied, written_from, written_ranges, end_from}
-use Rattle.snippet_splice.specs.ShownText.{last_text, unless_lone_line_feed, without_final_line_feeds}
+use Rattle.snippet_splice.specs.Copied.{is_inside_line_end, in_text, with_line_feeds, copied, written_from, written_ranges, end_from}
+use Rattle.snippet_splice.specs.ShownText.{unless_lone_line_feed, without_final_line_feeds, closes_line}
 
 -- ---- an LF in place of each CR LF
 
@@ -80,6 +80,10 @@ count-with_line_feeds (x ∷ xs) =
 
 -- ---- places of a text
 
+-- the end of a source, before an LF that ends it
+abbrev pub text_end : List ℕ → ℕ
+text_end source = if last_byte source == 10 then length source - 1 else length source
+
 -- a later place is at least as far in the text
 pub in_text-mono : (source : List ℕ) (a b : ℕ) → a ≤ b → in_text source a ≤ in_text source b
 in_text-mono source a b low =
@@ -131,6 +135,18 @@ Writes-more source from es out ranges feeds end e left out2 out3 between h one n
     }
 
 -- ---- the end of a text
+
+-- the text of the last of some edits
+abbrev pub last_text : List Edit → List ℕ
+last_text [] = []
+last_text (e ∷ []) = e.text
+last_text (e ∷ d ∷ es) = last_text (d ∷ es)
+
+-- the last edit closes its line if that text ends with LF
+pub closes-last : (es : List Edit) → closes_line es ≡ (last_byte (last_text es) == 10)
+closes-last [] = refl
+closes-last (e ∷ []) = refl
+closes-last (e ∷ d ∷ es) = closes-last (d ∷ es)
 
 -- the last text of trimmed patches is that of the last one
 pub last_text-at : (ps : List TrimmedPatch) (d : TrimmedPatch) → 0 < length ps

@@ -1,5 +1,5 @@
 -- How source is copied beside patches: by the text of its lines, and with an LF for each line end.
-use Rattle.std.specs.Prelude.{ℕ, ◌+◌, ◌-◌, nat_lt, min, ◌==◌, ◌&&◌, Bool, List, [], ◌∷◌, ◌++◌, length, slice_index, count_by, if◌then◌else◌}
+use Rattle.std.specs.Prelude.{ℕ, ◌+◌, ◌-◌, nat_lt, min, ◌==◌, ◌&&◌, Bool, List, [], ◌∷◌, ◌++◌, length, slice_index, count_by, fold, if◌then◌else◌}
 use Rattle.std.specs.List.{slice_range}
 use Rattle.snippet_lines.specs.Lines.{last_byte, is_lf}
 use Rattle.snippet_splice.specs.declared.splice.LineRange.{LineRange}
@@ -10,15 +10,12 @@ abbrev pub is_inside_line_end : List ℕ → ℕ → Bool
 is_inside_line_end source b =
     nat_lt 0 b && nat_lt b (length source) && slice_index source b == 10 && slice_index source (b - 1) == 13
 
--- the end of a source, before an LF that ends it
-abbrev pub text_end : List ℕ → ℕ
-text_end source = if last_byte source == 10 then length source - 1 else length source
-
 -- a byte moved out of the line end that it stands in or after, where that isn't followed by a line: to before the CR of
 -- CR LF, and from after a final line end to before it
 abbrev pub in_text : List ℕ → ℕ → ℕ
 in_text source b =
-    let at = min b (text_end source) in if is_inside_line_end source at then at - 1 else at
+    let at = min b (if last_byte source == 10 then length source - 1 else length source) in
+    if is_inside_line_end source at then at - 1 else at
 
 -- a text with an LF in place of each CR LF
 abbrev pub with_line_feeds : List ℕ → List ℕ
@@ -46,5 +43,4 @@ written_ranges source feeds at (e ∷ es) =
 
 -- the byte of the source after the last of some edits, from a byte on
 abbrev pub end_from : ℕ → List Edit → ℕ
-end_from at [] = at
-end_from at (e ∷ es) = end_from e.end es
+end_from at es = fold (λ before e. e.end) at es

@@ -19,10 +19,6 @@ capped n = min n max_usize
 abbrev pub stretch_width : List ℕ → ℕ
 stretch_width text = capped (length (chars text) + capped (count_by (λ b. b == 9) text * 3))
 
--- the pieces of a text, one for each line: it is cut at its LF
-abbrev pub pieces_of : List ℕ → List (List ℕ)
-pieces_of text = slice_split is_lf text
-
 -- the stretches of line k in a table of lines; none of a line that isn't there
 abbrev pub line_stretches : List (Vec SubstitutionHighlight Global) → ℕ → List SubstitutionHighlight
 line_stretches lines k = slice_index_or (map (λ v. v.items) lines) k []
@@ -93,13 +89,14 @@ text_start shown end x = if x.feeds == 0 then capped (shown + (x.start - end)) e
 abbrev pub shown_end : ℕ → Extent → ℕ
 shown_end from x = if count_by is_lf x.text == 0 then capped (from + stretch_width x.text) else x.end
 
--- the stretches of line k, of the texts of some edits, where the end of an edit before them stands in this line
+-- the stretches of line k, of the texts of some edits, where the end of an edit before them stands in this line. A text has a piece for each
+-- line: it is cut at its LF
 abbrev pub stretches_on : ℕ → ℕ → ℕ → ℕ → List Extent → List SubstitutionHighlight
 stretches_on k line shown end [] = []
 stretches_on k line shown end (x ∷ xs) =
     let first = capped (line + x.feeds) in
     let from = text_start shown end x in
-    pieces_on k first from (pieces_of x.text) ++ stretches_on k (capped (first + count_by is_lf x.text)) (shown_end from x) x.end xs
+    pieces_on k first from (slice_split is_lf x.text) ++ stretches_on k (capped (first + count_by is_lf x.text)) (shown_end from x) x.end xs
 
 -- the stretches of line k of the text that is shown, which the edits write anew
 unfoldable pub new_stretches : Bool → List ℕ → List Edit → ℕ → List SubstitutionHighlight
@@ -158,7 +155,7 @@ abbrev pub replaced_on : ℕ → ℕ → List Extent → List SubstitutionHighli
 replaced_on k line [] = []
 replaced_on k line (x ∷ xs) =
     let first = capped (line + x.feeds) in
-    taken_on k first x.before x.start x.end (pieces_of x.under) ++ replaced_on k (capped (first + count_by is_lf x.under)) xs
+    taken_on k first x.before x.start x.end (slice_split is_lf x.under) ++ replaced_on k (capped (first + count_by is_lf x.under)) xs
 
 -- those of line k after the first that is shown, which the edits replace
 unfoldable pub replaced_stretches : Bool → List ℕ → List Edit → ℕ → List SubstitutionHighlight

@@ -1,5 +1,7 @@
 -- The text that is shown of the patched source, as it is written.
-use Rattle.std.specs.Prelude.{ℕ, ◌==◌, Bool, List, [], ◌∷◌, ◌++◌, drop, if◌then◌else◌}
+use Rattle.std.specs.Prelude.{ℕ, ◌==◌, Bool, false, None, List, [], ◌∷◌, ◌++◌, drop, if◌then◌else◌}
+use Rattle.std.specs.List.{last_or}
+use Rattle.std.specs.Option.{option_map_or}
 use Rattle.snippet_lines.specs.Lines.{source_lines, start_of, text_at, last_byte, is_lf}
 use Rattle.snippet_lines.specs.Place.{line_of}
 use Rattle.snippet_splice.specs.Edits.{Edit, in_order, trimmed_edits}
@@ -10,15 +12,9 @@ abbrev pub first_start : List Edit → ℕ
 first_start [] = 0
 first_start (e ∷ es) = e.start
 
--- the text of the last of some edits
-abbrev pub last_text : List Edit → List ℕ
-last_text [] = []
-last_text (e ∷ []) = e.text
-last_text (e ∷ d ∷ es) = last_text (d ∷ es)
-
 -- whether the last of some edits closes its line: its text ends with LF
 abbrev pub closes_line : List Edit → Bool
-closes_line es = last_byte (last_text es) == 10
+closes_line es = option_map_or (λ e. last_byte e.text == 10) (last_or None es) false
 
 -- the line of the source, from 0, from which on the patched source is shown: folded the one on which the first edit
 -- starts; and the byte at which that line starts

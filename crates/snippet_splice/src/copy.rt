@@ -1,10 +1,10 @@
 //! How source is copied beside patches: by the text of its lines, with a line feed for each line end.
-ghost use Rattle.std.specs.Prelude.{◌≡◌, ◌<◌, ◌≤◌, ◌++◌, IfOk, count_by, true};
+ghost use Rattle.std.specs.Prelude.{◌≡◌, ◌==◌, ◌-◌, ◌<◌, ◌≤◌, ◌++◌, IfOk, count_by, length, true, if◌then◌else◌};
 ghost use Rattle.std.specs.String.{string_bytes};
 ghost use Rattle.std.specs.Str.{IsCharBoundary};
-ghost use Rattle.snippet_lines.specs.Lines.{is_lf};
+ghost use Rattle.snippet_lines.specs.Lines.{is_lf, last_byte};
 ghost use Rattle.snippet_lines.specs.Span.{IsSpanBorder};
-ghost use Rattle.snippet_splice.specs.Copied.{is_inside_line_end, text_end, in_text, with_line_feeds, copied};
+ghost use Rattle.snippet_splice.specs.Copied.{is_inside_line_end, in_text, with_line_feeds, copied};
 
 use memchr::memchr;
 use snippet_lines::line_feed_count;
@@ -47,7 +47,7 @@ pub(crate) fn text_place(source: &str, byte: usize) -> usize
 
 /// The end of a source, before a line feed that ends it.
 fn text_end(bytes: &[u8]) -> usize
-    ensures value { result ≡ text_end bytes.now }
+    ensures value { result ≡ (if last_byte bytes.now == 10 then length bytes.now - 1 else length bytes.now) }
 {
     match bytes {
         [.., b'\n'] => bytes.len() - 1,

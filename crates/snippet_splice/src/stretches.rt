@@ -1,7 +1,7 @@
 //! Which stretches of lines a suggested edit writes anew, and which of the source it replaces.
 ghost use Rattle.std.specs.Prelude.{◌≡◌, ◌==◌, ◌≤◌, ◌<◌, ◌^◌, nat_lt, ℕ, List, ◌++◌, ◌∷◌, [], All, IfOk, OnOk, chars};
 ghost use Rattle.std.specs.Prelude.{count_by, length, map, max, ◌+◌, if◌then◌else◌};
-ghost use Rattle.std.specs.List.{slice_range};
+ghost use Rattle.std.specs.List.{slice_range, slice_split};
 ghost use Rattle.std.specs.Str.{IsUtf8};
 ghost use Rattle.snippet_lines.specs.Lines.{is_lf};
 ghost use Rattle.snippet_lines.specs.Span.{IsSpan, IsSpanBorder};
@@ -9,7 +9,7 @@ ghost use Rattle.snippet_splice.specs.Copied.{in_text};
 ghost use Rattle.snippet_splice.specs.Edits.{AreApart, trimmed_edit_of};
 ghost use Rattle.snippet_splice.specs.EditStretches.{after_last_lf, capped, characters_before, end_character};
 ghost use Rattle.snippet_splice.specs.EditStretches.{extent_of};
-ghost use Rattle.snippet_splice.specs.EditStretches.{extents_from, feeds_made, line_stretches, lines_over, pieces_of};
+ghost use Rattle.snippet_splice.specs.EditStretches.{extents_from, feeds_made, line_stretches, lines_over};
 ghost use Rattle.snippet_splice.specs.EditStretches.{pieces_on, replaced_on, start_character, stretches_on, taken_on};
 ghost use Rattle.snippet_splice.specs.EditStretches.{without_cr};
 ghost use Rattle.snippet_splice.specs.EditStretches as spec;
@@ -200,7 +200,7 @@ fn push_pieces(
     replacement: &str,
 ) -> Result<usize, AllocError>
     ensures value { OnOk result ((k : ℕ) → line_stretches lines.new.items k
-        ≡ line_stretches lines.old.items k ++ pieces_on k first from (pieces_of replacement.now)) }
+        ≡ line_stretches lines.old.items k ++ pieces_on k first from (slice_split is_lf replacement.now)) }
     ensures lines { OnOk result (length lines.new.items
         ≡ max (length lines.old.items) (capped (first + count_by is_lf replacement.now + 1))) }
     ensures end { IfOk result (λ end. count_by is_lf replacement.now ≡ 0
@@ -315,7 +315,7 @@ fn push_replaced(
     place: &PatchExtent<'_, '_>,
 ) -> Result<(), AllocError>
     ensures value { let x = extent_of place.now in OnOk result ((k : ℕ) → line_stretches lines.new.items k
-        ≡ line_stretches lines.old.items k ++ taken_on k first x.before x.start x.end (pieces_of x.under)) }
+        ≡ line_stretches lines.old.items k ++ taken_on k first x.before x.start x.end (slice_split is_lf x.under)) }
     ensures lines { OnOk result (length lines.new.items
         ≡ max (length lines.old.items) (capped (first + count_by is_lf place.now.inside.now + 1))) }
 {

@@ -72,7 +72,8 @@ rows_where [] kind begin removed changed shown = removed
 rows_where lines Diff begin removed changed shown = begin ∷ changed
 rows_where lines kind begin removed changed shown = begin ∷ shown
 
--- what the rows of a suggestion show, but the last one, which is what it ends with. The row of line i of the source shows it as removed
+-- what the rows of a suggestion show, but the last one, which is what it ends with. A line of the source that is removed
+-- has a row with the number beside it and its text
 abbrev pub rows_of_suggestion : SuggestionStart → Snippet Patch → List SuggestionRow
 rows_of_suggestion start s =
     let touched = is_touched s.fold (given_ranges s) in

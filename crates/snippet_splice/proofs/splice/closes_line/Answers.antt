@@ -1,12 +1,14 @@
-use Rattle.std.proofs.Common.{◌<◌, ◌==◌, length, sym, ap, ◌∙◌, arith}
+use Rattle.std.proofs.Common.{◌<◌, ◌==◌, length, sym, ap, ◌∙◌, arith, map}
 use Rattle.snippet_lines.specs.Lines.{last_byte}
-use Rattle.snippet_splice.proofs.WriteLemmas.{last_text-at}
+use Rattle.snippet_splice.proofs.WriteLemmas.{last_text-at, closes-last}
 use Rattle.snippet_splice.proofs.splice.closes_line.Goals as goal
+use Rattle.snippet_splice.specs.Edits.{trimmed_edit_of}
 
 pub returns-in-len1-up : goal.returns-in-len1-up
 returns-in-len1-up c =
     let some : 0 < length c.args.patches.now = omega arith in
     record {
       value = c.ends_with_line_feed.ensures.value ∙ ap (λ t.
-          last_byte t == 10) (c.as_bytes.ensures.value ∙ sym (last_text-at c.args.patches.now _ some));
+          last_byte t == 10) (c.as_bytes.ensures.value ∙ sym (last_text-at c.args.patches.now _ some))
+          ∙ sym (closes-last (map trimmed_edit_of c.args.patches.now));
     }

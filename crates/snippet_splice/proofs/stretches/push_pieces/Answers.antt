@@ -3,10 +3,11 @@ use Rattle.snippet_lines.specs.Lines.{is_lf}
 use Rattle.std.proofs.lemmas.List.{append-nil}
 use Rattle.std.proofs.lemmas.Str.Pattern.{split_parts}
 use Rattle.snippet_splice.specs.declared.stretches.SubstitutionHighlight.{SubstitutionHighlight}
-use Rattle.snippet_splice.specs.EditStretches.{capped, line_stretches, pieces_of, pieces_on, stretch_width}
+use Rattle.snippet_splice.specs.EditStretches.{capped, line_stretches, pieces_on, stretch_width}
 use Rattle.snippet_splice.proofs.StretchLemmas.{feeds_cut, feeds_whole, pieces_cut, pieces_whole}
 use Rattle.snippet_splice.proofs.WriteLemmas.{utf8-after}
 use Rattle.snippet_splice.proofs.stretches.push_pieces.Goals as goal
+use Rattle.std.specs.List.{slice_split}
 
 -- what a piece adds to line k
 abbrev added : ℕ → ℕ → ℕ → ℕ → List SubstitutionHighlight
@@ -26,14 +27,15 @@ loop-piece-preserved c =
     record {
       text = utf8-after rest piece after 10 c.loop-piece.invariant.text (lit< tt) parts.0;
       whole = λ k.
-          let later : List SubstitutionHighlight = pieces_on k (capped (line + 1)) 0 (pieces_of after) in
+          let later : List SubstitutionHighlight = pieces_on k (capped (line + 1)) 0 (slice_split is_lf after) in
           let now : line_stretches c.push_stretch.new.lines.items k ≡ line_stretches old k
           ++ added k line start (capped (start + stretch_width piece)) = c.in_ok-push_stretch.ensures.value k
           ∙ ap (λ n. line_stretches old k ++ added k line start n) end in
           let one : List SubstitutionHighlight = added k line start (capped (start + stretch_width piece)) in
-          let next : pieces_on k c.saturating_add-line.result 0 (pieces_of after)
-          ≡ later = ap (λ n. pieces_on k n 0 (pieces_of after)) c.saturating_add-line.ensures in
-          let left : one ++ later ≡ pieces_on k line start (pieces_of rest) = ap (pieces_on k line start) (sym (pieces_cut rest piece after parts.0 parts.1)) in
+          let next : pieces_on k c.saturating_add-line.result 0 (slice_split is_lf after)
+          ≡ later = ap (λ n. pieces_on k n 0 (slice_split is_lf after)) c.saturating_add-line.ensures in
+          let left : one ++ later ≡ pieces_on k line start (slice_split is_lf rest) =
+          ap (pieces_on k line start) (sym (pieces_cut rest piece after parts.0 parts.1)) in
           ap (λ ys. line_stretches c.push_stretch.new.lines.items k ++ ys) next ∙ ap (λ ys. ys ++ later) now ∙ append_assoc (line_stretches old k) one later
           ∙ ap (λ ys. line_stretches old k ++ ys) left ∙ c.loop-piece.invariant.whole k;
       lines = omega (
@@ -59,7 +61,8 @@ returns c =
     record {
       value = λ k.
           let one : List SubstitutionHighlight = added k line start (capped (start + stretch_width rest)) in
-          let left : one ≡ pieces_on k line start (pieces_of rest) = sym (append-nil one) ∙ ap (pieces_on k line start) (sym (pieces_whole rest none)) in
+          let left : one ≡ pieces_on k line start (slice_split is_lf rest) =
+          sym (append-nil one) ∙ ap (pieces_on k line start) (sym (pieces_whole rest none)) in
           c.in_ok-push_stretch-2.ensures.value k ∙ ap (λ n. line_stretches old k ++ added k line start n) end ∙ ap (λ ys. line_stretches old k ++ ys) left
           ∙ c.loop-piece.invariant.whole k;
       lines = omega (arith, c.in_ok-push_stretch-2.ensures.lines, c.loop-piece.invariant.lines, feeds_whole rest none);

@@ -2,16 +2,17 @@ use Rattle.std.proofs.Common.{◌≡◌, ◌+◌, ◌++◌, ℕ, count_by, lengt
 use denote.Text.{Utf8}
 use denote.Shadow.{shadow}
 use Rattle.snippet_lines.specs.Lines.{is_lf}
-use Rattle.snippet_splice.specs.EditStretches.{capped, line_stretches, pieces_of, pieces_on}
+use Rattle.snippet_splice.specs.EditStretches.{capped, line_stretches, pieces_on}
 use Rattle.snippet_splice.proofs.stretches.push_pieces.Given as goal
+use Rattle.std.specs.List.{slice_split}
 
 -- the pieces that are left complete those that are to be added
 abbrev pub invariant-loop-piece : goal.invariant-loop-piece
 invariant-loop-piece l = record {
   text : shadow (Utf8 l.rest);
   whole : (k : ℕ)
-      → line_stretches l.lines.items k ++ pieces_on k l.line l.start (pieces_of l.rest) ≡ line_stretches l.fn.lines.items k
-      ++ pieces_on k l.first l.from (pieces_of l.replacement);
+      → line_stretches l.lines.items k ++ pieces_on k l.line l.start (slice_split is_lf l.rest) ≡ line_stretches l.fn.lines.items k
+      ++ pieces_on k l.first l.from (slice_split is_lf l.replacement);
   lines : max (length l.lines.items) (capped (l.line + count_by is_lf l.rest + 1))
       ≡ max (length l.fn.lines.items) (capped (l.first + count_by is_lf l.replacement + 1));
   begun : count_by is_lf l.replacement ≡ 0 → (l.start ≡ l.from) × (l.rest ≡ l.replacement);

@@ -2,10 +2,12 @@ use Rattle.std.proofs.Common.{◌≡◌, ◌∙◌, ◌+◌, ℕ, List, [], ◌�
 use Rattle.std.proofs.lemmas.Result.{on_ok_weaker}
 use Rattle.std.proofs.lemmas.Str.Pattern.{split_parts}
 use Rattle.snippet_splice.specs.declared.stretches.SubstitutionHighlight.{SubstitutionHighlight}
-use Rattle.snippet_splice.specs.EditStretches.{capped, line_stretches, pieces_of, taken_on, without_cr}
+use Rattle.snippet_splice.specs.EditStretches.{capped, line_stretches, taken_on, without_cr}
 use Rattle.snippet_splice.proofs.StretchLemmas.{feeds_cut, feeds_whole, pieces_cut, pieces_whole, taken_cut}
 use Rattle.snippet_splice.proofs.WriteLemmas.{utf8-after}
 use Rattle.snippet_splice.proofs.stretches.push_replaced.Goals as goal
+use Rattle.std.specs.List.{slice_split}
+use Rattle.snippet_lines.specs.Lines.{is_lf}
 
 -- what a piece takes of line k
 abbrev added : ℕ → ℕ → ℕ → ℕ → List SubstitutionHighlight
@@ -28,13 +30,13 @@ loop-piece-preserved c =
     record {
       text = utf8-after rest piece after 10 c.loop-piece.invariant.text (lit< tt) parts.0;
       whole = λ k.
-          let later : List SubstitutionHighlight = taken_on k (capped (line + 1)) 0 0 last (pieces_of after) in
+          let later : List SubstitutionHighlight = taken_on k (capped (line + 1)) 0 0 last (slice_split is_lf after) in
           let one : List SubstitutionHighlight = added k line start to in
           let now : line_stretches c.push_stretch.new.lines.items k ≡ line_stretches old k ++ one = c.in_ok-push_stretch.ensures.value k
           ∙ ap (λ n. line_stretches old k ++ added k line start n) end in
-          let next : taken_on k c.saturating_add-line.result 0 0 last (pieces_of after)
-          ≡ later = ap (λ n. taken_on k n 0 0 last (pieces_of after)) c.saturating_add-line.ensures in
-          let left : one ++ later ≡ taken_on k line before start last (pieces_of rest) = sym
+          let next : taken_on k c.saturating_add-line.result 0 0 last (slice_split is_lf after)
+          ≡ later = ap (λ n. taken_on k n 0 0 last (slice_split is_lf after)) c.saturating_add-line.ensures in
+          let left : one ++ later ≡ taken_on k line before start last (slice_split is_lf rest) = sym
           (ap (taken_on k line before start last) (pieces_cut rest piece after parts.0 parts.1) ∙ taken_cut k line before start last piece after) in
           ap (λ ys. line_stretches c.push_stretch.new.lines.items k ++ ys) next ∙ ap (λ ys. ys ++ later) now ∙ append_assoc (line_stretches old k) one later
           ∙ ap (λ ys. line_stretches old k ++ ys) left ∙ c.loop-piece.invariant.whole k;
@@ -59,7 +61,7 @@ returns c =
     let none = split_parts 10 rest None c.in_default.ensures.cases (lit< tt) in
     record {
       value = on_ok_weaker c.push_stretch-2.result (λ adds k.
-          let left : added k line start last ≡ taken_on k line before start last (pieces_of rest) = ap (taken_on k line before start last)
+          let left : added k line start last ≡ taken_on k line before start last (slice_split is_lf rest) = ap (taken_on k line before start last)
           (sym (pieces_whole rest none)) in
           adds k ∙ ap (λ ys. line_stretches old k ++ ys) left ∙ c.loop-piece.invariant.whole k) c.push_stretch-2.ensures.value;
       lines = on_ok_weaker c.push_stretch-2.result (λ more. omega (arith, more, c.loop-piece.invariant.lines, feeds_whole rest none))

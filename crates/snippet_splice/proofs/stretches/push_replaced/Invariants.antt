@@ -2,16 +2,17 @@ use Rattle.std.proofs.Common.{◌≡◌, ◌+◌, ◌++◌, ℕ, count_by, lengt
 use denote.Text.{Utf8}
 use denote.Shadow.{shadow}
 use Rattle.snippet_lines.specs.Lines.{is_lf}
-use Rattle.snippet_splice.specs.EditStretches.{capped, line_stretches, pieces_of, taken_on}
+use Rattle.snippet_splice.specs.EditStretches.{capped, line_stretches, taken_on}
 use Rattle.snippet_splice.proofs.stretches.push_replaced.Given as goal
+use Rattle.std.specs.List.{slice_split}
 
 -- what is left of the text completes what is to be taken
 abbrev pub invariant-loop-piece : goal.invariant-loop-piece
 invariant-loop-piece l = record {
   text : shadow (Utf8 l.rest);
   whole : (k : ℕ)
-      → line_stretches l.lines.items k ++ taken_on k l.line l.before l.start l.place.end (pieces_of l.rest) ≡ line_stretches l.fn.lines.items k
-      ++ taken_on k l.first l.place.text_start l.place.start l.place.end (pieces_of l.place.inside.now);
+      → line_stretches l.lines.items k ++ taken_on k l.line l.before l.start l.place.end (slice_split is_lf l.rest) ≡ line_stretches l.fn.lines.items k
+      ++ taken_on k l.first l.place.text_start l.place.start l.place.end (slice_split is_lf l.place.inside.now);
   lines : max (length l.lines.items) (capped (l.line + count_by is_lf l.rest + 1))
       ≡ max (length l.fn.lines.items) (capped (l.first + count_by is_lf l.place.inside.now + 1));
 }
