@@ -28,8 +28,8 @@ use Rattle.snippet_window.proofs.MarginLaws.{margin_of_kept}
 use Rattle.snippet_window.proofs.UncutLaws.{margin_whole}
 use Rattle.snippet_parts.proofs.ShownFacts.{shown_lines-first_line, last-shown, shown-ascends, shown-within}
 use Rattle.snippet_parts.specs.Depths.{places_of}
-use Rattle.snippet_parts.specs.Annotated.{KeptLine, PartEntry, seen_part, annotated_lines, deepest, is_long, kept_line, long_entry, long_place, long_places}
-use Rattle.snippet_parts.specs.Annotated.{long_spans, parts_on, seen_kept, single_part, stands_before}
+use Rattle.snippet_parts.specs.Annotated.{KeptLine, PartEntry, seen_part, annotated_lines, deepest, is_long, kept_line, long_entry, long_place}
+use Rattle.snippet_parts.specs.Annotated.{long_spans, parts_on, seen_kept, single_part}
 use Rattle.snippet_lines.specs.OrderedBy.{ordered_by, put_in}
 use Rattle.snippet_parts.specs.Kept.{shown_lines}
 use Rattle.snippet_lines.specs.Lines.{Source, source_lines}
@@ -46,6 +46,7 @@ use Rattle.annotate_snippets.proofs.Ascending.{IsAscending, ascending}
 use Rattle.snippet_lines.specs.Span.{IsSpan}
 use Rattle.snippet_window.specs.Window.{stands_whole}
 use Rattle.snippet_parts.proofs.RawDepthLemmas.{greatest-bound, places-bound}
+use Rattle.snippet_parts.proofs.PartWords.{long_places, stands_before}
 
 module _ (s : Source) (marks : List Annotation) (spans : All (λ a. IsSpan s.text a.span.start a.span.end) marks) where
   -- a line that no span of several lines touches has the parts of the spans that are marked on it

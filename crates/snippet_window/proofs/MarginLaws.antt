@@ -14,9 +14,9 @@ use Rattle.snippet_parts.specs.declared.entries.LineAnnotation.{LineAnnotation}
 use Rattle.snippet_parts.specs.declared.entries.LineAnnotationType.{LineAnnotationType}
 use Rattle.snippet_parts.specs.declared.entries.LineAnnotationType.TheVariants.{Singleline, MultilineEnd}
 use Rattle.snippet_lines.specs.declared.place.Loc.{Loc}
-use Rattle.snippet_parts.specs.Annotated.{PartEntry, seen_part, long_entry, long_place, is_long, is_short, stands_before, long_spans, long_places, bar_lines}
+use Rattle.snippet_parts.specs.Annotated.{PartEntry, seen_part, long_entry, long_place, is_long, long_spans, bar_lines}
 use Rattle.snippet_parts.specs.Annotated.{bar_part, single_part}
-use Rattle.snippet_parts.specs.Annotated.{start_part, end_part, span_parts, stands_among, promoted, is_promoted, long_parts, made_parts, parts_on, KeptLine}
+use Rattle.snippet_parts.specs.Annotated.{start_part, end_part, span_parts, promoted, long_parts, made_parts, parts_on, KeptLine}
 use Rattle.snippet_parts.specs.Annotated.{seen_kept, kept_line, annotated_lines}
 use Rattle.snippet_parts.specs.Depths.{same_place, depth_among}
 use Rattle.snippet_parts.specs.Kept.{keeps, kept_lines}
@@ -37,6 +37,7 @@ use Rattle.snippet_parts.proofs.AmongLemmas.{greatest_same}
 use Rattle.snippet_parts.proofs.MarkLemmas.{start-line, end-line, entry_of-line}
 use Rattle.snippet_lines.proofs.PlaceLemmas.{line_of-mono, line_of-within, locations_of-start}
 use Rattle.snippet_parts.proofs.StartByte.{start_byte}
+use Rattle.snippet_parts.proofs.PartWords.{is_promoted, is_short, long_places, stands_among, stands_before}
 
 -- what is measured of an entry: some numbers, by where it starts and ends and by its label
 abbrev Measure : Type 0
