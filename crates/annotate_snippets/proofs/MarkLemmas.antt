@@ -16,6 +16,7 @@ use Rattle.snippet_parts.specs.Mark.{is_marking, is_single_line, is_marked_on, s
 use Rattle.std.specs.Borrow.{Bor}
 use Rattle.std.specs.Option.{option_copied}
 use Rattle.snippet_labels.specs.PlacedEntries as entry
+use Rattle.snippet_labels.proofs.LabelWords.{label_chars}
 use Rattle.annotate_snippets.specs.Laws.Marks.{shown_label}
 use Rattle.snippet_text.specs.Normalized.{normalized_chars}
 use Rattle.snippet_strokes.proofs.PlainEntries.{EntryCovers, IsEntryMark}
@@ -60,10 +61,10 @@ pub record IsEntryOf (s : Source) (k : ℕ) (a : Annotation) (e : LineAnnotation
   pub start : e.start.display ≡ start_column s.text a
   pub end : e.end.display ≡ end_column s.text a
   pub kind : e.kind ≡ a.kind
-  pub label : entry.label_chars e.label ≡ shown_label a
+  pub label : label_chars e.label ≡ shown_label a
 
 -- an entry's label shows what its text does
-pub label_is : (label : Option (Bor (List ℕ))) → entry.label_chars label ≡ normalized_chars (option_copied label)
+pub label_is : (label : Option (Bor (List ℕ))) → label_chars label ≡ normalized_chars (option_copied label)
 label_is None = refl
 label_is (Some l) = refl
 
