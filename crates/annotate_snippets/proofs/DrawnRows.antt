@@ -7,7 +7,7 @@ use Rattle.std.specs.Cow.{cow_str_bytes}
 use Rattle.snippet_style.specs.Cell.{Cell}
 use Rattle.snippet_text.specs.Normalized.{norm}
 use Rattle.snippet_text.specs.Width.{width_of}
-use Rattle.snippet_parts.specs.Annotated.{seen_part}
+use Rattle.snippet_parts.specs.Annotated.{annotated_lines, seen_part}
 use Rattle.snippet_window.specs.Margin.{bounds_of}
 use Rattle.snippet_window.specs.Measures.{margin_of}
 use Rattle.snippet_window.specs.Window.{chars_at, dropped_part}
@@ -42,7 +42,7 @@ pub record IsLineDrawn (r : Renderer) (layout : Layout) (closes : Bool) (s : Sni
   pub are : map seen_part entries ≡ entries_on s k
   pub margin : Margin
   pub room : margin.term_width ≡ r.term_width - layout.code
-  pub bounds : bounds_of margin ≡ margin_of (r.term_width - layout.code) s.fold (numbered_source s) s.markers.items
+  pub bounds : bounds_of margin ≡ margin_of (r.term_width - layout.code) (annotated_lines s.fold (numbered_source s) s.markers.items)
   pub text : List ℕ
   pub text_is : text ≡ norm (chars_at (cow_str_bytes s.source) k)
   pub dropped : ℕ

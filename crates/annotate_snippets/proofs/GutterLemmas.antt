@@ -18,7 +18,8 @@ use Rattle.snippet_lines.specs.declared.lines.EndLine.TheVariants.{Eof, Lf, Crlf
 use Rattle.snippet_parts.specs.declared.entries.AnnotatedLineInfo.{AnnotatedLineInfo}
 use Rattle.snippet_lines.specs.Lines.{Line, AreLines, joined, line_bytes, is_lf, last_byte, newline_count, source_lines, start_of}
 use Rattle.snippet_lines.specs.Place.{line_of}
-use Rattle.snippet_parts.specs.Counted.{greatest_end, counted_number, reached_source}
+use Rattle.snippet_parts.specs.Counted.{counted_number}
+use Rattle.snippet_parts.proofs.CountedWords.{greatest_end, reached_source}
 use Rattle.snippet_parts.specs.Annotated.{KeptLine, kept_line, seen_kept}
 use Rattle.snippet_parts.specs.Kept.{keeps, kept_lines, shown_lines, with_between}
 use Rattle.snippet_parts.specs.Mark.{touches}
@@ -87,15 +88,16 @@ first_line-counted source b e within =
     omega (arith, one (last_byte (take e source) == 10), feeds-before source b e within)
 
 -- the greatest end is that of no annotation less
-fold-end-ge : (marks : List Annotation) (m : ℕ) → m ≤ fold (λ end (a : Annotation). max a.span.end end) m marks
+fold-end-ge : (marks : List Annotation) (m : ℕ) → m ≤ fold (λ n k. max n k) m (map (λ (a : Annotation). a.span.end) marks)
 fold-end-ge [] m = omega arith
-fold-end-ge (a ∷ marks) m = omega (arith, fold-end-ge marks (max a.span.end m))
+fold-end-ge (a ∷ marks) m = omega (arith, fold-end-ge marks (max m a.span.end))
 
-fold-ends : (marks : List Annotation) (m : ℕ) → All (λ (a : Annotation). a.span.end ≤ fold (λ end (b : Annotation). max b.span.end end) m marks) marks
+fold-ends : (marks : List Annotation) (m : ℕ)
+    → All (λ (a : Annotation). a.span.end ≤ fold (λ n k. max n k) m (map (λ (b : Annotation). b.span.end) marks)) marks
 fold-ends [] m = All-nil (λ (a : Annotation). a.span.end ≤ m)
 fold-ends (a ∷ marks) m =
-    All-cons (λ (b : Annotation). b.span.end ≤ fold (λ end (c : Annotation). max c.span.end end) (max a.span.end m) marks) a marks
-    (omega (arith, fold-end-ge marks (max a.span.end m))) (fold-ends marks (max a.span.end m))
+    All-cons (λ (b : Annotation). b.span.end ≤ fold (λ n k. max n k) (max m a.span.end) (map (λ (c : Annotation). c.span.end) marks)) a marks
+    (omega (arith, fold-end-ge marks (max m a.span.end))) (fold-ends marks (max m a.span.end))
 
 -- each line that a span ends on has a number at most one more than the number counted for the gutter
 lines_counted : (s : Snippet Annotation) → All (λ a. last_line (cow_str_bytes s.source) a ≤ newline_count (reached_source s) + 1) s.markers.items

@@ -12,14 +12,14 @@ use Rattle.snippet_style.specs.Cell.{Cell, unlinked_cell}
 use Rattle.snippet_model.specs.declared.snippet.Annotation.{Annotation}
 use Rattle.snippet_model.specs.declared.snippet.AnnotationKind.{AnnotationKind}
 use Rattle.snippet_lines.specs.Lines.{Source}
-use Rattle.snippet_parts.specs.Annotated.{PartEntry, promoted, end_part, is_short, long_parts, long_place, long_places, long_spans, made_parts, parts_on}
-use Rattle.snippet_parts.specs.Annotated.{seen_part, single_part, span_parts, stands_among, start_part}
+use Rattle.snippet_parts.specs.Annotated.{PartEntry, promoted, end_part, long_parts, long_place, long_spans, made_parts, parts_on}
+use Rattle.snippet_parts.specs.Annotated.{seen_part, single_part, span_parts, start_part}
 use Rattle.snippet_parts.specs.Depths.{depth_among}
 use Rattle.snippet_parts.specs.declared.depths.LongExtent.{LongExtent}
 use Rattle.snippet_model.specs.declared.snippet.Snippet.{Snippet}
 use Rattle.annotate_snippets.specs.Gutter.{numbered_source}
 use Rattle.snippet_parts.specs.Mark.{is_marked_on, is_marking, is_single_line, start_column}
-use Rattle.snippet_parts.specs.Marked.{Entry, entry_of, first_line}
+use Rattle.snippet_parts.specs.Marked.{Entry, first_line}
 use Rattle.snippet_parts.specs.Entries.{is_bar}
 use Rattle.snippet_parts.specs.declared.entries.LineAnnotation.{LineAnnotation}
 use Rattle.snippet_parts.specs.declared.entries.LineAnnotationType.TheVariants.{Singleline, MultilineEnd}
@@ -35,6 +35,7 @@ use Rattle.annotate_snippets.specs.Laws.Labels.{label_of_span}
 use Rattle.snippet_text.specs.Normalized.{normalized_chars}
 use Rattle.annotate_snippets.specs.Laws.Marks.{shown_label}
 use Rattle.annotate_snippets.proofs.MarkLemmas.{end_of_entry, label_is, start_of_entry}
+use Rattle.snippet_parts.proofs.PartWords.{entry_of, is_short, long_places, stands_among}
 
 -- lists that are the same begin with the same
 pub head_same : {X : Type 0} (x y : X) (xs ys : List X) → x ∷ xs ≡ y ∷ ys → x ≡ y

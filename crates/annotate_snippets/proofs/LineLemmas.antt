@@ -28,7 +28,7 @@ use Rattle.snippet_parts.specs.Annotated.{KeptLine, PartEntry, kept_line, parts_
 use Rattle.snippet_lines.specs.Lines.{source_lines}
 use Rattle.snippet_window.specs.Margin.{Bounds, bounds_of}
 use Rattle.snippet_parts.specs.Mark.{end_column, is_marked_on, is_marking, is_single_line, is_wide, qualifies_for_marks, touches}
-use Rattle.snippet_parts.specs.Marked.{seen_entry, entry_of}
+use Rattle.snippet_parts.specs.Marked.{seen_entry}
 use Rattle.snippet_parts.specs.Entries.{is_bar, is_single_part, is_wide_entry}
 use Rattle.snippet_lines.specs.Span.{IsSpan}
 use Rattle.snippet_window.specs.Window.{AreReplaced, chars_at, dropped_part, stands_whole, window}
@@ -57,6 +57,7 @@ use Rattle.annotate_snippets.proofs.MarkLemmas.{some_entry, shifted_mark, shifte
 use Rattle.annotate_snippets.proofs.PartsFacts.{stands_left, untouched, wide_on_line}
 use Rattle.annotate_snippets.proofs.WindowLemmas.{dropped-none}
 use Rattle.snippet_grid.proofs.RowLemmas.{row_text-text_cells}
+use Rattle.snippet_parts.proofs.PartWords.{entry_of}
 
 -- a row that is as a bare one left of the bars is a row below a line
 pub row_below : (decor : DecorStyle) (layout : Layout) (closes plain : Bool) (es : List LineAnnotation) (rows : List (List Cell)) (i : ℕ)

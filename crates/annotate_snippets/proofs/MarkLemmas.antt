@@ -11,11 +11,12 @@ use Rattle.snippet_model.specs.declared.snippet.AnnotationKind.TheVariants.{Prim
 use Rattle.snippet_parts.specs.declared.entries.LineAnnotation.{LineAnnotation}
 use Rattle.snippet_lines.specs.Lines.{Source}
 use Rattle.snippet_lines.specs.Place.{place_of, location_of, start_location, end_location, locations_of}
-use Rattle.snippet_parts.specs.Marked.{first_line, last_line, Entry, seen_entry, entry_of}
+use Rattle.snippet_parts.specs.Marked.{first_line, last_line, Entry, seen_entry}
 use Rattle.snippet_parts.specs.Mark.{is_marking, is_single_line, is_marked_on, start_column, end_column, span_width, IsMarkedAt, IsMarkOf}
 use Rattle.std.specs.Borrow.{Bor}
 use Rattle.std.specs.Option.{option_copied}
 use Rattle.snippet_labels.specs.PlacedEntries as entry
+use Rattle.snippet_labels.proofs.LabelWords.{label_chars}
 use Rattle.annotate_snippets.specs.Laws.Marks.{shown_label}
 use Rattle.snippet_text.specs.Normalized.{normalized_chars}
 use Rattle.snippet_strokes.proofs.PlainEntries.{EntryCovers, IsEntryMark}
@@ -24,6 +25,7 @@ use Rattle.snippet_model.specs.AnnotationKind.{is_primary}
 use Rattle.snippet_strokes.proofs.DrawnCells.{StandsFrom}
 use Rattle.snippet_strokes.proofs.MarkLemmas.{from_map}
 use Rattle.annotate_snippets.proofs.ListLemmas.{Contains-filter, Contains-map, Contains-head, from_any}
+use Rattle.snippet_parts.proofs.PartWords.{entry_of}
 
 -- the start of an entry is its span's
 pub start_of_entry : (s : Source) (a : Annotation) → (entry_of s a).start.display ≡ start_column s.text a
@@ -59,10 +61,10 @@ pub record IsEntryOf (s : Source) (k : ℕ) (a : Annotation) (e : LineAnnotation
   pub start : e.start.display ≡ start_column s.text a
   pub end : e.end.display ≡ end_column s.text a
   pub kind : e.kind ≡ a.kind
-  pub label : entry.label_chars e.label ≡ shown_label a
+  pub label : label_chars e.label ≡ shown_label a
 
 -- an entry's label shows what its text does
-pub label_is : (label : Option (Bor (List ℕ))) → entry.label_chars label ≡ normalized_chars (option_copied label)
+pub label_is : (label : Option (Bor (List ℕ))) → label_chars label ≡ normalized_chars (option_copied label)
 label_is None = refl
 label_is (Some l) = refl
 

@@ -24,18 +24,17 @@ use Rattle.snippet_parts.specs.declared.entries.LineAnnotationType.TheVariants.{
 use Rattle.snippet_window.specs.declared.margin.Margin.{Margin}
 use Rattle.snippet_parts.specs.Entries.{HasDepthWithin, HasColumnRoom}
 use Rattle.snippet_parts.proofs.EntryFacts.{depths-fit, each-line, labels-fit, places-fit, texts-fit, untouched-parts, wide-count}
-use Rattle.snippet_window.proofs.MarginLaws.{margin_of_kept}
 use Rattle.snippet_window.proofs.UncutLaws.{margin_whole}
 use Rattle.snippet_parts.proofs.ShownFacts.{shown_lines-first_line, last-shown, shown-ascends, shown-within}
 use Rattle.snippet_parts.specs.Depths.{places_of}
-use Rattle.snippet_parts.specs.Annotated.{KeptLine, PartEntry, seen_part, annotated_lines, deepest, is_long, kept_line, long_entry, long_place, long_places}
-use Rattle.snippet_parts.specs.Annotated.{long_spans, parts_on, seen_kept, single_part, stands_before}
+use Rattle.snippet_parts.specs.Annotated.{KeptLine, PartEntry, seen_part, annotated_lines, deepest, is_long, kept_line, long_entry, long_place}
+use Rattle.snippet_parts.specs.Annotated.{long_spans, parts_on, seen_kept, single_part}
 use Rattle.snippet_lines.specs.OrderedBy.{ordered_by, put_in}
 use Rattle.snippet_parts.specs.Kept.{shown_lines}
 use Rattle.snippet_lines.specs.Lines.{Source, source_lines}
 use Rattle.snippet_parts.specs.Mark.{is_marked_on, is_marking, is_single_line, is_wide, touches}
 use Rattle.snippet_parts.specs.Marked.{first_line, last_line}
-use Rattle.snippet_window.specs.Measures.{StandsClear, bounds_of_lines, margin_of}
+use Rattle.snippet_window.specs.Measures.{StandsClear, margin_of}
 use Rattle.snippet_parts.specs.Entries.{is_wide_entry}
 use Rattle.snippet_labels.specs.PlacedEntries.{HasPlace}
 use Rattle.snippet_strokes.specs.Drawable.{AreDrawable}
@@ -46,6 +45,7 @@ use Rattle.annotate_snippets.proofs.Ascending.{IsAscending, ascending}
 use Rattle.snippet_lines.specs.Span.{IsSpan}
 use Rattle.snippet_window.specs.Window.{stands_whole}
 use Rattle.snippet_parts.proofs.RawDepthLemmas.{greatest-bound, places-bound}
+use Rattle.snippet_parts.proofs.PartWords.{long_places, stands_before}
 
 module _ (s : Source) (marks : List Annotation) (spans : All (λ a. IsSpan s.text a.span.start a.span.end) marks) where
   -- a line that no span of several lines touches has the parts of the spans that are marked on it
@@ -79,8 +79,8 @@ module _ (s : Source) (marks : List Annotation) (spans : All (λ a. IsSpan s.tex
 
   -- where lines stand whole, nothing is cut on the left
   pub stands_left : (room placeholder_width : ℕ) (fold : Bool) (k : ℕ) → stands_whole room placeholder_width fold s.text marks k ≡ true
-      → (margin_of room fold s marks).left ≡ 0
-  stands_left room placeholder_width fold k whole = margin_whole room placeholder_width fold s marks k whole
+      → (margin_of room (annotated_lines fold s marks)).left ≡ 0
+  stands_left room placeholder_width fold k whole = margin_whole room placeholder_width fold s marks k spans whole
 
 -- where the code leaves room for the greatest depth, a bar of a depth that is no greater has a cell
 bar_cell : (layout : Layout) (deepest : ℕ) → code_after layout.gutter deepest ≤ layout.code → (part : LineAnnotationType) → HasDepthWithin deepest part
@@ -199,12 +199,6 @@ shown_clear s marks spans fold kept shown margin kept_is shown_is clear =
 
             tail_seen : (x y : PartEntry) (xs ys : List PartEntry) → x ∷ xs ≡ y ∷ ys → xs ≡ ys
             tail_seen x y xs ys same = cc
-
--- the bounds for the lines that are kept are those for the snippet
-pub bounds_of_kept : (room : ℕ) (fold : Bool) (s : Source) (marks : List Annotation) (infos : List AnnotatedLineInfo)
-    → All (λ a. IsSpan s.text a.span.start a.span.end) marks → map seen_kept infos ≡ annotated_lines fold s marks
-    → bounds_of_lines room infos ≡ margin_of room fold s marks
-bounds_of_kept room fold s marks infos spans lines = margin_of_kept room fold s marks infos lines spans
 
 -- ---- how deep bars stand
 

@@ -10,8 +10,8 @@ use Rattle.snippet_lines.specs.Lines.{Source}
 use Rattle.snippet_lines.specs.Span.{IsSpan}
 use Rattle.snippet_parts.specs.declared.depths.LongExtent.{LongExtent}
 use Rattle.snippet_parts.specs.declared.entries.LineAnnotationType.TheVariants.{MultilineEnd, MultilineStart}
-use Rattle.snippet_parts.specs.Annotated.{PartEntry, depth_of, end_part, is_long, is_short, long_entry, long_parts, long_place, long_places, long_spans}
-use Rattle.snippet_parts.specs.Annotated.{made_parts, parts_on, single_part, stands_before, start_part}
+use Rattle.snippet_parts.specs.Annotated.{PartEntry, depth_of, end_part, is_long, long_entry, long_parts, long_place, long_spans}
+use Rattle.snippet_parts.specs.Annotated.{made_parts, parts_on, single_part, start_part}
 use Rattle.snippet_parts.specs.Depths.{depth_among}
 use Rattle.snippet_parts.specs.Mark.{is_marking, is_single_line}
 use Rattle.snippet_parts.specs.Marked.{Entry, first_line, last_line}
@@ -23,6 +23,7 @@ use Rattle.snippet_parts.proofs.ShownLemmas.{annotations-distinct}
 use Rattle.snippet_strokes.specs.Bars.{Bar, HasOwnDepth, bar_at, bars_apart, has_depth, open_past}
 use Rattle.snippet_strokes.proofs.AmongLaws.{all_from_among, among_contains, contains_among, filter_map_cases}
 use Rattle.annotate_snippets.proofs.SpanParts.{HasEnds, IsEndOf, end_of, ends_of, is_primary_at}
+use Rattle.snippet_parts.proofs.PartWords.{is_short, long_places, stands_before}
 
 -- ---- the bars of a line
 

@@ -9,7 +9,7 @@ use Rattle.snippet_model.specs.declared.snippet.AnnotationKind.TheVariants.{Prim
 use Rattle.snippet_lines.specs.Lines.{Source}
 use Rattle.snippet_parts.specs.declared.depths.LongExtent.{LongExtent}
 use Rattle.snippet_parts.specs.declared.entries.LineAnnotationType.TheVariants.{Singleline, MultilineEnd, MultilineStart}
-use Rattle.snippet_parts.specs.Annotated.{PartEntry, bar_lines, bar_part, end_part, is_promoted, long_parts, long_place, promoted, span_parts, stands_among}
+use Rattle.snippet_parts.specs.Annotated.{PartEntry, bar_lines, bar_part, end_part, long_parts, long_place, promoted, span_parts}
 use Rattle.snippet_parts.specs.Annotated.{start_part}
 use Rattle.snippet_parts.specs.Depths.{depth_among, same_place}
 use Rattle.snippet_parts.specs.Marked.{Entry}
@@ -17,6 +17,7 @@ use Rattle.snippet_parts.proofs.AmongLemmas.{Among, among_left, among_right, any
 use Rattle.snippet_parts.proofs.LongStarts.{promoted-end, promoted-start}
 use Rattle.snippet_parts.proofs.RawDepthLemmas.{same-refl, same-true}
 use Rattle.snippet_strokes.specs.Bars.{Bar, bar_at}
+use Rattle.snippet_parts.proofs.PartWords.{is_promoted, stands_among}
 
 -- whether one of some spans of this place is primary
 abbrev pub is_primary_at : List Entry → LongExtent → Bool

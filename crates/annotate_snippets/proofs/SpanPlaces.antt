@@ -11,7 +11,7 @@ use Rattle.snippet_lines.specs.declared.place.Loc.{Loc}
 use Rattle.snippet_lines.specs.Lines.{Source, source_lines}
 use Rattle.snippet_lines.specs.Place.{end_location, line_of, location_of, locations_of, start_location}
 use Rattle.snippet_parts.specs.declared.depths.LongExtent.{LongExtent}
-use Rattle.snippet_parts.specs.Annotated.{depth_of, is_long, long_entry, long_place, long_spans, stands_before}
+use Rattle.snippet_parts.specs.Annotated.{depth_of, is_long, long_entry, long_place, long_spans}
 use Rattle.snippet_parts.specs.Depths.{same_place}
 use Rattle.snippet_parts.specs.Mark.{is_marking, is_single_line}
 use Rattle.snippet_parts.specs.Marked.{Entry, first_line, last_line}
@@ -22,6 +22,7 @@ use Rattle.annotate_snippets.specs.Gutter.{numbered_source}
 use Rattle.annotate_snippets.specs.Laws.Bars.{bar_of_span}
 use Rattle.annotate_snippets.proofs.SpanOpen.{bar_at_place, place_in}
 use Rattle.annotate_snippets.proofs.SpanParts.{is_primary_at}
+use Rattle.snippet_parts.proofs.PartWords.{stands_before}
 
 -- ---- the place of a span is its bytes
 

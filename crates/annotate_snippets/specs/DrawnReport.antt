@@ -12,7 +12,7 @@ use Rattle.snippet_model.specs.declared.snippet.Element.{Element}
 use Rattle.snippet_model.specs.declared.snippet.Element.TheVariants.{Message, Cause, Suggestion, Origin, Padding}
 use Rattle.snippet_parts.specs.declared.entries.AnnotatedLineInfo.{AnnotatedLineInfo}
 use Rattle.snippet_window.specs.declared.margin.Margin.{Margin}
-use Rattle.snippet_parts.specs.Annotated.{kept_line, seen_kept}
+use Rattle.snippet_parts.specs.Annotated.{annotated_lines, kept_line, seen_kept}
 use Rattle.snippet_parts.specs.Kept.{shown_lines}
 use Rattle.snippet_window.specs.Margin.{bounds_of}
 use Rattle.snippet_window.specs.Measures.{margin_of}
@@ -45,7 +45,7 @@ pub record AreCauseRows (r : Renderer) (layout : Layout) (closes : Bool) (s : Sn
   pub lines : map seen_kept infos ≡ map (kept_line (numbered_source s) s.markers.items) (shown_lines s.fold (cow_str_bytes s.source) s.markers.items)
   pub margin : Margin
   pub room : margin.term_width ≡ r.term_width - layout.code
-  pub bounds : bounds_of margin ≡ margin_of (r.term_width - layout.code) s.fold (numbered_source s) s.markers.items
+  pub bounds : bounds_of margin ≡ margin_of (r.term_width - layout.code) (annotated_lines s.fold (numbered_source s) s.markers.items)
   pub ordered : (bounds_of margin).left ≤ (bounds_of margin).right
   pub shown : AreLinesShown layout margin (line_numbers r s.line_numbering) closes [] infos rows
 

@@ -14,7 +14,7 @@ use Rattle.snippet_model.specs.declared.snippet.Patch.{Patch}
 use Rattle.snippet_model.specs.declared.snippet.Snippet.{Snippet}
 use Rattle.snippet_text.specs.Normalized.{norm}
 use Rattle.snippet_text.specs.Width.{width_of}
-use Rattle.snippet_parts.specs.Annotated.{PartEntry, parts_on}
+use Rattle.snippet_parts.specs.Annotated.{PartEntry, annotated_lines, parts_on}
 use Rattle.snippet_parts.specs.Kept.{shown_lines}
 use Rattle.snippet_window.specs.Margin.{Bounds, bounds_of}
 use Rattle.snippet_window.specs.Measures.{margin_of}
@@ -56,7 +56,7 @@ room_of r layout = r.term_width - layout.code
 
 -- the bounds between which a snippet's lines are shown: those for the lines that are kept, and for its spans
 abbrev pub bounds_in : Renderer → Layout → Snippet Annotation → Bounds
-bounds_in r layout s = margin_of (room_of r layout) s.fold (numbered_source s) s.markers.items
+bounds_in r layout s = margin_of (room_of r layout) (annotated_lines s.fold (numbered_source s) s.markers.items)
 
 -- these bounds, and the room between them
 abbrev pub margin_in : Renderer → Layout → Snippet Annotation → Margin

@@ -12,7 +12,7 @@ use Rattle.snippet_lines.specs.Lines.{Source, source_lines}
 use Rattle.snippet_model.specs.declared.snippet.Annotation.{Annotation}
 use Rattle.snippet_model.specs.declared.snippet.Snippet.{Snippet}
 use Rattle.snippet_parts.proofs.KeptLemmas.{among-kept, kept-within}
-use Rattle.snippet_parts.specs.Annotated.{PartEntry, is_long, is_short, long_entry, long_parts, long_place, made_parts, single_part, stands_before}
+use Rattle.snippet_parts.specs.Annotated.{PartEntry, is_long, long_entry, long_parts, long_place, made_parts, single_part}
 use Rattle.snippet_parts.specs.Kept.{has_bar, keeps, kept_lines}
 use Rattle.snippet_parts.specs.Mark.{touches}
 use Rattle.snippet_parts.specs.Marked.{Entry, first_line, last_line}
@@ -20,6 +20,7 @@ use Rattle.snippet_parts.specs.Numbered.{numbered_source}
 use Rattle.snippet_context.proofs.SpanLemmas.{around-first, around-last}
 use Rattle.snippet_context.specs.Context.{context_spans, is_line_near, lines_around, span_around, visible_mark}
 use Rattle.snippet_context.specs.WithContext.{IsSnippetWithContext, KeepsLinesAround}
+use Rattle.snippet_parts.proofs.PartWords.{is_short, stands_before}
 
 -- ---- the line of a range
 
@@ -76,7 +77,7 @@ keeps-near : (before after : ℕ) (source : List ℕ) (j k : ℕ) → j < length
     → keeps source k (visible_mark (span_around before after source j)) ≡ is_line_near before after k j
 keeps-near before after source j k inside within =
     let a : Annotation = visible_mark (span_around before after source j) in
-    keeps-seen (touches source a k) (eqb k (first_line source a)) (eqb k (last_line source a)) (has_bar source a k)
+    keeps-seen (touches source a k) (eqb k (first_line source a)) (eqb k (last_line source a)) (has_bar source (first_line source a) (last_line source a) k)
     ∙ ap₂ (λ f l. leb f k && leb k l) (around-first before after source j inside) (around-last before after source j inside)
     ∙ near-between before after (length (source_lines source)) j k inside within
 

@@ -1,4 +1,5 @@
 pub mod CharLemmas
+pub mod LabelWords
 pub mod OrderLemmas
 pub mod PlacedLemmas
 pub mod RowLemmas

@@ -14,13 +14,14 @@ use Rattle.std.proofs.lemmas.List.Sorted.{All-permutation, IsPermutation-map}
 use Rattle.snippet_lines.specs.OrderedBy.{ordered_by}
 use Rattle.snippet_parts.specs.declared.entries.LineAnnotation.{LineAnnotation}
 use Rattle.snippet_labels.specs.declared.positions.PlacedEntry.{PlacedEntry}
-use Rattle.snippet_labels.specs.Positions.{ArePlaced, IsFromRight, HasItsBytes, HasItsLabel, asks, do_overlap, ends_no_later, has_label, takes_space, is_start}
-use Rattle.snippet_labels.specs.Positions.{are_starts, crosses, crowds, position_at, position_after, positions, flipped, line_positions, unplaced}
-use Rattle.snippet_labels.specs.Positions.{is_placed_before, look_counts, looked_after, up_to}
+use Rattle.snippet_labels.specs.Positions.{ArePlaced, IsFromRight, HasItsBytes, HasItsLabel, asks, do_overlap, ends_no_later, has_label, takes_space}
+use Rattle.snippet_labels.specs.Positions.{are_starts, crosses, position_at, position_after, positions, line_positions, unplaced}
+use Rattle.snippet_labels.specs.Positions.{is_placed_before, look_counts, looked_after}
 use Rattle.snippet_parts.specs.Least.{greatest}
 use Rattle.snippet_parts.proofs.PartLemmas.{list_any-map}
 use Rattle.std.proofs.lemmas.List.Elements.{All-map}
 use Rattle.snippet_labels.specs.PlacedEntries.{shifted}
+use Rattle.snippet_labels.proofs.LabelWords.{crowds, flipped, is_start, up_to}
 
 -- the position of an entry whose label could stand after its mark: where a mark is in the way, and where none is
 pub position_at-crossed : (p : ℕ) (e : PlacedEntry) (others : List PlacedEntry) → p ≤ 0 → has_label e ≡ true → list_any (crosses e) others ≡ true

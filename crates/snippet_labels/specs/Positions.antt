@@ -1,12 +1,13 @@
 -- Where the labels of a line stand, and the lines that lead to bars.
 use Rattle.std.specs.Prelude.{◌≡◌, ℕ, ◌+◌, ◌-◌, ◌<◌, ◌≤◌, ◌==◌, ◌&&◌, ◌||◌, nat_le, nat_lt, not, Bool, true, false, List, [], ◌∷◌, All, IsPermutation, length}
-use Rattle.std.specs.Prelude.{map, chars, encode_utf8_all, slice_index_or, if◌then◌else◌, Option, None, Some}
+use Rattle.std.specs.Prelude.{map, chars, encode_utf8_all, slice_index_or, if◌then◌else◌}
 use Rattle.std.specs.List.{list_all, list_any, position, zip}
+use Rattle.std.specs.Option.{option_map_or}
 use Rattle.std.specs.declared.borrow.CowStr.TheVariants.{Borrowed}
 use Rattle.std.specs.Cow.{cow_str_bytes}
 use Rattle.snippet_parts.specs.declared.entries.LineAnnotation.{LineAnnotation}
 use Rattle.snippet_parts.specs.declared.entries.LineAnnotationType.{LineAnnotationType}
-use Rattle.snippet_parts.specs.declared.entries.LineAnnotationType.TheVariants.{Singleline, MultilineStart, MultilineEnd, MultilineLine}
+use Rattle.snippet_parts.specs.declared.entries.LineAnnotationType.TheVariants.{MultilineStart}
 use Rattle.snippet_lines.specs.OrderedBy.{ordered_by}
 use Rattle.snippet_parts.specs.Least.{greatest}
 use Rattle.snippet_labels.specs.declared.positions.PlacedEntry.{PlacedEntry}
@@ -65,10 +66,6 @@ abbrev pub reaches : ℕ → PlacedEntry → PlacedEntry → Bool
 reaches p e other =
     has_label other && do_overlap other (length (cow_str_bytes other.label) + 2) e && (has_label e || (p == 0 && ends_no_later other e))
 
--- whether another entry needs a row below that of this entry, which has position p
-abbrev pub crowds : ℕ → PlacedEntry → PlacedEntry → Bool
-crowds p e other = blocks e other || reaches p e other
-
 -- whether an entry may need a row of its own at all: it has a label, or a line to a bar
 abbrev pub asks : PlacedEntry → Bool
 asks e = has_label e || takes_space e
@@ -84,52 +81,37 @@ position_at p e others = if p == 0 && (has_label e && list_any (crosses e) other
 
 -- the position reached after it: one more where an entry after needs a row of its own
 abbrev pub position_after : ℕ → PlacedEntry → List PlacedEntry → ℕ
-position_after p e others = if list_any (crowds p e) others then p + 1 else p
-
--- up to this place, it counted, of so many; all where there is none
-abbrev pub up_to : Option ℕ → ℕ → ℕ
-up_to None all = all
-up_to (Some k) all = k + 1
+position_after p e others = if list_any (λ other. blocks e other || reaches p e other) others then p + 1 else p
 
 -- how many of the entries after one are looked at, where this position is reached: all, or where its label may still stand beside
 -- the mark, those up to the first one that is in its way
 abbrev pub looked_after : ℕ → PlacedEntry → List PlacedEntry → ℕ
-looked_after p e others =
-    if p == 0 && has_label e then up_to (position (crosses e) others) (length others) else length others
+looked_after p e others = if p == 0 && has_label e then option_map_or (λ k. k + 1) (position (crosses e) others) (length others) else length others
 
 -- the positions of entries, in their order, from the one reached on
 abbrev pub positions : ℕ → List PlacedEntry → List ℕ
 positions p [] = []
-positions p (e ∷ others) =
-    position_at p e others ∷ positions (position_after (position_at p e others) e others) others
+positions p (e ∷ others) = position_at p e others ∷ positions (position_after (position_at p e others) e others) others
 
 -- for each entry how many of those after it are looked at while these positions are sought
 abbrev pub look_counts : ℕ → List PlacedEntry → List ℕ
 look_counts p [] = []
-look_counts p (e ∷ others) =
-    looked_after p e others ∷ look_counts (position_after (position_at p e others) e others) others
+look_counts p (e ∷ others) = looked_after p e others ∷ look_counts (position_after (position_at p e others) e others) others
 
 -- whether a part of a span is the start of one of several lines
 abbrev pub is_start_part : LineAnnotationType → Bool
-is_start_part Singleline = false
 is_start_part (MultilineStart depth) = true
-is_start_part (MultilineEnd depth) = false
-is_start_part (MultilineLine depth) = false
+is_start_part other = false
 
--- whether an entry is such a start, and has no label that shows anything; and whether all entries of a line are
-abbrev pub is_start : PlacedEntry → Bool
-is_start e = is_start_part e.entry.annotation_type && not (has_label e)
-
+-- whether all entries of a line are such starts, and have no label that shows anything
 abbrev pub are_starts : List PlacedEntry → Bool
-are_starts es = list_all is_start es
+are_starts es = list_all (λ e. is_start_part e.entry.annotation_type && not (has_label e)) es
 
--- positions flipped: the greatest becomes 0, and 0 the greatest
-abbrev pub flipped : List ℕ → List ℕ
-flipped ps = map (λ p. greatest ps - p) ps
-
--- the positions of the entries of a line: flipped where all are starts
+-- the positions of the entries of a line: flipped where all are starts, so that the greatest becomes 0, and 0 the greatest
 abbrev pub line_positions : List PlacedEntry → List ℕ
-line_positions es = if are_starts es then flipped (positions 0 es) else positions 0 es
+line_positions es =
+    let ps = positions 0 es in
+    if are_starts es then map (λ p. greatest ps - p) ps else ps
 
 -- ---- entries that need one row
 
@@ -173,8 +155,7 @@ IsFromRight es = (i j : ℕ) (d : LineAnnotation) → i ≤ j → j < length es 
 
 -- whether an entry is placed before another: it starts farther right, or at the same column and a greater character
 abbrev pub is_placed_before : LineAnnotation → LineAnnotation → Bool
-is_placed_before e f =
-    nat_lt f.start.display e.start.display || (e.start.display == f.start.display && nat_lt f.start.char e.start.char)
+is_placed_before e f = nat_lt f.start.display e.start.display || (e.start.display == f.start.display && nat_lt f.start.char e.start.char)
 
 -- the entries of a line from right to left, and as they are given where they start at one character, each with its label, at the
 -- positions of that order, and with how many were looked at for it (`same` and `from_right` follow from `order`)
@@ -192,20 +173,12 @@ pub record ArePlaced (es : List LineAnnotation) (placed : List PlacedEntry) : Ty
 -- an entry with its label, which is held as borrowed bytes, at this position, for which so many were looked at
 abbrev pub placed_at : LineAnnotation × (ℕ × ℕ) → PlacedEntry
 placed_at found =
-    record {
-      entry = found.0;
-      label = Borrowed (record { ref_ptr = (0, 0); now = encode_utf8_all (label_text found.0) });
-      position = found.1.0;
-      looked = found.1.1;
-    }
-
--- entries with their labels, none of which is placed yet
-abbrev pub labelled : List LineAnnotation → List PlacedEntry
-labelled es = map (λ e. placed_at (e, (0, 0))) es
+    let label = Borrowed (record { ref_ptr = (0, 0); now = encode_utf8_all (label_text found.0) }) in
+    record { entry = found.0; label = label; position = found.1.0; looked = found.1.1 }
 
 -- the entries of a line from right to left, each with its label, at the positions of that order
 abbrev pub placed_of : List LineAnnotation → List PlacedEntry
 placed_of es =
     let ordered = ordered_by is_placed_before es in
-    let bare = labelled ordered in
+    let bare = map (λ e. placed_at (e, (0, 0))) ordered in
     map placed_at (zip ordered (zip (line_positions bare) (look_counts 0 bare)))

@@ -1,6 +1,6 @@
 //! Where the labels of a line stand: how far below the row of its marks each hangs.
 ghost use Rattle.std.specs.Prelude.{◌≡◌, ◌+◌, ◌-◌, ◌^◌, ◌<◌, ◌≤◌, ◌&&◌, ◌||◌, true, All, IfOk, IfSome, chars, length};
-ghost use Rattle.std.specs.Prelude.{map, reverse};
+ghost use Rattle.std.specs.Prelude.{map, not, reverse};
 ghost use Rattle.std.specs.List.{list_any, position, range_with_len};
 ghost use Rattle.std.specs.Cow.{cow_str_bytes};
 ghost use Rattle.snippet_labels.specs.Positions as spec;
@@ -238,7 +238,7 @@ pub fn are_starts(entries: &[PlacedEntry]) -> bool
 
 /// Whether an entry is the start of a span of several lines, and has no label to show.
 fn is_start(placed: &PlacedEntry) -> bool
-    ensures value { result ≡ spec.is_start placed.now }
+    ensures value { result ≡ (spec.is_start_part placed.now.entry.annotation_type && not (spec.has_label placed.now)) }
 {
     matches!(
         placed.entry.annotation_type,
@@ -253,7 +253,7 @@ fn is_start(placed: &PlacedEntry) -> bool
 /// There is no memory for the list.
 fn flipped(alloc: Global, found: &[FoundPosition]) -> Result<Vec<FoundPosition>, AllocError>
     ensures value { IfOk result (λ flipped. map (λ f. f.position) flipped.items
-        ≡ spec.flipped (map (λ f. f.position) found.now)) }
+        ≡ map (λ p. greatest (map (λ f. f.position) found.now) - p) (map (λ f. f.position) found.now)) }
     ensures looked { IfOk result (λ flipped. map (λ f. f.looked) flipped.items ≡ map (λ f. f.looked) found.now) }
 {
     let greatest = greatest(found);
@@ -396,7 +396,8 @@ fn crosses(entry: &PlacedEntry, other: &PlacedEntry) -> bool
 /// Whether an entry farther left needs its label in a row of its own, below that of this entry.
 fn is_crowded(position: usize, entry: &PlacedEntry, others: &[PlacedEntry]) -> bool
     requires columns { All (λ e. IsColumn e.entry.end.display) others.now }
-    ensures value { result ≡ list_any (spec.crowds position entry.now) others.now }
+    ensures value { result ≡ list_any (λ other. spec.blocks entry.now other || spec.reaches position entry.now other)
+        others.now }
 {
     others.iter().any(|other| crowds(position, entry, other))
 }
@@ -406,7 +407,7 @@ fn is_crowded(position: usize, entry: &PlacedEntry, others: &[PlacedEntry]) -> b
 /// earlier.
 fn crowds(position: usize, entry: &PlacedEntry, other: &PlacedEntry) -> bool
     requires columns { IsColumn other.now.entry.end.display }
-    ensures value { result ≡ spec.crowds position entry.now other.now }
+    ensures value { result ≡ (spec.blocks entry.now other.now || spec.reaches position entry.now other.now) }
 {
     blocks(entry, other) || reaches(position, entry, other)
 }

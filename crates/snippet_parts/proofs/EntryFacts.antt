@@ -17,13 +17,13 @@ use Rattle.snippet_model.specs.Fits.{AnnotationFits, TextFits}
 use Rattle.snippet_parts.specs.declared.depths.LongExtent.{LongExtent}
 use Rattle.snippet_parts.specs.declared.entries.AnnotatedLineInfo.{AnnotatedLineInfo}
 use Rattle.snippet_lines.specs.declared.place.Loc.{Loc}
-use Rattle.snippet_parts.specs.Annotated.{PartEntry, seen_part, KeptLine, seen_kept, kept_line, is_short, is_long, long_entry, long_place, long_places}
+use Rattle.snippet_parts.specs.Annotated.{PartEntry, seen_part, KeptLine, seen_kept, kept_line, is_long, long_entry, long_place}
 use Rattle.snippet_parts.specs.Annotated.{long_spans, long_parts, depth_of, deepest, single_part, bar_lines, made_parts, parts_on}
 use Rattle.snippet_parts.specs.Depths.{same_place, depth_among, greatest_depth}
 use Rattle.snippet_parts.specs.Entries.{AllEntries, HasCharacterRoom, HasColumnRoom, HasShortLabel, HasDepthWithin, is_untouched}
 use Rattle.snippet_lines.specs.Lines.{Source}
 use Rattle.snippet_parts.specs.Mark.{is_marking, is_single_line, touches, is_marked_on, is_wide, start_column, span_width}
-use Rattle.snippet_parts.specs.Marked.{entry_of, first_line, last_line}
+use Rattle.snippet_parts.specs.Marked.{first_line, last_line}
 use Rattle.snippet_parts.specs.Entries.{is_single_part, is_wide_entry}
 use Rattle.snippet_lines.specs.Place.{locations_of, place_of}
 use Rattle.snippet_lines.specs.Span.{IsSpan}
@@ -35,6 +35,7 @@ use Rattle.snippet_parts.proofs.MarkLemmas.{start-line, end-line, start_column-f
 use Rattle.snippet_parts.proofs.PartLemmas.{HoldsOfSpan, IsBarLine, All-unmapped, bar_lines-stand, filter-none, longs-all, made-all}
 use Rattle.snippet_parts.proofs.PlaceBounds.{start-column-bound, end-column-bound, start-character-bound, end-character-bound}
 use Rattle.snippet_parts.proofs.ShownLemmas.{filter-map, place-among}
+use Rattle.snippet_parts.proofs.PartWords.{entry_of, is_short, long_places}
 
 -- ---- lines by what is seen of them
 

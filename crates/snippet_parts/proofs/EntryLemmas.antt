@@ -1,13 +1,14 @@
 -- The entries of spans, in the order made.
-use Rattle.std.proofs.Common.{None, ◌≡◌, ℕ, zero, suc, ◌+◌, ◌-◌, ◌<◌, ◌≤◌, Bool, true, false, ◌&&◌, ◌||◌, cond, not, eqb, leb, ltb, min, List, [], ◌∷◌, ◌++◌}
+use Rattle.std.proofs.Common.{None, ◌≡◌, ℕ, ◌+◌, ◌-◌, ◌<◌, ◌≤◌, Bool, true, false, ◌&&◌, ◌||◌, cond, not, eqb, leb, ltb, min, List, [], ◌∷◌, ◌++◌}
 use Rattle.std.proofs.Common.{map, length, take, drop, get_or, inl, inr, refl, sym, ap, ◌∙◌, arith}
 use Rattle.std.specs.List.{All, filter, list_any, range_with_len}
-use Rattle.std.proofs.lemmas.Bool.{cases_Bool, cases_lt, le-leb, lt-leb, cond-true, cond-false, and_parts, both_ways, eq-eqb, false_from_ne_true}
+use Rattle.std.proofs.lemmas.Bool.{cases_Bool, cases_lt, le-leb, le-ltb, lt-leb, cond-true, cond-false, and_parts, both_ways, eq-eqb, ne_eqb, false_from_ne_true}
 use Rattle.std.proofs.lemmas.List.{append_assoc, append-nil, map-append}
 use Rattle.std.proofs.lemmas.List.{map_push, map_more, drop-map, take-map, drop_more, length-map, get_or-map}
+use Rattle.std.proofs.lemmas.List.Elements.{filter-append}
 use Rattle.std.proofs.lemmas.List.FromFn.{map-range_with_len_more}
 use Rattle.snippet_parts.specs.declared.entries.LineAnnotation.{LineAnnotation}
-use Rattle.snippet_parts.specs.Annotated.{PartEntry, seen_part, bar_lines, span_parts, long_parts, long_place, stands_among, promoted, is_promoted}
+use Rattle.snippet_parts.specs.Annotated.{PartEntry, seen_part, bar_lines, span_parts, long_parts, long_place, promoted}
 use Rattle.snippet_model.specs.AnnotationKind.{is_primary}
 use Rattle.snippet_parts.specs.Depths.{same_place, depth_among}
 use Rattle.snippet_parts.specs.declared.depths.LongExtent.{LongExtent}
@@ -15,51 +16,64 @@ use Rattle.snippet_parts.specs.Marked.{Entry}
 use Rattle.snippet_model.specs.declared.snippet.AnnotationKind.{AnnotationKind}
 use Rattle.snippet_model.specs.declared.snippet.AnnotationKind.TheVariants.{Primary, Context, Visible}
 use Rattle.std.specs.List.Sorted.{IsNonDecreasingBy}
-use Rattle.snippet_parts.specs.Kept.{is_trivial_line}
+use Rattle.snippet_parts.specs.Kept.{has_bar, is_trivial_line}
 use Rattle.snippet_lines.specs.Lines.{Source}
 use Rattle.snippet_parts.specs.LongSpans.{seen_long, HasFit}
 use Rattle.snippet_parts.specs.declared.long_spans.LongSpan.{LongSpan}
 use Rattle.snippet_lines.specs.declared.place.Loc.{Loc}
 use Rattle.snippet_parts.proofs.RawDepthLemmas.{same-true}
 use Rattle.std.proofs.lemmas.Simd.{map-map}
+use Rattle.snippet_parts.proofs.KeptLemmas.{after-least, range-all, range-none, range-split}
 use Rattle.snippet_parts.proofs.PartLemmas.{list_any-map}
+use Rattle.snippet_parts.proofs.PartWords.{is_promoted, stands_among}
 
-filter-after : (p : ℕ → Bool) (u from n : ℕ) → ((k : ℕ) → from ≤ k → leb k u ≡ p k) → u < from → filter p (range_with_len from n) ≡ []
-filter-after p u from zero same past = refl
-filter-after p u from (suc n) same past =
-    cond-false (p from) (from ∷ filter p (range_with_len (from + 1) n)) (filter p (range_with_len (from + 1) n))
-    (sym (same from (omega arith)) ∙ lt-leb from u past) ∙ filter-after p u (from + 1) n (λ k le. same k (omega arith)) (omega arith)
-
--- of some lines those up to a last one
-filter-upto : (p : ℕ → Bool) (u from n m : ℕ) → ((k : ℕ) → from ≤ k → leb k u ≡ p k) → u < from + n → m ≡ (u + 1) - from
-    → filter p (range_with_len from n) ≡ range_with_len from m
-filter-upto p u from zero m same within is = let e : 0 ≡ m = omega arith in ap (range_with_len from) e
-filter-upto p u from (suc n) m same within is =
-    elim (cases_lt u from) [
-      | inl past ↦ filter-after p u from (suc n) same past ∙ sym (none m (omega arith))
-      | inr upto ↦
-          cond-true (p from) (from ∷ filter p (range_with_len (from + 1) n)) (filter p (range_with_len (from + 1) n))
-          (sym (same from (omega arith)) ∙ le-leb from u upto)
-          ∙ ap (λ xs. from ∷ xs) (filter-upto p u (from + 1) n ((u + 1) - (from + 1)) (λ k le. same k (omega arith)) (omega arith) refl)
-          ∙ sym (some m (omega arith))
-    ]
-  where
-    none : (m : ℕ) → m ≡ 0 → range_with_len from m ≡ []
-    none m e = ap (range_with_len from) e
-
-    some : (m : ℕ) → m ≡ suc ((u + 1) - (from + 1)) → range_with_len from m ≡ from ∷ range_with_len (from + 1) ((u + 1) - (from + 1))
-    some m e = ap (range_with_len from) e
+-- whether a span has a bar beside line k, the line before its last
+abbrev closes : List ℕ → ℕ → ℕ → ℕ → Bool
+closes source first last k = eqb (k + 1) last && ltb (first + 4) k && not (is_trivial_line source k)
 
 -- the bars of a span: up to the last line of its beginning, and the one before its last line
-pub bars-are : (source : List ℕ) (first last u m : ℕ) (closing : Bool) → first ≤ u → u ≤ min (first + 4) last
+pub bars-are : (source : List ℕ) (first last u m : ℕ) (closing : Bool) → first ≤ u → u ≤ min (first + 4) last → u < last
     → ((k : ℕ) → first < k → leb k u ≡ list_any (λ j. not (is_trivial_line source j)) (range_with_len k (min (first + 4) last - k)))
     → closing ≡ (ltb (min (first + 4) last) (last - 1) && not (is_trivial_line source (last - 1))) → m ≡ u - first
     → range_with_len (first + 1) m ++ cond closing ((last - 1) ∷ []) [] ≡ bar_lines source first last
-bars-are source first last u m closing from to bars is count =
-    ap (λ b. range_with_len (first + 1) m ++ cond b ((last - 1) ∷ []) []) is
-    ∙ ap (λ xs. xs ++ cond (ltb (min (first + 4) last) (last - 1) && not (is_trivial_line source (last - 1))) ((last - 1) ∷ []) [])
-    (sym (filter-upto (λ k. list_any (λ j. not (is_trivial_line source j)) (range_with_len k (min (first + 4) last - k))) u (first + 1)
-    (min (first + 4) last - first) m (λ k le. bars k (omega arith)) (omega arith) (omega arith)))
+bars-are source first last u m closing from to before bars is count =
+    let parts : last - (first + 1) ≡ m + (last - (u + 1)) = omega arith in
+    let next : first + 1 + m ≡ u + 1 = omega arith in
+    sym (ap (λ n. filter (has_bar source first last) (range_with_len (first + 1) n)) parts ∙ ap (filter (has_bar source first last)) (range-split (first + 1) m (last - (u + 1)))
+    ∙ filter-append (has_bar source first last) (range_with_len (first + 1) m) (range_with_len (first + 1 + m) (last - (u + 1)))
+    ∙ ap (λ ks. ks ++ filter (has_bar source first last) (range_with_len (first + 1 + m) (last - (u + 1)))) (range-all (has_bar source first last) (first + 1) m early)
+    ∙ ap (λ a. range_with_len (first + 1) m ++ filter (has_bar source first last) (range_with_len a (last - (u + 1)))) next ∙ ap (λ ks. range_with_len (first + 1) m ++ ks) late)
+  where
+    early : (k : ℕ) → first + 1 ≤ k → k < first + 1 + m → has_bar source first last k ≡ true
+    early k low high = ap (λ b. b || closes source first last k) (sym (bars k (omega arith)) ∙ le-leb k u (omega arith))
+
+    past : (k : ℕ) → u < k → has_bar source first last k ≡ closes source first last k
+    past k after = ap (λ b. b || closes source first last k) (sym (bars k (omega arith)) ∙ lt-leb k u after)
+
+    none : (k : ℕ) → u + 1 ≤ k → k < u + 1 + (last - 1 - (u + 1)) → has_bar source first last k ≡ false
+    none k low high = past k (omega arith) ∙ ap (λ b. b && ltb (first + 4) k && not (is_trivial_line source k)) (ne_eqb (k + 1) last (λ e. omega arith))
+
+    closing-is : closing ≡ (ltb (first + 4) (last - 1) && not (is_trivial_line source (last - 1)))
+    closing-is = is ∙ ap (λ b. b && not (is_trivial_line source (last - 1))) (after-least (first + 4) last)
+
+    late : filter (has_bar source first last) (range_with_len (u + 1) (last - (u + 1))) ≡ cond closing ((last - 1) ∷ []) []
+    late =
+        elim (cases_lt (u + 1) last) [
+          | inl room ↦
+              let parts : last - (u + 1) ≡ (last - 1 - (u + 1)) + 1 = omega arith in
+              let end : u + 1 + (last - 1 - (u + 1)) ≡ last - 1 = omega arith in
+              ap (λ n. filter (has_bar source first last) (range_with_len (u + 1) n)) parts ∙ ap (filter (has_bar source first last)) (range-split (u + 1) (last - 1 - (u + 1)) 1)
+              ∙ filter-append (has_bar source first last) (range_with_len (u + 1) (last - 1 - (u + 1))) (range_with_len (u + 1 + (last - 1 - (u + 1))) 1)
+              ∙ ap (λ ks. ks ++ filter (has_bar source first last) (range_with_len (u + 1 + (last - 1 - (u + 1))) 1)) (range-none (has_bar source first last) (u + 1) (last - 1 - (u + 1)) none)
+              ∙ ap (λ a. filter (has_bar source first last) (range_with_len a 1)) end
+              ∙ ap (λ b. cond b ((last - 1) ∷ []) []) (past (last - 1) (omega arith)
+              ∙ ap (λ b. b && ltb (first + 4) (last - 1) && not (is_trivial_line source (last - 1))) (eq-eqb (last - 1 + 1) last (omega arith))
+              ∙ sym closing-is)
+          | inr full ↦
+              let parts : last - (u + 1) ≡ 0 = omega arith in
+              ap (λ n. filter (has_bar source first last) (range_with_len (u + 1) n)) parts ∙ sym (cond-false closing ((last - 1) ∷ []) []
+              (is ∙ ap (λ b. b && not (is_trivial_line source (last - 1))) (le-ltb (min (first + 4) last) (last - 1) (omega arith))))
+        ]
 
 -- ---- bars that are pushed
 
@@ -78,13 +92,13 @@ bars_more f old now new e a line le pushed is before =
 -- all bars, with the one before the last line
 pub bars-closed : (f : ℕ → PartEntry) (old now new : List LineAnnotation) (e : LineAnnotation) (source : List ℕ) (first last u a n : ℕ)
     (closing : Bool) → closing ≡ true → new ≡ now ++ e ∷ [] → seen_part e ≡ f (last - 1)
-    → map seen_part now ≡ map seen_part old ++ map f (range_with_len a n) → a ≡ first + 1 → n ≡ u - first → first ≤ u → u ≤ min (first + 4) last
+    → map seen_part now ≡ map seen_part old ++ map f (range_with_len a n) → a ≡ first + 1 → n ≡ u - first → first ≤ u → u ≤ min (first + 4) last → u < last
     → ((k : ℕ) → first < k → leb k u ≡ list_any (λ j. not (is_trivial_line source j)) (range_with_len k (min (first + 4) last - k)))
     → closing ≡ (ltb (min (first + 4) last) (last - 1) && not (is_trivial_line source (last - 1)))
     → map seen_part new ≡ map seen_part old ++ map f (bar_lines source first last)
-bars-closed f old now new e source first last u a n closing there pushed is before at count from to bars close =
+bars-closed f old now new e source first last u a n closing there pushed is before at count from to inside bars close =
     let all : range_with_len (first + 1) n ++ cond closing ((last - 1) ∷ []) []
-    ≡ bar_lines source first last = bars-are source first last u n closing from to bars close count in
+    ≡ bar_lines source first last = bars-are source first last u n closing from to inside bars close count in
     ap (map seen_part) pushed ∙ map_push seen_part now e ∙ ap (λ ps. ps ++ seen_part e ∷ []) before
     ∙ ap (λ p. (map seen_part old ++ map f (range_with_len a n)) ++ p ∷ []) is
     ∙ append_assoc (map seen_part old) (map f (range_with_len a n)) (f (last - 1) ∷ [])
@@ -94,13 +108,13 @@ bars-closed f old now new e source first last u a n closing there pushed is befo
 
 -- all bars, without it
 pub bars-open : (f : ℕ → PartEntry) (old now : List LineAnnotation) (source : List ℕ) (first last u a n : ℕ) (closing : Bool) → closing ≡ false
-    → map seen_part now ≡ map seen_part old ++ map f (range_with_len a n) → a ≡ first + 1 → n ≡ u - first → first ≤ u → u ≤ min (first + 4) last
+    → map seen_part now ≡ map seen_part old ++ map f (range_with_len a n) → a ≡ first + 1 → n ≡ u - first → first ≤ u → u ≤ min (first + 4) last → u < last
     → ((k : ℕ) → first < k → leb k u ≡ list_any (λ j. not (is_trivial_line source j)) (range_with_len k (min (first + 4) last - k)))
     → closing ≡ (ltb (min (first + 4) last) (last - 1) && not (is_trivial_line source (last - 1)))
     → map seen_part now ≡ map seen_part old ++ map f (bar_lines source first last)
-bars-open f old now source first last u a n closing none before at count from to bars close =
+bars-open f old now source first last u a n closing none before at count from to inside bars close =
     let all : range_with_len (first + 1) n ++ cond closing ((last - 1) ∷ []) []
-    ≡ bar_lines source first last = bars-are source first last u n closing from to bars close count in
+    ≡ bar_lines source first last = bars-are source first last u n closing from to inside bars close count in
     before ∙ ap (λ ps. map seen_part old ++ ps) (ap (λ x. map f (range_with_len x n)) at
     ∙ ap (map f) (sym (append-nil (range_with_len (first + 1) n)) ∙ ap (λ b. range_with_len (first + 1) n ++ cond b ((last - 1) ∷ []) []) (sym none) ∙ all))
 

@@ -5,7 +5,7 @@ use Rattle.std.specs.List.{All, filter, list_any, range_with_len}
 use Rattle.std.specs.List.Sorted.{IsNonDecreasingBy, IsBinarySearchResult, IsPermutation}
 use Rattle.std.specs.Result.{is_ok}
 use Rattle.std.proofs.Math.Bool.{and-false, and-true, or-false}
-use Rattle.std.proofs.lemmas.Bool.{cases_Bool, cases_lt, cases_eq, or_from, le-leb, lt-leb, lt-ltb, eq-eqb, ne_eqb, eqb-true, or_left, or_right}
+use Rattle.std.proofs.lemmas.Bool.{cases_Bool, cases_lt, cases_eq, or_from, le-leb, le-ltb, lt-leb, eq-eqb, ne_eqb, eqb-true, or_left, or_right}
 use Rattle.std.proofs.lemmas.List.{append-nil, take_more, take_all, get_or-take, length-take}
 use Rattle.std.proofs.lemmas.List.Elements.{All-nil, All-cons, All-head, All-tail, All-filter, All-from_get_or, All-weaker, filter-append, filter_agree}
 use Rattle.std.proofs.lemmas.List.Folds.{list_any_more, list_any_at, list_any_none}
@@ -65,25 +65,25 @@ keeps-all f l k marked bar why = or-same (leb f k && leb k l) ∙ sym (elim (cas
 -- one that is marked keeps its beginning and its end: u is the last line of its beginning, t the first of its end
 pub keeps-ends : (f l u t k : ℕ) (marked shown last_bar : Bool) → f < l → f ≤ u → u ≤ l → marked ≡ true → (f < k → leb k u ≡ shown)
     → (k + 1 ≡ l → leb t k ≡ last_bar) → ((k + 1 ≡ l → ⊥) → last_bar ≡ false) → t ≤ l → l ≤ t + 1
-    → ((leb f k && leb k u) || (leb t k && leb k l)) ≡ (leb f k && leb k l && (eqb k f || eqb k l || not marked || (ltb f k && (shown || last_bar))))
+    → ((leb f k && leb k u) || (leb t k && leb k l)) ≡ (leb f k && leb k l && (eqb k f || eqb k l || not marked || (shown || last_bar)))
 keeps-ends f l u t k marked shown last_bar ordered from to is bars ends apart tl tail =
     elim (cases_lt k f) [
-      | inl before ↦ outside (leb f k) (leb k u) (leb t k) (leb k l) (eqb k f || eqb k l || not marked || (ltb f k && (shown || last_bar)))
+      | inl before ↦ outside (leb f k) (leb k u) (leb t k) (leb k l) (eqb k f || eqb k l || not marked || (shown || last_bar))
           (inl (lt-leb f k before, lt-leb t k (omega arith)))
       | inr after ↦ elim (cases_lt f k) [
         | inr first ↦
             let same : k ≡ f = omega arith in
-            kept-first (leb f k) (leb k u) (leb t k && leb k l) (leb k l) (eqb k f) (eqb k l) (not marked) (ltb f k && (shown || last_bar)) (le-leb f k after)
+            kept-first (leb f k) (leb k u) (leb t k && leb k l) (leb k l) (eqb k f) (eqb k l) (not marked) (shown || last_bar) (le-leb f k after)
             (le-leb k u (omega arith)) (le-leb k l (omega arith)) (eq-eqb k f same)
         | inl past ↦ elim (cases_lt l k) [
-          | inl over ↦ outside (leb f k) (leb k u) (leb t k) (leb k l) (eqb k f || eqb k l || not marked || (ltb f k && (shown || last_bar)))
+          | inl over ↦ outside (leb f k) (leb k u) (leb t k) (leb k l) (eqb k f || eqb k l || not marked || (shown || last_bar))
               (inr (lt-leb k u (omega arith), lt-leb k l over))
           | inr upto ↦ elim (cases_lt k l) [
-            | inr end ↦ kept-last (leb f k && leb k u) (leb t k) (leb f k) (leb k l) (eqb k f) (eqb k l) (not marked) (ltb f k && (shown || last_bar))
+            | inr end ↦ kept-last (leb f k && leb k u) (leb t k) (leb f k) (leb k l) (eqb k f) (eqb k l) (not marked) (shown || last_bar)
                 (le-leb t k (omega arith)) (le-leb f k after) (le-leb k l upto) (eq-eqb k l (omega arith))
             | inl inner ↦
-                between (leb f k) (leb k u) (leb t k) (leb k l) (eqb k f) (eqb k l) marked (ltb f k) shown last_bar (le-leb f k after) (le-leb k l upto)
-                (ne_eqb k f (λ e. omega arith)) (ne_eqb k l (λ e. omega arith)) is (lt-ltb f k past) (bars past) (elim (cases_eq (k + 1) l) [
+                between (leb f k) (leb k u) (leb t k) (leb k l) (eqb k f) (eqb k l) marked shown last_bar (le-leb f k after) (le-leb k l upto)
+                (ne_eqb k f (λ e. omega arith)) (ne_eqb k l (λ e. omega arith)) is (bars past) (elim (cases_eq (k + 1) l) [
                   | inl next ↦ ends next
                   | inr far ↦ lt-leb t k (omega arith) ∙ sym (apart far)
                 ])
@@ -115,13 +115,12 @@ keeps-ends f l u t k marked shown last_bar ordered from to is bars ends apart tl
         last true = refl
         last false = refl
 
-    between : (a b c d e g m x s q : Bool) → a ≡ true → d ≡ true → e ≡ false → g ≡ false → m ≡ true → x ≡ true → b ≡ s → c ≡ q
-        → ((a && b) || (c && d)) ≡ (a && d && (e || g || not m || (x && (s || q))))
-    between a b c d e g m x s q pa pd pe pg pm px pb pc =
+    between : (a b c d e g m s q : Bool) → a ≡ true → d ≡ true → e ≡ false → g ≡ false → m ≡ true → b ≡ s → c ≡ q
+        → ((a && b) || (c && d)) ≡ (a && d && (e || g || not m || (s || q)))
+    between a b c d e g m s q pa pd pe pg pm pb pc =
         ap (λ z. (z && b) || (c && d)) pa ∙ ap (λ z. b || (c && z)) pd ∙ ap (λ z. b || z) (unit c) ∙ ap (λ z. z || c) pb ∙ ap (λ z. s || z) pc
-        ∙ sym (ap (λ z. z && d && (e || g || not m || (x && (s || q)))) pa ∙ ap (λ z. z && (e || g || not m || (x && (s || q)))) pd
-        ∙ ap (λ z. z || g || not m || (x && (s || q))) pe ∙ ap (λ z. z || not m || (x && (s || q))) pg ∙ ap (λ z. not z || (x && (s || q))) pm
-        ∙ ap (λ z. z && (s || q)) px)
+        ∙ sym (ap (λ z. z && d && (e || g || not m || (s || q))) pa ∙ ap (λ z. z && (e || g || not m || (s || q))) pd
+        ∙ ap (λ z. z || g || not m || (s || q)) pe ∙ ap (λ z. z || not m || (s || q)) pg ∙ ap (λ z. not z || (s || q)) pm)
       where
         unit : (z : Bool) → (z && true) ≡ z
         unit true = refl
@@ -140,13 +139,21 @@ last_bar-is l k m trivial closing b some is one none' next =
           ∙ sym (ap (λ z. z && ltb m k && not (trivial k)) (eq-eqb (k + 1) l next))
     ]
 
+-- a line before the last lies after the lesser of a number and the last, where it lies after the number
+pub after-least : (n l : ℕ) → ltb (min n l) (l - 1) ≡ ltb n (l - 1)
+after-least n l =
+    elim (cases_lt n l) [
+      | inl below ↦ ap (λ m. ltb m (l - 1)) (omega arith)
+      | inr upto ↦ le-ltb (min n l) (l - 1) (omega arith) ∙ sym (le-ltb n (l - 1) (omega arith))
+    ]
+
 -- only the line right above the last one can have the last bar
 pub last_bar-apart : (l k m : ℕ) (trivial : ℕ → Bool) → (k + 1 ≡ l → ⊥) → (eqb (k + 1) l && ltb m k && not (trivial k)) ≡ false
 last_bar-apart l k m trivial apart = ap (λ z. z && ltb m k && not (trivial k)) (ne_eqb (k + 1) l apart)
 
 -- ---- ranges, of which a test keeps some numbers
 
-range-split : (a m n : ℕ) → range_with_len a (m + n) ≡ range_with_len a m ++ range_with_len (a + m) n
+pub range-split : (a m n : ℕ) → range_with_len a (m + n) ≡ range_with_len a m ++ range_with_len (a + m) n
 range-split a zero n =
     let none : 0 + n ≡ n = omega arith in
     let same : a ≡ a + 0 = omega arith in ap (range_with_len a) none ∙ ap (λ b. range_with_len b n) same
@@ -173,10 +180,10 @@ filter-false : (ks : List ℕ) → filter (λ k. false) ks ≡ []
 filter-false [] = refl
 filter-false (k ∷ ks) = filter-false ks
 
-range-all : (p : ℕ → Bool) (a n : ℕ) → ((k : ℕ) → a ≤ k → k < a + n → p k ≡ true) → filter p (range_with_len a n) ≡ range_with_len a n
+pub range-all : (p : ℕ → Bool) (a n : ℕ) → ((k : ℕ) → a ≤ k → k < a + n → p k ≡ true) → filter p (range_with_len a n) ≡ range_with_len a n
 range-all p a n all = range-agree p (λ k. true) a n all ∙ filter-true (range_with_len a n)
 
-range-none : (p : ℕ → Bool) (a n : ℕ) → ((k : ℕ) → a ≤ k → k < a + n → p k ≡ false) → filter p (range_with_len a n) ≡ []
+pub range-none : (p : ℕ → Bool) (a n : ℕ) → ((k : ℕ) → a ≤ k → k < a + n → p k ≡ false) → filter p (range_with_len a n) ≡ []
 range-none p a n none = range-agree p (λ k. false) a n none ∙ filter-false (range_with_len a n)
 
 -- a range in three parts, of which a test keeps what another one keeps of the first, nothing of the second, and all of the third
@@ -387,7 +394,7 @@ pub unkept : (source : List ℕ) (k : ℕ) (marks : List Annotation) → length 
 unkept source k marks after =
     list_any_none (keeps source k) marks (λ i d within.
     let a : Annotation = get_or marks i d in
-    ap (λ b. b && (eqb k (first_line source a) || eqb k (last_line source a) || not (is_marking a.kind) || has_bar source a k)) (untouched source k a after))
+    ap (λ b. b && (eqb k (first_line source a) || eqb k (last_line source a) || not (is_marking a.kind) || has_bar source (first_line source a) (last_line source a) k)) (untouched source k a after))
 
 pub unseen : {A : Type 0} (source : List ℕ) (k : ℕ) (f : A → Annotation) (xs : List A) → length (source_lines source) ≤ k
     → list_any (λ x. is_seen source k (f x)) xs ≡ false

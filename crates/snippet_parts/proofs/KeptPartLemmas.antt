@@ -1,13 +1,13 @@
 -- Entries stand on lines that are kept.
-use Rattle.std.proofs.Common.{◌≡◌, ℕ, ◌+◌, ◌-◌, ◌≤◌, Bool, true, false, ◌&&◌, ◌||◌, not, eqb, leb, ltb, List, [], inl, inr, refl, ap, subst, ◌∙◌, arith}
+use Rattle.std.proofs.Common.{◌≡◌, ℕ, ◌+◌, ◌-◌, ◌≤◌, Bool, true, false, ◌&&◌, ◌||◌, not, eqb, leb, ltb, min, List, [], inl, inr, refl, ap, subst, ◌∙◌, arith}
 use Rattle.std.specs.List.{All, Contains, list_any, range_with_len}
-use Rattle.std.proofs.lemmas.Bool.{and_from, and_parts, or_left, or_right, eq-eqb, le-leb, lt-ltb, ne_eqb, both_ways, false_from_ne_true}
+use Rattle.std.proofs.lemmas.Bool.{and_from, and_parts, or_left, or_right, eq-eqb, le-leb, ne_eqb, both_ways, false_from_ne_true}
 use Rattle.std.proofs.lemmas.List.Elements.{All-contains, All-weaker, All-contains_itself}
 use Rattle.std.proofs.lemmas.List.Folds.{list_any_at, list_any_none}
 use Rattle.snippet_model.specs.declared.snippet.Annotation.{Annotation}
 use Rattle.snippet_model.specs.declared.snippet.AnnotationKind.{AnnotationKind}
-use Rattle.snippet_parts.specs.Annotated.{PartEntry, is_short, is_long, long_entry, depth_of, single_part, made_parts, parts_on, bar_lines}
-use Rattle.snippet_parts.specs.Kept.{beginning, has_bar, is_trivial_line, keeps}
+use Rattle.snippet_parts.specs.Annotated.{PartEntry, is_long, long_entry, depth_of, single_part, made_parts, parts_on, bar_lines}
+use Rattle.snippet_parts.specs.Kept.{has_bar, is_trivial_line, keeps}
 use Rattle.snippet_lines.specs.Lines.{Source, source_lines}
 use Rattle.snippet_parts.specs.Mark.{is_marking, touches}
 use Rattle.snippet_parts.specs.Marked.{first_line, last_line}
@@ -15,6 +15,7 @@ use Rattle.snippet_lines.specs.Span.{IsSpan}
 use Rattle.snippet_parts.proofs.MarkLemmas.{start-line, end-line, entry_of-line}
 use Rattle.snippet_parts.proofs.PartLemmas.{HoldsOfSpan, IsBarLine, bar_lines-stand, filter-none, made-all}
 use Rattle.snippet_lines.proofs.PlaceLemmas.{line_of-mono, line_of-within}
+use Rattle.snippet_parts.proofs.PartWords.{is_short}
 
 -- a test that one of some passes
 pub any-member : {X : Type 0} (p : X → Bool) (xs : List X) (x : X) → Contains xs x → p x ≡ true → list_any p xs ≡ true
@@ -59,31 +60,33 @@ touched source a k from to = and_from (leb (first_line source a) k) (leb k (last
 -- the line on which a span starts is kept
 pub keeps-first : (source : List ℕ) (a : Annotation) (k : ℕ) → IsSpan source a.span.start a.span.end → k ≡ first_line source a → keeps source k a ≡ true
 keeps-first source a k span is =
-    first-of-four (eqb k (first_line source a)) (eqb k (last_line source a)) (not (is_marking a.kind)) (has_bar source a k) (touches source a k)
+    first-of-four (eqb k (first_line source a)) (eqb k (last_line source a)) (not (is_marking a.kind)) (has_bar source (first_line source a) (last_line source a) k) (touches source a k)
     (touched source a k (omega arith) (omega (arith, lines_ordered source a span))) (eq-eqb k (first_line source a) is)
 
 -- the line on which a span ends is kept
 pub keeps-last : (source : List ℕ) (a : Annotation) (k : ℕ) → IsSpan source a.span.start a.span.end → k ≡ last_line source a → keeps source k a ≡ true
 keeps-last source a k span is =
-    second-of-four (eqb k (first_line source a)) (eqb k (last_line source a)) (not (is_marking a.kind)) (has_bar source a k) (touches source a k)
+    second-of-four (eqb k (first_line source a)) (eqb k (last_line source a)) (not (is_marking a.kind)) (has_bar source (first_line source a) (last_line source a) k) (touches source a k)
     (touched source a k (omega (arith, lines_ordered source a span)) (omega arith)) (eq-eqb k (last_line source a) is)
 
 -- an annotation that isn't marked keeps each line that it touches
 pub keeps-unmarked : (source : List ℕ) (a : Annotation) (k : ℕ) → not (is_marking a.kind) ≡ true → touches source a k ≡ true → keeps source k a ≡ true
 keeps-unmarked source a k unmarked there =
-    third-of-four (eqb k (first_line source a)) (eqb k (last_line source a)) (not (is_marking a.kind)) (has_bar source a k) (touches source a k) there unmarked
+    third-of-four (eqb k (first_line source a)) (eqb k (last_line source a)) (not (is_marking a.kind)) (has_bar source (first_line source a) (last_line source a) k) (touches source a k) there unmarked
 
 keeps-bar : (source : List ℕ) (a : Annotation) (k : ℕ) → IsBarLine source (first_line source a) (last_line source a) k → keeps source k a ≡ true
 keeps-bar source a k bar =
-    let shown : Bool = list_any (λ j. not (is_trivial_line source j)) (range_with_len k (beginning source a - k)) in
-    let closing : Bool = eqb (k + 1) (last_line source a) && ltb (beginning source a) k && not (is_trivial_line source k) in
-    let there : has_bar source a k ≡ true = and_from (ltb (first_line source a) k) (shown || closing) (lt-ltb (first_line source a) k bar.from)
-    (elim bar.shown [
+    let first : ℕ = first_line source a in
+    let last : ℕ = last_line source a in
+    let shown : Bool = list_any (λ j. not (is_trivial_line source j)) (range_with_len k (min (first + 4) last - k)) in
+    let closing : Bool = eqb (k + 1) last && ltb (first + 4) k && not (is_trivial_line source k) in
+    let there : has_bar source first last k ≡ true = elim bar.shown [
       | inl t ↦ or_left shown closing t
-      | inr t ↦ or_right shown closing (and_from (eqb (k + 1) (last_line source a) && ltb (beginning source a) k) (not (is_trivial_line source k))
-          (and_from (eqb (k + 1) (last_line source a)) (ltb (beginning source a) k) (eq-eqb (k + 1) (last_line source a) t.0) t.1) t.2)
-    ]) in
-    fourth-of-four (eqb k (first_line source a)) (eqb k (last_line source a)) (not (is_marking a.kind)) (has_bar source a k) (touches source a k)
+      | inr t ↦ or_right shown closing
+          (and_from (eqb (k + 1) last && ltb (first + 4) k) (not (is_trivial_line source k)) (and_from (eqb (k + 1) last) (ltb (first + 4) k)
+          (eq-eqb (k + 1) last t.0) t.1) t.2)
+    ] in
+    fourth-of-four (eqb k first) (eqb k last) (not (is_marking a.kind)) (has_bar source first last k) (touches source a k)
     (touched source a k (omega (arith, bar.from)) bar.to) there
 
 -- ---- the line of an entry

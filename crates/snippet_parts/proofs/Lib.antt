@@ -2,6 +2,7 @@ pub mod AmongLemmas
 pub mod BarLemmas
 pub mod BestLemmas
 pub mod BetweenLemmas
+pub mod CountedWords
 pub mod DepthLemmas
 pub mod DepthSearchLemmas
 pub mod EntryFacts
@@ -13,6 +14,7 @@ pub mod LeastLemmas
 pub mod LocatedLemmas
 pub mod LocationLaws
 pub mod LocationLemmas
+pub mod LocationWords
 pub mod LongLemmas
 pub mod LongStarts
 pub mod MarkLemmas
@@ -20,6 +22,7 @@ pub mod NamingLaws
 pub mod OnLineLemmas
 pub mod PartLemmas
 pub mod PartLines
+pub mod PartWords
 pub mod PlaceBounds
 pub mod RawDepthLemmas
 pub mod ShownFacts

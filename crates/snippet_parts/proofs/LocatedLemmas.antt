@@ -11,7 +11,7 @@ use Rattle.snippet_lines.specs.OrderedBy.{ordered_by}
 use Rattle.snippet_lines.specs.declared.place.Loc.{Loc}
 use Rattle.snippet_model.specs.declared.snippet.Annotation.{Annotation}
 use Rattle.snippet_parts.specs.declared.entries.LineAnnotationType.TheVariants.{Singleline}
-use Rattle.snippet_parts.specs.Annotated.{PartEntry, single_part, long_entry, is_short, is_long, stands_before, long_spans}
+use Rattle.snippet_parts.specs.Annotated.{PartEntry, single_part, long_entry, is_long, long_spans}
 use Rattle.snippet_parts.specs.Mark.{is_marking}
 use Rattle.snippet_parts.specs.Marked.{Entry, first_line, last_line, widened}
 use Rattle.snippet_parts.specs.declared.located.LocatedSpan.{LocatedSpan}
@@ -19,6 +19,7 @@ use Rattle.snippet_parts.specs.declared.long_spans.LongSpan.{LongSpan}
 use Rattle.snippet_parts.specs.Located.{AreBars, IsLocated, annotations_of, is_short_span, is_long_span, span_entry, short_part}
 use Rattle.snippet_parts.specs.LongSpans.{seen_long, HasFit}
 use Rattle.snippet_parts.proofs.LongLemmas.{fit-long}
+use Rattle.snippet_parts.proofs.PartWords.{is_short, stands_before}
 
 -- ---- one span
 

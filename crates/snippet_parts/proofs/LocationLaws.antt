@@ -20,9 +20,10 @@ use Rattle.snippet_parts.specs.Kept.{kept_lines}
 use Rattle.snippet_parts.specs.Mark.{is_marking, is_marked_on, is_single_line, touches}
 use Rattle.snippet_parts.specs.Marked.{first_line}
 use Rattle.snippet_parts.specs.Least.{least}
-use Rattle.snippet_parts.specs.Location.{start_columns, primary_parts, all_parts, least_place, first_place, primary_place, naming_kind, start_at, IsLocation}
+use Rattle.snippet_parts.specs.Location.{primary_place, naming_kind, start_at, IsLocation}
 use Rattle.snippet_parts.proofs.EntryFacts.{filter-filter, untouched-parts}
 use Rattle.snippet_parts.proofs.KeptPartLemmas.{any-member}
+use Rattle.snippet_parts.proofs.LocationWords.{start_columns, primary_parts, all_parts, choice_place, first_place, filter-true, primary-is}
 use Rattle.snippet_parts.proofs.PartLemmas.{filter-none}
 use Rattle.snippet_parts.proofs.ShownFacts.{contains-cases, contains-filter, contains-here, contains-there, first_kept, kept-ascends}
 use Rattle.snippet_parts.proofs.ShownLemmas.{filter-map}
@@ -188,7 +189,7 @@ start_at-single s spans = map-map (λ (p : PartEntry). p.entry.start.char + 1) (
 
 -- the place on a line is that of the least column at which such a span starts there
 least_place-on : (choice : List PartEntry → List PartEntry) (test : Annotation → Bool) (s : Source) (marks : List Annotation) (k : ℕ)
-    → Chooses choice test s marks → least_place choice (kept_line s marks k)
+    → Chooses choice test s marks → choice_place choice (kept_line s marks k)
     ≡ option_map (λ column. record { line = s.first + k; column = Some column }) (least (map (start_at s) (starting test s marks k)))
 least_place-on choice test s marks k chooses =
     ap (λ ns. option_map (λ column. record { line = s.first + k; column = Some column }) (least ns))
@@ -213,7 +214,7 @@ at-column s k column = record { line = s.first + k; column = Some column }
 
 -- a line on which such a span starts has a place
 has-place : (choice : List PartEntry → List PartEntry) (test : Annotation → Bool) (s : Source) (marks : List Annotation) (k : ℕ) (a : Annotation)
-    → Chooses choice test s marks → Contains (starting test s marks k) a → is_some (least_place choice (kept_line s marks k)) ≡ true
+    → Chooses choice test s marks → Contains (starting test s marks k) a → is_some (choice_place choice (kept_line s marks k)) ≡ true
 unfolding at-column
 has-place choice test s marks k a chooses there =
     let lowest = least-among (start_at s) (starting test s marks k) a there in
@@ -221,7 +222,7 @@ has-place choice test s marks k a chooses there =
 
 -- and the place of a line is that of a span of least column
 place_found : (choice : List PartEntry → List PartEntry) (test : Annotation → Bool) (s : Source) (marks : List Annotation) (k : ℕ) (place : Location)
-    → Chooses choice test s marks → least_place choice (kept_line s marks k) ≡ Some place
+    → Chooses choice test s marks → choice_place choice (kept_line s marks k) ≡ Some place
     → (a : Annotation) × IsLeast (start_at s) (starting test s marks k) a × (place ≡ at-column s k (start_at s a))
 unfolding at-column
 place_found choice test s marks k place chooses has =
@@ -239,16 +240,16 @@ place_found choice test s marks k place chooses has =
 -- the first line on which such a span starts is named, at the least column of one there
 named-by : (choice : List PartEntry → List PartEntry) (test : Annotation → Bool) (fold : Bool) (s : Source) (marks : List Annotation) (a : Annotation)
     → All (λ a. IsSpan s.text a.span.start a.span.end) marks → Chooses choice test s marks → Contains marks a → test a ≡ true
-    → (place : Location) × (first_place (least_place choice) (annotated_lines fold s marks) ≡ Some place) × IsPlaceBy test s marks place
+    → (place : Location) × (first_place (choice_place choice) (annotated_lines fold s marks) ≡ Some place) × IsPlaceBy test s marks place
 unfolding at-column starting
 named-by choice test fold s marks a spans chooses among passes =
     let ks : List ℕ = kept_lines fold s.text marks in
     let kept-first : (b : Annotation) → Contains marks b → Contains ks (first_line s.text b) = λ b found.
     first_kept fold s.text marks b found (All-contains (λ a. IsSpan s.text a.span.start a.span.end) marks b spans found) in
-    let has : (b : Annotation) → Contains marks b → test b ≡ true → is_some (least_place choice (kept_line s marks (first_line s.text b)))
+    let has : (b : Annotation) → Contains marks b → test b ≡ true → is_some (choice_place choice (kept_line s marks (first_line s.text b)))
     ≡ true = λ b found passed. has-place choice test s marks (first_line s.text b) b chooses
     (starts-there test s marks (first_line s.text b) b found passed refl) in
-    let first = first_placed (least_place choice) (kept_line s marks) ks (first_line s.text a) (kept-ascends fold s.text marks) (kept-first a among)
+    let first = first_placed (choice_place choice) (kept_line s marks) ks (first_line s.text a) (kept-ascends fold s.text marks) (kept-first a among)
     (has a among passes) in
     let k : ℕ = first.0 in
     let lowest = place_found choice test s marks k first.1 chooses first.2.has in
@@ -265,7 +266,7 @@ named-by choice test fold s marks a spans chooses among passes =
         line = ap (λ (p : Location). p.line) lowest.2 ∙ ap (λ n. s.first + n) (sym on);
         column = ap (λ (p : Location). p.column) lowest.2;
         first = λ other found passed. elim (cases_lt (first_line s.text other) k) [
-          | inl above ↦ absurd (both_ways (is_some (least_place choice (kept_line s marks (first_line s.text other))))
+          | inl above ↦ absurd (both_ways (is_some (choice_place choice (kept_line s marks (first_line s.text other))))
               (ap is_some (first.2.none (first_line s.text other) (kept-first other found) above)) (has other found passed))
           | inr below ↦ omega arith
         ];
@@ -312,7 +313,7 @@ parts-marked s marks k spans none =
 -- the entries are those of the spans that are marked
 chooses-all : (s : Source) (marks : List Annotation) → All (λ a. IsSpan s.text a.span.start a.span.end) marks → NoneLong s marks
     → Chooses all_parts (λ a. is_marking a.kind) s marks
-chooses-all s marks spans none = record { parts = λ k. parts-marked s marks k spans none }
+chooses-all s marks spans none = record { parts = λ k. filter-true (parts_on s marks k) ∙ parts-marked s marks k spans none }
 
 -- and the primary ones those of the primary spans
 chooses-primary : (s : Source) (marks : List Annotation) → All (λ a. IsSpan s.text a.span.start a.span.end) marks → NoneLong s marks
@@ -383,10 +384,10 @@ named-context s marks place none by = record {
 
 -- without primary spans no line has a place of a primary entry
 no-primary : (s : Source) (marks : List Annotation) (fold : Bool) → All (λ a. IsSpan s.text a.span.start a.span.end) marks → NoneLong s marks
-    → list_any (λ a. is_primary a.kind) marks ≡ false → first_place (least_place primary_parts) (annotated_lines fold s marks) ≡ None
+    → list_any (λ a. is_primary a.kind) marks ≡ false → first_place (choice_place primary_parts) (annotated_lines fold s marks) ≡ None
 unfolding starting
 no-primary s marks fold spans none other =
-    first-none (least_place primary_parts) (kept_line s marks) (kept_lines fold s.text marks)
+    first-none (choice_place primary_parts) (kept_line s marks) (kept_lines fold s.text marks)
     (λ k. least_place-on primary_parts (λ a. is_primary a.kind) s marks k (chooses-primary s marks spans none)
     ∙ ap (λ spans. option_map (λ column. record { line = s.first + k; column = Some column }) (least (map (start_at s) spans)))
     (filter-none (λ (a : Annotation). is_primary a.kind && eqb (first_line s.text a)
@@ -402,13 +403,13 @@ primary_place-location fold s marks lines spans are some none =
       | inl primary ↦
           let a = member-passing (λ a. is_primary a.kind) marks primary in
           let named = named-by primary_parts (λ a. is_primary a.kind) fold s marks a.0 spans (chooses-primary s marks spans none) a.1 a.2 in
-          known (primary_place (annotated_lines fold s marks)) named.0 (ap (λ o.
-          option_or o (first_place (least_place all_parts) (annotated_lines fold s marks))) named.1) (named-primary s marks named.0 primary named.2)
+          known (primary_place (annotated_lines fold s marks)) named.0 (primary-is (annotated_lines fold s marks) ∙ ap (λ o.
+          option_or o (first_place (choice_place all_parts) (annotated_lines fold s marks))) named.1) (named-primary s marks named.0 primary named.2)
       | inr other ↦
           let a = member-passing (λ a. is_marking a.kind) marks some in
           let named = named-by all_parts (λ a. is_marking a.kind) fold s marks a.0 spans (chooses-all s marks spans none) a.1 a.2 in
-          known (primary_place (annotated_lines fold s marks)) named.0 (ap (λ o.
-          option_or o (first_place (least_place all_parts) (annotated_lines fold s marks))) (no-primary s marks fold spans none other) ∙ named.1)
+          known (primary_place (annotated_lines fold s marks)) named.0 (primary-is (annotated_lines fold s marks) ∙ ap (λ o.
+          option_or o (first_place (choice_place all_parts) (annotated_lines fold s marks))) (no-primary s marks fold spans none other) ∙ named.1)
           (named-context s marks named.0 other named.2)
     ])
   where

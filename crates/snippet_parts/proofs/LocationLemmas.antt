@@ -11,8 +11,8 @@ use Rattle.snippet_parts.specs.declared.entries.AnnotatedLineInfo.{AnnotatedLine
 use Rattle.snippet_parts.specs.declared.location.Location.{Location}
 use Rattle.snippet_parts.specs.Annotated.{KeptLine, seen_kept}
 use Rattle.snippet_parts.specs.Least.{least}
-use Rattle.snippet_parts.specs.Location.{first_place}
 use Rattle.snippet_parts.proofs.LeastLemmas.{least-push}
+use Rattle.snippet_parts.proofs.LocationWords.{first_place}
 
 -- ---- lines
 

@@ -5,7 +5,7 @@ use Rattle.std.specs.List.Sorted.{IsNonDecreasingBy, IsSortedBy}
 use Rattle.std.specs.Ordering.{is_lt, ordering_then, nat_cmp}
 use Rattle.std.proofs.lemmas.Bool.Decides.{nat_tests}
 use Rattle.snippet_parts.specs.declared.long_spans.LongSpan.{LongSpan}
-use Rattle.snippet_parts.specs.Annotated.{long_entry, is_long, stands_before}
+use Rattle.snippet_parts.specs.Annotated.{long_entry, is_long}
 use Rattle.snippet_lines.specs.OrderedBy.{ordered_by}
 use Rattle.snippet_parts.specs.Located.{AreBars}
 use Rattle.snippet_parts.specs.LongSpans.{seen_long, HasFit}
@@ -18,6 +18,7 @@ use Rattle.snippet_parts.proofs.MarkLemmas.{start-line, end-line}
 use Rattle.snippet_lines.proofs.PlaceLemmas.{line_of-mono, line_of-within}
 use Rattle.snippet_lines.proofs.OrderLemmas.{map-ordered_by}
 use Rattle.std.proofs.lemmas.List.Sorted.{sorted_far}
+use Rattle.snippet_parts.proofs.PartWords.{stands_before}
 
 -- which of two spans of several lines comes first
 abbrev pub long_before : LongSpan → LongSpan → Bool

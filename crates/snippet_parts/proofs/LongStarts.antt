@@ -11,13 +11,14 @@ use Rattle.snippet_lines.specs.Lines.{Source}
 use Rattle.snippet_lines.specs.Place.{start_location}
 use Rattle.snippet_parts.specs.declared.depths.LongExtent.{LongExtent}
 use Rattle.snippet_parts.specs.declared.entries.LineAnnotationType.TheVariants.{Singleline, MultilineEnd}
-use Rattle.snippet_parts.specs.Annotated.{PartEntry, long_place, long_parts, promoted, is_promoted, span_parts, stands_among, start_part, bar_part, end_part}
+use Rattle.snippet_parts.specs.Annotated.{PartEntry, long_place, long_parts, promoted, span_parts, start_part, bar_part, end_part}
 use Rattle.snippet_parts.specs.Annotated.{bar_lines}
 use Rattle.snippet_parts.specs.Depths.{depth_among, same_place}
 use Rattle.snippet_parts.specs.Marked.{Entry}
 use Rattle.snippet_parts.proofs.AmongLemmas.{Among, among_left, among_right, any_among, any_cases, append_cases}
 use Rattle.snippet_parts.proofs.PartLemmas.{HoldsOfSpan, IsBarLine, bar_lines-stand, span-all}
 use Rattle.snippet_parts.proofs.RawDepthLemmas.{same-refl, same-true}
+use Rattle.snippet_parts.proofs.PartWords.{is_promoted, stands_among}
 
 -- ---- places
 

@@ -5,9 +5,10 @@ use Rattle.snippet_model.specs.declared.snippet.Annotation.{Annotation}
 use Rattle.snippet_lines.specs.declared.place.Loc.{Loc}
 use Rattle.snippet_lines.specs.Lines.{Source, source_lines}
 use Rattle.snippet_lines.specs.Place.{line_of, location_of, place_of, start_location, end_location, locations_of}
-use Rattle.snippet_parts.specs.Marked.{first_line, last_line, entry_of}
+use Rattle.snippet_parts.specs.Marked.{first_line, last_line}
 use Rattle.snippet_parts.specs.Mark.{is_marking, is_marked_on}
 use Rattle.snippet_lines.proofs.PlaceLemmas.{start_location-line, start_location-column, end_location-line, end_location_column}
+use Rattle.snippet_parts.proofs.PartWords.{entry_of}
 
 -- ---- the locations of a span
 

@@ -19,12 +19,11 @@ use Rattle.snippet_lines.specs.Span.{IsSpan, IsSpanBorder}
 use Rattle.snippet_lines.proofs.LinesLemmas.{IsUtf8-text_at}
 use Rattle.snippet_lines.proofs.PlaceLemmas.{IsCharBoundary-prefix, line_of-mono, line_of-within, locations_of-start, place_of-character, start_location-line}
 use Rattle.snippet_parts.specs.declared.location.Location.{Location}
-use Rattle.snippet_parts.specs.Annotated.{PartEntry, KeptLine, annotated_lines, is_long, is_short, kept_line, long_entry, long_parts, long_place, long_places}
-use Rattle.snippet_parts.specs.Annotated.{long_spans, made_parts, parts_on, single_part, stands_before}
+use Rattle.snippet_parts.specs.Annotated.{PartEntry, KeptLine, annotated_lines, is_long, kept_line, long_entry, long_parts, long_place}
+use Rattle.snippet_parts.specs.Annotated.{long_spans, made_parts, parts_on, single_part}
 use Rattle.snippet_parts.specs.Kept.{kept_lines}
 use Rattle.snippet_parts.specs.Entries.{Ascends}
-use Rattle.snippet_parts.specs.Location.{all_parts, first_place, least_place, marked_starts, naming_start, place_at, primary_place, primary_starts}
-use Rattle.snippet_parts.specs.Location.{start_columns}
+use Rattle.snippet_parts.specs.Location.{marked_starts, naming_start, place_at, primary_place, primary_starts}
 use Rattle.snippet_parts.specs.Mark.{is_marking, is_single_line}
 use Rattle.snippet_parts.specs.Marked.{Entry, first_line, last_line}
 use Rattle.snippet_parts.specs.Least.{least}
@@ -32,9 +31,11 @@ use Rattle.snippet_parts.proofs.AmongLemmas.{Among, all_among, among_filter, amo
 use Rattle.snippet_parts.proofs.AmongLemmas.{in_order_cases, least-among, least_le, map_cases}
 use Rattle.snippet_parts.proofs.KeptPartLemmas.{lines_ordered}
 use Rattle.snippet_parts.proofs.LocationLaws.{ascends-head, ascends-tail, first-none, least-first}
+use Rattle.snippet_parts.proofs.LocationWords.{all_parts, choice_place, first_place, primary-is, start_columns}
 use Rattle.snippet_parts.proofs.LongStarts.{IsBy, IsChoice, IsReached, IsSeen, StandsAt, by-same, reached, same_start, started}
 use Rattle.snippet_parts.proofs.MarkLemmas.{end-line, start-line}
 use Rattle.snippet_parts.proofs.ShownFacts.{contains-cases, contains-here, contains-there, first_kept, kept-ascends}
+use Rattle.snippet_parts.proofs.PartWords.{is_short, long_places, stands_before}
 
 -- ---- lists
 
@@ -345,9 +346,9 @@ least-there t choice s marks spans a least-start =
 -- the first line with an entry of the choice is that of the span, and the least column there its column
 first_place-start : (t : AnnotationKind → Bool) → IsChoice t → (fold : Bool) (s : Source) (marks : List Annotation)
     → ((a : Annotation) → Among marks a → IsSpan s.text a.span.start a.span.end) → (a : Annotation) → IsFirstStart t s marks a
-    → first_place (least_place (chosen t)) (annotated_lines fold s marks) ≡ Some (place_at s a.span.start)
+    → first_place (choice_place (chosen t)) (annotated_lines fold s marks) ≡ Some (place_at s a.span.start)
 first_place-start t choice fold s marks spans a first =
-    first_is (least_place (chosen t)) (kept_line s marks) (kept_lines fold s.text marks) (first_line s.text a) (place_at s a.span.start)
+    first_is (choice_place (chosen t)) (kept_line s marks) (kept_lines fold s.text marks) (first_line s.text a) (place_at s a.span.start)
     (kept-ascends fold s.text marks) (first_kept fold s.text marks a (among_contains marks a first.among) (spans a first.among))
     (ap (option_map (λ column. record { line = s.first + first_line s.text a; column = Some column })) (least-there t choice s marks spans a first)
     ∙ ap (λ n. Some (record { line = n; column = Some ((start_location s a.span.start).char + 1) })) (sym (start_location-line s a.span.start)))
@@ -358,9 +359,9 @@ first_place-start t choice fold s marks spans a first =
 no_start : (t : AnnotationKind → Bool) → IsChoice t → (fold : Bool) (s : Source) (marks : List Annotation)
     → ((a : Annotation) → Among marks a → IsSpan s.text a.span.start a.span.end)
     → ((a : Annotation) → Among marks a → is_marking a.kind ≡ true → t a.kind ≡ true → ⊥)
-    → first_place (least_place (chosen t)) (annotated_lines fold s marks) ≡ None
+    → first_place (choice_place (chosen t)) (annotated_lines fold s marks) ≡ None
 no_start t choice fold s marks spans none =
-    first-none (least_place (chosen t)) (kept_line s marks) (kept_lines fold s.text marks) (λ k.
+    first-none (choice_place (chosen t)) (kept_line s marks) (kept_lines fold s.text marks) (λ k.
     ap (λ ps. option_map (λ column. record { line = s.first + k; column = Some column }) (least (start_columns ps)))
     (none-among (chosen t (parts_on s marks k)) (λ p among.
     let on = on_line t s marks k p among in
@@ -379,7 +380,7 @@ record IsTestOf (test : Annotation → Bool) (t : AnnotationKind → Bool) : Typ
 start-named : (test : Annotation → Bool) (t : AnnotationKind → Bool) → IsTestOf test t → IsChoice t
     → (fold : Bool) (s : Source) (marks : List Annotation) → IsUtf8 s.text
     → ((a : Annotation) → Among marks a → IsSpan s.text a.span.start a.span.end)
-    → first_place (least_place (chosen t)) (annotated_lines fold s marks) ≡ option_map (place_at s)
+    → first_place (choice_place (chosen t)) (annotated_lines fold s marks) ≡ option_map (place_at s)
     (least (map (λ (a : Annotation). a.span.start) (filter test marks)))
 start-named test t is choice fold s marks utf8 spans = by (filter test marks) refl
   where
@@ -387,7 +388,7 @@ start-named test t is choice fold s marks utf8 spans = by (filter test marks) re
     start a = a.span.start
 
     found : (a : Annotation) (others : List Annotation) → filter test marks ≡ a ∷ others
-        → first_place (least_place (chosen t)) (annotated_lines fold s marks)
+        → first_place (choice_place (chosen t)) (annotated_lines fold s marks)
         ≡ option_map (place_at s) (least (map (λ (a : Annotation). a.span.start) (filter test marks)))
     found a others are =
         let low = least-first (λ (a : Annotation). a.span.start) a others in
@@ -403,7 +404,7 @@ start-named test t is choice fold s marks utf8 spans = by (filter test marks) re
         ∙ sym (ap (λ xs. option_map (place_at s) (least (map (λ (a : Annotation). a.span.start) xs))) are ∙ ap (option_map (place_at s)) low.1.is)
 
     by : (xs : List Annotation) → filter test marks ≡ xs
-        → first_place (least_place (chosen t)) (annotated_lines fold s marks)
+        → first_place (choice_place (chosen t)) (annotated_lines fold s marks)
         ≡ option_map (place_at s) (least (map (λ (a : Annotation). a.span.start) (filter test marks)))
     by [] are =
         no_start t choice fold s marks spans (λ a among marked passes. subst (λ xs. Among xs a) are (among_filter test marks a among (is.all a marked passes)))
@@ -427,24 +428,14 @@ primary-test = record { marked = λ a is. marked a.kind is; passes = λ a is. is
 any-test : IsTestOf (λ a. is_marking a.kind) (λ k. true)
 any-test = record { marked = λ a is. is; passes = λ a is. refl; all = λ a marked is. marked }
 
-all-chosen : (parts : List PartEntry) → chosen (λ k. true) parts ≡ parts
-all-chosen [] = refl
-all-chosen (p ∷ parts) = ap (λ ps. p ∷ ps) (all-chosen parts)
-
-all-places : (lines : List KeptLine) → first_place (least_place all_parts) lines ≡ first_place (least_place (chosen (λ k. true))) lines
-all-places [] = refl
-all-places (line ∷ lines) =
-    ap (λ ps. option_or (option_map (λ column. record { line = line.number; column = Some column }) (least (start_columns ps)))
-    (first_place (least_place all_parts) lines)) (sym (all-chosen line.parts)) ∙ ap (option_or (least_place (chosen (λ k. true)) line)) (all-places lines)
-
 -- the place that the head of a primary snippet names is that of the first byte at which a span starts that names it
 pub naming-place : (marks : List Annotation) (start : Option ℕ) → start ≡ naming_start marks → (fold : Bool) (s : Source) → IsUtf8 s.text
     → All (λ a. IsSpan s.text a.span.start a.span.end) marks → primary_place (annotated_lines fold s marks) ≡ option_map (place_at s) start
 naming-place marks start is fold s utf8 all =
-    ap (λ o. option_or o (first_place (least_place all_parts) (annotated_lines fold s marks)))
+    primary-is (annotated_lines fold s marks) ∙ ap (λ o. option_or o (first_place (choice_place all_parts) (annotated_lines fold s marks)))
     (start-named (λ a. is_primary a.kind) is_primary primary-test primary-choice fold s marks utf8 spans)
     ∙ ap (option_or (option_map (place_at s) (least (primary_starts marks))))
-    (all-places (annotated_lines fold s marks) ∙ start-named (λ a. is_marking a.kind) (λ k. true) any-test any-choice fold s marks utf8 spans)
+    (start-named (λ a. is_marking a.kind) (λ k. true) any-test any-choice fold s marks utf8 spans)
     ∙ either (least (primary_starts marks)) (least (marked_starts marks))
     ∙ ap (option_map (place_at s)) (sym is)
   where

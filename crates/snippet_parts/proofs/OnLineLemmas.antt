@@ -12,10 +12,10 @@ use Rattle.snippet_parts.specs.declared.depths.LongExtent.{LongExtent}
 use Rattle.snippet_parts.specs.declared.entries.AnnotatedLineInfo.{AnnotatedLineInfo}
 use Rattle.snippet_parts.specs.declared.entries.LineAnnotationType.TheVariants.{Singleline, MultilineStart, MultilineEnd}
 use Rattle.snippet_lines.specs.declared.place.Loc.{Loc}
-use Rattle.snippet_parts.specs.Annotated.{PartEntry, seen_part, KeptLine, seen_kept, kept_line, annotated_lines, is_short, is_long, long_entry, long_place}
-use Rattle.snippet_parts.specs.Annotated.{long_places, long_spans}
-use Rattle.snippet_parts.specs.Annotated.{long_parts, stands_before, stands_among, depth_of, single_part, start_part, end_part, span_parts}
-use Rattle.snippet_parts.specs.Annotated.{parts_on, promoted, is_promoted}
+use Rattle.snippet_parts.specs.Annotated.{PartEntry, seen_part, KeptLine, seen_kept, kept_line, annotated_lines, is_long, long_entry, long_place}
+use Rattle.snippet_parts.specs.Annotated.{long_spans}
+use Rattle.snippet_parts.specs.Annotated.{long_parts, depth_of, single_part, start_part, end_part, span_parts}
+use Rattle.snippet_parts.specs.Annotated.{parts_on, promoted}
 use Rattle.snippet_lines.specs.OrderedBy.{put_in, ordered_by}
 use Rattle.snippet_parts.specs.Depths.{depth_among, same_place}
 use Rattle.snippet_parts.specs.Entries.{Ascends}
@@ -36,6 +36,7 @@ use Rattle.snippet_parts.proofs.ShownFacts.{contains-cases, contains-filter, con
 use Rattle.snippet_lines.proofs.PlaceLemmas.{line_of-within}
 use Rattle.snippet_parts.proofs.StartByte.{start_byte as start-byte}
 use Rattle.snippet_parts.proofs.LongStarts.{promoted-start, promoted-end}
+use Rattle.snippet_parts.proofs.PartWords.{is_promoted, is_short, long_places, stands_among, stands_before}
 
 -- ---- elements
 

@@ -1,8 +1,8 @@
 -- What holds of each entry that is made: of those of each span.
-use Rattle.std.proofs.Common.{◌≡◌, ℕ, ◌+◌, ◌-◌, ◌<◌, ◌≤◌, Bool, true, false, ◌&&◌, cond, not, ltb, min, List, [], ◌∷◌, ◌++◌, map, get_or, ◌⊎◌, inl, inr, ◌||◌}
+use Rattle.std.proofs.Common.{◌≡◌, ℕ, ◌+◌, ◌-◌, ◌<◌, ◌≤◌, Bool, true, false, ◌&&◌, not, eqb, ltb, min, List, [], ◌∷◌, ◌++◌, map, get_or, ◌⊎◌, inl, inr, ◌||◌}
 use Rattle.std.proofs.Common.{refl, ap, arith}
 use Rattle.std.specs.List.{All, Contains, filter, list_any, range_with_len}
-use Rattle.std.proofs.lemmas.Bool.{cond_both, and_parts, ltb-true}
+use Rattle.std.proofs.lemmas.Bool.{cond_both, and_parts, eqb-true, or_cases}
 use Rattle.std.proofs.lemmas.List.Elements.{All-nil, All-cons, All-head, All-tail, All-append, All-map, All-weaker, All-contains_itself}
 use Rattle.std.proofs.lemmas.List.FromFn.{length-range_with_len, get_or-range_with_len}
 use Rattle.snippet_model.specs.declared.snippet.Annotation.{Annotation}
@@ -10,15 +10,16 @@ use Rattle.snippet_model.specs.declared.snippet.AnnotationKind.{AnnotationKind}
 use Rattle.snippet_model.specs.declared.snippet.AnnotationKind.TheVariants.{Primary}
 use Rattle.snippet_parts.specs.declared.depths.LongExtent.{LongExtent}
 use Rattle.snippet_parts.specs.declared.entries.LineAnnotationType.TheVariants.{Singleline, MultilineEnd}
-use Rattle.snippet_parts.specs.Annotated.{PartEntry, is_short, is_long, long_entry, long_place, long_places, long_spans, stands_before, depth_of, single_part}
-use Rattle.snippet_parts.specs.Annotated.{start_part, bar_part, end_part, bar_lines, span_parts, long_parts, made_parts, promoted, is_promoted}
+use Rattle.snippet_parts.specs.Annotated.{PartEntry, is_long, long_entry, long_place, long_spans, depth_of, single_part}
+use Rattle.snippet_parts.specs.Annotated.{start_part, bar_part, end_part, bar_lines, span_parts, long_parts, made_parts, promoted}
 use Rattle.snippet_lines.specs.OrderedBy.{ordered_by}
 use Rattle.snippet_parts.specs.Depths.{depth_among, same_place}
-use Rattle.snippet_parts.specs.Kept.{is_trivial_line}
+use Rattle.snippet_parts.specs.Kept.{has_bar, is_trivial_line}
 use Rattle.snippet_lines.specs.Lines.{Source}
 use Rattle.snippet_parts.specs.Marked.{Entry}
 use Rattle.snippet_lines.proofs.OrderLemmas.{All-put_in}
 pub use Rattle.snippet_lines.proofs.OrderLemmas.{filter-none}
+use Rattle.snippet_parts.proofs.PartWords.{is_promoted, is_short, long_places, stands_before}
 
 -- ---- lists
 
@@ -52,28 +53,29 @@ pub record IsBarLine (source : List ℕ) (first last k : ℕ) : Type 0 where
   pub from : first < k
   pub to : k ≤ last
   pub shown : (list_any (λ j. not (is_trivial_line source j)) (range_with_len k (min (first + 4) last - k)) ≡ true)
-      ⊎ ((k + 1 ≡ last) × (ltb (min (first + 4) last) k ≡ true) × (not (is_trivial_line source k) ≡ true))
+      ⊎ ((k + 1 ≡ last) × (ltb (first + 4) k ≡ true) × (not (is_trivial_line source k) ≡ true))
 
 -- each line of a bar lies where the span's bars may stand
 pub bar_lines-stand : (source : List ℕ) (first last : ℕ) → All (IsBarLine source first last) (bar_lines source first last)
 bar_lines-stand source first last =
-    let beginning : ℕ = min (first + 4) last in
-    let test = λ (k : ℕ). list_any (λ j. not (is_trivial_line source j)) (range_with_len k (beginning - k)) in
-    let closing : Bool = ltb beginning (last - 1) && not (is_trivial_line source (last - 1)) in
-    All-append (IsBarLine source first last) (filter test (range_with_len (first + 1) (beginning - first))) (cond closing ((last - 1) ∷ []) [])
-    (All-filtered test (IsBarLine source first last) (range_with_len (first + 1) (beginning - first))
-    (All-weaker (λ k. (first + 1 ≤ k) × (k < first + 1 + (beginning - first))) (λ k. test k ≡ true → IsBarLine source first last k)
-    (λ k within passes. record { from = omega (arith, within.0); to = omega (arith, within.1); shown = inl passes })
-    (range_with_len (first + 1) (beginning - first)) (All-range (first + 1) (beginning - first))))
-    (cond_both closing ((last - 1) ∷ []) [] (All (IsBarLine source first last)) (λ there.
-    All-cons (IsBarLine source first last) (last - 1) [] (last-bar there) (All-nil (IsBarLine source first last))) (λ _.
-    All-nil (IsBarLine source first last)))
+    All-filtered (has_bar source first last) (IsBarLine source first last) (range_with_len (first + 1) (last - (first + 1)))
+    (All-weaker (λ k. (first + 1 ≤ k) × (k < first + 1 + (last - (first + 1)))) (λ k. has_bar source first last k ≡ true → IsBarLine source first last k)
+    (λ k within passes. record { from = omega (arith, within.0); to = omega (arith, within.1); shown = shown k passes })
+    (range_with_len (first + 1) (last - (first + 1))) (All-range (first + 1) (last - (first + 1))))
   where
-    last-bar : (ltb (min (first + 4) last) (last - 1) && not (is_trivial_line source (last - 1))) ≡ true → IsBarLine source first last (last - 1)
-    last-bar there =
-        let parts = and_parts (ltb (min (first + 4) last) (last - 1)) (not (is_trivial_line source (last - 1))) there in
-        let less : min (first + 4) last < last - 1 = ltb-true (min (first + 4) last) (last - 1) parts.0 in
-        record { from = omega arith; to = omega arith; shown = inr (omega arith, parts.0, parts.1) }
+    shown : (k : ℕ) → has_bar source first last k ≡ true
+        → (list_any (λ j. not (is_trivial_line source j)) (range_with_len k (min (first + 4) last - k)) ≡ true)
+        ⊎ ((k + 1 ≡ last) × (ltb (first + 4) k ≡ true) × (not (is_trivial_line source k) ≡ true))
+    shown k passes =
+        let early : Bool = list_any (λ j. not (is_trivial_line source j)) (range_with_len k (min (first + 4) last - k)) in
+        let closes : Bool = eqb (k + 1) last && ltb (first + 4) k in
+        elim (or_cases early (closes && not (is_trivial_line source k)) passes) [
+          | inl t ↦ inl t
+          | inr t ↦
+              let parts = and_parts closes (not (is_trivial_line source k)) t in
+              let ends = and_parts (eqb (k + 1) last) (ltb (first + 4) k) parts.0 in
+              inr (eqb-true (k + 1) last ends.0, ends.1, parts.1)
+        ]
 
 -- ---- entries
 

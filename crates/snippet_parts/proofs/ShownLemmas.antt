@@ -7,13 +7,14 @@ use Rattle.std.proofs.lemmas.Bool.{cases_Bool, cases_lt, or_left, or_right, cond
 use Rattle.std.proofs.lemmas.List.{map-id}
 use Rattle.std.proofs.lemmas.List.FromFn.{map-range_with_len_more}
 use Rattle.snippet_model.specs.declared.snippet.Annotation.{Annotation}
-use Rattle.snippet_parts.specs.Annotated.{is_long, long_entry, long_place, long_places, long_spans, stands_before, depth_of, PartEntry, KeptLine}
+use Rattle.snippet_parts.specs.Annotated.{is_long, long_entry, long_place, long_spans, depth_of, PartEntry, KeptLine}
 use Rattle.snippet_lines.specs.OrderedBy.{put_in, ordered_by}
 use Rattle.snippet_lines.specs.Lines.{Source}
 use Rattle.snippet_parts.specs.Depths.{same_place, share_line}
 use Rattle.snippet_parts.proofs.DepthLemmas.{distinct-places}
 use Rattle.snippet_parts.proofs.RawDepthLemmas.{same-refl}
 use Rattle.snippet_parts.proofs.PartLemmas.{list_any-map}
+use Rattle.snippet_parts.proofs.PartWords.{long_places, stands_before}
 
 -- those that pass among the made elements are made from those whose made ones pass
 pub filter-map : {X Y : Type 0} (p : Y → Bool) (f : X → Y) (xs : List X) → filter p (map f xs) ≡ map f (filter (λ x. p (f x)) xs)

@@ -1,5 +1,5 @@
 -- The byte at which the entry of a span starts.
-use Rattle.std.proofs.Common.{◌≡◌, ◌-◌}
+use Rattle.std.proofs.Common.{◌≡◌}
 use Rattle.std.proofs.Common.{refl}
 use Rattle.snippet_model.specs.declared.snippet.Annotation.{Annotation}
 use Rattle.snippet_parts.specs.Annotated.{long_entry}

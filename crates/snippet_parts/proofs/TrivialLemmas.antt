@@ -2,35 +2,40 @@
 use Rattle.std.proofs.Common.{◌≡◌, ℕ, suc, ◌+◌, ◌<◌, Bool, true, false, ◌&&◌, ◌||◌, cond, not, eqb, List, [], ◌∷◌, ◌++◌, length, drop, get_or, reverse, inl}
 use Rattle.std.proofs.Common.{inr, ◌⊎◌, refl, sym, ap, subst, ◌∙◌, arith}
 use Rattle.std.specs.Char.{is_whitespace}
+use Rattle.std.specs.Str.{drop_trailing_whitespace, skip_leading_whitespace}
 use Rattle.std.proofs.lemmas.Bool.{cases_Bool, or_cases, cond-true, cond-false, eqb-true, ne_eqb}
 use Rattle.std.proofs.lemmas.List.{drop_more, drop_all, reverse-append}
 use Rattle.snippet_parts.specs.declared.trivial_lines.Seen.{Seen}
 use Rattle.snippet_parts.specs.declared.trivial_lines.Seen.TheVariants.{Nothing, Bracket, Slash, Slashes, Comment, Telling}
-use Rattle.snippet_parts.specs.Kept.{without_indent, trimmed, is_bracket, is_comment, is_trivial}
+use Rattle.snippet_parts.specs.Kept.{is_bracket, is_comment, is_trivial}
 use Rattle.snippet_parts.specs.Trivial.{step, is_trivial_whole}
 
 -- a text without the whitespace that it ends with
 without_tail : List ℕ → List ℕ
-without_tail cs = reverse (without_indent (reverse cs))
+without_tail cs = reverse (skip_leading_whitespace (reverse cs))
+
+-- a text without the whitespace at either end
+abbrev trimmed : List ℕ → List ℕ
+trimmed cs = reverse (skip_leading_whitespace (reverse (skip_leading_whitespace cs)))
 
 -- whether nothing but whitespace is left
 is_blank : List ℕ → Bool
 is_blank [] = true
 is_blank (c ∷ cs) = is_whitespace c && is_blank cs
 
-indent-push : (xs : List ℕ) (c : ℕ) → without_indent (xs ++ c ∷ []) ≡ cond (is_blank xs) (without_indent (c ∷ [])) (without_indent xs ++ c ∷ [])
+indent-push : (xs : List ℕ) (c : ℕ) → skip_leading_whitespace (xs ++ c ∷ []) ≡ cond (is_blank xs) (skip_leading_whitespace (c ∷ [])) (skip_leading_whitespace xs ++ c ∷ [])
 unfolding is_blank
 indent-push [] c = refl
 indent-push (x ∷ xs) c =
     elim (cases_Bool (is_whitespace x)) [
       | inl blank ↦
-          cond-true (is_whitespace x) (without_indent (xs ++ c ∷ [])) (x ∷ xs ++ c ∷ []) blank ∙ indent-push xs c
-          ∙ ap (λ ys. cond (is_blank xs) (without_indent (c ∷ [])) (ys ++ c ∷ [])) (sym (cond-true (is_whitespace x) (without_indent xs) (x ∷ xs) blank))
-          ∙ ap (λ b. cond (b && is_blank xs) (without_indent (c ∷ [])) (without_indent (x ∷ xs) ++ c ∷ [])) (sym blank)
+          cond-true (is_whitespace x) (skip_leading_whitespace (xs ++ c ∷ [])) (x ∷ xs ++ c ∷ []) blank ∙ indent-push xs c
+          ∙ ap (λ ys. cond (is_blank xs) (skip_leading_whitespace (c ∷ [])) (ys ++ c ∷ [])) (sym (cond-true (is_whitespace x) (skip_leading_whitespace xs) (x ∷ xs) blank))
+          ∙ ap (λ b. cond (b && is_blank xs) (skip_leading_whitespace (c ∷ [])) (skip_leading_whitespace (x ∷ xs) ++ c ∷ [])) (sym blank)
       | inr other ↦
-          cond-false (is_whitespace x) (without_indent (xs ++ c ∷ [])) (x ∷ xs ++ c ∷ []) other
-          ∙ ap (λ ys. ys ++ c ∷ []) (sym (cond-false (is_whitespace x) (without_indent xs) (x ∷ xs) other))
-          ∙ ap (λ b. cond (b && is_blank xs) (without_indent (c ∷ [])) (without_indent (x ∷ xs) ++ c ∷ [])) (sym other)
+          cond-false (is_whitespace x) (skip_leading_whitespace (xs ++ c ∷ [])) (x ∷ xs ++ c ∷ []) other
+          ∙ ap (λ ys. ys ++ c ∷ []) (sym (cond-false (is_whitespace x) (skip_leading_whitespace xs) (x ∷ xs) other))
+          ∙ ap (λ b. cond (b && is_blank xs) (skip_leading_whitespace (c ∷ [])) (skip_leading_whitespace (x ∷ xs) ++ c ∷ [])) (sym other)
     ]
 
 blank-push : (xs : List ℕ) (c : ℕ) → is_blank (xs ++ c ∷ []) ≡ (is_whitespace c && is_blank xs)
@@ -49,25 +54,25 @@ unfolding is_blank
 blank-reverse [] = refl
 blank-reverse (c ∷ cs) = ap is_blank (reverse-append (c ∷ []) cs) ∙ blank-push (reverse cs) c ∙ ap (λ b. is_whitespace c && b) (blank-reverse cs)
 
-tail-more : (c : ℕ) (cs : List ℕ) → without_tail (c ∷ cs) ≡ cond (is_blank cs) (reverse (without_indent (c ∷ []))) (c ∷ without_tail cs)
+tail-more : (c : ℕ) (cs : List ℕ) → without_tail (c ∷ cs) ≡ cond (is_blank cs) (reverse (skip_leading_whitespace (c ∷ []))) (c ∷ without_tail cs)
 unfolding without_tail
 tail-more c cs =
-    ap (λ xs. reverse (without_indent xs)) (reverse-append (c ∷ []) cs) ∙ ap reverse (indent-push (reverse cs) c)
-    ∙ ap (λ b. reverse (cond b (without_indent (c ∷ [])) (without_indent (reverse cs) ++ c ∷ []))) (blank-reverse cs)
+    ap (λ xs. reverse (skip_leading_whitespace xs)) (reverse-append (c ∷ []) cs) ∙ ap reverse (indent-push (reverse cs) c)
+    ∙ ap (λ b. reverse (cond b (skip_leading_whitespace (c ∷ [])) (skip_leading_whitespace (reverse cs) ++ c ∷ []))) (blank-reverse cs)
     ∙ parts (is_blank cs)
   where
     parts : (b : Bool)
-        → reverse (cond b (without_indent (c ∷ [])) (without_indent (reverse cs) ++ c ∷ []))
-        ≡ cond b (reverse (without_indent (c ∷ []))) (c ∷ reverse (without_indent (reverse cs)))
+        → reverse (cond b (skip_leading_whitespace (c ∷ [])) (skip_leading_whitespace (reverse cs) ++ c ∷ []))
+        ≡ cond b (reverse (skip_leading_whitespace (c ∷ []))) (c ∷ reverse (skip_leading_whitespace (reverse cs)))
     parts true = refl
-    parts false = reverse-append (without_indent (reverse cs)) (c ∷ [])
+    parts false = reverse-append (skip_leading_whitespace (reverse cs)) (c ∷ [])
 
 tail-blank : (cs : List ℕ) → is_blank cs ≡ true → without_tail cs ≡ []
 unfolding is_blank without_tail
 tail-blank [] blank = refl
 tail-blank (c ∷ cs) blank =
     elim (cases_Bool (is_whitespace c)) [
-      | inl white ↦ tail-more c cs ∙ cond-true (is_blank cs) (reverse (without_indent (c ∷ []))) (c ∷ without_tail cs)
+      | inl white ↦ tail-more c cs ∙ cond-true (is_blank cs) (reverse (skip_leading_whitespace (c ∷ []))) (c ∷ without_tail cs)
           (second (is_whitespace c) (is_blank cs) blank) ∙ ap reverse (cond-true (is_whitespace c) [] (c ∷ []) white)
       | inr other ↦ cc
     ]
@@ -80,9 +85,9 @@ tail-blank (c ∷ cs) blank =
 tail-other : (c : ℕ) (cs : List ℕ) → is_whitespace c ≡ false → without_tail (c ∷ cs) ≡ c ∷ without_tail cs
 tail-other c cs other =
     elim (cases_Bool (is_blank cs)) [
-      | inl blank ↦ tail-more c cs ∙ cond-true (is_blank cs) (reverse (without_indent (c ∷ []))) (c ∷ without_tail cs) blank
+      | inl blank ↦ tail-more c cs ∙ cond-true (is_blank cs) (reverse (skip_leading_whitespace (c ∷ []))) (c ∷ without_tail cs) blank
           ∙ ap reverse (cond-false (is_whitespace c) [] (c ∷ []) other) ∙ ap (λ xs. c ∷ xs) (sym (tail-blank cs blank))
-      | inr some ↦ tail-more c cs ∙ cond-false (is_blank cs) (reverse (without_indent (c ∷ []))) (c ∷ without_tail cs) some
+      | inr some ↦ tail-more c cs ∙ cond-false (is_blank cs) (reverse (skip_leading_whitespace (c ∷ []))) (c ∷ without_tail cs) some
     ]
 
 -- any character is left out with what is after it, or stays
@@ -90,19 +95,19 @@ tail-cases : (c : ℕ) (cs : List ℕ) → (without_tail (c ∷ cs) ≡ []) ⊎ 
 tail-cases c cs =
     elim (cases_Bool (is_whitespace c)) [
       | inl white ↦ elim (cases_Bool (is_blank cs)) [
-        | inl blank ↦ inl (tail-more c cs ∙ cond-true (is_blank cs) (reverse (without_indent (c ∷ []))) (c ∷ without_tail cs) blank
+        | inl blank ↦ inl (tail-more c cs ∙ cond-true (is_blank cs) (reverse (skip_leading_whitespace (c ∷ []))) (c ∷ without_tail cs) blank
             ∙ ap reverse (cond-true (is_whitespace c) [] (c ∷ []) white))
-        | inr some ↦ inr (tail-more c cs ∙ cond-false (is_blank cs) (reverse (without_indent (c ∷ []))) (c ∷ without_tail cs) some)
+        | inr some ↦ inr (tail-more c cs ∙ cond-false (is_blank cs) (reverse (skip_leading_whitespace (c ∷ []))) (c ∷ without_tail cs) some)
       ]
       | inr other ↦ inr (tail-other c cs other)
     ]
 
 trimmed-white : (c : ℕ) (cs : List ℕ) → is_whitespace c ≡ true → trimmed (c ∷ cs) ≡ trimmed cs
-trimmed-white c cs white = ap (λ xs. reverse (without_indent (reverse xs))) (cond-true (is_whitespace c) (without_indent cs) (c ∷ cs) white)
+trimmed-white c cs white = ap (λ xs. reverse (skip_leading_whitespace (reverse xs))) (cond-true (is_whitespace c) (skip_leading_whitespace cs) (c ∷ cs) white)
 
 trimmed-other : (c : ℕ) (cs : List ℕ) → is_whitespace c ≡ false → trimmed (c ∷ cs) ≡ c ∷ without_tail cs
 unfolding without_tail
-trimmed-other c cs other = ap (λ xs. reverse (without_indent (reverse xs))) (cond-false (is_whitespace c) (without_indent cs) (c ∷ cs) other)
+trimmed-other c cs other = ap (λ xs. reverse (skip_leading_whitespace (reverse xs))) (cond-false (is_whitespace c) (skip_leading_whitespace cs) (c ∷ cs) other)
     ∙ tail-other c cs other
 
 -- ---- what is left to be read
@@ -120,10 +125,6 @@ trivial_after Telling cs = false
 trivial_trimmed : List ℕ → Bool
 trivial_trimmed cs = eqb (length cs) 0 || is_bracket cs || is_comment cs
 
-trivial-is : (cs ts : List ℕ) → trimmed cs ≡ ts → is_trivial cs ≡ trivial_trimmed ts
-unfolding trivial_trimmed
-trivial-is cs ts is = ap trivial_trimmed is
-
 some-length : (n : ℕ) → eqb (suc n) 0 ≡ false
 some-length n = ne_eqb (suc n) 0 (λ e. absurd (omega arith))
 
@@ -138,20 +139,35 @@ tail-length [] = refl
 tail-length (c ∷ cs) =
     elim (cases_Bool (is_blank cs)) [
       | inl blank ↦
-          ap (λ xs. eqb (length xs) 0) (tail-more c cs ∙ cond-true (is_blank cs) (reverse (without_indent (c ∷ []))) (c ∷ without_tail cs) blank)
+          ap (λ xs. eqb (length xs) 0) (tail-more c cs ∙ cond-true (is_blank cs) (reverse (skip_leading_whitespace (c ∷ []))) (c ∷ without_tail cs) blank)
           ∙ elim (cases_Bool (is_whitespace c)) [
             | inl white ↦ ap (λ xs. eqb (length (reverse xs)) 0) (cond-true (is_whitespace c) [] (c ∷ []) white)
                 ∙ sym (ap (λ b. b && is_blank cs) white ∙ blank)
             | inr other ↦ ap (λ xs. eqb (length (reverse xs)) 0) (cond-false (is_whitespace c) [] (c ∷ []) other) ∙ sym (ap (λ b. b && is_blank cs) other)
           ]
       | inr some ↦
-          ap (λ xs. eqb (length xs) 0) (tail-more c cs ∙ cond-false (is_blank cs) (reverse (without_indent (c ∷ []))) (c ∷ without_tail cs) some)
+          ap (λ xs. eqb (length xs) 0) (tail-more c cs ∙ cond-false (is_blank cs) (reverse (skip_leading_whitespace (c ∷ []))) (c ∷ without_tail cs) some)
           ∙ some-length (length (without_tail cs)) ∙ sym (ap (λ b. is_whitespace c && b) some ∙ nothing (is_whitespace c))
     ]
   where
     nothing : (b : Bool) → (b && false) ≡ false
     nothing true = refl
     nothing false = refl
+
+tail-drop : (cs : List ℕ) → drop_trailing_whitespace cs ≡ without_tail cs
+unfolding without_tail
+tail-drop [] = refl
+tail-drop (c ∷ cs) =
+    ap (λ ts. cond (is_whitespace c && eqb (length ts) 0) [] (c ∷ ts)) (tail-drop cs)
+    ∙ ap (λ b. cond (is_whitespace c && b) [] (c ∷ without_tail cs)) (tail-length cs) ∙ elim (cases_Bool (is_whitespace c)) [
+      | inl white ↦ ap (λ b. cond (b && is_blank cs) [] (c ∷ without_tail cs)) white
+          ∙ sym (tail-more c cs ∙ ap (λ ts. cond (is_blank cs) (reverse ts) (c ∷ without_tail cs)) (cond-true (is_whitespace c) [] (c ∷ []) white))
+      | inr other ↦ ap (λ b. cond (b && is_blank cs) [] (c ∷ without_tail cs)) other ∙ sym (tail-other c cs other)
+    ]
+
+trivial-is : (cs ts : List ℕ) → trimmed cs ≡ ts → is_trivial cs ≡ trivial_trimmed ts
+unfolding trivial_trimmed without_tail
+trivial-is cs ts is = ap trivial_trimmed (tail-drop (skip_leading_whitespace cs) ∙ is)
 
 not-comment : (c : ℕ) (ts : List ℕ) → eqb c 47 ≡ false → is_comment (c ∷ ts) ≡ false
 not-comment c [] other = refl

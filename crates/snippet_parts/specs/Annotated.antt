@@ -1,5 +1,5 @@
 -- The entries of annotations on the lines that they touch, spans of several lines among them.
-use Rattle.std.specs.Prelude.{ℕ, ◌+◌, ◌-◌, ◌==◌, ◌&&◌, ◌||◌, nat_lt, min, Bool, not, List, [], ◌∷◌, ◌++◌, None, map, filter, if◌then◌else◌}
+use Rattle.std.specs.Prelude.{ℕ, ◌+◌, ◌-◌, ◌==◌, ◌&&◌, ◌||◌, nat_lt, Bool, not, List, [], ◌∷◌, ◌++◌, None, map, filter, if◌then◌else◌}
 use Rattle.std.specs.List.{list_any, range_with_len}
 use Rattle.std.specs.Option.{option_map}
 use Rattle.std.specs.Cow.{cow_str_bytes}
@@ -12,12 +12,12 @@ use Rattle.snippet_parts.specs.declared.entries.LineAnnotation.{LineAnnotation}
 use Rattle.snippet_parts.specs.declared.entries.LineAnnotationType.{LineAnnotationType}
 use Rattle.snippet_parts.specs.declared.entries.LineAnnotationType.TheVariants.{Singleline, MultilineStart, MultilineEnd, MultilineLine}
 use Rattle.snippet_lines.specs.declared.place.Loc.{Loc}
-use Rattle.snippet_parts.specs.Depths.{same_place, comes_before, greatest_depth, depth_among}
-use Rattle.snippet_parts.specs.Kept.{is_trivial_line, kept_lines}
+use Rattle.snippet_parts.specs.Depths.{same_place, greatest_depth, depth_among}
+use Rattle.snippet_parts.specs.Kept.{has_bar, kept_lines}
 use Rattle.snippet_lines.specs.Lines.{source_lines, text_at, Source}
 use Rattle.snippet_lines.specs.OrderedBy.{ordered_by}
 use Rattle.snippet_parts.specs.Mark.{is_marking, is_single_line, touches}
-use Rattle.snippet_parts.specs.Marked.{Entry, seen_entry, entry_of}
+use Rattle.snippet_parts.specs.Marked.{Entry, seen_entry, widened}
 use Rattle.snippet_lines.specs.Place.{locations_of}
 
 -- an entry, and the part of a span that it stands for
@@ -30,7 +30,7 @@ seen_part e = record { entry = seen_entry e; part = e.annotation_type }
 
 -- ---- spans of several lines, in order
 
--- a span of several lines as it is seen: from its start to its end
+-- a span as it is seen, from its start to its end
 abbrev pub long_entry : Source → Annotation → Entry
 long_entry s a =
     let at = locations_of s a.span.start a.span.end in
@@ -44,49 +44,35 @@ long_place e = record { from = e.start.byte; to = e.end.byte; first = e.start.li
 abbrev pub is_long : List ℕ → Annotation → Bool
 is_long source a = is_marking a.kind && not (is_single_line source a)
 
--- spans of several lines in their order: by first line, then the one with the later last line, else as given
-abbrev pub stands_before : Entry → Entry → Bool
-stands_before d e = comes_before (long_place d) (long_place e)
-
--- the spans of several lines of a source, in their order
+-- the spans of several lines of a source, in their order: by first line, then the one with the later last line, else as given
 abbrev pub long_spans : Source → List Annotation → List Entry
-long_spans s marks = ordered_by stands_before (map (long_entry s) (filter (is_long s.text) marks))
-
--- the places of those, in the same order
-abbrev pub long_places : Source → List Annotation → List LongExtent
-long_places s marks = map long_place (long_spans s marks)
+long_spans s marks =
+    ordered_by (λ d e. nat_lt d.start.line e.start.line || d.start.line == e.start.line && nat_lt e.end.line d.end.line)
+    (map (long_entry s) (filter (is_long s.text) marks))
 
 -- the depth of an annotation of several lines, and the greatest one
 abbrev pub depth_of : Source → List Annotation → Annotation → ℕ
-depth_of s marks a = depth_among (long_places s marks) (long_place (long_entry s a))
+depth_of s marks a = depth_among (map long_place (long_spans s marks)) (long_place (long_entry s a))
 
 abbrev pub deepest : Source → List Annotation → ℕ
-deepest s marks = greatest_depth (long_places s marks)
+deepest s marks = greatest_depth (map long_place (long_spans s marks))
 
 -- ---- entries
 
--- the lines after the first beside which a span of several lines has bars, from 0: in its beginning up to the last one
--- that isn't trivial, and the line before its last, if that lies after it and isn't trivial
+-- the lines between the first and the last of a span of several lines beside which it has bars, from 0
 abbrev pub bar_lines : List ℕ → ℕ → ℕ → List ℕ
-bar_lines source first last =
-    let beginning = min (first + 4) last in
-    filter (λ k. list_any (λ j. not (is_trivial_line source j)) (range_with_len k (beginning - k))) (range_with_len (first + 1) (beginning - first))
-    ++ (if nat_lt beginning (last - 1) && not (is_trivial_line source (last - 1)) then (last - 1) ∷ [] else [])
+bar_lines source first last = filter (has_bar source first last) (range_with_len (first + 1) (last - (first + 1)))
 
--- the entry of a span on one line
+-- the entry of a span on one line: at least one column wide
 abbrev pub single_part : Source → Annotation → PartEntry
-single_part s a = record { entry = entry_of s a; part = Singleline }
+single_part s a =
+    let e = long_entry s a in
+    record { entry = record e { end = widened e.start e.end }; part = Singleline }
 
 -- the entry on the first line of a span of several lines: one column and one character wide, without the label
 abbrev pub start_part : Entry → ℕ → PartEntry
 start_part e depth =
-    record {
-      entry = record e {
-        end = record { line = e.start.line; char = e.start.char + 1; display = e.start.display + 1; byte = e.start.byte };
-        label = None;
-      };
-      part = MultilineStart depth;
-    }
+    record { entry = record e { end = record e.start { char = e.start.char + 1; display = e.start.display + 1 }; label = None }; part = MultilineStart depth }
 
 -- a bar beside the line of a number: no columns, and no label
 abbrev pub bar_part : Entry → ℕ → ℕ → PartEntry
@@ -96,8 +82,7 @@ bar_part e depth number =
 
 -- the entry on the last line: the column and the character before the end, if there are any
 abbrev pub end_part : Entry → LineAnnotationType → PartEntry
-end_part e part =
-    record { entry = record e { start = record { line = e.end.line; char = e.end.char - 1; display = e.end.display - 1; byte = e.end.byte } }; part = part }
+end_part e part = record { entry = record e { start = record e.end { char = e.end.char - 1; display = e.end.display - 1 } }; part = part }
 
 -- the entries of a span of several lines: where a later one has its place it has a single-line entry at its end alone
 abbrev pub span_parts : Source → ℕ → Bool → Entry → List PartEntry
@@ -106,33 +91,23 @@ span_parts s depth again e =
     else start_part e depth ∷ (map (λ k. bar_part e depth (s.first + k)) (bar_lines s.text (e.start.line - s.first) (e.end.line - s.first))
     ++ end_part e (MultilineEnd depth) ∷ [])
 
--- whether a span has the place of one of some others
-abbrev pub stands_among : Entry → List Entry → Bool
-stands_among e ds = list_any (λ d. same_place (long_place e) (long_place d)) ds
-
 -- a span as it is drawn: primary where it is, or one before it that has its place
-abbrev pub is_promoted : List Entry → Entry → Bool
-is_promoted before e =
-    is_primary e.kind || list_any (λ d. is_primary d.kind && same_place (long_place e) (long_place d)) before
-
--- the span with the kind with which it is drawn
 abbrev pub promoted : List Entry → Entry → Entry
-promoted before e = if is_promoted before e then record e { kind = Primary } else e
+promoted before e =
+    if is_primary e.kind || list_any (λ d. is_primary d.kind && same_place (long_place e) (long_place d)) before then record e { kind = Primary } else e
 
 -- the entries of spans of several lines in their order, all of which have these places
 abbrev pub long_parts : Source → List LongExtent → List Entry → List Entry → List PartEntry
 long_parts s places before [] = []
 long_parts s places before (e ∷ later) =
-    span_parts s (depth_among places (long_place e)) (stands_among e later) (promoted before e) ++ long_parts s places (before ++ e ∷ []) later
+    span_parts s (depth_among places (long_place e)) (list_any (λ d. same_place (long_place e) (long_place d)) later) (promoted before e)
+    ++ long_parts s places (before ++ e ∷ []) later
 
--- whether an annotation is a span on one line of a kind that is marked
-abbrev pub is_short : List ℕ → Annotation → Bool
-is_short source a = is_marking a.kind && is_single_line source a
-
--- all entries in the order made: those of spans on one line as given, then those of spans of several lines
+-- all entries in the order made: those of marked spans on one line as given, then those of spans of several lines
 abbrev pub made_parts : Source → List Annotation → List PartEntry
 made_parts s marks =
-    map (single_part s) (filter (is_short s.text) marks) ++ long_parts s (long_places s marks) [] (long_spans s marks)
+    let longs = long_spans s marks in
+    map (single_part s) (filter (λ a. is_marking a.kind && is_single_line s.text a) marks) ++ long_parts s (map long_place longs) [] longs
 
 -- ---- lines
 
@@ -152,13 +127,8 @@ seen_kept info = record { number = info.line_index; text = info.line.now; parts 
 
 abbrev pub kept_line : Source → List Annotation → ℕ → KeptLine
 kept_line s marks k =
-    record {
-      number = s.first + k;
-      text = text_at (source_lines s.text) k;
-      parts = parts_on s marks k;
-      keep = list_any (λ a.
-          not (is_marking a.kind) && touches s.text a k) marks;
-    }
+    let keep = list_any (λ a. not (is_marking a.kind) && touches s.text a k) marks in
+    record { number = s.first + k; text = text_at (source_lines s.text) k; parts = parts_on s marks k; keep = keep }
 
 -- the lines that are kept, each with its entries
 abbrev pub annotated_lines : Bool → Source → List Annotation → List KeptLine

@@ -1,5 +1,5 @@
 -- The depths of spans of several lines: how far right the bar of each stands.
-use Rattle.std.specs.Prelude.{◌≡◌, ℕ, ◌+◌, ◌-◌, ◌≤◌, ◌==◌, ◌&&◌, ◌||◌, ◌⊎◌, nat_lt, nat_le, max, Bool, true, List, [], ◌∷◌, length, if◌then◌else◌}
+use Rattle.std.specs.Prelude.{◌≡◌, ℕ, ◌+◌, ◌-◌, ◌≤◌, ◌==◌, ◌&&◌, ◌⊎◌, nat_le, max, Bool, true, List, [], ◌∷◌, length, if◌then◌else◌}
 use Rattle.std.specs.List.{list_any}
 use Rattle.snippet_parts.specs.declared.depths.LongExtent.{LongExtent}
 
@@ -10,10 +10,6 @@ same_place p q = p.from == q.from && (p.to == q.to && (p.first == q.first && p.l
 -- whether two such places share a line
 abbrev pub share_line : LongExtent → LongExtent → Bool
 share_line p q = nat_le p.first q.last && nat_le q.first p.last
-
--- whether a place comes before another: by first line, then the one with the later last line
-abbrev pub comes_before : LongExtent → LongExtent → Bool
-comes_before p q = nat_lt p.first q.first || p.first == q.first && nat_lt q.last p.last
 
 -- the places of some spans, each once: where the last span of that place stands
 abbrev pub places_of : List LongExtent → List LongExtent

@@ -44,17 +44,13 @@ Ascends ks = (i j d : ℕ) → i < j → j < length ks → slice_index_or ks i d
 
 -- whether an entry stands for a bar, which has no columns of its own
 abbrev pub is_bar : LineAnnotationType → Bool
-is_bar Singleline = false
-is_bar (MultilineStart depth) = false
-is_bar (MultilineEnd depth) = false
 is_bar (MultilineLine depth) = true
+is_bar other = false
 
 -- whether an entry stands for a whole span, and not for the start, the end or a bar of one of several lines
 abbrev pub is_single_part : LineAnnotationType → Bool
 is_single_part Singleline = true
-is_single_part (MultilineStart depth) = false
-is_single_part (MultilineEnd depth) = false
-is_single_part (MultilineLine depth) = false
+is_single_part other = false
 
 -- whether an entry stands for a whole span that is wide, in a room of so many columns: it covers more than twice as many,
 -- and more than ten beside those of the placeholder

@@ -1,6 +1,6 @@
 -- The place that the head of a snippet names after its path: a line, and a column there.
-use Rattle.std.specs.Prelude.{◌≡◌, ℕ, ◌+◌, ◌≤◌, List, [], ◌∷◌, Option, Some, None, Contains, map, filter, if◌then◌else◌}
-use Rattle.std.specs.List.{list_any, slice_get}
+use Rattle.std.specs.Prelude.{◌≡◌, ℕ, ◌+◌, ◌≤◌, Bool, true, List, ◌++◌, Option, Some, None, Contains, map, filter, if◌then◌else◌}
+use Rattle.std.specs.List.{filter_map, list_any, slice_get}
 use Rattle.std.specs.Option.{option_map, option_or}
 use Rattle.snippet_model.specs.declared.snippet.Annotation.{Annotation}
 use Rattle.snippet_model.specs.declared.snippet.AnnotationKind.{AnnotationKind}
@@ -8,7 +8,7 @@ use Rattle.snippet_model.specs.declared.snippet.AnnotationKind.TheVariants.{Prim
 use Rattle.snippet_parts.specs.declared.location.Location.{Location}
 use Rattle.snippet_lines.specs.Lines.{Source}
 use Rattle.snippet_lines.specs.Place.{start_location}
-use Rattle.snippet_parts.specs.Annotated.{PartEntry, KeptLine}
+use Rattle.snippet_parts.specs.Annotated.{KeptLine}
 use Rattle.snippet_model.specs.AnnotationKind.{is_primary}
 use Rattle.snippet_parts.specs.Mark.{is_marking}
 use Rattle.snippet_parts.specs.Marked.{first_line}
@@ -16,45 +16,25 @@ use Rattle.snippet_parts.specs.Least.{least}
 
 -- ---- by the entries of the lines that are kept
 
--- the columns at which some entries start: characters, counted from 1
-abbrev pub start_columns : List PartEntry → List ℕ
-start_columns parts = map (λ p. p.entry.start.char + 1) parts
-
--- two choices among entries: the primary ones, and all
-abbrev pub primary_parts : List PartEntry → List PartEntry
-primary_parts parts = filter (λ p. is_primary p.entry.kind) parts
-
-abbrev pub all_parts : List PartEntry → List PartEntry
-all_parts parts = parts
-
--- the least column on a line at which an entry of this choice starts, if there is one
-abbrev pub least_place : (List PartEntry → List PartEntry) → KeptLine → Option Location
-least_place choice line =
-    option_map (λ column. record { line = line.number; column = Some column }) (least (start_columns (choice line.parts)))
-
--- the column on a line at which its first entry starts, if there is one
-abbrev pub entry_place : KeptLine → Option Location
-entry_place line =
-    option_map (λ column. record { line = line.number; column = Some column }) (slice_get (start_columns line.parts) 0)
-
--- a line alone
-abbrev pub bare_place : KeptLine → Option Location
-bare_place line = Some (record { line = line.number; column = None })
-
--- the place on the first of some lines that has one
-abbrev pub first_place : (KeptLine → Option Location) → List KeptLine → Option Location
-first_place place_on [] = None
-first_place place_on (line ∷ lines) = option_or (place_on line) (first_place place_on lines)
+-- the place of those entries of a line that are of such kinds: the least column at which one starts, in characters, counted from 1
+abbrev pub least_place : (AnnotationKind → Bool) → KeptLine → Option Location
+least_place chosen line =
+    option_map (λ column. record { line = line.number; column = Some column })
+    (least (map (λ p. p.entry.start.char + 1) (filter (λ p. chosen p.entry.kind) line.parts)))
 
 -- what the head of a primary snippet names: the first line with a primary entry, and the least column of a primary one
 -- there; else the first line with an entry, and the least column there
 abbrev pub primary_place : List KeptLine → Option Location
-primary_place lines = option_or (first_place (least_place primary_parts) lines) (first_place (least_place all_parts) lines)
+primary_place lines = slice_get (filter_map (least_place is_primary) lines ++ filter_map (least_place (λ kind. true)) lines) 0
+
+-- the column on a line at which its first entry starts, if there is one
+abbrev pub entry_place : KeptLine → Option Location
+entry_place line = option_map (λ p. record { line = line.number; column = Some (p.entry.start.char + 1) }) (slice_get line.parts 0)
 
 -- what the head of another snippet names: the first line with an entry, and the column of the first one there; else the
 -- first line alone
 abbrev pub secondary_place : List KeptLine → Option Location
-secondary_place lines = option_or (first_place entry_place lines) (first_place bare_place lines)
+secondary_place lines = slice_get (filter_map entry_place lines ++ map (λ line. record { line = line.number; column = None }) lines) 0
 
 -- ---- by the bytes at which spans start
 

@@ -9,9 +9,8 @@ use Rattle.snippet_lines.specs.Place.{place_of}
 
 -- whether spans of this kind are marked; a `Visible` one only keeps its lines
 abbrev pub is_marking : AnnotationKind → Bool
-is_marking Primary = true
-is_marking Context = true
 is_marking Visible = false
+is_marking other = true
 
 -- whether a span starts and ends on one line
 abbrev pub is_single_line : List ℕ → Annotation → Bool

@@ -1,13 +1,12 @@
--- What an annotation marks: lines, columns, and the entry of one that stands on one line.
+-- What an annotation marks: its lines, and an entry as it is seen.
 use Rattle.std.specs.Prelude.{ℕ, ◌+◌, max, Bool, List, Option}
-use Rattle.std.specs.Option.{option_map, option_copied}
-use Rattle.std.specs.Cow.{cow_str_bytes}
+use Rattle.std.specs.Option.{option_copied}
 use Rattle.snippet_model.specs.declared.snippet.Annotation.{Annotation}
 use Rattle.snippet_model.specs.declared.snippet.AnnotationKind.{AnnotationKind}
 use Rattle.snippet_lines.specs.declared.place.Loc.{Loc}
 use Rattle.snippet_parts.specs.declared.entries.LineAnnotation.{LineAnnotation}
-use Rattle.snippet_lines.specs.Lines.{source_lines, Source}
-use Rattle.snippet_lines.specs.Place.{line_of, locations_of}
+use Rattle.snippet_lines.specs.Lines.{source_lines}
+use Rattle.snippet_lines.specs.Place.{line_of}
 
 -- the line on which an annotation starts, and the one on which it ends, from 0
 abbrev pub first_line : List ℕ → Annotation → ℕ
@@ -31,9 +30,3 @@ seen_entry e = record { start = e.start; end = e.end; kind = e.kind; label = opt
 -- the end of an entry that starts and ends at these: at least one column after the start
 abbrev pub widened : Loc → Loc → Loc
 widened start end = record end { display = max end.display (start.display + 1) }
-
--- the entry of an annotation that stands on one line
-abbrev pub entry_of : Source → Annotation → Entry
-entry_of s a =
-    let at = locations_of s a.span.start a.span.end in
-    record { start = at.0; end = widened at.0 at.1; kind = a.kind; label = option_map cow_str_bytes a.label; highlight_source = a.highlight_source }

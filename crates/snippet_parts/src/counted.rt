@@ -1,7 +1,8 @@
 //! What is known of a snippet before it is drawn.
-ghost use Rattle.std.specs.Prelude.{◌≡◌, take};
+ghost use Rattle.std.specs.Prelude.{◌≡◌, ◌==◌, ◌&&◌, not, length, map, take, if◌then◌else◌};
 ghost use Rattle.std.specs.Cow.{cow_str_bytes};
 ghost use Rattle.snippet_parts.specs.Counted as spec;
+ghost use Rattle.snippet_parts.specs.Least.{greatest};
 ghost use Rattle.snippet_parts.specs.Numbered.{numbered_source};
 
 use crate::source_map::SourceMap;
@@ -19,7 +20,10 @@ pub fn counted_number(map: &SourceMap<'_>, snippet: &Snippet<Annotation>) -> usi
 
 /// The byte up to which a snippet's spans reach, or the end of its source where it isn't folded or has no spans.
 fn reached_end(snippet: &Snippet<Annotation>) -> usize
-    ensures value { take result (cow_str_bytes snippet.now.source) ≡ spec.reached_source snippet.now }
+    ensures value { take result (cow_str_bytes snippet.now.source)
+        ≡ (if snippet.now.fold && not (length snippet.now.markers.items == 0)
+        then take (greatest (map (λ a. a.span.end) snippet.now.markers.items)) (cow_str_bytes snippet.now.source)
+        else cow_str_bytes snippet.now.source) }
 {
     if snippet.fold && !snippet.markers.is_empty() {
         return greatest_end(&snippet.markers);
@@ -29,7 +33,7 @@ fn reached_end(snippet: &Snippet<Annotation>) -> usize
 
 /// The greatest byte at which an annotation ends, or 0 without annotations.
 fn greatest_end(annotations: &[Annotation]) -> usize
-    ensures value { result ≡ spec.greatest_end annotations.now }
+    ensures value { result ≡ greatest (map (λ a. a.span.end) annotations.now) }
 {
     let mut end = 0;
     for annotation in annotations {

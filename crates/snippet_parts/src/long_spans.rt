@@ -1,6 +1,6 @@
 //! Spans of several lines, in the order in which they are drawn.
 
-ghost use Rattle.std.specs.Prelude.{◌≡◌, ◌==◌, ◌-◌, ◌≤◌, All, map, filter, take, drop, length, IfOk};
+ghost use Rattle.std.specs.Prelude.{◌≡◌, ◌==◌, ◌-◌, ◌≤◌, ◌&&◌, ◌||◌, nat_lt, All, map, filter, take, drop, length, IfOk};
 ghost use Rattle.std.specs.List.Sorted.{IsNonDecreasingBy};
 ghost use Rattle.snippet_parts.specs.Annotated as spec;
 ghost use Rattle.snippet_parts.specs.LongSpans.{seen_long, HasFit};
@@ -51,7 +51,9 @@ pub(crate) fn long_spans<'a>(
     located: &[LocatedSpan<'a>],
 ) -> Result<Vec<LongSpan<'a>>, AllocError>
     ensures value { IfOk result (λ spans. map seen_long spans.items
-        ≡ ordered_by spec.stands_before (map span_entry (filter is_long_span located.now))) }
+        ≡ ordered_by (λ d e. nat_lt d.start.line e.start.line
+        || d.start.line == e.start.line && nat_lt e.end.line d.end.line)
+        (map span_entry (filter is_long_span located.now))) }
     ensures ordered { IfOk result (λ spans. IsNonDecreasingBy (λ l. l.start.line) spans.items) }
     ensures fit { IfOk result (λ spans. (s : Source) → All (IsLocated s) located.now → All (HasFit s) spans.items) }
 {

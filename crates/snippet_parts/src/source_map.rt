@@ -254,7 +254,7 @@ impl<'a> SourceMap<'a> {
         ensures deepest { IfOk result (λ drawn. drawn.0 ≡ spec.deepest self.now annotations.now) }
         // The greatest depth is the length of a longest list of places, each of which shares a line with the next.
         ensures longest { IfOk result (λ drawn. IsLongestChain
-            (places_of (spec.long_places self.now annotations.now)) drawn.0) }
+            (places_of (map spec.long_place (spec.long_spans self.now annotations.now))) drawn.0) }
         // Two spans of several lines that share a line and have one depth start and end at the same bytes.
         ensures distinct { (a b : Annotation) → Contains annotations.now a → Contains annotations.now b
             → spec.is_long self.now.text a ≡ true → spec.is_long self.now.text b ≡ true

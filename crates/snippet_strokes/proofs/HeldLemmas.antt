@@ -14,11 +14,12 @@ use Rattle.snippet_lines.proofs.OrderLemmas.{map-ordered_by}
 use Rattle.snippet_parts.specs.declared.entries.LineAnnotation.{LineAnnotation}
 use Rattle.snippet_grid.specs.Layout.{Layout}
 use Rattle.snippet_labels.specs.declared.positions.PlacedEntry.{PlacedEntry}
-use Rattle.snippet_labels.specs.PlacedEntries.{label_chars, label_text, plain_entry}
+use Rattle.snippet_labels.specs.PlacedEntries.{label_text, plain_entry}
 use Rattle.snippet_strokes.specs.Painting.{is_painted_before, mark_of, marks_of, painting_order}
-use Rattle.snippet_labels.specs.Positions.{ArePlaced, HasItsBytes, are_starts, is_placed_before, labelled, line_positions, look_counts, placed_at, placed_of}
+use Rattle.snippet_labels.specs.Positions.{ArePlaced, HasItsBytes, are_starts, is_placed_before, line_positions, look_counts, placed_at, placed_of}
 use Rattle.snippet_labels.specs.Positions.{unplaced}
 use Rattle.snippet_labels.proofs.PlacedLemmas.{are_starts-changed, line_positions-changed, look_counts-changed}
+use Rattle.snippet_labels.proofs.LabelWords.{label_chars, labelled}
 
 -- ---- what a label shows, wherever it is lent from
 

@@ -7,7 +7,7 @@ use Rattle.snippet_parts.specs.declared.entries.LineAnnotation.{LineAnnotation}
 use Rattle.snippet_grid.specs.Layout.{Layout}
 use Rattle.snippet_labels.specs.declared.positions.PlacedEntry.{PlacedEntry}
 use Rattle.snippet_labels.specs.PlacedEntries.{HasPlace, label_text, label_role}
-use Rattle.snippet_labels.specs.Positions.{HasItsLabel, has_label, do_overlap, ends_no_later, blocks, reaches, crowds, label_place, ArePlaced}
+use Rattle.snippet_labels.specs.Positions.{HasItsLabel, has_label, do_overlap, ends_no_later, blocks, reaches, label_place, ArePlaced}
 use Rattle.snippet_strokes.proofs.Reach.{Reaches}
 use Rattle.snippet_strokes.specs.Strokes.{label_write, label_of, labels_of}
 use Rattle.std.proofs.lemmas.List.{drop_more, take-append-drop, length-drop, get_or-drop}
@@ -19,6 +19,7 @@ use Rattle.snippet_strokes.proofs.PaintedMarks.{StandsWhole}
 use Rattle.snippet_strokes.proofs.LabelWrites.{All-label_of}
 use Rattle.snippet_strokes.proofs.WriteLaws.{All-flat_map, painted-last}
 use Rattle.snippet_strokes.proofs.LabelKept.{apart, label_chars_le, label_parts, labelled_positions, position_of, stands_left, uncrowded}
+use Rattle.snippet_labels.proofs.LabelWords.{crowds}
 
 pub uncrowded_apart : (p : ℕ) (e f : PlacedEntry) → crowds p e f ≡ false → has_label e ≡ true → has_label f ≡ true
     → f.entry.start.display ≤ e.entry.start.display → f.entry.end.display + (length (cow_str_bytes f.label) + 2) ≤ e.entry.start.display

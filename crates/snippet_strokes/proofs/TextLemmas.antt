@@ -3,7 +3,7 @@ use Rattle.std.proofs.Common.{◌≡◌, ◌==◌, true, false, not, ap, ◌∙�
 use Rattle.std.proofs.Common.{IsUtf8}
 use Rattle.snippet_parts.specs.declared.entries.LineAnnotation.{LineAnnotation}
 use Rattle.snippet_text.proofs.NormLemmas.{list_any-norm}
-use Rattle.snippet_labels.specs.PlacedEntries.{label_chars, label_text, shifted}
+use Rattle.snippet_labels.specs.PlacedEntries.{label_text, shifted}
 use Rattle.std.specs.Str.{chars}
 use Rattle.std.proofs.lemmas.Bool.Decides.{nat_tests}
 use Rattle.std.proofs.lemmas.List.{nil_from_length}
@@ -11,6 +11,7 @@ use Rattle.std.proofs.lemmas.List.Elements.{All-nil, All-map}
 use Rattle.snippet_text.specs.Normalized.{is_listed, norm}
 use Rattle.snippet_model.proofs.RowLemmas.{each_fails}
 use Rattle.snippet_labels.proofs.CharLemmas.{is_empty-chars, norm_short}
+use Rattle.snippet_labels.proofs.LabelWords.{label_chars}
 
 -- a label's characters aren't listed
 pub free_label_text : (e : LineAnnotation) → All (λ c. is_listed c ≡ false) (label_text e)

@@ -1,5 +1,5 @@
 -- Lemmas on how far lines reach, line by line and entry by entry.
-use Rattle.std.proofs.Common.{◌≡◌, ℕ, ◌≤◌, min, max, Bool, true, false, not, List, [], ◌∷◌, ◌++◌, Option, Some, None, All, map, chars, refl, sym, ap}
+use Rattle.std.proofs.Common.{◌≡◌, ℕ, min, max, Bool, true, false, not, List, [], ◌∷◌, ◌++◌, Option, Some, None, All, map, chars, refl, sym, ap}
 use Rattle.std.proofs.Common.{subst, cond, ◌∙◌, inl, inr}
 use Rattle.std.specs.List.{flat_map, filter_map}
 use Rattle.std.specs.Option.{option_copied, option_map_or, option_to_list}
@@ -13,9 +13,10 @@ use Rattle.snippet_parts.specs.declared.entries.AnnotatedLineInfo.{AnnotatedLine
 use Rattle.snippet_window.specs.declared.extent.Extent.{Extent}
 use Rattle.snippet_parts.specs.Least.{least, greatest}
 use Rattle.snippet_parts.specs.Entries.{is_bar}
-use Rattle.snippet_window.specs.Measures.{with_columns, entries_of, columns_of, ends_of, end_with, whitespaces_of, widths_of, line_texts}
+use Rattle.snippet_window.specs.Measures.{end_with}
 use Rattle.snippet_window.specs.Window.{leading_whitespace}
-use Rattle.snippet_window.specs.Extent.{ReachesEntries, ReachesLines}
+use Rattle.snippet_window.specs.Extent.{ReachesEntries, ReachesLines, with_columns, entries_of, columns_of, ends_of, line_texts}
+use Rattle.snippet_window.proofs.MeasureWords.{whitespaces_of, widths_of}
 use Rattle.snippet_parts.proofs.LeastLemmas.{least-push, greatest-push, least-push_two, greatest-push_two}
 
 -- one more entry, by whether it is a bar

@@ -2,6 +2,7 @@ pub mod Examples
 pub mod ExtentLemmas
 pub mod LineWindowLemmas
 pub mod MarginLaws
+pub mod MeasureWords
 pub mod NearLemmas
 pub mod PlainFront
 pub mod UncutLaws

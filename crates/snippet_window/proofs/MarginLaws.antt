@@ -14,9 +14,9 @@ use Rattle.snippet_parts.specs.declared.entries.LineAnnotation.{LineAnnotation}
 use Rattle.snippet_parts.specs.declared.entries.LineAnnotationType.{LineAnnotationType}
 use Rattle.snippet_parts.specs.declared.entries.LineAnnotationType.TheVariants.{Singleline, MultilineEnd}
 use Rattle.snippet_lines.specs.declared.place.Loc.{Loc}
-use Rattle.snippet_parts.specs.Annotated.{PartEntry, seen_part, long_entry, long_place, is_long, is_short, stands_before, long_spans, long_places, bar_lines}
+use Rattle.snippet_parts.specs.Annotated.{PartEntry, seen_part, long_entry, long_place, is_long, long_spans, bar_lines}
 use Rattle.snippet_parts.specs.Annotated.{bar_part, single_part}
-use Rattle.snippet_parts.specs.Annotated.{start_part, end_part, span_parts, stands_among, promoted, is_promoted, long_parts, made_parts, parts_on, KeptLine}
+use Rattle.snippet_parts.specs.Annotated.{start_part, end_part, span_parts, promoted, long_parts, made_parts, parts_on, KeptLine}
 use Rattle.snippet_parts.specs.Annotated.{seen_kept, kept_line, annotated_lines}
 use Rattle.snippet_parts.specs.Depths.{same_place, depth_among}
 use Rattle.snippet_parts.specs.Kept.{keeps, kept_lines}
@@ -24,10 +24,12 @@ use Rattle.snippet_lines.specs.Lines.{Source, source_lines}
 use Rattle.snippet_window.specs.Margin.{margin_bounds}
 use Rattle.snippet_parts.specs.Mark.{is_marking, is_single_line}
 use Rattle.snippet_parts.specs.Marked.{Entry, first_line, last_line}
-use Rattle.snippet_window.specs.Measures.{bounds_for, bounds_of_lines, columns_of, end_with, ends_of, entries_of, margin_of}
+use Rattle.snippet_window.specs.Extent.{ReachesLines, columns_of, ends_of, entries_of, line_texts, with_columns}
+use Rattle.snippet_window.specs.Measures.{end_with, margin_of}
 use Rattle.snippet_parts.specs.Least.{greatest, least}
 use Rattle.snippet_parts.specs.Entries.{is_bar}
-use Rattle.snippet_window.specs.Measures.{span_columns, span_ends, line_texts, whitespaces_of, widths_of, with_columns}
+use Rattle.snippet_window.specs.declared.extent.Extent.{Extent}
+use Rattle.snippet_window.proofs.MeasureWords.{whitespaces_of, widths_of}
 use Rattle.snippet_lines.specs.Place.{start_location}
 use Rattle.snippet_lines.specs.Span.{IsSpan}
 use Rattle.snippet_window.specs.Window.{chars_at}
@@ -37,6 +39,7 @@ use Rattle.snippet_parts.proofs.AmongLemmas.{greatest_same}
 use Rattle.snippet_parts.proofs.MarkLemmas.{start-line, end-line, entry_of-line}
 use Rattle.snippet_lines.proofs.PlaceLemmas.{line_of-mono, line_of-within, locations_of-start}
 use Rattle.snippet_parts.proofs.StartByte.{start_byte}
+use Rattle.snippet_parts.proofs.PartWords.{is_promoted, is_short, long_places, stands_among, stands_before}
 
 -- what is measured of an entry: some numbers, by where it starts and ends and by its label
 abbrev Measure : Type 0
@@ -107,6 +110,13 @@ measured_long g e = measured g (start_part e 0) ++ measured g (end_part e Single
 abbrev measured_span : Measure → Source → Annotation → List ℕ
 measured_span g s a =
     cond (not (is_marking a.kind)) [] (cond (is_single_line s.text a) (measured g (single_part s a)) (measured_long g (long_entry s a)))
+
+-- the columns at which the marks of a span start and end, and those after its marks with its label
+abbrev pub span_columns : Source → Annotation → List ℕ
+span_columns s a = measured_span columns s a
+
+abbrev pub span_ends : Source → Annotation → List ℕ
+span_ends s a = measured_span ends s a
 
 -- what is measured of a span on one line is measured of its part
 pub short_span : (g : Measure) (s : Source) (a : Annotation) → is_short s.text a ≡ true → measured_span g s a ≡ measured g (single_part s a)
@@ -438,34 +448,57 @@ parts_back g fold s marks c spans here =
 
 -- ---- the laws
 
--- the bounds of the lines that are kept are those of the spans
-pub margin_of_kept : (room : ℕ) (fold : Bool) (s : Source) (marks : List Annotation) (infos : List AnnotatedLineInfo)
-    → map seen_kept infos ≡ annotated_lines fold s marks → All (λ (a : Annotation). IsSpan s.text a.span.start a.span.end) marks
-    → bounds_of_lines room infos ≡ margin_of room fold s marks
-margin_of_kept room fold s marks infos kept spans =
+-- the bounds for how far lines reach are those for the lines as they are seen
+pub bounds_reached : (room : ℕ) (infos : List AnnotatedLineInfo) (x : Extent) → ReachesLines infos x
+    → margin_bounds (unwrap_or x.whitespace 0) (unwrap_or x.first 0) x.last x.label_end room x.widest ≡ margin_of room (map seen_kept infos)
+bounds_reached room infos x reaches =
+    let lines = map seen_kept infos in
     let es = entries_of infos in
+    let texts = map (λ (l : KeptLine). chars l.text) lines in
+    let parts = filter has_columns (flat_map (λ (l : KeptLine). l.parts) lines) in
+    let end_of : PartEntry → ℕ = λ p. end_with p.entry.end.display p.entry.label in
+    let all_columns : columns_of es ≡ flat_map (measured columns) parts = measured_entries columns es ∙ ap (measured_parts columns) (seen_entries infos) in
+    let all_ends : ends_of es ≡ map end_of parts = single_list (λ (e : LineAnnotation). end_with e.end.display (option_copied e.label)) (with_columns es)
+    ∙ measured_entries ends es ∙ ap (measured_parts ends) (seen_entries infos) ∙ sym (single_list end_of parts) in
+    let blank : unwrap_or x.whitespace 0 ≡ unwrap_or (least (whitespaces_of texts)) 0 = ap (λ (o : Option ℕ). unwrap_or o 0) reaches.whitespace
+    ∙ ap (λ ts. unwrap_or (least (whitespaces_of ts)) 0) (seen_texts infos) in
+    let low : unwrap_or x.first 0 ≡ unwrap_or (least (flat_map (measured columns) parts)) 0 = ap (λ (o : Option ℕ). unwrap_or o 0) reaches.entries.first
+    ∙ ap (λ ns. unwrap_or (least ns) 0) all_columns in
+    ap (λ n. margin_bounds n (unwrap_or x.first 0) x.last x.label_end room x.widest) blank
+    ∙ ap (λ n. margin_bounds (unwrap_or (least (whitespaces_of texts)) 0) n x.last x.label_end room x.widest) low
+    ∙ ap (λ n. margin_bounds (unwrap_or (least (whitespaces_of texts)) 0) (unwrap_or (least (flat_map (measured columns) parts)) 0) n x.label_end room x.widest)
+    (reaches.entries.last ∙ ap greatest all_columns)
+    ∙ ap (λ n. margin_bounds (unwrap_or (least (whitespaces_of texts)) 0) (unwrap_or (least (flat_map (measured columns) parts)) 0)
+    (greatest (flat_map (measured columns) parts)) n room x.widest) (reaches.entries.label_end ∙ ap greatest all_ends)
+    ∙ ap (λ n. margin_bounds (unwrap_or (least (whitespaces_of texts)) 0) (unwrap_or (least (flat_map (measured columns) parts)) 0)
+    (greatest (flat_map (measured columns) parts)) (greatest (map end_of parts)) room n)
+    (reaches.widest ∙ ap (λ ts. greatest (widths_of ts)) (seen_texts infos))
+
+-- the bounds for the lines that are kept follow from the spans
+pub margin_of_spans : (room : ℕ) (fold : Bool) (s : Source) (marks : List Annotation) → All (λ (a : Annotation). IsSpan s.text a.span.start a.span.end) marks
+    → margin_of room (annotated_lines fold s marks)
+    ≡ margin_bounds (unwrap_or (least (whitespaces_of (map (chars_at s.text) (kept_lines fold s.text marks)))) 0)
+    (unwrap_or (least (flat_map (span_columns s) marks)) 0) (greatest (flat_map (span_columns s) marks)) (greatest (flat_map (span_ends s) marks)) room
+    (greatest (widths_of (map (chars_at s.text) (kept_lines fold s.text marks))))
+margin_of_spans room fold s marks spans =
+    let parts = filter has_columns (kept_parts fold s marks) in
+    let end_of : PartEntry → ℕ = λ p. end_with p.entry.end.display p.entry.label in
     let texts = map (chars_at s.text) (kept_lines fold s.text marks) in
-    let same_texts : line_texts infos ≡ texts = seen_texts infos ∙ ap (map (λ (l : KeptLine). chars l.text)) kept
-    ∙ kept_texts s marks (kept_lines fold s.text marks) in
-    let same_parts : map seen_part es ≡ kept_parts fold s marks = seen_entries infos ∙ ap (flat_map (λ (l : KeptLine). l.parts)) kept in
-    let all_columns : columns_of es ≡ measured_parts columns (kept_parts fold s marks) = measured_entries columns es ∙ ap (measured_parts columns) same_parts in
-    let all_ends : ends_of es ≡ measured_parts ends (kept_parts fold s marks) = single_list
-    (λ (e : LineAnnotation). end_with e.end.display (option_copied e.label)) (with_columns es) ∙ measured_entries ends es
-    ∙ ap (measured_parts ends) same_parts in
-    let low : unwrap_or (least (columns_of es)) 0 ≡ unwrap_or (least (flat_map (span_columns s) marks)) 0 =
-    ap (λ ns. unwrap_or (least ns) 0) all_columns
-    ∙ least_same (measured_parts columns (kept_parts fold s marks)) (flat_map (span_columns s) marks) (parts_there columns fold s marks)
+    let low : unwrap_or (least (flat_map (measured columns) parts)) 0 ≡ unwrap_or (least (flat_map (span_columns s) marks)) 0 =
+    least_same (measured_parts columns (kept_parts fold s marks)) (flat_map (span_columns s) marks) (parts_there columns fold s marks)
     (λ c. parts_back columns fold s marks c spans) in
-    let high : greatest (columns_of es) ≡ greatest (flat_map (span_columns s) marks) = ap greatest all_columns
-    ∙ greatest_same (measured_parts columns (kept_parts fold s marks)) (flat_map (span_columns s) marks) (parts_there columns fold s marks) (λ c.
+    let high : greatest (flat_map (measured columns) parts) ≡ greatest (flat_map (span_columns s) marks) =
+    greatest_same (measured_parts columns (kept_parts fold s marks)) (flat_map (span_columns s) marks) (parts_there columns fold s marks) (λ c.
     parts_back columns fold s marks c spans) in
-    let after : greatest (ends_of es) ≡ greatest (flat_map (span_ends s) marks) = ap greatest all_ends
+    let after : greatest (map end_of parts) ≡ greatest (flat_map (span_ends s) marks) = ap greatest (single_list end_of parts)
     ∙ greatest_same (measured_parts ends (kept_parts fold s marks)) (flat_map (span_ends s) marks) (parts_there ends fold s marks) (λ c.
     parts_back ends fold s marks c spans) in
-    ap (λ ts. bounds_for room (whitespaces_of ts) (columns_of es) (ends_of es) (widths_of ts)) same_texts
-    ∙ ap (λ n. margin_bounds (unwrap_or (least (whitespaces_of texts)) 0) n (greatest (columns_of es)) (greatest (ends_of es))
+    ap (λ ts. margin_bounds (unwrap_or (least (whitespaces_of ts)) 0) (unwrap_or (least (flat_map (measured columns) parts)) 0)
+    (greatest (flat_map (measured columns) parts)) (greatest (map end_of parts)) room (greatest (widths_of ts)))
+    (kept_texts s marks (kept_lines fold s.text marks))
+    ∙ ap (λ n. margin_bounds (unwrap_or (least (whitespaces_of texts)) 0) n (greatest (flat_map (measured columns) parts)) (greatest (map end_of parts))
     room (greatest (widths_of texts))) low ∙ ap
     (λ n. margin_bounds (unwrap_or (least (whitespaces_of texts)) 0) (unwrap_or (least (flat_map (span_columns s) marks)) 0)
-    n (greatest (ends_of es)) room (greatest (widths_of texts))) high
+    n (greatest (map end_of parts)) room (greatest (widths_of texts))) high
     ∙ ap (λ n. margin_bounds (unwrap_or (least (whitespaces_of texts)) 0) (unwrap_or (least (flat_map (span_columns s) marks)) 0)
     (greatest (flat_map (span_columns s) marks)) n room (greatest (widths_of texts))) after

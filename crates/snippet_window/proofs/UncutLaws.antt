@@ -1,27 +1,29 @@
 -- Where a snippet stands whole, nothing of its lines is cut on the left.
 use Rattle.std.proofs.Common.{◌≡◌, ◌∙◌, ℕ, ◌+◌, ◌-◌, ◌≤◌, Bool, true, false, not, cond, eqb, leb, ltb, max, min, ◌&&◌, ◌||◌, List, [], ◌∷◌, ◌++◌, Option, Some}
 use Rattle.std.proofs.Common.{None, map, chars, unwrap_or, refl, sym, ap, subst, inl, inr, arith}
-use Rattle.std.specs.List.{cons_option, flat_map, list_all, list_any}
+use Rattle.std.specs.List.{All, cons_option, flat_map, list_all, list_any}
 use Rattle.std.specs.Option.{is_none}
 use Rattle.std.proofs.lemmas.Bool.{cases_Bool, cond-true, cond-false, and_parts, and_from, not-true, eqb-false, leb-true, or_cases}
 use Rattle.std.proofs.lemmas.Bool.Decides.{nat_tests}
 use Rattle.snippet_text.specs.Width.{width_of}
 use Rattle.snippet_model.specs.declared.snippet.Annotation.{Annotation}
 use Rattle.snippet_lines.specs.declared.place.Loc.{Loc}
-use Rattle.snippet_parts.specs.Annotated.{long_entry, single_part}
+use Rattle.snippet_parts.specs.Annotated.{annotated_lines, long_entry, single_part}
 use Rattle.snippet_parts.specs.Kept.{kept_lines}
 use Rattle.snippet_lines.specs.Lines.{Source, source_lines}
 use Rattle.snippet_window.specs.Margin.{Bounds, margin_bounds}
 use Rattle.snippet_parts.specs.Mark.{is_marking, is_marked_on, is_single_line, is_wide, start_column}
 use Rattle.snippet_parts.specs.Marked.{first_line, last_line}
 use Rattle.snippet_parts.specs.Least.{greatest, least}
-use Rattle.snippet_window.specs.Measures.{margin_of, span_columns, span_ends, whitespaces_of, widths_of}
+use Rattle.snippet_window.specs.Measures.{margin_of}
+use Rattle.snippet_lines.specs.Span.{IsSpan}
 use Rattle.snippet_lines.specs.Place.{end_location, line_of, location_of, locations_of, place_of, prefix_at, steps_after_text}
 use Rattle.snippet_window.specs.Window.{chars_at, end_mark_column, is_near, is_near_left, is_near_span, leading_whitespace, stands_whole}
 use Rattle.snippet_parts.proofs.AmongLemmas.{Among, among_map, map_cases, among_flat_map, any_cases, least_le, greatest_most, all_pass, among_filter_map}
 use Rattle.snippet_parts.proofs.MarkLemmas.{start_column-from}
 use Rattle.snippet_lines.proofs.PlaceLemmas.{locations_of-end}
-use Rattle.snippet_window.proofs.MarginLaws.{columns, measured, measured_long, short_span, long_span}
+use Rattle.snippet_window.proofs.MarginLaws.{columns, measured, measured_long, margin_of_spans, short_span, long_span, span_columns, span_ends}
+use Rattle.snippet_window.proofs.MeasureWords.{whitespaces_of, widths_of}
 
 -- lines of which each is blank begin with no whitespace that counts
 blank_none : (source ks : List ℕ) → list_all (λ k. is_none (leading_whitespace (chars_at source k))) ks ≡ true → whitespaces_of (map (chars_at source) ks) ≡ []
@@ -153,8 +155,9 @@ margin_near whitespace first last after room widest near fits =
 
 -- where a line stands whole, nothing is cut on the left
 pub margin_whole : (room placeholder_width : ℕ) (fold : Bool) (s : Source) (marks : List Annotation) (k : ℕ)
-    → stands_whole room placeholder_width fold s.text marks k ≡ true → (margin_of room fold s marks).left ≡ 0
-margin_whole room placeholder_width fold s marks k whole =
+    → All (λ (a : Annotation). IsSpan s.text a.span.start a.span.end) marks → stands_whole room placeholder_width fold s.text marks k ≡ true
+    → (margin_of room (annotated_lines fold s marks)).left ≡ 0
+margin_whole room placeholder_width fold s marks k spans whole =
     let kept = kept_lines fold s.text marks in
     let here : Bool = leb (width_of (chars_at s.text k)) room in
     let fit : Bool = list_all (λ j. leb (width_of (chars_at s.text j)) room) kept in
@@ -165,7 +168,7 @@ margin_whole room placeholder_width fold s marks k whole =
     let fits = and_parts here fit known.0 in
     let texts = map (chars_at s.text) kept in
     let widest : greatest (widths_of texts) ≤ room = greatest_most (widths_of texts) room (each fits.1) in
-    margin_near _ _ (greatest (flat_map (span_columns s) marks)) (greatest (flat_map (span_ends s) marks)) room (greatest (widths_of texts))
+    ap (λ (b : Bounds). b.left) (margin_of_spans room fold s marks spans) ∙ margin_near _ _ (greatest (flat_map (span_columns s) marks)) (greatest (flat_map (span_ends s) marks)) room (greatest (widths_of texts))
     (near_left s marks kept known.1) widest
   where
     each : list_all (λ j. leb (width_of (chars_at s.text j)) room) (kept_lines fold s.text marks) ≡ true → (n : ℕ)

@@ -4,7 +4,8 @@ use Rattle.std.proofs.Common.{le_refl}
 use Rattle.std.specs.Option.{option_map}
 use Rattle.std.specs.Char.{is_whitespace}
 use Rattle.std.proofs.lemmas.List.{at_drop_more, drop_all}
-use Rattle.snippet_window.specs.Window.{leading_whitespace, whitespace_width}
+use Rattle.snippet_window.specs.Window.{leading_whitespace}
+use Rattle.snippet_window.proofs.MeasureWords.{whitespace_width}
 
 -- what stands from a character on
 leading-drop : (cs : List ℕ) (n c : ℕ) → (n < length cs) × (c ≡ get_or cs n c)

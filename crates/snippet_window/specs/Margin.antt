@@ -16,10 +16,6 @@ bounds_of m = record { left = m.computed_left; right = m.computed_right }
 abbrev pub capped_sum : ℕ → ℕ → ℕ
 capped_sum a b = min (a + b) max_usize
 
--- the room from this column on
-abbrev pub room_from : ℕ → ℕ → Bounds
-room_from room left = record { left = left; right = capped_sum left room }
-
 -- the bounds of a snippet's window in a room of so many columns, where the whitespace that all its lines begin with has
 -- this width, its spans reach from column `first` to column `last`, their labels to column `label_end`, and its widest line
 -- has this width. Six columns stay free around the spans and after the labels, for the placeholders.
@@ -35,8 +31,9 @@ margin_bounds whitespace first last label_end room widest =
     let after = capped_sum label_end 6 in
     let left = if nat_lt 20 blank then blank - 16 else 0 in
     let right = max widest left in
+    let room_from : ℕ → Bounds = λ start. record { left = start; right = capped_sum start room } in
     if nat_le (right - left) room then record { left = left; right = right }
-    else if nat_le (after - blank) room && nat_le blank after then room_from room blank
-    else if nat_le (after - from) room then room_from room (from - (room - (after - from)) / 2)
-    else if nat_le (to - from) room then room_from room (from - (room - (to - from)) / 5 * 2)
+    else if nat_le (after - blank) room && nat_le blank after then room_from blank
+    else if nat_le (after - from) room then room_from (from - (room - (after - from)) / 2)
+    else if nat_le (to - from) room then room_from (from - (room - (to - from)) / 5 * 2)
     else record { left = from; right = to }

@@ -12,15 +12,11 @@ use Rattle.snippet_lines.specs.Place.{end_location}
 use Rattle.snippet_parts.specs.Mark.{is_marking, is_single_line, is_marked_on, is_wide, start_column}
 use Rattle.snippet_parts.specs.Kept.{kept_lines}
 
--- the columns of a character of leading whitespace: four of a tab, one of any other
-abbrev pub whitespace_width : ℕ → ℕ
-whitespace_width c = if c == 9 then 4 else 1
-
--- the width of the whitespace that a line begins with; none of a blank line, which is nothing else
+-- the width of the whitespace that a line begins with, four columns of a tab, one of any other; none of a blank line, which is
+-- nothing else
 abbrev pub leading_whitespace : List ℕ → Option ℕ
 leading_whitespace [] = None
-leading_whitespace (c ∷ cs) =
-    if is_whitespace c then option_map (λ columns. whitespace_width c + columns) (leading_whitespace cs) else Some 0
+leading_whitespace (c ∷ cs) = if is_whitespace c then option_map (λ columns. (if c == 9 then 4 else 1) + columns) (leading_whitespace cs) else Some 0
 
 -- how many characters, from the first on, reach so many columns: the fewest, or all
 abbrev pub reaching : ℕ → List ℕ → ℕ
@@ -38,8 +34,7 @@ abbrev pub window_left : ℕ → List ℕ → ℕ
 window_left left text = min left (width_of text)
 
 abbrev pub window_right : ℕ → ℕ → ℕ → List ℕ → ℕ
-window_right room left right text =
-    if nat_le (width_of text - window_left left text) room then width_of text else min (width_of text) right
+window_right room left right text = if nat_le (width_of text - window_left left text) room then width_of text else min (width_of text) right
 
 -- the characters left of the window, and those in it
 abbrev pub dropped_part : ℕ → List ℕ → List ℕ
@@ -53,18 +48,15 @@ inner_part room left right text =
 -- how many characters, up to the last one, reach so many columns: the fewest, or all
 abbrev pub reaching_last : ℕ → List ℕ → ℕ
 reaching_last columns [] = 0
-reaching_last columns (c ∷ cs) =
-    if nat_le columns (width_of cs) then reaching_last columns cs else length cs + 1
+reaching_last columns (c ∷ cs) = if nat_le columns (width_of cs) then reaching_last columns cs else length cs + 1
 
 -- where lines are cut on the left, the first characters in the window, as many as reach the width of the placeholder, give
 -- their place to it: these are the columns that they take, and the characters after them
 abbrev pub covered_columns : ℕ → List ℕ → List ℕ → Option ℕ
-covered_columns left placeholder inner =
-    if left == 0 then None else Some (width_of (take (reaching (width_of placeholder) inner) inner))
+covered_columns left placeholder inner = if left == 0 then None else Some (width_of (take (reaching (width_of placeholder) inner) inner))
 
 abbrev pub uncovered_part : ℕ → List ℕ → List ℕ → List ℕ
-uncovered_part left placeholder inner =
-    if left == 0 then inner else drop (reaching (width_of placeholder) inner) inner
+uncovered_part left placeholder inner = if left == 0 then inner else drop (reaching (width_of placeholder) inner) inner
 
 -- where the line is cut on the right, the cell from which on the placeholder covers its last characters, as many as reach
 -- its width

@@ -1,5 +1,5 @@
 //! The whitespace that a line begins with.
-ghost use Rattle.std.specs.Prelude.{◌≡◌, ◌≤◌, chars};
+ghost use Rattle.std.specs.Prelude.{◌≡◌, ◌≤◌, ◌==◌, chars, if◌then◌else◌};
 ghost use Rattle.snippet_window.specs.Window as spec;
 ghost use Rattle.snippet_text.specs.TextBounds.{TextFits};
 
@@ -21,7 +21,7 @@ pub fn leading_whitespace(line: &str) -> Option<usize>
 
 /// The columns of a character of leading whitespace.
 fn whitespace_width(c: char) -> usize
-    ensures value { result ≡ spec.whitespace_width c }
+    ensures value { result ≡ (if c == 9 then 4 else 1) }
     ensures bound { result ≤ 4 }
 {
     if c == '\t' { 4 } else { 1 }

@@ -1,6 +1,6 @@
 use Rattle.std.proofs.Common.{◌∙◌, sym, ap}
 use Rattle.std.proofs.lemmas.Str.{chars-nil}
-use Rattle.snippet_labels.specs.PlacedEntries.{label_chars}
+use Rattle.snippet_labels.proofs.LabelWords.{label_chars}
 use Rattle.snippet_labels.proofs.positions.shown_label.Goals as goal
 
 pub returns-in-None : goal.returns-in-None

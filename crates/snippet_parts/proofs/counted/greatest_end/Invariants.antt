@@ -1,5 +1,5 @@
 use Rattle.std.proofs.Common.{◌≡◌, take}
-use Rattle.snippet_parts.specs.Counted.{greatest_end}
+use Rattle.snippet_parts.proofs.CountedWords.{greatest_end}
 use Rattle.snippet_parts.proofs.counted.greatest_end.Given as goal
 
 abbrev pub invariant-loop-annotation : goal.invariant-loop-annotation

@@ -9,15 +9,15 @@ use Rattle.snippet_parts.specs.Located.{AreBars, IsLocated, is_long_span}
 use Rattle.snippet_parts.specs.Mark.{is_marking}
 use Rattle.snippet_parts.specs.Marked.{first_line}
 use Rattle.snippet_parts.proofs.LocatedLemmas.{located-ordered, long_span-by}
-use Rattle.snippet_parts.proofs.KeptLemmas.{keeps-all, keeps-ends, last_bar-is, last_bar-apart}
+use Rattle.snippet_parts.proofs.KeptLemmas.{after-least, keeps-all, keeps-ends, last_bar-is, last_bar-apart}
 use Rattle.snippet_parts.proofs.kept.kept_stretches.Goals as goal
 use Rattle.snippet_parts.proofs.kept.kept_stretches.Goals.{then-all-via-then-all, then-all-via-else-all+then-not-is_marking}
 
 -- whether a span of these lines has a bar beside line k
 abbrev bar_by : List ℕ → ℕ → ℕ → ℕ → Bool
 bar_by source k f l =
-    ltb f k && (list_any (λ j. not (is_trivial_line source j)) (range_with_len k (min (f + 4) l - k))
-    || (eqb (k + 1) l && ltb (min (f + 4) l) k && not (is_trivial_line source k)))
+    list_any (λ j. not (is_trivial_line source j)) (range_with_len k (min (f + 4) l - k))
+    || (eqb (k + 1) l && ltb (f + 4) k && not (is_trivial_line source k))
 
 -- whether a span keeps line k, by its first and its last line
 abbrev keeps_by : List ℕ → Annotation → ℕ → ℕ → ℕ → Bool
@@ -47,8 +47,8 @@ returns c = record { value = kept }
         let a = span.annotation.now in
         let f : ℕ = c.touched-all.result.first in
         let l : ℕ = c.touched-all.result.last in
-        let m : ℕ = min (f + 4) l in
-        let shown : Bool = list_any (λ j. not (is_trivial_line source j)) (range_with_len k (m - k)) in
+        let m : ℕ = f + 4 in
+        let shown : Bool = list_any (λ j. not (is_trivial_line source j)) (range_with_len k (min m l - k)) in
         let last_bar : Bool = eqb (k + 1) l && ltb m k && not (is_trivial_line source k) in
         let marked : is_marking a.kind ≡ true = sym c.is_marking.ensures.value ∙ c.if-not-is_marking.false in
         let long : is_long_span span ≡ true = long_span-by span marked (λ same.
@@ -58,7 +58,7 @@ returns c = record { value = kept }
         keeps-ends f l span.bars.end (l - c.from-closing.result) k (is_marking a.kind) shown last_bar (omega arith)
         bars.from (omega (arith, bars.before)) marked (bars.telling k)
         (last_bar-is l k m (is_trivial_line source) c.from-closing.result span.bars.closing (omega arith)
-        bars.closes (λ e. c.from-closing.ensures ∙ ap bool_byte e) (λ e. c.from-closing.ensures ∙ ap bool_byte e))
+        (bars.closes ∙ ap (λ b. b && not (is_trivial_line source (l - 1))) (after-least m l)) (λ e. c.from-closing.ensures ∙ ap bool_byte e) (λ e. c.from-closing.ensures ∙ ap bool_byte e))
         (last_bar-apart l k m (is_trivial_line source)) (omega arith)
         (omega (arith, one-at-most span.bars.closing c.from-closing.result c.from-closing.ensures))
         ∙ at_lines s span f l k at c.touched-all.ensures.first c.touched-all.ensures.last

@@ -1,4 +1,3 @@
-use Rattle.std.proofs.Common.{arith}
 use Rattle.snippet_parts.proofs.KeptLemmas.{merged-all, merged-step}
 use Rattle.snippet_parts.proofs.kept.merged_lines.Goals as goal
 

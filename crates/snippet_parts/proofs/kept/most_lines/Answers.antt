@@ -1,4 +1,4 @@
-use Rattle.std.proofs.Common.{◌≤◌, ap, length, arith}
+use Rattle.std.proofs.Common.{ap, length, arith}
 use Rattle.snippet_lines.proofs.LinesLemmas.{length-source_lines, newline_count-le}
 use Rattle.snippet_parts.proofs.kept.most_lines.Goals as goal
 

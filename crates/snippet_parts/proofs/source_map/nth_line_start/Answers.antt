@@ -1,4 +1,4 @@
-use Rattle.std.proofs.Common.{◌≡◌, ◌<◌, ◌+◌, ◌∙◌, ℕ, List, ap, sym, arith}
+use Rattle.std.proofs.Common.{◌≡◌, ◌+◌, ◌∙◌, List, ap, sym, arith}
 use Rattle.snippet_lines.specs.Lines.{Line, source_lines, start_of}
 use Rattle.snippet_lines.specs.Place.{line_of}
 use Rattle.snippet_lines.proofs.LinesLemmas.{start_of-zero}

@@ -27,7 +27,7 @@ returns-in_ok-push-2 c =
           (c.loop-line.line - (c.args.span.start.line - c.line_start.result + 1))
           c.args.span.bars.closing c.if-span.true c.in_ok-push-2.ensures.items
           (c.bar_entry-then-span.ensures.value ∙ ap (bar_part (seen_long c.args.span) c.args.depth) number)
-          c.loop-line.invariant (ap (λ n. n + 1) from) (omega (arith, bars.from, from)) bars.from bars.to bars.telling bars.closes;
+          c.loop-line.invariant (ap (λ n. n + 1) from) (omega (arith, bars.from, from)) bars.from bars.to bars.before bars.telling bars.closes;
     }
 
 pub returns-else-span : goal.returns-else-span
@@ -41,5 +41,5 @@ returns-else-span c =
       value = bars-open f c.args.entries.now.items c.loop-line.entries.items c.args.source.now.text first last c.args.span.bars.end
           (c.args.span.start.line - c.line_start.result + 1)
           (c.loop-line.line - (c.args.span.start.line - c.line_start.result + 1)) c.args.span.bars.closing c.if-span.false
-          c.loop-line.invariant (ap (λ n. n + 1) from) (omega (arith, bars.from, from)) bars.from bars.to bars.telling bars.closes;
+          c.loop-line.invariant (ap (λ n. n + 1) from) (omega (arith, bars.from, from)) bars.from bars.to bars.before bars.telling bars.closes;
     }

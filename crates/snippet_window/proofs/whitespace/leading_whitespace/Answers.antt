@@ -2,7 +2,8 @@ use Rattle.std.proofs.Common.{◌≡◌, ◌+◌, ◌∙◌, arith, length, drop
 use Rattle.std.specs.Option.{option_map}
 use Rattle.std.specs.Char.{is_whitespace}
 use Rattle.std.proofs.lemmas.Str.{length-encode, len_utf8_bounds}
-use Rattle.snippet_window.specs.Window.{leading_whitespace, whitespace_width}
+use Rattle.snippet_window.specs.Window.{leading_whitespace}
+use Rattle.snippet_window.proofs.MeasureWords.{whitespace_width}
 use Rattle.std.specs.Str.{chars}
 use Rattle.std.proofs.lemmas.Iterator.{YieldsList-from_chars}
 use Rattle.std.proofs.lemmas.List.{length_push, length-append}

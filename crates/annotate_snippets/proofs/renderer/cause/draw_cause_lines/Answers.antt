@@ -21,7 +21,7 @@ use Rattle.annotate_snippets.specs.Gutter.{numbered_source}
 use Rattle.annotate_snippets.specs.PreparedReport.{IsCausePrepared}
 use Rattle.annotate_snippets.specs.declared.renderer.preprocess.PreparedCause.{PreparedCause}
 use Rattle.annotate_snippets.proofs.GutterLemmas.{numbers_fit}
-use Rattle.annotate_snippets.proofs.PartsFacts.{lines_entries, lines_labels, lines_texts, bounds_of_kept, shown_clear}
+use Rattle.annotate_snippets.proofs.PartsFacts.{lines_entries, lines_labels, lines_texts, shown_clear}
 use Rattle.annotate_snippets.proofs.renderer.cause.draw_cause_lines.Goals as goal
 use Rattle.annotate_snippets.proofs.renderer.cause.draw_cause_lines.Goals.{After-deref, After-deref-2}
 
@@ -129,10 +129,9 @@ returns c =
     (ap kept_of c.deref.ensures.value ∙ c.in_ok-lines.ensures.kept_are) ∙ prepared.kept_are in
     let room : c.saturating_sub-room.result ≡ c.args.renderer.now.term_width - layout.code = c.saturating_sub-room.ensures
     ∙ ap (λ (l : Layout). c.args.renderer.now.term_width - l.code) c.layout.view_is in
-    let bounds : bounds_of c.margin_for-margin.result ≡ margin_of (c.args.renderer.now.term_width - layout.code) s.fold (numbered_source s)
-    s.markers.items = c.margin_for-margin.ensures.bounds
-    ∙ bounds_of_kept c.saturating_sub-room.result s.fold (numbered_source s) s.markers.items (kept_of c.deref.result.now) prepared.drawable.spans kept
-    ∙ ap (λ n. margin_of n s.fold (numbered_source s) s.markers.items) room in
+    let bounds : bounds_of c.margin_for-margin.result ≡ margin_of (c.args.renderer.now.term_width - layout.code)
+    (annotated_lines s.fold (numbered_source s) s.markers.items) = c.margin_for-margin.ensures.bounds ∙ ap (margin_of c.saturating_sub-room.result) kept
+    ∙ ap (λ n. margin_of n (annotated_lines s.fold (numbered_source s) s.markers.items)) room in
     record {
       added = on_ok_weaker c.draw_snippet.result (λ adds. record {
         rows = adds.rows;

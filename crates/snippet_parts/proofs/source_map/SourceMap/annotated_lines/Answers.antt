@@ -1,10 +1,10 @@
 use Rattle.std.proofs.Common.{sym, subst}
 use Rattle.std.proofs.lemmas.Result.{IfOk-weaker}
-use Rattle.snippet_parts.specs.Annotated.{long_places}
 use Rattle.snippet_parts.specs.Depths.{places_of, IsLongestChain}
 use Rattle.snippet_parts.proofs.DepthLemmas.{longest-chain}
 use Rattle.snippet_parts.proofs.OnLineLemmas.{lines-ascend, first-line-among, last-line-among, seen-line-among, lines-kept, lines-entries}
 use Rattle.snippet_parts.proofs.ShownLemmas.{annotations-distinct}
+use Rattle.snippet_parts.proofs.PartWords.{long_places}
 use Rattle.snippet_parts.proofs.source_map.SourceMap.annotated_lines.Goals as goal
 
 pub returns-clause-longest : goal.returns-clause-longest

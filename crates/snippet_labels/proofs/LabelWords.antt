@@ -1,0 +1,33 @@
+-- Words for parts of where labels stand, which proofs cite.
+use Rattle.std.proofs.Common.{◌+◌, ◌-◌, ◌&&◌, ◌||◌, Bool, List, Option, [], map, not, chars, ℕ}
+use Rattle.std.specs.Borrow.{Bor}
+use Rattle.std.specs.Option.{option_map_or}
+use Rattle.snippet_text.specs.Normalized.{norm}
+use Rattle.snippet_parts.specs.declared.entries.LineAnnotation.{LineAnnotation}
+use Rattle.snippet_parts.specs.Least.{greatest}
+use Rattle.snippet_labels.specs.declared.positions.PlacedEntry.{PlacedEntry}
+use Rattle.snippet_labels.specs.Positions.{blocks, has_label, is_start_part, placed_at, reaches}
+
+-- the characters that a label shows: normalised, and none where there is no label
+abbrev pub label_chars : Option (Bor (List ℕ)) → List ℕ
+label_chars label = option_map_or (λ (text : Bor (List ℕ)). norm (chars text.now)) label []
+
+-- whether another entry needs a row below that of this entry, which has position p
+abbrev pub crowds : ℕ → PlacedEntry → PlacedEntry → Bool
+crowds p e other = blocks e other || reaches p e other
+
+-- up to this place, it counted, of so many; all where there is none
+abbrev pub up_to : Option ℕ → ℕ → ℕ
+up_to place all = option_map_or (λ k. k + 1) place all
+
+-- whether an entry is the start of a span of several lines, and has no label that shows anything
+abbrev pub is_start : PlacedEntry → Bool
+is_start e = is_start_part e.entry.annotation_type && not (has_label e)
+
+-- positions flipped: the greatest becomes 0, and 0 the greatest
+abbrev pub flipped : List ℕ → List ℕ
+flipped ps = map (λ p. greatest ps - p) ps
+
+-- entries with their labels, none of which is placed yet
+abbrev pub labelled : List LineAnnotation → List PlacedEntry
+labelled es = map (λ e. placed_at (e, (0, 0))) es

@@ -1,0 +1,16 @@
+-- Words for what the bounds of a window are computed from, which proofs cite.
+use Rattle.std.proofs.Common.{List, ℕ, cond, eqb, map}
+use Rattle.std.specs.List.{filter_map}
+use Rattle.snippet_text.specs.Width.{width_of}
+use Rattle.snippet_window.specs.Window.{leading_whitespace}
+
+-- the columns of a character of leading whitespace: four of a tab, one of any other
+abbrev pub whitespace_width : ℕ → ℕ
+whitespace_width c = cond (eqb c 9) 4 1
+
+-- the widths of the whitespace that those lines begin with which aren't blank, and the widths of all lines
+abbrev pub whitespaces_of : List (List ℕ) → List ℕ
+whitespaces_of texts = filter_map leading_whitespace texts
+
+abbrev pub widths_of : List (List ℕ) → List ℕ
+widths_of texts = map width_of texts
