@@ -38,7 +38,7 @@ use Rattle.annotate_snippets.specs.DrawnReport.{AreCauseRows, HasRoomFor, IsCaus
 use Rattle.annotate_snippets.specs.Gutter.{code_after, depth_of_element, line_numbers, numbered_source}
 use Rattle.annotate_snippets.specs.Page.{NamedRow, cells_of, lines_named, others}
 use Rattle.annotate_snippets.specs.PreparedReport.{IsDrawable}
-use Rattle.annotate_snippets.specs.RowsWithoutSource.{cause_head, closing_rows, origin_layout, place_found, place_named, rows_after_cause, separator_rows}
+use Rattle.annotate_snippets.specs.RowsWithoutSource.{cause_head, origin_layout, place_found, place_named, rows_after_cause}
 use Rattle.annotate_snippets.specs.Laws.Paths.{NamesLocation}
 use Rattle.annotate_snippets.specs.Laws.Feeds.{HasNoFeed}
 use Rattle.annotate_snippets.proofs.Ascending.{IsAscending, ascends}
@@ -49,6 +49,7 @@ use Rattle.annotate_snippets.proofs.PageLemmas.{cells_of-append, cells_of-others
 use Rattle.annotate_snippets.proofs.SpanBarRows.{bars_shown}
 use Rattle.annotate_snippets.proofs.PartsFacts.{ends_shown, lines_entries, shown_ascending, snippet_shown-within}
 use Rattle.annotate_snippets.proofs.PathFeedLaws.{after_one_line, head_one_line}
+use Rattle.snippet_style.specs.Separators.{closing_row, separator_row}
 
 -- where a snippet of the group's primary file has a path, its first row is that of the path
 path_first : (layout : OriginLayout) (primary first : Bool) (named : Option (List ℕ)) (place : OriginLocation) (more : List NamedRow) (path : List ℕ)
@@ -87,7 +88,7 @@ module _ (r : Renderer) (layout : Layout) (around : ElementContext) (s : Snippet
       one : (row : List Cell) → IsFree row → All IsFree (row ∷ [])
       one row free = All-cons IsFree row [] free (All-nil IsFree)
 
-      either : (sets_off closes : Bool) → All IsFree (cond sets_off (separator_rows r layout) (cond closes (closing_rows r layout) []))
+      either : (sets_off closes : Bool) → All IsFree (cond sets_off ((separator_row layout.decor layout.gutter ∷ [])) (cond closes ((closing_row layout.decor layout.gutter ∷ [])) []))
       either true closes = one _ (separator_row-free layout.decor layout.gutter)
       either false true = one _ (closing_row-free layout.decor layout.gutter)
       either false false = All-nil IsFree

@@ -33,11 +33,12 @@ use Rattle.annotate_snippets.specs.declared.renderer.element_context.GroupPositi
 use Rattle.annotate_snippets.specs.declared.renderer.element_context.Next.{Next as NextElement}
 use Rattle.annotate_snippets.specs.Around.{is_before_message}
 use Rattle.annotate_snippets.specs.Laws.Feeds.{HasNoFeed, IsNoFeed}
-use Rattle.annotate_snippets.specs.RowsWithoutSource.{closing_rows, rows_after_title, separator_rows, title_part}
+use Rattle.annotate_snippets.specs.RowsWithoutSource.{rows_after_title, title_part}
 use Rattle.annotate_snippets.proofs.OneLineTexts.{HoldsNoFeed, IsOneLineId, IsOneLineName, IsOneLineText, IsOneLineTitle}
 use Rattle.snippet_titles.proofs.OriginFree.{each-fails}
 use Rattle.annotate_snippets.proofs.FeedLaws.{after_spaces, bare-plain}
-use Rattle.annotate_snippets.proofs.PathFeedLaws.{alone, cells_plain, choice, closing_plain as closing_rows-plain, norm-plain}
+use Rattle.annotate_snippets.proofs.PathFeedLaws.{alone, cells_plain, choice, closing_plain as closing_row-plain, norm-plain}
+use Rattle.snippet_style.specs.Separators.{closing_row, separator_row}
 
 -- ---- the label
 
@@ -175,6 +176,6 @@ title_part-one_line r layout place follows (Some title) plain =
     let after : List (List Cell) = rows_after_title r layout place follows title.allows_styling in
     All-append HasNoFeed own after (heading_one_line r.hyperlink Title (heading_of_title title) plain) (below (is_before_message follows) _)
   where
-    below : (before closes : Bool) → All HasNoFeed (cond before (separator_rows r layout) (cond closes (closing_rows r layout) []))
+    below : (before closes : Bool) → All HasNoFeed (cond before ((separator_row layout.decor layout.gutter ∷ [])) (cond closes ((closing_row layout.decor layout.gutter ∷ [])) []))
     below true closes = All-cons HasNoFeed _ [] (bare-plain layout.decor layout.gutter false) (All-nil HasNoFeed)
-    below false closes = closing_rows-plain r layout closes
+    below false closes = closing_row-plain r layout closes

@@ -28,7 +28,7 @@ use Rattle.snippet_titles.proofs.PlaceLemmas.{heading_rows-places}
 use Rattle.snippet_titles.proofs.TextLemmas.{heading_rows-texts}
 use Rattle.annotate_snippets.specs.Around.{closes_after, is_end}
 use Rattle.annotate_snippets.specs.Page.{NamedRow, cells_of, others}
-use Rattle.annotate_snippets.specs.RowsWithoutSource.{closing_rows, message_rows, message_style, origin_layout, origin_rows, origin_start, place_given}
+use Rattle.annotate_snippets.specs.RowsWithoutSource.{message_rows, message_style, origin_layout, origin_rows, origin_start, place_given}
 use Rattle.annotate_snippets.specs.RowsWithoutSource.{title_part}
 use Rattle.annotate_snippets.specs.Laws.Titles.{ShowsHeading, ShowsTitlePart}
 use Rattle.annotate_snippets.specs.declared.renderer.Renderer.{Renderer}
@@ -41,6 +41,7 @@ use Rattle.annotate_snippets.proofs.ElementShown.{ElementShown}
 use Rattle.annotate_snippets.proofs.HeadingFeedLaws.{heading_one_line}
 use Rattle.annotate_snippets.proofs.PageLemmas.{cells_of-others}
 use Rattle.annotate_snippets.proofs.PathFeedLaws.{origin_one_line, padding_one_line}
+use Rattle.snippet_style.specs.Separators.{closing_row}
 
 -- what holds of rows holds of them with names
 pub others-each : (P : List Cell → Type 0) (rows : List (List Cell)) → All P rows → All (λ (row : NamedRow). P row.cells) (others rows)
@@ -87,7 +88,7 @@ message_shown r layout around found message rows are =
     }
 
 -- those of an origin
-closing-free : (r : Renderer) (layout : Layout) (closes : Bool) → All IsFree (if closes then closing_rows r layout else [])
+closing-free : (r : Renderer) (layout : Layout) (closes : Bool) → All IsFree (if closes then (closing_row layout.decor layout.gutter ∷ []) else [])
 closing-free r layout true = All-cons IsFree _ [] (closing_row-free layout.decor layout.gutter) (All-nil IsFree)
 closing-free r layout false = All-nil IsFree
 

@@ -35,12 +35,13 @@ use Rattle.annotate_snippets.specs.Around.{closes_after, closes_with, context_at
 use Rattle.annotate_snippets.specs.DrawnReport.{found_at}
 use Rattle.annotate_snippets.specs.Laws.Numbers.{IsNumberedAsLine, shows_a_line}
 use Rattle.annotate_snippets.specs.Page.{RowName, SourceRow, Elision, OfferedLine, RemovedLine, Other, NamedRow, GroupPage, cells_of, others}
-use Rattle.annotate_snippets.specs.RowsWithoutSource.{cause_head, closing_rows, origin_layout, origin_rows, origin_start, patch_place, path_row, place_given}
-use Rattle.annotate_snippets.specs.RowsWithoutSource.{rows_after_cause, separator_rows, suggestion_head, suggestion_head_at}
+use Rattle.annotate_snippets.specs.RowsWithoutSource.{cause_head, origin_layout, origin_rows, origin_start, patch_place, path_row, place_given}
+use Rattle.annotate_snippets.specs.RowsWithoutSource.{rows_after_cause, suggestion_head, suggestion_head_at}
 use Rattle.annotate_snippets.specs.Laws.Groups.{AreElementsShown, ShowsElement}
 use Rattle.annotate_snippets.specs.Laws.Snippets.{AreRowsOf, IsRowOf}
 use Rattle.annotate_snippets.specs.Laws.Suggestions.{IsSuggestionRow}
 use Rattle.annotate_snippets.proofs.LeftLaws.{unnumbered_below, unnumbered_elided}
+use Rattle.snippet_style.specs.Separators.{closing_row, separator_row}
 
 -- ---- characters
 
@@ -93,12 +94,12 @@ others_numbered gutter (row ∷ rows) none =
 one_row : (gutter : ℕ) (row : List Cell) → HasNoNumber gutter row → All (HasNoNumber gutter) (row ∷ [])
 one_row gutter row none = All-cons (HasNoNumber gutter) row [] none (All-nil (HasNoNumber gutter))
 
-closing_unnumbered : (r : Renderer) (layout : Layout) (closes : Bool) → All (HasNoNumber layout.gutter) (cond closes (closing_rows r layout) [])
+closing_unnumbered : (r : Renderer) (layout : Layout) (closes : Bool) → All (HasNoNumber layout.gutter) (cond closes ((closing_row layout.decor layout.gutter ∷ [])) [])
 closing_unnumbered r layout true = one_row layout.gutter _ (closing_row-unnumbered layout.decor layout.gutter)
 closing_unnumbered r layout false = All-nil (HasNoNumber layout.gutter)
 
 after_unnumbered : (r : Renderer) (layout : Layout) (separates closes : Bool)
-    → All (HasNoNumber layout.gutter) (cond separates (separator_rows r layout) (cond closes (closing_rows r layout) []))
+    → All (HasNoNumber layout.gutter) (cond separates ((separator_row layout.decor layout.gutter ∷ [])) (cond closes ((closing_row layout.decor layout.gutter ∷ [])) []))
 after_unnumbered r layout true closes = one_row layout.gutter _ (separator_row-unnumbered layout.decor layout.gutter)
 after_unnumbered r layout false closes = closing_unnumbered r layout closes
 

@@ -26,15 +26,16 @@ use Rattle.snippet_suggest.specs.Suggested.{body_cells, suggested_cells as row_c
 use Rattle.annotate_snippets.specs.Around.{HasPathFor, begins_in_row_above, is_end, is_next_start, path_bytes}
 use Rattle.annotate_snippets.specs.DrawnReport.{AddsElement, shared_row, suggestion_layout, suggestion_lines, under_of}
 use Rattle.annotate_snippets.specs.Gutter.{line_numbers}
-use Rattle.annotate_snippets.specs.RowsWithoutSource.{path_head, path_row, separator_rows, suggestion_head, suggestion_head_at}
+use Rattle.annotate_snippets.specs.RowsWithoutSource.{path_head, path_row, suggestion_head, suggestion_head_at}
 use Rattle.annotate_snippets.specs.declared.renderer.Renderer.{Renderer}
 use Rattle.snippet_grid.specs.Layout.{Layout}
 use Rattle.annotate_snippets.specs.declared.renderer.element_context.ElementContext.{ElementContext}
+use Rattle.snippet_style.specs.Separators.{separator_row}
 
 -- the row of a path with the separator row below it
 path_head_is : (r : Renderer) (layout : Layout) (first : Bool) (s : Snippet Patch) (path : Option (List ℕ)) → is_some path ≡ true
-    → flat_map (λ path. path_row r layout first s (Some path) ++ separator_rows r layout) (option_to_list path) ≡ path_row r layout first s path
-    ++ separator_rows r layout
+    → flat_map (λ path. path_row r layout first s (Some path) ++ (separator_row layout.decor layout.gutter ∷ [])) (option_to_list path) ≡ path_row r layout first s path
+    ++ (separator_row layout.decor layout.gutter ∷ [])
 path_head_is r layout first s None some = absurd (cc)
 path_head_is r layout first s (Some path) some = refl
 
@@ -66,11 +67,11 @@ begun_below r layout Next first s found above old mid is path headed same =
     }
 begun_below r layout Path first s found above old mid is path headed same =
     let head : List (List Cell) = path_row r layout first s (path_bytes s.path) in
-    let head_is : path_head r layout first s ≡ head ++ separator_rows r layout = path_head_is r layout first s (path_bytes s.path) (path refl) in
+    let head_is : path_head r layout first s ≡ head ++ (separator_row layout.decor layout.gutter ∷ []) = path_head_is r layout first s (path_bytes s.path) (path refl) in
     record {
-      end = separator_rows r layout;
+      end = (separator_row layout.decor layout.gutter ∷ []);
       is = headed refl ∙ ap (λ rows. rows ++ path_head r layout first s) (is ∙ append-nil above) ∙ ap (λ rows. above ++ rows) head_is
-          ∙ sym (append_assoc above head (separator_rows r layout));
+          ∙ sym (append_assoc above head ((separator_row layout.decor layout.gutter ∷ [])));
       count = refl;
       under = refl;
     }

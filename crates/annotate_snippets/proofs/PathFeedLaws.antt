@@ -28,14 +28,14 @@ use Rattle.annotate_snippets.specs.declared.renderer.element_context.ElementCont
 use Rattle.snippet_grid.specs.Layout.{Layout}
 use Rattle.annotate_snippets.specs.Around.{closes_after, is_before_message, is_first_group, path_bytes}
 use Rattle.annotate_snippets.specs.Gutter.{numbered_source}
-use Rattle.annotate_snippets.specs.RowsWithoutSource.{cause_head, closing_rows, origin_layout, origin_rows, origin_start, place_given, place_named}
+use Rattle.annotate_snippets.specs.RowsWithoutSource.{cause_head, origin_layout, origin_rows, origin_start, place_given, place_named}
 use Rattle.annotate_snippets.specs.RowsWithoutSource.{rows_after_cause}
-use Rattle.annotate_snippets.specs.RowsWithoutSource.{separator_rows}
 use Rattle.annotate_snippets.specs.Laws.Feeds.{HasNoFeed, IsNoFeed}
 use Rattle.annotate_snippets.proofs.OneLineTexts.{HoldsNoFeed, IsOneLineText}
 use Rattle.annotate_snippets.proofs.FeedLaws.{after_spaces, bare-plain}
 pub use Rattle.annotate_snippets.proofs.FeedLaws.{cells_plain}
 use Rattle.snippet_parts.specs.Annotated.{annotated_lines}
+use Rattle.snippet_style.specs.Separators.{closing_row, separator_row}
 
 -- ---- characters
 
@@ -122,7 +122,7 @@ one : (row : List Cell) → HasNoFeed row → All HasNoFeed (row ∷ [])
 one row plain = All-cons HasNoFeed row [] plain (All-nil HasNoFeed)
 
 -- nor does a row that closes a group's window hold one
-pub closing_plain : (r : Renderer) (layout : Layout) (closes : Bool) → All HasNoFeed (cond closes (closing_rows r layout) [])
+pub closing_plain : (r : Renderer) (layout : Layout) (closes : Bool) → All HasNoFeed (cond closes ((closing_row layout.decor layout.gutter ∷ [])) [])
 closing_plain r layout true = one _ (bare-plain layout.decor layout.gutter true)
 closing_plain r layout false = All-nil HasNoFeed
 
@@ -138,7 +138,7 @@ pub after_one_line : (r : Renderer) (layout : Layout) (around : ElementContext) 
 after_one_line r layout around =
     either (is_first_group around.place && is_before_message around.next)
   where
-    either : (sets_off : Bool) → All HasNoFeed (cond sets_off (separator_rows r layout) (cond (closes_after around) (closing_rows r layout) []))
+    either : (sets_off : Bool) → All HasNoFeed (cond sets_off ((separator_row layout.decor layout.gutter ∷ [])) (cond (closes_after around) ((closing_row layout.decor layout.gutter ∷ [])) []))
     either true = one _ (bare-plain layout.decor layout.gutter false)
     either false = closing_plain r layout (closes_after around)
 
@@ -152,5 +152,5 @@ pub origin_one_line : (r : Renderer) (layout : Layout) (around : ElementContext)
     → All HasNoFeed (origin_rows r layout around o)
 origin_one_line r layout around o plain =
     let row : List Cell = origin_row (origin_layout r layout) (origin_start around) (cow_str_bytes o.path) (place_given o) in
-    All-cons HasNoFeed row (cond (closes_after around) (closing_rows r layout) [])
+    All-cons HasNoFeed row (cond (closes_after around) ((closing_row layout.decor layout.gutter ∷ [])) [])
     (row_plain (origin_layout r layout) (origin_start around) (cow_str_bytes o.path) (place_given o) plain) (closing_plain r layout (closes_after around))

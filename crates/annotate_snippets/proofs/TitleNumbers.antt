@@ -17,13 +17,14 @@ use Rattle.snippet_titles.specs.HeadingRows.{colon_of, heading_lines, id_text, h
 use Rattle.snippet_titles.specs.ShownHeading.{texts_below}
 use Rattle.snippet_titles.proofs.OriginNumbers.{closing_row-unnumbered, separator_row-unnumbered}
 use Rattle.annotate_snippets.specs.Laws.Numbers.{IsTitleOfWords, IsUnnumbered, begins_with_number, begins_with_word}
-use Rattle.annotate_snippets.specs.RowsWithoutSource.{closing_rows, rows_after_title, separator_rows}
+use Rattle.annotate_snippets.specs.RowsWithoutSource.{rows_after_title}
 use Rattle.annotate_snippets.specs.Laws.Titles.{ShowsTitlePart}
 use Rattle.annotate_snippets.specs.declared.renderer.Renderer.{Renderer}
 use Rattle.snippet_grid.specs.Layout.{Layout}
 use Rattle.annotate_snippets.specs.declared.renderer.element_context.GroupPosition.{GroupPosition}
 use Rattle.annotate_snippets.specs.declared.renderer.element_context.Next.{Next}
 use Rattle.annotate_snippets.proofs.HeadingShown.{texts_of}
+use Rattle.snippet_style.specs.Separators.{closing_row, separator_row}
 
 -- a character that is neither a space nor a digit begins no number
 no_number : (space digit rest : Bool) → not (space || digit) ≡ true → cond space rest digit ≡ false
@@ -65,7 +66,7 @@ unnumbered gutter row none = unnumbered_row (gutter + 1) row (λ c within. none 
 
 -- the rows below a title
 after_title : (r : Renderer) (layout : Layout) (sets_off closes : Bool)
-    → All (IsUnnumbered layout.gutter) (cond sets_off (separator_rows r layout) (cond closes (closing_rows r layout) []))
+    → All (IsUnnumbered layout.gutter) (cond sets_off ((separator_row layout.decor layout.gutter ∷ [])) (cond closes ((closing_row layout.decor layout.gutter ∷ [])) []))
 after_title r layout true closes = All-cons (IsUnnumbered layout.gutter) _ []
     (unnumbered layout.gutter _ (separator_row-unnumbered layout.decor layout.gutter)) (All-nil (IsUnnumbered layout.gutter))
 after_title r layout false true = All-cons (IsUnnumbered layout.gutter) _ [] (unnumbered layout.gutter _ (closing_row-unnumbered layout.decor layout.gutter))

@@ -22,12 +22,13 @@ use Rattle.snippet_titles.proofs.FreeLemmas.{heading_rows-free}
 use Rattle.snippet_titles.proofs.OriginFree.{closing_row-free, separator_row-free}
 use Rattle.annotate_snippets.specs.Around.{is_before_message}
 use Rattle.annotate_snippets.specs.Page.{NamedRow, cells_of}
-use Rattle.annotate_snippets.specs.RowsWithoutSource.{closing_rows, rows_after_title, separator_rows, title_part}
+use Rattle.annotate_snippets.specs.RowsWithoutSource.{rows_after_title, title_part}
 use Rattle.annotate_snippets.specs.Laws.Free.{IsFreeBut, IsFreeElement}
 use Rattle.annotate_snippets.specs.declared.renderer.Renderer.{Renderer}
 use Rattle.snippet_grid.specs.Layout.{Layout}
 use Rattle.annotate_snippets.specs.declared.renderer.element_context.GroupPosition.{GroupPosition}
 use Rattle.annotate_snippets.specs.declared.renderer.element_context.Next.{Next}
+use Rattle.snippet_style.specs.Separators.{closing_row, separator_row}
 
 -- a character that isn't listed, or is one of a trusted text
 abbrev pub IsTrusted : List (List ℕ) → ℕ → Type 0
@@ -106,11 +107,11 @@ pub after_title-free : (r : Renderer) (layout : Layout) (place : GroupPosition) 
     → All IsFree (rows_after_title r layout place follows trusted)
 after_title-free r layout place follows trusted = by (is_before_message follows) _
   where
-    closing : (closes : Bool) → All IsFree (if closes then closing_rows r layout else [])
+    closing : (closes : Bool) → All IsFree (if closes then (closing_row layout.decor layout.gutter ∷ []) else [])
     closing true = All-cons IsFree _ [] (closing_row-free layout.decor layout.gutter) (All-nil IsFree)
     closing false = All-nil IsFree
 
-    by : (before closes : Bool) → All IsFree (if before then separator_rows r layout else (if closes then closing_rows r layout else []))
+    by : (before closes : Bool) → All IsFree (if before then (separator_row layout.decor layout.gutter ∷ []) else (if closes then (closing_row layout.decor layout.gutter ∷ []) else []))
     by true closes = All-cons IsFree _ [] (separator_row-free layout.decor layout.gutter) (All-nil IsFree)
     by false closes = closing closes
 

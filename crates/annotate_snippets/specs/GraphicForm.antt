@@ -71,15 +71,8 @@ lent text = record { ref_ptr = (0, 0); now = text }
 -- an entry as it is drawn
 abbrev pub line_entry : PartEntry → LineAnnotation
 line_entry p =
-    record {
-      start = p.entry.start;
-      end = p.entry.end;
-      kind = p.entry.kind;
-      label = option_map lent p.entry.label;
-      annotation_type = p.part;
-      highlight_source =
-          p.entry.highlight_source;
-    }
+    let e = p.entry in
+    record { start = e.start; end = e.end; kind = e.kind; label = option_map lent e.label; annotation_type = p.part; highlight_source = e.highlight_source }
 
 -- the rows of line k of a snippet, where these bars are open above it: what its entries make of the row that holds its number, the
 -- separator and its window, with the roles that entries highlight. The group's window may close with the line

@@ -37,27 +37,19 @@ use Rattle.annotate_snippets.specs.declared.renderer.element_context.GroupPositi
 use Rattle.annotate_snippets.specs.declared.renderer.element_context.Next.{Next}
 use Rattle.annotate_snippets.specs.declared.renderer.element_context.ElementContext.{ElementContext}
 
--- the rows that set off and close, where they stand in this layout
-abbrev pub separator_rows : Renderer → Layout → List (List Cell)
-separator_rows r layout = separator_row layout.decor layout.gutter ∷ []
-
--- the row that closes, alone
-abbrev pub closing_rows : Renderer → Layout → List (List Cell)
-closing_rows r layout = closing_row layout.decor layout.gutter ∷ []
-
 -- what stands below a title: a separator row before a message; and a closing row where nothing follows in the first of several
 -- groups, but not below a trusted title
 abbrev pub rows_after_title : Renderer → Layout → GroupPosition → Next → Bool → List (List Cell)
 rows_after_title r layout place next trusted =
-    if is_before_message next then separator_rows r layout
-    else (if is_end next && is_first_of_several place && not trusted then closing_rows r layout else [])
+    if is_before_message next then separator_row layout.decor layout.gutter ∷ []
+    else (if is_end next && is_first_of_several place && not trusted then closing_row layout.decor layout.gutter ∷ [] else [])
 
 -- what stands below the lines of an annotated snippet: in the first group a separator row before a message, and a closing row
 -- where nothing follows in the first of several groups
 abbrev pub rows_after_cause : Renderer → Layout → ElementContext → List (List Cell)
 rows_after_cause r layout around =
-    if is_first_group around.place && is_before_message around.next then separator_rows r layout
-    else (if closes_after around then closing_rows r layout else [])
+    if is_first_group around.place && is_before_message around.next then separator_row layout.decor layout.gutter ∷ []
+    else (if closes_after around then closing_row layout.decor layout.gutter ∷ [] else [])
 
 -- where a message stands, and its rows
 abbrev pub message_style : Renderer → Layout → ElementContext → TitleStyle
@@ -88,7 +80,7 @@ place_given origin = record { line = origin.line; column = origin.char_column }
 abbrev pub origin_rows : Renderer → Layout → ElementContext → Origin → List (List Cell)
 origin_rows r layout around origin =
     origin_row (origin_layout r layout) (origin_start around) (cow_str_bytes origin.path) (place_given origin) ∷
-    (if closes_after around then closing_rows r layout else [])
+    (if closes_after around then closing_row layout.decor layout.gutter ∷ [] else [])
 
 -- a place that is found in a source
 abbrev pub place_found : Option Location → OriginLocation
@@ -131,7 +123,7 @@ suggestion_head r layout around s = suggestion_head_at around.start r layout aro
 -- the row of its path, and the separator row below it
 abbrev pub path_head : Renderer → Layout → Bool → Snippet Patch → List (List Cell)
 path_head r layout first s =
-    flat_map (λ path. path_row r layout first s (Some path) ++ separator_rows r layout) (option_to_list (path_bytes s.path))
+    flat_map (λ path. path_row r layout first s (Some path) ++ separator_row layout.decor layout.gutter ∷ []) (option_to_list (path_bytes s.path))
 
 -- the rows of a group's title, and what stands below them, given what follows; none where there is no title
 abbrev pub title_part : Renderer → Layout → GroupPosition → Next → Option Title → List (List Cell)
