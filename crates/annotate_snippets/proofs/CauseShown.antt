@@ -88,7 +88,8 @@ module _ (r : Renderer) (layout : Layout) (around : ElementContext) (s : Snippet
       one : (row : List Cell) → IsFree row → All IsFree (row ∷ [])
       one row free = All-cons IsFree row [] free (All-nil IsFree)
 
-      either : (sets_off closes : Bool) → All IsFree (cond sets_off ((separator_row layout.decor layout.gutter ∷ [])) (cond closes ((closing_row layout.decor layout.gutter ∷ [])) []))
+      either : (sets_off closes : Bool)
+          → All IsFree (cond sets_off (separator_row layout.decor layout.gutter ∷ []) (cond closes (closing_row layout.decor layout.gutter ∷ []) []))
       either true closes = one _ (separator_row-free layout.decor layout.gutter)
       either false true = one _ (closing_row-free layout.decor layout.gutter)
       either false false = All-nil IsFree

@@ -176,6 +176,7 @@ title_part-one_line r layout place follows (Some title) plain =
     let after : List (List Cell) = rows_after_title r layout place follows title.allows_styling in
     All-append HasNoFeed own after (heading_one_line r.hyperlink Title (heading_of_title title) plain) (below (is_before_message follows) _)
   where
-    below : (before closes : Bool) → All HasNoFeed (cond before ((separator_row layout.decor layout.gutter ∷ [])) (cond closes ((closing_row layout.decor layout.gutter ∷ [])) []))
+    below : (before closes : Bool)
+        → All HasNoFeed (cond before (separator_row layout.decor layout.gutter ∷ []) (cond closes (closing_row layout.decor layout.gutter ∷ []) []))
     below true closes = All-cons HasNoFeed _ [] (bare-plain layout.decor layout.gutter false) (All-nil HasNoFeed)
     below false closes = closing_row-plain r layout closes

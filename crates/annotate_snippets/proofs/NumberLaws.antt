@@ -94,12 +94,14 @@ others_numbered gutter (row ∷ rows) none =
 one_row : (gutter : ℕ) (row : List Cell) → HasNoNumber gutter row → All (HasNoNumber gutter) (row ∷ [])
 one_row gutter row none = All-cons (HasNoNumber gutter) row [] none (All-nil (HasNoNumber gutter))
 
-closing_unnumbered : (r : Renderer) (layout : Layout) (closes : Bool) → All (HasNoNumber layout.gutter) (cond closes ((closing_row layout.decor layout.gutter ∷ [])) [])
+closing_unnumbered : (r : Renderer) (layout : Layout) (closes : Bool)
+    → All (HasNoNumber layout.gutter) (cond closes (closing_row layout.decor layout.gutter ∷ []) [])
 closing_unnumbered r layout true = one_row layout.gutter _ (closing_row-unnumbered layout.decor layout.gutter)
 closing_unnumbered r layout false = All-nil (HasNoNumber layout.gutter)
 
 after_unnumbered : (r : Renderer) (layout : Layout) (separates closes : Bool)
-    → All (HasNoNumber layout.gutter) (cond separates ((separator_row layout.decor layout.gutter ∷ [])) (cond closes ((closing_row layout.decor layout.gutter ∷ [])) []))
+    → All (HasNoNumber layout.gutter) (cond separates (separator_row layout.decor layout.gutter ∷ [])
+    (cond closes (closing_row layout.decor layout.gutter ∷ []) []))
 after_unnumbered r layout true closes = one_row layout.gutter _ (separator_row-unnumbered layout.decor layout.gutter)
 after_unnumbered r layout false closes = closing_unnumbered r layout closes
 

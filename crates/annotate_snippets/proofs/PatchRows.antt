@@ -34,8 +34,8 @@ use Rattle.snippet_style.specs.Separators.{separator_row}
 
 -- the row of a path with the separator row below it
 path_head_is : (r : Renderer) (layout : Layout) (first : Bool) (s : Snippet Patch) (path : Option (List ℕ)) → is_some path ≡ true
-    → flat_map (λ path. path_row r layout first s (Some path) ++ (separator_row layout.decor layout.gutter ∷ [])) (option_to_list path) ≡ path_row r layout first s path
-    ++ (separator_row layout.decor layout.gutter ∷ [])
+    → flat_map (λ path. path_row r layout first s (Some path) ++ (separator_row layout.decor layout.gutter ∷ [])) (option_to_list path)
+    ≡ path_row r layout first s path ++ (separator_row layout.decor layout.gutter ∷ [])
 path_head_is r layout first s None some = absurd (cc)
 path_head_is r layout first s (Some path) some = refl
 
@@ -67,11 +67,12 @@ begun_below r layout Next first s found above old mid is path headed same =
     }
 begun_below r layout Path first s found above old mid is path headed same =
     let head : List (List Cell) = path_row r layout first s (path_bytes s.path) in
-    let head_is : path_head r layout first s ≡ head ++ (separator_row layout.decor layout.gutter ∷ []) = path_head_is r layout first s (path_bytes s.path) (path refl) in
+    let head_is : path_head r layout first s ≡ head ++ (separator_row layout.decor layout.gutter ∷ []) = path_head_is r layout first s
+    (path_bytes s.path) (path refl) in
     record {
       end = (separator_row layout.decor layout.gutter ∷ []);
       is = headed refl ∙ ap (λ rows. rows ++ path_head r layout first s) (is ∙ append-nil above) ∙ ap (λ rows. above ++ rows) head_is
-          ∙ sym (append_assoc above head ((separator_row layout.decor layout.gutter ∷ [])));
+          ∙ sym (append_assoc above head (separator_row layout.decor layout.gutter ∷ []));
       count = refl;
       under = refl;
     }

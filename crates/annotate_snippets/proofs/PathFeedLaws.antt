@@ -122,7 +122,7 @@ one : (row : List Cell) → HasNoFeed row → All HasNoFeed (row ∷ [])
 one row plain = All-cons HasNoFeed row [] plain (All-nil HasNoFeed)
 
 -- nor does a row that closes a group's window hold one
-pub closing_plain : (r : Renderer) (layout : Layout) (closes : Bool) → All HasNoFeed (cond closes ((closing_row layout.decor layout.gutter ∷ [])) [])
+pub closing_plain : (r : Renderer) (layout : Layout) (closes : Bool) → All HasNoFeed (cond closes (closing_row layout.decor layout.gutter ∷ []) [])
 closing_plain r layout true = one _ (bare-plain layout.decor layout.gutter true)
 closing_plain r layout false = All-nil HasNoFeed
 
@@ -138,7 +138,9 @@ pub after_one_line : (r : Renderer) (layout : Layout) (around : ElementContext) 
 after_one_line r layout around =
     either (is_first_group around.place && is_before_message around.next)
   where
-    either : (sets_off : Bool) → All HasNoFeed (cond sets_off ((separator_row layout.decor layout.gutter ∷ [])) (cond (closes_after around) ((closing_row layout.decor layout.gutter ∷ [])) []))
+    either : (sets_off : Bool)
+        → All HasNoFeed (cond sets_off (separator_row layout.decor layout.gutter ∷ [])
+        (cond (closes_after around) (closing_row layout.decor layout.gutter ∷ []) []))
     either true = one _ (bare-plain layout.decor layout.gutter false)
     either false = closing_plain r layout (closes_after around)
 
@@ -152,5 +154,5 @@ pub origin_one_line : (r : Renderer) (layout : Layout) (around : ElementContext)
     → All HasNoFeed (origin_rows r layout around o)
 origin_one_line r layout around o plain =
     let row : List Cell = origin_row (origin_layout r layout) (origin_start around) (cow_str_bytes o.path) (place_given o) in
-    All-cons HasNoFeed row (cond (closes_after around) ((closing_row layout.decor layout.gutter ∷ [])) [])
+    All-cons HasNoFeed row (cond (closes_after around) (closing_row layout.decor layout.gutter ∷ []) [])
     (row_plain (origin_layout r layout) (origin_start around) (cow_str_bytes o.path) (place_given o) plain) (closing_plain r layout (closes_after around))

@@ -66,7 +66,8 @@ unnumbered gutter row none = unnumbered_row (gutter + 1) row (λ c within. none 
 
 -- the rows below a title
 after_title : (r : Renderer) (layout : Layout) (sets_off closes : Bool)
-    → All (IsUnnumbered layout.gutter) (cond sets_off ((separator_row layout.decor layout.gutter ∷ [])) (cond closes ((closing_row layout.decor layout.gutter ∷ [])) []))
+    → All (IsUnnumbered layout.gutter) (cond sets_off (separator_row layout.decor layout.gutter ∷ [])
+    (cond closes (closing_row layout.decor layout.gutter ∷ []) []))
 after_title r layout true closes = All-cons (IsUnnumbered layout.gutter) _ []
     (unnumbered layout.gutter _ (separator_row-unnumbered layout.decor layout.gutter)) (All-nil (IsUnnumbered layout.gutter))
 after_title r layout false true = All-cons (IsUnnumbered layout.gutter) _ [] (unnumbered layout.gutter _ (closing_row-unnumbered layout.decor layout.gutter))

@@ -111,7 +111,9 @@ after_title-free r layout place follows trusted = by (is_before_message follows)
     closing true = All-cons IsFree _ [] (closing_row-free layout.decor layout.gutter) (All-nil IsFree)
     closing false = All-nil IsFree
 
-    by : (before closes : Bool) → All IsFree (if before then (separator_row layout.decor layout.gutter ∷ []) else (if closes then (closing_row layout.decor layout.gutter ∷ []) else []))
+    by : (before closes : Bool)
+        → All IsFree (if before then (separator_row layout.decor layout.gutter ∷ []) else
+        (if closes then (closing_row layout.decor layout.gutter ∷ []) else []))
     by true closes = All-cons IsFree _ [] (separator_row-free layout.decor layout.gutter) (All-nil IsFree)
     by false closes = closing closes
 
