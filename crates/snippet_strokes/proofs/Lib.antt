@@ -1,6 +1,7 @@
 pub mod AmongLaws
 pub mod ApartLemmas
 pub mod SwapLemmas
+pub mod BarFacts
 pub mod BarLaws
 pub mod BarLemmas
 pub mod BarRows
