@@ -12,7 +12,7 @@ use Rattle.snippet_strokes.specs.declared.bars.BarStroke.TheVariants.{Solid}
 use Rattle.snippet_strokes.specs.declared.bars.OpenBar.{OpenBar}
 use Rattle.snippet_grid.specs.Layout.{Layout}
 use Rattle.snippet_strokes.specs.Bars.{HasOwnDepth, bar_cell_part, bars_apart, ends_of_bars, with_bar, with_bars}
-use Rattle.snippet_strokes.specs.LineRows.{AreLineRows}
+use Rattle.snippet_strokes.proofs.LineFacts.{AreLineRows}
 
 module _ (layout : Layout) (stroke : BarStroke) (bar : OpenBar) where
   -- the cell of the bar's depth, in a row

@@ -1,44 +1,31 @@
 -- Bars that are drawn into a source row before its code.
 use Rattle.std.proofs.Common.{◌≡◌, ◌≢◌, ℕ, ◌+◌, ◌-◌, ◌<◌, ◌≤◌, ◌==◌, true, false, List, [], ◌∷◌, ◌++◌, length, get_or, refl, sym, ap, ◌∙◌, arith}
-use Rattle.std.proofs.Common.{inl, inr, Bool, All, chars, filter, not}
+use Rattle.std.proofs.Common.{inl, inr, All, chars, not}
 use Rattle.std.proofs.lemmas.Bool.{cases_eq, cases_lt, false≢true, not-true}
 use Rattle.std.proofs.lemmas.Bool.Decides.{nat_tests}
 use Rattle.std.proofs.lemmas.List.Folds.{list_any_at}
 use Rattle.std.proofs.lemmas.List.{ext_get_or}
 use Rattle.std.proofs.lemmas.List.Elements.{All-head, All-tail, filter_passes}
-use Rattle.snippet_lines.specs.declared.number.LineNumbers.{LineNumbers}
-use Rattle.snippet_lines.specs.Number.{shown_number}
-use Rattle.snippet_labels.specs.PlacedEntries.{is_end_part}
-use Rattle.snippet_parts.specs.declared.entries.AnnotatedLineInfo.{AnnotatedLineInfo}
 use Rattle.snippet_parts.specs.declared.entries.LineAnnotation.{LineAnnotation}
-use Rattle.snippet_parts.specs.Entries.{is_bar}
-use Rattle.snippet_text.specs.Normalized.{norm}
-use Rattle.snippet_text.specs.Width.{width_of}
-use Rattle.snippet_window.specs.declared.margin.Margin.{Margin}
-use Rattle.snippet_window.specs.Margin.{bounds_of}
-use Rattle.snippet_window.specs.Window.{dropped_part}
 use Rattle.snippet_style.specs.declared.role.ElementStyle.TheVariants.{LineNumber}
 use Rattle.snippet_style.specs.Cell.{Cell, SPACE, text_cells}
 use Rattle.snippet_style.specs.Glyphs.{separator_of}
 use Rattle.snippet_style.proofs.CellLemmas.{length-text_cells, length-written, slice_index_or-written_after, slice_index_or-written_before}
 use Rattle.snippet_style.proofs.CellLemmas.{slice_index_or-written_inside}
-use Rattle.snippet_grid.specs.Grid.{cells_written, changed_within, row_at}
+use Rattle.snippet_grid.specs.Grid.{cells_written}
 use Rattle.snippet_grid.specs.Layout.{Layout, bar_cell}
 use Rattle.snippet_grid.proofs.RowLemmas.{separator_row-begun}
 use Rattle.snippet_strokes.specs.declared.bars.BarStroke.{BarStroke}
 use Rattle.snippet_strokes.specs.declared.bars.BarStroke.TheVariants.{Top, Solid}
 use Rattle.snippet_strokes.specs.declared.bars.OpenBar.{OpenBar}
-use Rattle.snippet_strokes.specs.Bars.{HasBarRoom, bar_cell_part, barred, bars_apart, ends_of_bars, has_depth, is_whole_line, with_bar}
+use Rattle.snippet_strokes.specs.Bars.{HasBarRoom, bar_cell_part, barred, bars_apart, has_depth, with_bar}
 use Rattle.snippet_strokes.specs.Bars.{with_bars}
-use Rattle.snippet_strokes.specs.Snippet.{AddsLine}
-use Rattle.snippet_strokes.specs.SourceRows.{AddsSourceRow, window_cells, with_cells}
+use Rattle.snippet_strokes.specs.SourceRows.{with_cells}
 use Rattle.snippet_strokes.specs.StrokeRows.{highlighted_row, role_in_source}
 use Rattle.snippet_strokes.proofs.BarLemmas.{BarsDrawn-with_bars}
-use Rattle.snippet_strokes.proofs.BarRows.{barred-below, changed_same}
-use Rattle.snippet_strokes.proofs.HighlightLaws.{IsHighlighted-row, IsHighlighted-rows, highlighted_count, unlit_rows}
-use Rattle.snippet_strokes.proofs.LineRowLemmas.{own_whole}
-use Rattle.snippet_strokes.proofs.LineValueLaws.{highlighted_is}
-use Rattle.snippet_strokes.proofs.SnippetLemmas.{highlighted_left, last_changed, row_added}
+use Rattle.snippet_strokes.proofs.BarRows.{barred-below}
+use Rattle.snippet_strokes.proofs.LineFromValue.{highlighted_row_is}
+use Rattle.snippet_strokes.proofs.SnippetLemmas.{highlighted_left}
 use Rattle.snippet_strokes.proofs.SourceRowLemmas.{front, number_written}
 use Rattle.snippet_strokes.proofs.SwapLemmas.{cells-swap, written-swap}
 
@@ -64,8 +51,8 @@ module _ (layout : Layout) (dropped : ℕ) (es : List LineAnnotation) where
       let part : List Cell = bar_cell_part layout stroke bar ∷ [] in
       let one : List Cell = with_bar layout stroke cells bar in
       let new : List Cell = with_bar layout stroke (lit cells) bar in
-      let over = IsHighlighted-row layout.code dropped es one in
-      let plain = IsHighlighted-row layout.code dropped es cells in
+      let over = highlighted_row_is layout.code dropped es one in
+      let plain = highlighted_row_is layout.code dropped es cells in
       let long = length-written SPACE cells at part in
       let long_new = length-written SPACE (lit cells) at part in
       ext_get_or SPACE (lit one) new (omega (arith, over.width, long, long_new, plain.width)) (λ c within. elim (cases_lt c layout.code) [
@@ -156,12 +143,6 @@ pub barred_last : (layout : Layout) (stroke : BarStroke) (bars : List OpenBar) (
 barred_last layout stroke bars above new row is =
     ap (barred layout stroke bars (length above)) is ∙ barred-below layout stroke bars above (row ∷ [])
 
--- no bars leave the rows as they are
-pub unbarred : (layout : Layout) (row : ℕ) (bare mid : List (List Cell)) → mid ≡ barred layout Solid [] row (barred layout Top [] row bare) → mid ≡ bare
-unbarred layout row bare mid is =
-    is ∙ changed_same (with_bars layout Solid []) row (barred layout Top [] row bare) (λ cells. refl)
-    ∙ changed_same (with_bars layout Top []) row bare (λ cells. refl)
-
 -- bars apart from others have none of their depths
 pub apart_depths : (bars others : List OpenBar) → All (λ bar. has_depth others bar.depth ≡ false) (bars_apart bars others)
 apart_depths bars others k d within =
@@ -186,69 +167,3 @@ number_first layout number old mid new row stroke last short is writes stays sep
     (λ some. separates ∙ ap put (writes some)
     ∙ cells-swap old row row 0 (layout.gutter + 1) digits line (omega (arith, length-text_cells LineNumber (chars number), short)))
     (λ none. separates ∙ ap put (stays none))
-
--- a line that is marked as a whole: its source row with the bars beside it, of which the code is highlighted, shows it
-module _ (layout : Layout) (margin : Margin) (numbers : LineNumbers) (closes : Bool) (open_bars tops past : List OpenBar) (info : AnnotatedLineInfo)
-    (dropped : ℕ) (old bare mid new : List (List Cell)) (row : ℕ)
-    (source : AddsSourceRow layout (shown_number numbers layout.gutter info.line_index) (window_cells layout.decor margin (norm (chars info.line.now)))
-    old bare)
-    (sided : mid ≡ barred layout Solid past (length old) (barred layout Top tops (length old) bare))
-    (last : row ≡ length old)
-    (is_lit : new ≡ changed_within (highlighted_row layout.code dropped (filter (λ e. not (is_end_part e.annotation_type)) info.annotations.items))
-    row (row + 1) mid)
-    (tops_room : All (HasBarRoom layout) tops)
-    (past_room : All (HasBarRoom layout) past) where
-  abbrev text : List ℕ
-  text = norm (chars info.line.now)
-
-  abbrev own : List LineAnnotation
-  own = filter (λ (e : LineAnnotation). not (is_end_part e.annotation_type)) info.annotations.items
-
-  abbrev plain : List Cell
-  plain = source.row
-
-  abbrev bright : List Cell
-  bright = highlighted_row layout.code dropped own plain
-
-  abbrev barred_row : List Cell → List Cell
-  barred_row cells = with_bars layout Solid past (with_bars layout Top tops cells)
-
-  mid_is : mid ≡ old ++ barred_row plain ∷ []
-  mid_is =
-      sided ∙ barred_last layout Solid past old (barred layout Top tops (length old) bare) (with_bars layout Top tops plain)
-      (barred_last layout Top tops old bare plain source.added)
-
-  lit_row : row_at new row ≡ barred_row bright
-  lit_row =
-      highlighted_is layout.code dropped own (row_at mid row) (row_at new row) (IsHighlighted-rows layout.code dropped own row mid new is_lit)
-      ∙ ap (highlighted_row layout.code dropped own) (row_added old mid (barred_row plain) row last mid_is)
-      ∙ lit_bars layout dropped own Solid past (with_bars layout Top tops plain) past_room
-      ∙ ap (with_bars layout Solid past) (lit_bars layout dropped own Top tops plain tops_room)
-
-  new_is : new ≡ old ++ barred_row bright ∷ []
-  new_is =
-      last_changed old mid new row (barred_row plain) last mid_is (highlighted_count layout.code dropped own row mid new is_lit)
-      (unlit_rows layout.code dropped own row mid new is_lit)
-      ∙ ap (λ cells. old ++ cells ∷ []) lit_row
-
-  pub whole_line_added : dropped ≡ width_of (dropped_part (bounds_of margin).left text)
-      → All (λ e. is_bar e.annotation_type ≡ false → dropped ≤ e.start.display) info.annotations.items
-      → is_whole_line text info.annotations.items ≡ true → tops ≡ ends_of_bars info.annotations.items
-      → past ≡ bars_apart open_bars (ends_of_bars info.annotations.items) → AddsLine layout margin numbers closes open_bars info old new
-  whole_line_added dropped_is clear whole tops_are past_are =
-      let es = info.annotations.items in
-      record {
-        rows = with_bars layout Solid (bars_apart open_bars (ends_of_bars es)) (with_bars layout Top (ends_of_bars es) bright) ∷ [];
-        added = new_is ∙ ap (λ bars. old ++ with_bars layout Solid bars (with_bars layout Top tops bright) ∷ []) past_are
-            ∙ ap (λ bars. old ++ with_bars layout Solid (bars_apart open_bars (ends_of_bars es)) (with_bars layout Top bars bright) ∷ []) tops_are;
-        shown = record {
-          plain = plain;
-          shows = source.is;
-          dropped = dropped;
-          dropped_is = dropped_is;
-          clear = clear;
-          highlighted = bright;
-          highlights = IsHighlighted-row layout.code dropped own plain;
-          drawn = record { own = _; are = own_whole layout margin.term_width closes text dropped es bright whole; rows_are = refl };
-        };
-      }

@@ -22,10 +22,10 @@ use Rattle.snippet_strokes.specs.declared.bars.BarStroke.TheVariants.{Solid, Top
 use Rattle.snippet_strokes.specs.Bars.{Bar, bars_apart, ends_of_bars, has_depth, is_whole_line, with_bars}
 use Rattle.snippet_strokes.specs.Drawing.{row_count}
 use Rattle.snippet_strokes.specs.EndBars.{IsNoBar}
-use Rattle.snippet_strokes.specs.LineRows.{AreLineRows, AreOwnRows}
+use Rattle.snippet_strokes.proofs.LineFacts.{AreLineRows, AreOwnRows, StrokesPainted}
 use Rattle.snippet_strokes.proofs.LineRowLemmas.{rows_cut}
 use Rattle.snippet_strokes.proofs.Reach.{Reaches, cell_of_write}
-use Rattle.snippet_strokes.specs.Strokes.{StrokesPainted, begun_rows, connector_of, connectors_of, corner_of, corners_of, labels_of, stems_of, line_strokes}
+use Rattle.snippet_strokes.specs.Strokes.{begun_rows, connector_of, connectors_of, corner_of, corners_of, labels_of, stems_of, line_strokes}
 use Rattle.snippet_strokes.proofs.BarWrites.{All-connector_of, All-stretch_of}
 use Rattle.snippet_strokes.proofs.EntryBarLaws.{is_at, labels_right, marks_right, part_leaves, stems_right}
 use Rattle.snippet_strokes.proofs.EndBarLaws.{left_same, passed_by}

@@ -13,7 +13,7 @@ use Rattle.snippet_grid.specs.Layout.{Layout}
 use Rattle.snippet_strokes.specs.declared.bars.OpenBar.{OpenBar}
 use Rattle.snippet_strokes.specs.declared.bars.BarStroke.TheVariants.{Dotted}
 use Rattle.snippet_strokes.specs.Bars.{HasBarRoom, barred}
-use Rattle.snippet_strokes.specs.Snippet.{AddsElision, gap_row}
+use Rattle.snippet_strokes.specs.Snippet.{gap_row}
 use Rattle.snippet_strokes.proofs.BarRows.{barred-below}
 use Rattle.snippet_model.specs.FreeRows.{IsFree}
 use Rattle.snippet_strokes.specs.StrokeRows.{IsElisionRow, bare_elision_row}
@@ -47,7 +47,7 @@ free_bare_elision : (decor : DecorStyle) (gutter : ℕ) → IsFree (bare_elision
 free_bare_elision Ascii gutter = free_drawn LineNumber (elision_of Ascii) (each_fails is_listed (elision_of Ascii) refl)
 free_bare_elision Unicode gutter = free_led (gutter + 1) (elision_of Unicode) (each_fails is_listed (elision_of Unicode) refl)
 
--- the row with its bars
+-- the row with its bars stands for lines that are left out
 pub gap_drawn : (layout : Layout) (open_bars : List OpenBar) → layout.gutter + 3 ≤ layout.code → All (HasBarRoom layout) open_bars
     → IsElisionRow layout (gap_row layout open_bars)
 gap_drawn layout open_bars place room =
@@ -63,14 +63,10 @@ gap_drawn layout open_bars place room =
       free = drawn.free (free_bare_elision layout.decor layout.gutter);
     }
 
-pub elision_added : (layout : Layout) (open_bars : List OpenBar) (old begun new : List (List Cell)) (row : ℕ) → row ≡ length old
-    → layout.gutter + 3 ≤ layout.code → begun ≡ old ++ bare_elision_row layout.decor layout.gutter ∷ [] → All (HasBarRoom layout) open_bars
-    → new ≡ barred layout Dotted open_bars row begun → AddsElision layout open_bars old new
-elision_added layout open_bars old begun new row last place begins room value =
-    record {
-      row = gap_row layout open_bars;
-      added = value ∙ ap (λ r. barred layout Dotted open_bars r begun) last ∙ ap (barred layout Dotted open_bars (length old)) begins
-          ∙ barred-below layout Dotted open_bars old (bare_elision_row layout.decor layout.gutter ∷ []);
-      is = gap_drawn layout open_bars place room;
-      row_is = refl;
-    }
+-- the bare row with its bars was added
+pub gap_added : (layout : Layout) (open_bars : List OpenBar) (old begun new : List (List Cell)) (row : ℕ) → row ≡ length old
+    → begun ≡ old ++ bare_elision_row layout.decor layout.gutter ∷ [] → new ≡ barred layout Dotted open_bars row begun
+    → new ≡ old ++ gap_row layout open_bars ∷ []
+gap_added layout open_bars old begun new row last begins value =
+    value ∙ ap (λ r. barred layout Dotted open_bars r begun) last ∙ ap (barred layout Dotted open_bars (length old)) begins
+    ∙ barred-below layout Dotted open_bars old (bare_elision_row layout.decor layout.gutter ∷ [])

@@ -30,8 +30,8 @@ use Rattle.snippet_strokes.specs.Bars.{Bar, HasOwnDepth, bar_at, bar_of, bars_ap
 use Rattle.snippet_strokes.specs.Bars.{with_bars}
 use Rattle.snippet_strokes.specs.Drawing.{HasRows, row_count}
 use Rattle.snippet_strokes.specs.EndBars.{BarBegins, BarEnds, BeginsBelow, dotted_bar}
-use Rattle.snippet_strokes.specs.LineRows.{AreLineRows}
-use Rattle.snippet_strokes.specs.Strokes.{StrokesPainted, begun_rows, corner_by}
+use Rattle.snippet_strokes.proofs.LineFacts.{AreLineRows, StrokesPainted}
+use Rattle.snippet_strokes.specs.Strokes.{begun_rows, corner_by}
 use Rattle.snippet_strokes.specs.Strokes.{line_strokes}
 use Rattle.snippet_strokes.proofs.LineRowLemmas.{rows_cut}
 use Rattle.snippet_strokes.proofs.AmongLaws.{all_from_among, among_contains, contains_among, filter_map_cases}

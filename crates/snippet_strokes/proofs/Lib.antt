@@ -25,6 +25,9 @@ pub mod LabelKept
 pub mod LabelLaw
 pub mod LabelPlaces
 pub mod LabelWrites
+pub mod LineAdded
+pub mod LineFacts
+pub mod LineFromValue
 pub mod LineExamples
 pub mod LineLemmas
 pub mod LineRowLaws
@@ -39,6 +42,7 @@ pub mod OpenLemmas
 pub mod PaintLemmas
 pub mod PaintOrder
 pub mod PaintedMarks
+pub mod PlacedOf
 pub mod PlacedRows
 pub mod PlainEntries
 pub mod PlainMarks
@@ -63,6 +67,7 @@ pub mod StrokeCells
 pub mod StrokeGlyphs
 pub mod StrokeLemmas
 pub mod StrokeWrites
+pub mod StrokesInside
 pub mod TextLemmas
 pub mod WholeLemmas
 pub mod WholeLineLemmas

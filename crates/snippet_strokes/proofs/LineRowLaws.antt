@@ -13,7 +13,7 @@ use Rattle.snippet_grid.specs.Layout.{Layout}
 use Rattle.snippet_labels.specs.declared.positions.PlacedEntry.{PlacedEntry}
 use Rattle.snippet_strokes.specs.Bars.{Bar, bar_cell_part, bars_apart, ends_of_bars, is_whole_line, with_bars}
 use Rattle.snippet_labels.specs.PlacedEntries.{shifted}
-use Rattle.snippet_strokes.specs.LineRows.{AreLineRows}
+use Rattle.snippet_strokes.proofs.LineFacts.{AreLineRows}
 use Rattle.snippet_labels.specs.Positions.{ArePlaced, line_positions, positions}
 use Rattle.snippet_strokes.specs.Drawing.{row_count}
 use Rattle.snippet_strokes.proofs.BegunLemmas.{sole}

@@ -4,32 +4,33 @@ use Rattle.std.proofs.Common.{arith, inl, inr}
 use Rattle.std.specs.Prelude.{if◌then◌else◌}
 use Rattle.std.specs.List.{list_any}
 use Rattle.std.proofs.lemmas.List.Sorted.{list_any-IsPermutation}
-use Rattle.std.proofs.lemmas.Bool.{false≢true, cases_Bool}
+use Rattle.std.proofs.lemmas.Bool.{cases_Bool, cond-false, cond-true, false≢true}
 use Rattle.std.proofs.lemmas.List.{append_assoc, length-append, length_push}
 use Rattle.snippet_style.specs.Cell.{Cell}
 use Rattle.snippet_style.specs.Separators.{closing_row, separator_row}
 use Rattle.snippet_parts.specs.declared.entries.LineAnnotation.{LineAnnotation}
-use Rattle.snippet_strokes.specs.declared.bars.OpenBar.{OpenBar}
-use Rattle.snippet_strokes.specs.declared.bars.BarStroke.TheVariants.{Top, Solid}
+use Rattle.snippet_strokes.specs.declared.bars.BarStroke.TheVariants.{Top}
 use Rattle.snippet_grid.specs.Layout.{Layout}
 use Rattle.snippet_labels.specs.declared.positions.PlacedEntry.{PlacedEntry}
-use Rattle.snippet_strokes.specs.Bars.{barred, bars_apart, ends_of_bars, is_whole_line, with_bars}
+use Rattle.snippet_strokes.specs.Bars.{ends_of_bars, is_whole_line, with_bars}
 use Rattle.snippet_labels.specs.PlacedEntries.{shifted}
 use Rattle.snippet_strokes.proofs.PlainEntries.{wide_entries}
-use Rattle.snippet_strokes.specs.LineRows.{AddsOwnRows, AreOwnRows}
+use Rattle.snippet_strokes.proofs.LineFacts.{StrokesPainted}
+use Rattle.snippet_strokes.specs.LineRows.{own_rows}
 use Rattle.snippet_strokes.specs.Painting.{painting_order}
 use Rattle.snippet_labels.specs.Positions.{ArePlaced}
 use Rattle.snippet_strokes.specs.Drawing.{row_count}
 use Rattle.snippet_strokes.specs.Cuts.{Stretch, cut_row, cut_rows, cuts_of, is_wide_at, overlapped}
 use Rattle.snippet_strokes.proofs.SeenRows.{CutsRows, IsCut}
 use Rattle.snippet_strokes.specs.SourceRows.{bare_row}
-use Rattle.snippet_strokes.specs.Strokes.{AddsPainted, StrokesPainted, begun_rows, line_strokes}
+use Rattle.snippet_strokes.specs.Strokes.{begun_rows, line_strokes, stroke_rows}
 use Rattle.snippet_strokes.specs.Writes.{Write, painted}
 use Rattle.snippet_strokes.proofs.PaintOrder.{IsPermutation-painting_order}
-use Rattle.snippet_strokes.proofs.BarRows.{barred-below}
 use Rattle.snippet_strokes.proofs.BegunLemmas.{wide_entries-order}
 use Rattle.snippet_strokes.proofs.CutLemmas.{IsCut-cuts, cut_rows-here, cuts_of-narrow}
 use Rattle.snippet_strokes.proofs.LowerWrites.{painted-below, strokes-lowered}
+use Rattle.snippet_strokes.proofs.LineFromValue.{two_more}
+use Rattle.snippet_strokes.proofs.LineValueLaws.{stroke_rows_are}
 use Rattle.snippet_strokes.proofs.PositionLemmas.{row_count_some}
 
 -- rows that are begun below others
@@ -40,12 +41,6 @@ begun_below layout closes count above source =
     let seps = replicate (count - 1) (separator_row layout.decor layout.gutter) in
     let end = bare_row layout.decor layout.gutter closes ∷ [] in
     append_assoc (above ++ source ∷ []) seps end ∙ append_assoc above (source ∷ []) (seps ++ end)
-
--- rows of which there are two at least
-two_more : (rows : List (List Cell)) → 1 < length rows → rows ≡ get_or rows 0 [] ∷ get_or rows 1 [] ∷ drop 2 rows
-two_more [] some = absurd (omega (arith, some))
-two_more (x ∷ []) some = absurd (omega (arith, some))
-two_more (x ∷ y ∷ rows) some = refl
 
 -- of rows with the strokes of a line the first two are cut where entries are wide
 pub rows_cut : (layout : Layout) (room : ℕ) (closes : Bool) (es : List LineAnnotation) (source : List Cell) (rows : List (List Cell))
@@ -118,7 +113,7 @@ module _ (layout : Layout) (room : ℕ) (closes : Bool) (es : List LineAnnotatio
       ]
 
   -- the rows of a line are its strokes, painted, and cut where entries are wide
-  pub painted_added : AddsPainted layout room closes es above source final
+  pub painted_added : final ≡ above ++ stroke_rows layout room closes es source
   painted_added =
       let many : length own ≡ count + 1 = omega (arith, ap length new_below, length-append above own, long, all_rows) in
       let top : List Cell = get_or own 0 [] in
@@ -132,75 +127,25 @@ module _ (layout : Layout) (room : ℕ) (closes : Bool) (es : List LineAnnotatio
       let of_parts = ap (cut_rows layout.decor row stretches) (new_below ∙ ap (λ rs. above ++ rs) parts) in
       let by_row : final ≡ above ++ change top ∷ change marks ∷ lower = of_stretches ∙ of_parts
       ∙ cut_rows-here layout row stretches above top marks lower (sym row_is) in
-      record {
-        rows = change top ∷ change marks ∷ lower;
-        added = by_row;
-        painted_are = record {
-          placed = placed;
-          are = are;
-          top = top;
-          marks = marks;
-          lower = lower;
-          painted_are = sym parts;
-          rows_are = refl;
-          count = few;
-        };
-      }
+      let painted_are : StrokesPainted layout room closes es source (change top ∷ change marks ∷ lower) = record
+      { placed = placed; are = are; top = top; marks = marks; lower = lower; painted_are = sym parts; rows_are = refl; count = few } in
+      by_row ∙ ap (λ rows. above ++ rows) (stroke_rows_are layout room closes source es (change top ∷ change marks ∷ lower) painted_are)
 
-module _ (layout : Layout) (room : ℕ) (closes : Bool) (text : List ℕ) (dropped : ℕ) where
-  abbrev OwnRows : List LineAnnotation → List (List Cell) → List Cell → List (List Cell) → Type 0
-  OwnRows es above source new = AddsOwnRows layout room closes text dropped es above source new
+-- below a line that isn't marked as a whole stand no rows without entries, or a closing row, and else those of its strokes
+pub own_strokes : (layout : Layout) (room : ℕ) (closes : Bool) (text : List ℕ) (dropped : ℕ) (es : List LineAnnotation) (source : List Cell)
+    → is_whole_line text es ≡ false → 0 < length es
+    → own_rows layout room closes text dropped es source ≡ stroke_rows layout room closes (map (shifted dropped) es) source
+own_strokes layout room closes text dropped [] source other some = absurd (omega (arith, some))
+own_strokes layout room closes text dropped (e ∷ es) source other some = cond-false (is_whole_line text (e ∷ es)) _ _ other
 
-  -- a line that is marked as a whole has one row
-  pub own_whole : (es : List LineAnnotation) (source : List Cell) → is_whole_line text es ≡ true
-      → AreOwnRows layout room closes text dropped es source (with_bars layout Top (ends_of_bars es) source ∷ [])
-  own_whole es source whole =
-      record {
-        whole = λ _. refl;
-        none = λ empty. absurd (false≢true (sym (ap (is_whole_line text) empty) ∙ whole));
-        strokes = λ other _. absurd (false≢true (sym other ∙ whole));
-      }
+-- without entries
+pub own_none : (layout : Layout) (room : ℕ) (closes : Bool) (text : List ℕ) (dropped : ℕ) (es : List LineAnnotation) (source : List Cell)
+    → length es ≡ 0 → own_rows layout room closes text dropped es source ≡ source ∷ (if closes then closing_row layout.decor layout.gutter ∷ [] else [])
+own_none layout room closes text dropped [] source none = refl
+own_none layout room closes text dropped (e ∷ es) source none = absurd (omega (arith, none))
 
-  -- what stands below a line without entries
-  abbrev end_rows : List (List Cell)
-  end_rows = if closes then closing_row layout.decor layout.gutter ∷ [] else []
-
-  abbrev Painted : List LineAnnotation → List (List Cell) → List Cell → List (List Cell) → Type 0
-  Painted es above source new = AddsPainted layout room closes (map (shifted dropped) es) above source new
-
-  -- a line that isn't
-  pub own_strokes : (es : List LineAnnotation) (above : List (List Cell)) (source : List Cell) (old new : List (List Cell))
-      → is_whole_line text es ≡ false → old ≡ above ++ source ∷ [] → (length es ≡ 0 → new ≡ old ++ end_rows)
-      → (0 < length es → Painted es above source new) → OwnRows es above source new
-  own_strokes [] above source old new other old_is bare strokes =
-      record {
-        rows = source ∷ end_rows;
-        added = bare refl ∙ ap (λ rows. rows ++ end_rows) old_is ∙ append_assoc above (source ∷ []) end_rows;
-        are = record {
-          whole = λ whole. absurd (false≢true (sym other ∙ whole));
-          none = λ _. refl;
-          strokes = λ _ some. absurd (omega (arith, some));
-        };
-      }
-  own_strokes (e ∷ es) above source old new other old_is bare strokes =
-      let adds = strokes (omega arith) in
-      record {
-        rows = adds.rows;
-        added = adds.added;
-        are = record {
-          whole = λ whole. absurd (false≢true (sym other ∙ whole));
-          none = λ empty. absurd (omega (arith, ap length empty));
-          strokes = λ _ _. adds.painted_are;
-        };
-      }
-
-  -- bars that run past a line stand beside all its rows
-  pub past_drawn : (open_bars bars : List OpenBar) (es : List LineAnnotation) (above : List (List Cell)) (source : List Cell)
-      (done new : List (List Cell)) (row : ℕ) → (own : OwnRows es above source done) → row ≡ length above → bars ≡ bars_apart open_bars (ends_of_bars es)
-      → new ≡ barred layout Solid bars row done → new ≡ above ++ map (with_bars layout Solid (bars_apart open_bars (ends_of_bars es))) own.rows
-  past_drawn open_bars bars es above source done new row own row_is bars_are new_is =
-      let past : List OpenBar = bars_apart open_bars (ends_of_bars es) in
-      let by_bars = ap (λ bs. barred layout Solid bs row done) bars_are in
-      let by_row = ap (λ r. barred layout Solid past r done) row_is in
-      let by_rows = ap (barred layout Solid past (length above)) own.added in
-      new_is ∙ by_bars ∙ by_row ∙ by_rows ∙ barred-below layout Solid past above own.rows
+-- of a line that is marked as a whole
+pub own_whole : (layout : Layout) (room : ℕ) (closes : Bool) (text : List ℕ) (dropped : ℕ) (es : List LineAnnotation) (source : List Cell)
+    → is_whole_line text es ≡ true → own_rows layout room closes text dropped es source ≡ with_bars layout Top (ends_of_bars es) source ∷ []
+own_whole layout room closes text dropped [] source whole = absurd (false≢true whole)
+own_whole layout room closes text dropped (e ∷ es) source whole = cond-true (is_whole_line text (e ∷ es)) _ _ whole

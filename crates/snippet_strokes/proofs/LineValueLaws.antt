@@ -22,9 +22,10 @@ use Rattle.snippet_strokes.specs.declared.bars.OpenBar.{OpenBar}
 use Rattle.snippet_strokes.specs.Bars.{bar_of, bars_apart, ends_of_bars, is_beside, is_whole_line, with_bars}
 use Rattle.snippet_strokes.specs.Cuts.{Stretch, cut_row, cuts_of, overlapped}
 use Rattle.snippet_strokes.specs.Drawing.{row_count}
-use Rattle.snippet_strokes.specs.LineRows.{AreLineRows, AreOwnRows, line_rows, own_rows}
-use Rattle.snippet_strokes.specs.StrokeRows.{IsHighlighted, highlighted_row, highlights, role_in_source}
-use Rattle.snippet_strokes.specs.Strokes.{StrokesPainted, begun_rows, stroke_rows, line_strokes}
+use Rattle.snippet_strokes.proofs.LineFacts.{AreLineRows, AreOwnRows, IsHighlighted, StrokesPainted}
+use Rattle.snippet_strokes.specs.LineRows.{line_rows, own_rows}
+use Rattle.snippet_strokes.specs.StrokeRows.{highlighted_row, highlights, role_in_source}
+use Rattle.snippet_strokes.specs.Strokes.{begun_rows, stroke_rows, line_strokes}
 use Rattle.snippet_strokes.proofs.HeldStrokes.{cuts_of-held, overlapped-held, row_count-held, line_strokes-held}
 
 -- ---- the rows of strokes

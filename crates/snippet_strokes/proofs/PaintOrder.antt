@@ -153,7 +153,7 @@ IsPermutation-put_in before x (y ∷ ys) =
       | inr under ↦ subst (IsPermutation there) (sym (cond-false (before y x) here there under)) (IsPermutation-refl there)
     ]
 
-IsPermutation-ordered_by : {X : Type 0} (before : X → X → Bool) (xs : List X) → IsPermutation xs (ordered_by before xs)
+pub IsPermutation-ordered_by : {X : Type 0} (before : X → X → Bool) (xs : List X) → IsPermutation xs (ordered_by before xs)
 IsPermutation-ordered_by before [] = IsPermutation-refl []
 IsPermutation-ordered_by before (x ∷ xs) =
     IsPermutation-trans (x ∷ xs) (x ∷ ordered_by before xs) (put_in before x (ordered_by before xs))

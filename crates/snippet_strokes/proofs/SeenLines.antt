@@ -1,6 +1,6 @@
 -- What is seen of the rows of lines, which are a value: what stands in their source rows, and in the rows of their strokes.
-use Rattle.std.proofs.Common.{◌≡◌, ◌≢◌, ℕ, ◌+◌, ◌<◌, ◌≤◌, ◌==◌, ◌&&◌, Bool, true, false, None, List, [], ◌∷◌, ◌++◌, length, map, refl, sym, ap, ◌∙◌}
-use Rattle.std.proofs.Common.{subst, arith, inl, inr, All, chars}
+use Rattle.std.proofs.Common.{◌≡◌, ◌≢◌, ℕ, ◌+◌, ◌<◌, ◌≤◌, ◌==◌, ◌&&◌, cond, nat_lt, Bool, true, false, None, List, [], ◌∷◌, ◌++◌, length, map, refl, sym, ap}
+use Rattle.std.proofs.Common.{◌∙◌, subst, arith, inl, inr, All, chars}
 use Rattle.std.specs.List.{slice_index_or}
 use Rattle.std.proofs.lemmas.Bool.{cases_Bool, cases_lt, false≢true}
 use Rattle.std.proofs.lemmas.List.{get_or_past}
@@ -22,11 +22,13 @@ use Rattle.snippet_strokes.specs.declared.bars.OpenBar.{OpenBar}
 use Rattle.snippet_strokes.specs.declared.bars.BarStroke.TheVariants.{Solid, Top}
 use Rattle.snippet_strokes.specs.Bars.{HasBarRoom, bars_apart, ends_of_bars, is_whole_line, open_below, with_bars}
 use Rattle.snippet_strokes.specs.Drawable.{AreDrawable}
-use Rattle.snippet_strokes.specs.LineRows.{AreLineRows, AreOwnRows}
-use Rattle.snippet_strokes.specs.Snippet.{AreLinesShown, IsGap, ShowsLine}
-use Rattle.snippet_strokes.specs.SourceRows.{IsSourceRow, window_cells}
-use Rattle.snippet_strokes.specs.StrokeRows.{IsHighlighted}
+use Rattle.snippet_strokes.proofs.LineFacts.{AreLineRows, AreOwnRows, CanBeShown, IsHighlighted, IsSourceRow, ShowsLine}
+use Rattle.snippet_strokes.specs.declared.snippet.LineView.{LineView}
+use Rattle.snippet_strokes.specs.Snippet.{gap_row, gap_rows, info_rows, infos_rows}
+use Rattle.snippet_strokes.specs.SourceRows.{window_cells}
 use Rattle.snippet_strokes.proofs.BarLemmas.{AreSeen-drawn, BarsDrawn-with_bars, bar_space}
+use Rattle.snippet_strokes.proofs.ElisionLemmas.{gap_drawn}
+use Rattle.snippet_strokes.proofs.LineFromValue.{info_rows_show}
 use Rattle.snippet_strokes.proofs.NoStrokes.{none_seen}
 use Rattle.snippet_strokes.proofs.OpenLemmas.{room_apart, room_below, room_ends}
 use Rattle.snippet_strokes.proofs.ReadyRows.{painted_seen}
@@ -119,21 +121,21 @@ seen_free layout room es closes plain rows seen free =
     (All-from_get_or IsFree seen.below [] (λ k within. (seen.strokes.are k within).free)))
 
 -- the row for lines that are left out holds no listed character
-free_gap : (layout : Layout) (open_bars : List OpenBar) (number : ℕ) (infos : List AnnotatedLineInfo) (rows : List (List Cell))
-    → IsGap layout open_bars number infos rows → All IsFree rows
-free_gap layout open_bars number [] rows none = All-same IsFree rows [] none (All-nil IsFree)
-free_gap layout open_bars number (next ∷ infos) rows (inl gap) =
-    All-same IsFree rows (gap.1 ∷ []) gap.2 (All-cons IsFree gap.1 [] gap.3.free (All-nil IsFree))
-free_gap layout open_bars number (next ∷ infos) rows (inr near) = All-same IsFree rows [] near.1 (All-nil IsFree)
+free_gap : (layout : Layout) (open_bars : List OpenBar) (number : ℕ) (infos : List AnnotatedLineInfo) → layout.gutter + 3 ≤ layout.code
+    → All (HasBarRoom layout) open_bars → All IsFree (gap_rows layout open_bars number infos)
+free_gap layout open_bars number [] place room = All-nil IsFree
+free_gap layout open_bars number (next ∷ infos) place room =
+    let gap : List Cell = gap_row layout open_bars in
+    elim (nat_lt (number + 1) next.line_index) as (λ b. All IsFree (cond b (gap ∷ []) [])) [
+      | true ↦ All-cons IsFree gap [] (gap_drawn layout open_bars place room).free (All-nil IsFree)
+      | false ↦ All-nil IsFree
+    ]
 
 module _ (layout : Layout) (margin : Margin) (numbers : LineNumbers) (place : layout.gutter + 3 ≤ layout.code) where
-  -- what the gutter shows beside a line has room up to the separator
-  abbrev NumberFits : AnnotatedLineInfo → Type 0
-  NumberFits info = length (shown_number numbers layout.gutter info.line_index) ≤ layout.gutter + 1
-
   -- what is seen of the rows that show a line
   pub line_seen : (closes : Bool) (open_bars : List OpenBar) (info : AnnotatedLineInfo) (rows : List (List Cell)) → All (HasBarRoom layout) open_bars
-      → NumberFits info → AreDrawable layout info.annotations.items → (shows : ShowsLine layout margin numbers closes open_bars info rows)
+      → length (shown_number numbers layout.gutter info.line_index) ≤ layout.gutter + 1 → AreDrawable layout info.annotations.items
+      → (shows : ShowsLine layout margin numbers closes open_bars info rows)
       → AreSeen layout margin.term_width (map (shifted shows.dropped) info.annotations.items) closes shows.highlighted rows
   line_seen closes open_bars info rows fit short drawable shows =
       let text = norm (chars info.line.now) in
@@ -141,22 +143,24 @@ module _ (layout : Layout) (margin : Margin) (numbers : LineNumbers) (place : la
       (no_bars layout (shown_number numbers layout.gutter info.line_index) (window_cells layout.decor margin text) shows.dropped _ shows.plain
       shows.highlighted shows.shows short shows.highlights) open_bars info.annotations.items rows fit drawable shows.drawn
 
-  -- no row of the lines holds a listed character
-  pub free_from_AreLinesShown : (closes : Bool) (open_bars : List OpenBar) (infos : List AnnotatedLineInfo) (rows : List (List Cell))
-      → All (HasBarRoom layout) open_bars → All NumberFits infos → All (λ info. AreDrawable layout info.annotations.items) infos
-      → AreLinesShown layout margin numbers closes open_bars infos rows → All IsFree rows
-  free_from_AreLinesShown closes open_bars [] rows fit short drawable none = All-same IsFree rows [] none (All-nil IsFree)
-  free_from_AreLinesShown closes open_bars (info ∷ infos) rows fit short drawable shown =
-      let Own : AnnotatedLineInfo → Type 0 = λ info. AreDrawable layout info.annotations.items in
-      let es = info.annotations.items in
-      let own : AreDrawable layout es = All-head Own info infos drawable in
-      let last : Bool = length infos == 0 in
-      let shows : ShowsLine layout margin numbers (closes && last) open_bars info shown.0 = shown.4 in
-      let seen = line_seen (closes && last) open_bars info shown.0 fit (All-head NumberFits info infos short) own shows in
-      let free = highlighted_free layout.code shows.dropped _ shows.plain shows.highlighted shows.highlights shows.shows.free in
-      let first : All IsFree shown.0 = seen_free layout margin.term_width (map (shifted shows.dropped) es) (closes && last) shows.highlighted
-      shown.0 seen free in
-      All-same IsFree rows (shown.0 ++ shown.1 ++ shown.2) shown.3 (All-append IsFree (shown.0 ++ shown.1) shown.2
-      (All-append IsFree shown.0 shown.1 first (free_gap layout (open_below open_bars es) info.line_index infos shown.1 shown.5))
-      (free_from_AreLinesShown closes (open_below open_bars es) infos shown.2 (room_below layout open_bars es fit own.bar_cells)
-      (All-tail NumberFits info infos short) (All-tail Own info infos drawable) shown.6))
+-- no row of lines that can be shown holds a listed character
+pub infos_free : (layout : Layout) (view : LineView) (open_bars : List OpenBar) (infos : List AnnotatedLineInfo) → layout.gutter + 3 ≤ layout.code
+    → All (HasBarRoom layout) open_bars → All (CanBeShown layout view.margin view.numbers) infos → All IsFree (infos_rows layout view open_bars infos)
+infos_free layout view open_bars [] place fit all = All-nil IsFree
+infos_free layout view open_bars (info ∷ infos) place fit all =
+    let Can : AnnotatedLineInfo → Type 0 = CanBeShown layout view.margin view.numbers in
+    let es = info.annotations.items in
+    let can : Can info = All-head Can info infos all in
+    let own : LineView = record view { closes = view.closes && length infos == 0 } in
+    let below : List OpenBar = open_below open_bars es in
+    let below_fit : All (HasBarRoom layout) below = room_below layout open_bars es fit can.entries.bar_cells in
+    let first : List (List Cell) = info_rows layout own open_bars info in
+    let shows : ShowsLine layout view.margin view.numbers own.closes open_bars info first = info_rows_show layout own open_bars info place can in
+    let seen = line_seen layout view.margin view.numbers place own.closes open_bars info first fit can.number can.entries shows in
+    let free = highlighted_free layout.code shows.dropped _ shows.plain shows.highlighted shows.highlights shows.shows.free in
+    let between : List (List Cell) = gap_rows layout below info.line_index infos in
+    let rest : List (List Cell) = infos_rows layout view below infos in
+    All-append IsFree first (between ++ rest)
+    (seen_free layout view.margin.term_width (map (shifted shows.dropped) es) own.closes shows.highlighted first seen free)
+    (All-append IsFree between rest (free_gap layout below info.line_index infos place below_fit)
+    (infos_free layout view below infos place below_fit (All-tail Can info infos all)))

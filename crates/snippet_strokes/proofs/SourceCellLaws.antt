@@ -22,12 +22,12 @@ use Rattle.snippet_strokes.specs.declared.bars.BarStroke.TheVariants.{Dotted, So
 use Rattle.snippet_strokes.specs.Bars.{Bar, HasOwnDepth, bar_at, bar_of, bars_apart, ends_of_bars, has_depth, is_whole_line, with_bars}
 use Rattle.snippet_strokes.specs.Drawing.{row_count}
 use Rattle.snippet_strokes.specs.EndBars.{BarBegins}
-use Rattle.snippet_strokes.specs.LineRows.{AreLineRows, AreOwnRows}
+use Rattle.snippet_strokes.proofs.LineFacts.{AreLineRows, AreOwnRows, StrokesPainted}
 use Rattle.snippet_strokes.proofs.LineRowLemmas.{rows_cut}
 use Rattle.snippet_strokes.proofs.Reach.{Reaches}
 use Rattle.snippet_strokes.specs.StrokeRows.{bare_elision_row}
 use Rattle.snippet_strokes.specs.Snippet.{gap_row}
-use Rattle.snippet_strokes.specs.Strokes.{StrokesPainted, begun_rows, column_of, connector_of, connectors_of, corner_by, corner_of, corners_of, labels_of}
+use Rattle.snippet_strokes.specs.Strokes.{begun_rows, column_of, connector_of, connectors_of, corner_by, corner_of, corners_of, labels_of}
 use Rattle.snippet_strokes.specs.Strokes.{stems_of, line_strokes}
 use Rattle.snippet_strokes.proofs.AmongLaws.{all_from_among}
 use Rattle.snippet_strokes.proofs.BarWrites.{All-column_of, All-connector_of, All-stretch_of}

@@ -1,6 +1,6 @@
 -- What the writes of a source row make of it.
 use Rattle.std.proofs.Common.{◌≡◌, ◌≢◌, ℕ, ◌+◌, ◌-◌, ◌<◌, ◌≤◌, false, List, [], ◌∷◌, ◌++◌, length, take, drop, replicate, refl, sym, ap, ◌∙◌, arith, inl, inr}
-use Rattle.std.proofs.Common.{subst, All, chars}
+use Rattle.std.proofs.Common.{All, chars, max}
 use Rattle.std.specs.List.{slice_index_or}
 use Rattle.std.proofs.lemmas.Bool.{cases_lt}
 use Rattle.std.proofs.lemmas.List.{places, same_lists, append-nil, length-replicate, length-append, get_or_at, get_or_append_left, get_or-replicate}
@@ -17,7 +17,8 @@ use Rattle.snippet_text.specs.Normalized.{is_listed}
 use Rattle.snippet_model.specs.FreeRows.{IsFreeCell, IsFree}
 use Rattle.snippet_model.proofs.RowLemmas.{free_drawn}
 use Rattle.snippet_grid.specs.Layout.{Layout}
-use Rattle.snippet_strokes.specs.SourceRows.{IsSourceRow, AddsSourceRow, source_row, with_cells}
+use Rattle.snippet_strokes.proofs.LineFacts.{IsSourceRow}
+use Rattle.snippet_strokes.specs.SourceRows.{source_row, with_cells}
 use Rattle.snippet_style.specs.Separators.{separator_row}
 use Rattle.snippet_grid.proofs.RowLemmas.{separator_row-begun as begun, texted, text_put}
 use Rattle.snippet_model.proofs.RowLemmas.{free_separator_row, free_written}
@@ -131,8 +132,15 @@ source_full layout shown cells place short free_shown free_cells is =
       free = free_written start layout.code cells bare.free free_cells;
     }
 
+-- a source row reaches as far as its cells
+pub source_row_short : (layout : Layout) (shown : List ℕ) (cells : List Cell) → length shown ≤ layout.gutter + 1
+    → length (source_row layout shown cells) ≤ max (layout.gutter + 2) (layout.code + length cells)
+source_row_short layout shown [] short = omega (arith, length-front layout shown short)
+source_row_short layout shown (cell ∷ cells) short =
+    omega (arith, length-front layout shown short, length-written SPACE (front layout shown) layout.code (cell ∷ cells))
+
 -- the row of a line, whether any of its cells are shown or not
-source_celled : (layout : Layout) (shown : List ℕ) (cells : List Cell) → layout.gutter + 3 ≤ layout.code → length shown ≤ layout.gutter + 1
+pub source_celled : (layout : Layout) (shown : List ℕ) (cells : List Cell) → layout.gutter + 3 ≤ layout.code → length shown ≤ layout.gutter + 1
     → All (λ c. is_listed c ≡ false) shown → IsFree cells → IsSourceRow layout shown cells (with_cells layout.code cells (front layout shown))
 source_celled layout shown [] place short free_shown free_cells = source_bare layout shown place short free_shown
 source_celled layout shown (cell ∷ cells) place short free_shown free_cells =
@@ -151,20 +159,3 @@ number_written layout number old begun mid row last begins numbers number_stays 
 pub front_short : (layout : Layout) (shown : List ℕ) → layout.gutter + 3 ≤ layout.code → length shown ≤ layout.gutter + 1
     → length (front layout shown) ≤ layout.code
 front_short layout shown place short = omega (arith, length-front layout shown short)
-
--- the number and the cells of the window make the source row
-pub source_row_added : (layout : Layout) (number : List ℕ) (cells : List Cell) (old new : List (List Cell)) → layout.gutter + 3 ≤ layout.code
-    → length (chars number) ≤ layout.gutter + 1 → All (λ c. is_listed c ≡ false) (chars number) → IsFree cells
-    → new ≡ old ++ with_cells layout.code cells (front layout (chars number)) ∷ [] → AddsSourceRow layout (chars number) cells old new
-source_row_added layout number cells old new place short free_number free_cells writes =
-    record {
-      row = with_cells layout.code cells (front layout (chars number));
-      added = writes;
-      is = source_celled layout (chars number) cells place short free_number free_cells;
-    }
-
--- a source row of the same number and cells
-pub AddsSourceRow-same : (layout : Layout) (shown shown_here : List ℕ) (cells cells_here : List Cell) (old new : List (List Cell)) → shown ≡ shown_here
-    → cells ≡ cells_here → AddsSourceRow layout shown cells old new → AddsSourceRow layout shown_here cells_here old new
-AddsSourceRow-same layout shown shown_here cells cells_here old new same_shown same_cells adds =
-    subst (λ s. AddsSourceRow layout s cells_here old new) same_shown (subst (λ t. AddsSourceRow layout shown t old new) same_cells adds)

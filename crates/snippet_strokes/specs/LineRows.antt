@@ -1,5 +1,5 @@
 -- The rows of a line, as what its entries and the bars that are open above it make of its source row.
-use Rattle.std.specs.Prelude.{◌≡◌, ℕ, ◌<◌, Bool, true, false, List, [], ◌∷◌, ◌++◌, length, map, if◌then◌else◌}
+use Rattle.std.specs.Prelude.{ℕ, Bool, List, [], ◌∷◌, map, if◌then◌else◌}
 use Rattle.snippet_style.specs.Cell.{Cell}
 use Rattle.snippet_style.specs.Separators.{closing_row}
 use Rattle.snippet_parts.specs.declared.entries.LineAnnotation.{LineAnnotation}
@@ -8,7 +8,7 @@ use Rattle.snippet_strokes.specs.declared.bars.BarStroke.TheVariants.{Top, Solid
 use Rattle.snippet_grid.specs.Layout.{Layout}
 use Rattle.snippet_strokes.specs.Bars.{bars_apart, ends_of_bars, is_whole_line, with_bars}
 use Rattle.snippet_labels.specs.PlacedEntries.{shifted}
-use Rattle.snippet_strokes.specs.Strokes.{StrokesPainted, stroke_rows}
+use Rattle.snippet_strokes.specs.Strokes.{stroke_rows}
 
 -- the rows that a line has by its own entries, of which so many columns are dropped: without entries its source row, and a closing row
 -- where the window closes with the line; where the line is marked as a whole the source row alone, with the tops of its bars beside it;
@@ -24,26 +24,3 @@ own_rows layout room closes text dropped (e ∷ es) source =
 abbrev pub line_rows : Layout → ℕ → Bool → List ℕ → ℕ → List OpenBar → List LineAnnotation → List Cell → List (List Cell)
 line_rows layout room closes text dropped open_bars es source =
     map (with_bars layout Solid (bars_apart open_bars (ends_of_bars es))) (own_rows layout room closes text dropped es source)
-
--- the rows that a line has by its own entries, of which so many columns are dropped: beside a line that is marked as a whole the tops
--- of its bars, and no row below; without entries none below either, but a closing row where the window closes with the line; and
--- else the rows of its strokes
-pub record AreOwnRows (layout : Layout) (room : ℕ) (closes : Bool) (text : List ℕ) (dropped : ℕ) (es : List LineAnnotation) (source : List Cell)
-    (rows : List (List Cell)) : Type 0 where
-  pub whole : is_whole_line text es ≡ true → rows ≡ with_bars layout Top (ends_of_bars es) source ∷ []
-  pub none : es ≡ [] → rows ≡ source ∷ (if closes then closing_row layout.decor layout.gutter ∷ [] else [])
-  pub strokes : is_whole_line text es ≡ false → 0 < length es → StrokesPainted layout room closes (map (shifted dropped) es) source rows
-
--- the rows of a line, where these bars are open above it: its own, and over each of them the bars that run past
-pub record AreLineRows (layout : Layout) (room : ℕ) (closes : Bool) (text : List ℕ) (dropped : ℕ) (open_bars : List OpenBar) (es : List LineAnnotation)
-    (source : List Cell) (rows : List (List Cell)) : Type 0 where
-  pub own : List (List Cell)
-  pub are : AreOwnRows layout room closes text dropped es source own
-  pub rows_are : rows ≡ map (with_bars layout Solid (bars_apart open_bars (ends_of_bars es))) own
-
--- the own rows of a line were drawn below those that are there, the last of which is its source row
-pub record AddsOwnRows (layout : Layout) (room : ℕ) (closes : Bool) (text : List ℕ) (dropped : ℕ) (es : List LineAnnotation) (above : List (List Cell))
-    (source : List Cell) (new : List (List Cell)) : Type 0 where
-  pub rows : List (List Cell)
-  pub added : new ≡ above ++ rows
-  pub are : AreOwnRows layout room closes text dropped es source rows

@@ -1,16 +1,14 @@
 -- The source row of a line, and the rows below it before any stroke is drawn.
-use Rattle.std.specs.Prelude.{◌≡◌, ℕ, ◌≢◌, ◌+◌, ◌<◌, ◌≤◌, ◌==◌, Bool, true, false, Option, None, Some, List, [], ◌∷◌, ◌++◌, length, take, drop, if◌then◌else◌}
-use Rattle.std.specs.List.{slice_index_or}
+use Rattle.std.specs.Prelude.{ℕ, ◌==◌, Bool, true, false, Option, None, Some, List, [], ◌∷◌, length, if◌then◌else◌}
 use Rattle.snippet_window.specs.declared.margin.Margin.{Margin}
 use Rattle.snippet_window.specs.Margin.{bounds_of}
 use Rattle.snippet_window.specs.Window.{inner_part, covered_columns, uncovered_part, covered_end}
 use Rattle.snippet_style.specs.declared.glyphs.DecorStyle.{DecorStyle}
 use Rattle.snippet_style.specs.declared.role.ElementStyle.TheVariants.{LineNumber, Quotation}
-use Rattle.snippet_style.specs.Glyphs.{separator_of, placeholder_of}
+use Rattle.snippet_style.specs.Glyphs.{placeholder_of}
 use Rattle.snippet_style.specs.Separators.{closing_row, separator_row}
-use Rattle.snippet_style.specs.Cell.{Cell, SPACE, text_cells, written, unlinked_cell}
-use Rattle.snippet_grid.specs.Layout.{Layout, separator_cell}
-use Rattle.snippet_model.specs.FreeRows.{IsFree}
+use Rattle.snippet_style.specs.Cell.{Cell, SPACE, text_cells, written}
+use Rattle.snippet_grid.specs.Layout.{Layout}
 
 -- a row of strokes before any stroke is drawn: the closing row where the window closes with it, else the separator row
 abbrev pub bare_row : DecorStyle → ℕ → Bool → List Cell
@@ -55,22 +53,3 @@ with_cells code (cell ∷ cells) row = written SPACE row code (cell ∷ cells)
 abbrev pub source_row : Layout → List ℕ → List Cell → List Cell
 source_row layout shown cells =
     with_cells layout.code cells (written SPACE (separator_row layout.decor layout.gutter) 0 (text_cells LineNumber shown))
-
--- the row begins with what the gutter shows, and from the code's cell to its end it holds these cells
-pub record ShowsSource (gutter from : ℕ) (shown : List ℕ) (cells row : List Cell) : Type 0 where
-  pub number : take (length shown) row ≡ text_cells LineNumber shown
-  pub code : drop from row ≡ cells
-
--- a source row, and what is seen of it: what ShowsSource says, the separator, and else spaces left of the code (all follows from `is`)
-pub record IsSourceRow (layout : Layout) (shown : List ℕ) (cells row : List Cell) : Type 0 where
-  pub is : row ≡ source_row layout shown cells
-  pub shows : ShowsSource layout.gutter layout.code shown cells row
-  pub separator : slice_index_or row (separator_cell layout) SPACE ≡ unlinked_cell LineNumber (separator_of layout.decor)
-  pub blank : (c : ℕ) → length shown ≤ c → c ≢ separator_cell layout → c < layout.code → slice_index_or row c SPACE ≡ SPACE
-  pub free : IsFree row
-
--- one source row was added below the rows that are there
-pub record AddsSourceRow (layout : Layout) (shown : List ℕ) (cells : List Cell) (old new : List (List Cell)) : Type 0 where
-  pub row : List Cell
-  pub added : new ≡ old ++ row ∷ []
-  pub is : IsSourceRow layout shown cells row

@@ -1,14 +1,12 @@
 -- The rows of a line that is shown: its source row with what stands in it, and the rows of its strokes below it.
-use Rattle.std.specs.Prelude.{◌≡◌, ℕ, ◌≢◌, ◌+◌, ◌-◌, ◌<◌, ◌≤◌, ◌&&◌, nat_le, nat_lt, Bool, true, false, List, ◌++◌, length, map, max}
-use Rattle.std.specs.Prelude.{replicate, if◌then◌else◌}
+use Rattle.std.specs.Prelude.{◌≡◌, ℕ, ◌+◌, ◌-◌, ◌<◌, ◌≤◌, ◌&&◌, nat_le, nat_lt, Bool, List, ◌++◌, length, map, max, replicate, if◌then◌else◌}
 use Rattle.std.specs.List.{slice_index_or, list_any, range_with_len}
 use Rattle.snippet_parts.specs.declared.entries.LineAnnotation.{LineAnnotation}
 use Rattle.snippet_style.specs.declared.glyphs.DecorStyle.{DecorStyle}
 use Rattle.snippet_style.specs.declared.glyphs.DecorStyle.TheVariants.{Ascii, Unicode}
 use Rattle.snippet_style.specs.declared.role.ElementStyle.{ElementStyle}
 use Rattle.snippet_style.specs.declared.role.ElementStyle.TheVariants.{LineNumber, UnderlinePrimary, UnderlineSecondary}
-use Rattle.snippet_style.specs.Glyphs.{elision_of, underline_role}
-use Rattle.snippet_grid.specs.Grid.{row_at, cell_at, restyled}
+use Rattle.snippet_style.specs.Glyphs.{elision_of}
 use Rattle.snippet_style.specs.Cell.{Cell, SPACE, text_cells, gives_way}
 use Rattle.snippet_grid.specs.Layout.{Layout, inner_cell}
 use Rattle.snippet_strokes.specs.EntryMarks.{IsBarCell}
@@ -47,19 +45,3 @@ role_in_source code dropped es c role =
 abbrev pub highlighted_row : ℕ → ℕ → List LineAnnotation → List Cell → List Cell
 highlighted_row code dropped es plain =
     map (λ c. let cell = slice_index_or plain c SPACE in record cell { role = role_in_source code dropped es c cell.role }) (range_with_len 0 (length plain))
-
--- the row is this source row, with the characters highlighted that entries ask for
-pub record IsHighlighted (code dropped : ℕ) (es : List LineAnnotation) (plain row : List Cell) : Type 0 where
-  pub width : length row ≡ length plain
-  pub cells : (c : ℕ) → c < length plain
-      → slice_index_or row c SPACE ≡ (let cell = slice_index_or plain c SPACE in record cell { role = role_in_source code dropped es c cell.role })
-
--- the characters of a row that one entry asks to highlight have the role of its marks, where it is primary or their own
--- gives way, and nothing else changed
-pub record Restyled (code dropped : ℕ) (e : LineAnnotation) (row : ℕ) (old new : List (List Cell)) : Type 0 where
-  pub asked : (c : ℕ) → c < length (row_at old row) → holds_character code dropped c e ≡ true
-      → cell_at new row c ≡ restyled (underline_role (is_primary e.kind)) (is_primary e.kind) (cell_at old row c)
-  pub unasked : (c : ℕ) → holds_character code dropped c e ≡ false → cell_at new row c ≡ cell_at old row c
-  pub others : (r : ℕ) → r ≢ row → row_at new r ≡ row_at old r
-  pub width : length (row_at new row) ≡ length (row_at old row)
-  pub count : length new ≡ length old

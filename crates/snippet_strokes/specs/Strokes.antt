@@ -1,6 +1,6 @@
 -- What is written for the strokes of a line, as lists of writes: its labels, its stems, the lines that lead to bars, the bars of
 -- the spans that begin or end on it, and all of them, over which its marks are painted.
-use Rattle.std.specs.Prelude.{ℕ, ◌+◌, ◌-◌, ◌≡◌, List, [], ◌∷◌, map, if◌then◌else◌, ◌==◌, ◌&&◌, nat_le, Bool, false, ◌++◌, length, replicate, drop, take}
+use Rattle.std.specs.Prelude.{ℕ, ◌+◌, ◌-◌, List, [], ◌∷◌, map, if◌then◌else◌, ◌==◌, ◌&&◌, nat_le, Bool, false, ◌++◌, replicate, drop, take}
 use Rattle.std.specs.List.{range_with_len, flat_map}
 use Rattle.snippet_style.specs.declared.role.ElementStyle.{ElementStyle}
 use Rattle.snippet_strokes.specs.Writes.{Write, glyph_at, painted, stretch_of}
@@ -16,7 +16,7 @@ use Rattle.snippet_style.specs.Cell.{Cell}
 use Rattle.snippet_style.specs.Separators.{separator_row}
 use Rattle.snippet_strokes.specs.Drawing.{foot_glyph, row_count}
 use Rattle.snippet_strokes.specs.Painting.{painting_order, marks_of, stroke_role}
-use Rattle.snippet_labels.specs.Positions.{ArePlaced, has_label, has_stem, label_place, placed_of}
+use Rattle.snippet_labels.specs.Positions.{has_label, has_stem, label_place, placed_of}
 use Rattle.snippet_strokes.specs.Cuts.{cut_row, cuts_of, overlapped}
 use Rattle.snippet_strokes.specs.SourceRows.{bare_row}
 
@@ -152,25 +152,3 @@ stroke_rows layout room closes es source =
     let whole = painted (line_strokes layout 0 (count + 1) placed order) (begun_rows layout closes count source) in
     let cuts = cuts_of layout room order (overlapped placed) in
     map (cut_row layout.decor cuts) (take 2 whole) ++ drop 2 whole
-
--- what is known of rows that are those, whatever the placed entries hold their labels in: as many as the entries ask for, and over them
--- all strokes. The entries are placed from right to left, and their marks painted in the order of painting. Of the first two rows, the
--- source row and that of the marks, stretches are cut where entries are wide
-pub record StrokesPainted (layout : Layout) (room : ℕ) (closes : Bool) (es : List LineAnnotation) (source : List Cell) (rows : List (List Cell)) : Type 0 where
-  pub placed : List PlacedEntry
-  pub are : ArePlaced es placed
-  pub top : List Cell
-  pub marks : List Cell
-  pub lower : List (List Cell)
-  pub painted_are : top ∷ marks ∷ lower ≡ painted (line_strokes layout 0 (row_count placed + 1) placed (painting_order placed))
-      (begun_rows layout closes (row_count placed) source)
-  pub rows_are : rows ≡ (let cuts = cuts_of layout room (painting_order placed)
-      (overlapped placed) in cut_row layout.decor cuts top ∷ cut_row layout.decor cuts marks ∷ lower)
-  pub count : length rows ≡ row_count placed + 1
-
--- the strokes of a line were drawn below its source row, which is the last row that is there, and beside it
-pub record AddsPainted (layout : Layout) (room : ℕ) (closes : Bool) (es : List LineAnnotation) (above : List (List Cell)) (source : List Cell)
-    (new : List (List Cell)) : Type 0 where
-  pub rows : List (List Cell)
-  pub added : new ≡ above ++ rows
-  pub painted_are : StrokesPainted layout room closes es source rows

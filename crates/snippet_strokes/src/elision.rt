@@ -1,10 +1,9 @@
 //! The rows that stand for lines that aren't shown.
-ghost use Rattle.std.specs.Prelude.{◌≡◌, ◌+◌, ◌<◌, ◌≤◌, ◌++◌, ◌∷◌, [], All, OnOk};
+ghost use Rattle.std.specs.Prelude.{◌≡◌, ◌+◌, ◌<◌, ◌++◌, ◌∷◌, [], All, OnOk};
 ghost use Rattle.snippet_strokes.specs.Bars.{HasBarRoom};
 ghost use Rattle.snippet_strokes.specs.StrokeRows.{bare_elision_row};
-ghost use Rattle.snippet_strokes.specs.Snippet.{AddsElision, AddsGap};
+ghost use Rattle.snippet_strokes.specs.Snippet.{gap_row, gap_rows};
 ghost use Rattle.snippet_parts.specs.ShownLines.{infos_of};
-ghost use Rattle.snippet_grid.specs.Layout.{inner_cell};
 
 use crate::bars::{BarStroke, OpenBar, draw_bars};
 use snippet_grid::{Layout, StyledBuffer};
@@ -27,7 +26,7 @@ pub(crate) fn draw_gap(
     open_bars: &[OpenBar],
 ) -> Result<(), AllocError>
     requires room { All (HasBarRoom layout) open_bars.now }
-    ensures added { OnOk result (AddsGap layout open_bars.now number (infos_of rest.now) buffer.old buffer.new) }
+    ensures added { OnOk result (buffer.new ≡ buffer.old ++ gap_rows layout open_bars.now number (infos_of rest.now)) }
 {
     if rest.is_empty() || rest[0].info.line_index.saturating_sub(1) <= number {
         return Ok(());
@@ -48,7 +47,7 @@ fn draw_elision(
     open_bars: &[OpenBar],
 ) -> Result<(), AllocError>
     requires room { All (HasBarRoom layout) open_bars.now }
-    ensures added { OnOk result (AddsElision layout open_bars.now buffer.old buffer.new) }
+    ensures added { OnOk result (buffer.new ≡ buffer.old ++ gap_row layout open_bars.now ∷ []) }
 {
     let row = buffer.num_lines();
     begin_elision_row(buffer, layout)?;
@@ -58,7 +57,6 @@ fn draw_elision(
 /// Begins that row, with its sign alone: from the first cell on, or in Unicode in the place of the separator.
 fn begin_elision_row(buffer: &mut StyledBuffer, layout: Layout) -> Result<(), AllocError>
     ensures added { OnOk result (buffer.new ≡ buffer.old ++ bare_elision_row layout.decor layout.gutter ∷ []) }
-    ensures place { inner_cell layout ≤ layout.code }
 {
     let row = buffer.num_lines();
     let cell = match layout.decor {

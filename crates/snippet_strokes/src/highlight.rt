@@ -1,9 +1,11 @@
 //! The parts of the source that are coloured as their marks are.
-ghost use Rattle.std.specs.Prelude.{◌+◌, ◌≡◌, OnOk, filter, length, not};
+ghost use Rattle.std.specs.Prelude.{◌+◌, ◌-◌, ◌≡◌, OnOk, filter, length, max, not};
 ghost use Rattle.snippet_labels.specs.PlacedEntries as spec;
-ghost use Rattle.snippet_grid.specs.Grid.{changed_within, row_at};
-ghost use Rattle.snippet_strokes.specs.StrokeRows.{Restyled, highlighted_row};
+ghost use Rattle.snippet_grid.specs.Grid.{cells_restyled, changed_within, row_at};
+ghost use Rattle.snippet_strokes.specs.StrokeRows.{highlighted_row};
+ghost use Rattle.snippet_model.specs.AnnotationKind as kinds;
 ghost use Rattle.snippet_style.specs.Bounds.{IsRowEnd, IsWindowColumn};
+ghost use Rattle.snippet_style.specs.Glyphs.{underline_role};
 
 use crate::roles::is_primary;
 use snippet_grid::{Layout, StyledBuffer};
@@ -58,7 +60,10 @@ fn highlight_entry(
 ) -> Result<(), AllocError>
     requires short { IsRowEnd (length (row_at buffer.old row)) }
     requires near { IsWindowColumn dropped }
-    ensures restyled { OnOk result (Restyled layout.code dropped entry.now row buffer.old buffer.new) }
+    ensures value { OnOk result (buffer.new ≡ cells_restyled buffer.old row
+        (max layout.code (layout.code + entry.now.start.char - dropped))
+        (layout.code + entry.now.end.char - dropped)
+        (underline_role (kinds.is_primary entry.now.kind)) (kinds.is_primary entry.now.kind)) }
 {
     let primary = is_primary(entry.kind);
     buffer.set_style_range(

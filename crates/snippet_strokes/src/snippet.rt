@@ -1,14 +1,11 @@
 //! The rows of a snippet: those of each line that is shown.
-ghost use Rattle.std.specs.Prelude.{◌≡◌, ◌+◌, ◌++◌, ◌∷◌, [], false, true, List, All, IfOk, OnOk};
-ghost use Rattle.std.specs.Prelude.{chars, length};
+ghost use Rattle.std.specs.Prelude.{◌≡◌, ◌++◌, [], false, true, List, All, IfOk, OnOk, chars};
 ghost use Rattle.snippet_parts.specs.ShownLines.{infos_of};
-ghost use Rattle.snippet_strokes.specs.Drawable.{AreDrawable, IsDrawableLine};
+ghost use Rattle.snippet_strokes.specs.Drawable.{IsDrawableLine};
 ghost use Rattle.snippet_strokes.specs.Bars as spec;
 ghost use Rattle.snippet_strokes.specs.Bars.{Bar, FitBeside, HasBarRoom, bars_apart, ends_of_bars, open_below};
-ghost use Rattle.snippet_strokes.specs.LineRows.{AddsOwnRows};
 ghost use Rattle.snippet_text.specs.Normalized.{norm};
-ghost use Rattle.snippet_style.specs.Cell.{Cell};
-ghost use Rattle.snippet_strokes.specs.Snippet.{AddsLine, AddsSnippet};
+ghost use Rattle.snippet_strokes.specs.Snippet.{info_rows, infos_rows};
 
 use crate::bars::{BarStroke, OpenBar, add_bars_apart, bars_apart, draw_bars, ends_on};
 use crate::elision::draw_gap;
@@ -18,7 +15,7 @@ use crate::strokes::{StrokePlace, draw_strokes};
 use crate::whole_line::is_whole_line;
 use snippet_grid::{Layout, StyledBuffer};
 use snippet_lines::LineNumbers;
-use snippet_parts::{AnnotatedLineInfo, ShownLine};
+use snippet_parts::ShownLine;
 use snippet_window::Margin;
 use std::alloc::{AllocError, Global};
 
@@ -74,8 +71,7 @@ pub fn draw_snippet(
     lines: &[ShownLine],
 ) -> Result<(), AllocError>
     requires drawable { All (λ line. IsDrawableLine layout view.margin view.numbers line.info) lines.now }
-    ensures added { OnOk result (AddsSnippet layout view.margin view.numbers view.closes (infos_of lines.now)
-        buffer.old buffer.new) }
+    ensures added { OnOk result (buffer.new ≡ buffer.old ++ infos_rows layout view [] (infos_of lines.now)) }
 {
     let mut bars = BarLists {
         open_bars: Vec::new(alloc),
@@ -117,8 +113,7 @@ fn draw_line(
 ) -> Result<BarLists, AllocError>
     requires drawable { IsDrawableLine layout view.margin view.numbers line.now.info }
     requires room { All (HasBarRoom layout) bars.open_bars.items }
-    ensures added { OnOk result (AddsLine layout view.margin view.numbers view.closes bars.open_bars.items
-        line.now.info buffer.old buffer.new) }
+    ensures added { OnOk result (buffer.new ≡ buffer.old ++ info_rows layout view bars.open_bars.items line.now.info) }
     ensures bars { IfOk result (λ below. below.open_bars.items
         ≡ open_below bars.open_bars.items line.now.info.annotations.items) }
 {
@@ -156,7 +151,7 @@ fn draw_line_rows(
     requires beside { FitBeside layout beside.tops.now beside.past.now }
     ensures added { OnOk result ((above : List Bar)
         → beside.entry.past.now ≡ bars_apart above (ends_of_bars line.now.info.annotations.items)
-        → AddsLine layout view.margin view.numbers view.closes above line.now.info buffer.old buffer.new) }
+        → buffer.new ≡ buffer.old ++ info_rows layout view above line.now.info) }
 {
     let info = &line.info;
     if is_whole_line(info.line, &info.annotations) {
@@ -181,7 +176,7 @@ fn draw_whole_line(
     requires beside { FitBeside layout beside.tops.now beside.past.now }
     ensures added { OnOk result ((above : List Bar)
         → beside.entry.past.now ≡ bars_apart above (ends_of_bars line.now.info.annotations.items)
-        → AddsLine layout view.margin view.numbers view.closes above line.now.info buffer.old buffer.new) }
+        → buffer.new ≡ buffer.old ++ info_rows layout view above line.now.info) }
 {
     let (row, dropped) = draw_source_row(alloc, buffer, layout, view, line, beside)?;
     highlight_source(buffer, layout, dropped, row, &line.info.annotations)
@@ -201,7 +196,7 @@ fn draw_marked_line(
     requires past { All (HasBarRoom layout) past.now }
     ensures added { OnOk result ((above : List Bar)
         → past.now ≡ bars_apart above (ends_of_bars line.now.info.annotations.items)
-        → AddsLine layout view.margin view.numbers view.closes above line.now.info buffer.old buffer.new) }
+        → buffer.new ≡ buffer.old ++ info_rows layout view above line.now.info) }
 {
     let none = Beside {
         tops: &[],
@@ -216,24 +211,6 @@ fn draw_marked_line(
         room: view.margin.term_width,
         closes: view.closes,
     };
-    draw_entries(alloc, buffer, layout, place, info)?;
+    draw_strokes(alloc, buffer, layout, place, &info.annotations)?;
     draw_bars(alloc, buffer, layout, row, past, BarStroke::Solid)
-}
-
-/// Draws the strokes of a line that isn't marked as a whole. Its source row is the last row of the grid.
-fn draw_entries(
-    alloc: Global,
-    buffer: &mut StyledBuffer,
-    layout: Layout,
-    place: StrokePlace,
-    info: &AnnotatedLineInfo,
-) -> Result<(), AllocError>
-    requires last { length buffer.old ≡ place.row + 1 }
-    requires entries { AreDrawable layout info.now.annotations.items }
-    requires other { spec.is_whole_line (norm (chars info.now.line.now)) info.now.annotations.items ≡ false }
-    ensures own { OnOk result ((above : List (List Cell)) (source : List Cell) → buffer.old ≡ above ++ source ∷ []
-        → AddsOwnRows layout place.room place.closes (norm (chars info.now.line.now)) place.dropped
-        info.now.annotations.items above source buffer.new) }
-{
-    draw_strokes(alloc, buffer, layout, place, &info.annotations)
 }

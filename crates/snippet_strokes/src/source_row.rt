@@ -1,21 +1,20 @@
 //! The row that shows a line of the source.
-ghost use Rattle.std.specs.Prelude.{◌≡◌, ◌+◌, ◌<◌, ◌≤◌, ◌++◌, ◌∷◌, [], IfOk, IfSome, List, OnOk, chars, false};
+ghost use Rattle.std.specs.Prelude.{◌≡◌, ◌+◌, ◌<◌, ◌≤◌, ◌++◌, ◌∷◌, [], IfOk, IfSome, List, OnOk, chars};
 ghost use Rattle.std.specs.Prelude.{length};
 ghost use Rattle.snippet_style.specs.Cell.{Cell, SPACE, text_cells, written};
 ghost use Rattle.snippet_style.specs.Separators.{separator_row};
 ghost use Rattle.snippet_style.specs.declared.role.ElementStyle.TheVariants.{LineNumber};
-ghost use Rattle.snippet_strokes.specs.Bars.{FitBeside, barred};
+ghost use Rattle.snippet_strokes.specs.Bars.{FitBeside, with_bars};
 ghost use Rattle.snippet_strokes.specs.declared.bars.BarStroke.TheVariants.{Solid, Top};
 ghost use Rattle.std.specs.Cow.{cow_str_bytes};
-ghost use Rattle.std.specs.List.{list_any};
 ghost use Rattle.snippet_window.specs.Margin.{bounds_of};
 ghost use Rattle.snippet_window.specs.Window.{dropped_part};
 ghost use Rattle.snippet_style.specs.Glyphs.{placeholder_of};
 ghost use Rattle.snippet_lines.specs.Number.{shown_number};
 ghost use Rattle.snippet_lines.specs.declared.number.LineNumbers.TheVariants.{Shown};
-ghost use Rattle.snippet_strokes.specs.SourceRows.{AddsSourceRow, begun_cells, ended_cells, shown_cells, window_cells};
+ghost use Rattle.snippet_strokes.specs.SourceRows.{begun_cells, ended_cells, shown_cells, source_row, window_cells};
 ghost use Rattle.snippet_strokes.specs.SourceRows.{with_cells};
-ghost use Rattle.snippet_text.specs.Normalized.{is_listed, norm};
+ghost use Rattle.snippet_text.specs.Normalized.{norm};
 ghost use Rattle.snippet_text.specs.Width.{width_of};
 ghost use Rattle.snippet_grid.specs.Layout.{inner_cell, separator_cell};
 ghost use Rattle.snippet_text.specs.TextBounds.{TextFits};
@@ -70,18 +69,15 @@ pub fn draw_source_row(
         separator_cell layout }
     requires text { TextFits line.now.info.line.now }
     requires beside { FitBeside layout beside.tops.now beside.past.now }
-    ensures added { OnOk result ((bare : List (List Cell))
-        × AddsSourceRow layout (shown_number view.numbers layout.gutter line.now.info.line_index)
-        (window_cells layout.decor view.margin (norm (chars line.now.info.line.now))) buffer.old bare
-        × (buffer.new ≡ barred layout Solid beside.entry.past.now (length buffer.old)
-        (barred layout Top beside.entry.tops.now (length buffer.old) bare))) }
+    ensures added { OnOk result (buffer.new ≡ buffer.old ++ with_bars layout Solid beside.entry.past.now
+        (with_bars layout Top beside.entry.tops.now
+        (source_row layout (shown_number view.numbers layout.gutter line.now.info.line_index)
+        (window_cells layout.decor view.margin (norm (chars line.now.info.line.now))))) ∷ []) }
     ensures short { OnOk result (IsWindowEnd (length (window_cells layout.decor view.margin
         (norm (chars line.now.info.line.now))))) }
     ensures row { IfOk result (λ at. at.0 ≡ length buffer.old) }
     ensures dropped { IfOk result (λ at.
         at.1 ≡ width_of (dropped_part (bounds_of view.margin).left (norm (chars line.now.info.line.now)))) }
-    ensures near { IfOk result (λ at. at.1 < (bounds_of view.margin).left + 4) }
-    ensures uncut { IfOk result (λ at. (bounds_of view.margin).left ≡ 0 → at.1 ≡ 0) }
     ensures few { IfOk result (λ at. IsWindowColumn at.1) }
 {
     let mut digits = Buffer::new();
@@ -145,8 +141,7 @@ fn digits_beside<'b>(
     Ok(CowStr::Owned(number_text(alloc, LineNumbers::Shown, gutter, number)?))
 }
 
-/// Writes a source row of these texts, which hold no listed character, from left to right: the number and the
-/// separator, the bars, and the window.
+/// Writes a source row of these texts from left to right: the number and the separator, the bars, and the window.
 fn write_source_row(
     alloc: Global,
     buffer: &mut StyledBuffer,
@@ -155,17 +150,15 @@ fn write_source_row(
     beside: Beside<'_>,
 ) -> Result<usize, AllocError>
     requires number { length (chars texts.number.now) ≤ separator_cell layout }
-    requires number_free { list_any is_listed (chars texts.number.now) ≡ false }
     requires placeholder { chars texts.placeholder.now ≡ placeholder_of layout.decor }
     requires start { IfSome texts.window.start (λ columns. IsTextWidth columns) }
     requires text { FitsRow (chars texts.window.text.now) }
-    requires text_free { list_any is_listed (chars texts.window.text.now) ≡ false }
     requires end { IfSome texts.window.end (λ at. IsWindowColumn at) }
     requires beside { FitBeside layout beside.tops.now beside.past.now }
-    ensures added { OnOk result ((bare : List (List Cell)) × AddsSourceRow layout (chars texts.entry.number.now)
-        (shown_cells layout.decor texts.entry.window.start (chars texts.entry.window.text.now) texts.entry.window.end)
-        buffer.old bare × (buffer.new ≡ barred layout Solid beside.entry.past.now (length buffer.old)
-        (barred layout Top beside.entry.tops.now (length buffer.old) bare))) }
+    ensures added { OnOk result (buffer.new ≡ buffer.old ++ with_bars layout Solid beside.entry.past.now
+        (with_bars layout Top beside.entry.tops.now (source_row layout (chars texts.entry.number.now)
+        (shown_cells layout.decor texts.entry.window.start (chars texts.entry.window.text.now)
+        texts.entry.window.end))) ∷ []) }
     ensures short { OnOk result (IsWindowEnd (length (shown_cells layout.decor texts.entry.window.start
         (chars texts.entry.window.text.now) texts.entry.window.end))) }
     ensures row { IfOk result (λ row. row ≡ length buffer.old) }

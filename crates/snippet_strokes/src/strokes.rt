@@ -1,15 +1,16 @@
 //! All that stands below the source row of a line, and the bars beside it of spans that begin or end there.
-ghost use Rattle.std.specs.Prelude.{◌≡◌, ◌+◌, ◌<◌, ◌++◌, ◌∷◌, [], if◌then◌else◌, All, List, OnOk};
-ghost use Rattle.std.specs.Prelude.{◌-◌, false, length, map, replicate};
+ghost use Rattle.std.specs.Prelude.{◌≡◌, ◌+◌, ◌<◌, ◌++◌, ◌∷◌, [], ℕ, if◌then◌else◌, All, List, OnOk};
+ghost use Rattle.std.specs.Prelude.{◌-◌, false, length, replicate};
 ghost use Rattle.std.specs.List.{list_any};
-ghost use Rattle.snippet_labels.specs.PlacedEntries.{shifted};
 ghost use Rattle.snippet_labels.specs.Positions.{takes_space};
+ghost use Rattle.snippet_strokes.specs.Bars.{is_whole_line};
 ghost use Rattle.snippet_strokes.specs.Drawable.{AreDrawable, IsReady};
+ghost use Rattle.snippet_strokes.specs.LineRows.{own_rows};
 ghost use Rattle.snippet_style.specs.Cell.{Cell};
 ghost use Rattle.snippet_strokes.specs.Drawing as spec;
 ghost use Rattle.snippet_strokes.specs.Drawing.{AreEnough, HasRows};
 ghost use Rattle.snippet_strokes.specs.SourceRows.{bare_row};
-ghost use Rattle.snippet_strokes.specs.Strokes.{AddsPainted, line_strokes, strokes_under_marks};
+ghost use Rattle.snippet_strokes.specs.Strokes.{line_strokes, strokes_under_marks};
 ghost use Rattle.snippet_strokes.specs.Painting.{painting_order};
 ghost use Rattle.snippet_strokes.specs.Writes.{painted};
 ghost use Rattle.snippet_style.specs.Separators.{closing_row, separator_row};
@@ -70,11 +71,9 @@ pub(crate) fn draw_strokes(
 ) -> Result<(), AllocError>
     requires last { length buffer.old ≡ place.row + 1 }
     requires entries { AreDrawable layout entries.now }
-    ensures none { OnOk result (length entries.now ≡ 0 → buffer.new ≡ buffer.old
-        ++ (if place.closes then closing_row layout.decor layout.gutter ∷ [] else [])) }
-    ensures painted { OnOk result (0 < length entries.now → (above : List (List Cell)) (plain : List Cell)
-        → buffer.old ≡ above ++ plain ∷ []
-        → AddsPainted layout place.room place.closes (map (shifted place.dropped) entries.now) above plain buffer.new) }
+    ensures value { OnOk result ((text : List ℕ) (above : List (List Cell)) (source : List Cell)
+        → is_whole_line text entries.now ≡ false → buffer.old ≡ above ++ source ∷ []
+        → buffer.new ≡ above ++ own_rows layout place.room place.closes text place.dropped entries.now source) }
 {
     if entries.is_empty() {
         return close_below(buffer, layout, place.closes);

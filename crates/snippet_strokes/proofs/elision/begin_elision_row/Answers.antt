@@ -27,5 +27,4 @@ returns c =
           c.num_lines-row.ensures.count shown (elision_some decor) writes
           ∙ ap (λ n. old ++ (replicate n SPACE ++ text_cells LineNumber (elision_of decor)) ∷ []) at
           ∙ ap (λ row. old ++ row ∷ []) (bare_elision_is decor gutter)) c.puts.ensures.ok;
-      place = c.layout.invariant.1;
     })

@@ -1,22 +1,51 @@
-use Rattle.std.proofs.Common.{◌≡◌, ◌∙◌, ◌+◌, List, ap, arith, take}
-use Rattle.std.specs.Prelude.{filter, not}
+use Rattle.std.proofs.Common.{◌≡◌, ◌∙◌, ◌+◌, ap, arith, length, sym, take}
 use Rattle.std.proofs.lemmas.List.{take_all}
-use Rattle.snippet_grid.specs.Grid.{changed_within}
-use Rattle.snippet_parts.specs.declared.entries.LineAnnotation.{LineAnnotation}
-use Rattle.snippet_labels.specs.PlacedEntries.{is_end_part}
+use Rattle.snippet_grid.specs.Grid.{changed_within, row_at}
 use Rattle.snippet_strokes.specs.StrokeRows.{highlighted_row}
-use Rattle.snippet_strokes.proofs.HighlightLaws.{highlighted_rows}
+use Rattle.snippet_strokes.proofs.HighlightLaws.{asking, lit_by-asked, lit_by-end, lit_by-none, lit_by-unasked, lit_by-width}
 use Rattle.snippet_strokes.proofs.highlight.highlight_source.Goals as goal
+use Rattle.snippet_strokes.proofs.highlight.highlight_source.Goals.{then-entry+then-not-is_end_part+in_ok-highlight_entry, else-entry}
+use Rattle.snippet_strokes.proofs.highlight.highlight_source.Goals.{else-entry-via-then-entry+else-not-is_end_part, else-entry-via-else-entry}
+
+pub loop-entry-init : goal.loop-entry-init
+loop-entry-init c = lit_by-none c.args.layout.code c.args.dropped c.args.row c.args.buffer.now c.args.entries.now
+
+pub highlight_entry-requires-clause-short : goal.highlight_entry-requires-clause-short
+highlight_entry-requires-clause-short c =
+    let row = c.args.row in
+    omega (
+      arith,
+      c.requires.short,
+      ap (λ rows. length (row_at rows row)) c.loop-entry.invariant,
+      lit_by-width c.args.layout.code c.args.dropped row c.args.buffer.now c.args.entries.now c.loop-entry.entry-index,
+    )
+
+pub loop-entry-preserved : goal.loop-entry-preserved
+loop-entry-preserved c =
+    let es = c.args.entries.now in
+    let old = c.args.buffer.now in
+    let row = c.args.row in
+    let code = c.args.layout.code in
+    let dropped = c.args.dropped in
+    let i = c.loop-entry.entry-index in
+    let within = c.loop-entry-test.true in
+    elim c.if-entry.branch [
+      | then-entry+then-not-is_end_part+in_ok-highlight_entry w ↦
+          w.buffer-is ∙ w.in_ok-highlight_entry.ensures.value ∙ (rw c.loop-entry.invariant
+          (lit_by-asked code dropped row old es i _ within (sym w.is_end_part.ensures.value ∙ grind (arith, w.if-not-is_end_part.true)) w.if-entry.true))
+      | else-entry w ↦ w.buffer-is ∙ c.loop-entry.invariant ∙ elim w.else-entry.branch [
+        | else-entry-via-then-entry+else-not-is_end_part v ↦
+            lit_by-end code dropped row old es i _ within (sym v.is_end_part.ensures.value ∙ grind (arith, v.if-not-is_end_part.false))
+        | else-entry-via-else-entry v ↦ lit_by-unasked code dropped row old es i _ within v.if-entry.false
+      ]
+    ]
 
 pub returns : goal.returns
 returns c =
     let es = c.args.entries.now in
-    let old = c.args.buffer.now in
     let row = c.args.row in
-    let asking : List LineAnnotation → List LineAnnotation = λ xs. filter (λ (e : LineAnnotation). not (is_end_part e.annotation_type)) xs in
     let all : take c.loop-entry.entry-index es ≡ es = take_all c.loop-entry.entry-index es (omega (arith, c.loop-entry-test.false)) in
-    let inv = c.loop-entry.invariant in
     record {
-      value = highlighted_rows c.args.layout.code c.args.dropped (asking (take c.loop-entry.entry-index es)) row old c.loop-entry.buffer inv.0 inv.1 inv.2
-          ∙ ap (λ xs. changed_within (highlighted_row c.args.layout.code c.args.dropped (asking xs)) row (row + 1) old) all;
+      value = c.loop-entry.invariant
+          ∙ ap (λ xs. changed_within (highlighted_row c.args.layout.code c.args.dropped (asking xs)) row (row + 1) c.args.buffer.now) all;
     }

@@ -1,22 +1,20 @@
-use Rattle.std.proofs.Common.{refl, ap, sym, subst, ◌∙◌, ◌+◌, ◌≤◌, ◌<◌, ◌^◌, arith, length, chars}
+use Rattle.std.proofs.Common.{◌≡◌, ◌++◌, ◌∷◌, [], List, refl, ap, sym, subst, ◌∙◌, ◌+◌, ◌≤◌, ◌<◌, ◌^◌, arith, length, chars}
 use Rattle.snippet_grid.specs.Layout.{Layout}
 use Rattle.snippet_grid.specs.LayoutOf.{layout_of}
-use Rattle.snippet_strokes.specs.SourceRows.{AddsSourceRow, shown_cells, window_cells}
-use Rattle.std.specs.List.{list_any}
-use Rattle.std.proofs.lemmas.List.Folds.{list_any_none}
+use Rattle.snippet_strokes.specs.SourceRows.{shown_cells, source_row}
+use Rattle.snippet_style.specs.Cell.{Cell}
+use Rattle.snippet_style.specs.declared.glyphs.DecorStyle.{DecorStyle}
+use Rattle.snippet_strokes.specs.Bars.{with_bars}
+use Rattle.snippet_strokes.specs.declared.bars.BarStroke.TheVariants.{Solid, Top}
 use Rattle.snippet_window.specs.Margin.{bounds_of}
-use Rattle.snippet_window.specs.Window.{inner_part, uncovered_part}
 use Rattle.snippet_window.proofs.NearLemmas.{part_of_norm}
-use Rattle.snippet_text.specs.Normalized.{is_listed, norm}
-use Rattle.snippet_text.proofs.NormLemmas.{list_any-norm}
+use Rattle.snippet_text.specs.Normalized.{norm}
 use Rattle.snippet_text.proofs.WidthBounds.{width_of-chars}
 use Rattle.snippet_lines.specs.Number.{shown_number}
-use Rattle.snippet_strokes.proofs.CellLemmas.{cells_are, part_few, unlisted_part}
-use Rattle.snippet_lines.proofs.NumberLemmas.{chars-shown_number, shown_number_unlisted}
-use Rattle.snippet_strokes.proofs.SourceRowLemmas.{AddsSourceRow-same}
+use Rattle.snippet_strokes.proofs.CellLemmas.{cells_are, part_few}
+use Rattle.snippet_lines.proofs.NumberLemmas.{chars-shown_number}
 use Rattle.snippet_labels.proofs.CharLemmas.{norm_short}
 use Rattle.snippet_strokes.proofs.source_row.draw_source_row.Goals as goal
-use Rattle.snippet_model.proofs.RowLemmas.{each_fails}
 
 pub near_part-near-requires-clause-narrow : goal.near_part-near-requires-clause-narrow
 near_part-near-requires-clause-narrow c =
@@ -46,13 +44,6 @@ write_source_row-requires-clause-number c =
           ∙ chars-shown_number c.args.view.numbers c.layout.inside.gutter c.args.line.now.info.line_index (omega arith)),
     ))
 
-pub write_source_row-requires-clause-number_free : goal.write_source_row-requires-clause-number_free
-write_source_row-requires-clause-number_free c =
-    ap (list_any is_listed) (ap chars (c.as_str-2.ensures.value ∙ c.in_ok-number.ensures.text)
-    ∙ chars-shown_number c.args.view.numbers c.layout.inside.gutter c.args.line.now.info.line_index (omega arith))
-    ∙ list_any_none is_listed (shown_number c.args.view.numbers c.layout.inside.gutter c.args.line.now.info.line_index)
-    (shown_number_unlisted c.args.view.numbers c.layout.inside.gutter c.args.line.now.info.line_index (omega arith))
-
 pub write_source_row-requires-clause-text : goal.write_source_row-requires-clause-text
 write_source_row-requires-clause-text c =
     let bounds = bounds_of c.args.view.margin in
@@ -67,19 +58,6 @@ write_source_row-requires-clause-text c =
           (chars c.placeholder-placeholder.result.now) (norm line),
       norm_short c.args.line.now.info.line.now c.requires.text,
     )
-
-pub write_source_row-requires-clause-text_free : goal.write_source_row-requires-clause-text_free
-write_source_row-requires-clause-text_free c =
-    let bounds = bounds_of c.args.view.margin in
-    let line = chars c.args.line.now.info.line.now in
-    let placeholder = chars c.placeholder-placeholder.result.now in
-    let text = ap chars c.as_str.ensures.value ∙ c.in_ok-text.ensures.value in
-    let within = part_of_norm c.args.view.margin c.args.line.now.width c.near_part-near.result.skipped line (chars c.near_part-near.result.text.now)
-    (chars c.as_str.result.now) c.args.line.now.measured text c.near_part-near.ensures.holds in
-    let part = uncovered_part bounds.left placeholder (inner_part c.args.view.margin.term_width bounds.left bounds.right (norm line)) in
-    ap (list_any is_listed) (c.window_of-window.ensures.text (norm line) within)
-    ∙ list_any_none is_listed part (unlisted_part bounds.left c.args.view.margin.term_width bounds.left bounds.right placeholder (norm line)
-    (each_fails is_listed (norm line) (list_any-norm line)))
 
 pub returns-clause-added : goal.returns-clause-added
 returns-clause-added c =
@@ -96,14 +74,14 @@ returns-clause-added c =
     (chars c.placeholder-placeholder.result.now) (norm line) (norm line)
     c.placeholder-placeholder.ensures.value refl (window.ensures.start (norm line) part) (window.ensures.text (norm line) part)
     (window.ensures.end (norm line) part) in
-    let given = c.in_ok-row.ensures.added in
-    let added = subst (λ (l : Layout). AddsSourceRow l (chars c.as_str-2.result.now)
-    (shown_cells l.decor window.result.start (chars window.result.text.now) window.result.end) args.buffer.now given.0)
-    (sym c.layout.view_is) given.1 in
-    let bare : AddsSourceRow args.layout (shown_number args.view.numbers args.layout.gutter args.line.now.info.line_index)
-    (window_cells args.layout.decor args.view.margin (norm line)) args.buffer.now given.0 = rw (← c.layout.view_is)
-    (AddsSourceRow-same layout _ _ _ _ args.buffer.now given.0 number cells added) in
-    (given.0, bare, given.2)
+    let old = args.buffer.now in
+    let sides : Layout → List Cell → List (List Cell) = λ l cs.
+    old ++ with_bars l Solid args.beside.past.now (with_bars l Top args.beside.tops.now cs) ∷ [] in
+    let text_cells : DecorStyle → List Cell = λ decor. shown_cells decor window.result.start (chars window.result.text.now) window.result.end in
+    let given = subst (λ (l : Layout). c.write_source_row.new.buffer ≡ sides l (source_row l (chars c.as_str-2.result.now) (text_cells l.decor)))
+    (sym c.layout.view_is) c.in_ok-row.ensures.added in
+    rw (← c.layout.view_is) (given ∙ ap (λ shown. sides layout (source_row layout shown (text_cells layout.decor))) number
+    ∙ ap (λ cs. sides layout (source_row layout (shown_number args.view.numbers layout.gutter args.line.now.info.line_index) cs)) cells)
 
 pub returns-clause-short : goal.returns-clause-short
 returns-clause-short c =

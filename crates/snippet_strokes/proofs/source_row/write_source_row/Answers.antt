@@ -1,15 +1,13 @@
-use Rattle.std.proofs.Common.{◌≡◌, ◌∙◌, ◌++◌, ◌∷◌, [], List, ap, length, refl, sym}
+use Rattle.std.proofs.Common.{◌≡◌, ◌∙◌, ◌++◌, ◌∷◌, [], List, ap}
 use Rattle.std.specs.Str.{chars}
 use Rattle.snippet_style.specs.Cell.{Cell}
 use Rattle.snippet_strokes.specs.declared.bars.BarStroke.TheVariants.{Top, Solid}
 use Rattle.snippet_strokes.specs.Bars.{barred, with_bars}
-use Rattle.snippet_strokes.specs.SourceRows.{begun_cells, shown_cells, with_cells}
+use Rattle.snippet_strokes.specs.SourceRows.{begun_cells, shown_cells}
 use Rattle.snippet_strokes.proofs.BesideLemmas.{barred_last, bars_first, bars_left}
-use Rattle.snippet_strokes.proofs.CellLemmas.{free_shown, shown_short}
-use Rattle.snippet_strokes.proofs.SourceRowLemmas.{front, front_short, source_row_added}
+use Rattle.snippet_strokes.proofs.CellLemmas.{shown_short}
+use Rattle.snippet_strokes.proofs.SourceRowLemmas.{front, front_short}
 use Rattle.snippet_strokes.proofs.source_row.write_source_row.Goals as goal
-use Rattle.snippet_model.proofs.RowLemmas.{each_fails}
-use Rattle.snippet_text.specs.Normalized.{is_listed}
 
 pub returns-clause-added : goal.returns-clause-added
 returns-clause-added c =
@@ -36,16 +34,8 @@ returns-clause-added c =
     ∙ barred_last layout Top tops old c.draw_bars.new.buffer sides one in
     let written = c.in_ok-write_beginning.ensures.writes old full c.in_ok-row.ensures.row ends two in
     let ended = c.in_ok-write_end.ensures.writes old full (begun_cells layout.decor window.start text) c.in_ok-row.ensures.row ends written in
-    let whole : List Cell = with_cells layout.code cells start in
-    let bare : List (List Cell) = old ++ whole ∷ [] in
-    let topped = barred_last layout Top tops old bare whole refl in (
-      bare,
-      source_row_added layout c.args.texts.number.now cells old bare place c.requires.number (each_fails is_listed _ c.requires.number_free)
-          (free_shown layout.decor window.start text window.end (each_fails is_listed _ c.requires.text_free)) refl,
-      ended ∙ ap (λ row. old ++ row ∷ []) (bars_first layout tops past cells start c.requires.beside.tops_room c.requires.beside.past_room
-          c.requires.beside.apart)
-          ∙ sym (barred_last layout Solid past old (barred layout Top tops (length old) bare) (with_bars layout Top tops whole) topped),
-    )
+    ended
+    ∙ ap (λ row. old ++ row ∷ []) (bars_first layout tops past cells start c.requires.beside.tops_room c.requires.beside.past_room c.requires.beside.apart)
 
 pub returns-clause-short : goal.returns-clause-short
 returns-clause-short c =

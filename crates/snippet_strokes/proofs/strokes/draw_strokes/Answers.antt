@@ -1,7 +1,7 @@
 use Rattle.std.proofs.Common.{◌≡◌, ◌∙◌, ◌+◌, ◌-◌, ◌<◌, ◌≤◌, ◌^◌, List, ◌++◌, ◌∷◌, [], Bool, true, ℕ, All, map, replicate, ap, sym, subst, refl, arith, length}
 use Rattle.std.proofs.lemmas.Result.{on_ok_weaker}
 use Rattle.snippet_grid.specs.Layout.{Layout}
-use Rattle.std.proofs.lemmas.List.{length_push}
+use Rattle.std.proofs.lemmas.List.{append_assoc, length_push}
 use Rattle.std.proofs.lemmas.List.Sorted.{All-permutation, length_permutation}
 use Rattle.snippet_parts.specs.declared.entries.LineAnnotation.{LineAnnotation}
 use Rattle.snippet_labels.specs.declared.positions.PlacedEntry.{PlacedEntry}
@@ -11,10 +11,11 @@ use Rattle.snippet_strokes.specs.Drawable.{AreDrawable}
 use Rattle.snippet_labels.specs.Positions.{ArePlaced}
 use Rattle.snippet_style.specs.Cell.{Cell}
 use Rattle.snippet_labels.specs.PlacedEntries.{HasPlace, shifted}
+use Rattle.std.specs.Prelude.{if◌then◌else◌}
 use Rattle.std.specs.List.{list_any}
 use Rattle.snippet_strokes.specs.Cuts.{cut_rows, cuts_of, is_wide_at, overlapped}
 use Rattle.snippet_strokes.specs.SourceRows.{bare_row}
-use Rattle.snippet_style.specs.Separators.{separator_row}
+use Rattle.snippet_style.specs.Separators.{closing_row, separator_row}
 use Rattle.snippet_strokes.proofs.PaintOrder.{IsPermutation-painting_order}
 use Rattle.snippet_strokes.proofs.PositionLemmas.{looked_of_placed, row_count_some, positions_of_placed}
 use Rattle.snippet_strokes.proofs.BegunLemmas.{rows_begun, rows_ready}
@@ -22,7 +23,7 @@ use Rattle.snippet_strokes.proofs.ReadyLemmas.{all_ready, ready_places}
 use Rattle.snippet_strokes.proofs.ReadyRows.{enough_begun}
 use Rattle.snippet_strokes.specs.Strokes.{line_strokes}
 use Rattle.snippet_strokes.specs.Writes.{painted}
-use Rattle.snippet_strokes.proofs.LineRowLemmas.{painted_added}
+use Rattle.snippet_strokes.proofs.LineRowLemmas.{own_none, own_strokes, painted_added}
 use Rattle.snippet_strokes.proofs.strokes.draw_strokes.Goals as goal
 
 pub row_count-count-requires : goal.row_count-count-requires
@@ -127,9 +128,14 @@ cut_wide-requires c =
 pub returns-then-is_empty : goal.returns-then-is_empty
 returns-then-is_empty c =
     let given : length c.args.entries.now ≡ 0 = grind arith in
+    let place = c.args.place in
+    let layout = c.args.layout in
+    let end : List (List Cell) = if place.closes then closing_row layout.decor layout.gutter ∷ [] else [] in
     record {
-      none = on_ok_weaker c.close_below.result (λ adds _. adds) c.close_below.ensures.added;
-      painted = on_ok_weaker c.close_below.result (λ _ some above plain _. absurd (omega (arith, given, some))) c.close_below.ensures.added;
+      value = on_ok_weaker c.close_below.result (λ adds text above source other old_is.
+          adds ∙ ap (λ rows. rows ++ end) old_is ∙ append_assoc above (source ∷ []) end
+          ∙ ap (λ rows. above ++ rows) (sym (own_none layout place.room place.closes text place.dropped c.args.entries.now source given)))
+          c.close_below.ensures.added;
     }
 
 pub returns : goal.returns
@@ -162,19 +168,20 @@ returns c =
     let final_is : final ≡ cut_to c.deref-3.result.now c.deref-4.result.now → final ≡ cut_to after flags = λ value.
     value ∙ ap (λ ps. cut_to ps c.deref-4.result.now) (c.deref-3.ensures.value ∙ c.in_ok-draw_rows.ensures.order)
     ∙ ap (cut_to after) c.deref-4.ensures.value in
-    let last_row : (above : List (List Cell)) (plain : List Cell) → old ≡ above ++ plain ∷ [] → row ≡ length above = λ above plain old_is.
-    omega (arith, c.requires.last, ap length old_is, length_push above plain) in
+    let last_row : (above : List (List Cell)) (source : List Cell) → old ≡ above ++ source ∷ [] → row ≡ length above = λ above source old_is.
+    omega (arith, c.requires.last, ap length old_is, length_push above source) in
     record {
-      none = on_ok_weaker c.cut_wide.result (λ _ none. absurd (omega (arith, given, none))) c.cut_wide.ensures.value;
-      painted = on_ok_weaker c.cut_wide.result (λ value _ above plain old_is.
+      value = on_ok_weaker c.cut_wide.result (λ value text above source other old_is.
           let all_rows : length new ≡ all = c.in_ok-draw_rows.ensures.count ∙ sym whole ∙ long in
           let is_wide : PlacedEntry → Bool = is_wide_at c.args.place.room layout.decor in
           let flags_are : list_any is_wide placed ≡ true → flags ≡ overlapped placed =
           λ some_wide. c.in_ok-overlapped.ensures.value (ap (λ (l : Layout).
           list_any (is_wide_at c.args.place.room l.decor) c.deref.result.now) c.layout.view_is
           ∙ ap (list_any is_wide) c.deref.ensures.value ∙ some_wide) ∙ ap overlapped c.deref.ensures.value in
-          painted_added layout c.args.place.room c.args.place.closes es placed flags above plain old new final row are old_is
-          (last_row above plain old_is) all_rows
+          painted_added layout c.args.place.room c.args.place.closes es placed flags above source old new final row are old_is
+          (last_row above source old_is) all_rows
           (new_is ∙ ap (λ n. painted (line_strokes layout row n placed after) begun) long ∙ ap (painted (line_strokes layout row all placed after)) begun_is)
-          flags_are (final_is value)) c.cut_wide.ensures.value;
+          flags_are (final_is value)
+          ∙ ap (λ rows. above ++ rows) (sym (own_strokes layout c.args.place.room closes text c.args.place.dropped c.args.entries.now source other given)))
+          c.cut_wide.ensures.value;
     }

@@ -1,0 +1,212 @@
+-- What is known of the rows of a line that painters promise, from the value alone: its source row, and the rows of its strokes.
+use Rattle.std.proofs.Common.{◌≡◌, ℕ, suc, ◌+◌, ◌-◌, ◌<◌, ◌≤◌, ◌^◌, Bool, true, false, List, [], ◌∷◌, ◌++◌, All, chars, drop, filter, get_or, length, map, not}
+use Rattle.std.proofs.Common.{take, refl, sym, ap, ◌∙◌, subst, arith, inl, inr}
+use Rattle.std.proofs.lemmas.Bool.{cases_lt, cond-false, cond-true, false≢true}
+use Rattle.std.proofs.lemmas.List.FromFn.{get_or-map-range_with_len, length-map-range_with_len}
+use Rattle.snippet_lines.specs.Number.{shown_number}
+use Rattle.snippet_lines.specs.declared.number.LineNumbers.{LineNumbers}
+use Rattle.snippet_lines.proofs.NumberLemmas.{shown_number_unlisted}
+use Rattle.snippet_model.specs.FreeRows.{IsFree}
+use Rattle.snippet_model.proofs.RowLemmas.{each_fails}
+use Rattle.snippet_parts.specs.Entries.{is_bar}
+use Rattle.snippet_parts.specs.declared.entries.AnnotatedLineInfo.{AnnotatedLineInfo}
+use Rattle.snippet_parts.specs.declared.entries.LineAnnotation.{LineAnnotation}
+use Rattle.snippet_style.specs.Cell.{Cell, SPACE}
+use Rattle.snippet_style.specs.Glyphs.{placeholder_of}
+use Rattle.snippet_style.specs.declared.glyphs.DecorStyle.{DecorStyle}
+use Rattle.snippet_text.specs.Normalized.{is_listed, norm}
+use Rattle.snippet_text.specs.Width.{char_width, width_of}
+use Rattle.snippet_text.proofs.NormLemmas.{list_any-norm}
+use Rattle.snippet_text.proofs.WidthBounds.{char_width-bound}
+use Rattle.snippet_window.specs.Margin.{bounds_of}
+use Rattle.snippet_window.specs.Measures.{StandsClear}
+use Rattle.snippet_window.specs.Window.{covered_columns, covered_end, dropped_part, inner_part, reaching, uncovered_part, window_left}
+use Rattle.snippet_window.specs.declared.margin.Margin.{Margin}
+use Rattle.snippet_window.proofs.LineWindowLemmas.{reaching-cons, reaching-none, width-cons}
+use Rattle.snippet_grid.specs.Layout.{Layout, inner_cell, separator_cell}
+use Rattle.snippet_labels.specs.PlacedEntries.{is_end_part, shifted}
+use Rattle.snippet_labels.specs.Positions.{placed_of}
+use Rattle.snippet_labels.specs.declared.positions.PlacedEntry.{PlacedEntry}
+use Rattle.snippet_strokes.specs.declared.bars.BarStroke.TheVariants.{Top}
+use Rattle.snippet_strokes.specs.declared.bars.OpenBar.{OpenBar}
+use Rattle.snippet_strokes.specs.declared.snippet.LineView.{LineView}
+use Rattle.snippet_strokes.specs.Bars.{ends_of_bars, is_whole_line, with_bars}
+use Rattle.snippet_strokes.specs.Cuts.{cut_row, cuts_of, overlapped}
+use Rattle.snippet_strokes.specs.Drawing.{row_count}
+use Rattle.snippet_strokes.specs.LineRows.{line_rows, own_rows}
+use Rattle.snippet_strokes.specs.Painting.{painting_order}
+use Rattle.snippet_strokes.specs.Snippet.{info_rows}
+use Rattle.snippet_strokes.specs.SourceRows.{source_row, window_cells}
+use Rattle.snippet_strokes.specs.StrokeRows.{highlighted_row, role_in_source}
+use Rattle.snippet_strokes.specs.Strokes.{begun_rows, line_strokes, stroke_rows}
+use Rattle.snippet_strokes.specs.Writes.{painted}
+use Rattle.snippet_strokes.proofs.CellLemmas.{free_shown, unlisted_part}
+use Rattle.snippet_strokes.proofs.LineFacts.{AreLineRows, AreOwnRows, CanBeShown, IsHighlighted, IsSourceRow, ShowsLine, StrokesPainted}
+use Rattle.snippet_strokes.proofs.PlacedOf.{HasTextLabel, placed_of_are, texts-shifted}
+use Rattle.snippet_strokes.proofs.PositionLemmas.{row_count_some}
+use Rattle.snippet_strokes.proofs.SourceRowLemmas.{source_celled}
+use Rattle.snippet_strokes.proofs.StrokesInside.{painted_rows-count, stroke_rows-count}
+
+-- ---- the source row
+
+-- a source row: it ends with the code, and left of this stand what the gutter shows and the separator
+pub source_row_shows : (layout : Layout) (shown : List ℕ) (cells : List Cell) → inner_cell layout ≤ layout.code → length shown ≤ separator_cell layout
+    → All (λ c. is_listed c ≡ false) shown → IsFree cells → IsSourceRow layout shown cells (source_row layout shown cells)
+source_row_shows layout shown cells place short free_shown free_cells = source_celled layout shown cells place short free_shown free_cells
+
+-- the window of a normalised text holds no listed character
+pub free_window : (decor : DecorStyle) (margin : Margin) (line : List ℕ) → IsFree (window_cells decor margin (norm line))
+free_window decor margin line =
+    let left : ℕ = (bounds_of margin).left in
+    let right : ℕ = (bounds_of margin).right in
+    let placeholder : List ℕ = placeholder_of decor in
+    let text : List ℕ = norm line in
+    let inner : List ℕ = inner_part margin.term_width left right text in
+    free_shown decor (covered_columns left placeholder inner) (uncovered_part left placeholder inner)
+    (covered_end margin.term_width left right placeholder text)
+    (unlisted_part left margin.term_width left right placeholder text (each_fails is_listed text (list_any-norm line)))
+
+-- the source row of a line
+pub line_source_shows : (layout : Layout) (margin : Margin) (numbers : LineNumbers) (index : ℕ) (line : List ℕ) → inner_cell layout ≤ layout.code
+    → index < 2 ^ 64 → length (shown_number numbers layout.gutter index) ≤ separator_cell layout
+    → IsSourceRow layout (shown_number numbers layout.gutter index) (window_cells layout.decor margin (norm line))
+    (source_row layout (shown_number numbers layout.gutter index) (window_cells layout.decor margin (norm line)))
+line_source_shows layout margin numbers index line place small short =
+    source_row_shows layout (shown_number numbers layout.gutter index) (window_cells layout.decor margin (norm line)) place short
+    (shown_number_unlisted numbers layout.gutter index small) (free_window layout.decor margin line)
+
+-- a highlighted row, read cell by cell
+pub highlighted_row_is : (code dropped : ℕ) (es : List LineAnnotation) (plain : List Cell)
+    → IsHighlighted code dropped es plain (highlighted_row code dropped es plain)
+highlighted_row_is code dropped es plain =
+    let lit : ℕ → Cell = λ c. let cell = get_or plain c SPACE in record cell { role = role_in_source code dropped es c cell.role } in
+    record {
+      width = length-map-range_with_len lit 0 (length plain);
+      cells = λ c within. get_or-map-range_with_len lit 0 (length plain) c c SPACE within (omega arith);
+    }
+
+-- ---- the rows of its strokes
+
+-- rows of which there are two at least
+pub two_more : (rows : List (List Cell)) → 1 < length rows → rows ≡ get_or rows 0 [] ∷ get_or rows 1 [] ∷ drop 2 rows
+two_more [] some = absurd (omega (arith, some))
+two_more (x ∷ []) some = absurd (omega (arith, some))
+two_more (x ∷ y ∷ rows) some = refl
+
+-- the rows of strokes, where labels are texts
+pub stroke_rows_are_painted : (layout : Layout) (room : ℕ) (closes : Bool) (es : List LineAnnotation) (source : List Cell) → All HasTextLabel es
+    → StrokesPainted layout room closes es source (stroke_rows layout room closes es source)
+stroke_rows_are_painted layout room closes es source texts =
+    let placed : List PlacedEntry = placed_of es in
+    let order : List PlacedEntry = painting_order placed in
+    let count : ℕ = row_count placed in
+    let whole : List (List Cell) = painted (line_strokes layout 0 (count + 1) placed order) (begun_rows layout closes count source) in
+    let long : length whole ≡ count + 1 = painted_rows-count layout closes placed order source in
+    let parts = two_more whole (omega (arith, long, row_count_some placed)) in
+    let cut : List Cell → List Cell = cut_row layout.decor (cuts_of layout room order (overlapped placed)) in
+    record {
+      placed = placed;
+      are = placed_of_are es texts;
+      top = get_or whole 0 [];
+      marks = get_or whole 1 [];
+      lower = drop 2 whole;
+      painted_are = sym parts;
+      rows_are = ap (λ rows. map cut (take 2 rows) ++ drop 2 rows) parts;
+      count = stroke_rows-count layout room closes es source;
+    }
+
+module _ (layout : Layout) (room : ℕ) (closes : Bool) (text : List ℕ) (dropped : ℕ) where
+  -- the rows that a line has by its own entries
+  pub own_rows_are_rows : (es : List LineAnnotation) (source : List Cell) → All HasTextLabel es
+      → AreOwnRows layout room closes text dropped es source (own_rows layout room closes text dropped es source)
+  own_rows_are_rows [] source texts =
+      record {
+        whole = λ is. absurd (false≢true is);
+        none = λ _. refl;
+        strokes = λ _ some. absurd (omega (arith, some));
+      }
+  own_rows_are_rows (e ∷ es) source texts =
+      let all : List LineAnnotation = e ∷ es in
+      let tops : List (List Cell) = with_bars layout Top (ends_of_bars all) source ∷ [] in
+      let strokes : List (List Cell) = stroke_rows layout room closes (map (shifted dropped) all) source in
+      record {
+        whole = λ is. cond-true (is_whole_line text all) tops strokes is;
+        none = λ empty. absurd (omega (arith, ap length empty));
+        strokes = λ other _. subst (StrokesPainted layout room closes (map (shifted dropped) all) source)
+            (sym (cond-false (is_whole_line text all) tops strokes other))
+            (stroke_rows_are_painted layout room closes (map (shifted dropped) all) source (texts-shifted dropped all texts));
+      }
+
+  -- all rows of a line
+  pub line_rows_are_rows : (open_bars : List OpenBar) (es : List LineAnnotation) (source : List Cell) → All HasTextLabel es
+      → AreLineRows layout room closes text dropped open_bars es source (line_rows layout room closes text dropped open_bars es source)
+  line_rows_are_rows open_bars es source texts =
+      record {
+        own = own_rows layout room closes text dropped es source;
+        are = own_rows_are_rows es source texts;
+        rows_are = refl;
+      }
+
+-- ---- all rows of a line that is shown
+
+-- the first characters that reach so many columns take few columns more
+reached_near : (n : ℕ) (cs : List ℕ) → width_of (take (reaching n cs) cs) < n + 4
+reached_near n [] = omega arith
+reached_near n (c ∷ cs) =
+    elim (cases_lt 0 n) [
+      | inr none ↦
+          let zero : n ≡ 0 = omega (arith, none) in
+          let stop : reaching n (c ∷ cs) ≡ 0 = ap (λ k. reaching k (c ∷ cs)) zero ∙ reaching-none (c ∷ cs) in
+          omega (arith, ap (λ k. width_of (take k (c ∷ cs))) stop)
+      | inl some ↦
+          let rest : ℕ = n - char_width c in
+          let next : reaching rest cs + 1 ≡ suc (reaching rest cs) = omega arith in
+          let more : width_of (take (reaching n (c ∷ cs)) (c ∷ cs)) ≡ width_of (c ∷ take (reaching rest cs) cs) =
+          ap (λ k. width_of (take k (c ∷ cs))) (reaching-cons n c cs some ∙ next) in
+          let wide = width-cons c (take (reaching rest cs) cs) in
+          elim (cases_lt (char_width c) n) [
+            | inl less ↦ omega (arith, more, wide, reached_near rest cs, less)
+            | inr all ↦
+                let zero : rest ≡ 0 = omega (arith, all) in
+                let stop : reaching rest cs ≡ 0 = ap (λ k. reaching k cs) zero ∙ reaching-none cs in
+                omega (arith, more, wide, ap (λ k. width_of (take k cs)) stop, char_width-bound c, some)
+          ]
+    ]
+
+-- entries that stand after the padding of the margin's left bound start in no column that is dropped
+pub entries_clear : (margin : Margin) (text : List ℕ) (es : List LineAnnotation) → All (StandsClear margin) es
+    → All (λ e. is_bar e.annotation_type ≡ false → width_of (dropped_part (bounds_of margin).left text) ≤ e.start.display) es
+entries_clear margin text es clear k d within columns =
+    let left : ℕ = (bounds_of margin).left in
+    let near = reached_near (window_left left text) text in
+    elim (cases_lt 0 left) [
+      | inl cut ↦ omega (arith, clear k d within columns cut, near)
+      | inr whole ↦
+          let zero : window_left left text ≡ 0 = omega (arith, whole) in
+          let stop : reaching (window_left left text) text ≡ 0 = ap (λ n. reaching n text) zero ∙ reaching-none text in
+          omega (arith, ap (λ n. width_of (take n text)) stop)
+    ]
+
+-- the rows of a line that is shown
+pub info_rows_show : (layout : Layout) (view : LineView) (open_bars : List OpenBar) (info : AnnotatedLineInfo) → inner_cell layout ≤ layout.code
+    → CanBeShown layout view.margin view.numbers info
+    → ShowsLine layout view.margin view.numbers view.closes open_bars info (info_rows layout view open_bars info)
+info_rows_show layout view open_bars info place can =
+    let margin : Margin = view.margin in
+    let es : List LineAnnotation = info.annotations.items in
+    let text : List ℕ = norm (chars info.line.now) in
+    let dropped : ℕ = width_of (dropped_part (bounds_of margin).left text) in
+    let asking : List LineAnnotation = filter (λ (e : LineAnnotation). not (is_end_part e.annotation_type)) es in
+    let shown : List ℕ = shown_number view.numbers layout.gutter info.line_index in
+    let plain : List Cell = source_row layout shown (window_cells layout.decor margin text) in
+    record {
+      plain = plain;
+      shows = line_source_shows layout margin view.numbers info.line_index (chars info.line.now) place can.small can.number;
+      dropped = dropped;
+      dropped_is = refl;
+      clear = entries_clear margin text es can.clear;
+      highlighted = highlighted_row layout.code dropped asking plain;
+      highlights = highlighted_row_is layout.code dropped asking plain;
+      drawn = line_rows_are_rows layout margin.term_width view.closes text dropped open_bars es (highlighted_row layout.code dropped asking plain)
+          can.labels;
+    }

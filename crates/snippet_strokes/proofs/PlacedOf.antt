@@ -1,0 +1,190 @@
+-- The placed entries of a line, as the value that the rule gives: they are placed as painters place them, where labels are texts.
+use Rattle.std.proofs.Common.{◌≡◌, ℕ, suc, zero, ◌+◌, ◌≤◌, ◌==◌, ◌&&◌, ◌||◌, Bor, true, false, IfSome, List, [], ◌∷◌, ◌++◌, Option, None, Some, All}
+use Rattle.std.proofs.Common.{IsUtf8, chars, encode_utf8_all, get_or, length, map, nat_lt, refl, sym, ap, ◌∙◌, subst, arith, inl, inr}
+use Rattle.std.proofs.Math.Utf8.{scalars}
+use Rattle.std.specs.List.{flat_map, zip}
+use Rattle.std.proofs.lemmas.Bool.{cases_Bool, cond-false, cond-true}
+use Rattle.std.proofs.lemmas.Bool.Decides.{nat_tests}
+use Rattle.std.proofs.lemmas.List.{length-map}
+use Rattle.std.proofs.lemmas.List.Elements.{All-cons, All-head, All-nil, All-tail}
+use Rattle.std.proofs.lemmas.List.Sorted.{IsPermutation-map}
+use Rattle.std.proofs.lemmas.Str.{chars-encodes, chars-nil, scalars-chars}
+use Rattle.snippet_lines.specs.OrderedBy.{ordered_by, put_in}
+use Rattle.snippet_lines.proofs.OrderLemmas.{All-put_in}
+use Rattle.snippet_parts.specs.declared.entries.LineAnnotation.{LineAnnotation}
+use Rattle.snippet_text.specs.Normalized.{norm, shown}
+use Rattle.snippet_labels.specs.PlacedEntries.{label_chars, label_text, shifted}
+use Rattle.snippet_labels.specs.Positions.{ArePlaced, HasItsBytes, HasItsLabel, IsFromRight, StandsLeft, is_placed_before, labelled, line_positions}
+use Rattle.snippet_labels.specs.Positions.{look_counts, placed_at, placed_of, position_after, position_at, unplaced}
+use Rattle.snippet_labels.specs.declared.positions.PlacedEntry.{PlacedEntry}
+use Rattle.snippet_labels.proofs.PlacedLemmas.{ArePlaced-from, length-line_positions}
+use Rattle.snippet_strokes.proofs.PaintOrder.{IsPermutation-ordered_by}
+
+-- the label of an entry, if it has one, is a text
+abbrev pub HasTextLabel : LineAnnotation → Type 0
+HasTextLabel e = IfSome e.label (λ (t : Bor (List ℕ)). IsUtf8 t.now)
+
+-- ---- labels
+
+scalars-append : (xs ys : List ℕ) → scalars xs ≡ true → scalars ys ≡ true → scalars (xs ++ ys) ≡ true
+scalars-append [] ys first rest = rest
+scalars-append (x ∷ xs) ys first rest =
+    let later : scalars (xs ++ ys) ≡ true = scalars-append xs ys (grind (arith, first)) rest in
+    grind (arith, first, later)
+
+scalars-shown : (c : ℕ) → scalars (c ∷ []) ≡ true → scalars (shown c) ≡ true
+scalars-shown c is = grind (arith, nat_tests, is)
+
+scalars-norm : (cs : List ℕ) → scalars cs ≡ true → scalars (norm cs) ≡ true
+unfolding norm
+scalars-norm [] are = refl
+scalars-norm (c ∷ cs) are =
+    let later : scalars (flat_map shown cs) ≡ true = scalars-norm cs (grind (arith, are)) in
+    scalars-append (shown c) (flat_map shown cs) (scalars-shown c (grind (arith, are))) later
+
+-- the bytes of a label spell the characters that it shows
+label_spelled : (e : LineAnnotation) → HasTextLabel e → chars (encode_utf8_all (label_text e)) ≡ label_text e
+label_spelled e = by_label e.label
+  where
+    by_label : (label : Option (Bor (List ℕ))) → IfSome label (λ (t : Bor (List ℕ)). IsUtf8 t.now)
+        → chars (encode_utf8_all (label_chars label)) ≡ label_chars label
+    by_label None text = chars-nil
+    by_label (Some t) text = chars-encodes (norm (chars t.now)) (scalars-norm (chars t.now) (scalars-chars t.now text))
+
+-- ---- the order from right to left
+
+-- of two entries the one that is placed first stands no farther left
+first_right : (a b c d : ℕ) → (nat_lt b a || (a == b && nat_lt d c)) ≡ true → (b ≤ a) × (b ≡ a → d ≤ c)
+first_right a b c d is = (grind (arith, nat_tests, is), λ same. grind (arith, nat_tests, is, same))
+
+not_first : (a b c d : ℕ) → (nat_lt b a || (a == b && nat_lt d c)) ≡ false → (a ≤ b) × (a ≡ b → c ≤ d)
+not_first a b c d is = (grind (arith, nat_tests, is), λ same. grind (arith, nat_tests, is, same))
+
+StandsLeft-before : (e f : LineAnnotation) → is_placed_before e f ≡ true → StandsLeft e f
+StandsLeft-before e f is =
+    let told = first_right e.start.display f.start.display e.start.char f.start.char is in
+    record { column = told.0; character = told.1 }
+
+StandsLeft-after : (e f : LineAnnotation) → is_placed_before e f ≡ false → StandsLeft f e
+StandsLeft-after e f is =
+    let told = not_first e.start.display f.start.display e.start.char f.start.char is in
+    record { column = told.0; character = told.1 }
+
+StandsLeft-over : (a b c : LineAnnotation) → StandsLeft a b → StandsLeft b c → StandsLeft a c
+StandsLeft-over a b c first second =
+    record {
+      column = omega (arith, first.column, second.column);
+      character = λ same. omega (
+        arith,
+        first.character (omega (arith, first.column, second.column, same)),
+        second.character (omega (arith, first.column, second.column, same)),
+      );
+    }
+
+-- each entry of a list stands right of all after it
+abbrev Falls : List LineAnnotation → Type 0
+Falls [] = Unit {0}
+Falls (e ∷ es) = All (StandsLeft e) es × Falls es
+
+Falls-put_in : (x : LineAnnotation) (ys : List LineAnnotation) → Falls ys → Falls (put_in is_placed_before x ys)
+Falls-put_in x [] falls = (All-nil (StandsLeft x), tt)
+Falls-put_in x (y ∷ ys) falls =
+    let after : List LineAnnotation = y ∷ put_in is_placed_before x ys in
+    let before : List LineAnnotation = x ∷ y ∷ ys in
+    elim (cases_Bool (is_placed_before y x)) [
+      | inl is ↦
+          subst Falls (sym (cond-true (is_placed_before y x) after before is))
+          (All-put_in is_placed_before (StandsLeft y) x ys (StandsLeft-before y x is) falls.0, Falls-put_in x ys falls.1)
+      | inr not ↦
+          subst Falls (sym (cond-false (is_placed_before y x) after before not)) (
+            All-cons (StandsLeft x) y ys (StandsLeft-after y x not)
+                (λ k d within. StandsLeft-over x y (get_or ys k d) (StandsLeft-after y x not) (falls.0 k d within)),
+            falls,
+          )
+    ]
+
+Falls-ordered_by : (es : List LineAnnotation) → Falls (ordered_by is_placed_before es)
+Falls-ordered_by [] = tt
+Falls-ordered_by (e ∷ es) = Falls-put_in e (ordered_by is_placed_before es) (Falls-ordered_by es)
+
+from_right : (es : List LineAnnotation) → Falls es → IsFromRight es
+from_right [] falls i j d before within = absurd (omega (arith, within))
+from_right (e ∷ es) falls zero zero d before within = record { column = omega arith; character = λ same. omega arith }
+from_right (e ∷ es) falls zero (suc j) d before within = falls.0 j d (omega (arith, within))
+from_right (e ∷ es) falls (suc i) zero d before within = absurd (omega (arith, before))
+from_right (e ∷ es) falls (suc i) (suc j) d before within = from_right es falls.1 i j d (omega (arith, before)) (omega (arith, within))
+
+-- ---- the places
+
+entries-labelled : (es : List LineAnnotation) → map (λ (e : PlacedEntry). e.entry) (labelled es) ≡ es
+entries-labelled [] = refl
+entries-labelled (e ∷ es) = ap (λ xs. e ∷ xs) (entries-labelled es)
+
+labels-labelled : (es : List LineAnnotation) → All HasTextLabel es → All HasItsLabel (labelled es)
+labels-labelled [] texts = All-nil HasItsLabel
+labels-labelled (e ∷ es) texts =
+    All-cons HasItsLabel (placed_at (e, (0, 0))) (labelled es) (label_spelled e (All-head HasTextLabel e es texts))
+    (labels-labelled es (All-tail HasTextLabel e es texts))
+
+bytes-labelled : (es : List LineAnnotation) → All HasItsBytes (labelled es)
+bytes-labelled [] = All-nil HasItsBytes
+bytes-labelled (e ∷ es) = All-cons HasItsBytes (placed_at (e, (0, 0))) (labelled es) refl (bytes-labelled es)
+
+length-look_counts : (p : ℕ) (es : List PlacedEntry) → length (look_counts p es) ≡ length es
+length-look_counts p [] = refl
+length-look_counts p (e ∷ es) = omega (arith, length-look_counts (position_after (position_at p e es) e es) es)
+
+-- entries at places that are as many
+abbrev at_places : List LineAnnotation → List ℕ → List ℕ → List PlacedEntry
+at_places es ps ns = map placed_at (zip es (zip ps ns))
+
+positions-at_places : (es : List LineAnnotation) (ps ns : List ℕ) → length ps ≡ length es → length ns ≡ length es
+    → map (λ (e : PlacedEntry). e.position) (at_places es ps ns) ≡ ps
+positions-at_places [] [] ns long_ps long_ns = refl
+positions-at_places [] (p ∷ ps) ns long_ps long_ns = absurd (omega (arith, long_ps))
+positions-at_places (e ∷ es) [] ns long_ps long_ns = absurd (omega (arith, long_ps))
+positions-at_places (e ∷ es) (p ∷ ps) [] long_ps long_ns = absurd (omega (arith, long_ns))
+positions-at_places (e ∷ es) (p ∷ ps) (n ∷ ns) long_ps long_ns =
+    ap (λ xs. p ∷ xs) (positions-at_places es ps ns (omega (arith, long_ps)) (omega (arith, long_ns)))
+
+counts-at_places : (es : List LineAnnotation) (ps ns : List ℕ) → length ps ≡ length es → length ns ≡ length es
+    → map (λ (e : PlacedEntry). e.looked) (at_places es ps ns) ≡ ns
+counts-at_places [] ps [] long_ps long_ns = refl
+counts-at_places [] ps (n ∷ ns) long_ps long_ns = absurd (omega (arith, long_ns))
+counts-at_places (e ∷ es) [] ns long_ps long_ns = absurd (omega (arith, long_ps))
+counts-at_places (e ∷ es) (p ∷ ps) [] long_ps long_ns = absurd (omega (arith, long_ns))
+counts-at_places (e ∷ es) (p ∷ ps) (n ∷ ns) long_ps long_ns =
+    ap (λ xs. n ∷ xs) (counts-at_places es ps ns (omega (arith, long_ps)) (omega (arith, long_ns)))
+
+unplaced-at_places : (es : List LineAnnotation) (ps ns : List ℕ) → length ps ≡ length es → length ns ≡ length es
+    → map unplaced (at_places es ps ns) ≡ map unplaced (labelled es)
+unplaced-at_places [] ps ns long_ps long_ns = refl
+unplaced-at_places (e ∷ es) [] ns long_ps long_ns = absurd (omega (arith, long_ps))
+unplaced-at_places (e ∷ es) (p ∷ ps) [] long_ps long_ns = absurd (omega (arith, long_ns))
+unplaced-at_places (e ∷ es) (p ∷ ps) (n ∷ ns) long_ps long_ns =
+    ap (λ xs. unplaced (placed_at (e, (p, n))) ∷ xs) (unplaced-at_places es ps ns (omega (arith, long_ps)) (omega (arith, long_ns)))
+
+-- the entries of a line whose labels are texts, placed as the rule says
+pub placed_of_are : (es : List LineAnnotation) → All HasTextLabel es → ArePlaced es (placed_of es)
+placed_of_are es texts =
+    let entry : PlacedEntry → LineAnnotation = λ e. e.entry in
+    let ordered : List LineAnnotation = ordered_by is_placed_before es in
+    let sorted : List PlacedEntry = labelled ordered in
+    let ps : List ℕ = line_positions sorted in
+    let ns : List ℕ = look_counts 0 sorted in
+    let all : length sorted ≡ length ordered = length-map ordered (λ e. placed_at (e, (0, 0))) in
+    let long_ps : length ps ≡ length ordered = length-line_positions sorted ∙ all in
+    let long_ns : length ns ≡ length ordered = length-look_counts 0 sorted ∙ all in
+    ArePlaced-from es (labelled es) sorted (placed_of es) ps ns (entries-labelled es) (labels-labelled es texts) (bytes-labelled es)
+    (IsPermutation-map (λ e. placed_at (e, (0, 0))) es ordered (IsPermutation-ordered_by is_placed_before es))
+    (entries-labelled ordered ∙ ap (ordered_by is_placed_before) (sym (entries-labelled es)))
+    (subst IsFromRight (sym (entries-labelled ordered)) (from_right ordered (Falls-ordered_by es)))
+    refl (positions-at_places ordered ps ns long_ps long_ns) refl (counts-at_places ordered ps ns long_ps long_ns)
+    (unplaced-at_places ordered ps ns long_ps long_ns)
+
+-- columns that are dropped are none of a label's
+pub texts-shifted : (dropped : ℕ) (es : List LineAnnotation) → All HasTextLabel es → All HasTextLabel (map (shifted dropped) es)
+texts-shifted dropped [] texts = All-nil HasTextLabel
+texts-shifted dropped (e ∷ es) texts =
+    All-cons HasTextLabel (shifted dropped e) (map (shifted dropped) es) (All-head HasTextLabel e es texts)
+    (texts-shifted dropped es (All-tail HasTextLabel e es texts))
