@@ -9,9 +9,10 @@
 ghost use Rattle.std.specs.Prelude.{◌≡◌, ◌+◌, ◌<◌, ◌≤◌, ◌^◌, [], All, IfOk, Some, length, slice_get, string_bytes};
 ghost use Rattle.std.specs.Option.{option_copied};
 ghost use Rattle.annotate_snippets.specs.Around.{file_of_group, position_of_group, report_path};
-ghost use Rattle.annotate_snippets.specs.DrawnReport.{AreGridsOf, HasRoomFor, IsGridAt, IsGroupGrid};
+ghost use Rattle.annotate_snippets.specs.DrawnReport.{HasRoomFor};
+ghost use Rattle.annotate_snippets.specs.GraphicForm.{group_page, page_at};
 ghost use Rattle.annotate_snippets.specs.Gutter.{gutter_of_report, layout_of_group};
-ghost use Rattle.annotate_snippets.specs.Page.{PrintsGrids};
+ghost use Rattle.annotate_snippets.specs.Page.{group_rows};
 ghost use Rattle.annotate_snippets.specs.PreparedReport.{IsGroupDrawable, IsGroupPrepared, element_of};
 
 use crate::renderer::Renderer;
@@ -68,8 +69,8 @@ pub fn draw_at<'a>(
     requires small { report.now.gutter ≤ 20 }
     requires file { option_copied report.now.file ≡ report_path report.now.groups.now }
     ensures level { IfOk result (λ grid. grid.level ≡ group.entry.group.now.level) }
-    ensures drawn { IfOk result (λ grid. IsGridAt renderer.now report.now.groups.now number
-        group.entry.group.now grid) }
+    ensures rows { IfOk result (λ grid. grid.buffer
+        ≡ group_rows (page_at renderer.now report.now.groups.now number group.entry.group.now)) }
 {
     let around = group_context(renderer, report, number, &group);
     draw_group(alloc, renderer, &around, group, empty)
@@ -112,8 +113,8 @@ fn draw_group<'a>(
     requires prepared { IsGroupPrepared group }
     requires room { All (λ e. HasRoomFor renderer.now around.now.layout (element_of e)) group.elements.items }
     ensures level { IfOk result (λ grid. grid.level ≡ group.entry.group.now.level) }
-    ensures drawn { IfOk result (λ grid. IsGroupGrid renderer.now around.now.layout around.now.place
-        (option_copied around.now.file) group.entry.group.now grid.buffer) }
+    ensures rows { IfOk result (λ grid. grid.buffer ≡ group_rows (group_page renderer.now around.now.layout
+        around.now.place (option_copied around.now.file) group.entry.group.now)) }
 {
     let mut buffer = empty;
     let level = group.group.level;
