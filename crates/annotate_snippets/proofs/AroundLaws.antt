@@ -10,7 +10,6 @@ use Rattle.snippet_suggest.specs.declared.SuggestionStart.TheVariants.{Next, Ope
 use Rattle.annotate_snippets.specs.Around.{CanStandIn, begins_in_row_above, first_two_share, is_end, is_next_start, is_other_file, next_of}
 use Rattle.annotate_snippets.specs.Around.{path_bytes, share_file, context_at}
 use Rattle.annotate_snippets.specs.declared.renderer.element_context.GroupPosition.{GroupPosition}
-use Rattle.annotate_snippets.specs.declared.renderer.element_context.Next.TheVariants as next
 
 -- whether the element of this number begins in the last row of the one before
 abbrev pub shares_before : List Element → ℕ → Bool
