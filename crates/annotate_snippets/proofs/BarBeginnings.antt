@@ -5,7 +5,8 @@ use Rattle.snippet_style.specs.Cell.{Cell}
 use Rattle.snippet_grid.specs.Grid.{cell_at}
 use Rattle.snippet_grid.specs.Layout.{Layout, bar_cell}
 use Rattle.snippet_strokes.specs.Bars.{Bar}
-use Rattle.snippet_strokes.specs.EndBars.{BarBegins, bar_top, start_corner}
+use Rattle.snippet_strokes.specs.EndBars.{bar_top, start_corner}
+use Rattle.snippet_strokes.proofs.BarFacts.{BarBegins}
 use Rattle.snippet_strokes.proofs.CellLemmas.{above_zero}
 use Rattle.annotate_snippets.specs.Laws.Bars.{BarStarts}
 

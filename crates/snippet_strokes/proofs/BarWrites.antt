@@ -25,7 +25,8 @@ use Rattle.snippet_strokes.specs.Strokes.{bar_writes, connector_by, connector_of
 use Rattle.snippet_strokes.specs.Strokes.{column_of}
 use Rattle.snippet_strokes.specs.Painting.{stroke_role}
 use Rattle.snippet_strokes.proofs.Reach.{IsWithin}
-use Rattle.snippet_strokes.specs.Writes.{Write, glyph_at, painted, stretch_of, written_by}
+use Rattle.snippet_strokes.specs.Writes.{Write, glyph_at, painted, stretch_of}
+use Rattle.snippet_strokes.proofs.OneStep.{written_by}
 use Rattle.snippet_strokes.proofs.DrawLemmas.{DrawsBarCells-more, DrawsBarCells-none, DrawsBarCells-writes, free_bar, bar_bottom, bar_horizontal, bar_top}
 use Rattle.snippet_strokes.proofs.DrawLemmas.{bar_vertical}
 use Rattle.snippet_strokes.proofs.WriteLaws.{All-flat_map, DrawsFrom-painted, flat_map-none, painted-cell}

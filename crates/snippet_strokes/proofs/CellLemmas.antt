@@ -22,7 +22,7 @@ use Rattle.snippet_grid.proofs.GridLemmas.{cells_written_last}
 use Rattle.snippet_style.proofs.CellLemmas.{length-text_cells, length-written}
 use Rattle.snippet_text.specs.Normalized.{is_listed}
 use Rattle.snippet_model.specs.FreeRows.{IsFree}
-use Rattle.snippet_strokes.specs.SourceRows.{begun_cells, ended_cells, shown_cells, window_cells, with_cells}
+use Rattle.snippet_strokes.specs.SourceRows.{begun_cells, ended_cells, window_cells, with_cells}
 use Rattle.snippet_model.proofs.RowLemmas.{free_drawn, free_written}
 use Rattle.snippet_grid.proofs.GridShown.{chars_some}
 
@@ -118,7 +118,7 @@ free_begun decor (Some columns) text free =
 
 -- the cells that show a text without listed characters are free
 pub free_shown : (decor : DecorStyle) (start : Option ℕ) (text : List ℕ) (end : Option ℕ) → All (λ c. is_listed c ≡ false) text
-    → IsFree (shown_cells decor start text end)
+    → IsFree (ended_cells decor end (begun_cells decor start text))
 free_shown decor start text None free = free_begun decor start text free
 free_shown decor start text (Some at) free =
     free_written (begun_cells decor start text) at (text_cells LineNumber (placeholder_of decor)) (free_begun decor start text free) (free_placeholder decor)
@@ -148,7 +148,7 @@ begun_short decor (Some columns) text few short =
 
 -- the cells that show a short text are few
 pub shown_short : (decor : DecorStyle) (start : Option ℕ) (text : List ℕ) (end : Option ℕ) → IfSome start (λ s. s < 2 ^ 59) → length text < 2 ^ 60
-    → IfSome end (λ at. at < 2 ^ 61) → length (shown_cells decor start text end) < 2 ^ 61 + 4
+    → IfSome end (λ at. at < 2 ^ 61) → length (ended_cells decor end (begun_cells decor start text)) < 2 ^ 61 + 4
 shown_short decor start text None few short ends = omega (arith, begun_short decor start text few short)
 shown_short decor start text (Some at) few short ends =
     omega (
@@ -228,14 +228,14 @@ pub cells_are : (decor : DecorStyle) (margin : Margin) (start end : Option ℕ) 
     → start ≡ covered_columns (bounds_of margin).left placeholder (inner_part margin.term_width (bounds_of margin).left (bounds_of margin).right cs)
     → shown ≡ uncovered_part (bounds_of margin).left placeholder (inner_part margin.term_width (bounds_of margin).left (bounds_of margin).right cs)
     → end ≡ covered_end margin.term_width (bounds_of margin).left (bounds_of margin).right placeholder cs
-    → shown_cells decor start shown end ≡ window_cells decor margin text
+    → ended_cells decor end (begun_cells decor start shown) ≡ window_cells decor margin text
 cells_are decor margin start end shown placeholder cs text is_placeholder is_text is_start is_shown is_end =
     let left = (bounds_of margin).left in
     let right = (bounds_of margin).right in
     let room = margin.term_width in
-    let made = ap (λ s. shown_cells decor s shown end) is_start
-    ∙ ap (λ t. shown_cells decor (covered_columns left placeholder (inner_part room left right cs)) t end) is_shown
-    ∙ ap (λ e. shown_cells decor (covered_columns left placeholder (inner_part room left right cs))
-    (uncovered_part left placeholder (inner_part room left right cs)) e) is_end in
-    made ∙ ap (λ p. shown_cells decor (covered_columns left p (inner_part room left right cs)) (uncovered_part left p (inner_part room left right cs))
-    (covered_end room left right p cs)) is_placeholder ∙ ap (λ t. window_cells decor margin t) is_text
+    let inner : List ℕ = inner_part room left right cs in
+    ap (λ s. ended_cells decor end (begun_cells decor s shown)) is_start
+    ∙ ap (λ t. ended_cells decor end (begun_cells decor (covered_columns left placeholder inner) t)) is_shown
+    ∙ ap (λ e. ended_cells decor e (begun_cells decor (covered_columns left placeholder inner) (uncovered_part left placeholder inner))) is_end
+    ∙ ap (λ p. ended_cells decor (covered_end room left right p cs) (begun_cells decor (covered_columns left p inner) (uncovered_part left p inner)))
+    is_placeholder ∙ ap (λ t. window_cells decor margin t) is_text

@@ -17,7 +17,8 @@ use Rattle.snippet_parts.proofs.ShownFacts.{contains-here, contains-there}
 use Rattle.snippet_grid.specs.Layout.{Layout}
 use Rattle.snippet_labels.specs.declared.positions.PlacedEntry.{PlacedEntry}
 use Rattle.snippet_strokes.specs.Painting.{first_glyph, mark_end, mark_of, marks_of, stroke_role}
-use Rattle.snippet_strokes.specs.Writes.{Write, glyph_at, painted, stretch_of, written_by}
+use Rattle.snippet_strokes.specs.Writes.{Write, glyph_at, painted, stretch_of}
+use Rattle.snippet_strokes.proofs.OneStep.{written_by}
 use Rattle.snippet_strokes.proofs.WriteLemmas.{painted-append}
 use Rattle.snippet_strokes.specs.declared.bars.BarStroke.TheVariants.{Solid}
 use Rattle.snippet_strokes.specs.Bars.{Bar, bar_cell_part}

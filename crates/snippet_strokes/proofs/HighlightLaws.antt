@@ -1,8 +1,9 @@
 -- Rows of which one is highlighted, entry by entry.
-use Rattle.std.proofs.Common.{◌≡◌, ◌≢◌, ℕ, ◌+◌, ◌-◌, ◌<◌, ◌≤◌, ◌&&◌, ◌||◌, cond, Bool, true, false, List, [], ◌∷◌, ◌++◌, filter, get_or, length, max, nat_le}
-use Rattle.std.proofs.Common.{nat_lt, not, take, refl, sym, ap, ◌∙◌, subst, arith, inl, inr}
+use Rattle.std.proofs.Common.{◌≡◌, ℕ, ◌+◌, ◌-◌, ◌<◌, ◌≤◌, ◌&&◌, ◌||◌, cond, Bool, true, false, List, [], ◌∷◌, ◌++◌, filter, get_or, length, max, nat_le, nat_lt}
+use Rattle.std.proofs.Common.{not, take, refl, sym, ap, ◌∙◌, arith, inl, inr}
 use Rattle.std.specs.List.{list_any}
 use Rattle.std.proofs.lemmas.Bool.{and_from, and_left, and_right, cases_Bool, cases_eq, cases_lt, cond-false, cond-true, le-leb, le-ltb, lt-leb, lt-ltb}
+use Rattle.std.proofs.lemmas.Bool.Decides.{nat_tests}
 use Rattle.std.proofs.lemmas.List.{append-nil, ext_get_or, get_or_append_left, get_or_past, get_or_push, length_push, take_more}
 use Rattle.std.proofs.lemmas.List.Elements.{filter-append}
 use Rattle.std.proofs.lemmas.List.Folds.{list_any-append}
@@ -14,223 +15,183 @@ use Rattle.snippet_model.specs.AnnotationKind.{is_primary}
 use Rattle.snippet_parts.specs.declared.entries.LineAnnotation.{LineAnnotation}
 use Rattle.snippet_style.specs.Cell.{Cell, SPACE, gives_way}
 use Rattle.snippet_style.specs.Glyphs.{underline_role}
-use Rattle.snippet_style.specs.declared.role.ElementStyle.{ElementStyle}
 use Rattle.snippet_style.specs.declared.role.ElementStyle.TheVariants.{UnderlinePrimary, UnderlineSecondary}
-use Rattle.snippet_strokes.specs.StrokeRows.{highlighted_row, highlights, holds_character, role_in_source}
+use Rattle.snippet_strokes.specs.StrokeRows.{highlighted_row, highlights, role_in_source}
 use Rattle.snippet_strokes.proofs.LineFromValue.{highlighted_row_is}
 
--- ---- rows of which one is changed
+-- ---- lists of which a stretch is changed
 
-module _ (f : List Cell → List Cell) (row : ℕ) (rows : List (List Cell)) where
-  abbrev one_changed : List (List Cell)
-  one_changed = changed_within f row (row + 1) rows
-
-  one_count : length one_changed ≡ length rows
-  one_count = length-changed_within f row (row + 1) rows
-
-  -- the others stay
-  other_row : (r : ℕ) → r ≢ row → row_at one_changed r ≡ row_at rows r
-  other_row r other =
-      elim (cases_lt r row) [
-        | inl above ↦ slice_index_or-changed_within_before f row (row + 1) rows r [] above
-        | inr past ↦ slice_index_or-changed_within_after f row (row + 1) rows r [] (omega (arith, past, other))
+-- an element, which is changed where it stands in the stretch
+changed_at : {X : Type 0} (f : X → X) (from to : ℕ) (xs : List X) (k : ℕ) (d : X) → k < length xs
+    → get_or (changed_within f from to xs) k d ≡ cond (nat_le from k && nat_lt k to) (f (get_or xs k d)) (get_or xs k d)
+changed_at f from to xs k d there =
+    let x = get_or xs k d in
+    elim (cases_lt k from) [
+      | inl less ↦
+          slice_index_or-changed_within_before f from to xs k d less
+          ∙ sym (cond-false _ (f x) x (and_left (nat_le from k) (nat_lt k to) (lt-leb from k less)))
+      | inr reached ↦ elim (cases_lt k to) [
+        | inl left ↦
+            slice_index_or-changed_within_inside f from to xs k d (omega (arith, reached)) left there
+            ∙ sym (cond-true _ (f x) x (and_from (nat_le from k) (nat_lt k to) (le-leb from k (omega (arith, reached))) (lt-ltb k to left)))
+        | inr past ↦
+            slice_index_or-changed_within_after f from to xs k d (omega (arith, past))
+            ∙ sym (cond-false _ (f x) x (and_right (nat_le from k) (nat_lt k to) (le-ltb k to (omega (arith, past)))))
       ]
+    ]
 
-  own_row : (r : ℕ) → r ≡ row → r < length rows → row_at one_changed r ≡ f (row_at rows r)
-  own_row r here there =
-      slice_index_or-changed_within_inside f row (row + 1) rows r [] (omega (arith, here)) (omega (arith, here)) there
+-- so a list is known by what becomes of each element in the stretch, and of each beside it
+changed_is : {X : Type 0} (f : X → X) (from to : ℕ) (xs ys : List X) (d : X) → length ys ≡ length xs
+    → ((k : ℕ) → k < length xs → get_or ys k d ≡ cond (nat_le from k && nat_lt k to) (f (get_or xs k d)) (get_or xs k d))
+    → changed_within f from to xs ≡ ys
+changed_is f from to xs ys d long each =
+    let count = length-changed_within f from to xs in
+    ext_get_or d (changed_within f from to xs) ys (count ∙ sym long) (λ k within.
+    let there : k < length xs = omega (arith, within, count) in changed_at f from to xs k d there ∙ sym (each k there))
 
--- a row that is changed a second time
-changed_again : (f g h : List Cell → List Cell) (row : ℕ) (rows : List (List Cell)) → ((cells : List Cell) → g (f cells) ≡ h cells)
-    → one_changed g row (one_changed f row rows) ≡ one_changed h row rows
-changed_again f g h row rows same =
-    let first : List (List Cell) = one_changed f row rows in
-    ext_get_or [] (one_changed g row first) (one_changed h row rows) (one_count g row first ∙ one_count f row rows ∙ sym (one_count h row rows))
-    (λ r within. let inside : r < length rows = omega (arith, within, one_count g row first, one_count f row rows) in elim (cases_eq r row) [
-      | inl here ↦
-          own_row g row first r here (omega (arith, inside, one_count f row rows)) ∙ ap g (own_row f row rows r here inside) ∙ same (row_at rows r)
-          ∙ sym (own_row h row rows r here inside)
-      | inr other ↦ other_row g row first r other ∙ other_row f row rows r other ∙ sym (other_row h row rows r other)
-    ])
+module _ (row : ℕ) (rows : List (List Cell)) where
+  abbrev here : ℕ → Bool
+  here r = nat_le row r && nat_lt r (row + 1)
 
--- a row that is changed alike
-changed_alike : (f g : List Cell → List Cell) (row : ℕ) (rows : List (List Cell)) → f (row_at rows row) ≡ g (row_at rows row)
-    → one_changed f row rows ≡ one_changed g row rows
-changed_alike f g row rows same =
-    ext_get_or [] (one_changed f row rows) (one_changed g row rows) (one_count f row rows ∙ sym (one_count g row rows)) (λ r within.
-    let inside : r < length rows = omega (arith, within, one_count f row rows) in elim (cases_eq r row) [
-      | inl here ↦
-          own_row f row rows r here inside ∙ subst (λ n. f (row_at rows n) ≡ g (row_at rows n)) (sym here) same ∙ sym (own_row g row rows r here inside)
-      | inr other ↦ other_row f row rows r other ∙ sym (other_row g row rows r other)
-    ])
+  -- a row that is changed a second time
+  changed_again : (f g h : List Cell → List Cell) → ((cells : List Cell) → g (f cells) ≡ h cells)
+      → changed_within g row (row + 1) (changed_within f row (row + 1) rows) ≡ changed_within h row (row + 1) rows
+  changed_again f g h same =
+      let first : List (List Cell) = changed_within f row (row + 1) rows in
+      changed_is g row (row + 1) first (changed_within h row (row + 1) rows) []
+      (length-changed_within h row (row + 1) rows ∙ sym (length-changed_within f row (row + 1) rows)) (λ r within.
+      let there : r < length rows = omega (arith, within, length-changed_within f row (row + 1) rows) in
+      changed_at h row (row + 1) rows r [] there
+      ∙ sym (ap (λ x. cond (here r) (g x) x) (changed_at f row (row + 1) rows r [] there) ∙ either (here r) (row_at rows r)))
+    where
+      either : (b : Bool) (x : List Cell) → cond b (g (cond b (f x) x)) (cond b (f x) x) ≡ cond b (h x) x
+      either true x = same x
+      either false x = refl
 
--- a row that isn't
-changed_none : (f : List Cell → List Cell) (row : ℕ) (rows : List (List Cell)) → ((cells : List Cell) → f cells ≡ cells) → one_changed f row rows ≡ rows
-changed_none f row rows same =
-    ext_get_or [] (one_changed f row rows) rows (one_count f row rows) (λ r within.
-    let inside : r < length rows = omega (arith, within, one_count f row rows) in elim (cases_eq r row) [
-      | inl here ↦ own_row f row rows r here inside ∙ same (row_at rows r)
-      | inr other ↦ other_row f row rows r other
-    ])
+  -- a row that is changed alike
+  changed_alike : (f g : List Cell → List Cell) → f (row_at rows row) ≡ g (row_at rows row)
+      → changed_within f row (row + 1) rows ≡ changed_within g row (row + 1) rows
+  changed_alike f g same =
+      changed_is f row (row + 1) rows (changed_within g row (row + 1) rows) [] (length-changed_within g row (row + 1) rows) (λ r within.
+      changed_at g row (row + 1) rows r [] within ∙ elim (cases_eq r row) [
+        | inl own ↦ ap (λ x. cond (here r) x (row_at rows r)) (ap (λ n. g (row_at rows n)) own ∙ sym same ∙ sym (ap (λ n. f (row_at rows n)) own))
+        | inr other ↦ away (here r) (grind (arith, nat_tests, other)) (g (row_at rows r)) (f (row_at rows r)) (row_at rows r)
+      ])
+    where
+      away : (b : Bool) → b ≡ false → (x y z : List Cell) → cond b x z ≡ cond b y z
+      away b is x y z = cond-false b x z is ∙ sym (cond-false b y z is)
+
+  -- a row that isn't changed
+  changed_none : (f : List Cell → List Cell) → ((cells : List Cell) → f cells ≡ cells) → changed_within f row (row + 1) rows ≡ rows
+  changed_none f same = changed_is f row (row + 1) rows rows [] refl (λ r within. sym (either (here r) (row_at rows r)))
+    where
+      either : (b : Bool) (x : List Cell) → cond b (f x) x ≡ x
+      either true x = same x
+      either false x = refl
 
 -- the last row
 pub changed_last : (f : List Cell → List Cell) (above : List (List Cell)) (x : List Cell)
     → changed_within f (length above) (length above + 1) (above ++ x ∷ []) ≡ above ++ f x ∷ []
 changed_last f above x =
-    let rows : List (List Cell) = above ++ x ∷ [] in
     let row : ℕ = length above in
-    let all : length rows ≡ row + 1 = length_push above x in
-    ext_get_or [] (one_changed f row rows) (above ++ f x ∷ []) (one_count f row rows ∙ all ∙ sym (length_push above (f x))) (λ r within.
-    let inside : r < length rows = omega (arith, within, one_count f row rows) in elim (cases_eq r row) [
-      | inl here ↦ own_row f row rows r here inside ∙ ap f (get_or_push above x [] r (sym here)) ∙ sym (get_or_push above (f x) [] r (sym here))
+    let rows : List (List Cell) = above ++ x ∷ [] in
+    changed_is f row (row + 1) rows (above ++ f x ∷ []) [] (length_push above (f x) ∙ sym (length_push above x)) (λ r within. elim (cases_eq r row) [
+      | inl own ↦
+          get_or_push above (f x) [] r (sym own) ∙ sym (ap f (get_or_push above x [] r (sym own)))
+          ∙ sym (cond-true (here row rows r) (f (row_at rows r)) (row_at rows r) (grind (arith, nat_tests, own)))
       | inr other ↦
-          let before : r < length above = omega (arith, inside, all, other) in
-          other_row f row rows r other ∙ get_or_append_left above (x ∷ []) [] r before ∙ sym (get_or_append_left above (f x ∷ []) [] r before)
+          let before : r < length above = omega (arith, within, length_push above x, other) in
+          get_or_append_left above (f x ∷ []) [] r before ∙ sym (get_or_append_left above (x ∷ []) [] r before)
+          ∙ sym (cond-false (here row rows r) (f (row_at rows r)) (row_at rows r) (grind (arith, nat_tests, other)))
     ])
 
--- two stretches of a row that begin at one cell of it, and end at one
-module _ (f : Cell → Cell) (row a b from to : ℕ) (old : List (List Cell)) (begins : a ≤ from) (ends : b ≤ to)
-    (first : (k : ℕ) → k < length (row_at old row) → a ≤ k → from ≤ k) (last : (k : ℕ) → k < length (row_at old row) → k < to → k < b) where
-  cells_alike : changed_within f a b (row_at old row) ≡ changed_within f from to (row_at old row)
-  cells_alike =
-      let cells : List Cell = row_at old row in
-      let count = length-changed_within f a b cells in
-      ext_get_or SPACE (changed_within f a b cells) (changed_within f from to cells) (count ∙ sym (length-changed_within f from to cells)) (λ k within.
-      let there : k < length cells = omega (arith, within, count) in elim (cases_lt k a) [
-        | inl less ↦
-            slice_index_or-changed_within_before f a b cells k SPACE less
-            ∙ sym (slice_index_or-changed_within_before f from to cells k SPACE (omega (arith, less, begins)))
-        | inr reached ↦
-            let after : from ≤ k = first k there (omega (arith, reached)) in
-            elim (cases_lt k to) [
-              | inl left ↦
-                  slice_index_or-changed_within_inside f a b cells k SPACE (omega (arith, reached)) (last k there left) there
-                  ∙ sym (slice_index_or-changed_within_inside f from to cells k SPACE after left there)
-              | inr out ↦
-                  slice_index_or-changed_within_after f a b cells k SPACE (omega (arith, out, ends))
-                  ∙ sym (slice_index_or-changed_within_after f from to cells k SPACE (omega (arith, out)))
-            ]
-      ])
-
-  -- are the same cells
-  pub stretch_alike : cells_changed f old row a b ≡ cells_changed f old row from to
-  stretch_alike = changed_alike (changed_within f a b) (changed_within f from to) row old cells_alike
+-- two stretches of a row that begin at one cell of it, and end at one, are the same cells
+pub stretch_alike : (f : Cell → Cell) (row a b from to : ℕ) (old : List (List Cell)) → a ≤ from → b ≤ to
+    → ((k : ℕ) → k < length (row_at old row) → a ≤ k → from ≤ k) → ((k : ℕ) → k < length (row_at old row) → k < to → k < b)
+    → cells_changed f old row a b ≡ cells_changed f old row from to
+stretch_alike f row a b from to old begins ends first last =
+    let cells : List Cell = row_at old row in
+    changed_alike row old (changed_within f a b) (changed_within f from to)
+    (changed_is f a b cells (changed_within f from to cells) SPACE (length-changed_within f from to cells) (λ k there.
+    changed_at f from to cells k SPACE there
+    ∙ ap (λ h. cond h (f (get_or cells k SPACE)) (get_or cells k SPACE))
+    (told k a b from to begins ends (first k there) (last k there))))
+  where
+    told : (k a b from to : ℕ) → a ≤ from → b ≤ to → (a ≤ k → from ≤ k) → (k < to → k < b) → (nat_le from k && nat_lt k to) ≡ (nat_le a k && nat_lt k b)
+    told k a b from to begins ends first last = grind (arith, nat_tests, begins, ends, first, last)
 
 -- ---- one more entry
 
--- the role of a cell once one more entry, which may be primary, asks for it; the roles of marks don't give way
-role_told : (a b p g : Bool) (role : ElementStyle) → gives_way role ≡ g
-    → (let before = cond a UnderlinePrimary (cond (b && g) UnderlineSecondary role) in cond (p || gives_way before) (underline_role p) before)
-    ≡ cond (a || (p && true || false)) UnderlinePrimary (cond ((b || (true || false)) && g) UnderlineSecondary role)
-role_told true b true g role way = refl
-role_told true b false g role way = refl
-role_told false b true g role way = refl
-role_told false true false true role way = refl
-role_told false true false false role way = rw way refl
-role_told false false false true role way = rw way refl
-role_told false false false false role way = rw way refl
-
-unasked_told : (a b p g : Bool) (role : ElementStyle)
-    → cond (a || (p && false || false)) UnderlinePrimary (cond ((b || (false || false)) && g) UnderlineSecondary role)
-    ≡ cond a UnderlinePrimary (cond (b && g) UnderlineSecondary role)
-unasked_told true b p g role = refl
-unasked_told false true true g role = refl
-unasked_told false true false g role = refl
-unasked_told false false true g role = refl
-unasked_told false false false g role = refl
-
-cell_either : (b : Bool) (cell : Cell) (x y : ElementStyle) → cond b (record cell { role = x }) (record cell { role = y }) ≡ record cell { role = cond b x y }
-cell_either true cell x y = refl
-cell_either false cell x y = refl
+-- a cell, once one more entry, which may be primary, asks for it or doesn't; the roles of marks don't give way
+cell_told : (h a b p g : Bool) (cell : Cell) → gives_way cell.role ≡ g
+    → (let before = record cell { role = cond a UnderlinePrimary (cond (b && g) UnderlineSecondary cell.role) } in
+    cond h (restyled (underline_role p) p before) before)
+    ≡ record cell { role = cond (a || (p && h || false)) UnderlinePrimary (cond ((b || (h || false)) && g) UnderlineSecondary cell.role) }
+cell_told true true b true g cell way = refl
+cell_told true true b false g cell way = refl
+cell_told true false b true g cell way = refl
+cell_told true false true false true cell way = refl
+cell_told true false true false false cell way = rw way refl
+cell_told true false false false true cell way = rw way refl
+cell_told true false false false false cell way = rw way refl
+cell_told false true b p g cell way = refl
+cell_told false false true true g cell way = refl
+cell_told false false true false g cell way = refl
+cell_told false false false true g cell way = refl
+cell_told false false false false g cell way = refl
 
 module _ (code dropped : ℕ) (es : List LineAnnotation) (e : LineAnnotation) where
-  abbrev primary_asks : ℕ → LineAnnotation → Bool
-  primary_asks c x = is_primary x.kind && highlights code dropped c x
-
-  -- what it asks for
-  role_more : (c : ℕ) (role : ElementStyle) → role_in_source code dropped (es ++ e ∷ []) c role
-      ≡ cond (list_any (primary_asks c) es || (is_primary e.kind && highlights code dropped c e || false)) UnderlinePrimary
-      (cond ((list_any (highlights code dropped c) es || (highlights code dropped c e || false)) && gives_way role) UnderlineSecondary role)
-  role_more c role =
-      ap (λ b. cond b UnderlinePrimary (cond (list_any (highlights code dropped c) (es ++ e ∷ []) && gives_way role) UnderlineSecondary role))
-      (list_any-append (primary_asks c) es (e ∷ []))
-      ∙ ap (λ b. cond (list_any (primary_asks c) es || (is_primary e.kind && highlights code dropped c e || false)) UnderlinePrimary
-      (cond (b && gives_way role) UnderlineSecondary role)) (list_any-append (highlights code dropped c) es (e ∷ []))
-
-  role_asked : (c : ℕ) (role : ElementStyle) → highlights code dropped c e ≡ true
-      → (let before = role_in_source code dropped es c role in cond (is_primary e.kind || gives_way before) (underline_role (is_primary e.kind)) before)
-      ≡ role_in_source code dropped (es ++ e ∷ []) c role
-  role_asked c role asked =
-      let a : Bool = list_any (primary_asks c) es in
-      let b : Bool = list_any (highlights code dropped c) es in
-      role_told a b (is_primary e.kind) (gives_way role) role refl
-      ∙ sym (role_more c role ∙ ap (λ h. cond (a || (is_primary e.kind && h || false)) UnderlinePrimary
-      (cond ((b || (h || false)) && gives_way role) UnderlineSecondary role)) asked)
-
-  role_unasked : (c : ℕ) (role : ElementStyle) → highlights code dropped c e ≡ false
-      → role_in_source code dropped es c role ≡ role_in_source code dropped (es ++ e ∷ []) c role
-  role_unasked c role unasked =
-      let a : Bool = list_any (primary_asks c) es in
-      let b : Bool = list_any (highlights code dropped c) es in
-      sym (role_more c role ∙ ap (λ h. cond (a || (is_primary e.kind && h || false)) UnderlinePrimary
-      (cond ((b || (h || false)) && gives_way role) UnderlineSecondary role)) unasked
-      ∙ unasked_told a b (is_primary e.kind) (gives_way role) role)
-
-  abbrev first_cell : ℕ
-  first_cell = max code (code + e.start.char - dropped)
-
-  abbrev end_cell : ℕ
-  end_cell = code + e.end.char - dropped
+  abbrev restyle_cell : Cell → Cell
+  restyle_cell = restyled (underline_role (is_primary e.kind)) (is_primary e.kind)
 
   abbrev restyle : List Cell → List Cell
-  restyle cells = changed_within (restyled (underline_role (is_primary e.kind)) (is_primary e.kind)) first_cell end_cell cells
+  restyle cells = changed_within restyle_cell (max code (code + e.start.char - dropped)) (code + e.end.char - dropped) cells
 
-  -- a row whose cells of one more entry are restyled
+  -- a cell with one more entry
+  cell_next : (c : ℕ) (cell : Cell) → (let before = record cell { role = role_in_source code dropped es c cell.role } in
+      cond (highlights code dropped c e) (restyle_cell before) before) ≡ record cell { role = role_in_source code dropped (es ++ e ∷ []) c cell.role }
+  cell_next c cell =
+      let primary : LineAnnotation → Bool = λ x. is_primary x.kind && highlights code dropped c x in
+      let a : Bool = list_any primary es in
+      cell_told (highlights code dropped c e) a (list_any (highlights code dropped c) es) (is_primary e.kind) (gives_way cell.role) cell refl
+      ∙ ap (λ b. record cell {
+        role = cond (a || (is_primary e.kind && highlights code dropped c e || false)) UnderlinePrimary
+            (cond (b && gives_way cell.role) UnderlineSecondary cell.role);
+      }) (sym (list_any-append (highlights code dropped c) es (e ∷ [])))
+      ∙ ap (λ b. record cell {
+        role = cond b UnderlinePrimary
+            (cond (list_any (highlights code dropped c) (es ++ e ∷ []) && gives_way cell.role) UnderlineSecondary cell.role);
+      })
+      (sym (list_any-append primary es (e ∷ [])))
+
+  -- a row whose cells of one more entry are restyled, if it asks
+  row_next : (cells new : List Cell) → length new ≡ length cells → ((c : ℕ) → c < length cells → get_or new c SPACE
+      ≡ (let before = record (get_or cells c SPACE) { role = role_in_source code dropped es c (get_or cells c SPACE).role } in
+      cond (highlights code dropped c e) (restyle_cell before) before)) → new ≡ highlighted_row code dropped (es ++ e ∷ []) cells
+  row_next cells new long each =
+      let is = highlighted_row_is code dropped (es ++ e ∷ []) cells in
+      ext_get_or SPACE new (highlighted_row code dropped (es ++ e ∷ []) cells) (long ∙ sym is.width) (λ c within.
+      let there : c < length cells = omega (arith, within, long) in
+      each c there ∙ cell_next c (get_or cells c SPACE) ∙ sym (is.cells c there))
+
   restyled_next : e.highlight_source ≡ true → (cells : List Cell)
       → restyle (highlighted_row code dropped es cells) ≡ highlighted_row code dropped (es ++ e ∷ []) cells
   restyled_next asks cells =
       let lit : List Cell = highlighted_row code dropped es cells in
-      let all : List Cell = highlighted_row code dropped (es ++ e ∷ []) cells in
       let was = highlighted_row_is code dropped es cells in
-      let is = highlighted_row_is code dropped (es ++ e ∷ []) cells in
-      let p : Bool = is_primary e.kind in
-      let count = length-changed_within (restyled (underline_role p) p) first_cell end_cell lit in
-      ext_get_or SPACE (restyle lit) all (count ∙ was.width ∙ sym is.width) (λ c within.
-      let inside : c < length cells = omega (arith, within, count, was.width) in
-      let cell : Cell = get_or cells c SPACE in
-      let kept : highlights code dropped c e ≡ false → get_or (restyle lit) c SPACE ≡ get_or lit c SPACE → get_or (restyle lit) c SPACE ≡ get_or all c SPACE =
-      λ unasked stays. stays ∙ was.cells c inside ∙ ap (λ (r : ElementStyle). record cell { role = r }) (role_unasked c cell.role unasked)
-      ∙ sym (is.cells c inside) in
-      let unheld : holds_character code dropped c e ≡ false → highlights code dropped c e ≡ false = and_right e.highlight_source _ in
-      elim (cases_lt c first_cell) [
-        | inl left ↦
-            kept (unheld (and_left (nat_le first_cell c) (nat_lt c end_cell) (lt-leb first_cell c left)))
-            (slice_index_or-changed_within_before (restyled (underline_role p) p) first_cell end_cell lit c SPACE left)
-        | inr reached ↦ elim (cases_lt c end_cell) [
-          | inr past ↦
-              kept (unheld (and_right (nat_le first_cell c) (nat_lt c end_cell) (le-ltb c end_cell past)))
-              (slice_index_or-changed_within_after (restyled (underline_role p) p) first_cell end_cell lit c SPACE past)
-          | inl held ↦
-              let from : first_cell ≤ c = omega (arith, reached) in
-              let asked : highlights code dropped c e ≡ true = and_from e.highlight_source (holds_character code dropped c e) asks
-              (and_from (nat_le first_cell c) (nat_lt c end_cell) (le-leb first_cell c from) (lt-ltb c end_cell held)) in
-              let before : ElementStyle = role_in_source code dropped es c cell.role in
-              slice_index_or-changed_within_inside (restyled (underline_role p) p) first_cell end_cell lit c SPACE from held (omega (arith, inside, was.width))
-              ∙ ap (restyled (underline_role p) p) (was.cells c inside) ∙ cell_either (p || gives_way before) cell (underline_role p) before
-              ∙ ap (λ (r : ElementStyle). record cell { role = r }) (role_asked c cell.role asked) ∙ sym (is.cells c inside)
-        ]
-      ])
+      let from : ℕ = max code (code + e.start.char - dropped) in
+      let to : ℕ = code + e.end.char - dropped in
+      row_next cells (restyle lit) (length-changed_within restyle_cell from to lit ∙ was.width) (λ c there.
+      changed_at restyle_cell from to lit c SPACE (omega (arith, there, was.width))
+      ∙ ap (λ x. cond (nat_le from c && nat_lt c to) (restyle_cell x) x) (was.cells c there)
+      ∙ ap (λ b. let before = record (get_or cells c SPACE) { role = role_in_source code dropped es c (get_or cells c SPACE).role } in
+      cond (b && (nat_le from c && nat_lt c to)) (restyle_cell before) before) (sym asks))
 
-  -- a row with one more entry that asks for nothing
   unlit_next : e.highlight_source ≡ false → (cells : List Cell) → highlighted_row code dropped es cells ≡ highlighted_row code dropped (es ++ e ∷ []) cells
   unlit_next none cells =
       let was = highlighted_row_is code dropped es cells in
-      let is = highlighted_row_is code dropped (es ++ e ∷ []) cells in
-      ext_get_or SPACE (highlighted_row code dropped es cells) (highlighted_row code dropped (es ++ e ∷ []) cells) (was.width ∙ sym is.width) (λ c within.
-      let inside : c < length cells = omega (arith, within, was.width) in
-      let cell : Cell = get_or cells c SPACE in
-      was.cells c inside ∙ ap (λ (r : ElementStyle). record cell { role = r }) (role_unasked c cell.role (and_left e.highlight_source _ none))
-      ∙ sym (is.cells c inside))
+      row_next cells (highlighted_row code dropped es cells) was.width (λ c there.
+      was.cells c there ∙ sym (cond-false (highlights code dropped c e) _ _ (and_left e.highlight_source _ none)))
 
 -- ---- all entries
 
@@ -245,7 +206,7 @@ module _ (code dropped row : ℕ) (old : List (List Cell)) (es : List LineAnnota
 
   pub lit_by-none : old ≡ lit_by 0
   lit_by-none =
-      sym (changed_none (highlighted_row code dropped []) row old (λ cells.
+      sym (changed_none row old (highlighted_row code dropped []) (λ cells.
       let is = highlighted_row_is code dropped [] cells in
       ext_get_or SPACE (highlighted_row code dropped [] cells) cells is.width (λ c within. is.cells c (omega (arith, within, is.width)))))
 
@@ -265,9 +226,9 @@ module _ (code dropped row : ℕ) (old : List (List Cell)) (es : List LineAnnota
       let e : LineAnnotation = get_or es i d in
       let so_far : List LineAnnotation = asking (take i es) in
       let one : asking (e ∷ []) ≡ e ∷ [] = cond-true (not (ends_part e)) (e ∷ []) [] (ap not other) in
-      changed_again (highlighted_row code dropped so_far) (restyle code dropped so_far e) (highlighted_row code dropped (so_far ++ e ∷ [])) row old
+      changed_again row old (highlighted_row code dropped so_far) (restyle code dropped so_far e) (highlighted_row code dropped (so_far ++ e ∷ []))
       (restyled_next code dropped so_far e asks)
-      ∙ ap (λ xs. one_changed (highlighted_row code dropped xs) row old) (sym (asking_more i d within ∙ ap (λ xs. so_far ++ xs) one))
+      ∙ ap (λ xs. changed_within (highlighted_row code dropped xs) row (row + 1) old) (sym (asking_more i d within ∙ ap (λ xs. so_far ++ xs) one))
 
   -- or doesn't
   pub lit_by-end : (i : ℕ) (d : LineAnnotation) → i < length es → is_end_part (get_or es i d).annotation_type ≡ true → lit_by i ≡ lit_by (i + 1)
@@ -275,7 +236,7 @@ module _ (code dropped row : ℕ) (old : List (List Cell)) (es : List LineAnnota
       let e : LineAnnotation = get_or es i d in
       let so_far : List LineAnnotation = asking (take i es) in
       let none : asking (e ∷ []) ≡ [] = cond-false (not (ends_part e)) (e ∷ []) [] (ap not end) in
-      ap (λ xs. one_changed (highlighted_row code dropped xs) row old)
+      ap (λ xs. changed_within (highlighted_row code dropped xs) row (row + 1) old)
       (sym (asking_more i d within ∙ ap (λ xs. so_far ++ xs) none ∙ append-nil so_far))
 
   pub lit_by-unasked : (i : ℕ) (d : LineAnnotation) → i < length es → (get_or es i d).highlight_source ≡ false → lit_by i ≡ lit_by (i + 1)
@@ -286,17 +247,21 @@ module _ (code dropped row : ℕ) (old : List (List Cell)) (es : List LineAnnota
         | inl end ↦ lit_by-end i d within end
         | inr other ↦
             let one : asking (e ∷ []) ≡ e ∷ [] = cond-true (not (ends_part e)) (e ∷ []) [] (ap not other) in
-            changed_alike (highlighted_row code dropped so_far) (highlighted_row code dropped (so_far ++ e ∷ [])) row old
+            changed_alike row old (highlighted_row code dropped so_far) (highlighted_row code dropped (so_far ++ e ∷ []))
             (unlit_next code dropped so_far e none (row_at old row))
-            ∙ ap (λ xs. one_changed (highlighted_row code dropped xs) row old) (sym (asking_more i d within ∙ ap (λ xs. so_far ++ xs) one))
+            ∙ ap (λ xs. changed_within (highlighted_row code dropped xs) row (row + 1) old) (sym (asking_more i d within ∙ ap (λ xs. so_far ++ xs) one))
       ]
 
   -- the row stays as long
   pub lit_by-width : (i : ℕ) → length (row_at (lit_by i) row) ≡ length (row_at old row)
   lit_by-width i =
-      let lit : List Cell → List Cell = highlighted_row code dropped (asking (take i es)) in
+      let own : List LineAnnotation = asking (take i es) in
+      let lit : List Cell → List Cell = highlighted_row code dropped own in
       elim (cases_lt row (length old)) [
-        | inl there ↦ ap length (own_row lit row old row refl there) ∙ (highlighted_row_is code dropped (asking (take i es)) (row_at old row)).width
+        | inl there ↦
+            ap length (slice_index_or-changed_within_inside lit row (row + 1) old row [] (omega arith) (omega arith) there)
+            ∙ (highlighted_row_is code dropped own (row_at old row)).width
         | inr past ↦
-            ap length (get_or_past (lit_by i) row [] (omega (arith, past, one_count lit row old))) ∙ sym (ap length (get_or_past old row [] past))
+            ap length (get_or_past (lit_by i) row [] (omega (arith, past, length-changed_within lit row (row + 1) old)))
+            ∙ sym (ap length (get_or_past old row [] past))
       ]

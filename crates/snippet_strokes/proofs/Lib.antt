@@ -1,6 +1,7 @@
 pub mod AmongLaws
 pub mod ApartLemmas
 pub mod SwapLemmas
+pub mod BarFacts
 pub mod BarLaws
 pub mod BarLemmas
 pub mod BarRows
@@ -30,7 +31,6 @@ pub mod LineFacts
 pub mod LineFromValue
 pub mod LineExamples
 pub mod LineLemmas
-pub mod LineRowLaws
 pub mod LineRowLemmas
 pub mod LineValueLaws
 pub mod LowerWrites
@@ -38,6 +38,7 @@ pub mod MarkLemmas
 pub mod MarkStrokeLemmas
 pub mod MarkWriteLemmas
 pub mod NoStrokes
+pub mod OneStep
 pub mod OpenLemmas
 pub mod PaintLemmas
 pub mod PaintOrder

@@ -91,8 +91,8 @@ pub record AreLineRows (layout : Layout) (room : ℕ) (closes : Bool) (text : Li
 
 -- ---- all of them
 
--- a line can be shown: what the gutter shows beside it has room up to the separator, its entries can be drawn, none of them stands left of
--- the padding of the margin's left bound, and their labels are texts
+-- a line can be shown: its number is one that a machine holds, what the gutter shows beside it has room up to the separator, its entries
+-- can be drawn, none of them stands left of the padding of the margin's left bound, and their labels are texts
 pub record CanBeShown (layout : Layout) (margin : Margin) (numbers : LineNumbers) (info : AnnotatedLineInfo) : Type 0 where
   pub small : info.line_index < 2 ^ 64
   pub number : length (shown_number numbers layout.gutter info.line_index) ≤ separator_cell layout

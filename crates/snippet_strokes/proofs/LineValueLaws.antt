@@ -1,10 +1,7 @@
--- The rows of a line are a value: what its entries and the bars that are open above it make of its source row.
-use Rattle.std.proofs.Common.{◌≡◌, ℕ, ◌+◌, ◌<◌, ◌&&◌, cond, Bool, List, [], ◌∷◌, ◌++◌, length, map, take, drop, get_or, refl, sym, ap, ◌∙◌, arith, inl, inr}
+-- The rows of a line depend on nothing that painters choose: how placed entries hold their labels, and from where these are lent.
+use Rattle.std.proofs.Common.{◌≡◌, ℕ, ◌+◌, ◌&&◌, cond, Bool, List, [], ◌∷◌, ◌++◌, length, map, take, drop, get_or, refl, sym, ap, ◌∙◌}
 use Rattle.std.specs.List.{cons_option, list_any, range_with_len}
-use Rattle.std.proofs.lemmas.Bool.{cases_Bool, cond-true, cond-false}
-use Rattle.std.proofs.lemmas.List.{get_or_default, same_lists}
 use Rattle.std.proofs.lemmas.List.Folds.{list_all-map}
-use Rattle.std.proofs.lemmas.List.FromFn.{get_or-map-range_with_len, length-map-range_with_len}
 use Rattle.snippet_model.specs.AnnotationKind.{is_primary}
 use Rattle.snippet_style.specs.Cell.{Cell, SPACE, gives_way}
 use Rattle.snippet_style.specs.declared.role.ElementStyle.TheVariants.{UnderlinePrimary, UnderlineSecondary}
@@ -22,9 +19,9 @@ use Rattle.snippet_strokes.specs.declared.bars.OpenBar.{OpenBar}
 use Rattle.snippet_strokes.specs.Bars.{bar_of, bars_apart, ends_of_bars, is_beside, is_whole_line, with_bars}
 use Rattle.snippet_strokes.specs.Cuts.{Stretch, cut_row, cuts_of, overlapped}
 use Rattle.snippet_strokes.specs.Drawing.{row_count}
-use Rattle.snippet_strokes.proofs.LineFacts.{AreLineRows, AreOwnRows, IsHighlighted, StrokesPainted}
+use Rattle.snippet_strokes.proofs.LineFacts.{StrokesPainted}
 use Rattle.snippet_strokes.specs.LineRows.{line_rows, own_rows}
-use Rattle.snippet_strokes.specs.StrokeRows.{highlighted_row, highlights, role_in_source}
+use Rattle.snippet_strokes.specs.StrokeRows.{highlighted_row, highlights}
 use Rattle.snippet_strokes.specs.Strokes.{begun_rows, stroke_rows, line_strokes}
 use Rattle.snippet_strokes.proofs.HeldStrokes.{cuts_of-held, overlapped-held, row_count-held, line_strokes-held}
 
@@ -78,39 +75,6 @@ module _ (layout : Layout) (room : ℕ) (closes : Bool) (source : List Cell) whe
   -- and from where labels are lent makes no difference
   stroke_rows-plain : (es : List LineAnnotation) → stroke_rows layout room closes (map plain_entry es) source ≡ stroke_rows layout room closes es source
   stroke_rows-plain es = alike (placed_of (map plain_entry es)) (placed_of es) (placed_of-plain es)
-
--- ---- the rows of a line
-
-own_rows_are : (layout : Layout) (room : ℕ) (closes : Bool) (text : List ℕ) (dropped : ℕ) (es : List LineAnnotation) (source : List Cell)
-    (rows : List (List Cell)) → AreOwnRows layout room closes text dropped es source rows → rows ≡ own_rows layout room closes text dropped es source
-own_rows_are layout room closes text dropped [] source rows are = are.none refl
-own_rows_are layout room closes text dropped (e ∷ es) source rows are =
-    let whole : List (List Cell) = with_bars layout Top (ends_of_bars (e ∷ es)) source ∷ [] in
-    let strokes : List (List Cell) = stroke_rows layout room closes (map (shifted dropped) (e ∷ es)) source in
-    elim (cases_Bool (is_whole_line text (e ∷ es))) [
-      | inl is ↦ are.whole is ∙ sym (cond-true (is_whole_line text (e ∷ es)) whole strokes is)
-      | inr not ↦
-          stroke_rows_are layout room closes source (map (shifted dropped) (e ∷ es)) rows (are.strokes not (omega arith))
-          ∙ sym (cond-false (is_whole_line text (e ∷ es)) whole strokes not)
-    ]
-
--- rows of a line are what its entries, and the bars that are open above it, make of its source row
-pub line_rows_are : (layout : Layout) (room : ℕ) (closes : Bool) (text : List ℕ) (dropped : ℕ) (open_bars : List OpenBar) (es : List LineAnnotation)
-    (source : List Cell) (rows : List (List Cell))
-    → AreLineRows layout room closes text dropped open_bars es source rows → rows ≡ line_rows layout room closes text dropped open_bars es source
-line_rows_are layout room closes text dropped open_bars es source rows are =
-    are.rows_are ∙ ap (map (with_bars layout Solid (bars_apart open_bars (ends_of_bars es))))
-    (own_rows_are layout room closes text dropped es source are.own are.are)
-
--- a highlighted row is what its entries make of a source row
-pub highlighted_is : (code dropped : ℕ) (es : List LineAnnotation) (plain row : List Cell) → IsHighlighted code dropped es plain row
-    → row ≡ highlighted_row code dropped es plain
-highlighted_is code dropped es plain row is =
-    let lit : ℕ → Cell = λ c. let cell = get_or plain c SPACE in record cell { role = role_in_source code dropped es c cell.role } in
-    let whole : length (map lit (range_with_len 0 (length plain))) ≡ length plain = length-map-range_with_len lit 0 (length plain) in
-    same_lists row (map lit (range_with_len 0 (length plain))) (is.width ∙ sym whole)
-    (λ k d within. let inside : k < length plain = omega (arith, within, is.width) in
-    get_or_default row k d SPACE within ∙ is.cells k inside ∙ sym (get_or-map-range_with_len lit 0 (length plain) k k d inside (omega arith)))
 
 -- ---- entries whose labels are lent from elsewhere
 

@@ -16,9 +16,10 @@ use Rattle.snippet_labels.specs.declared.positions.PlacedEntry.{PlacedEntry}
 use Rattle.snippet_strokes.specs.Painting.{first_glyph, mark_end, mark_of, marks_of, stroke_role}
 use Rattle.snippet_strokes.specs.Drawing.{foot_glyph}
 use Rattle.snippet_labels.specs.Positions.{has_label, has_stem, label_place}
-use Rattle.snippet_strokes.specs.Strokes.{bar_writes, bottom_of, connector_by, connector_of, connectors_of, corner_by, corner_of, corners_of, is_stem_covered}
-use Rattle.snippet_strokes.specs.Strokes.{label_of, label_write, labels_of, line_to, stem_of, stem_write, stems_of, line_strokes, top_of, column_of}
-use Rattle.snippet_strokes.specs.Writes.{Write, glyph_at, painted, stretch_of, written_by}
+use Rattle.snippet_strokes.specs.Strokes.{bar_writes, connector_by, connector_of, connectors_of, corner_by, corner_of, corners_of, is_stem_covered}
+use Rattle.snippet_strokes.specs.Strokes.{label_of, label_write, labels_of, line_to, stem_of, stem_write, stems_of, line_strokes, column_of}
+use Rattle.snippet_strokes.specs.Writes.{Write, glyph_at, painted, stretch_of}
+use Rattle.snippet_strokes.proofs.OneStep.{written_by}
 
 -- a write so many rows farther down
 abbrev pub lowered : ℕ → Write → Write
@@ -127,14 +128,16 @@ module _ (layout : Layout) (n : ℕ) where
       corner : (e : PlacedEntry) → n + row + 1 + e.position ≡ n + (row + 1 + e.position)
       corner e = omega arith
 
-      top : (e : PlacedEntry) (depth : ℕ) → top_of layout (n + row) (n + count) e depth ≡ map (lowered n) (top_of layout row count e depth)
+      top : (e : PlacedEntry) (depth : ℕ)
+          → corner_by layout (n + row) (n + count) e (MultilineStart depth) ≡ map (lowered n) (corner_by layout row count e (MultilineStart depth))
       top e depth =
           let glyph : ℕ = (strokes_of layout.decor (is_primary e.entry.kind)).bar_top in
           ap (λ r. glyph_at r (layout.gutter + 2 + depth) glyph (stroke_role e) ∷ bar_writes layout e depth (r + 1) (n + count)) (corner e)
           ∙ ap (λ ws. lowered n (glyph_at (row + 1 + e.position) (layout.gutter + 2 + depth) glyph (stroke_role e)) ∷ ws)
           (bar e depth (row + 1 + e.position + 1) count (n + (row + 1 + e.position) + 1) (n + count) (omega arith) refl)
 
-      bottom : (e : PlacedEntry) (depth : ℕ) → bottom_of layout (n + row) e depth ≡ map (lowered n) (bottom_of layout row e depth)
+      bottom : (e : PlacedEntry) (depth : ℕ)
+          → corner_by layout (n + row) (n + count) e (MultilineEnd depth) ≡ map (lowered n) (corner_by layout row count e (MultilineEnd depth))
       bottom e depth =
           let glyph : ℕ = (strokes_of layout.decor (is_primary e.entry.kind)).bar_bottom in
           let own : Write = glyph_at (row + 1 + e.position) (layout.gutter + 2 + depth) glyph (stroke_role e) in

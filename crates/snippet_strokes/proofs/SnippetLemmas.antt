@@ -13,7 +13,7 @@ use Rattle.snippet_style.specs.Cell.{Cell, SPACE}
 use Rattle.snippet_grid.specs.Print.{row_text}
 use Rattle.snippet_model.specs.AnnotationKind.{is_primary}
 use Rattle.snippet_strokes.proofs.LineFacts.{IsHighlighted}
-use Rattle.snippet_strokes.specs.StrokeRows.{highlights, holds_character, role_in_source}
+use Rattle.snippet_strokes.specs.StrokeRows.{highlights, role_in_source}
 
 -- highlighting leaves the row's text as it was
 pub highlighted_text : (code dropped : ℕ) (es : List LineAnnotation) (plain row : List Cell) → IsHighlighted code dropped es plain row
@@ -31,7 +31,7 @@ unasked_left : (code dropped c : ℕ) → c < code → (e : LineAnnotation) → 
 unasked_left code dropped c left e =
     let first = max code (code + e.start.char - dropped) in
     let out : nat_le first c ≡ false = lt-leb first c (omega (arith, left)) in
-    and_right e.highlight_source (holds_character code dropped c e) (and_left (nat_le first c) (nat_lt c (code + e.end.char - dropped)) out)
+    and_right e.highlight_source _ (and_left (nat_le first c) (nat_lt c (code + e.end.char - dropped)) out)
 
 role_left : (code dropped c : ℕ) → c < code → (es : List LineAnnotation) (role : ElementStyle) → role_in_source code dropped es c role ≡ role
 role_left code dropped c left es role =

@@ -16,7 +16,8 @@ use Rattle.snippet_style.specs.Cell.{Cell, SPACE, text_cells, written}
 use Rattle.snippet_strokes.specs.declared.stem_rows.Stem.{Stem}
 use Rattle.snippet_strokes.specs.StemRows.{cell_across, cell_of_stem, stem_down, stem_from}
 use Rattle.snippet_strokes.specs.Strokes.{is_stem_covered, stem_write, stems_of}
-use Rattle.snippet_strokes.specs.Writes.{Write, painted, written_by}
+use Rattle.snippet_strokes.specs.Writes.{Write, painted}
+use Rattle.snippet_strokes.proofs.OneStep.{written_by}
 use Rattle.snippet_strokes.proofs.WriteLaws.{All-flat_map, painted-count}
 use Rattle.snippet_strokes.proofs.WriteLemmas.{flat_map-take_more, painted-append}
 use Rattle.std.proofs.lemmas.List.Concat.{flat_map-append}

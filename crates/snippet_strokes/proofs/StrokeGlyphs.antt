@@ -1,5 +1,5 @@
 -- The table of strokes: each glyph is among those of its kind, and none is a listed character.
-use Rattle.std.proofs.Common.{◌≡◌, ℕ, ◌==◌, Bool, true, false, refl}
+use Rattle.std.proofs.Common.{◌≡◌, ℕ, ◌==◌, ◌&&◌, cond, Bool, true, false, refl}
 use Rattle.std.specs.List.{list_any}
 use Rattle.snippet_text.specs.Normalized.{is_listed}
 use Rattle.snippet_style.specs.Glyphs.{strokes_of}
@@ -8,7 +8,8 @@ use Rattle.snippet_style.specs.declared.glyphs.DecorStyle.TheVariants.{Ascii, Un
 use Rattle.snippet_style.proofs.StrokeLemmas.{EachBar, EachCode, EachStem, each_bar, each_code, each_stem}
 use Rattle.snippet_parts.specs.declared.entries.LineAnnotationType.{LineAnnotationType}
 use Rattle.snippet_parts.specs.declared.entries.LineAnnotationType.TheVariants.{Singleline, MultilineStart, MultilineEnd, MultilineLine}
-use Rattle.snippet_strokes.specs.Drawing.{foot_of}
+use Rattle.snippet_labels.specs.PlacedEntries.{is_end_part}
+use Rattle.snippet_labels.specs.Positions.{is_start_part}
 use Rattle.snippet_strokes.specs.Labels.{stem_glyphs, stroke_glyphs}
 
 -- each glyph of stems is among those of its decor
@@ -34,7 +35,8 @@ free_bars Unicode false = each_bar is_listed false (strokes_of Unicode false) re
 
 -- what holds of each glyph of stems holds of that at a foot
 pub of_foot : (P : ℕ → Type 0) (part : LineAnnotationType) (decor : DecorStyle) (primary labelled : Bool) → EachStem P (strokes_of decor primary)
-    → P (foot_of part decor primary labelled)
+    → P (let strokes = strokes_of decor primary in
+    cond (is_start_part part) strokes.corner (cond (is_end_part part && labelled) strokes.corner_with_label strokes.stem))
 of_foot P Singleline decor primary labelled each = each.stem
 of_foot P (MultilineStart depth) decor primary labelled each = each.corner
 of_foot P (MultilineEnd depth) decor primary true each = each.corner_with_label

@@ -8,7 +8,8 @@ use Rattle.snippet_grid.specs.Grid.{cells_written, row_at}
 use Rattle.snippet_style.proofs.CellLemmas.{length-text_cells, length-written, slice_index_or-written_after, slice_index_or-written_before}
 use Rattle.snippet_style.proofs.CellLemmas.{slice_index_or-written_inside}
 use Rattle.snippet_style.specs.Cell.{Cell, SPACE, text_cells, written}
-use Rattle.snippet_strokes.specs.Writes.{Write, painted, written_by}
+use Rattle.snippet_strokes.specs.Writes.{Write, painted}
+use Rattle.snippet_strokes.proofs.OneStep.{written_by}
 
 -- cells of a row that end before others begin may be written after them
 pub written-swap : (row xs ys : List Cell) (at from : ℕ) → at + length xs ≤ from

@@ -10,7 +10,7 @@ use Rattle.snippet_style.specs.declared.role.ElementStyle.TheVariants.{Quotation
 use Rattle.snippet_style.specs.Glyphs.{placeholder_of}
 use Rattle.snippet_style.specs.Cell.{Cell, text_cells}
 use Rattle.snippet_text.specs.Width.{width_of}
-use Rattle.snippet_strokes.specs.SourceRows.{shown_cells, window_cells}
+use Rattle.snippet_strokes.specs.SourceRows.{begun_cells, ended_cells, window_cells}
 use Rattle.snippet_window.proofs.LineWindowLemmas.{reaching-none, fitting_all}
 
 -- a window with no bound on the left begins at column 0
@@ -42,12 +42,13 @@ cells_between : DecorStyle → ℕ → ℕ → ℕ → List ℕ → List Cell
 cells_between decor room left right text =
     let placeholder = placeholder_of decor in
     let inner = inner_part room left right text in
-    shown_cells decor (covered_columns left placeholder inner) (uncovered_part left placeholder inner) (covered_end room left right placeholder text)
+    ended_cells decor (covered_end room left right placeholder text)
+    (begun_cells decor (covered_columns left placeholder inner) (uncovered_part left placeholder inner))
 
 whole_between : (decor : DecorStyle) (room right : ℕ) (text : List ℕ) → width_of text ≤ room → cells_between decor room 0 right text ≡ text_cells Quotation text
 unfolding cells_between
 whole_between decor room right text fits =
-    ap (λ e. shown_cells decor None (inner_part room 0 right text) e) (end_none room right (placeholder_of decor) text fits)
+    ap (λ e. ended_cells decor e (begun_cells decor None (inner_part room 0 right text))) (end_none room right (placeholder_of decor) text fits)
     ∙ ap (text_cells Quotation) (inner-whole room right text fits)
 
 -- a text that fits the room, of which nothing is cut on the left, is shown whole

@@ -10,7 +10,8 @@ use Rattle.snippet_grid.proofs.GridLemmas.{WritesCells-cells_written}
 use Rattle.snippet_style.proofs.CellLemmas.{length-text_cells, slice_index_or-text_cells}
 use Rattle.snippet_model.specs.FreeRows.{IsFreeCell}
 use Rattle.snippet_strokes.proofs.DrawnCells.{DrawsFrom}
-use Rattle.snippet_strokes.specs.Writes.{Write, written_by, painted}
+use Rattle.snippet_strokes.specs.Writes.{Write, painted}
+use Rattle.snippet_strokes.proofs.OneStep.{written_by}
 use Rattle.snippet_strokes.proofs.Reach.{Reaches, IsWithin, cell_of_write}
 use Rattle.snippet_strokes.proofs.WriteLemmas.{painted-append}
 

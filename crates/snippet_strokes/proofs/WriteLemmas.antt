@@ -13,7 +13,8 @@ use Rattle.snippet_labels.specs.declared.positions.PlacedEntry.{PlacedEntry}
 use Rattle.snippet_style.specs.Glyphs.{strokes_of}
 use Rattle.snippet_model.specs.AnnotationKind.{is_primary}
 use Rattle.snippet_strokes.specs.Painting.{first_glyph, mark_end, mark_of, stroke_role}
-use Rattle.snippet_strokes.specs.Writes.{Write, glyph_at, painted, stretch_of, written_by}
+use Rattle.snippet_strokes.specs.Writes.{Write, glyph_at, painted, stretch_of}
+use Rattle.snippet_strokes.proofs.OneStep.{written_by}
 
 -- one write more, and some more
 pub painted-append : (ws vs : List Write) (rows : List (List Cell)) → painted (ws ++ vs) rows ≡ painted vs (painted ws rows)

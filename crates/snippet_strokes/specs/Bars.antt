@@ -5,7 +5,7 @@ use Rattle.std.specs.Char.{is_whitespace}
 use Rattle.std.specs.List.{filter_map, list_all, list_any}
 use Rattle.snippet_parts.specs.declared.entries.LineAnnotation.{LineAnnotation}
 use Rattle.snippet_parts.specs.declared.entries.LineAnnotationType.{LineAnnotationType}
-use Rattle.snippet_parts.specs.declared.entries.LineAnnotationType.TheVariants.{Singleline, MultilineStart, MultilineEnd, MultilineLine}
+use Rattle.snippet_parts.specs.declared.entries.LineAnnotationType.TheVariants.{MultilineStart, MultilineEnd}
 use Rattle.snippet_parts.specs.Entries.{is_bar}
 use Rattle.snippet_style.specs.Glyphs.{strokes_of, underline_role}
 use Rattle.snippet_style.specs.Cell.{Cell, SPACE, unlinked_cell, written}
@@ -23,10 +23,9 @@ Bar = OpenBar
 
 -- the bar that the start or the end of a span of several lines opens or closes
 abbrev pub bar_at : LineAnnotationType → Bool → Option OpenBar
-bar_at Singleline primary = None
 bar_at (MultilineStart depth) primary = Some (record { depth = depth; primary = primary })
 bar_at (MultilineEnd depth) primary = Some (record { depth = depth; primary = primary })
-bar_at (MultilineLine depth) primary = None
+bar_at other primary = None
 
 -- the bar that an entry opens or closes
 abbrev pub bar_of : LineAnnotation → Option OpenBar
@@ -34,7 +33,7 @@ bar_of e = bar_at e.annotation_type (is_primary e.kind)
 
 -- the bars of the starts and ends on a line
 abbrev pub ends_of_bars : List LineAnnotation → List OpenBar
-ends_of_bars es = filter_map bar_of es
+ends_of_bars es = filter_map (λ e. bar_at e.annotation_type (is_primary e.kind)) es
 
 -- whether one of these bars has this depth
 abbrev pub has_depth : List OpenBar → ℕ → Bool
@@ -89,13 +88,10 @@ abbrev pub bar_cell_part : Layout → BarStroke → OpenBar → Cell
 bar_cell_part layout stroke bar =
     unlinked_cell (underline_role bar.primary) (bar_glyph stroke layout.decor bar.primary)
 
--- a row with a part of a bar in the cell of its depth, and with parts of some bars: of two of one depth the later one stands
-abbrev pub with_bar : Layout → BarStroke → List Cell → OpenBar → List Cell
-with_bar layout stroke row bar =
-    written SPACE row (bar_cell layout bar.depth) (bar_cell_part layout stroke bar ∷ [])
-
+-- a row with a part of each of some bars in the cell of its depth: of two of one depth the later one stands
 abbrev pub with_bars : Layout → BarStroke → List OpenBar → List Cell → List Cell
-with_bars layout stroke bars row = fold (with_bar layout stroke) row bars
+with_bars layout stroke bars row =
+    fold (λ cells bar. written SPACE cells (bar_cell layout bar.depth) (bar_cell_part layout stroke bar ∷ [])) row bars
 
 -- rows of which each from `row` on is changed by a rule
 abbrev pub changed_from : (List Cell → List Cell) → ℕ → List (List Cell) → List (List Cell)

@@ -1,7 +1,5 @@
 -- What the entries of a line need so that their strokes can be drawn, and how many rows these take.
-use Rattle.std.specs.Prelude.{◌≡◌, ℕ, ◌+◌, ◌<◌, ◌==◌, Bool, true, List, All, if◌then◌else◌, fold, max}
-use Rattle.snippet_parts.specs.declared.entries.LineAnnotationType.{LineAnnotationType}
-use Rattle.snippet_parts.specs.declared.entries.LineAnnotationType.TheVariants.{Singleline, MultilineStart, MultilineEnd, MultilineLine}
+use Rattle.std.specs.Prelude.{◌≡◌, ℕ, ◌+◌, ◌<◌, ◌==◌, ◌&&◌, true, List, All, if◌then◌else◌, fold, max}
 use Rattle.snippet_style.specs.declared.glyphs.DecorStyle.{DecorStyle}
 use Rattle.snippet_style.specs.Glyphs.{strokes_of}
 use Rattle.snippet_grid.specs.Layout.{Layout}
@@ -10,7 +8,7 @@ use Rattle.snippet_labels.specs.PlacedEntries.{HasPlace}
 use Rattle.snippet_strokes.specs.Drawable.{IsReady}
 use Rattle.snippet_style.specs.Bounds.{AreRows}
 use Rattle.snippet_model.specs.AnnotationKind.{is_primary}
-use Rattle.snippet_labels.specs.Positions.{has_label, are_starts}
+use Rattle.snippet_labels.specs.Positions.{are_starts, has_label, is_start_part, takes_space}
 
 -- the rows that an entry needs are there: down to that of its stem, or where it has none that of the marks, and where its
 -- label hangs down to that of the label
@@ -33,18 +31,12 @@ pub record AreEnough (layout : Layout) (row count : ℕ) (placed : List PlacedEn
   pub rows : All (HasRows (row + 1) count) placed
   pub ready : All (IsReady layout) placed
 
--- the glyph at the foot of the stem of an entry that stands for this part of a span: of a start the corner at which the line
--- to its bar begins, of an end with a label the branch there, else the stem's own
-abbrev pub foot_of : LineAnnotationType → DecorStyle → Bool → Bool → ℕ
-foot_of Singleline decor primary labelled = (strokes_of decor primary).stem
-foot_of (MultilineStart depth) decor primary labelled = (strokes_of decor primary).corner
-foot_of (MultilineEnd depth) decor primary labelled =
-    if labelled then (strokes_of decor primary).corner_with_label else (strokes_of decor primary).stem
-foot_of (MultilineLine depth) decor primary labelled = (strokes_of decor primary).stem
-
--- the glyph at the foot of an entry's stem
+-- the glyph at the foot of an entry's stem: of a start the corner at which the line to its bar begins, of an end with a label the branch
+-- there, else the stem's own
 abbrev pub foot_glyph : DecorStyle → PlacedEntry → ℕ
-foot_glyph decor e = foot_of e.entry.annotation_type decor (is_primary e.entry.kind) (has_label e)
+foot_glyph decor e =
+    let strokes = strokes_of decor (is_primary e.entry.kind) in
+    if is_start_part e.entry.annotation_type then strokes.corner else (if takes_space e && has_label e then strokes.corner_with_label else strokes.stem)
 
 -- the greatest position of some entries
 abbrev pub lowest_position : List PlacedEntry → ℕ

@@ -1,4 +1,4 @@
--- The bar of a span of several lines: its cells, and where it stands in the rows of the lines on which the span begins and ends.
+-- The bar of a span of several lines: its cells, and where it stands in the rows of the line on which the span ends.
 use Rattle.std.specs.Prelude.{◌≡◌, ◌⊎◌, ℕ, ◌<◌, Bool, List, length}
 use Rattle.snippet_style.specs.Glyphs.{strokes_of, underline_role}
 use Rattle.snippet_style.specs.Cell.{Cell, SPACE, unlinked_cell}
@@ -32,25 +32,6 @@ end_corner layout bar = unlinked_cell (underline_role bar.primary) (strokes_of l
 abbrev pub IsNoBar : DecorStyle → Cell → Type 0
 IsNoBar decor cell =
     (cell ≡ SPACE) ⊎ ((primary : Bool) × (cell ≡ unlinked_cell (underline_role primary) (strokes_of decor primary).connector))
-
--- in the rows of a line the bar begins: in one below the source row stands its corner, and in each row below that the bar; in the
--- source row a space stands in its cell
-pub record BeginsBelow (layout : Layout) (bar : Bar) (rows : List (List Cell)) : Type 0 where
-  pub corner : ℕ
-  pub below : 0 < corner
-  pub within : corner < length rows
-  pub corner_is : cell_at rows corner (bar_cell layout bar.depth) ≡ start_corner layout bar
-  pub source : cell_at rows 0 (bar_cell layout bar.depth) ≡ SPACE
-  pub beside : (i : ℕ) → corner < i → i < length rows → cell_at rows i (bar_cell layout bar.depth) ≡ solid_bar layout bar
-
--- or its top stands in the source row, below which the line has none
-pub record BeginsBeside (layout : Layout) (bar : Bar) (rows : List (List Cell)) : Type 0 where
-  pub alone : length rows ≡ 1
-  pub top : cell_at rows 0 (bar_cell layout bar.depth) ≡ bar_top layout bar
-
--- in the rows of a line the bar begins, in one of these ways
-abbrev pub BarBegins : Layout → Bar → List (List Cell) → Type 0
-BarBegins layout bar rows = BeginsBeside layout bar rows ⊎ BeginsBelow layout bar rows
 
 -- in the rows of a line the bar ends: in one below the source row stands its corner, and in each row above that, from the source row on,
 -- the bar

@@ -54,6 +54,6 @@ mark_of layout row e =
     if nat_lt from to then glyph_at row from (first_glyph layout.decor e) (stroke_role e) ∷ stretch_of row (from + 1) to
     (strokes_of layout.decor (is_primary e.entry.kind)).underline (stroke_role e) else []
 
--- the marks of some entries, in the order in which they are painted
+-- the marks of some entries, in the order in which they are painted, as their painter promises them
 abbrev pub marks_of : Layout → ℕ → List PlacedEntry → List Write
 marks_of layout row order = flat_map (mark_of layout row) order

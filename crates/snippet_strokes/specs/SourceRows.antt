@@ -28,10 +28,6 @@ abbrev pub ended_cells : DecorStyle → Option ℕ → List Cell → List Cell
 ended_cells decor None cells = cells
 ended_cells decor (Some at) cells = written SPACE cells at (text_cells LineNumber (placeholder_of decor))
 
--- the cells of a text that may be cut on the left and on the right
-abbrev pub shown_cells : DecorStyle → Option ℕ → List ℕ → Option ℕ → List Cell
-shown_cells decor start text end = ended_cells decor end (begun_cells decor start text)
-
 -- the cells of the window of a text between the bounds of a margin: placeholders have the role of line numbers, the text
 -- has that of a quotation
 abbrev pub window_cells : DecorStyle → Margin → List ℕ → List Cell
@@ -40,8 +36,8 @@ window_cells decor margin text =
     let left = (bounds_of margin).left in
     let right = (bounds_of margin).right in
     let inner = inner_part margin.term_width left right text in
-    shown_cells decor (covered_columns left placeholder inner) (uncovered_part left placeholder inner)
-    (covered_end margin.term_width left right placeholder text)
+    ended_cells decor (covered_end margin.term_width left right placeholder text)
+    (begun_cells decor (covered_columns left placeholder inner) (uncovered_part left placeholder inner))
 
 -- a row with these cells from this one on, if there are any; a row without any stays
 abbrev pub with_cells : ℕ → List Cell → List Cell → List Cell

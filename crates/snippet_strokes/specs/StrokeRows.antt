@@ -25,14 +25,11 @@ pub record IsElisionRow (layout : Layout) (row : List Cell) : Type 0 where
   pub ends : length row ≤ layout.code
   pub free : IsFree row
 
--- whether the cell is that of one of an entry's characters, where so many columns are dropped. No cell left of the code is
-abbrev pub holds_character : ℕ → ℕ → ℕ → LineAnnotation → Bool
-holds_character code dropped c e =
-    nat_le (max code (code + e.start.char - dropped)) c && nat_lt c (code + e.end.char - dropped)
-
--- whether an entry asks to highlight the character at this cell, where so many columns are dropped
+-- whether an entry asks to highlight the character at this cell, where so many columns are dropped: the cell is that of one of the entry's
+-- characters. No cell left of the code is
 abbrev pub highlights : ℕ → ℕ → ℕ → LineAnnotation → Bool
-highlights code dropped c e = e.highlight_source && holds_character code dropped c e
+highlights code dropped c e =
+    e.highlight_source && (nat_le (max code (code + e.start.char - dropped)) c && nat_lt c (code + e.end.char - dropped))
 
 -- the role of a cell of a source row, one which has this role, with what entries highlight: that of primary marks where a
 -- primary entry asks for it, else that of marks for context where an entry asks and the cell's role gives way

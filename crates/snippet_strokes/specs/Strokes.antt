@@ -6,7 +6,7 @@ use Rattle.snippet_style.specs.declared.role.ElementStyle.{ElementStyle}
 use Rattle.snippet_strokes.specs.Writes.{Write, glyph_at, painted, stretch_of}
 use Rattle.snippet_style.specs.Glyphs.{strokes_of}
 use Rattle.snippet_parts.specs.declared.entries.LineAnnotationType.{LineAnnotationType}
-use Rattle.snippet_parts.specs.declared.entries.LineAnnotationType.TheVariants.{Singleline, MultilineStart, MultilineEnd, MultilineLine}
+use Rattle.snippet_parts.specs.declared.entries.LineAnnotationType.TheVariants.{MultilineStart, MultilineEnd}
 use Rattle.snippet_model.specs.AnnotationKind.{is_primary}
 use Rattle.snippet_grid.specs.Layout.{Layout, bar_cell, code_cell, inner_cell}
 use Rattle.snippet_labels.specs.declared.positions.PlacedEntry.{PlacedEntry}
@@ -15,7 +15,7 @@ use Rattle.snippet_parts.specs.declared.entries.LineAnnotation.{LineAnnotation}
 use Rattle.snippet_style.specs.Cell.{Cell}
 use Rattle.snippet_style.specs.Separators.{separator_row}
 use Rattle.snippet_strokes.specs.Drawing.{foot_glyph, row_count}
-use Rattle.snippet_strokes.specs.Painting.{painting_order, marks_of, stroke_role}
+use Rattle.snippet_strokes.specs.Painting.{mark_of, painting_order, stroke_role}
 use Rattle.snippet_labels.specs.Positions.{has_label, has_stem, label_place, placed_of}
 use Rattle.snippet_strokes.specs.Cuts.{cut_row, cuts_of, overlapped}
 use Rattle.snippet_strokes.specs.SourceRows.{bare_row}
@@ -30,10 +30,6 @@ label_write layout row e =
 -- the label as a list: empty where the entry has none
 abbrev pub label_of : Layout → ℕ → PlacedEntry → List Write
 label_of layout row e = if has_label e then label_write layout row e ∷ [] else []
-
--- the labels of some entries, the first row of which is `row`, that of the marks
-abbrev pub labels_of : Layout → ℕ → List PlacedEntry → List Write
-labels_of layout row placed = flat_map (label_of layout row) placed
 
 -- ---- stems
 
@@ -69,18 +65,13 @@ line_to layout row e depth =
 
 -- the line to the bar of an entry that stands for this part of a span: a start or an end has one
 abbrev pub connector_by : Layout → ℕ → PlacedEntry → LineAnnotationType → List Write
-connector_by layout row e Singleline = []
 connector_by layout row e (MultilineStart depth) = line_to layout row e depth
 connector_by layout row e (MultilineEnd depth) = line_to layout row e depth
-connector_by layout row e (MultilineLine depth) = []
+connector_by layout row e other = []
 
 -- the line to the bar of an entry
 abbrev pub connector_of : Layout → ℕ → PlacedEntry → List Write
 connector_of layout row e = connector_by layout row e e.entry.annotation_type
-
--- the lines to the bars of some entries
-abbrev pub connectors_of : Layout → ℕ → List PlacedEntry → List Write
-connectors_of layout row placed = flat_map (connector_of layout row) placed
 
 -- ---- bars with their corners
 
@@ -93,47 +84,32 @@ abbrev pub bar_writes : Layout → PlacedEntry → ℕ → ℕ → ℕ → List 
 bar_writes layout e depth start end =
     column_of start end (bar_cell layout depth) (strokes_of layout.decor (is_primary e.entry.kind)).bar (stroke_role e)
 
--- the top of a start's bar: the corner in the row of its position, and the bar in all rows below it, of which there are `count`
--- in all; the line's source row is `row`
-abbrev pub top_of : Layout → ℕ → ℕ → PlacedEntry → ℕ → List Write
-top_of layout row count e depth =
-    let corner = row + 1 + e.position in
-    glyph_at corner (bar_cell layout depth) (strokes_of layout.decor (is_primary e.entry.kind)).bar_top (stroke_role e) ∷ bar_writes layout e depth
-    (corner + 1) count
-
--- the bottom of an end's bar: the bar in all rows from the source row down to that of its position, and the corner there
-abbrev pub bottom_of : Layout → ℕ → PlacedEntry → ℕ → List Write
-bottom_of layout row e depth =
-    let corner = row + 1 + e.position in
-    bar_writes layout e depth row corner ++ glyph_at corner (bar_cell layout depth) (strokes_of layout.decor (is_primary e.entry.kind)).bar_bottom
-    (stroke_role e) ∷ []
-
--- the bar of an entry that stands for this part of a span: a start or an end has one
+-- the bar of an entry that stands for this part of a span, with its corner in the row of the entry's position; the line's source row is
+-- `row`. That of a start goes on in all rows below, of which there are `count` in all; that of an end stands in all from the source row
+-- down to it. No other part has one
 abbrev pub corner_by : Layout → ℕ → ℕ → PlacedEntry → LineAnnotationType → List Write
-corner_by layout row count e Singleline = []
-corner_by layout row count e (MultilineStart depth) = top_of layout row count e depth
-corner_by layout row count e (MultilineEnd depth) = bottom_of layout row e depth
-corner_by layout row count e (MultilineLine depth) = []
+corner_by layout row count e (MultilineStart depth) =
+    let corner = row + 1 + e.position in
+    let top = glyph_at corner (bar_cell layout depth) (strokes_of layout.decor (is_primary e.entry.kind)).bar_top (stroke_role e) in
+    top ∷ bar_writes layout e depth (corner + 1) count
+corner_by layout row count e (MultilineEnd depth) =
+    let corner = row + 1 + e.position in
+    let bottom = glyph_at corner (bar_cell layout depth) (strokes_of layout.decor (is_primary e.entry.kind)).bar_bottom (stroke_role e) in
+    bar_writes layout e depth row corner ++ bottom ∷ []
+corner_by layout row count e other = []
 
 -- the bar of an entry, with its corner
 abbrev pub corner_of : Layout → ℕ → ℕ → PlacedEntry → List Write
 corner_of layout row count e = corner_by layout row count e e.entry.annotation_type
 
--- the bars of some entries, with their corners
-abbrev pub corners_of : Layout → ℕ → ℕ → List PlacedEntry → List Write
-corners_of layout row count placed = flat_map (corner_of layout row count) placed
-
 -- ---- all of them
 
--- the strokes of a line but its marks. The source row of the line is `row`, and below it come as many rows that there are `count` in
--- all: the lines to bars, the bars, the stems, and the labels
-abbrev pub strokes_under_marks : Layout → ℕ → ℕ → List PlacedEntry → List Write
-strokes_under_marks layout row count placed =
-    connectors_of layout (row + 1) placed ++ corners_of layout row count placed ++ stems_of layout (row + 1) placed ++ labels_of layout (row + 1) placed
-
--- all strokes of a line: last, over all others, the marks in the order in which they are painted
+-- all strokes of a line. Its source row is `row`, and below it come as many rows that there are `count` in all: the lines to bars, the
+-- bars, the stems, and the labels; and last, over all others, the marks in the order in which they are painted
 abbrev pub line_strokes : Layout → ℕ → ℕ → List PlacedEntry → List PlacedEntry → List Write
-line_strokes layout row count placed order = strokes_under_marks layout row count placed ++ marks_of layout (row + 1) order
+line_strokes layout row count placed order =
+    flat_map (connector_of layout (row + 1)) placed ++ flat_map (corner_of layout row count) placed ++ stems_of layout (row + 1) placed
+    ++ flat_map (label_of layout (row + 1)) placed ++ flat_map (mark_of layout (row + 1)) order
 
 -- the source row of a line with the rows of its strokes below it, before they are drawn: separators, with the last row as the window
 -- closes or goes on
@@ -148,7 +124,24 @@ abbrev pub stroke_rows : Layout → ℕ → Bool → List LineAnnotation → Lis
 stroke_rows layout room closes es source =
     let placed = placed_of es in
     let order = painting_order placed in
-    let count = row_count placed in
-    let whole = painted (line_strokes layout 0 (count + 1) placed order) (begun_rows layout closes count source) in
-    let cuts = cuts_of layout room order (overlapped placed) in
-    map (cut_row layout.decor cuts) (take 2 whole) ++ drop 2 whole
+    let whole = painted (line_strokes layout 0 (row_count placed + 1) placed order) (begun_rows layout closes (row_count placed) source) in
+    map (cut_row layout.decor (cuts_of layout room order (overlapped placed))) (take 2 whole) ++ drop 2 whole
+
+-- ---- a part of them, as its painter promises it
+
+-- the lines to the bars of some entries, the first row of which is `row`, that of the marks
+abbrev pub connectors_of : Layout → ℕ → List PlacedEntry → List Write
+connectors_of layout row placed = flat_map (connector_of layout row) placed
+
+-- their bars with corners, where the source row is `row`
+abbrev pub corners_of : Layout → ℕ → ℕ → List PlacedEntry → List Write
+corners_of layout row count placed = flat_map (corner_of layout row count) placed
+
+-- their labels
+abbrev pub labels_of : Layout → ℕ → List PlacedEntry → List Write
+labels_of layout row placed = flat_map (label_of layout row) placed
+
+-- the strokes of a line but its marks
+abbrev pub strokes_under_marks : Layout → ℕ → ℕ → List PlacedEntry → List Write
+strokes_under_marks layout row count placed =
+    connectors_of layout (row + 1) placed ++ corners_of layout row count placed ++ stems_of layout (row + 1) placed ++ labels_of layout (row + 1) placed

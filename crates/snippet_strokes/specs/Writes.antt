@@ -11,12 +11,9 @@ pub record Write : Type 0 where
   pub text : List ℕ
   pub role : ElementStyle
 
--- rows after one write, and after some writes, one after another
-abbrev pub written_by : List (List Cell) → Write → List (List Cell)
-written_by rows w = cells_written rows w.row w.cell (text_cells w.role w.text)
-
+-- rows after some writes, one after another
 abbrev pub painted : List Write → List (List Cell) → List (List Cell)
-painted ws rows = fold written_by rows ws
+painted ws rows = fold (λ before w. cells_written before w.row w.cell (text_cells w.role w.text)) rows ws
 
 -- ---- writes of glyphs
 

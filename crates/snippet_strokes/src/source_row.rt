@@ -12,7 +12,7 @@ ghost use Rattle.snippet_window.specs.Window.{dropped_part};
 ghost use Rattle.snippet_style.specs.Glyphs.{placeholder_of};
 ghost use Rattle.snippet_lines.specs.Number.{shown_number};
 ghost use Rattle.snippet_lines.specs.declared.number.LineNumbers.TheVariants.{Shown};
-ghost use Rattle.snippet_strokes.specs.SourceRows.{begun_cells, ended_cells, shown_cells, source_row, window_cells};
+ghost use Rattle.snippet_strokes.specs.SourceRows.{begun_cells, ended_cells, source_row, window_cells};
 ghost use Rattle.snippet_strokes.specs.SourceRows.{with_cells};
 ghost use Rattle.snippet_text.specs.Normalized.{norm};
 ghost use Rattle.snippet_text.specs.Width.{width_of};
@@ -157,10 +157,10 @@ fn write_source_row(
     requires beside { FitBeside layout beside.tops.now beside.past.now }
     ensures added { OnOk result (buffer.new ≡ buffer.old ++ with_bars layout Solid beside.entry.past.now
         (with_bars layout Top beside.entry.tops.now (source_row layout (chars texts.entry.number.now)
-        (shown_cells layout.decor texts.entry.window.start (chars texts.entry.window.text.now)
-        texts.entry.window.end))) ∷ []) }
-    ensures short { OnOk result (IsWindowEnd (length (shown_cells layout.decor texts.entry.window.start
-        (chars texts.entry.window.text.now) texts.entry.window.end))) }
+        (ended_cells layout.decor texts.entry.window.end
+        (begun_cells layout.decor texts.entry.window.start (chars texts.entry.window.text.now))))) ∷ []) }
+    ensures short { OnOk result (IsWindowEnd (length (ended_cells layout.decor texts.entry.window.end
+        (begun_cells layout.decor texts.entry.window.start (chars texts.entry.window.text.now))))) }
     ensures row { IfOk result (λ row. row ≡ length buffer.old) }
 {
     let window = texts.window;

@@ -273,10 +273,6 @@ end_none room left right placeholder line uncut =
     let whole : nat_lt (window_right room left right line) (width_of line) ≡ false = grind (arith, nat_tests, uncut) in
     sym (ap (λ b. cond b (Some (at (inner_part room left right line))) None) whole)
 
--- no column is reached by no character
-pub none_reached : (n reached : ℕ) (cs : List ℕ) → n ≡ 0 → reached ≡ width_of (take (reaching n cs) cs) → reached ≡ 0
-none_reached n reached cs none is = is ∙ ap (λ k. width_of (take k cs)) (reaching-zero n cs none)
-
 -- normalising a line normalises the part of it that holds the window
 norm-append : (a b : List ℕ) → norm (a ++ b) ≡ norm a ++ norm b
 unfolding norm

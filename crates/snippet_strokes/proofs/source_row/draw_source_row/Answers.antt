@@ -1,7 +1,7 @@
 use Rattle.std.proofs.Common.{◌≡◌, ◌++◌, ◌∷◌, [], List, refl, ap, sym, subst, ◌∙◌, ◌+◌, ◌≤◌, ◌<◌, ◌^◌, arith, length, chars}
 use Rattle.snippet_grid.specs.Layout.{Layout}
 use Rattle.snippet_grid.specs.LayoutOf.{layout_of}
-use Rattle.snippet_strokes.specs.SourceRows.{shown_cells, source_row}
+use Rattle.snippet_strokes.specs.SourceRows.{begun_cells, ended_cells, source_row}
 use Rattle.snippet_style.specs.Cell.{Cell}
 use Rattle.snippet_style.specs.declared.glyphs.DecorStyle.{DecorStyle}
 use Rattle.snippet_strokes.specs.Bars.{with_bars}
@@ -77,7 +77,8 @@ returns-clause-added c =
     let old = args.buffer.now in
     let sides : Layout → List Cell → List (List Cell) = λ l cs.
     old ++ with_bars l Solid args.beside.past.now (with_bars l Top args.beside.tops.now cs) ∷ [] in
-    let text_cells : DecorStyle → List Cell = λ decor. shown_cells decor window.result.start (chars window.result.text.now) window.result.end in
+    let text_cells : DecorStyle → List Cell = λ decor.
+    ended_cells decor window.result.end (begun_cells decor window.result.start (chars window.result.text.now)) in
     let given = subst (λ (l : Layout). c.write_source_row.new.buffer ≡ sides l (source_row l (chars c.as_str-2.result.now) (text_cells l.decor)))
     (sym c.layout.view_is) c.in_ok-row.ensures.added in
     rw (← c.layout.view_is) (given ∙ ap (λ shown. sides layout (source_row layout shown (text_cells layout.decor))) number
@@ -96,7 +97,8 @@ returns-clause-short c =
     (chars c.placeholder-placeholder.result.now) (norm line) (norm line)
     c.placeholder-placeholder.ensures.value refl (window.ensures.start (norm line) part) (window.ensures.text (norm line) part)
     (window.ensures.end (norm line) part) in
-    let short = subst (λ (l : Layout). length (shown_cells l.decor window.result.start (chars window.result.text.now) window.result.end) < 2 ^ 61 + 4)
+    let short = subst (λ (l : Layout).
+    length (ended_cells l.decor window.result.end (begun_cells l.decor window.result.start (chars window.result.text.now))) < 2 ^ 61 + 4)
     (sym c.layout.view_is) c.in_ok-row.ensures.short in
     rw (← c.layout.view_is) (omega (arith, ap length cells, short))
 

@@ -3,7 +3,7 @@ use Rattle.std.specs.Str.{chars}
 use Rattle.snippet_style.specs.Cell.{Cell}
 use Rattle.snippet_strokes.specs.declared.bars.BarStroke.TheVariants.{Top, Solid}
 use Rattle.snippet_strokes.specs.Bars.{barred, with_bars}
-use Rattle.snippet_strokes.specs.SourceRows.{begun_cells, shown_cells}
+use Rattle.snippet_strokes.specs.SourceRows.{begun_cells, ended_cells}
 use Rattle.snippet_strokes.proofs.BesideLemmas.{barred_last, bars_first, bars_left}
 use Rattle.snippet_strokes.proofs.CellLemmas.{shown_short}
 use Rattle.snippet_strokes.proofs.SourceRowLemmas.{front, front_short}
@@ -16,7 +16,7 @@ returns-clause-added c =
     let window = c.args.texts.window in
     let old = c.args.buffer.now in
     let text = chars window.text.now in
-    let cells = shown_cells layout.decor window.start text window.end in
+    let cells = ended_cells layout.decor window.end (begun_cells layout.decor window.start text) in
     let tops = c.args.beside.tops.now in
     let past = c.args.beside.past.now in
     let place = c.in_ok-row.ensures.place in

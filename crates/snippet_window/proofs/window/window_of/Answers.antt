@@ -3,7 +3,7 @@ use Rattle.snippet_text.specs.Width.{width_of}
 use Rattle.snippet_window.specs.Margin.{bounds_of}
 use Rattle.snippet_window.specs.Window.{reaching_last, covered_columns, uncovered_part, window_left, window_right}
 use Rattle.snippet_window.proofs.LineWindowLemmas.{cells_few, start_is_few, part_short}
-use Rattle.snippet_window.proofs.NearLemmas.{none_reached, right_is, window_dropped, inner_found, end_some, end_none}
+use Rattle.snippet_window.proofs.NearLemmas.{right_is, window_dropped, inner_found, end_some, end_none}
 use Rattle.snippet_window.proofs.window.window_of.Goals as goal
 use Rattle.snippet_window.proofs.window.window_of.Goals.{then-right-width, else-right-width}
 
@@ -24,18 +24,6 @@ overflow_add-at c =
           c.unwrap_or.result c.char_count.result (omega (arith, c.str_width-columns.ensures.bound, c.requires.placeholder))
           c.uncovered-start.ensures.bound (c.uncovered-start.ensures.text (chars c.args.placeholder.now) c.str_width-columns.ensures.value)
           short c.unwrap_or.ensures c.char_count.ensures.value,
-    )
-
-pub returns-clause-uncut : goal.returns-clause-uncut
-returns-clause-uncut c none =
-    let left : c.left-left.result ≡ 0 = omega (arith, c.left-left.ensures.value, none) in
-    omega (
-      arith,
-      left,
-      c.requires.skipped,
-      none,
-      none_reached (c.left-left.result - c.args.skipped) c.after_columns-reached.result.0 (chars c.args.text.now)
-          (omega (arith, left)) c.after_columns-reached.ensures.width,
     )
 
 pub returns-clause-dropped : goal.returns-clause-dropped

@@ -1,0 +1,18 @@
+-- One bar that is drawn into a row, and one write into rows: what `with_bars` and `painted` do at each step.
+use Rattle.std.proofs.Common.{[], ◌∷◌, List}
+use Rattle.snippet_style.specs.Cell.{Cell, SPACE, text_cells, written}
+use Rattle.snippet_grid.specs.Grid.{cells_written}
+use Rattle.snippet_grid.specs.Layout.{Layout, bar_cell}
+use Rattle.snippet_strokes.specs.declared.bars.BarStroke.{BarStroke}
+use Rattle.snippet_strokes.specs.declared.bars.OpenBar.{OpenBar}
+use Rattle.snippet_strokes.specs.Bars.{bar_cell_part}
+use Rattle.snippet_strokes.specs.Writes.{Write}
+
+-- a row with a part of a bar in the cell of its depth
+abbrev pub with_bar : Layout → BarStroke → List Cell → OpenBar → List Cell
+with_bar layout stroke row bar =
+    written SPACE row (bar_cell layout bar.depth) (bar_cell_part layout stroke bar ∷ [])
+
+-- rows after one write
+abbrev pub written_by : List (List Cell) → Write → List (List Cell)
+written_by rows w = cells_written rows w.row w.cell (text_cells w.role w.text)
