@@ -3,8 +3,9 @@ use Rattle.std.proofs.Common.{◌≡◌, ◌⊎◌, ℕ, ◌<◌, List, length}
 use Rattle.snippet_style.specs.Cell.{Cell, SPACE}
 use Rattle.snippet_grid.specs.Grid.{cell_at}
 use Rattle.snippet_grid.specs.Layout.{Layout, bar_cell}
-use Rattle.snippet_strokes.specs.Bars.{Bar}
-use Rattle.snippet_strokes.specs.EndBars.{bar_top, solid_bar, start_corner}
+use Rattle.snippet_strokes.specs.Bars.{Bar, bar_cell_part}
+use Rattle.snippet_strokes.specs.EndBars.{start_corner}
+use Rattle.snippet_strokes.specs.declared.bars.BarStroke.TheVariants.{Solid, Top}
 
 -- in the rows of a line the bar begins: in one below the source row stands its corner, and in each row below that the bar; in the
 -- source row a space stands in its cell
@@ -14,12 +15,12 @@ pub record BeginsBelow (layout : Layout) (bar : Bar) (rows : List (List Cell)) :
   pub within : corner < length rows
   pub corner_is : cell_at rows corner (bar_cell layout bar.depth) ≡ start_corner layout bar
   pub source : cell_at rows 0 (bar_cell layout bar.depth) ≡ SPACE
-  pub beside : (i : ℕ) → corner < i → i < length rows → cell_at rows i (bar_cell layout bar.depth) ≡ solid_bar layout bar
+  pub beside : (i : ℕ) → corner < i → i < length rows → cell_at rows i (bar_cell layout bar.depth) ≡ bar_cell_part layout Solid bar
 
 -- or its top stands in the source row, below which the line has none
 pub record BeginsBeside (layout : Layout) (bar : Bar) (rows : List (List Cell)) : Type 0 where
   pub alone : length rows ≡ 1
-  pub top : cell_at rows 0 (bar_cell layout bar.depth) ≡ bar_top layout bar
+  pub top : cell_at rows 0 (bar_cell layout bar.depth) ≡ bar_cell_part layout Top bar
 
 -- in the rows of a line the bar begins, in one of these ways
 abbrev pub BarBegins : Layout → Bar → List (List Cell) → Type 0

@@ -5,20 +5,8 @@ use Rattle.snippet_style.specs.Cell.{Cell, SPACE, unlinked_cell}
 use Rattle.snippet_style.specs.declared.glyphs.DecorStyle.{DecorStyle}
 use Rattle.snippet_grid.specs.Grid.{cell_at}
 use Rattle.snippet_grid.specs.Layout.{Layout, bar_cell}
-use Rattle.snippet_strokes.specs.declared.bars.BarStroke.TheVariants.{Top, Solid, Dotted}
+use Rattle.snippet_strokes.specs.declared.bars.BarStroke.TheVariants.{Solid}
 use Rattle.snippet_strokes.specs.Bars.{Bar, bar_cell_part}
-
--- the cell of a bar in a row of a line
-abbrev pub solid_bar : Layout → Bar → Cell
-solid_bar layout bar = bar_cell_part layout Solid bar
-
--- the cell of a bar in a row in place of lines that are left out
-abbrev pub dotted_bar : Layout → Bar → Cell
-dotted_bar layout bar = bar_cell_part layout Dotted bar
-
--- the cell of its top beside a line that is marked as a whole
-abbrev pub bar_top : Layout → Bar → Cell
-bar_top layout bar = bar_cell_part layout Top bar
 
 -- the corner at which a bar begins, left of the line that leads to the span's first mark: in ASCII a space
 abbrev pub start_corner : Layout → Bar → Cell
@@ -40,4 +28,4 @@ pub record BarEnds (layout : Layout) (bar : Bar) (rows : List (List Cell)) : Typ
   pub below : 0 < corner
   pub within : corner < length rows
   pub corner_is : cell_at rows corner (bar_cell layout bar.depth) ≡ end_corner layout bar
-  pub beside : (i : ℕ) → i < corner → cell_at rows i (bar_cell layout bar.depth) ≡ solid_bar layout bar
+  pub beside : (i : ℕ) → i < corner → cell_at rows i (bar_cell layout bar.depth) ≡ bar_cell_part layout Solid bar
