@@ -31,7 +31,7 @@ use Rattle.snippet_grid.specs.Layout.{Layout}
 use Rattle.annotate_snippets.specs.GraphicForm.{bars_on, gap_below, named_line, rows_of_line, rows_of_lines}
 use Rattle.annotate_snippets.specs.Gutter.{line_numbers, numbered_source}
 use Rattle.annotate_snippets.proofs.DrawnRows.{AreRowsDrawn, IsLineDrawn}
-use Rattle.annotate_snippets.specs.Page.{SourceRow, Elision, Other, NamedRow, lines_named, cells_of, cells_below, others, rows_below}
+use Rattle.annotate_snippets.specs.Page.{SourceRow, Elision, Other, NamedRow, lines_named, cells_of, others, rows_below}
 use Rattle.annotate_snippets.specs.Laws.Snippets.{AreRowsOf, ShowsLineAndMarks}
 use Rattle.annotate_snippets.specs.Laws.Lines.{IsRowBelow}
 use Rattle.annotate_snippets.specs.Laws.Labels.{ShowsLabels}
@@ -56,7 +56,7 @@ pub cells_of-append : (xs ys : List NamedRow) → cells_of (xs ++ ys) ≡ cells_
 cells_of-append xs ys = map-append (λ (row : NamedRow). row.cells) xs ys
 
 -- the first row below, where there is one
-below-first : (below : List (List Cell)) (more : List NamedRow) → 0 < length below → cells_below (others below ++ more) ≡ row_at below 0
+below-first : (below : List (List Cell)) (more : List NamedRow) → 0 < length below → row_at (cells_of (others below ++ more)) 0 ≡ row_at below 0
 below-first [] more some = absurd (omega arith)
 below-first (row ∷ below) more some = refl
 
@@ -91,7 +91,7 @@ module _ (r : Renderer) (layout : Layout) (s : Snippet Annotation)
       → (line : strokes.ShowsLine layout margin (line_numbers r s.line_numbering) last open_bars info rows)
       → (shows : AreSeen layout margin.term_width (map (shifted line.dropped) info.annotations.items) last line.highlighted rows)
       → rows_below more ≡ []
-      → ShowsLineAndMarks r layout s k shows.source (cells_below (others shows.below ++ more)) (rows_below (others shows.below ++ more))
+      → ShowsLineAndMarks r layout s k shows.source (row_at (cells_of (others shows.below ++ more)) 0) (rows_below (others shows.below ++ more))
   line_and_marks last open_bars k info rows more within seen fits line shows ends =
       record {
         dropped = line.dropped;

@@ -10,7 +10,7 @@ use Rattle.snippet_grid.specs.Woven.{Piece, Char, piece_text, plain_piece, piece
 use Rattle.snippet_style.specs.declared.role.LevelInner.{LevelInner}
 use Rattle.snippet_style.specs.declared.stylesheet.Stylesheet.{Stylesheet}
 use Rattle.snippet_grid.proofs.WovenLemmas.{IsWoven-from_prints}
-use Rattle.annotate_snippets.specs.Page.{ArePrinted, Page, PrintsPage, group_rows, page_links, page_text}
+use Rattle.annotate_snippets.specs.Page.{ArePrinted, Page, PrintsPage, group_rows, page_text}
 use Rattle.annotate_snippets.specs.declared.renderer.graphic.GroupGrid.{GroupGrid}
 use Rattle.snippet_grid.proofs.WovenLemmas.{ended-append}
 
@@ -46,6 +46,10 @@ grid_plain grid = plain_text grid.buffer
 -- the links of a grid's rows
 abbrev pub grid_links : GroupGrid → List (List ℕ)
 grid_links grid = links_of grid.buffer
+
+-- the URLs of a page's linked runs of cells, in order
+abbrev pub page_links : Page → List (List ℕ)
+page_links page = flat_map (λ g. links_of (group_rows g)) page
 
 -- so texts that print the groups of a page, joined, are woven of the page's characters, with the page's links
 IsWoven-from_groups : (sheet : Stylesheet) (levels : List LevelInner) (page : Page) (parts : List (List ℕ)) → ArePrinted sheet levels page parts

@@ -12,8 +12,9 @@ use Rattle.snippet_grid.specs.Layout.{Layout, bar_cell, inner_cell}
 use Rattle.snippet_parts.specs.Annotated.{depth_of, is_long}
 use Rattle.snippet_parts.specs.Mark.{touches}
 use Rattle.snippet_parts.specs.Marked.{first_line, last_line}
-use Rattle.snippet_strokes.specs.Bars.{Bar}
-use Rattle.snippet_strokes.specs.EndBars.{BarEnds, IsNoBar, bar_top, dotted_bar, solid_bar, start_corner}
+use Rattle.snippet_strokes.specs.Bars.{Bar, bar_cell_part}
+use Rattle.snippet_strokes.specs.EndBars.{BarEnds, IsNoBar, start_corner}
+use Rattle.snippet_strokes.specs.declared.bars.BarStroke.TheVariants.{Dotted, Solid, Top}
 use Rattle.annotate_snippets.specs.Gutter.{numbered_source}
 use Rattle.annotate_snippets.specs.Page.{RowName, SourceRow, Elision, NamedRow, lines_named, rows_below, shows_lines}
 
@@ -27,31 +28,27 @@ bar_of_span s a =
 abbrev pub bar_cell_of : Layout → Snippet Annotation → Annotation → ℕ
 bar_cell_of layout s a = bar_cell layout (depth_of (numbered_source s) s.markers.items a)
 
--- the line after that of the last source row among some rows: 0 where there is none
-abbrev pub line_after : List NamedRow → ℕ
-line_after rows = fold (λ before k. k + 1) 0 (lines_named rows)
-
--- the line beside which a row of this name stands, below some rows: its own; for a row in place of lines the first of these; and for
--- a row below a line that line
+-- the line beside which a row of this name stands, below some rows: its own; for a row in place of lines the first of these, which is
+-- the one after that of the last source row above, or 0 where there is none; and for a row below a line that line
 abbrev pub line_beside : List NamedRow → RowName → ℕ
 line_beside above (SourceRow k) = k
-line_beside above Elision = line_after above
-line_beside above name = line_after above - 1
+line_beside above Elision = fold (λ before k. k + 1) 0 (lines_named above)
+line_beside above name = fold (λ before k. k + 1) 0 (lines_named above) - 1
 
 -- the cell of a bar beside a row of this name: dotted beside one in place of lines
 abbrev pub bar_beside : Layout → RowName → Bar → Cell
-bar_beside layout Elision bar = dotted_bar layout bar
-bar_beside layout name bar = solid_bar layout bar
+bar_beside layout Elision bar = bar_cell_part layout Dotted bar
+bar_beside layout name bar = bar_cell_part layout Solid bar
 
 -- in the rows of a line the bar begins: in one row below the source row stands its corner, or in the source row, below which the line then
 -- has none, its top. In each row below that stands the bar, and in the source row, where it isn't that, a space
 pub record BarStarts (layout : Layout) (bar : Bar) (rows : List (List Cell)) : Type 0 where
   pub at : ℕ
   pub within : at < length rows
-  pub is : cell_at rows at (bar_cell layout bar.depth) ≡ (if at == 0 then bar_top layout bar else start_corner layout bar)
+  pub is : cell_at rows at (bar_cell layout bar.depth) ≡ (if at == 0 then bar_cell_part layout Top bar else start_corner layout bar)
   pub alone : at ≡ 0 → length rows ≡ 1
   pub source : 0 < at → cell_at rows 0 (bar_cell layout bar.depth) ≡ SPACE
-  pub beside : (i : ℕ) → at < i → i < length rows → cell_at rows i (bar_cell layout bar.depth) ≡ solid_bar layout bar
+  pub beside : (i : ℕ) → at < i → i < length rows → cell_at rows i (bar_cell layout bar.depth) ≡ bar_cell_part layout Solid bar
 
 -- a row, with those above and below it, has the bar of a span of several lines: between the span's first and last line it stands in its own
 -- cell and in its kind, whatever else the row holds. In the rows of the first line it begins, in those of the last it ends

@@ -40,7 +40,3 @@ begins_with_word (c ∷ cs) = not (c == 32 || is_ascii_digit c)
 pub record IsTitleOfWords (gutter : ℕ) (title : Title) : Type 0 where
   pub word : begins_with_word (norm (chars (name_of title.level))) ≡ true
   pub wide : gutter < label_width (heading_of_title title)
-
--- a row has no number where those of lines stand, in the cells up to the one before the separator
-abbrev pub IsUnnumbered : ℕ → List Cell → Type 0
-IsUnnumbered gutter row = begins_with_number (take (gutter + 1) (row_text row)) ≡ false
