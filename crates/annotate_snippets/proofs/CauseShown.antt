@@ -1,17 +1,16 @@
 -- The rows of an annotated snippet show it.
-use Rattle.std.proofs.Common.{◌≡◌, ℕ, ◌+◌, ◌≤◌, ◌==◌, ◌&&◌, Bool, true, false, cond, Option, None, Some, List, [], ◌∷◌, ◌++◌, drop, length, refl, sym, ap}
+use Rattle.std.proofs.Common.{◌≡◌, ℕ, ◌+◌, ◌≤◌, ◌==◌, ◌&&◌, Bool, true, false, cond, Option, None, Some, List, [], ◌∷◌, ◌++◌, drop, map, refl, sym, ap}
 use Rattle.std.proofs.Common.{subst, ◌∙◌, arith}
 use Rattle.std.specs.List.{All, Contains, list_any}
 use Rattle.std.specs.Option.{IsSomeAnd}
 use Rattle.std.specs.Cow.{cow_str_bytes}
-use Rattle.std.proofs.lemmas.List.Elements.{All-append, All-cons, All-head, All-nil, All-tail}
+use Rattle.std.proofs.lemmas.List.Elements.{All-append, All-cons, All-head, All-map, All-nil, All-tail}
 use Rattle.snippet_model.specs.declared.snippet.Annotation.{Annotation}
 use Rattle.snippet_model.specs.declared.snippet.Snippet.{Snippet}
 use Rattle.snippet_model.specs.declared.snippet.Element.TheVariants.{Cause}
 use Rattle.snippet_grid.specs.Grid.{row_at}
 use Rattle.snippet_style.specs.Cell.{Cell}
 use Rattle.snippet_grid.specs.Print.{row_text}
-use Rattle.snippet_lines.specs.Number.{shown_number}
 use Rattle.snippet_lines.specs.Span.{IsSpan}
 use Rattle.snippet_parts.specs.Annotated.{KeptLine, annotated_lines, is_long}
 use Rattle.snippet_parts.specs.Kept.{shown_lines}
@@ -19,12 +18,12 @@ use Rattle.snippet_parts.specs.Mark.{is_marking}
 use Rattle.snippet_parts.specs.Marked.{first_line, last_line}
 use Rattle.snippet_parts.specs.Location.{IsLocation, primary_place}
 use Rattle.snippet_model.specs.FreeRows.{IsFree}
-use Rattle.snippet_parts.specs.declared.entries.AnnotatedLineInfo.{AnnotatedLineInfo}
 use Rattle.snippet_parts.specs.declared.location.Location.{Location}
 use Rattle.snippet_parts.proofs.LocationLaws.{primary_place-location}
 use Rattle.snippet_strokes.specs.Bars.{HasBarRoom}
-use Rattle.snippet_strokes.specs.Drawable.{AreDrawable}
-use Rattle.snippet_strokes.proofs.SeenLines.{free_from_AreLinesShown}
+use Rattle.snippet_strokes.specs.declared.snippet.LineView.{LineView}
+use Rattle.snippet_strokes.proofs.LineFacts.{CanBeShown}
+use Rattle.snippet_strokes.proofs.SeenLines.{infos_free}
 use Rattle.snippet_titles.specs.Origin.{origin_row, origin_text, primary_start, snippet_head}
 use Rattle.snippet_titles.specs.declared.origin.OriginLayout.{OriginLayout}
 use Rattle.snippet_titles.specs.declared.origin.OriginLocation.{OriginLocation}
@@ -34,20 +33,24 @@ use Rattle.annotate_snippets.specs.declared.renderer.Renderer.{Renderer}
 use Rattle.snippet_grid.specs.Layout.{Layout}
 use Rattle.annotate_snippets.specs.declared.renderer.element_context.ElementContext.{ElementContext}
 use Rattle.annotate_snippets.specs.Around.{closes_after, closes_with, is_before_message, is_first_group, path_bytes}
-use Rattle.annotate_snippets.specs.DrawnReport.{AreCauseRows, HasRoomFor, IsCauseDrawn}
+use Rattle.annotate_snippets.specs.DrawnReport.{HasRoomFor}
+use Rattle.annotate_snippets.specs.GraphicForm.{margin_in, rows_of_lines, snippet_rows}
 use Rattle.annotate_snippets.specs.Gutter.{code_after, depth_of_element, line_numbers, numbered_source}
 use Rattle.annotate_snippets.specs.Page.{NamedRow, cells_of, lines_named, others}
 use Rattle.annotate_snippets.specs.PreparedReport.{IsDrawable}
 use Rattle.annotate_snippets.specs.RowsWithoutSource.{cause_head, origin_layout, place_found, place_named, rows_after_cause}
 use Rattle.annotate_snippets.specs.Laws.Paths.{NamesLocation}
 use Rattle.annotate_snippets.specs.Laws.Feeds.{HasNoFeed}
+use Rattle.annotate_snippets.proofs.AreTexts.{IsTextCause}
 use Rattle.annotate_snippets.proofs.Ascending.{IsAscending, ascends}
 use Rattle.annotate_snippets.proofs.ElementShown.{ElementShown}
-use Rattle.annotate_snippets.proofs.GutterLemmas.{numbers_fit}
+use Rattle.annotate_snippets.proofs.InfoLines.{bounds_ordered, info_at, infos_seen, lines_ready}
 use Rattle.annotate_snippets.proofs.LineFeedLaws.{lines_one_line}
-use Rattle.annotate_snippets.proofs.PageLemmas.{cells_of-append, cells_of-others, named_lines}
+use Rattle.annotate_snippets.proofs.LineValue.{lines_value}
+use Rattle.annotate_snippets.proofs.NamedRows.{cells_of-append, cells_of-others}
+use Rattle.annotate_snippets.proofs.PageLemmas.{named_lines}
 use Rattle.annotate_snippets.proofs.SpanBarRows.{bars_shown}
-use Rattle.annotate_snippets.proofs.PartsFacts.{ends_shown, lines_entries, shown_ascending, snippet_shown-within}
+use Rattle.annotate_snippets.proofs.PartsFacts.{ends_shown, shown_ascending}
 use Rattle.annotate_snippets.proofs.PathFeedLaws.{after_one_line, head_one_line}
 use Rattle.snippet_style.specs.Separators.{closing_row, separator_row}
 
@@ -127,54 +130,58 @@ code_right gutter depth = either (depth == 0)
     either true = omega arith
     either false = omega arith
 
--- the rows of a snippet, with their names, show it
-pub cause_shown : (r : Renderer) (layout : Layout) (around : ElementContext) (found : List Cell) (s : Snippet Annotation) (rows : List (List Cell))
-    → IsDrawable s → HasRoomFor r layout (Cause s) → IsCauseDrawn r layout around s rows → ElementShown r layout around found (Cause s) rows
-cause_shown r layout around found s rows drawable room drawn =
-    let src = numbered_source s in
-    let are : AreCauseRows r layout (closes_with around) s drawn.lines = drawn.are in
-    let ks : List ℕ = shown_lines s.fold (cow_str_bytes s.source) s.markers.items in
-    let fit : All (λ (info : AnnotatedLineInfo). length (shown_number (line_numbers r s.line_numbering) layout.gutter info.line_index) ≤ layout.gutter + 1)
-    are.infos = numbers_fit r layout s are.infos room drawable are.lines in
-    let entries : All (λ (info : AnnotatedLineInfo). AreDrawable layout info.annotations.items) are.infos = lines_entries src s.markers.items drawable.spans ks
-    are.infos are.lines layout room.bars drawable.source drawable.labels in
-    let place : layout.gutter + 3 ≤ layout.code = omega (arith, room.bars, code_right layout.gutter (depth_of_element (Cause s))) in
-    let named = named_lines r layout s drawable.spans are.margin are.room are.bounds are.ordered place (closes_with around) [] ks are.infos drawn.lines
-    (snippet_shown-within src s.markers.items drawable.spans s.fold) are.lines fit entries (All-nil (HasBarRoom layout)) are.shown in
+-- the cells of a snippet's rows
+pub snippet_cells : (r : Renderer) (layout : Layout) (around : ElementContext) (s : Snippet Annotation)
+    → cells_of (snippet_rows r layout around s) ≡ cause_head r layout around s
+    ++ (cells_of (rows_of_lines r layout (closes_with around) s [] (shown_lines s.fold (cow_str_bytes s.source) s.markers.items))
+    ++ rows_after_cause r layout around)
+snippet_cells r layout around s =
     let head : List (List Cell) = cause_head r layout around s in
     let tail : List (List Cell) = rows_after_cause r layout around in
-    let part : List NamedRow = others head ++ (named.part ++ others tail) in
-    let cells : cells_of part ≡ rows = cells_of-append (others head) (named.part ++ others tail)
-    ∙ ap (λ rs. rs ++ cells_of (named.part ++ others tail)) (cells_of-others head)
-    ∙ ap (λ rs. head ++ rs) (cells_of-append named.part (others tail) ∙ ap (λ rs. rs ++ cells_of (others tail)) named.cells
-    ∙ ap (λ rs. drawn.lines ++ rs) (cells_of-others tail)) ∙ sym drawn.rows_are in
-    let lines_free : All IsFree drawn.lines = free_from_AreLinesShown layout are.margin (line_numbers r s.line_numbering) place
-    (closes_with around) [] are.infos drawn.lines (All-nil (HasBarRoom layout)) fit entries are.shown in
-    let all_free : All IsFree (head ++ (drawn.lines ++ tail)) = All-append IsFree head (drawn.lines ++ tail) (head_free r layout around s)
-    (All-append IsFree drawn.lines tail lines_free (after-free r layout around s)) in
+    let lines : List NamedRow = rows_of_lines r layout (closes_with around) s [] (shown_lines s.fold (cow_str_bytes s.source) s.markers.items) in
+    cells_of-append (others head) (lines ++ others tail) ∙ ap (λ rs. rs ++ cells_of (lines ++ others tail)) (cells_of-others head)
+    ∙ ap (λ rs. head ++ rs) (cells_of-append lines (others tail) ∙ ap (λ rs. cells_of lines ++ rs) (cells_of-others tail))
+
+-- the rows of a snippet show it
+pub cause_shown : (r : Renderer) (layout : Layout) (around : ElementContext) (found : List Cell) (s : Snippet Annotation) → IsDrawable s
+    → HasRoomFor r layout (Cause s) → IsTextCause s → ElementShown r layout around found (Cause s)
+cause_shown r layout around found s drawable room texts =
+    let src = numbered_source s in
+    let closes : Bool = closes_with around in
+    let ks : List ℕ = shown_lines s.fold (cow_str_bytes s.source) s.markers.items in
+    let place : layout.gutter + 3 ≤ layout.code = omega (arith, room.bars, code_right layout.gutter (depth_of_element (Cause s))) in
+    let ready = lines_ready r layout s drawable room texts.labels in
+    let named = named_lines r layout s drawable.spans (bounds_ordered r layout s drawable) place closes [] ks ready (All-nil (HasBarRoom layout)) in
+    let after : List NamedRow = rows_of_lines r layout closes s [] ks in
+    let lines : List (List Cell) = cells_of after in
+    let head : List (List Cell) = cause_head r layout around s in
+    let tail : List (List Cell) = rows_after_cause r layout around in
+    let cells : cells_of (snippet_rows r layout around s) ≡ head ++ (lines ++ tail) = snippet_cells r layout around s in
+    let view : LineView = record { margin = margin_in r layout s; numbers = line_numbers r s.line_numbering; closes = closes } in
+    let lines_free : All IsFree lines = subst (All IsFree) (lines_value r layout s view refl refl [] ks (map (info_at s drawable.spans) ks)
+    (infos_seen s drawable.spans ks)) (infos_free layout view [] (map (info_at s drawable.spans) ks) place (All-nil (HasBarRoom layout))
+    (All-map (CanBeShown layout view.margin view.numbers) (info_at s drawable.spans) ks (λ i d within. (ready i d within).1))) in
+    let all_free : All IsFree (head ++ (lines ++ tail)) = All-append IsFree head (lines ++ tail) (head_free r layout around s)
+    (All-append IsFree lines tail lines_free (after-free r layout around s)) in
     let text : List ℕ = cow_str_bytes s.source in
     let Ends : List ℕ → Type 0 = λ js. All (λ a. Contains js (first_line text a) × Contains js (last_line text a)) s.markers.items in
-    let ends : Ends (lines_named named.part) = subst Ends (sym named.lines) (ends_shown src s.markers.items drawable.spans s.fold) in
-    let ordered : IsAscending (lines_named named.part) = subst IsAscending (sym named.lines) (shown_ascending src s.markers.items drawable.spans s.fold) in
+    let ends : Ends (lines_named after) = subst Ends (sym named.lines) (ends_shown src s.markers.items drawable.spans s.fold) in
+    let ordered : IsAscending (lines_named after) = subst IsAscending (sym named.lines) (shown_ascending src s.markers.items drawable.spans s.fold) in
     record {
-      part = part;
-      value = ap (λ (lines : List NamedRow). others head ++ (lines ++ others tail)) named.value;
-      cells = cells;
       shows = record {
-        after = named.part;
+        after = after;
         rows_are = refl;
-        origin = names_place r layout around s drawable.spans (named.part ++ others tail);
+        origin = names_place r layout around s drawable.spans (after ++ others tail);
         lines = named.lines;
         ends = ends;
-        ordered = ascends (lines_named named.part) ordered;
+        ordered = ascends (lines_named after) ordered;
         named = named.are;
-        are = named.value;
-        bars = bars_shown r layout (closes_with around) s drawable.spans named.part named.are named.drawn named.begins ordered ends room.bars;
+        are = refl;
+        bars = bars_shown r layout closes s drawable.spans after named.are named.drawn named.begins ordered ends room.bars;
       };
-      free = free_named part (subst (All IsFree) (sym (cells ∙ drawn.rows_are)) all_free);
+      free = free_named (snippet_rows r layout around s) (subst (All IsFree) (sym cells) all_free);
       one_line = λ plain.
-          let lines : All HasNoFeed drawn.lines = subst (All HasNoFeed) named.cells
-          (lines_one_line r layout (closes_with around) s named.part named.are named.drawn named.begins are.utf8 plain.1) in
-          let below : All HasNoFeed (drawn.lines ++ tail) = All-append HasNoFeed drawn.lines tail lines (after_one_line r layout around) in
-          subst (All HasNoFeed) (sym drawn.rows_are) (All-append HasNoFeed head (drawn.lines ++ tail) (head_one_line r layout around s plain.0) below);
+          let own : All HasNoFeed lines = lines_one_line r layout closes s after named.are named.drawn named.begins texts.utf8 plain.1 in
+          let below : All HasNoFeed (lines ++ tail) = All-append HasNoFeed lines tail own (after_one_line r layout around) in
+          subst (All HasNoFeed) (sym cells) (All-append HasNoFeed head (lines ++ tail) (head_one_line r layout around s plain.0) below);
     }

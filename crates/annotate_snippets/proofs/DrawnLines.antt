@@ -17,8 +17,8 @@ use Rattle.snippet_lines.specs.declared.number.LineNumbers.{LineNumbers}
 use Rattle.snippet_grid.specs.Grid.{cell_at}
 use Rattle.snippet_style.specs.Glyphs.{strokes_of, underline_role}
 use Rattle.snippet_strokes.specs.Bars.{Bar, HasOwnDepth, bar_at, bar_of, bars_apart, ends_of_bars}
-use Rattle.snippet_strokes.specs.SourceRows.{IsSourceRow, window_cells}
-use Rattle.snippet_strokes.specs.Snippet as strokes
+use Rattle.snippet_strokes.specs.SourceRows.{window_cells}
+use Rattle.snippet_strokes.proofs.LineFacts.{IsSourceRow, ShowsLine}
 use Rattle.snippet_strokes.proofs.BarLaws.{bar_past}
 use Rattle.annotate_snippets.specs.declared.renderer.Renderer.{Renderer}
 use Rattle.snippet_grid.specs.Layout.{Layout}
@@ -46,7 +46,7 @@ module _ (r : Renderer) (layout : Layout) (s : Snippet Annotation) (margin : Mar
 
   abbrev Shows : Bool → List Bar → AnnotatedLineInfo → List (List Cell) → Type 0
   Shows closes open_bars info rows =
-      strokes.ShowsLine layout margin numbers closes open_bars info rows
+      ShowsLine layout margin numbers closes open_bars info rows
 
   -- the rows that show a kept line are what the spans of the snippet make of it
   pub line_drawn : (closes : Bool) (open_bars : List Bar) (k : ℕ) (info : AnnotatedLineInfo) (rows : List (List Cell))

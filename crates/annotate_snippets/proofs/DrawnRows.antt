@@ -1,5 +1,4 @@
--- The rows of a snippet's lines as they are drawn: what is known of each line's rows, and of those in place of lines. The graphic form has the
--- same rows as a value (LineValue, PageLemmas).
+-- What laws are proved from: what is known of the rows that the graphic form has for a line, and in place of lines (PageLemmas).
 use Rattle.std.proofs.Common.{◌≡◌, ℕ, ◌+◌, ◌-◌, ◌==◌, ◌&&◌, Bool, not, List, [], ◌∷◌, filter, length, map}
 use Rattle.snippet_model.specs.declared.snippet.Annotation.{Annotation}
 use Rattle.snippet_model.specs.declared.snippet.Snippet.{Snippet}
@@ -15,9 +14,8 @@ use Rattle.snippet_parts.specs.declared.entries.LineAnnotation.{LineAnnotation}
 use Rattle.snippet_window.specs.declared.margin.Margin.{Margin}
 use Rattle.snippet_strokes.specs.Bars.{Bar, open_past}
 use Rattle.snippet_labels.specs.PlacedEntries.{is_end_part}
-use Rattle.snippet_strokes.specs.LineRows.{AreLineRows}
-use Rattle.snippet_strokes.specs.StrokeRows.{IsHighlighted}
-use Rattle.snippet_strokes.specs.SourceRows.{IsSourceRow, window_cells}
+use Rattle.snippet_strokes.specs.SourceRows.{window_cells}
+use Rattle.snippet_strokes.proofs.LineFacts.{AreLineRows, IsHighlighted, IsSourceRow}
 use Rattle.snippet_strokes.specs.Snippet.{gap_row}
 use Rattle.annotate_snippets.specs.declared.renderer.Renderer.{Renderer}
 use Rattle.snippet_grid.specs.Layout.{Layout}

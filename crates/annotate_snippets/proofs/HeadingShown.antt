@@ -1,5 +1,5 @@
 -- The rows of messages, origins, paddings and titles show them.
-use Rattle.std.proofs.Common.{◌≡◌, ◌∙◌, ℕ, ◌+◌, Bool, true, false, None, Option, Some, List, [], ◌∷◌, drop, if◌then◌else◌, refl, sym, ap, subst}
+use Rattle.std.proofs.Common.{◌≡◌, ◌∙◌, ℕ, Bool, true, false, None, Option, Some, List, [], ◌∷◌, if◌then◌else◌, refl, sym, ap, subst}
 use Rattle.std.specs.Cow.{cow_str_bytes}
 use Rattle.std.specs.List.{All}
 use Rattle.std.proofs.lemmas.List.Elements.{All-cons, All-nil}
@@ -39,7 +39,7 @@ use Rattle.annotate_snippets.specs.declared.renderer.element_context.ElementCont
 use Rattle.annotate_snippets.specs.Laws.Feeds.{HasNoFeed}
 use Rattle.annotate_snippets.proofs.ElementShown.{ElementShown}
 use Rattle.annotate_snippets.proofs.HeadingFeedLaws.{heading_one_line}
-use Rattle.annotate_snippets.proofs.PageLemmas.{cells_of-others}
+use Rattle.annotate_snippets.proofs.NamedRows.{cells_of-others}
 use Rattle.annotate_snippets.proofs.PathFeedLaws.{origin_one_line, padding_one_line}
 use Rattle.snippet_style.specs.Separators.{closing_row}
 
@@ -69,22 +69,17 @@ links_of_heading {hyperlink} {place} {heading} shown =
     subst (LinksId hyperlink place heading) (sym shown.rows_are) (heading_rows-places hyperlink place heading)
 
 -- those of a message show it too
-pub message_shown : (r : Renderer) (layout : Layout) (around : ElementContext) (found : List Cell) (message : the_message.Message) (rows : List (List Cell))
-    → rows ≡ message_rows r layout around message → ElementShown r layout around found (Message message) rows
-message_shown r layout around found message rows are =
+pub message_shown : (r : Renderer) (layout : Layout) (around : ElementContext) (found : List Cell) (message : the_message.Message)
+    → ElementShown r layout around found (Message message)
+message_shown r layout around found message =
     let heading : Heading = heading_of_message message in
-    let shows : ShowsHeading r.hyperlink (message_style r layout around) heading rows = subst
-    (ShowsHeading r.hyperlink (message_style r layout around) heading) (sym are) (heading_shown r.hyperlink (message_style r layout around) heading) in
+    let rows : List (List Cell) = message_rows r layout around message in
+    let same : cells_of (others rows) ≡ rows = cells_of-others rows in
+    let shows : ShowsHeading r.hyperlink (message_style r layout around) heading rows = heading_shown r.hyperlink (message_style r layout around) heading in
     record {
-      part = others rows;
-      value = ap others are;
-      cells = cells_of-others rows;
-      shows = record {
-        named = ap others (sym (cells_of-others rows));
-        shows = subst (ShowsHeading r.hyperlink (message_style r layout around) heading) (sym (cells_of-others rows)) shows;
-      };
+      shows = record { named = ap others (sym same); shows = subst (ShowsHeading r.hyperlink (message_style r layout around) heading) (sym same) shows };
       free = others-each (IsFreeButText heading) rows shows.free;
-      one_line = λ plain. subst (All HasNoFeed) (sym are) (heading_one_line r.hyperlink (message_style r layout around) heading (plain, tt));
+      one_line = λ plain. subst (All HasNoFeed) (sym same) (heading_one_line r.hyperlink (message_style r layout around) heading (plain, tt));
     }
 
 -- those of an origin
@@ -93,40 +88,27 @@ closing-free r layout true = All-cons IsFree _ [] (closing_row-free layout.decor
 closing-free r layout false = All-nil IsFree
 
 -- the rows of an origin show it
-pub origin_shown : (r : Renderer) (layout : Layout) (around : ElementContext) (found : List Cell) (origin : the_origin.Origin) (rows : List (List Cell))
-    → rows ≡ origin_rows r layout around origin → ElementShown r layout around found (Origin origin) rows
-origin_shown r layout around found origin rows are =
+pub origin_shown : (r : Renderer) (layout : Layout) (around : ElementContext) (found : List Cell) (origin : the_origin.Origin)
+    → ElementShown r layout around found (Origin origin)
+origin_shown r layout around found origin =
     let path : List ℕ = cow_str_bytes origin.path in
     let row : List Cell = origin_row (origin_layout r layout) (origin_start around) path (place_given origin) in
-    let free : All IsFree (origin_rows r layout around origin) = All-cons IsFree row _
+    let rows : List (List Cell) = origin_rows r layout around origin in
+    let free : All IsFree rows = All-cons IsFree row _
     (origin_row-free (origin_layout r layout) (origin_start around) path (place_given origin)) (closing-free r layout (closes_after around)) in
     record {
-      part = others rows;
-      value = ap others are;
-      cells = cells_of-others rows;
-      shows = record {
-        rows_are = ap others are;
-        text = ap (λ (rs : List (List Cell)). row_text (drop (layout.gutter + 4) (row_at (cells_of (others rs)) 0))) are
-            ∙ origin_row-text (origin_layout r layout) (origin_start around) path (place_given origin);
-      };
-      free = others-each IsFree rows (subst (All IsFree) (sym are) free);
-      one_line = λ plain. subst (All HasNoFeed) (sym are) (origin_one_line r layout around origin plain);
+      shows = record { rows_are = refl; text = origin_row-text (origin_layout r layout) (origin_start around) path (place_given origin) };
+      free = others-each IsFree rows free;
+      one_line = λ plain. subst (All HasNoFeed) (sym (cells_of-others rows)) (origin_one_line r layout around origin plain);
     }
 
 -- and that of a padding
-pub padding_shown : (r : Renderer) (layout : Layout) (around : ElementContext) (found : List Cell) (padding : the_padding.Padding) (rows : List (List Cell))
-    → rows ≡ padding_row layout.decor layout.gutter (is_end around.next) ∷ [] → ElementShown r layout around found (Padding padding) rows
-padding_shown r layout around found padding rows are =
+pub padding_shown : (r : Renderer) (layout : Layout) (around : ElementContext) (found : List Cell) (padding : the_padding.Padding)
+    → ElementShown r layout around found (Padding padding)
+padding_shown r layout around found padding =
     let row : List Cell = padding_row layout.decor layout.gutter (is_end around.next) in
     let free : All IsFree (row ∷ []) = All-cons IsFree row [] (padding_row-free layout.decor layout.gutter (is_end around.next)) (All-nil IsFree) in
-    record {
-      part = others rows;
-      value = ap others are;
-      cells = cells_of-others rows;
-      shows = ap others are;
-      free = others-each IsFree rows (subst (All IsFree) (sym are) free);
-      one_line = λ plain. subst (All HasNoFeed) (sym are) (padding_one_line r layout (is_end around.next));
-    }
+    record { shows = refl; free = others-each IsFree (row ∷ []) free; one_line = λ plain. padding_one_line r layout (is_end around.next) }
 
 -- the title's part of a group shows the title
 pub title_shown : (r : Renderer) (layout : Layout) (place : GroupPosition) (follows : Next) (title : Option Title)

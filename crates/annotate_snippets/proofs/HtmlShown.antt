@@ -1,11 +1,9 @@
 -- The grids of a report, printed as HTML, are its page as HTML; and the laws of that.
-use Rattle.std.proofs.Common.{◌≡◌, ℕ, suc, ◌+◌, ◌==◌, Bool, true, false, if◌then◌else◌, List, [], ◌∷◌, ◌++◌, All, Some, refl, sym, ap}
-use Rattle.std.proofs.Common.{◌∙◌, subst, arith, length, map, drop}
-use Rattle.std.specs.List.{enumerate_from, flat_map, join_with_byte, list_all, slice_get}
-use Rattle.std.proofs.Math.Nat.{zero-add}
+use Rattle.std.proofs.Common.{◌≡◌, ℕ, suc, ◌+◌, ◌==◌, Bool, true, false, if◌then◌else◌, List, [], ◌∷◌, ◌++◌, refl, sym, ap}
+use Rattle.std.proofs.Common.{◌∙◌, subst, arith, length, map}
+use Rattle.std.specs.List.{flat_map, join_with_byte, list_all}
 use Rattle.std.proofs.lemmas.Bool.Decides.{nat_tests}
 use Rattle.std.proofs.lemmas.List.{append_assoc, append-nil, length-map, take_all}
-use Rattle.std.proofs.lemmas.List.FromFn.{length-enumerate_from}
 use Rattle.std.proofs.lemmas.Grind.{flat_map-append}
 use Rattle.snippet_grid.proofs.HtmlLaws.{made-append, made_rows, rows_chars, says_rows}
 use Rattle.snippet_grid.proofs.HtmlLemmas.{adds_both}
@@ -15,81 +13,52 @@ use Rattle.snippet_grid.specs.HtmlRead.{ReadChar, chars_of_rows, chars_read, fee
 use Rattle.snippet_grid.specs.Print.{plain_text}
 use Rattle.snippet_model.specs.declared.snippet.Group.{Group}
 use Rattle.snippet_style.specs.declared.role.LevelInner.{LevelInner}
-use Rattle.annotate_snippets.specs.DrawnReport.{AreGridsOf}
 use Rattle.annotate_snippets.specs.GraphicForm.{graphic_form}
 use Rattle.annotate_snippets.specs.Html.{AddsGridHtml, HtmlLaws, further_chars, further_grids, further_groups, grids_html, page_chars, page_html, report_html}
 use Rattle.annotate_snippets.specs.Page.{GroupPage, Page, group_rows, page_text}
-use Rattle.annotate_snippets.specs.PreparedReport.{IsGroupDrawable}
 use Rattle.annotate_snippets.specs.ShownPage.{levels_of}
 use Rattle.annotate_snippets.specs.declared.renderer.Renderer.{Renderer}
 use Rattle.annotate_snippets.specs.declared.renderer.graphic.GroupGrid.{GroupGrid}
-use Rattle.annotate_snippets.proofs.GridRows.{GridsSoFar, grids_none}
-use Rattle.annotate_snippets.proofs.ReportLemmas.{IsGridShown, grid_shown, page_at}
+use Rattle.annotate_snippets.proofs.GridRows.{GridsSoFar, grids_none, page_count}
+use Rattle.annotate_snippets.proofs.LabelLemmas.{head_same, tail_same}
 
 -- ---- grids and the page
 
--- a further group and its grid
+-- a group and its grid
 one_group : (level : LevelInner) (g : GroupPage) (grid : GroupGrid) → grid.level ≡ level → grid.buffer ≡ group_rows g
     → rows_html grid.level grid.buffer ≡ rows_html level (group_rows g)
 one_group level g grid leveled rows =
     ap (λ l. rows_html l grid.buffer) leveled ∙ ap (rows_html level) rows
 
-module _ (r : Renderer) (groups : List Group) where
-  further_are : (n : ℕ) (gs : List Group) (grids : List GroupGrid) → map (λ (grid : GroupGrid). grid.level) grids ≡ levels_of gs
-      → ((i : ℕ) (g : Group) (grid : GroupGrid) → slice_get gs i ≡ Some g → slice_get grids i ≡ Some grid → IsGridShown r groups (n + i) g grid)
-      → further_grids grids ≡ further_groups (levels_of gs) (map (page_at r groups) (enumerate_from n gs))
-  further_are n [] [] levels shown = refl
-  further_are n [] (grid ∷ grids) levels shown = cc
-  further_are n (g ∷ gs) [] levels shown = cc
-  further_are n (g ∷ gs) (grid ∷ grids) levels shown =
-      let leveled : grid.level ≡ g.level = ap (first_level g.level) levels in
-      let rest : map (λ (d : GroupGrid). d.level) grids ≡ levels_of gs = ap (drop 1) levels in
-      let here : IsGridShown r groups n g grid = subst (λ k. IsGridShown r groups k g grid) (none_more n) (shown 0 g grid refl refl) in
-      let page : GroupPage = page_at r groups (n, g) in
-      let rows : grid.buffer ≡ group_rows page = here.rows_are ∙ ap group_rows here.value in
-      ap (λ (ps : List HtmlPiece). (Text 10 ∷ ps) ++ further_grids grids) (one_group g.level page grid leveled rows)
-      ∙ ap (λ (ps : List HtmlPiece). (Text 10 ∷ rows_html g.level (group_rows page)) ++ ps)
-      (further_are (n + 1) gs grids rest (λ i h other at there. subst (λ k. IsGridShown r groups k h other) (one_more n i) (shown (suc i) h other at there)))
-    where
-      first_level : LevelInner → List LevelInner → LevelInner
-      first_level default [] = default
-      first_level default (level ∷ levels) = level
+-- further groups and their grids
+further_are : (grids : List GroupGrid) (levels : List LevelInner) (page : Page) → map (λ (grid : GroupGrid). grid.level) grids ≡ levels
+    → map (λ (grid : GroupGrid). grid.buffer) grids ≡ map group_rows page → further_grids grids ≡ further_groups levels page
+further_are [] [] page leveled rows = refl
+further_are [] (level ∷ levels) page leveled rows = cc
+further_are (grid ∷ grids) [] page leveled rows = cc
+further_are (grid ∷ grids) (level ∷ levels) [] leveled rows = cc
+further_are (grid ∷ grids) (level ∷ levels) (g ∷ page) leveled rows =
+    let one = one_group level g grid (head_same grid.level level (map (λ (d : GroupGrid). d.level) grids) levels leveled)
+    (head_same grid.buffer (group_rows g) (map (λ (d : GroupGrid). d.buffer) grids) (map group_rows page) rows) in
+    ap (λ (ps : List HtmlPiece). (Text 10 ∷ ps) ++ further_grids grids) one
+    ∙ ap (λ (ps : List HtmlPiece). (Text 10 ∷ rows_html level (group_rows g)) ++ ps)
+    (further_are grids levels page (tail_same grid.level level (map (λ (d : GroupGrid). d.level) grids) levels leveled)
+    (tail_same grid.buffer (group_rows g) (map (λ (d : GroupGrid). d.buffer) grids) (map group_rows page) rows))
 
-      none_more : (m : ℕ) → m + 0 ≡ m
-      none_more m = omega arith
-
-      one_more : (m i : ℕ) → m + suc i ≡ m + 1 + i
-      one_more m i = omega arith
-
-  all_are : (gs : List Group) (grids : List GroupGrid) → map (λ (grid : GroupGrid). grid.level) grids ≡ levels_of gs
-      → ((i : ℕ) (g : Group) (grid : GroupGrid) → slice_get gs i ≡ Some g → slice_get grids i ≡ Some grid → IsGridShown r groups i g grid)
-      → grids_html grids ≡ page_html (levels_of gs) (map (page_at r groups) (enumerate_from 0 gs))
-  all_are [] [] levels shown = refl
-  all_are [] (grid ∷ grids) levels shown = cc
-  all_are (g ∷ gs) [] levels shown = cc
-  all_are (g ∷ gs) (grid ∷ grids) levels shown =
-      let leveled : grid.level ≡ g.level = ap (first_level g.level) levels in
-      let rest : map (λ (d : GroupGrid). d.level) grids ≡ levels_of gs = ap (drop 1) levels in
-      let here : IsGridShown r groups 0 g grid = shown 0 g grid refl refl in
-      let page : GroupPage = page_at r groups (0, g) in
-      let rows : grid.buffer ≡ group_rows page = here.rows_are ∙ ap group_rows here.value in
-      ap (λ (ps : List HtmlPiece). ps ++ further_grids grids) (one_group g.level page grid leveled rows)
-      ∙ ap (λ (ps : List HtmlPiece). rows_html g.level (group_rows page) ++ ps)
-      (further_are 1 gs grids rest (λ i h other at there. subst (λ k. IsGridShown r groups k h other) (one_more i) (shown (suc i) h other at there)))
-    where
-      first_level : LevelInner → List LevelInner → LevelInner
-      first_level default [] = default
-      first_level default (level ∷ levels) = level
-
-      one_more : (i : ℕ) → suc i ≡ 1 + i
-      one_more i = omega arith
-
--- the grids of a report are its page
-pub report_is : (r : Renderer) (groups : List Group) (grids : List GroupGrid) → All IsGroupDrawable groups → AreGridsOf r groups grids
-    → grids_html grids ≡ report_html r groups
-report_is r groups grids drawable are =
-    all_are r groups groups grids are.levels (λ i g grid at there. subst (λ k. IsGridShown r groups k g grid) (zero-add i)
-    (grid_shown r groups drawable i g grid at (are.each i g grid at there)))
+-- grids of these levels and rows are the page as HTML
+grids_are : (grids : List GroupGrid) (levels : List LevelInner) (page : Page) → map (λ (grid : GroupGrid). grid.level) grids ≡ levels
+    → map (λ (grid : GroupGrid). grid.buffer) grids ≡ map group_rows page → grids_html grids ≡ page_html levels page
+grids_are [] [] page leveled rows = refl
+grids_are [] (level ∷ levels) page leveled rows = cc
+grids_are (grid ∷ grids) [] page leveled rows = cc
+grids_are (grid ∷ grids) (level ∷ levels) [] leveled rows = cc
+grids_are (grid ∷ grids) (level ∷ levels) (g ∷ page) leveled rows =
+    let one = one_group level g grid (head_same grid.level level (map (λ (d : GroupGrid). d.level) grids) levels leveled)
+    (head_same grid.buffer (group_rows g) (map (λ (d : GroupGrid). d.buffer) grids) (map group_rows page) rows) in
+    ap (λ (ps : List HtmlPiece). ps ++ further_grids grids) one
+    ∙ ap (λ (ps : List HtmlPiece). rows_html level (group_rows g) ++ ps)
+    (further_are grids levels page (tail_same grid.level level (map (λ (d : GroupGrid). d.level) grids) levels leveled)
+    (tail_same grid.buffer (group_rows g) (map (λ (d : GroupGrid). d.buffer) grids) (map group_rows page) rows))
 
 -- ---- what is printed so far
 
@@ -101,7 +70,7 @@ pub record HtmlSoFar (r : Renderer) (groups : List Group) (n : ℕ) (text : List
 
 -- before the first group
 pub html_none : (r : Renderer) (groups : List Group) (text : List ℕ) → text ≡ [] → HtmlSoFar r groups 0 text
-html_none r groups text none = record { grids = []; so_far = grids_none r groups [] refl; html = none }
+html_none r groups text none = record { grids = []; so_far = grids_none r groups; html = none }
 
 -- one more grid
 grids_more : (grids : List GroupGrid) (grid : GroupGrid) (first : Bool) → first ≡ (length grids == 0)
@@ -135,14 +104,14 @@ html_more r groups n m grid first old new before is adds so_far =
     }
 
 -- after the last
-pub html_all : (r : Renderer) (groups : List Group) (n : ℕ) (text : List ℕ) → All IsGroupDrawable groups → n ≡ length groups → HtmlSoFar r groups n text
+pub html_all : (r : Renderer) (groups : List Group) (n : ℕ) (text : List ℕ) → n ≡ length groups → HtmlSoFar r groups n text
     → text ≡ html_bytes (report_html r groups)
-html_all r groups n text drawable all before =
-    let are : AreGridsOf r groups before.grids = record {
-      levels = before.so_far.levels ∙ ap (map (λ (g : Group). g.level)) (take_all n groups (omega (arith, all)));
-      each = before.so_far.each;
-    } in
-    before.html ∙ ap html_bytes (report_is r groups before.grids drawable are)
+html_all r groups n text all before =
+    let levels = levels_of groups in
+    let page = graphic_form r groups in
+    before.html ∙ ap html_bytes (grids_are before.grids levels page
+    (before.so_far.levels ∙ take_all n levels (omega (arith, all, length-map groups (λ (g : Group). g.level))))
+    (before.so_far.rows ∙ ap (map group_rows) (take_all n page (omega (arith, all, page_count r groups)))))
 
 -- a line feed between groups
 feed_is : html_bytes (Text 10 ∷ []) ≡ 10 ∷ []
@@ -216,7 +185,7 @@ html_laws r groups text is =
     let levels = levels_of groups in
     let page = graphic_form r groups in
     let same : length levels ≡ length page =
-    length-map groups (λ (g : Group). g.level) ∙ sym (length-map (enumerate_from 0 groups) (page_at r groups) ∙ length-enumerate_from 0 groups) in
+    length-map groups (λ (g : Group). g.level) ∙ sym (page_count r groups) in
     record {
       html = html_text (report_html r groups);
       text_is = is;

@@ -13,7 +13,7 @@ use Rattle.snippet_style.specs.declared.role.ElementStyle.TheVariants.{LineNumbe
 use Rattle.snippet_style.proofs.CellLemmas.{length-text_cells}
 use Rattle.snippet_grid.specs.Print.{row_text}
 use Rattle.snippet_model.specs.FreeRows.{HasNoNumber}
-use Rattle.snippet_strokes.specs.SourceRows.{IsSourceRow}
+use Rattle.snippet_strokes.proofs.LineFacts.{IsSourceRow}
 use Rattle.snippet_strokes.specs.StrokeRows.{IsElisionRow, bare_elision_row}
 use Rattle.snippet_grid.specs.Layout.{Layout}
 use Rattle.snippet_strokes.proofs.BegunLemmas.{same_front}

@@ -1,3 +1,4 @@
+pub mod AreTexts
 pub mod AroundLaws
 pub mod AsSetFaults
 pub mod AsSetLemmas
@@ -29,6 +30,7 @@ pub mod GutterLemmas
 pub mod HeadingFeedLaws
 pub mod HeadingShown
 pub mod HtmlShown
+pub mod InfoLines
 pub mod LabelLemmas
 pub mod LeftLaws
 pub mod LineFeedLaws
@@ -37,6 +39,7 @@ pub mod LineRowValues
 pub mod LineValue
 pub mod ListLemmas
 pub mod MarkLemmas
+pub mod NamedRows
 pub mod NotAround
 pub mod NotBarred
 pub mod NotDrawn

@@ -40,7 +40,7 @@ use Rattle.snippet_strokes.proofs.SeenRows.{AreSeen, IsStrokeRow, ShowsMarks}
 use Rattle.snippet_strokes.proofs.WholeLemmas.{window_cells-whole}
 use Rattle.snippet_strokes.proofs.WindowTextLemmas.{row_text-window_cells}
 use Rattle.snippet_strokes.specs.SourceRows.{window_cells}
-use Rattle.snippet_strokes.specs.Snippet as strokes
+use Rattle.snippet_strokes.proofs.LineFacts.{ShowsLine}
 use Rattle.snippet_strokes.specs.Bars.{Bar}
 use Rattle.snippet_grid.specs.Layout.{Layout}
 use Rattle.snippet_strokes.proofs.SnippetLemmas.{highlighted_left, highlighted_text}
@@ -165,7 +165,7 @@ module _ (r : Renderer) (layout : Layout) (s : Snippet Annotation)
     (room : margin.term_width ≡ room_of r layout) (bounds : bounds_of margin ≡ bounds_in r layout s)
     (ordered : (bounds_of margin).left ≤ (bounds_of margin).right) where
   abbrev row_shows : Bool → List Bar → AnnotatedLineInfo → List (List Cell) → Type 0
-  row_shows closes open_bars info rows = strokes.ShowsLine layout margin (line_numbers r s.line_numbering) closes open_bars info rows
+  row_shows closes open_bars info rows = ShowsLine layout margin (line_numbers r s.line_numbering) closes open_bars info rows
 
   abbrev placeholder_width : ℕ
   placeholder_width = length (placeholder_of layout.decor)

@@ -1,31 +1,41 @@
--- The rows of a line that is drawn are those that the graphic form has for it.
-use Rattle.std.proofs.Common.{◌≡◌, ℕ, ◌+◌, Bool, not, Option, None, Some, List, [], ◌∷◌, filter, map, refl, sym, ap, ◌∙◌}
+-- The rows of a line that painters promise are those that the graphic form has for it.
+use Rattle.std.proofs.Common.{◌≡◌, ℕ, ◌+◌, ◌==◌, ◌&&◌, Bool, true, false, cond, not, nat_lt, Option, None, Some, List, [], ◌∷◌, ◌++◌, chars, filter}
+use Rattle.std.proofs.Common.{length, map, refl, sym, ap, ◌∙◌, arith}
 use Rattle.std.specs.Borrow.{Bor}
 use Rattle.std.specs.Cow.{cow_str_bytes}
 use Rattle.std.specs.Option.{option_copied, option_map}
+use Rattle.std.proofs.lemmas.Bool.Decides.{nat_tests}
+use Rattle.std.proofs.lemmas.List.{length-map}
 use Rattle.snippet_model.specs.declared.snippet.Annotation.{Annotation}
 use Rattle.snippet_model.specs.declared.snippet.Snippet.{Snippet}
 use Rattle.snippet_style.specs.Cell.{Cell}
 use Rattle.snippet_text.specs.Normalized.{norm}
 use Rattle.snippet_text.specs.Width.{width_of}
-use Rattle.snippet_parts.specs.Annotated.{PartEntry, seen_part}
+use Rattle.snippet_lines.specs.Number.{shown_number}
+use Rattle.snippet_lines.specs.declared.number.LineNumbers.{LineNumbers}
+use Rattle.snippet_parts.specs.Annotated.{KeptLine, PartEntry, kept_line, seen_kept, seen_part}
 use Rattle.snippet_window.specs.Margin.{Bounds, bounds_of}
 use Rattle.snippet_window.specs.Window.{chars_at, dropped_part}
+use Rattle.snippet_parts.specs.declared.entries.AnnotatedLineInfo.{AnnotatedLineInfo}
 use Rattle.snippet_parts.specs.declared.entries.LineAnnotation.{LineAnnotation}
 use Rattle.snippet_window.specs.declared.margin.Margin.{Margin}
 use Rattle.snippet_parts.proofs.ShownLemmas.{filter-map}
 use Rattle.snippet_labels.specs.PlacedEntries.{is_end_part, plain_entry}
 use Rattle.snippet_strokes.specs.SourceRows.{source_row, window_cells}
-use Rattle.snippet_strokes.specs.Bars.{Bar}
+use Rattle.snippet_strokes.specs.Bars.{Bar, open_below, open_past}
 use Rattle.snippet_strokes.specs.LineRows.{line_rows}
+use Rattle.snippet_strokes.specs.Snippet.{gap_row, gap_rows, info_rows, infos_rows, shown_rows}
 use Rattle.snippet_strokes.specs.StrokeRows.{highlighted_row}
-use Rattle.snippet_strokes.proofs.LineValueLaws.{highlighted_is, highlighted_row-plain, line_rows-plain, line_rows_are}
+use Rattle.snippet_strokes.specs.declared.snippet.LineView.{LineView}
+use Rattle.snippet_strokes.proofs.LineValueLaws.{highlighted_row-plain, line_rows-plain}
 use Rattle.annotate_snippets.specs.declared.renderer.Renderer.{Renderer}
 use Rattle.snippet_grid.specs.Layout.{Layout}
-use Rattle.annotate_snippets.specs.GraphicForm.{entries_on, lent, line_entry, margin_in, rows_of_line}
-use Rattle.annotate_snippets.specs.Gutter.{number_text}
-use Rattle.annotate_snippets.proofs.DrawnRows.{IsLineDrawn}
-use Rattle.annotate_snippets.specs.GraphicForm.{bounds_in, room_of}
+use Rattle.annotate_snippets.specs.GraphicForm.{bars_on, entries_on, gap_below, lent, line_entry, margin_in, named_line, rows_of_line, rows_of_lines}
+use Rattle.annotate_snippets.specs.Gutter.{line_numbers, number_text, numbered_source}
+use Rattle.annotate_snippets.specs.Page.{Elision, NamedRow, cells_of}
+use Rattle.annotate_snippets.proofs.DrawnLines.{bars_seen}
+use Rattle.annotate_snippets.proofs.LabelLemmas.{head_same, tail_same}
+use Rattle.annotate_snippets.proofs.NamedRows.{cells_of-append, cells_of-line}
 
 -- a label that is lent from nowhere has the text of the one that was lent
 same_label : (label : Option (Bor (List ℕ))) → option_map lent (option_copied label) ≡ option_map (λ t. lent t.now) label
@@ -54,49 +64,91 @@ abbrev margin_at : ℕ → Bounds → Margin
 margin_at room bounds = record { computed_left = bounds.left; computed_right = bounds.right; term_width = room }
 
 -- the only margin of a room and bounds
-one_margin : (m : Margin) (room : ℕ) (bounds : Bounds) → m.term_width ≡ room → bounds_of m ≡ bounds → m ≡ margin_at room bounds
+pub one_margin : (m : Margin) (room : ℕ) (bounds : Bounds) → m.term_width ≡ room → bounds_of m ≡ bounds → m ≡ margin_at room bounds
 one_margin m room bounds room_is bounds_are =
     ap (margin_at m.term_width) bounds_are ∙ ap (λ w. margin_at w bounds) room_is
 
-module _ (r : Renderer) (layout : Layout) (closes : Bool) (s : Snippet Annotation) (open_bars : List Bar) (k : ℕ) where
-  -- whether an entry highlights the source
-  abbrev colours : LineAnnotation → Bool
-  colours e = not (is_end_part e.annotation_type)
+-- the rows of a line don't depend on where labels stand in memory
+rows_plain : (layout : Layout) (margin : Margin) (closes : Bool) (open_bars : List Bar) (number text : List ℕ) (es : List LineAnnotation)
+    → shown_rows layout margin closes open_bars number text (map plain_entry es) ≡ shown_rows layout margin closes open_bars number text es
+rows_plain layout margin closes open_bars number text es =
+    let colours : LineAnnotation → Bool = λ e. not (is_end_part e.annotation_type) in
+    let dropped : ℕ = width_of (dropped_part (bounds_of margin).left text) in
+    let source : List Cell = source_row layout number (window_cells layout.decor margin text) in
+    let Rows : List LineAnnotation → List Cell → List (List Cell) = λ xs row. line_rows layout margin.term_width closes text dropped open_bars xs row in
+    ap (λ xs. Rows (map plain_entry es) (highlighted_row layout.code dropped xs source)) (filter-map colours plain_entry es)
+    ∙ ap (Rows (map plain_entry es)) (highlighted_row-plain layout.code dropped (filter colours es) source)
+    ∙ line_rows-plain layout margin.term_width closes text dropped open_bars es (highlighted_row layout.code dropped (filter colours es) source)
 
-  -- the rows that entries make of a text in a margin, of which so many columns are dropped
-  abbrev made : Margin → List ℕ → ℕ → List LineAnnotation → List (List Cell)
-  made margin text dropped es =
-      line_rows layout margin.term_width closes text dropped open_bars es
-      (highlighted_row layout.code dropped (filter colours es)
-      (source_row layout (number_text r s.line_numbering layout.gutter (s.line_start + k)) (window_cells layout.decor margin text)))
-
-  -- they don't depend on where labels stand in memory
-  made_plain : (margin : Margin) (text : List ℕ) (dropped : ℕ) (es : List LineAnnotation)
-      → made margin text dropped (map plain_entry es) ≡ made margin text dropped es
-  made_plain margin text dropped es =
-      let source : List Cell = source_row layout (number_text r s.line_numbering layout.gutter (s.line_start + k)) (window_cells layout.decor margin text) in
-      let Rows : List LineAnnotation → List Cell → List (List Cell) = λ xs row. line_rows layout margin.term_width closes text dropped open_bars xs row in
-      ap (λ xs. Rows (map plain_entry es) (highlighted_row layout.code dropped xs source)) (filter-map colours plain_entry es)
-      ∙ ap (Rows (map plain_entry es)) (highlighted_row-plain layout.code dropped (filter colours es) source)
-      ∙ line_rows-plain layout margin.term_width closes text dropped open_bars es (highlighted_row layout.code dropped (filter colours es) source)
-
-  -- the columns that are dropped from a text in a margin
-  abbrev dropped_in : Margin → List ℕ → ℕ
-  dropped_in margin text = width_of (dropped_part (bounds_of margin).left text)
-
-  -- rows that are drawn for a line are the form's
-  pub line_value : (rows : List (List Cell)) → IsLineDrawn r layout closes s open_bars k rows → rows ≡ rows_of_line r layout closes s open_bars k
-  line_value rows line =
+module _ (r : Renderer) (layout : Layout) (s : Snippet Annotation) where
+  -- the rows of a line that is seen as line k are the form's
+  line_value : (closes : Bool) (open_bars : List Bar) (k : ℕ) (info : AnnotatedLineInfo) → seen_kept info ≡ kept_line (numbered_source s) s.markers.items k
+      → shown_rows layout (margin_in r layout s) closes open_bars (shown_number (line_numbers r s.line_numbering) layout.gutter info.line_index)
+      (norm (chars info.line.now)) info.annotations.items ≡ rows_of_line r layout closes s open_bars k
+  line_value closes open_bars k info seen =
+      let margin : Margin = margin_in r layout s in
+      let es : List LineAnnotation = info.annotations.items in
       let entries : List LineAnnotation = map line_entry (entries_on s k) in
-      let entries_are : map plain_entry line.entries ≡ entries = sym (plain_parts line.entries) ∙ ap (map line_entry) line.are in
-      let margin_is : line.margin ≡ margin_in r layout s = one_margin line.margin (room_of r layout) (bounds_in r layout s) line.room line.bounds in
-      let source_is = highlighted_is layout.code line.dropped (filter colours line.entries) line.plain line.highlighted line.highlights
-      ∙ ap (highlighted_row layout.code line.dropped (filter colours line.entries)) line.shows.is in
-      line_rows_are layout line.margin.term_width closes line.text line.dropped open_bars line.entries line.highlighted rows line.drawn
-      ∙ ap (line_rows layout line.margin.term_width closes line.text line.dropped open_bars line.entries) source_is
-      ∙ sym (made_plain line.margin line.text line.dropped line.entries)
-      ∙ ap (made line.margin line.text line.dropped) entries_are
-      ∙ ap (λ d. made line.margin line.text d entries) line.dropped_is
-      ∙ ap (λ text. made line.margin text (dropped_in line.margin text) entries) line.text_is
-      ∙ ap (λ margin. made margin (norm (chars_at (cow_str_bytes s.source) k))
-      (dropped_in margin (norm (chars_at (cow_str_bytes s.source) k))) entries) margin_is
+      let number : List ℕ = number_text r s.line_numbering layout.gutter (s.line_start + k) in
+      let text : List ℕ = norm (chars_at (cow_str_bytes s.source) k) in
+      let entries_are : map plain_entry es ≡ entries = sym (plain_parts es) ∙ ap (λ (l : KeptLine). map line_entry l.parts) seen in
+      ap (λ (l : KeptLine). shown_rows layout margin closes open_bars (shown_number (line_numbers r s.line_numbering) layout.gutter l.number)
+      (norm (chars l.text)) es) seen
+      ∙ sym (rows_plain layout margin closes open_bars number text es) ∙ ap (shown_rows layout margin closes open_bars number text) entries_are
+
+  -- the row between two lines is that of the form
+  gap_value : (open_bars : List Bar) (j : ℕ) (info : AnnotatedLineInfo) (ks : List ℕ) (infos : List AnnotatedLineInfo)
+      → seen_kept info ≡ kept_line (numbered_source s) s.markers.items j → map seen_kept infos ≡ map (kept_line (numbered_source s) s.markers.items) ks
+      → gap_rows layout open_bars info.line_index infos ≡ cells_of (gap_below r layout open_bars j ks)
+  gap_value open_bars j info [] [] here same = refl
+  gap_value open_bars j info [] (next ∷ infos) here same = cc
+  gap_value open_bars j info (k ∷ ks) [] here same = cc
+  gap_value open_bars j info (k ∷ ks) (next ∷ infos) here same =
+      let there : seen_kept next ≡ kept_line (numbered_source s) s.markers.items k = head_same (seen_kept next)
+      (kept_line (numbered_source s) s.markers.items k) (map seen_kept infos) (map (kept_line (numbered_source s) s.markers.items) ks) same in
+      let own : info.line_index ≡ s.line_start + j = ap (λ (l : KeptLine). l.number) here in
+      let its : next.line_index ≡ s.line_start + k = ap (λ (l : KeptLine). l.number) there in
+      let far : nat_lt (info.line_index + 1) next.line_index ≡ nat_lt (j + 1) k = ap (λ n. nat_lt (n + 1) next.line_index) own
+      ∙ ap (nat_lt (s.line_start + j + 1)) its ∙ shifted s.line_start j k in
+      ap (λ b. cond b (gap_row layout open_bars ∷ []) []) far ∙ either (nat_lt (j + 1) k)
+    where
+      shifted : (by m n : ℕ) → nat_lt (by + m + 1) (by + n) ≡ nat_lt (m + 1) n
+      shifted by m n = grind (arith, nat_tests)
+
+      either : (b : Bool) → cond b (gap_row layout open_bars ∷ []) []
+          ≡ cells_of (cond b (record { name = Elision; cells = gap_row layout open_bars } ∷ []) [])
+      either true = refl
+      either false = refl
+
+  -- so the rows of lines that are seen as these are the form's
+  pub lines_value : (view : LineView) → view.margin ≡ margin_in r layout s → view.numbers ≡ line_numbers r s.line_numbering → (open_bars : List Bar)
+      (ks : List ℕ) (infos : List AnnotatedLineInfo) → map seen_kept infos ≡ map (kept_line (numbered_source s) s.markers.items) ks
+      → infos_rows layout view open_bars infos ≡ cells_of (rows_of_lines r layout view.closes s open_bars ks)
+  lines_value view margin numbers open_bars [] [] same = refl
+  lines_value view margin numbers open_bars [] (info ∷ infos) same = cc
+  lines_value view margin numbers open_bars (k ∷ ks) [] same = cc
+  lines_value view margin numbers open_bars (k ∷ ks) (info ∷ infos) same =
+      let line_of : ℕ → KeptLine = kept_line (numbered_source s) s.markers.items in
+      let here : seen_kept info ≡ line_of k = head_same (seen_kept info) (line_of k) (map seen_kept infos) (map line_of ks) same in
+      let further : map seen_kept infos ≡ map line_of ks = tail_same (seen_kept info) (line_of k) (map seen_kept infos) (map line_of ks) same in
+      let es : List LineAnnotation = info.annotations.items in
+      let past : List Bar = open_past open_bars (bars_on s k) in
+      let past_is : open_below open_bars es ≡ past = ap (open_past open_bars) (bars_seen s k es (ap (λ (l : KeptLine). l.parts) here)) in
+      let last : Bool = view.closes && length infos == 0 in
+      let closes : Bool = view.closes && length ks == 0 in
+      let last_is : last ≡ closes = ap (λ n. view.closes && n == 0)
+      (sym (length-map infos seen_kept) ∙ ap length further ∙ length-map ks line_of) in
+      let text : List ℕ = norm (chars info.line.now) in
+      let own : info_rows layout (record view { closes = last }) open_bars info ≡ rows_of_line r layout closes s open_bars k =
+      ap (λ (m : Margin). shown_rows layout m last open_bars (shown_number view.numbers layout.gutter info.line_index) text es) margin
+      ∙ ap (λ (n : LineNumbers). shown_rows layout (margin_in r layout s) last open_bars (shown_number n layout.gutter info.line_index) text es) numbers
+      ∙ line_value last open_bars k info here ∙ ap (λ b. rows_of_line r layout b s open_bars k) last_is in
+      let first : List NamedRow = named_line k (rows_of_line r layout closes s open_bars k) in
+      let gap : List NamedRow = gap_below r layout past k ks in
+      let rest : List NamedRow = rows_of_lines r layout view.closes s past ks in
+      ap (λ rows. rows ++ (gap_rows layout (open_below open_bars es) info.line_index infos ++ infos_rows layout view (open_below open_bars es) infos)) own
+      ∙ ap (λ bars. rows_of_line r layout closes s open_bars k ++ (gap_rows layout bars info.line_index infos ++ infos_rows layout view bars infos)) past_is
+      ∙ ap (λ rows. rows_of_line r layout closes s open_bars k ++ (rows ++ infos_rows layout view past infos)) (gap_value past k info ks infos here further)
+      ∙ ap (λ rows. rows_of_line r layout closes s open_bars k ++ (cells_of gap ++ rows)) (lines_value view margin numbers past ks infos further)
+      ∙ sym (cells_of-append first (gap ++ rest) ∙ ap (λ rows. rows ++ cells_of (gap ++ rest)) (cells_of-line k (rows_of_line r layout closes s open_bars k))
+      ∙ ap (λ rows. rows_of_line r layout closes s open_bars k ++ rows) (cells_of-append gap rest))

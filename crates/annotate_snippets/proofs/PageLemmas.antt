@@ -1,59 +1,47 @@
 -- The rows of an annotated snippet's lines, with their names.
-use Rattle.std.proofs.Common.{◌≡◌, ℕ, suc, ◌+◌, ◌<◌, ◌≤◌, ◌==◌, ◌&&◌, ltb, Bool, true, false, cond, List, [], ◌∷◌, ◌++◌, map, length, refl, sym, ap, subst, ◌∙◌}
-use Rattle.std.proofs.Common.{arith, inl, inr}
+use Rattle.std.proofs.Common.{◌≡◌, ℕ, suc, ◌+◌, ◌<◌, ◌≤◌, ◌==◌, ◌&&◌, nat_lt, Bool, true, false, cond, List, [], ◌∷◌, ◌++◌, map, length, refl, sym, ap}
+use Rattle.std.proofs.Common.{◌∙◌, arith, subst}
 use Rattle.std.specs.List.{All}
 use Rattle.std.specs.Cow.{cow_str_bytes}
-use Rattle.std.proofs.lemmas.Bool.{le-ltb, lt-ltb}
 use Rattle.std.proofs.lemmas.Bool.Decides.{nat_tests}
-use Rattle.std.proofs.lemmas.List.{append_assoc, length-append, length-map, map-append}
+use Rattle.std.proofs.lemmas.List.{length-append, length-map}
 use Rattle.std.proofs.lemmas.List.Elements.{All-head, All-tail}
 use Rattle.snippet_model.specs.declared.snippet.Annotation.{Annotation}
 use Rattle.snippet_model.specs.declared.snippet.Snippet.{Snippet}
 use Rattle.snippet_grid.specs.Grid.{row_at}
+use Rattle.snippet_grid.specs.Layout.{Layout}
 use Rattle.snippet_style.specs.Cell.{Cell}
 use Rattle.snippet_parts.specs.declared.entries.AnnotatedLineInfo.{AnnotatedLineInfo}
 use Rattle.snippet_window.specs.declared.margin.Margin.{Margin}
 use Rattle.snippet_parts.specs.Annotated.{KeptLine, kept_line, seen_kept}
 use Rattle.snippet_lines.specs.Lines.{source_lines}
-use Rattle.snippet_window.specs.Margin.{bounds_of}
-use Rattle.snippet_lines.specs.Span.{IsSpan}
 use Rattle.snippet_lines.specs.Number.{shown_number}
+use Rattle.snippet_lines.specs.Span.{IsSpan}
+use Rattle.snippet_window.specs.Margin.{bounds_of}
 use Rattle.snippet_labels.specs.PlacedEntries.{shifted}
 use Rattle.snippet_strokes.specs.Bars.{Bar, HasBarRoom, open_below, open_past}
-use Rattle.snippet_strokes.specs.Drawable.{AreDrawable}
+use Rattle.snippet_strokes.specs.Snippet.{gap_row}
+use Rattle.snippet_strokes.specs.StrokeRows.{IsElisionRow}
+use Rattle.snippet_strokes.specs.declared.snippet.LineView.{LineView}
+use Rattle.snippet_strokes.proofs.ElisionLemmas.{gap_drawn}
+use Rattle.snippet_strokes.proofs.LineFacts.{CanBeShown, ShowsLine}
+use Rattle.snippet_strokes.proofs.LineFromValue.{info_rows_show}
 use Rattle.snippet_strokes.proofs.OpenLemmas.{room_below}
 use Rattle.snippet_strokes.proofs.SeenLines.{line_seen}
 use Rattle.snippet_strokes.proofs.SeenRows.{AreSeen}
-use Rattle.snippet_strokes.specs.Snippet as strokes
-use Rattle.snippet_strokes.specs.Snippet.{gap_row}
 use Rattle.annotate_snippets.specs.declared.renderer.Renderer.{Renderer}
-use Rattle.snippet_grid.specs.Layout.{Layout}
-use Rattle.annotate_snippets.specs.GraphicForm.{bars_on, gap_below, named_line, rows_of_line, rows_of_lines}
+use Rattle.annotate_snippets.specs.GraphicForm.{bars_on, gap_below, margin_in, named_line, rows_of_line, rows_of_lines}
 use Rattle.annotate_snippets.specs.Gutter.{line_numbers, numbered_source}
-use Rattle.annotate_snippets.proofs.DrawnRows.{AreRowsDrawn, IsLineDrawn}
-use Rattle.annotate_snippets.specs.Page.{SourceRow, Elision, Other, NamedRow, lines_named, cells_of, others, rows_below}
+use Rattle.annotate_snippets.specs.Page.{Elision, NamedRow, Other, SourceRow, cells_of, lines_named, others, rows_below}
 use Rattle.annotate_snippets.specs.Laws.Snippets.{AreRowsOf, ShowsLineAndMarks}
 use Rattle.annotate_snippets.specs.Laws.Lines.{IsRowBelow}
 use Rattle.annotate_snippets.specs.Laws.Labels.{ShowsLabels}
 use Rattle.annotate_snippets.specs.Laws.Marks.{ShowsMarksOf}
-use Rattle.annotate_snippets.specs.GraphicForm.{bounds_in, room_of}
 use Rattle.annotate_snippets.proofs.DrawnLines.{bars_seen, line_drawn}
-use Rattle.annotate_snippets.proofs.LineValue.{line_value}
+use Rattle.annotate_snippets.proofs.DrawnRows.{AreRowsDrawn, IsLineDrawn}
+use Rattle.annotate_snippets.proofs.InfoLines.{IsReadyLine, info_at, seen_at}
 use Rattle.annotate_snippets.proofs.LineLemmas.{labels_of_line, marks_of_line, marks_there, row_below, source_line}
-use Rattle.annotate_snippets.proofs.LabelLemmas.{head_same, tail_same}
-
--- rows that aren't named by a line
-pub cells_of-others : (rows : List (List Cell)) → cells_of (others rows) ≡ rows
-cells_of-others [] = refl
-cells_of-others (row ∷ rows) = ap (λ rs. row ∷ rs) (cells_of-others rows)
-
-lines_named-others : (rows : List (List Cell)) (more : List NamedRow) → lines_named (others rows ++ more) ≡ lines_named more
-lines_named-others [] more = refl
-lines_named-others (row ∷ rows) more = lines_named-others rows more
-
--- the cells of rows one after the other are those of both
-pub cells_of-append : (xs ys : List NamedRow) → cells_of (xs ++ ys) ≡ cells_of xs ++ cells_of ys
-cells_of-append xs ys = map-append (λ (row : NamedRow). row.cells) xs ys
+use Rattle.annotate_snippets.proofs.NamedRows.{lines_named-others}
 
 -- the first row below, where there is one
 below-first : (below : List (List Cell)) (more : List NamedRow) → 0 < length below → row_at (cells_of (others below ++ more)) 0 ≡ row_at below 0
@@ -70,11 +58,14 @@ some_more : (m n : ℕ) → (suc m == 0) ≡ (suc n == 0)
 some_more m n = grind (arith, nat_tests)
 
 module _ (r : Renderer) (layout : Layout) (s : Snippet Annotation)
-    (spans : All (λ a. IsSpan (cow_str_bytes s.source) a.span.start a.span.end) s.markers.items) (margin : Margin)
-    (room : margin.term_width ≡ room_of r layout) (bounds : bounds_of margin ≡ bounds_in r layout s)
-    (ordered : (bounds_of margin).left ≤ (bounds_of margin).right) (place : layout.gutter + 3 ≤ layout.code) (closes : Bool) where
+    (spans : All (λ a. IsSpan (cow_str_bytes s.source) a.span.start a.span.end) s.markers.items)
+    (ordered : (bounds_of (margin_in r layout s)).left ≤ (bounds_of (margin_in r layout s)).right) (place : layout.gutter + 3 ≤ layout.code)
+    (closes : Bool) where
   abbrev own_lines : ℕ
   own_lines = length (source_lines (cow_str_bytes s.source))
+
+  abbrev margin : Margin
+  margin = margin_in r layout s
 
   abbrev line_of_snippet : ℕ → KeptLine
   line_of_snippet k = kept_line (numbered_source s) s.markers.items k
@@ -82,26 +73,23 @@ module _ (r : Renderer) (layout : Layout) (s : Snippet Annotation)
   abbrev NumberFits : AnnotatedLineInfo → Type 0
   NumberFits info = length (shown_number (line_numbers r s.line_numbering) layout.gutter info.line_index) ≤ layout.gutter + 1
 
-  abbrev EntriesFit : AnnotatedLineInfo → Type 0
-  EntriesFit info = AreDrawable layout info.annotations.items
-
   -- the rows of a line show it, with the marks below
   line_and_marks : (last : Bool) (open_bars : List Bar) (k : ℕ) (info : AnnotatedLineInfo) (rows : List (List Cell)) (more : List NamedRow)
       → k < own_lines → seen_kept info ≡ line_of_snippet k → NumberFits info
-      → (line : strokes.ShowsLine layout margin (line_numbers r s.line_numbering) last open_bars info rows)
+      → (line : ShowsLine layout margin (line_numbers r s.line_numbering) last open_bars info rows)
       → (shows : AreSeen layout margin.term_width (map (shifted line.dropped) info.annotations.items) last line.highlighted rows)
       → rows_below more ≡ []
       → ShowsLineAndMarks r layout s k shows.source (row_at (cells_of (others shows.below ++ more)) 0) (rows_below (others shows.below ++ more))
   line_and_marks last open_bars k info rows more within seen fits line shows ends =
       record {
         dropped = line.dropped;
-        line = source_line r layout s spans margin room bounds ordered last open_bars k info rows within seen fits line shows place;
+        line = source_line r layout s spans margin refl refl ordered last open_bars k info rows within seen fits line shows place;
         marks = λ qualifies. subst (λ row. ShowsMarksOf layout.decor layout s k line.dropped row)
             (sym (below-first shows.below more
-            (marks_there r layout s spans margin room bounds ordered last open_bars k info rows within seen fits line shows qualifies)))
-            (marks_of_line r layout s spans margin room bounds ordered last open_bars k info rows within seen fits line shows qualifies);
+            (marks_there r layout s spans margin refl refl ordered last open_bars k info rows within seen fits line shows qualifies)))
+            (marks_of_line r layout s spans margin refl refl ordered last open_bars k info rows within seen fits line shows qualifies);
         labels = λ uncut. subst (λ lower. ShowsLabels layout.decor layout s k line.dropped lower) (sym (below-own shows.below more ends))
-            (labels_of_line r layout s spans margin room bounds ordered last open_bars k info rows within seen fits line shows uncut);
+            (labels_of_line r layout s spans margin refl refl ordered last open_bars k info rows within seen fits line shows uncut);
       }
 
   -- rows below a line, with the last of which the window closes where no row stands after
@@ -129,79 +117,37 @@ module _ (r : Renderer) (layout : Layout) (s : Snippet Annotation)
       with_last (x ∷ xs) = grind (arith, nat_tests)
 
   -- rows with names: those that show these lines, and the others below them
-  pub record AreNamed (open_bars : List Bar) (ks : List ℕ) (rows : List (List Cell)) : Type 0 where
-    pub part : List NamedRow
-    pub cells : cells_of part ≡ rows
+  pub record AreNamed (open_bars : List Bar) (ks : List ℕ) (part : List NamedRow) : Type 0 where
     pub lines : lines_named part ≡ ks
     pub are : AreRowsOf r layout closes s part
     pub ends : (length part == 0) ≡ (length ks == 0)
     pub begins : rows_below part ≡ []
     pub drawn : AreRowsDrawn r layout closes s open_bars part
-    pub value : part ≡ rows_of_lines r layout closes s open_bars ks
 
-  -- the rows between a line and the next: one where lines are left out
-  pub record IsGapNamed (open_bars : List Bar) (j : ℕ) (ks : List ℕ) (rows : List (List Cell)) : Type 0 where
-    pub gap : List NamedRow
-    pub cells : cells_of gap ≡ rows
-    pub lines : (more : List NamedRow) → lines_named (gap ++ more) ≡ lines_named more
-    pub are : (more : List NamedRow) → AreRowsOf r layout closes s more → AreRowsOf r layout closes s (gap ++ more)
-    pub ends : (more : List NamedRow) → (length more == 0) ≡ (length ks == 0) → (length (gap ++ more) == 0) ≡ (length ks == 0)
-    pub begins : (more : List NamedRow) → rows_below more ≡ [] → rows_below (gap ++ more) ≡ []
-    pub drawn : (more : List NamedRow) → rows_below more ≡ [] → AreRowsDrawn r layout closes s open_bars more
-        → AreRowsDrawn r layout closes s open_bars (gap ++ more)
-    pub value : gap ≡ gap_below r layout open_bars j ks
+  -- the rows between a line and the next, above such rows: one where lines are left out
+  record IsGapNamed (open_bars : List Bar) (ks : List ℕ) (gap more : List NamedRow) : Type 0 where
+    pub lines : lines_named (gap ++ more) ≡ lines_named more
+    pub are : AreRowsOf r layout closes s (gap ++ more)
+    pub ends : (length (gap ++ more) == 0) ≡ (length ks == 0)
+    pub begins : rows_below (gap ++ more) ≡ []
+    pub drawn : AreRowsDrawn r layout closes s open_bars (gap ++ more)
 
-  -- a row in place of lines
-  abbrev gap_of : List Cell → List NamedRow
-  gap_of cells = record { name = Elision; cells = cells } ∷ []
-
-  gap_named : (open_bars : List Bar) (j : ℕ) (ks : List ℕ) (info : AnnotatedLineInfo) (infos : List AnnotatedLineInfo) (rows : List (List Cell))
-      → seen_kept info ≡ line_of_snippet j → map seen_kept infos ≡ map line_of_snippet ks
-      → strokes.IsGap layout open_bars info.line_index infos rows → IsGapNamed open_bars j ks rows
-  gap_named open_bars j [] info [] rows here lines gap =
-      record {
-        gap = [];
-        cells = sym gap;
-        lines = λ more. refl;
-        are = λ more are.
-            are;
-        ends = λ more same. same;
-        begins = λ more none. none;
-        drawn = λ more none drawn. drawn;
-        value = refl;
-      }
-  gap_named open_bars j [] info (next ∷ infos) rows here lines gap = cc
-  gap_named open_bars j (k ∷ ks) info [] rows here lines gap = cc
-  gap_named open_bars j (k ∷ ks) info (next ∷ infos) rows here lines gap =
-      let there : seen_kept next ≡ line_of_snippet k = head_same (seen_kept next) (line_of_snippet k) (map seen_kept infos) (map line_of_snippet ks) lines in
-      let own : info.line_index ≡ s.line_start + j = ap (λ (l : KeptLine). l.number) here in
-      let its : next.line_index ≡ s.line_start + k = ap (λ (l : KeptLine). l.number) there in
-      elim gap [
-        | inl left_out ↦
-            let row : NamedRow = record { name = Elision; cells = left_out.1 } in
-            let far : ltb (j + 1) k ≡ true = lt-ltb (j + 1) k (omega (arith, own, its, left_out.0)) in
-            record {
-              gap = row ∷ [];
-              cells = sym left_out.2;
-              lines = λ more. refl;
-              are = λ more are. (left_out.3, are);
-              ends = λ more same. some_more (length more) (length ks);
-              begins = λ more none. refl;
-              drawn = λ more none drawn. ((left_out.4, none), drawn);
-              value = ap gap_of left_out.4 ∙ sym (ap (λ b. cond b (gap_of (gap_row layout open_bars)) []) far);
-            }
-        | inr next_to ↦
-            let near : ltb (j + 1) k ≡ false = le-ltb (j + 1) k (omega (arith, own, its, next_to.0)) in
-            record {
-              gap = [];
-              cells = sym next_to.1;
-              lines = λ more. refl;
-              are = λ more are. are;
-              ends = λ more same. same;
-              begins = λ more none. none;
-              drawn = λ more none drawn. drawn;
-              value = sym (ap (λ b. cond b (gap_of (gap_row layout open_bars)) []) near);
-            }
+  gap_named : (open_bars : List Bar) (j : ℕ) (ks : List ℕ) (more : List NamedRow) → All (HasBarRoom layout) open_bars → AreNamed open_bars ks more
+      → IsGapNamed open_bars ks (gap_below r layout open_bars j ks) more
+  gap_named open_bars j [] more bars rest =
+      record { lines = refl; are = rest.are; ends = rest.ends; begins = rest.begins; drawn = rest.drawn }
+  gap_named open_bars j (k ∷ ks) more bars rest =
+      let row : NamedRow = record { name = Elision; cells = gap_row layout open_bars } in
+      let is : IsElisionRow layout row.cells = gap_drawn layout open_bars place bars in
+      elim (nat_lt (j + 1) k) as (λ b. IsGapNamed open_bars (k ∷ ks) (cond b (row ∷ []) []) more) [
+        | true ↦ record {
+          lines = refl;
+          are = (is, rest.are);
+          ends = some_more (length more) (length ks);
+          begins = refl;
+          drawn = ((refl, rest.begins), rest.drawn);
+        }
+        | false ↦ record { lines = refl; are = rest.are; ends = rest.ends; begins = rest.begins; drawn = rest.drawn }
       ]
 
   -- the bars that are open below a line are those that its spans leave open
@@ -227,68 +173,50 @@ module _ (r : Renderer) (layout : Layout) (s : Snippet Annotation)
       same_long : (m n all : ℕ) → all ≡ m + n → (m == all) ≡ (n == 0)
       same_long m n all is = grind (arith, nat_tests, is)
 
-  -- as many lines are left as there are entries of lines
-  none_left : (ks : List ℕ) (infos : List AnnotatedLineInfo) → map seen_kept infos ≡ map line_of_snippet ks → (length ks == 0) ≡ (length infos == 0)
-  none_left ks infos same =
-      ap (λ n. n == 0) (sym (length-map ks line_of_snippet) ∙ sym (ap length same) ∙ length-map infos seen_kept)
-
-  -- the rows of kept lines have the names of their lines
-  pub named_lines : (open_bars : List Bar) (ks : List ℕ) (infos : List AnnotatedLineInfo) (rows : List (List Cell)) → All (λ k. k < own_lines) ks
-      → map seen_kept infos ≡ map line_of_snippet ks → All NumberFits infos → All EntriesFit infos → All (HasBarRoom layout) open_bars
-      → strokes.AreLinesShown layout margin (line_numbers r s.line_numbering) closes open_bars infos rows → AreNamed open_bars ks rows
-  named_lines open_bars [] [] rows within lines fit entries bars shown = record
-      { part = []; cells = sym shown; lines = refl; are = tt; ends = refl; begins = refl; drawn = tt; value = refl }
-  named_lines open_bars [] (info ∷ infos) rows within lines fit entries bars shown = cc
-  named_lines open_bars (k ∷ ks) [] rows within lines fit entries bars shown = cc
-  named_lines open_bars (k ∷ ks) (info ∷ infos) rows within lines fit entries bars shown =
-      let here = head_same (seen_kept info) (line_of_snippet k) (map seen_kept infos) (map line_of_snippet ks) lines in
-      let further = tail_same (seen_kept info) (line_of_snippet k) (map seen_kept infos) (map line_of_snippet ks) lines in
-      let open_now : List Bar = open_below open_bars info.annotations.items in
-      let own_entries : AreDrawable layout info.annotations.items = All-head EntriesFit info infos entries in
-      let rest : AreNamed open_now ks shown.2 = named_lines open_now ks infos shown.2 (All-tail (λ j. j < own_lines) k ks within) further
-      (All-tail NumberFits info infos fit) (All-tail EntriesFit info infos entries)
-      (room_below layout open_bars info.annotations.items bars own_entries.bar_cells) shown.6 in
-      let last : Bool = length infos == 0 in
-      let drawn : strokes.ShowsLine layout margin (line_numbers r s.line_numbering) (closes && last) open_bars info shown.0 = shown.4 in
-      let shows : AreSeen layout margin.term_width (map (shifted drawn.dropped) info.annotations.items)
-      (closes && last) drawn.highlighted shown.0 = line_seen layout margin (line_numbers r s.line_numbering) place
-      (closes && last) open_bars info shown.0 bars (All-head NumberFits info infos fit) own_entries drawn in
+  -- the rows of these lines have the names of the lines
+  pub named_lines : (open_bars : List Bar) (ks : List ℕ) → All (IsReadyLine s spans r layout) ks → All (HasBarRoom layout) open_bars
+      → AreNamed open_bars ks (rows_of_lines r layout closes s open_bars ks)
+  named_lines open_bars [] ready bars =
+      record { lines = refl; are = tt; ends = refl; begins = refl; drawn = tt }
+  named_lines open_bars (k ∷ ks) ready bars =
+      let own : IsReadyLine s spans r layout k = All-head (IsReadyLine s spans r layout) k ks ready in
+      let can : CanBeShown layout margin (line_numbers r s.line_numbering) (info_at s spans k) = own.1 in
+      let info : AnnotatedLineInfo = info_at s spans k in
+      let here : seen_kept info ≡ line_of_snippet k = seen_at s spans k in
+      let past : List Bar = open_past open_bars (bars_on s k) in
+      let past_is : open_below open_bars info.annotations.items ≡ past = open_seen open_bars k info here in
+      let room : All (HasBarRoom layout) past = subst (All (HasBarRoom layout)) past_is
+      (room_below layout open_bars info.annotations.items bars can.entries.bar_cells) in
+      let rest : List NamedRow = rows_of_lines r layout closes s past ks in
+      let last : Bool = length ks == 0 in
+      let view : LineView = record { margin = margin; numbers = line_numbers r s.line_numbering; closes = closes && last } in
+      let rows : List (List Cell) = rows_of_line r layout (closes && last) s open_bars k in
+      let shown : ShowsLine layout margin (line_numbers r s.line_numbering) (closes && last) open_bars info rows = info_rows_show layout view open_bars info
+      place can in
+      let shows : AreSeen layout margin.term_width (map (shifted shown.dropped) info.annotations.items) (closes && last) shown.highlighted rows = line_seen
+      layout margin (line_numbers r s.line_numbering) place (closes && last) open_bars info rows bars can.number can.entries shown in
+      let below : AreNamed past ks rest = named_lines past ks (All-tail (IsReadyLine s spans r layout) k ks ready) room in
+      let between : IsGapNamed past ks (gap_below r layout past k ks) rest = gap_named past k ks rest room below in
+      let after : List NamedRow = gap_below r layout past k ks ++ rest in
       let source_row : NamedRow = record { name = SourceRow k; cells = shows.source } in
-      let between : IsGapNamed open_now k ks shown.1 = gap_named open_now k ks info infos shown.1 here further shown.5 in
-      let after : List NamedRow = between.gap ++ rest.part in
-      let ends : (length after == 0) ≡ last = between.ends rest.part rest.ends ∙ none_left ks infos further in
       let line : IsLineDrawn r layout (closes && last) s open_bars k (shows.source ∷ shows.below) = subst
-      (IsLineDrawn r layout (closes && last) s open_bars k) shows.rows_are (line_drawn r layout s margin room bounds (closes && last) open_bars k info shown.0
-      here drawn) in
-      let own : shows.source ∷ shows.below ≡ rows_of_line r layout (closes && length ks == 0) s open_bars k = line_value r layout
-      (closes && last) s open_bars k (shows.source ∷ shows.below) line
-      ∙ ap (λ b. rows_of_line r layout (closes && b) s open_bars k) (sym (none_left ks infos further)) in
-      record {
-        part = source_row ∷ (others shows.below ++ after);
-        cells = ap (λ rs. shows.source ∷ rs)
-            (cells_of-append (others shows.below) after ∙ ap (λ rs. rs ++ cells_of after) (cells_of-others shows.below)
-            ∙ ap (λ rs. shows.below ++ rs)
-            (cells_of-append between.gap rest.part ∙ ap (λ rs. rs ++ cells_of rest.part) between.cells ∙ ap (λ rs. shown.1 ++ rs) rest.cells))
-            ∙ ap (λ rs. rs ++ (shown.1 ++ shown.2)) (sym shows.rows_are) ∙ sym (append_assoc shown.0 shown.1 shown.2) ∙ sym shown.3;
-        lines = ap (λ js. k ∷ js) (lines_named-others shows.below after ∙ between.lines rest.part ∙ rest.lines);
+      (IsLineDrawn r layout (closes && last) s open_bars k) shows.rows_are (line_drawn r layout s margin refl refl (closes && last) open_bars k info rows
+      here shown) in
+      subst (AreNamed open_bars (k ∷ ks)) (sym (ap (λ rs. named_line k rs ++ after) shows.rows_are)) (record {
+        lines = ap (λ js. k ∷ js) (lines_named-others shows.below after ∙ between.lines ∙ below.lines);
         are = (
-          line_and_marks (closes && last) open_bars k info shown.0 after (All-head (λ j. j < own_lines) k ks within)
-              here (All-head NumberFits info infos fit) drawn shows (between.begins rest.part rest.begins),
-          others_are last shows.below after ends
+          line_and_marks (closes && last) open_bars k info rows after own.0 here can.number shown shows between.begins,
+          others_are last shows.below after between.ends
               (λ i inside. row_below layout.decor layout (closes && last) _ _ shows.below i (shows.strokes.are i inside))
-              (between.are rest.part rest.are),
+              between.are,
         );
         ends = some_more (length (others shows.below ++ after)) (length ks);
         begins = refl;
         drawn = (
           subst (λ below. IsLineDrawn r layout (closes && length below == length (others shows.below ++ after)) s open_bars k (shows.source ∷ below))
-              (sym (below-own shows.below after (between.begins rest.part rest.begins)))
-              (subst (λ b. IsLineDrawn r layout b s open_bars k (shows.source ∷ shows.below)) (sym (last_is shows.below after last ends))
+              (sym (below-own shows.below after between.begins))
+              (subst (λ b. IsLineDrawn r layout b s open_bars k (shows.source ∷ shows.below)) (sym (last_is shows.below after last between.ends))
               line),
-          subst (λ bs. AreRowsDrawn r layout closes s bs (others shows.below ++ after)) (open_seen open_bars k info here)
-              (others_drawn open_now shows.below after (between.drawn rest.part rest.begins rest.drawn)),
+          others_drawn past shows.below after between.drawn,
         );
-        value = ap (λ rs. named_line k rs ++ after) own ∙ ap (λ rs. named_line k (rows_of_line r layout (closes && length ks == 0) s open_bars k) ++ rs)
-            (ap (λ gap. gap ++ rest.part) between.value ∙ ap (λ rs. gap_below r layout open_now k ks ++ rs) rest.value
-            ∙ ap (λ bs. gap_below r layout bs k ks ++ rows_of_lines r layout closes s bs ks) (open_seen open_bars k info here));
-      }
+      })

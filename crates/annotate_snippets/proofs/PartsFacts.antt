@@ -5,7 +5,7 @@ use Rattle.snippet_model.specs.declared.snippet.Annotation.{Annotation}
 use Rattle.snippet_parts.specs.declared.entries.AnnotatedLineInfo.{AnnotatedLineInfo}
 use Rattle.std.proofs.Common.{cond, ◌==◌, ◌||◌, sym, subst, ◌∙◌, get_or, ap, arith, inl, inr, IfSome, [], ◌∷◌}
 use Rattle.std.specs.List.{list_any}
-use Rattle.std.proofs.lemmas.Bool.{cases_Bool, cond-true, cond-false, or_parts}
+use Rattle.std.proofs.lemmas.Bool.{cases_Bool, or_parts}
 use Rattle.std.proofs.lemmas.Bool.Decides.{nat_tests}
 use Rattle.std.proofs.lemmas.List.Elements.{All-cons, All-contains, All-head, All-nil, All-tail, All-weaker, Contains-get_or}
 use Rattle.std.proofs.lemmas.List.FromFn.{get_or-range_with_len, length-range_with_len}
@@ -13,6 +13,7 @@ use Rattle.std.specs.List.{range_with_len}
 use Rattle.snippet_parts.specs.Kept.{keeps, kept_lines}
 use Rattle.snippet_parts.specs.Entries.{is_bar}
 use Rattle.snippet_parts.proofs.KeptPartLemmas.{none-unkept}
+use Rattle.snippet_parts.proofs.LineCounts.{length-in_order}
 use Rattle.snippet_strokes.proofs.MarkLemmas.{from_map}
 use Rattle.annotate_snippets.proofs.ListLemmas.{Contains-filter, Contains-map}
 use Rattle.std.proofs.lemmas.List.{length-map}
@@ -29,7 +30,6 @@ use Rattle.snippet_parts.proofs.ShownFacts.{shown_lines-first_line, last-shown, 
 use Rattle.snippet_parts.specs.Depths.{places_of}
 use Rattle.snippet_parts.specs.Annotated.{KeptLine, PartEntry, seen_part, annotated_lines, deepest, is_long, kept_line, long_entry, long_place}
 use Rattle.snippet_parts.specs.Annotated.{long_spans, parts_on, seen_kept, single_part}
-use Rattle.snippet_lines.specs.OrderedBy.{ordered_by, put_in}
 use Rattle.snippet_parts.specs.Kept.{shown_lines}
 use Rattle.snippet_lines.specs.Lines.{Source, source_lines}
 use Rattle.snippet_parts.specs.Mark.{is_marked_on, is_marking, is_single_line, is_wide, touches}
@@ -201,18 +201,6 @@ shown_clear s marks spans fold kept shown margin kept_is shown_is clear =
             tail_seen x y xs ys same = cc
 
 -- ---- how deep bars stand
-
-length-put_in : {X : Type 0} (before : X → X → Bool) (x : X) (ys : List X) → length (put_in before x ys) ≡ length ys + 1
-length-put_in before x [] = omega arith
-length-put_in before x (y ∷ ys) =
-    elim (cases_Bool (before y x)) [
-      | inl t ↦ omega (arith, length-put_in before x ys, ap length (cond-true (before y x) (y ∷ put_in before x ys) (x ∷ y ∷ ys) t))
-      | inr f ↦ omega (arith, ap length (cond-false (before y x) (y ∷ put_in before x ys) (x ∷ y ∷ ys) f))
-    ]
-
-length-in_order : {X : Type 0} (before : X → X → Bool) (xs : List X) → length (ordered_by before xs) ≡ length xs
-length-in_order before [] = omega arith
-length-in_order before (x ∷ xs) = omega (arith, length-in_order before xs, length-put_in before x (ordered_by before xs))
 
 -- no deeper than there are spans
 pub deepest_few : (s : Source) (marks : List Annotation) → deepest s marks ≤ length marks

@@ -4,10 +4,8 @@ use Rattle.std.proofs.Common.{sym, ap, ◌∙◌, subst, append_assoc}
 use Rattle.std.specs.Prelude.{OnOk}
 use Rattle.std.specs.declared.alloc.AllocError.{AllocError}
 use Rattle.std.specs.declared.result.Result.{Result}
-use Rattle.std.specs.Cow.{cow_str_bytes}
 use Rattle.std.specs.List.{flat_map}
 use Rattle.std.specs.Option.{is_some, option_to_list}
-use Rattle.std.specs.Str.{IsUtf8}
 use Rattle.std.proofs.lemmas.List.{append-nil}
 use Rattle.std.proofs.lemmas.Result.{on_ok_weaker}
 use Rattle.snippet_grid.specs.Grid.{row_at}
@@ -19,18 +17,19 @@ use Rattle.snippet_model.specs.declared.snippet.Snippet.{Snippet}
 use Rattle.snippet_suggest.specs.declared.SuggestionLayout.{SuggestionLayout}
 use Rattle.snippet_suggest.specs.declared.SuggestionStart.{SuggestionStart}
 use Rattle.snippet_suggest.specs.declared.SuggestionStart.TheVariants.{Opening, Next, Path}
-use Rattle.snippet_suggest.specs.Given.{given_text}
 use Rattle.snippet_suggest.specs.RowOrder.{Ends}
 use Rattle.snippet_suggest.specs.SuggestionRows.{rows_shared}
 use Rattle.snippet_suggest.specs.Suggested.{body_cells, suggested_cells as row_cells, suggestion_cells}
 use Rattle.annotate_snippets.specs.Around.{HasPathFor, begins_in_row_above, is_end, is_next_start, path_bytes}
-use Rattle.annotate_snippets.specs.DrawnReport.{AddsElement, shared_row, suggestion_layout, suggestion_lines, under_of}
+use Rattle.annotate_snippets.specs.DrawnReport.{shared_row, suggestion_layout, under_of}
+use Rattle.annotate_snippets.specs.GraphicForm.{drawn_rows}
 use Rattle.annotate_snippets.specs.Gutter.{line_numbers}
 use Rattle.annotate_snippets.specs.RowsWithoutSource.{path_head, path_row, suggestion_head, suggestion_head_at}
 use Rattle.annotate_snippets.specs.declared.renderer.Renderer.{Renderer}
 use Rattle.snippet_grid.specs.Layout.{Layout}
 use Rattle.annotate_snippets.specs.declared.renderer.element_context.ElementContext.{ElementContext}
 use Rattle.snippet_style.specs.Separators.{separator_row}
+use Rattle.annotate_snippets.proofs.SuggestionShown.{patch_cells}
 
 -- the row of a path with the separator row below it
 path_head_is : (r : Renderer) (layout : Layout) (first : Bool) (s : Snippet Patch) (path : Option (List ℕ)) → is_some path ≡ true
@@ -96,23 +95,19 @@ last_shared false head body last = sym (append-nil (head ++ (body ++ last ∷ []
 
 -- the rows of a suggestion below those that it begins with are the element's: its last row is its own, or the next one begins in it
 suggestion_added : (r : Renderer) (layout : Layout) (around : ElementContext) (s : Snippet Patch) (found : List Cell) (above new : List (List Cell))
-    → IsUtf8 (cow_str_bytes s.source) → IsUtf8 (given_text s)
     → new ≡ (above ++ suggestion_head r layout around s)
     ++ suggestion_cells (suggestion_layout r layout s) around.start (follows around) s (under_of r layout around.start found)
-    → AddsElement r layout around found (Suggestion s) above new
-suggestion_added r layout around s found above new utf8 given_utf8 drawn =
+    → new ≡ above ++ drawn_rows r layout around found (Suggestion s)
+suggestion_added r layout around s found above new drawn =
     let suggested : SuggestionLayout = suggestion_layout r layout s in
     let under : List Cell = under_of r layout around.start found in
     let head : List (List Cell) = suggestion_head r layout around s in
     let body : List (List Cell) = body_cells suggested around.start s under in
     let last : List Cell = row_cells suggested s [] (Ends (follows around)) in
-    record {
-      rows = head ++ suggestion_lines r layout around found s;
-      is = record { utf8 = utf8; given_utf8 = given_utf8; rows_are = refl };
-      added = drawn ∙ append_assoc above head (suggestion_cells suggested around.start (follows around) s under)
-          ∙ ap (λ rows. above ++ (head ++ rows)) (whole suggested around.start (follows around) s under)
-          ∙ ap (λ rows. above ++ rows) (last_shared around.shared head body last);
-    }
+    drawn ∙ append_assoc above head (suggestion_cells suggested around.start (follows around) s under)
+    ∙ ap (λ rows. above ++ (head ++ rows)) (whole suggested around.start (follows around) s under)
+    ∙ ap (λ rows. above ++ rows) (last_shared around.shared head body last
+    ∙ ap (λ rows. rows ++ shared_row around.shared last) (sym (patch_cells r layout around found s)))
 
 -- the suggested, where this stands in the gutter
 abbrev pub layout_with : Renderer → Layout → LineNumbers → SuggestionLayout
@@ -127,15 +122,16 @@ DrawsCells s at next mid new result suggested =
 -- the rows of a suggestion stand below what is there
 pub patches_added : (r : Renderer) (layout : Layout) (around : ElementContext) (s : Snippet Patch) (found : List Cell) (above old mid new : List (List Cell))
     (numbers : LineNumbers) (next : Bool) (result : Result (Unit {0}) AllocError) → numbers ≡ line_numbers r s.line_numbering → next ≡ follows around
-    → IsUtf8 (cow_str_bytes s.source) → IsUtf8 (given_text s) → old ≡ above ++ shared_row (begins_in_row_above around) found
+    → old ≡ above ++ shared_row (begins_in_row_above around) found
     → HasPathFor around.start s → (around.start ≡ Path → mid ≡ old ++ path_head r layout around.first s) → ((around.start ≡ Path → ⊥) → mid ≡ old)
-    → DrawsCells s around.start next mid new result (layout_with r layout numbers) → OnOk result (AddsElement r layout around found (Suggestion s) above new)
-patches_added r layout around s found above old mid new numbers next result numbers_are next_is utf8 given_utf8 is path headed same draws =
+    → DrawsCells s around.start next mid new result (layout_with r layout numbers)
+    → OnOk result (new ≡ above ++ drawn_rows r layout around found (Suggestion s))
+patches_added r layout around s found above old mid new numbers next result numbers_are next_is is path headed same draws =
     let begun = begun_below r layout around.start around.first s found above old mid is path headed same in
     let Draws : Bool → SuggestionLayout → Type 0 = λ b suggested. DrawsCells s around.start b mid new result suggested in
     let drawn : Draws (follows around) (suggestion_layout r layout s) = subst (λ b.
     Draws b (suggestion_layout r layout s)) next_is (subst (λ n. Draws next (layout_with r layout n)) numbers_are draws) in
     let below : List (List Cell) = above ++ suggestion_head r layout around s in
-    on_ok_weaker result (λ cells. suggestion_added r layout around s found above new utf8 given_utf8
+    on_ok_weaker result (λ cells. suggestion_added r layout around s found above new
     (cells ∙ ap (λ under. below ++ suggestion_cells (suggestion_layout r layout s) around.start (follows around) s under) begun.under))
     (drawn below begun.end begun.is begun.count)

@@ -4,7 +4,9 @@ use Rattle.std.proofs.lemmas.List.{append-nil}
 use Rattle.snippet_style.specs.Cell.{Cell}
 use Rattle.snippet_model.specs.declared.snippet.Element.{Element}
 use Rattle.annotate_snippets.specs.Around.{CanStandIn, begins_in_row_above, is_end}
-use Rattle.annotate_snippets.specs.DrawnReport.{AddsElement, IsElementDrawn, last_row, shared_row}
+use Rattle.annotate_snippets.specs.DrawnReport.{last_row, shared_row}
+use Rattle.annotate_snippets.specs.GraphicForm.{drawn_rows, element_rows}
+use Rattle.annotate_snippets.specs.Page.{cells_of}
 use Rattle.annotate_snippets.specs.PreparedReport.{element_of}
 use Rattle.annotate_snippets.specs.declared.renderer.preprocess.PreparedElement.{PreparedElement}
 use Rattle.annotate_snippets.specs.declared.renderer.Renderer.{Renderer}
@@ -15,15 +17,12 @@ use Rattle.annotate_snippets.specs.declared.renderer.element_context.ElementCont
 pub plain_added : (r : Renderer) (layout : Layout) (around : ElementContext) (found : List Cell) (p : PreparedElement) (e : Element)
     (above old new rows : List (List Cell)) → element_of p ≡ e → CanStandIn around (element_of p)
     → (CanStandIn around e → (begins_in_row_above around ≡ false) × (around.shared ≡ false))
-    → old ≡ above ++ shared_row (begins_in_row_above around) found → new ≡ old ++ rows → IsElementDrawn r layout around found e rows
-    → AddsElement r layout around found (element_of p) above new
+    → old ≡ above ++ shared_row (begins_in_row_above around) found → new ≡ old ++ rows → rows ≡ cells_of (element_rows r layout around found e)
+    → new ≡ above ++ drawn_rows r layout around found (element_of p)
 plain_added r layout around found p e above old new rows of stands plain old_is added is =
     let alone = plain (subst (CanStandIn around) of stands) in
     let last : List Cell = last_row r layout (not (is_end around.next)) (Some (element_of p)) in
     let same : old ≡ above = old_is ∙ ap (λ b. above ++ shared_row b found) alone.0 ∙ append-nil above in
-    record {
-      rows = rows;
-      is = subst (λ x. IsElementDrawn r layout around found x rows) (sym of) is;
-      added = added ∙ ap (λ start. start ++ rows) same ∙ ap (λ end. above ++ end) (sym (append-nil rows))
-          ∙ ap (λ b. above ++ (rows ++ shared_row b last)) (sym alone.1);
-    }
+    let own : List (List Cell) = cells_of (element_rows r layout around found (element_of p)) in
+    let own_is : rows ≡ own = is ∙ ap (λ x. cells_of (element_rows r layout around found x)) (sym of) in
+    added ∙ ap (λ start. start ++ rows) same ∙ ap (λ rs. above ++ rs) (own_is ∙ sym (append-nil own) ∙ ap (λ b. own ++ shared_row b last) (sym alone.1))

@@ -1,6 +1,6 @@
 -- A group that is printed while it is drawn.
 use Rattle.std.proofs.Common.{◌≡◌, ℕ, ◌+◌, ◌<◌, Bool, true, false, not, All, List, [], ◌∷◌, ◌++◌, Option, Some, length, map, refl, sym, ap, ◌∙◌}
-use Rattle.std.proofs.Common.{subst, arith, cond, encode_utf8, get_or, string_bytes}
+use Rattle.std.proofs.Common.{subst, arith, cond, encode_utf8, get_or, string_bytes, take}
 use Rattle.std.specs.List.{enumerate_from, flat_map, slice_get, slice_index_or}
 use Rattle.std.proofs.lemmas.Bool.{false≢true}
 use Rattle.std.proofs.lemmas.Grind.{flat_map-append}
@@ -25,9 +25,11 @@ use Rattle.snippet_titles.specs.Title.{title_rows}
 use Rattle.snippet_titles.specs.PrintedHeading.{IsPlainHeading}
 use Rattle.snippet_titles.specs.declared.style.TitleStyle.{TitleStyle}
 use Rattle.annotate_snippets.specs.Around.{CanStandIn, begins_in_row_above, context_at, drawn_elements, is_end, next_of}
-use Rattle.annotate_snippets.specs.DrawnReport.{AddsElement, AreElementsDrawn, found_at, last_row, shared_row}
+use Rattle.annotate_snippets.specs.DrawnReport.{found_at, last_row, shared_row}
+use Rattle.annotate_snippets.specs.GraphicForm.{drawn_rows, element_rows, group_page, rows_of_elements}
+use Rattle.annotate_snippets.specs.Page.{cells_of, group_rows}
 use Rattle.annotate_snippets.specs.PreparedReport.{AreAround, element_of}
-use Rattle.annotate_snippets.specs.Printing.{IsGroupPrinted, IsPrinting, PrintsElements}
+use Rattle.annotate_snippets.specs.Printing.{IsPrinting}
 use Rattle.annotate_snippets.specs.declared.renderer.Renderer.{Renderer}
 use Rattle.annotate_snippets.specs.declared.renderer.element_context.ElementContext.{ElementContext}
 use Rattle.annotate_snippets.specs.declared.renderer.element_context.GroupPosition.{GroupPosition}
@@ -37,6 +39,7 @@ use Rattle.annotate_snippets.specs.RowsWithoutSource.{message_rows, message_styl
 use Rattle.annotate_snippets.specs.declared.renderer.preprocess.PreparedElement.{PreparedElement}
 use Rattle.annotate_snippets.proofs.AroundLaws.{begins_is, shares_after, shares_before}
 use Rattle.annotate_snippets.proofs.ElementRows.{DrawnSoFar, drawn_none, get-mapped, turn_around, turn_drawn, turn_item, turn_stands, turns_all}
+use Rattle.annotate_snippets.proofs.NamedRows.{cells_of-others}
 use Rattle.annotate_snippets.proofs.PlainRows.{plain_added}
 
 -- ---- rows below rows
@@ -192,35 +195,31 @@ last_of_later (p ∷ printed) later (a ∷ above) x some is =
 -- an element that is drawn in the grid is drawn below all rows of its group; where the next one shares its last row, the grid has that
 record DrawnBelow (r : Renderer) (layout : Layout) (at : ElementContext) (found : List Cell) (e : Element) (above printed new : List (List Cell))
     : Type 0 where
-  pub adds : AddsElement r layout at found e above (printed ++ new)
+  pub adds : printed ++ new ≡ above ++ drawn_rows r layout at found e
   pub some : at.shared ≡ true → 0 < length new
 
 drawn_below : (r : Renderer) (layout : Layout) (at : ElementContext) (e : Element) (printed mid new : List (List Cell))
     → (begins_in_row_above at ≡ true → 0 < length mid)
     → ((above : List (List Cell)) (found : List Cell) → mid ≡ above ++ shared_row (begins_in_row_above at) found
-    → AddsElement r layout at found e above new)
+    → new ≡ above ++ drawn_rows r layout at found e)
     → (above : List (List Cell)) (found : List Cell) → printed ++ mid ≡ above ++ shared_row (begins_in_row_above at) found
     → DrawnBelow r layout at found e above printed new
 drawn_below r layout at e printed mid new shares adds above found is =
     by (begins_in_row_above at) refl
   where
-    put : (first start : List (List Cell)) → start ≡ printed ++ first → AddsElement r layout at found e first new
+    put : (first start : List (List Cell)) → start ≡ printed ++ first → new ≡ first ++ drawn_rows r layout at found e
         → DrawnBelow r layout at found e start printed new
     put first start whole added =
-        let tail : List (List Cell) = added.rows ++ shared_row at.shared (last_row r layout (not (is_end at.next)) (Some e)) in
+        let last : List Cell = last_row r layout (not (is_end at.next)) (Some e) in
         record {
-          adds = record {
-            rows = added.rows;
-            is = added.is;
-            added = ap (λ (rs : List (List Cell)). printed ++ rs) added.added ∙ sym (append_assoc printed first tail)
-                ∙ ap (λ (rs : List (List Cell)). rs ++ tail) (sym whole);
-          };
+          adds = ap (λ (rs : List (List Cell)). printed ++ rs) added ∙ sym (append_assoc printed first (drawn_rows r layout at found e))
+              ∙ ap (λ (rs : List (List Cell)). rs ++ drawn_rows r layout at found e) (sym whole);
           some = λ shared. omega (
             arith,
-            ap length added.added,
-            length-append first tail,
-            length-append added.rows (shared_row at.shared (last_row r layout (not (is_end at.next)) (Some e))),
-            ap (λ b. length (shared_row b (last_row r layout (not (is_end at.next)) (Some e)))) shared,
+            ap length added,
+            length-append first (drawn_rows r layout at found e),
+            length-append (cells_of (element_rows r layout at found e)) (shared_row at.shared last),
+            ap (λ b. length (shared_row b last)) shared,
           );
         }
 
@@ -252,7 +251,7 @@ pub elements_drawn : (sheet : Stylesheet) (level : LevelInner) (r : Renderer) (l
     → (n < length (enumerate_from 0 ps)) × ((i, p) ≡ get_or (enumerate_from 0 ps) n (i, p)) → at ≡ slice_index_or around i at → m ≡ n + 1
     → after.begun ≡ page.begun → string_bytes after.text ≡ string_bytes page.text
     → ((front : List (List Cell)) (found : List Cell) → page.buffer ≡ front ++ shared_row (begins_in_row_above at) found
-    → AddsElement r layout at found (element_of p) front after.buffer)
+    → after.buffer ≡ front ++ drawn_rows r layout at found (element_of p))
     → ElementsPrinted sheet level r layout place file (map element_of ps) n above old page
     → ElementsPrinted sheet level r layout place file (map element_of ps) m above old after
 elements_drawn sheet level r layout place file ps around n m i p at above old page after are turn is next begun text adds before =
@@ -264,8 +263,8 @@ elements_drawn sheet level r layout place file ps around n m i p at above old pa
     let begins : begins_in_row_above at ≡ shares_before es n = ap begins_in_row_above at_is ∙ begins_is place file es n e here in
     let below = drawn_below r layout at e printing.printed page.buffer after.buffer (λ starts. before.shared (sym begins ∙ starts)) adds in
     let found : List Cell = found_at r layout es n in
-    let front : List (List Cell) = above ++ flat_map (λ part. part) before.drawn.parts in
-    let now = below front found (sym printing.rows_are ∙ before.drawn.added ∙ ap (λ b. front ++ shared_row b found) (sym begins)) in
+    let front : List (List Cell) = above ++ flat_map cells_of (take n (rows_of_elements r layout place file es)) in
+    let now = below front found (sym printing.rows_are ∙ before.drawn ∙ ap (λ b. front ++ shared_row b found) (sym begins)) in
     record {
       rows = printing.printed ++ after.buffer;
       drawn = turn_drawn r layout place file ps around n m i p at above before.rows (printing.printed ++ after.buffer) are turn is next before.drawn
@@ -307,7 +306,7 @@ elements_printed sheet now level own r layout place file ps around n m i p at me
       rows = before.rows ++ more;
       drawn = turn_drawn r layout place file ps around n m i p at above before.rows (before.rows ++ more) are turn is next before.drawn
           (λ start row ends. plain_added r layout at row p (Message message) start before.rows (before.rows ++ more) more of stands (λ a. a) ends refl
-          rows_are);
+          (rows_are ∙ sym (cells_of-others (message_rows r layout at message))));
       printing = here before.rows before.printing;
       shared = λ shares. absurd (never (shares_before es m) (ap (shares_before es) next ∙ shares_after es n
           ∙ sym (ap (λ (a : ElementContext). a.shared) at_is) ∙ alone.1) shares);
@@ -322,15 +321,12 @@ pub elements_all : (sheet now : Stylesheet) (level own : LevelInner) (r : Render
     → now ≡ sheet → own ≡ level → ((rows : List (List Cell)) → IsPrinting now own old page rows → IsPrinting now own old after rows)
     → after.buffer ≡ []
     → ElementsPrinted sheet level r layout place file (map element_of ps) n above old page
-    → PrintsElements sheet level r layout place file (map element_of ps) above old (string_bytes after.text)
+    → WeavesRows sheet level (above ++ flat_map cells_of (rows_of_elements r layout place file (map element_of ps))) old (string_bytes after.text)
 elements_all sheet now level own r layout place file ps n above old page after all same_sheet same_level flushed empty before =
     let here = subst (λ s. (rows : List (List Cell)) → IsPrinting s level old page rows → IsPrinting s level old after rows) same_sheet
     (subst (λ l. (rows : List (List Cell)) → IsPrinting now l old page rows → IsPrinting now l old after rows) same_level flushed) in
-    record {
-      rows = before.rows;
-      are = turns_all r layout place file ps n above before.rows all before.drawn;
-      woven = all_printed sheet level old after before.rows empty (here before.rows before.printing);
-    }
+    subst (λ rows. WeavesRows sheet level rows old (string_bytes after.text)) (turns_all r layout place file ps n above before.rows all before.drawn)
+    (all_printed sheet level old after before.rows empty (here before.rows before.printing))
 
 -- ---- a group
 
@@ -338,22 +334,15 @@ elements_all sheet now level own r layout place file ps n above old page after a
 pub group_printed : (sheet now : Stylesheet) (level own : LevelInner) (r : Renderer) (layout : Layout) (place : GroupPosition) (file : Option (List ℕ))
     (g : Group) (es : List Element) (page : Printing) (old new : List ℕ) → es ≡ drawn_elements g → now ≡ sheet → own ≡ level
     → IsPrinting sheet level old page (title_part r layout place (next_of (drawn_elements g)) g.title)
-    → ((from : List ℕ) (above : List (List Cell)) → IsPrinting now own from page above → PrintsElements now own r layout place file es above from new)
-    → IsGroupPrinted sheet level r layout place file g old new
+    → ((from : List ℕ) (above : List (List Cell)) → IsPrinting now own from page above
+    → WeavesRows now own (above ++ flat_map cells_of (rows_of_elements r layout place file es)) from new)
+    → WeavesRows sheet level (group_rows (group_page r layout place file g)) old new
 group_printed sheet now level own r layout place file g es page old new drawn same_sheet same_level titled prints =
     let title : List (List Cell) = title_part r layout place (next_of (drawn_elements g)) g.title in
     let here = subst (λ s. IsPrinting s own old page title) (sym same_sheet) (subst (λ l. IsPrinting sheet l old page title) (sym same_level) titled) in
-    let printed = prints old title here in
-    record {
-      rows = printed.rows;
-      is = record {
-        parts = printed.are.parts;
-        rows_are = printed.are.added;
-        are = subst (λ elements. AreElementsDrawn r layout place file elements printed.are.parts) drawn printed.are.are;
-      };
-      woven = subst (λ s. WeavesRows s level printed.rows old new) same_sheet
-          (subst (λ l. WeavesRows now l printed.rows old new) same_level printed.woven);
-    }
+    let rows : List (List Cell) = title ++ flat_map cells_of (rows_of_elements r layout place file es) in
+    subst (λ elements. WeavesRows sheet level (title ++ flat_map cells_of (rows_of_elements r layout place file elements)) old new) drawn
+    (subst (λ s. WeavesRows s level rows old new) same_sheet (subst (λ l. WeavesRows now l rows old new) same_level (prints old title here)))
 
 -- rows below those that are printed, drawn in the grid
 pub printing_drawn : (sheet : Stylesheet) (level : LevelInner) (old : List ℕ) (page after : Printing) (rows more : List (List Cell))

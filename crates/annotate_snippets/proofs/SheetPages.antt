@@ -1,13 +1,14 @@
 -- The pages of a report under several sheets, a group at a time.
-use Rattle.std.proofs.Common.{◌≡◌, ℕ, zero, suc, ◌+◌, ◌≤◌, ◌<◌, ◌==◌, Bool, List, [], ◌∷◌, ◌++◌, All, arith, drop, get_or, length, map, set, sym, subst}
+use Rattle.std.proofs.Common.{◌≡◌, ℕ, zero, suc, ◌+◌, ◌≤◌, ◌<◌, ◌==◌, Bool, List, [], ◌∷◌, ◌++◌, arith, drop, get_or, length, map, set, sym, subst}
 use Rattle.std.proofs.Common.{ap, ◌∙◌, string_bytes, take}
 use Rattle.std.specs.List.{AllZip}
 use Rattle.std.proofs.lemmas.List.{take_at}
 use Rattle.std.proofs.lemmas.Slice.Zip.{AllZip-long}
 use Rattle.snippet_model.specs.declared.snippet.Group.{Group}
 use Rattle.snippet_style.specs.declared.stylesheet.Stylesheet.{Stylesheet}
+use Rattle.annotate_snippets.specs.GraphicForm.{graphic_form}
 use Rattle.annotate_snippets.specs.Laws.Forms.{IsTextUnder}
-use Rattle.annotate_snippets.specs.PreparedReport.{IsGroupDrawable}
+use Rattle.annotate_snippets.specs.Laws.Page.{PageLaws}
 use Rattle.annotate_snippets.specs.Written.{AddsGrid, AddsToPage, IsEmptyPage}
 use Rattle.annotate_snippets.specs.declared.renderer.Renderer.{Renderer}
 use Rattle.annotate_snippets.specs.declared.renderer.form.Form.TheVariants.{Graphic}
@@ -109,11 +110,11 @@ module _ (r : Renderer) (groups : List Group) where
       )
 
   -- after the last
-  pub pages_all : (n : ℕ) (sheets : List Stylesheet) (pages : List SheetPage) → All IsGroupDrawable groups → n ≡ length groups
+  pub pages_all : (n : ℕ) (sheets : List Stylesheet) (pages : List SheetPage) → PageLaws r groups (graphic_form r groups) → n ≡ length groups
       → AllZip (IsPageSoFar n) sheets pages
       → AllZip (IsTextUnder Graphic r groups) sheets (map string_bytes (map (λ (page : SheetPage). page.text) pages))
-  pages_all n [] [] drawable all before = tt
-  pages_all n [] (page ∷ pages) drawable all before = absurd before
-  pages_all n (sheet ∷ sheets) [] drawable all before = absurd before
-  pages_all n (sheet ∷ sheets) (page ∷ pages) drawable all before =
-      (printed_all r groups n sheet (string_bytes page.text) drawable all before.0.printed, pages_all n sheets pages drawable all before.1)
+  pages_all n [] [] laws all before = tt
+  pages_all n [] (page ∷ pages) laws all before = absurd before
+  pages_all n (sheet ∷ sheets) [] laws all before = absurd before
+  pages_all n (sheet ∷ sheets) (page ∷ pages) laws all before =
+      (printed_all r groups n sheet (string_bytes page.text) laws all before.0.printed, pages_all n sheets pages laws all before.1)

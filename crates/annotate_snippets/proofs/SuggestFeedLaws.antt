@@ -1,5 +1,5 @@
 -- The rows of a suggestion hold a line feed only where its path does.
-use Rattle.std.proofs.Common.{◌≡◌, ℕ, zero, suc, ◌+◌, ◌-◌, ◌<◌, ◌≤◌, ◌==◌, Bool, true, false, Option, None, Some, List, [], ◌∷◌}
+use Rattle.std.proofs.Common.{◌≡◌, ℕ, zero, suc, ◌+◌, ◌-◌, ◌<◌, ◌≤◌, ◌==◌, Bool, true, false, Option, None, Some, List, [], ◌∷◌, ◌++◌}
 use Rattle.std.proofs.Common.{All, chars, take, drop, map, length, get_or, refl, sym, ap, subst, ◌∙◌, arith, inl, inr}
 use Rattle.std.specs.Cow.{cow_str_bytes}
 use Rattle.std.specs.List.{AllZip, list_any, slice_index_or}
@@ -43,7 +43,8 @@ use Rattle.annotate_snippets.specs.declared.renderer.Renderer.{Renderer}
 use Rattle.annotate_snippets.specs.declared.renderer.element_context.ElementContext.{ElementContext}
 use Rattle.snippet_grid.specs.Layout.{Layout}
 use Rattle.annotate_snippets.specs.Around.{path_bytes, suggestion_rows}
-use Rattle.annotate_snippets.specs.DrawnReport.{IsSuggestionDrawn, suggestion_layout, suggestion_lines, under_of}
+use Rattle.annotate_snippets.proofs.AreTexts.{IsTextSuggestion}
+use Rattle.annotate_snippets.specs.DrawnReport.{suggestion_layout, suggestion_lines, under_of}
 use Rattle.annotate_snippets.specs.Laws.Feeds.{HasNoFeed, IsNoFeed}
 use Rattle.annotate_snippets.specs.RowsWithoutSource.{origin_layout, patch_place, path_row, suggestion_head, suggestion_head_at}
 use Rattle.annotate_snippets.proofs.OneLineTexts.{HoldsNoFeed, IsOneLineText}
@@ -267,13 +268,12 @@ module _ (r : Renderer) (layout : Layout) (around : ElementContext) (found : Lis
   head_plain start.Path first plain = path_plain first (path_bytes s.path) plain
 
   -- where its path holds no line feed, no row of a suggestion holds one
-  pub suggestion_one_line : (rows : List (List Cell)) → IsSuggestionDrawn r layout around found s rows
-      → AllZip IsShown (suggestion_rows around s) (suggestion_lines r layout around found s) → All (IsRowOf s) (suggestion_rows around s)
-      → IsOneLineText (path_bytes s.path) → All HasNoFeed rows
-  suggestion_one_line rows drawn are own plain =
-      let head : List (List Cell) = suggestion_head r layout around s in
+  pub suggestion_one_line : IsTextSuggestion s → AllZip IsShown (suggestion_rows around s) (suggestion_lines r layout around found s)
+      → All (IsRowOf s) (suggestion_rows around s) → IsOneLineText (path_bytes s.path)
+      → All HasNoFeed (suggestion_head r layout around s ++ suggestion_lines r layout around found s)
+  suggestion_one_line texts are own plain =
       let lines : List (List Cell) = suggestion_lines r layout around found s in
       let offers : AllZip IsPlainOffer (suggestion_rows around s) lines = lines_each r layout around found s IsPlainOffer
-      (offers_body own_layout s drawn.given_utf8 around.start (under_of r layout around.start found)) tt in
-      subst (All HasNoFeed) (sym drawn.rows_are) (All-append HasNoFeed head lines (head_plain around.start around.first plain)
-      (all_rows (suggestion_rows around s) lines drawn.utf8 are offers own))
+      (offers_body own_layout s texts.given_utf8 around.start (under_of r layout around.start found)) tt in
+      All-append HasNoFeed (suggestion_head r layout around s) lines (head_plain around.start around.first plain)
+      (all_rows (suggestion_rows around s) lines texts.utf8 are offers own)

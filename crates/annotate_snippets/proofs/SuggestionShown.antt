@@ -3,7 +3,7 @@ use Rattle.std.proofs.Common.{◌≡◌, ◌≢◌, ◌∙◌, ℕ, ◌+◌, Boo
 use Rattle.std.proofs.Common.{subst, inl, inr}
 use Rattle.std.specs.Cow.{cow_str_bytes}
 use Rattle.std.specs.List.{All, AllZip, Contains}
-use Rattle.std.proofs.lemmas.List.{append-nil, map-append}
+use Rattle.std.proofs.lemmas.List.{append-nil}
 use Rattle.std.proofs.lemmas.List.Elements.{All-append, All-cons, All-nil, filter_map-append}
 use Rattle.snippet_model.specs.declared.snippet.Element.TheVariants.{Suggestion}
 use Rattle.snippet_model.specs.declared.snippet.Patch.{Patch}
@@ -29,18 +29,19 @@ use Rattle.snippet_suggest.proofs.TouchLaws.{touched-offered}
 use Rattle.snippet_titles.specs.Origin.{primary_start}
 use Rattle.snippet_titles.proofs.OriginFree.{origin_row-free}
 use Rattle.annotate_snippets.specs.Around.{begins_in_row_above, is_end, path_bytes, suggestion_rows}
-use Rattle.annotate_snippets.specs.DrawnReport.{HasRoomFor, IsSuggestionDrawn, suggestion_layout, suggestion_lines, under_of}
-use Rattle.annotate_snippets.specs.GraphicForm.{named_rows}
+use Rattle.annotate_snippets.specs.DrawnReport.{HasRoomFor, suggestion_layout, suggestion_lines, under_of}
+use Rattle.annotate_snippets.specs.GraphicForm.{name_of_row, named_rows, patch_rows}
 use Rattle.annotate_snippets.specs.Page.{NamedRow, cells_of, lines_offered, others}
 use Rattle.annotate_snippets.specs.RowsWithoutSource.{origin_layout, patch_place, path_row, suggestion_head, suggestion_head_at}
 use Rattle.annotate_snippets.specs.Laws.Suggestions.{HasStrokes, ShowsSuggestion}
-use Rattle.annotate_snippets.specs.GraphicForm.{name_of_row}
+use Rattle.annotate_snippets.specs.Laws.Feeds.{HasNoFeed}
 use Rattle.annotate_snippets.specs.declared.renderer.Renderer.{Renderer}
 use Rattle.snippet_grid.specs.Layout.{Layout}
 use Rattle.annotate_snippets.specs.declared.renderer.element_context.ElementContext.{ElementContext}
+use Rattle.annotate_snippets.proofs.AreTexts.{IsTextSuggestion}
 use Rattle.annotate_snippets.proofs.Ascending.{IsAscending, ascends}
 use Rattle.annotate_snippets.proofs.ElementShown.{ElementShown}
-use Rattle.annotate_snippets.proofs.PageLemmas.{cells_of-others}
+use Rattle.annotate_snippets.proofs.NamedRows.{cells_of-append, cells_of-others}
 use Rattle.annotate_snippets.proofs.SuggestFeedLaws.{suggestion_one_line}
 use Rattle.annotate_snippets.proofs.SuggestionLines.{IsEnding, lines_each, lines_show}
 use Rattle.annotate_snippets.proofs.SuggestionLemmas.{cells_of-named, lines_free, lines_offered-order, lines_removed, lines_removed-order, names_of-named}
@@ -115,11 +116,29 @@ pub spliced_as_it_was : (s : Snippet Patch) → HaveSpans s → AreDisjoint (edi
     → given_lines s ≡ last_reached s ∷ [] → IsAsItWas s
 spliced_as_it_was s spans disjoint some offerable same = same_lines_given s spans disjoint some offerable ∙ same
 
--- the rows of a suggestion show it, once they have names: after the row of its path those of its lines
-pub suggestion_shown : (r : Renderer) (layout : Layout) (around : ElementContext) (found : List Cell) (s : Snippet Patch) (rows : List (List Cell))
-    → IsSuggestible s → s.markers.items ≢ [] → HasRoomFor r layout (Suggestion s) → (begins_in_row_above around ≡ true → IsEnding layout found)
-    → IsSuggestionDrawn r layout around found s rows → ElementShown r layout around found (Suggestion s) rows
-suggestion_shown r layout around found s rows suggestible some room ends drawn =
+-- each row of its lines has the sign that it asks for
+lines_signed : (r : Renderer) (layout : Layout) (around : ElementContext) (found : List Cell) (s : Snippet Patch)
+    → AllZip (HasSign (suggestion_layout r layout s) s) (suggestion_rows around s) (suggestion_lines r layout around found s)
+lines_signed r layout around found s =
+    lines_each r layout around found s (HasSign (suggestion_layout r layout s) s)
+    (body_signs (suggestion_layout r layout s) around.start s (under_of r layout around.start found)) tt
+
+-- the cells of a suggestion's rows are those of its head and of its lines
+pub patch_cells : (r : Renderer) (layout : Layout) (around : ElementContext) (found : List Cell) (s : Snippet Patch)
+    → cells_of (patch_rows r layout around found s) ≡ suggestion_head r layout around s ++ suggestion_lines r layout around found s
+patch_cells r layout around found s =
+    let shown : List SuggestionRow = suggestion_rows around s in
+    let head : List (List Cell) = suggestion_head r layout around s in
+    let lines : List (List Cell) = suggestion_lines r layout around found s in
+    let after : List NamedRow = named_rows s shown lines in
+    cells_of-append (others head) after ∙ ap (λ rs. rs ++ cells_of after) (cells_of-others head)
+    ∙ ap (λ rs. head ++ rs) (cells_of-named (HasSign (suggestion_layout r layout s) s) s shown lines (lines_signed r layout around found s))
+
+-- the rows of a suggestion show it: after the row of its path those of its lines
+pub suggestion_shown : (r : Renderer) (layout : Layout) (around : ElementContext) (found : List Cell) (s : Snippet Patch) → IsSuggestible s
+    → s.markers.items ≢ [] → HasRoomFor r layout (Suggestion s) → (begins_in_row_above around ≡ true → IsEnding layout found) → IsTextSuggestion s
+    → ElementShown r layout around found (Suggestion s)
+suggestion_shown r layout around found s suggestible some room ends texts =
     let IsShown : SuggestionRow → List Cell → Type 0 = Shows (suggestion_layout r layout s) (s.line_start + first_given s) (given_lines s) in
     let shown : List SuggestionRow = suggestion_rows around s in
     let head : List (List Cell) = suggestion_head r layout around s in
@@ -129,11 +148,9 @@ suggestion_shown r layout around found s rows suggestible some room ends drawn =
     let same : map (λ k. first_given s + k) (numbers_offered shown) ≡ offered_lines s = ap (map (λ k. first_given s + k)) (all_offer around s) in
     let lines : lines_offered after ≡ offered_lines s = offered_in_order around s after (names_of-named IsShown s shown lines_are are) in
     let end : ℕ = first_given s + length (given_lines s) in
-    let cells : cells_of (others head ++ after) ≡ rows = map-append (λ (row : NamedRow). row.cells) (others head) after
-    ∙ ap (λ rs. rs ++ cells_of after) (cells_of-others head) ∙ ap (λ rs. head ++ rs) (cells_of-named IsShown s shown lines_are are)
-    ∙ sym drawn.rows_are in
-    let free : All IsFree rows = subst (All IsFree) (sym drawn.rows_are)
-    (All-append IsFree head lines_are (suggestion_head-free r layout around.start around.first s) (lines_free r layout s shown lines_are are)) in
+    let cells : cells_of (others head ++ after) ≡ head ++ lines_are = patch_cells r layout around found s in
+    let free : All IsFree (head ++ lines_are) = All-append IsFree head lines_are (suggestion_head-free r layout around.start around.first s)
+    (lines_free r layout s shown lines_are are) in
     let shows : ShowsSuggestion r layout around found s (others head ++ after) = record {
       after = after;
       rows_are = refl;
@@ -147,14 +164,10 @@ suggestion_shown r layout around found s rows suggestible some room ends drawn =
       strokes = subst (AllZip (HasStrokes layout.decor layout.gutter) shown) (sym (cells_of-named IsShown s shown lines_are are))
           (strokes_shown r layout s shown lines_are are);
       named = rows_named r layout s suggestible some (first_given s) shown lines_are (subst (AreRising (first_given s) end) (sym same) (offered-ascends s))
-          (all_own around s) are (lines_each r layout around found s (HasSign (suggestion_layout r layout s) s)
-          (body_signs (suggestion_layout r layout s) around.start s (under_of r layout around.start found)) tt);
+          (all_own around s) are (lines_signed r layout around found s);
     } in
     record {
-      part = others head ++ after;
-      value = refl;
-      cells = cells;
       shows = shows;
       free = All-unmapped IsFree (λ (row : NamedRow). row.cells) (others head ++ after) (subst (All IsFree) (sym cells) free);
-      one_line = suggestion_one_line r layout around found s rows drawn are (all_own around s);
+      one_line = λ plain. subst (All HasNoFeed) (sym cells) (suggestion_one_line r layout around found s texts are (all_own around s) plain);
     }

@@ -11,7 +11,6 @@ use Rattle.snippet_style.specs.declared.role.LevelInner.{LevelInner}
 use Rattle.snippet_style.specs.declared.stylesheet.Stylesheet.{Stylesheet}
 use Rattle.snippet_grid.proofs.WovenLemmas.{IsWoven-from_prints}
 use Rattle.annotate_snippets.specs.Page.{ArePrinted, Page, PrintsPage, group_rows, page_text}
-use Rattle.annotate_snippets.specs.declared.renderer.graphic.GroupGrid.{GroupGrid}
 use Rattle.snippet_grid.proofs.WovenLemmas.{ended-append}
 
 -- no text is woven
@@ -38,14 +37,6 @@ IsWoven-joined sheet a pa la b pb lb first second =
           (All-cons (λ p. IsOfSheet sheet p) (Char 10) second.pieces tt second.of_sheet);
       ended = ended-append false first.pieces (Char 10 ∷ second.pieces) first.ended second.ended;
     }
-
--- the plain characters of some grids, each on its own, and their links
-abbrev pub grid_plain : GroupGrid → List ℕ
-grid_plain grid = plain_text grid.buffer
-
--- the links of a grid's rows
-abbrev pub grid_links : GroupGrid → List (List ℕ)
-grid_links grid = links_of grid.buffer
 
 -- the URLs of a page's linked runs of cells, in order
 abbrev pub page_links : Page → List (List ℕ)

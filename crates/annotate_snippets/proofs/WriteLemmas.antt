@@ -1,33 +1,31 @@
 -- What a writer holds once a report was to be written to it, a group at a time.
-use Rattle.std.proofs.Common.{◌≡◌, ◌⊎◌, ℕ, zero, suc, ◌+◌, ◌<◌, ◌≤◌, ◌-◌, ◌==◌, Bool, true, false, List, [], ◌∷◌, ◌++◌, Option, All, refl}
+use Rattle.std.proofs.Common.{◌≡◌, ◌⊎◌, ℕ, zero, suc, ◌+◌, ◌<◌, ◌≤◌, ◌-◌, ◌==◌, Bool, true, false, List, [], ◌∷◌, ◌++◌, Option, refl}
 use Rattle.std.proofs.Common.{sym, ap, ◌∙◌}
-use Rattle.std.proofs.Common.{subst, inl, inr, arith, length, take, drop, cond, map}
+use Rattle.std.proofs.Common.{subst, inl, inr, arith, length, take, drop, cond}
 use Rattle.std.specs.Io.KnownBytes.{Appends}
-use Rattle.std.specs.List.{AllZip, enumerate_from, flat_map, join_with_byte}
+use Rattle.std.specs.List.{AllZip, flat_map, join_with_byte}
 use Rattle.std.proofs.KnownBytes.{Appends-nil, Appends-trans}
 use Rattle.std.proofs.Math.Seq.{take-append-add, take-append_seam}
-use Rattle.std.proofs.lemmas.List.{append_assoc, append-nil, length-append, length-drop, length-map, take-append-drop, take-append-le, take_all}
+use Rattle.std.proofs.lemmas.List.{append_assoc, append-nil, length-append, length-drop, length-map, take-append-drop, take-append-le}
 use Rattle.std.proofs.lemmas.Bool.Decides.{nat_tests}
-use Rattle.std.proofs.lemmas.List.FromFn.{length-enumerate_from}
 use Rattle.snippet_grid.specs.Woven.{Prints, WeavesRows, piece_text}
 use Rattle.snippet_model.specs.declared.snippet.Group.{Group}
 use Rattle.snippet_style.specs.declared.role.LevelInner.{LevelInner}
 use Rattle.snippet_style.specs.declared.stylesheet.Stylesheet.{Stylesheet}
-use Rattle.annotate_snippets.specs.DrawnReport.{AreGridsOf}
 use Rattle.annotate_snippets.specs.Laws.Forms.{IsTextUnder}
+use Rattle.annotate_snippets.specs.Laws.Page.{PageLaws}
 use Rattle.annotate_snippets.specs.GraphicForm.{graphic_form}
 use Rattle.annotate_snippets.specs.Page.{ArePrinted, Page, PrintsGrids, PrintsPage}
-use Rattle.annotate_snippets.specs.PreparedReport.{IsGroupDrawable}
 use Rattle.annotate_snippets.specs.ShownPage.{levels_of}
 use Rattle.annotate_snippets.specs.Written.{AddsGrid, IsTextIn, PrintsGrid, ShowsIn, WritesPart, WritesText}
 use Rattle.annotate_snippets.specs.declared.renderer.Renderer.{Renderer}
 use Rattle.annotate_snippets.specs.declared.renderer.form.Form.TheVariants.{Graphic}
 use Rattle.annotate_snippets.specs.declared.renderer.graphic.GroupGrid.{GroupGrid}
 use Rattle.annotate_snippets.proofs.FormsShown.{page-law}
-use Rattle.annotate_snippets.proofs.GridRows.{GridsSoFar, grids_none}
+use Rattle.annotate_snippets.proofs.GridRows.{GridsSoFar, grids_none, page_count}
 use Rattle.snippet_model.proofs.ZipLemmas.{AllZip-last}
 use Rattle.annotate_snippets.proofs.PrintedText.{texts_of_page}
-use Rattle.annotate_snippets.proofs.ReportLemmas.{page_laws, page_so_far, sheets_shown}
+use Rattle.annotate_snippets.proofs.ReportLemmas.{page_so_far, page_whole}
 
 -- ---- texts that are joined
 
@@ -195,7 +193,7 @@ pub printed_none : (r : Renderer) (groups : List Group) (sheet : Stylesheet) (te
 printed_none r groups sheet text none =
     record {
       grids = [];
-      so_far = grids_none r groups [] refl;
+      so_far = grids_none r groups;
       prints = record { parts = []; printed = tt; joined = none };
     }
 
@@ -211,20 +209,17 @@ printed_more r groups n m grid first sheet old new before is adds so_far =
           (grids_more sheet before.grids grid first old adds.text (is ∙ ap (λ k. k == 0) (sym before.so_far.count)) before.prints adds.prints);
     }
 
--- after the last
-pub printed_all : (r : Renderer) (groups : List Group) (n : ℕ) (sheet : Stylesheet) (text : List ℕ) → All IsGroupDrawable groups → n ≡ length groups
-    → PrintedSoFar r groups n sheet text → IsTextUnder Graphic r groups sheet text
-printed_all r groups n sheet text drawable all before =
-    let are : AreGridsOf r groups before.grids = record {
-      levels = before.so_far.levels ∙ ap (map (λ (g : Group). g.level)) (take_all n groups (omega (arith, all)));
-      each = before.so_far.each;
-    } in
-    let shown = sheets_shown r groups before.grids drawable are (sheet ∷ []) (text ∷ []) (before.prints, tt) in
-    record { shows = shown; laws = page-law r groups (page_laws r groups before.grids drawable are) sheet text shown.printed.0 }
+-- a text that prints the page of a report, where this has its laws, is the report's
+page_text_is : (r : Renderer) (groups : List Group) (sheet : Stylesheet) (text : List ℕ) → PageLaws r groups (graphic_form r groups)
+    → PrintsPage sheet (levels_of groups) (graphic_form r groups) text → IsTextUnder Graphic r groups sheet text
+page_text_is r groups sheet text laws prints =
+    record { shows = record { printed = (prints, tt) }; laws = page-law r groups laws sheet text prints }
 
--- a text prints the page of a report under the renderer's own sheet
-abbrev PrintsReport : Renderer → List Group → List ℕ → Type 0
-PrintsReport r groups text = PrintsPage r.stylesheet (levels_of groups) (graphic_form r groups) text
+-- after the last
+pub printed_all : (r : Renderer) (groups : List Group) (n : ℕ) (sheet : Stylesheet) (text : List ℕ) → PageLaws r groups (graphic_form r groups)
+    → n ≡ length groups → PrintedSoFar r groups n sheet text → IsTextUnder Graphic r groups sheet text
+printed_all r groups n sheet text laws all before =
+    page_text_is r groups sheet text laws (page_whole r groups n before.grids all before.so_far sheet text before.prints)
 
 -- what a writer holds after the first n groups of a report: the text that prints their grids is added
 pub record WrittenSoFar (r : Renderer) (groups : List Group) (n : ℕ) (old new : Option (List ℕ)) : Type 0 where
@@ -238,7 +233,7 @@ module _ (r : Renderer) (groups : List Group) where
   written_none known =
       record {
         grids = [];
-        so_far = grids_none r groups [] refl;
+        so_far = grids_none r groups;
         written = record { text = []; is = record { parts = []; printed = tt; joined = refl }; appended = Appends-nil known };
       }
 
@@ -260,40 +255,35 @@ module _ (r : Renderer) (groups : List Group) where
 
   -- the levels of a report's groups are as many as its page has
   levels-count : length (levels_of groups) ≡ length (graphic_form r groups)
-  levels-count =
-      let pages : length (graphic_form r groups) ≡ length (enumerate_from 0 groups) = length-map (enumerate_from 0 groups) _ in
-      length-map groups (λ (g : Group). g.level) ∙ sym (pages ∙ length-enumerate_from 0 groups)
-
-  page-count : length (graphic_form r groups) ≡ length groups
-  page-count = sym levels-count ∙ length-map groups (λ (g : Group). g.level)
+  levels-count = length-map groups (λ (g : Group). g.level) ∙ sym (page_count r groups)
 
   -- where it stops before a further group, a first part of a text that prints the page was written
-  pub part_between : (drawable : All IsGroupDrawable groups) (n : ℕ) (old new : Option (List ℕ)) → 0 < n → n < length groups
+  pub part_between : (n : ℕ) (old new : Option (List ℕ)) → 0 < n → n < length groups
       → WrittenSoFar r groups n old new → WritesPart (ShowsIn Graphic r groups) old new
-  part_between drawable n old new some within before =
+  part_between n old new some within before =
       let text = before.written.text in
       let goes = goes_on r.stylesheet (levels_of groups) (graphic_form r groups) n text levels-count
-      (page_so_far r groups drawable n before.grids before.so_far r.stylesheet text before.written.is) in
+      (page_so_far r groups n before.grids before.so_far r.stylesheet text before.written.is) in
       record {
         text = goes.whole;
         is = record { printed = (goes.prints, tt) };
         part = record {
           count = length text;
-          short = omega (arith, ap length goes.is, length-append text goes.rest, goes.more some (omega (arith, within, page-count)));
+          short = omega (arith, ap length goes.is, length-append text goes.rest, goes.more some (omega (arith, within, page_count r groups)));
           appended = subst (Appends old new) (sym (ap (take (length text)) goes.is ∙ take-append_seam text goes.rest)) before.written.appended;
         };
       }
 
   -- and where it stops within a group
-  pub part_within : (drawable : All IsGroupDrawable groups) (n m : ℕ) (grid : GroupGrid) (first : Bool) (old mid new : Option (List ℕ))
+  pub part_within : (n m : ℕ) (grid : GroupGrid) (first : Bool) (old mid new : Option (List ℕ))
       (before : WrittenSoFar r groups n old mid) → first ≡ (n == 0) → WritesPart (PrintsGrid r.stylesheet first grid) mid new
       → GridsSoFar r groups m (before.grids ++ grid ∷ []) → WritesPart (ShowsIn Graphic r groups) old new
-  part_within drawable n m grid first old mid new before is adds so_far =
+  part_within n m grid first old mid new before is adds so_far =
       let text = before.written.text in
       let printed = grids_more r.stylesheet before.grids grid first text adds.text (is ∙ ap (λ k. k == 0) (sym before.so_far.count)) before.written.is
       adds.is in
       let goes = goes_on r.stylesheet (levels_of groups) (graphic_form r groups) m (text ++ adds.text) levels-count
-      (page_so_far r groups drawable m (before.grids ++ grid ∷ []) so_far r.stylesheet (text ++ adds.text) printed) in
+      (page_so_far r groups m (before.grids ++ grid ∷ []) so_far r.stylesheet (text ++ adds.text) printed) in
       let count = adds.part.count in
       record {
         text = goes.whole;
@@ -308,45 +298,33 @@ module _ (r : Renderer) (groups : List Group) where
       }
 
   -- so where it stops before a group nothing was written yet, or a first part
-  pub stopped_before : {W : Type 0} (contents : W → Option (List ℕ)) (drawable : All IsGroupDrawable groups) (n : ℕ) (start now : W) → n < length groups
+  pub stopped_before : {W : Type 0} (contents : W → Option (List ℕ)) (n : ℕ) (start now : W) → n < length groups
       → (n ≡ 0 → now ≡ start) → WrittenSoFar r groups n (contents start) (contents now)
       → (now ≡ start) ⊎ WritesPart (ShowsIn Graphic r groups) (contents start) (contents now)
-  stopped_before contents drawable zero start now within first before = inl (first refl)
-  stopped_before contents drawable (suc n) start now within first before =
-      inr (part_between drawable (suc n) (contents start) (contents now) (omega arith) within before)
+  stopped_before contents zero start now within first before = inl (first refl)
+  stopped_before contents (suc n) start now within first before =
+      inr (part_between (suc n) (contents start) (contents now) (omega arith) within before)
 
   -- and where it stops at one
-  pub stopped_at : {W : Type 0} (contents : W → Option (List ℕ)) (drawable : All IsGroupDrawable groups) (n m : ℕ) (grid : GroupGrid) (first : Bool)
+  pub stopped_at : {W : Type 0} (contents : W → Option (List ℕ)) (n m : ℕ) (grid : GroupGrid) (first : Bool)
       (start mid now : W) (before : WrittenSoFar r groups n (contents start) (contents mid)) → n < length groups → (n ≡ 0 → mid ≡ start)
       → first ≡ (n == 0) → GridsSoFar r groups m (before.grids ++ grid ∷ [])
       → (now ≡ mid) ⊎ WritesPart (PrintsGrid r.stylesheet first grid) (contents mid) (contents now)
       → (now ≡ start) ⊎ WritesPart (ShowsIn Graphic r groups) (contents start) (contents now)
-  stopped_at {W = W} contents drawable n m grid first start mid now before within none is so_far stopped =
+  stopped_at {W = W} contents n m grid first start mid now before within none is so_far stopped =
       elim stopped [
         | inl same ↦ subst (λ (w : W). (w ≡ start) ⊎ WritesPart (ShowsIn Graphic r groups) (contents start) (contents w)) (sym same)
-            (stopped_before contents drawable n start mid within none before)
-        | inr adds ↦ inr (part_within drawable n m grid first (contents start) (contents mid) (contents now) before is adds so_far)
+            (stopped_before contents n start mid within none before)
+        | inr adds ↦ inr (part_within n m grid first (contents start) (contents mid) (contents now) before is adds so_far)
       ]
 
   -- all groups are written
-  pub written_all : (drawable : All IsGroupDrawable groups) (n : ℕ) (old new : Option (List ℕ)) → n ≡ length groups → WrittenSoFar r groups n old new
+  pub written_all : PageLaws r groups (graphic_form r groups) → (n : ℕ) (old new : Option (List ℕ)) → n ≡ length groups → WrittenSoFar r groups n old new
       → WritesText (IsTextIn Graphic r groups) old new
-  written_all drawable n old new all before =
+  written_all laws n old new all before =
       let text = before.written.text in
-      let goes = page_so_far r groups drawable n before.grids before.so_far r.stylesheet text before.written.is in
-      let prints : PrintsReport r groups text = subst (λ (ls : List LevelInner). PrintsPage r.stylesheet ls (graphic_form r groups) text)
-      (take_all n (levels_of groups) (omega (arith, all, levels-count, page-count)))
-      (subst (λ (page : Page). PrintsPage r.stylesheet (take n (levels_of groups)) page text)
-      (take_all n (graphic_form r groups) (omega (arith, all, page-count))) goes) in
-      let are : AreGridsOf r groups before.grids = record {
-        levels = before.so_far.levels ∙ ap (map (λ (g : Group). g.level)) (take_all n groups (omega (arith, all)));
-        each = before.so_far.each;
-      } in
       record {
         text = text;
-        is = record {
-          shows = record { printed = (prints, tt) };
-          laws = page-law r groups (page_laws r groups before.grids drawable are) r.stylesheet text prints;
-        };
+        is = page_text_is r groups r.stylesheet text laws (page_whole r groups n before.grids all before.so_far r.stylesheet text before.written.is);
         appended = before.written.appended;
       }

@@ -1,5 +1,5 @@
 -- The graphic form of a report, as a value: a page, each row of which is made from the report by the rule of its part.
-use Rattle.std.specs.Prelude.{ℕ, ◌+◌, ◌-◌, ◌==◌, ◌&&◌, nat_lt, not, List, [], ◌∷◌, ◌++◌, Bool, Option, filter, length, map, if◌then◌else◌}
+use Rattle.std.specs.Prelude.{ℕ, ◌+◌, ◌-◌, ◌==◌, ◌&&◌, nat_lt, not, List, [], ◌∷◌, ◌++◌, Bool, Option, Some, length, map, if◌then◌else◌}
 use Rattle.std.specs.Borrow.{Bor}
 use Rattle.std.specs.Cow.{cow_str_bytes}
 use Rattle.std.specs.List.{enumerate_from, filter_map}
@@ -13,20 +13,15 @@ use Rattle.snippet_model.specs.declared.snippet.Group.{Group}
 use Rattle.snippet_model.specs.declared.snippet.Patch.{Patch}
 use Rattle.snippet_model.specs.declared.snippet.Snippet.{Snippet}
 use Rattle.snippet_text.specs.Normalized.{norm}
-use Rattle.snippet_text.specs.Width.{width_of}
 use Rattle.snippet_parts.specs.Annotated.{PartEntry, annotated_lines, parts_on}
 use Rattle.snippet_parts.specs.Kept.{shown_lines}
-use Rattle.snippet_window.specs.Margin.{Bounds, bounds_of}
+use Rattle.snippet_window.specs.Margin.{Bounds}
 use Rattle.snippet_window.specs.Measures.{margin_of}
-use Rattle.snippet_window.specs.Window.{chars_at, dropped_part}
+use Rattle.snippet_window.specs.Window.{chars_at}
 use Rattle.snippet_parts.specs.declared.entries.LineAnnotation.{LineAnnotation}
 use Rattle.snippet_window.specs.declared.margin.Margin.{Margin}
-use Rattle.snippet_labels.specs.PlacedEntries.{is_end_part}
-use Rattle.snippet_strokes.specs.SourceRows.{source_row, window_cells}
 use Rattle.snippet_strokes.specs.Bars.{Bar, bar_at, open_past}
-use Rattle.snippet_strokes.specs.LineRows.{line_rows}
-use Rattle.snippet_strokes.specs.StrokeRows.{highlighted_row}
-use Rattle.snippet_strokes.specs.Snippet.{gap_row}
+use Rattle.snippet_strokes.specs.Snippet.{gap_row, shown_rows}
 use Rattle.snippet_suggest.specs.Given.{first_given}
 use Rattle.snippet_suggest.specs.RowOrder.{Begins, Empty, Ends, Offers, Removes, Skips, SuggestionRow}
 use Rattle.snippet_titles.specs.Origin.{padding_row}
@@ -35,9 +30,9 @@ use Rattle.snippet_grid.specs.Layout.{Layout}
 use Rattle.annotate_snippets.specs.declared.renderer.element_context.GroupPosition.{GroupPosition}
 use Rattle.annotate_snippets.specs.declared.renderer.element_context.ElementContext.{ElementContext}
 use Rattle.annotate_snippets.specs.Around.{closes_with, context_at, drawn_elements, file_of_group, is_end, next_of, position_of_group, suggestion_rows}
-use Rattle.annotate_snippets.specs.DrawnReport.{found_at, suggestion_lines}
+use Rattle.annotate_snippets.specs.DrawnReport.{found_at, last_row, shared_row, suggestion_lines}
 use Rattle.annotate_snippets.specs.Gutter.{layout_of_group, number_text, numbered_source}
-use Rattle.annotate_snippets.specs.Page.{Elision, GroupPage, NamedRow, OfferedLine, Other, Page, RemovedLine, RowName, SourceRow, others}
+use Rattle.annotate_snippets.specs.Page.{Elision, GroupPage, NamedRow, OfferedLine, Other, Page, RemovedLine, RowName, SourceRow, cells_of, others}
 use Rattle.annotate_snippets.specs.RowsWithoutSource.{cause_head, message_rows, origin_rows, rows_after_cause, suggestion_head, title_part}
 
 -- ---- lines
@@ -78,13 +73,8 @@ line_entry p =
 -- separator and its window, with the roles that entries highlight. The group's window may close with the line
 abbrev pub rows_of_line : Renderer → Layout → Bool → Snippet Annotation → List Bar → ℕ → List (List Cell)
 rows_of_line r layout closes s open_bars k =
-    let margin = margin_in r layout s in
-    let text = norm (chars_at (cow_str_bytes s.source) k) in
-    let dropped = width_of (dropped_part (bounds_of margin).left text) in
-    let entries = map line_entry (entries_on s k) in
-    let plain = source_row layout (number_text r s.line_numbering layout.gutter (s.line_start + k)) (window_cells layout.decor margin text) in
-    line_rows layout margin.term_width closes text dropped open_bars entries
-    (highlighted_row layout.code dropped (filter (λ e. not (is_end_part e.annotation_type)) entries) plain)
+    shown_rows layout (margin_in r layout s) closes open_bars (number_text r s.line_numbering layout.gutter (s.line_start + k))
+    (norm (chars_at (cow_str_bytes s.source) k)) (map line_entry (entries_on s k))
 
 -- the rows of line k with their names: the first shows the line
 abbrev pub named_line : ℕ → List (List Cell) → List NamedRow
@@ -140,6 +130,11 @@ element_rows r layout around found (element.Origin origin) = others (origin_rows
 element_rows r layout around found (element.Padding padding) =
     others (padding_row layout.decor layout.gutter (is_end around.next) ∷ [])
 
+-- the rows that drawing an element leaves: its own, and the row in which the next one begins, where it shares that
+abbrev pub drawn_rows : Renderer → Layout → ElementContext → List Cell → Element → List (List Cell)
+drawn_rows r layout around found e =
+    cells_of (element_rows r layout around found e) ++ shared_row around.shared (last_row r layout (not (is_end around.next)) (Some e))
+
 -- ---- groups
 
 -- the rows of each of these elements of a group, which are all that it draws
@@ -153,8 +148,11 @@ group_page r layout place file g =
     let es = drawn_elements g in
     record { title = title_part r layout place (next_of es) g.title; elements = rows_of_elements r layout place file es }
 
+-- the page of the report's group of this number, from 0
+abbrev pub page_at : Renderer → List Group → ℕ → Group → GroupPage
+page_at r groups i g =
+    group_page r (layout_of_group r groups g) (position_of_group (length groups) i) (file_of_group groups g) g
+
 -- the page of a report
 abbrev pub graphic_form : Renderer → List Group → Page
-graphic_form r groups =
-    map (λ pair. group_page r (layout_of_group r groups pair.1) (position_of_group (length groups) pair.0) (file_of_group groups pair.1) pair.1)
-    (enumerate_from 0 groups)
+graphic_form r groups = map (λ pair. page_at r groups pair.0 pair.1) (enumerate_from 0 groups)

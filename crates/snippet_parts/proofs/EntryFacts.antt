@@ -4,6 +4,7 @@ use Rattle.std.proofs.Common.{List, [], ◌∷◌, ◌++◌, map, length, get_or
 use Rattle.std.specs.List.{All, Contains, count_by, filter, list_all, list_any}
 use Rattle.std.specs.Option.{IfSome, option_copied, option_map}
 use Rattle.std.specs.Cow.{cow_str_bytes}
+use Rattle.std.specs.Str.{IsUtf8}
 use Rattle.std.proofs.Math.Nat.{zero-add}
 use Rattle.std.proofs.lemmas.Bool.{cases_Bool, cond-true, cond-false, or_cases, and_parts, and_from, and_right, le-leb, eqb-true, le-ltb, ne_eqb, not-true}
 use Rattle.std.proofs.lemmas.Bool.{both_ways}
@@ -22,6 +23,7 @@ use Rattle.snippet_parts.specs.Annotated.{long_spans, long_parts, depth_of, deep
 use Rattle.snippet_parts.specs.Depths.{same_place, depth_among, greatest_depth}
 use Rattle.snippet_parts.specs.Entries.{AllEntries, HasCharacterRoom, HasColumnRoom, HasShortLabel, HasDepthWithin, is_untouched}
 use Rattle.snippet_lines.specs.Lines.{Source}
+use Rattle.snippet_parts.specs.Located.{HasTextLabel}
 use Rattle.snippet_parts.specs.Mark.{is_marking, is_single_line, touches, is_marked_on, is_wide, start_column, span_width}
 use Rattle.snippet_parts.specs.Marked.{first_line, last_line}
 use Rattle.snippet_parts.specs.Entries.{is_single_part, is_wide_entry}
@@ -145,6 +147,26 @@ labels-fit s marks ks infos same fit =
     mapped a among = of-mark cow_str_bytes a.label (All-contains AnnotationFits marks a fit among)
 
     long : (a : Annotation) → Contains marks a → (kind : AnnotationKind) → HoldsOfSpan Short s (depth_of s marks a) (record (long_entry s a) { kind = kind })
+    long a among kind = record { start = tt; bars = λ k d within. tt; end = mapped a among; again = mapped a among }
+
+-- the labels of the entries of a line are UTF-8, where those of the annotations are
+pub label-texts : (s : Source) (marks : List Annotation) (k : ℕ) → All HasTextLabel marks
+    → All (λ p. IfSome p.entry.label IsUtf8) (parts_on s marks k)
+label-texts s marks k texts =
+    All-filter (λ (p : PartEntry). eqb p.entry.start.line (s.first + k)) IsText (made_parts s marks)
+    (made-all IsText s marks (λ a among is. mapped a among) (λ a among is kind. long a among kind))
+  where
+    IsText : PartEntry → Type 0
+    IsText p = IfSome p.entry.label IsUtf8
+
+    of-mark : {X : Type 0} (f : X → List ℕ) (label : Option X) → IfSome label (λ t. IsUtf8 (f t)) → IfSome (option_map f label) IsUtf8
+    of-mark f None text = tt
+    of-mark f (Some t) text = text
+
+    mapped : (a : Annotation) → Contains marks a → IfSome (option_map cow_str_bytes a.label) IsUtf8
+    mapped a among = of-mark cow_str_bytes a.label (All-contains HasTextLabel marks a texts among)
+
+    long : (a : Annotation) → Contains marks a → (kind : AnnotationKind) → HoldsOfSpan IsText s (depth_of s marks a) (record (long_entry s a) { kind = kind })
     long a among kind = record { start = tt; bars = λ k d within. tt; end = mapped a among; again = mapped a among }
 
 -- ---- depths

@@ -2,7 +2,8 @@
 use Rattle.std.proofs.Common.{None, ◌≡◌, ℕ, ◌+◌, ◌-◌, ◌<◌, ◌≤◌, Bool, true, false, ◌&&◌, ◌||◌, cond, not, eqb, leb, ltb, min, List, [], ◌∷◌, ◌++◌}
 use Rattle.std.proofs.Common.{map, length, take, drop, get_or, inl, inr, refl, sym, ap, ◌∙◌, arith}
 use Rattle.std.specs.List.{All, filter, list_any, range_with_len}
-use Rattle.std.proofs.lemmas.Bool.{cases_Bool, cases_lt, le-leb, le-ltb, lt-leb, cond-true, cond-false, and_parts, both_ways, eq-eqb, ne_eqb, false_from_ne_true}
+use Rattle.std.proofs.lemmas.Bool.{cases_Bool, cases_lt, le-leb, le-ltb, lt-leb, cond-true, cond-false, and_parts, both_ways, eq-eqb, ne_eqb}
+use Rattle.std.proofs.lemmas.Bool.{false_from_ne_true}
 use Rattle.std.proofs.lemmas.List.{append_assoc, append-nil, map-append}
 use Rattle.std.proofs.lemmas.List.{map_push, map_more, drop-map, take-map, drop_more, length-map, get_or-map}
 use Rattle.std.proofs.lemmas.List.Elements.{filter-append}
@@ -39,10 +40,13 @@ pub bars-are : (source : List ℕ) (first last u m : ℕ) (closing : Bool) → f
 bars-are source first last u m closing from to before bars is count =
     let parts : last - (first + 1) ≡ m + (last - (u + 1)) = omega arith in
     let next : first + 1 + m ≡ u + 1 = omega arith in
-    sym (ap (λ n. filter (has_bar source first last) (range_with_len (first + 1) n)) parts ∙ ap (filter (has_bar source first last)) (range-split (first + 1) m (last - (u + 1)))
+    sym (ap (λ n. filter (has_bar source first last) (range_with_len (first + 1) n)) parts
+    ∙ ap (filter (has_bar source first last)) (range-split (first + 1) m (last - (u + 1)))
     ∙ filter-append (has_bar source first last) (range_with_len (first + 1) m) (range_with_len (first + 1 + m) (last - (u + 1)))
-    ∙ ap (λ ks. ks ++ filter (has_bar source first last) (range_with_len (first + 1 + m) (last - (u + 1)))) (range-all (has_bar source first last) (first + 1) m early)
-    ∙ ap (λ a. range_with_len (first + 1) m ++ filter (has_bar source first last) (range_with_len a (last - (u + 1)))) next ∙ ap (λ ks. range_with_len (first + 1) m ++ ks) late)
+    ∙ ap (λ ks. ks ++ filter (has_bar source first last) (range_with_len (first + 1 + m) (last - (u + 1))))
+    (range-all (has_bar source first last) (first + 1) m early)
+    ∙ ap (λ a. range_with_len (first + 1) m ++ filter (has_bar source first last) (range_with_len a (last - (u + 1)))) next
+    ∙ ap (λ ks. range_with_len (first + 1) m ++ ks) late)
   where
     early : (k : ℕ) → first + 1 ≤ k → k < first + 1 + m → has_bar source first last k ≡ true
     early k low high = ap (λ b. b || closes source first last k) (sym (bars k (omega arith)) ∙ le-leb k u (omega arith))
@@ -62,9 +66,11 @@ bars-are source first last u m closing from to before bars is count =
           | inl room ↦
               let parts : last - (u + 1) ≡ (last - 1 - (u + 1)) + 1 = omega arith in
               let end : u + 1 + (last - 1 - (u + 1)) ≡ last - 1 = omega arith in
-              ap (λ n. filter (has_bar source first last) (range_with_len (u + 1) n)) parts ∙ ap (filter (has_bar source first last)) (range-split (u + 1) (last - 1 - (u + 1)) 1)
+              ap (λ n. filter (has_bar source first last) (range_with_len (u + 1) n)) parts
+              ∙ ap (filter (has_bar source first last)) (range-split (u + 1) (last - 1 - (u + 1)) 1)
               ∙ filter-append (has_bar source first last) (range_with_len (u + 1) (last - 1 - (u + 1))) (range_with_len (u + 1 + (last - 1 - (u + 1))) 1)
-              ∙ ap (λ ks. ks ++ filter (has_bar source first last) (range_with_len (u + 1 + (last - 1 - (u + 1))) 1)) (range-none (has_bar source first last) (u + 1) (last - 1 - (u + 1)) none)
+              ∙ ap (λ ks. ks ++ filter (has_bar source first last) (range_with_len (u + 1 + (last - 1 - (u + 1))) 1))
+              (range-none (has_bar source first last) (u + 1) (last - 1 - (u + 1)) none)
               ∙ ap (λ a. filter (has_bar source first last) (range_with_len a 1)) end
               ∙ ap (λ b. cond b ((last - 1) ∷ []) []) (past (last - 1) (omega arith)
               ∙ ap (λ b. b && ltb (first + 4) (last - 1) && not (is_trivial_line source (last - 1))) (eq-eqb (last - 1 + 1) last (omega arith))

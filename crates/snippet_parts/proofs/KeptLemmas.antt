@@ -394,7 +394,8 @@ pub unkept : (source : List ℕ) (k : ℕ) (marks : List Annotation) → length 
 unkept source k marks after =
     list_any_none (keeps source k) marks (λ i d within.
     let a : Annotation = get_or marks i d in
-    ap (λ b. b && (eqb k (first_line source a) || eqb k (last_line source a) || not (is_marking a.kind) || has_bar source (first_line source a) (last_line source a) k)) (untouched source k a after))
+    ap (λ b. b && (eqb k (first_line source a) || eqb k (last_line source a) || not (is_marking a.kind)
+    || has_bar source (first_line source a) (last_line source a) k)) (untouched source k a after))
 
 pub unseen : {A : Type 0} (source : List ℕ) (k : ℕ) (f : A → Annotation) (xs : List A) → length (source_lines source) ≤ k
     → list_any (λ x. is_seen source k (f x)) xs ≡ false

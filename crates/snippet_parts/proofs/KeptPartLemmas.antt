@@ -60,19 +60,22 @@ touched source a k from to = and_from (leb (first_line source a) k) (leb k (last
 -- the line on which a span starts is kept
 pub keeps-first : (source : List ℕ) (a : Annotation) (k : ℕ) → IsSpan source a.span.start a.span.end → k ≡ first_line source a → keeps source k a ≡ true
 keeps-first source a k span is =
-    first-of-four (eqb k (first_line source a)) (eqb k (last_line source a)) (not (is_marking a.kind)) (has_bar source (first_line source a) (last_line source a) k) (touches source a k)
+    first-of-four (eqb k (first_line source a)) (eqb k (last_line source a)) (not (is_marking a.kind))
+    (has_bar source (first_line source a) (last_line source a) k) (touches source a k)
     (touched source a k (omega arith) (omega (arith, lines_ordered source a span))) (eq-eqb k (first_line source a) is)
 
 -- the line on which a span ends is kept
 pub keeps-last : (source : List ℕ) (a : Annotation) (k : ℕ) → IsSpan source a.span.start a.span.end → k ≡ last_line source a → keeps source k a ≡ true
 keeps-last source a k span is =
-    second-of-four (eqb k (first_line source a)) (eqb k (last_line source a)) (not (is_marking a.kind)) (has_bar source (first_line source a) (last_line source a) k) (touches source a k)
+    second-of-four (eqb k (first_line source a)) (eqb k (last_line source a)) (not (is_marking a.kind))
+    (has_bar source (first_line source a) (last_line source a) k) (touches source a k)
     (touched source a k (omega (arith, lines_ordered source a span)) (omega arith)) (eq-eqb k (last_line source a) is)
 
 -- an annotation that isn't marked keeps each line that it touches
 pub keeps-unmarked : (source : List ℕ) (a : Annotation) (k : ℕ) → not (is_marking a.kind) ≡ true → touches source a k ≡ true → keeps source k a ≡ true
 keeps-unmarked source a k unmarked there =
-    third-of-four (eqb k (first_line source a)) (eqb k (last_line source a)) (not (is_marking a.kind)) (has_bar source (first_line source a) (last_line source a) k) (touches source a k) there unmarked
+    third-of-four (eqb k (first_line source a)) (eqb k (last_line source a)) (not (is_marking a.kind))
+    (has_bar source (first_line source a) (last_line source a) k) (touches source a k) there unmarked
 
 keeps-bar : (source : List ℕ) (a : Annotation) (k : ℕ) → IsBarLine source (first_line source a) (last_line source a) k → keeps source k a ≡ true
 keeps-bar source a k bar =

@@ -11,6 +11,7 @@ pub mod KeptEntryLemmas
 pub mod KeptLemmas
 pub mod KeptPartLemmas
 pub mod LeastLemmas
+pub mod LineCounts
 pub mod LocatedLemmas
 pub mod LocationLaws
 pub mod LocationLemmas

@@ -23,14 +23,16 @@ is_blank : List ℕ → Bool
 is_blank [] = true
 is_blank (c ∷ cs) = is_whitespace c && is_blank cs
 
-indent-push : (xs : List ℕ) (c : ℕ) → skip_leading_whitespace (xs ++ c ∷ []) ≡ cond (is_blank xs) (skip_leading_whitespace (c ∷ [])) (skip_leading_whitespace xs ++ c ∷ [])
+indent-push : (xs : List ℕ) (c : ℕ)
+    → skip_leading_whitespace (xs ++ c ∷ []) ≡ cond (is_blank xs) (skip_leading_whitespace (c ∷ [])) (skip_leading_whitespace xs ++ c ∷ [])
 unfolding is_blank
 indent-push [] c = refl
 indent-push (x ∷ xs) c =
     elim (cases_Bool (is_whitespace x)) [
       | inl blank ↦
           cond-true (is_whitespace x) (skip_leading_whitespace (xs ++ c ∷ [])) (x ∷ xs ++ c ∷ []) blank ∙ indent-push xs c
-          ∙ ap (λ ys. cond (is_blank xs) (skip_leading_whitespace (c ∷ [])) (ys ++ c ∷ [])) (sym (cond-true (is_whitespace x) (skip_leading_whitespace xs) (x ∷ xs) blank))
+          ∙ ap (λ ys. cond (is_blank xs) (skip_leading_whitespace (c ∷ [])) (ys ++ c ∷ []))
+          (sym (cond-true (is_whitespace x) (skip_leading_whitespace xs) (x ∷ xs) blank))
           ∙ ap (λ b. cond (b && is_blank xs) (skip_leading_whitespace (c ∷ [])) (skip_leading_whitespace (x ∷ xs) ++ c ∷ [])) (sym blank)
       | inr other ↦
           cond-false (is_whitespace x) (skip_leading_whitespace (xs ++ c ∷ [])) (x ∷ xs ++ c ∷ []) other

@@ -8,7 +8,7 @@ ghost use Rattle.snippet_parts.specs.Annotated.{PartEntry, seen_part, seen_kept}
 ghost use Rattle.snippet_parts.specs.KeptEntries.{line_with};
 ghost use Rattle.snippet_lines.specs.Lines.{source_lines, text_at};
 ghost use Rattle.snippet_lines.specs.Span.{IsSpan};
-ghost use Rattle.snippet_parts.specs.Located.{IsLocated, annotations_of};
+ghost use Rattle.snippet_parts.specs.Located.{HasTextLabel, IsLocated, annotations_of};
 
 use crate::entries::{AnnotatedLineInfo, LineAnnotation};
 use crate::kept::{is_among, kept_lines, seen_lines};
@@ -31,6 +31,7 @@ pub(crate) fn annotated_lines<'a>(
     ensures deepest { IfOk result (λ drawn. drawn.0 ≡ spec.deepest source.now annotations.now) }
     ensures lines { IfOk result (λ drawn. map seen_kept drawn.1.items
         ≡ spec.annotated_lines fold source.now annotations.now) }
+    ensures labels { IfOk result (λ drawn. All HasTextLabel annotations.now) }
 {
     let located = located_spans(alloc, source, annotations)?;
     located_lines(alloc, source, &located, fold)

@@ -1,6 +1,7 @@
 //! Spans of several lines, in the order in which they are drawn.
 
-ghost use Rattle.std.specs.Prelude.{◌≡◌, ◌==◌, ◌-◌, ◌≤◌, ◌&&◌, ◌||◌, nat_lt, All, map, filter, take, drop, length, IfOk};
+ghost use Rattle.std.specs.Prelude.{◌≡◌, ◌==◌, ◌-◌, ◌≤◌, ◌&&◌, ◌||◌, nat_lt, All, map, filter};
+ghost use Rattle.std.specs.Prelude.{take, drop, length, IfOk};
 ghost use Rattle.std.specs.List.Sorted.{IsNonDecreasingBy};
 ghost use Rattle.snippet_parts.specs.Annotated as spec;
 ghost use Rattle.snippet_parts.specs.LongSpans.{seen_long, HasFit};

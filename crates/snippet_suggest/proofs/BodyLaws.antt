@@ -29,7 +29,7 @@ use Rattle.snippet_suggest.specs.Cells.{end_cells, left_out_cells, on_last}
 use Rattle.snippet_suggest.specs.Given.{edits_of, emptied_lines, first_end, first_given, given_lines, given_ranges, is_left_out, last_reached, lines_touched}
 use Rattle.snippet_suggest.specs.Given.{removed_lines, removed_of, replaced_lines, shown_kind, trimmed_of}
 use Rattle.snippet_suggest.specs.PreparedSuggestion.{IsSuggestible}
-use Rattle.snippet_suggest.specs.RowOrder.{Begins, Empty, Ends, Offers, Removes, Skips, SuggestionRow, changed_rows}
+use Rattle.snippet_suggest.specs.RowOrder.{Begins, Empty, Ends, Offers, Removes, Skips, SuggestionRow}
 use Rattle.snippet_suggest.specs.RowOrder.{removed_number, row_of_shown, rows_of_suggestion, rows_where}
 use Rattle.snippet_suggest.specs.Suggested.{body_cells, suggested_cells, cells_over, marked_edits, new_on, removed_in, suggested_stretches, with_left_out}
 use Rattle.snippet_suggest.specs.SuggestedLines.{is_touched, shown_from}
@@ -41,7 +41,7 @@ use Rattle.snippet_suggest.proofs.RisingLemmas.{rooms_shown}
 use Rattle.snippet_suggest.proofs.RowLaws.{begin_shows, end_shows, gap_shows, marks_show, offered_shows, removed_shows, replaced_shows, under_bare, with_same}
 use Rattle.snippet_window.specs.Margin.{capped_sum}
 use Rattle.std.proofs.lemmas.Bool.Decides.{nat_tests}
-use Rattle.snippet_suggest.proofs.OrderLaws.{removed_row}
+use Rattle.snippet_suggest.proofs.OrderLaws.{removed_row, changed_rows}
 
 -- two lists, and others after them
 pub zip_append : {A B : Type 0} (R : A → B → Type 0) (xs vs : List A) (ys ws : List B) → AllZip R xs ys → AllZip R vs ws → AllZip R (xs ++ vs) (ys ++ ws)

@@ -17,12 +17,12 @@ use Rattle.snippet_suggest.specs.declared.layout.SuggestionStart.{SuggestionStar
 use Rattle.snippet_suggest.specs.declared.prepared.PreparedSuggestion.{PreparedSuggestion}
 use Rattle.snippet_suggest.specs.Given.{edits_of, first_given, given_lines, given_ranges, is_left_out, last_reached, last_removed, trimmed_of, texts_at}
 use Rattle.snippet_suggest.specs.Cells.{unless_stays}
-use Rattle.snippet_suggest.specs.RowOrder.{Begins, SuggestionRow, changed_rows, counted_from, numbered_at, removed_from, rows_of_suggestion}
+use Rattle.snippet_suggest.specs.RowOrder.{Begins, SuggestionRow, counted_from, numbered_at, removed_from, rows_of_suggestion}
 use Rattle.snippet_suggest.specs.PreparedSuggestion.{IsPrepared}
 use Rattle.snippet_suggest.specs.SuggestedLines.{is_touched}
 use Rattle.snippet_suggest.proofs.KnownLemmas.{known_apart, known_reached}
 use Rattle.snippet_suggest.proofs.KnownRemoved.{known_replaced, known_replaced_rows, replaced_touched, unless_range}
-use Rattle.snippet_suggest.proofs.OrderLaws.{rows_diff}
+use Rattle.snippet_suggest.proofs.OrderLaws.{rows_diff, changed_rows}
 use Rattle.snippet_suggest.proofs.ReachLemmas.{reached, touched_numbered, touched_some}
 use Rattle.snippet_suggest.proofs.SuggestedRows.{AreReplaced, shown_count}
 

@@ -14,7 +14,7 @@ use Rattle.snippet_suggest.specs.declared.shown.SuggestionLine.{SuggestionLine}
 use Rattle.snippet_suggest.specs.declared.shown.SuggestionLine.TheVariants.{Gap, Line}
 use Rattle.snippet_suggest.specs.Given.{counted_folded, emptied_lines, given_lines, given_ranges, given_text, is_left_out, last_reached, numbers_given}
 use Rattle.snippet_suggest.specs.Given.{numbers_of, removed_lines, removed_of, replaced_lines, shown_kind, trimmed_of}
-use Rattle.snippet_suggest.specs.RowOrder.{Begins, Empty, Ends, Offers, Removes, Skips, SuggestionRow, changed_rows, line_taken, lines_taken}
+use Rattle.snippet_suggest.specs.RowOrder.{Begins, Empty, Ends, Offers, Removes, Skips, SuggestionRow, line_taken, lines_taken}
 use Rattle.snippet_suggest.specs.RowOrder.{number_offered, numbers_offered, removed_number, row_of_shown, rows_of_suggestion, rows_where}
 use Rattle.snippet_suggest.specs.SuggestedLines.{is_touched, numbers_shown, shown_from}
 use Rattle.snippet_suggest.proofs.GutterFits.{one_given}
@@ -47,6 +47,11 @@ none_left_out Add lines last other = refl
 -- the row of line i of the source, as removed
 abbrev pub removed_row : Snippet Patch → ℕ → SuggestionRow
 removed_row s i = Removes i (removed_number s i) (text_at (source_lines (cow_str_bytes s.source)) i)
+
+-- the rows of a diff below the one that it begins with
+abbrev pub changed_rows : Bool → Bool → List SuggestionRow → List SuggestionRow
+changed_rows touched left_out removed =
+    if touched then removed ++ (if left_out then [] else Offers 0 ∷ []) else Empty ∷ []
 
 module _ (start : SuggestionStart) (s : Snippet Patch) where
   abbrev taken : List SuggestionRow

@@ -28,7 +28,7 @@ use Rattle.snippet_suggest.specs.Cells.{taken_cells, with_stretches, suggestion_
 use Rattle.snippet_suggest.specs.Given.{edits_of, first_given, given_lines, given_ranges, is_left_out, last_reached, last_removed, shown_kind, trimmed_of}
 use Rattle.snippet_suggest.specs.Cells.{unless_stays}
 use Rattle.snippet_parts.specs.Numbered.{numbered_source}
-use Rattle.snippet_suggest.specs.RowOrder.{Begins, Empty, Ends, Offers, Removes, SuggestionRow, changed_rows, counted_from, numbered_at}
+use Rattle.snippet_suggest.specs.RowOrder.{Begins, Empty, Ends, Offers, Removes, SuggestionRow, counted_from, numbered_at}
 use Rattle.snippet_suggest.specs.RowOrder.{removed_from, row_of_shown, rows_of_suggestion}
 use Rattle.snippet_suggest.specs.SuggestionRows.{rows_shared}
 use Rattle.snippet_suggest.specs.SuggestedLines.{is_touched}
@@ -37,7 +37,7 @@ use Rattle.snippet_suggest.specs.Suggested.{with_left_out}
 use Rattle.snippet_suggest.specs.Marks.{with_marks}
 use Rattle.snippet_suggest.proofs.KnownRemoved.{unless_range}
 use Rattle.snippet_suggest.proofs.RowsDrawn.{diff_left, diff_shown}
-use Rattle.snippet_suggest.proofs.OrderLaws.{none_left_out}
+use Rattle.snippet_suggest.proofs.OrderLaws.{none_left_out, changed_rows}
 use Rattle.snippet_window.specs.Margin.{capped_sum}
 use Rattle.std.proofs.Math.Bool.{and-false}
 

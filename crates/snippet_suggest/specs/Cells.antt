@@ -42,18 +42,15 @@ sign_alone Diff = sign.Added
 sign_alone Add = sign.Added
 sign_alone kind = sign.Alone
 
--- as the original does, by bytes: the sign beside one of several lines that has one stretch: `+` where the stretch goes from its start to
--- as many characters as the line has bytes, a separator where it is empty and stands at the start, else the glyph of a changed line
-abbrev pub sign_touched : List ℕ → SubstitutionHighlight → SuggestionGlyph
-sign_touched line s =
+-- the sign beside one of several lines: a separator where it has no stretch, and the glyph of a changed line where it has several. As the
+-- original does, by bytes: of one stretch `+` where that goes from the line's start to as many characters as the line has bytes, a
+-- separator where it is empty and stands at the start, else the glyph of a changed line
+abbrev pub sign_among : List ℕ → List SubstitutionHighlight → SuggestionGlyph
+sign_among line [] = sign.Kept
+sign_among line (s ∷ []) =
     if s.start == 0 && s.end == length line then sign.Added
     else if s.start == 0 && s.end == 0 then sign.Kept
     else sign.Changed
-
--- the sign beside one of several lines: a separator where it has no stretch, and the glyph of a changed line where it has several
-abbrev pub sign_among : List ℕ → List SubstitutionHighlight → SuggestionGlyph
-sign_among line [] = sign.Kept
-sign_among line (s ∷ []) = sign_touched line s
 sign_among line (s ∷ t ∷ ss) = sign.Changed
 
 -- the sign beside a line, in a suggestion of this kind and of so many lines, if these stretches of the line are new

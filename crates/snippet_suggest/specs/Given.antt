@@ -36,7 +36,7 @@ abbrev pub given_text : Snippet Patch → List ℕ
 given_text s = shown_text s.fold (cow_str_bytes s.source) (edits_of s)
 
 abbrev pub given_lines : Snippet Patch → List (List ℕ)
-given_lines s = texts_of (lines_of (given_text s))
+given_lines s = map (λ l. l.0) (lines_of (given_text s))
 
 -- which line of the patched source the first of them is
 abbrev pub first_given : Snippet Patch → ℕ

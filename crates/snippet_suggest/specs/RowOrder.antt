@@ -1,5 +1,5 @@
 -- What the rows of a suggestion show, from top to bottom: a value, by short rules from its snippet.
-use Rattle.std.specs.Prelude.{ℕ, ◌+◌, ◌-◌, Bool, true, false, Option, Some, None, List, [], ◌∷◌, ◌++◌, length, map, if◌then◌else◌, ◌==◌}
+use Rattle.std.specs.Prelude.{ℕ, ◌+◌, ◌-◌, Bool, Option, Some, None, List, [], ◌∷◌, ◌++◌, length, map, if◌then◌else◌, ◌==◌}
 use Rattle.std.specs.Cow.{cow_str_bytes}
 use Rattle.std.specs.List.{filter_map}
 use Rattle.snippet_window.specs.Margin.{capped_sum}
@@ -57,12 +57,6 @@ abbrev pub row_of_shown : SuggestionLine → SuggestionRow
 row_of_shown (Line k) = Offers k
 row_of_shown Gap = Skips
 
--- below the row with which a diff begins: the lines that are removed, and then the line in their place, unless that is left out;
--- where no patch touches that, one empty row
-abbrev pub changed_rows : Bool → Bool → List SuggestionRow → List SuggestionRow
-changed_rows true left_out removed = removed ++ (if left_out then [] else Offers 0 ∷ [])
-changed_rows false left_out removed = Empty ∷ []
-
 -- which of these rows stand there, by the lines that are given, and how they are shown. Where no line is given, those of removed
 -- lines, in a diff below the row that it begins with, and else from that row on; where lines are given, after this row those
 -- of a diff, or those of the lines that are shown
@@ -72,13 +66,15 @@ rows_where [] kind begin removed changed shown = removed
 rows_where lines Diff begin removed changed shown = begin ∷ changed
 rows_where lines kind begin removed changed shown = begin ∷ shown
 
--- what the rows of a suggestion show, but the last one, which is what it ends with. A line of the source that is removed
--- has a row with the number beside it and its text
+-- what the rows of a suggestion show, but the last one, which is what it ends with. A line of the source that is removed has a row with
+-- the number beside it and its text. Below the row with which a diff begins stand the lines that are removed, and then the line in
+-- their place, unless that is left out; where no patch touches that, one empty row
 abbrev pub rows_of_suggestion : SuggestionStart → Snippet Patch → List SuggestionRow
 rows_of_suggestion start s =
     let touched = is_touched s.fold (given_ranges s) in
     let removed = map (λ i. Removes i (removed_number s i) (text_at (source_lines (cow_str_bytes s.source)) i)) (removed_lines s) in
-    let changed = changed_rows (touched 0) (is_left_out (shown_kind s) (given_lines s) (last_reached s)) removed in
+    let left_out = is_left_out (shown_kind s) (given_lines s) (last_reached s) in
+    let changed = if touched 0 then removed ++ (if left_out then [] else Offers 0 ∷ []) else Empty ∷ [] in
     rows_where (given_lines s) (shown_kind s) (Begins start) removed changed (map row_of_shown (shown_from touched 0 0 (length (given_lines s))))
 
 -- some lines that are removed, with the numbers beside them: their own

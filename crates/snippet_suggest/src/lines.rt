@@ -4,7 +4,7 @@ ghost use Rattle.std.specs.Prelude.{map};
 ghost use Rattle.std.specs.List.{slice_index_or};
 ghost use Rattle.snippet_lines.specs.Lines.{lines_of};
 ghost use Rattle.snippet_splice.specs.Spliced.{texts_of};
-ghost use Rattle.snippet_suggest.specs.Cells.{sign_alone, sign_of, sign_touched, row_shown};
+ghost use Rattle.snippet_suggest.specs.Cells.{sign_alone, sign_among, sign_of, row_shown};
 ghost use Rattle.snippet_suggest.specs.declared.shown.SuggestionLine.TheVariants.{Line};
 ghost use Rattle.snippet_suggest.specs.SuggestedLines.{is_touched, shown_from};
 ghost use Rattle.snippet_window.specs.Margin.{capped_sum};
@@ -181,7 +181,7 @@ fn alone_glyph(kind: DisplaySuggestion) -> SuggestionGlyph
 
 /// The glyph beside a line that has this stretch alone.
 fn only_glyph(line: &str, stretch: SubstitutionHighlight) -> SuggestionGlyph
-    ensures value { result ≡ sign_touched line.now stretch }
+    ensures value { result ≡ sign_among line.now (stretch ∷ []) }
 {
     if stretch.start == 0 && stretch.end == line.len() {
         SuggestionGlyph::Added

@@ -1,6 +1,7 @@
 pub mod Examples
 pub mod ExtentLemmas
 pub mod LineWindowLemmas
+pub mod MarginFacts
 pub mod MarginLaws
 pub mod MeasureWords
 pub mod NearLemmas

@@ -172,7 +172,8 @@ margin_whole room placeholder_width fold s marks k spans whole =
     let fits = and_parts here fit known.0 in
     let texts = map (chars_at s.text) kept in
     let widest : greatest (widths_of texts) ≤ room = greatest_most (widths_of texts) room (each fits.1) in
-    ap (λ (b : Bounds). b.left) (margin_of_spans room fold s marks spans) ∙ margin_near _ _ (greatest (flat_map (span_columns s) marks)) (greatest (flat_map (span_ends s) marks)) room (greatest (widths_of texts))
+    ap (λ (b : Bounds). b.left) (margin_of_spans room fold s marks spans)
+    ∙ margin_near _ _ (greatest (flat_map (span_columns s) marks)) (greatest (flat_map (span_ends s) marks)) room (greatest (widths_of texts))
     (near_left s marks kept known.1) widest
   where
     each : list_all (λ j. leb (width_of (chars_at s.text j)) room) (kept_lines fold s.text marks) ≡ true → (n : ℕ)

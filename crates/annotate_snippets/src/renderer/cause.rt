@@ -7,9 +7,13 @@
 //!    |     ^ here
 //!    |                      what sets off a message, or closes the group
 //! ```
-ghost use Rattle.std.specs.Prelude.{◌≡◌, ◌+◌, ◌≤◌, ◌<◌, ◌^◌, ◌++◌, OnOk};
+ghost use Rattle.std.specs.Prelude.{◌≡◌, ◌+◌, ◌≤◌, ◌<◌, ◌^◌, ◌++◌, [], OnOk};
+ghost use Rattle.std.specs.Cow.{cow_str_bytes};
 ghost use Rattle.snippet_model.specs.declared.snippet.Element.TheVariants.{Cause};
-ghost use Rattle.annotate_snippets.specs.DrawnReport.{AddsCause, AddsCauseLines, HasRoomFor};
+ghost use Rattle.snippet_parts.specs.Kept.{shown_lines};
+ghost use Rattle.annotate_snippets.specs.DrawnReport.{HasRoomFor};
+ghost use Rattle.annotate_snippets.specs.GraphicForm.{rows_of_lines, snippet_rows};
+ghost use Rattle.annotate_snippets.specs.Page.{cells_of};
 ghost use Rattle.annotate_snippets.specs.PreparedReport.{IsCausePrepared};
 ghost use Rattle.annotate_snippets.specs.RowsWithoutSource.{cause_head, rows_after_cause};
 
@@ -44,7 +48,8 @@ pub fn draw_cause(
 ) -> Result<(), AllocError>
     requires prepared { IsCausePrepared cause }
     requires room { HasRoomFor renderer.now layout (Cause cause.snippet.now) }
-    ensures added { OnOk result (AddsCause renderer.now layout around cause.entry.snippet.now buffer.old buffer.new) }
+    ensures rows { OnOk result (buffer.new ≡ buffer.old
+        ++ cells_of (snippet_rows renderer.now layout around cause.entry.snippet.now)) }
 {
     draw_cause_head(alloc, buffer, renderer, layout, around, &cause)?;
     draw_cause_lines(alloc, buffer, renderer, layout, around.closes(), cause)?;
@@ -92,8 +97,9 @@ fn draw_cause_lines(
 ) -> Result<(), AllocError>
     requires prepared { IsCausePrepared cause }
     requires room { HasRoomFor renderer.now layout (Cause cause.snippet.now) }
-    ensures added { OnOk result (AddsCauseLines renderer.now layout closes cause.entry.snippet.now buffer.old
-        buffer.new) }
+    ensures rows { OnOk result (let s = cause.entry.snippet.now in buffer.new ≡ buffer.old
+        ++ cells_of (rows_of_lines renderer.now layout closes s []
+        (shown_lines s.fold (cow_str_bytes s.source) s.markers.items))) }
 {
     let numbers = line_numbers(renderer, cause.snippet.line_numbering);
     let room = renderer.term_width.saturating_sub(layout.code);

@@ -1,9 +1,12 @@
 //! The rows of a group's elements, one below the other.
 ghost use Rattle.std.specs.Prelude.{◌≡◌, ◌+◌, ◌<◌, ◌++◌, All, List, OnOk, map};
+ghost use Rattle.std.specs.List.{flat_map};
 ghost use Rattle.std.specs.Option.{option_copied};
 ghost use Rattle.snippet_style.specs.Cell.{Cell};
 ghost use Rattle.annotate_snippets.specs.Around.{CanStandIn, begins_in_row_above};
-ghost use Rattle.annotate_snippets.specs.DrawnReport.{AddsElement, AddsElements, HasRoomFor, shared_row};
+ghost use Rattle.annotate_snippets.specs.DrawnReport.{HasRoomFor, shared_row};
+ghost use Rattle.annotate_snippets.specs.GraphicForm.{drawn_rows, rows_of_elements};
+ghost use Rattle.annotate_snippets.specs.Page.{cells_of};
 ghost use Rattle.annotate_snippets.specs.PreparedReport.{IsElementPrepared, element_of};
 ghost use Rattle.annotate_snippets.specs.RowsWithoutSource as spec;
 ghost use Rattle.annotate_snippets.specs.RowsWithoutSource.{origin_rows};
@@ -39,8 +42,8 @@ pub fn draw_elements<'a>(
 ) -> Result<(), AllocError>
     requires prepared { All IsElementPrepared elements.items }
     requires room { All (λ e. HasRoomFor renderer.now group.now.layout (element_of e)) elements.items }
-    ensures added { OnOk result (AddsElements renderer.now group.now.layout group.now.place
-        (option_copied group.now.file) (map element_of elements.entry.items) buffer.old buffer.new) }
+    ensures rows { OnOk result (buffer.new ≡ buffer.old ++ flat_map cells_of (rows_of_elements renderer.now
+        group.now.layout group.now.place (option_copied group.now.file) (map element_of elements.entry.items))) }
 {
     let around = contexts_of(alloc, group.place, group.file, &elements)?;
     for (i, element) in elements.into_iter().enumerate() {
@@ -61,9 +64,10 @@ pub fn draw_element<'a>(
     requires prepared { IsElementPrepared element }
     requires room { HasRoomFor renderer.now layout (element_of element) }
     requires around { CanStandIn around (element_of element) }
-    ensures added { (above : List (List Cell)) (found : List Cell) → buffer.old ≡ above
+    ensures rows { (above : List (List Cell)) (found : List Cell) → buffer.old ≡ above
         ++ shared_row (begins_in_row_above around) found
-        → OnOk result (AddsElement renderer.now layout around found (element_of element.entry) above buffer.new) }
+        → OnOk result (buffer.new ≡ above
+        ++ drawn_rows renderer.now layout around found (element_of element.entry)) }
 {
     match element {
         PreparedElement::Message(message) => {

@@ -11,9 +11,10 @@ ghost use Rattle.std.specs.List.{filter_map};
 ghost use Rattle.std.specs.Option.{option_copied};
 ghost use Rattle.annotate_snippets.specs.Around as spec;
 ghost use Rattle.annotate_snippets.specs.Around.{file_of_group, position_of_group};
-ghost use Rattle.annotate_snippets.specs.DrawnReport.{AreGridsOf, HasRoomFor, IsGridAt, IsGroupGrid};
+ghost use Rattle.annotate_snippets.specs.DrawnReport.{HasRoomFor};
+ghost use Rattle.annotate_snippets.specs.GraphicForm.{group_page, page_at};
 ghost use Rattle.annotate_snippets.specs.Gutter.{gutter_of_report, layout_of_group};
-ghost use Rattle.annotate_snippets.specs.Page.{PrintsGrids};
+ghost use Rattle.annotate_snippets.specs.Page.{group_rows};
 ghost use Rattle.annotate_snippets.specs.PreparedReport.{IsGroupDrawable, IsGroupPrepared, element_of};
 
 use crate::renderer::Renderer;
@@ -71,8 +72,8 @@ pub fn draw_at<'a>(
     requires file { option_copied report.now.file
         ≡ slice_get (filter_map spec.primary_path report.now.groups.now) 0 }
     ensures level { IfOk result (λ grid. grid.level ≡ group.entry.group.now.level) }
-    ensures drawn { IfOk result (λ grid. IsGridAt renderer.now report.now.groups.now number
-        group.entry.group.now grid) }
+    ensures rows { IfOk result (λ grid. grid.buffer
+        ≡ group_rows (page_at renderer.now report.now.groups.now number group.entry.group.now)) }
 {
     let around = group_context(renderer, report, number, &group);
     draw_group(alloc, renderer, &around, group, empty)
@@ -116,8 +117,8 @@ fn draw_group<'a>(
     requires prepared { IsGroupPrepared group }
     requires room { All (λ e. HasRoomFor renderer.now around.now.layout (element_of e)) group.elements.items }
     ensures level { IfOk result (λ grid. grid.level ≡ group.entry.group.now.level) }
-    ensures drawn { IfOk result (λ grid. IsGroupGrid renderer.now around.now.layout around.now.place
-        (option_copied around.now.file) group.entry.group.now grid.buffer) }
+    ensures rows { IfOk result (λ grid. grid.buffer ≡ group_rows (group_page renderer.now around.now.layout
+        around.now.place (option_copied around.now.file) group.entry.group.now)) }
 {
     let mut buffer = empty;
     let level = group.group.level;

@@ -11,6 +11,7 @@
 //! ```
 ghost use Rattle.std.specs.Prelude.{◌≡◌, ◌++◌, [], All, Bool, IfOk, List, OnOk, false, map, string_bytes};
 ghost use Rattle.std.specs.Prelude.{true, ℕ};
+ghost use Rattle.std.specs.List.{flat_map};
 ghost use Rattle.std.specs.Option.{option_copied};
 ghost use Rattle.snippet_grid.specs.Woven.{WeavesRows};
 ghost use Rattle.snippet_model.specs.Fits.{MessageFits};
@@ -22,8 +23,10 @@ ghost use Rattle.snippet_titles.specs.Title.{title_rows};
 ghost use Rattle.annotate_snippets.specs.Around as spec;
 ghost use Rattle.annotate_snippets.specs.Around.{drawn_elements};
 ghost use Rattle.annotate_snippets.specs.DrawnReport.{HasRoomFor};
+ghost use Rattle.annotate_snippets.specs.GraphicForm.{group_page, rows_of_elements};
+ghost use Rattle.annotate_snippets.specs.Page.{cells_of, group_rows};
 ghost use Rattle.annotate_snippets.specs.PreparedReport.{IsElementPrepared, IsGroupPrepared, element_of};
-ghost use Rattle.annotate_snippets.specs.Printing.{IsGroupPrinted, IsPrinting, PrintsElements};
+ghost use Rattle.annotate_snippets.specs.Printing.{IsPrinting};
 ghost use Rattle.annotate_snippets.specs.RowsWithoutSource.{title_part};
 
 use crate::renderer::Renderer;
@@ -71,9 +74,9 @@ pub fn print_group<'a>(
     requires room { All (λ e. HasRoomFor renderer.now around.now.layout (element_of e)) group.elements.items }
     ensures sheet { codes.new ≡ codes.old }
     ensures empty { OnOk result (page.new.buffer ≡ []) }
-    ensures printed { OnOk result (IsGroupPrinted codes.old page.old.level renderer.now around.now.layout
-        around.now.place (option_copied around.now.file) group.entry.group.now (string_bytes page.old.text)
-        (string_bytes page.new.text)) }
+    ensures printed { OnOk result (WeavesRows codes.old page.old.level (group_rows (group_page renderer.now
+        around.now.layout around.now.place (option_copied around.now.file) group.entry.group.now))
+        (string_bytes page.old.text) (string_bytes page.new.text)) }
 {
     add_title(alloc, page, codes, renderer, around, &group)?;
     add_elements(alloc, page, codes, renderer, around, group.elements)
@@ -168,8 +171,9 @@ fn add_elements<'a>(
     ensures empty { OnOk result (page.new.buffer ≡ []) }
     ensures printed { OnOk result ((old : List ℕ) (above : List (List Cell))
         → IsPrinting codes.old page.old.level old page.old above
-        → PrintsElements codes.old page.old.level renderer.now group.now.layout group.now.place
-        (option_copied group.now.file) (map element_of elements.entry.items) above old (string_bytes page.new.text)) }
+        → WeavesRows codes.old page.old.level (above ++ flat_map cells_of (rows_of_elements renderer.now
+        group.now.layout group.now.place (option_copied group.now.file) (map element_of elements.entry.items))) old
+        (string_bytes page.new.text)) }
 {
     let around = contexts_of(alloc, group.place, group.file, &elements)?;
     for (i, element) in elements.into_iter().enumerate() {

@@ -10,7 +10,8 @@ ghost use Rattle.std.specs.Prelude.{◌≡◌, ◌++◌, List, OnOk};
 ghost use Rattle.snippet_model.specs.declared.snippet.Element.TheVariants.{Suggestion};
 ghost use Rattle.snippet_style.specs.Cell.{Cell};
 ghost use Rattle.snippet_suggest.specs.PreparedSuggestion.{IsPrepared};
-ghost use Rattle.annotate_snippets.specs.DrawnReport.{AddsElement, shared_row};
+ghost use Rattle.annotate_snippets.specs.DrawnReport.{shared_row};
+ghost use Rattle.annotate_snippets.specs.GraphicForm.{drawn_rows};
 ghost use Rattle.annotate_snippets.specs.Around.{HasPathFor, begins_in_row_above};
 ghost use Rattle.annotate_snippets.specs.RowsWithoutSource as spec;
 
@@ -38,10 +39,10 @@ pub fn draw_patches(
 ) -> Result<(), AllocError>
     requires prepared { IsPrepared suggestion.now }
     requires path { HasPathFor around.start suggestion.now.snippet.now }
-    ensures added { (above : List (List Cell)) (found : List Cell) → buffer.old ≡ above
+    ensures rows { (above : List (List Cell)) (found : List Cell) → buffer.old ≡ above
         ++ shared_row (begins_in_row_above around) found
-        → OnOk result (AddsElement renderer.now layout around found
-        (Suggestion suggestion.now.snippet.now) above buffer.new) }
+        → OnOk result (buffer.new ≡ above
+        ++ drawn_rows renderer.now layout around found (Suggestion suggestion.now.snippet.now)) }
 {
     if around.start == SuggestionStart::Path {
         draw_path(alloc, buffer, renderer, layout, around.first, suggestion)?;

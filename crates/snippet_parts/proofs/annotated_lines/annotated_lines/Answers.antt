@@ -14,4 +14,5 @@ returns c =
     record {
       deepest = IfOk-weaker c.located_lines.result _ _ (λ drawn is. is ∙ ap (deepest c.args.source.now) same) c.located_lines.ensures.deepest;
       lines = IfOk-weaker c.located_lines.result _ _ (λ drawn is. is ∙ ap (annotated_lines c.args.fold c.args.source.now) same) c.located_lines.ensures.lines;
+      labels = IfOk-weaker c.located_lines.result _ _ (λ drawn is. c.in_ok-located.ensures.labels) c.located_lines.ensures.lines;
     }

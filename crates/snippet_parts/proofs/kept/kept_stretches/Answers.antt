@@ -58,7 +58,8 @@ returns c = record { value = kept }
         keeps-ends f l span.bars.end (l - c.from-closing.result) k (is_marking a.kind) shown last_bar (omega arith)
         bars.from (omega (arith, bars.before)) marked (bars.telling k)
         (last_bar-is l k m (is_trivial_line source) c.from-closing.result span.bars.closing (omega arith)
-        (bars.closes ∙ ap (λ b. b && not (is_trivial_line source (l - 1))) (after-least m l)) (λ e. c.from-closing.ensures ∙ ap bool_byte e) (λ e. c.from-closing.ensures ∙ ap bool_byte e))
+        (bars.closes ∙ ap (λ b. b && not (is_trivial_line source (l - 1))) (after-least m l))
+        (λ e. c.from-closing.ensures ∙ ap bool_byte e) (λ e. c.from-closing.ensures ∙ ap bool_byte e))
         (last_bar-apart l k m (is_trivial_line source)) (omega arith)
         (omega (arith, one-at-most span.bars.closing c.from-closing.result c.from-closing.ensures))
         ∙ at_lines s span f l k at c.touched-all.ensures.first c.touched-all.ensures.last

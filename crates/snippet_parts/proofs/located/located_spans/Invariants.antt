@@ -1,11 +1,11 @@
 use Rattle.std.proofs.Common.{◌≡◌, IfSome, take}
 use Rattle.std.specs.List.{All}
 use Rattle.snippet_parts.specs.LinePlaces.{IsLinePlace}
-use Rattle.snippet_parts.specs.Located.{IsLocated, annotations_of}
+use Rattle.snippet_parts.specs.Located.{HasTextLabel, IsLocated, annotations_of}
 use Rattle.snippet_parts.proofs.located.located_spans.Given as goal
 
 -- the spans so far, and the place that is known
 abbrev pub invariant-loop-annotation : goal.invariant-loop-annotation
 invariant-loop-annotation l =
     (annotations_of l.located.items ≡ take l.annotation-index l.annotations) × All (IsLocated l.source) l.located.items
-    × IfSome l.known (IsLinePlace l.source)
+    × IfSome l.known (IsLinePlace l.source) × All HasTextLabel (take l.annotation-index l.annotations)

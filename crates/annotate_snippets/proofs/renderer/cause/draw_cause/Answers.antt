@@ -1,9 +1,13 @@
-use Rattle.std.proofs.Common.{◌≡◌, ◌∙◌, ◌++◌, Bool, List, ap, refl, subst}
+use Rattle.std.proofs.Common.{◌≡◌, ◌∙◌, ◌++◌, [], Bool, List, ap, sym}
+use Rattle.std.specs.Cow.{cow_str_bytes}
 use Rattle.std.proofs.lemmas.List.{append_assoc}
 use Rattle.std.proofs.lemmas.Result.{on_ok_weaker}
+use Rattle.snippet_parts.specs.Kept.{shown_lines}
 use Rattle.snippet_style.specs.Cell.{Cell}
-use Rattle.annotate_snippets.specs.DrawnReport.{AreCauseRows}
+use Rattle.annotate_snippets.specs.GraphicForm.{rows_of_lines}
+use Rattle.annotate_snippets.specs.Page.{cells_of}
 use Rattle.annotate_snippets.specs.RowsWithoutSource.{cause_head, rows_after_cause}
+use Rattle.annotate_snippets.proofs.CauseShown.{snippet_cells}
 use Rattle.annotate_snippets.proofs.renderer.cause.draw_cause.Goals as goal
 
 -- what is added piece by piece is added as a whole
@@ -15,19 +19,12 @@ pub returns : goal.returns
 returns c =
     let r = c.args.renderer.now in
     let layout = c.args.layout in
+    let around = c.args.around in
     let s = c.args.cause.snippet.now in
-    let head : List (List Cell) = cause_head r layout c.args.around s in
-    let after : List (List Cell) = rows_after_cause r layout c.args.around in
-    let drawn = c.in_ok-draw_cause_lines.ensures.added in
+    let lines = λ (closes : Bool). cells_of (rows_of_lines r layout closes s [] (shown_lines s.fold (cow_str_bytes s.source) s.markers.items)) in
     record {
-      added = on_ok_weaker c.draw_after.result (λ below. record {
-        rows = head ++ (drawn.rows ++ after);
-        added = pieces c.args.buffer.now head drawn.rows after c.draw_cause_head.new.buffer c.draw_cause_lines.new.buffer c.draw_after.new.buffer
-            c.in_ok-draw_cause_head.ensures.rows drawn.added below;
-        is = record {
-          lines = drawn.rows;
-          rows_are = refl;
-          are = subst (λ (closes : Bool). AreCauseRows r layout closes s drawn.rows) c.closes.ensures.value drawn.are;
-        };
-      }) c.draw_after.ensures.rows;
+      rows = on_ok_weaker c.draw_after.result (λ below. pieces c.args.buffer.now (cause_head r layout around s) _ (rows_after_cause r layout around)
+          c.draw_cause_head.new.buffer c.draw_cause_lines.new.buffer c.draw_after.new.buffer c.in_ok-draw_cause_head.ensures.rows
+          (c.in_ok-draw_cause_lines.ensures.rows ∙ ap (λ closes. c.draw_cause_head.new.buffer ++ lines closes) c.closes.ensures.value) below
+          ∙ ap (λ rows. c.args.buffer.now ++ rows) (sym (snippet_cells r layout around s))) c.draw_after.ensures.rows;
     }

@@ -1,4 +1,4 @@
-use Rattle.std.proofs.Common.{◌≡◌, ◌∙◌, ◌+◌, ◌-◌, ◌<◌, ◌≤◌, ◌^◌, IfSome, [], All, Bool, List, ap, length, map, refl, subst, sym}
+use Rattle.std.proofs.Common.{◌≡◌, ◌∙◌, ◌+◌, ◌-◌, ◌<◌, ◌≤◌, ◌^◌, ◌++◌, IfSome, [], All, Bool, List, ap, length, map, refl, subst, sym}
 use Rattle.std.proofs.lemmas.Result.{on_ok_weaker}
 use Rattle.std.specs.Cow.{cow_str_bytes}
 use Rattle.snippet_model.specs.declared.snippet.Annotation.{Annotation}
@@ -16,11 +16,16 @@ use Rattle.snippet_window.specs.Measures.{margin_of}
 use Rattle.snippet_parts.specs.declared.entries.LineAnnotation.{LineAnnotation}
 use Rattle.snippet_grid.specs.Layout.{Layout}
 use Rattle.snippet_strokes.specs.Drawable.{IsDrawableLine}
-use Rattle.snippet_strokes.specs.Snippet.{AreLinesShown}
+use Rattle.snippet_strokes.specs.declared.snippet.LineView.{LineView}
+use Rattle.annotate_snippets.specs.GraphicForm.{bounds_in, margin_in, room_of, rows_of_lines}
+use Rattle.annotate_snippets.specs.Page.{cells_of}
+use Rattle.snippet_strokes.specs.Snippet.{infos_rows}
+use Rattle.snippet_style.specs.Cell.{Cell}
 use Rattle.annotate_snippets.specs.Gutter.{numbered_source}
 use Rattle.annotate_snippets.specs.PreparedReport.{IsCausePrepared}
 use Rattle.annotate_snippets.specs.declared.renderer.preprocess.PreparedCause.{PreparedCause}
 use Rattle.annotate_snippets.proofs.GutterLemmas.{numbers_fit}
+use Rattle.annotate_snippets.proofs.LineValue.{lines_value, one_margin}
 use Rattle.annotate_snippets.proofs.PartsFacts.{lines_entries, lines_labels, lines_texts, shown_clear}
 use Rattle.annotate_snippets.proofs.renderer.cause.draw_cause_lines.Goals as goal
 use Rattle.annotate_snippets.proofs.renderer.cause.draw_cause_lines.Goals.{After-deref, After-deref-2}
@@ -119,6 +124,10 @@ draw_snippet-requires c =
       });
     }
 
+-- what is added, in other words
+joined : (old new more rows : List (List Cell)) → new ≡ old ++ more → more ≡ rows → new ≡ old ++ rows
+joined old new more rows adds same = adds ∙ ap (λ rs. old ++ rs) same
+
 pub returns : goal.returns
 returns c =
     let s = c.args.cause.snippet.now in
@@ -132,21 +141,16 @@ returns c =
     let bounds : bounds_of c.margin_for-margin.result ≡ margin_of (c.args.renderer.now.term_width - layout.code)
     (annotated_lines s.fold (numbered_source s) s.markers.items) = c.margin_for-margin.ensures.bounds ∙ ap (margin_of c.saturating_sub-room.result) kept
     ∙ ap (λ n. margin_of n (annotated_lines s.fold (numbered_source s) s.markers.items)) room in
+    let view : LineView = record { margin = c.margin_for-margin.result; numbers = c.line_numbers-numbers.result; closes = c.args.closes } in
+    let margin : view.margin ≡ margin_in c.args.renderer.now layout s = one_margin view.margin (room_of c.args.renderer.now layout)
+    (bounds_in c.args.renderer.now layout s) (c.margin_for-margin.ensures.room ∙ room) bounds in
+    let shown = shown_of c.args.cause prepared c.args.cause.map refl (infos_of c.in_ok-lines.lines.items) lines (ap infos_of c.deref-2.ensures.value)
+    c.in_ok-lines.ensures.value in
+    let value = lines_value c.args.renderer.now layout s view margin c.line_numbers-numbers.ensures.value []
+    (shown_lines s.fold (cow_str_bytes s.source) s.markers.items) lines shown in
+    let own : List (List Cell) = cells_of (rows_of_lines c.args.renderer.now layout c.args.closes s []
+    (shown_lines s.fold (cow_str_bytes s.source) s.markers.items)) in
     record {
-      added = on_ok_weaker c.draw_snippet.result (λ adds. record {
-        rows = adds.rows;
-        added = adds.added;
-        are = record {
-          utf8 = prepared.utf8;
-          infos = lines;
-          lines = shown_of c.args.cause prepared c.args.cause.map refl (infos_of c.in_ok-lines.lines.items) lines
-              (ap infos_of c.deref-2.ensures.value) c.in_ok-lines.ensures.value;
-          margin = c.margin_for-margin.result;
-          room = c.margin_for-margin.ensures.room ∙ room;
-          bounds = bounds;
-          ordered = c.margin_for-margin.ensures.ordered;
-          shown = subst (λ (numbers : LineNumbers). AreLinesShown layout c.margin_for-margin.result numbers c.args.closes [] lines adds.rows)
-              c.line_numbers-numbers.ensures.value adds.shown;
-        };
-      }) c.draw_snippet.ensures.added;
+      rows = on_ok_weaker c.draw_snippet.result (λ adds. joined c.args.buffer.now c.draw_snippet.new.buffer (infos_rows layout view [] lines) own adds value)
+          c.draw_snippet.ensures.added;
     }

@@ -32,13 +32,13 @@ loop-i-preserved c =
     _ c.in-Some.i c.in-Some.element c.index.result.now c.args.buffer.now c.loop-i.buffer c.draw_element.new.buffer
     (subst (λ xs. AreAround c.args.group.now.place (option_copied c.args.group.now.file) (map element_of xs) c.in_ok-around.around.items)
     c.deref.ensures.value c.in_ok-around.ensures.value) turn c.index.ensures (length_push c.loop-i.yielded (c.in-Some.i, c.in-Some.element))
-    c.loop-i.invariant c.in_ok-draw_element.ensures.added
+    c.loop-i.invariant c.in_ok-draw_element.ensures.rows
 
 pub returns : goal.returns
 returns c =
     let end = YieldsList-end (YieldsList-from_enumerate (YieldsList-from_vec c.args.elements.items (cc) (cc))
     (cc)) c.loop-i.yielded c.loop-i.i-iterator c.loop-i.yielded_by c.next.result c.next.new.self c.in-None.is c.next.ensures.steps in
     record {
-      added = turns_all c.args.renderer.now c.args.group.now.layout c.args.group.now.place (option_copied c.args.group.now.file) c.args.elements.items
+      rows = turns_all c.args.renderer.now c.args.group.now.layout c.args.group.now.place (option_copied c.args.group.now.file) c.args.elements.items
           (length c.loop-i.yielded) c.args.buffer.now c.loop-i.buffer end.1 c.loop-i.invariant;
     }

@@ -1,7 +1,9 @@
+use Rattle.std.proofs.Common.{◌≡◌, ◌∙◌, ap}
 use Rattle.std.specs.Option.{option_copied}
 use Rattle.std.proofs.lemmas.Result.{IfOk-weaker}
-use Rattle.annotate_snippets.specs.DrawnReport.{IsGridAt, IsGroupGrid}
-use Rattle.annotate_snippets.proofs.GridRows.{grid_at, room_at}
+use Rattle.annotate_snippets.specs.GraphicForm.{group_page, page_at}
+use Rattle.annotate_snippets.specs.Page.{group_rows}
+use Rattle.annotate_snippets.proofs.GridRows.{page_here, room_at}
 use Rattle.annotate_snippets.proofs.renderer.graphic.draw_at.Goals as goal
 
 pub draw_group-requires-clause-room : goal.draw_group-requires-clause-room
@@ -9,13 +11,13 @@ draw_group-requires-clause-room c =
     room_at c.args.renderer.now c.args.report.now.groups.now c.args.number c.args.group c.group_context-around.result.layout c.requires.drawable
     c.requires.prepared c.requires.here c.group_context-around.ensures.layout
 
-pub returns-clause-drawn : goal.returns-clause-drawn
-returns-clause-drawn c =
+pub returns-clause-rows : goal.returns-clause-rows
+returns-clause-rows c =
     let r = c.args.renderer.now in
     let groups = c.args.report.now.groups.now in
     let g = c.args.group.group.now in
     let around = c.group_context-around.result in
-    IfOk-weaker c.draw_group.result (λ grid. IsGroupGrid r around.layout around.place (option_copied around.file) g grid.buffer)
-    (IsGridAt r groups c.args.number g)
-    (λ grid drawn. grid_at r groups c.args.number g grid around.layout around.place (option_copied around.file) c.group_context-around.ensures.layout
-    c.group_context-around.ensures.place c.group_context-around.ensures.file drawn) c.draw_group.ensures.drawn
+    let page = page_here r groups c.args.number g around.layout around.place (option_copied around.file) c.group_context-around.ensures.layout
+    c.group_context-around.ensures.place c.group_context-around.ensures.file in
+    IfOk-weaker c.draw_group.result (λ grid. grid.buffer ≡ group_rows (group_page r around.layout around.place (option_copied around.file) g))
+    (λ grid. grid.buffer ≡ group_rows (page_at r groups c.args.number g)) (λ grid drawn. drawn ∙ ap group_rows page) c.draw_group.ensures.rows

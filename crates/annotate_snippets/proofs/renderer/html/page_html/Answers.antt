@@ -44,7 +44,7 @@ loop-i-preserved c =
     let at = (turn_item c.in_ok-prepared.prepared.items (length c.loop-i.yielded) c.in-Some.i c.in-Some.group turn).0 in
     let next = length_push c.loop-i.yielded (c.in-Some.i, c.in-Some.group) in
     let so_far = turn_grid r groups c.in_ok-prepared.prepared.items (length c.loop-i.yielded) _ c.in-Some.i c.in-Some.group c.in_ok-grid.grid before.grids
-    _ c.in_ok-prepared.ensures.groups turn c.in_ok-grid.ensures.level c.in_ok-grid.ensures.drawn refl next before.so_far in
+    _ c.in_ok-prepared.ensures.groups turn c.in_ok-grid.ensures.level c.in_ok-grid.ensures.rows refl next before.so_far in
     record {
       empty = c.clear.ensures.empty;
       html = html_more r groups (length c.loop-i.yielded) _ c.in_ok-grid.grid (c.in-Some.i == 0) (string_bytes c.loop-i.text)
@@ -57,6 +57,6 @@ returns c =
     (cc)) c.loop-i.yielded c.loop-i.i-iterator c.loop-i.yielded_by c.next.result c.next.new.self c.in-None.is c.next.ensures.steps in
     let all = turns_all c.args.groups.now c.in_ok-prepared.prepared.items (length c.loop-i.yielded) c.in_ok-prepared.ensures.groups end.1 in
     record {
-      html = html_all c.args.renderer.now c.args.groups.now (length c.loop-i.yielded) (string_bytes c.loop-i.text) c.requires.drawable all
+      html = html_all c.args.renderer.now c.args.groups.now (length c.loop-i.yielded) (string_bytes c.loop-i.text) all
           c.loop-i.invariant.html;
     }

@@ -10,9 +10,11 @@ use Rattle.annotate_snippets.specs.Laws.Forms.{IsTextUnder}
 use Rattle.annotate_snippets.specs.Gutter.{gutter_of_report}
 use Rattle.annotate_snippets.specs.declared.renderer.form.Form.TheVariants.{Graphic}
 use Rattle.annotate_snippets.specs.declared.renderer.pages.SheetPage.{SheetPage}
+use Rattle.annotate_snippets.proofs.AreTexts.{prepared_texts}
 use Rattle.annotate_snippets.proofs.ElementRows.{turn_item}
 use Rattle.annotate_snippets.proofs.GridRows.{turn_grid, turn_group, turn_prepared, turns_all}
 use Rattle.annotate_snippets.proofs.PreparedLemmas.{group_of}
+use Rattle.annotate_snippets.proofs.ReportLemmas.{page_laws}
 use Rattle.annotate_snippets.proofs.SheetPages.{grew_lent, pages_all, pages_more, pages_none}
 use Rattle.annotate_snippets.proofs.renderer.pages.page_texts.Goals as goal
 
@@ -54,7 +56,7 @@ loop-i-preserved c =
       printed = pages_more r groups (length c.loop-i.yielded) _ c.in_ok-grid.grid (c.in-Some.i == 0) c.args.sheets.now c.loop-i.pages.items
           _ (ap (λ k. k == 0) at)
           (λ grids so_far. turn_grid r groups c.in_ok-prepared.prepared.items (length c.loop-i.yielded) _ c.in-Some.i c.in-Some.group c.in_ok-grid.grid grids
-          _ c.in_ok-prepared.ensures.groups turn c.in_ok-grid.ensures.level c.in_ok-grid.ensures.drawn refl next so_far)
+          _ c.in_ok-prepared.ensures.groups turn c.in_ok-grid.ensures.level c.in_ok-grid.ensures.rows refl next so_far)
           (grew_lent (c.in-Some.i == 0) c.in_ok-grid.grid c.loop-i.pages.len c.loop-i.pages.items c.deref_mut.result.now c.print_grid.new.pages
           c.deref_mut.ensures.value (omega (arith, c.loop-i.pages.ok.0)) c.in_ok-print_grid.ensures.printed)
           c.loop-i.invariant.printed;
@@ -69,7 +71,8 @@ returns c =
     let end = YieldsList-end (YieldsList-from_enumerate (YieldsList-from_vec c.in_ok-prepared.prepared.items (cc) (cc))
     (cc)) c.loop-i.yielded c.loop-i.i-iterator c.loop-i.yielded_by c.next.result c.next.new.self c.in-None.is c.next.ensures.steps in
     let all = turns_all groups c.in_ok-prepared.prepared.items (length c.loop-i.yielded) c.in_ok-prepared.ensures.groups end.1 in
-    let printed = pages_all r groups (length c.loop-i.yielded) sheets pages c.requires.drawable all c.loop-i.invariant.printed in
+    let printed = pages_all r groups (length c.loop-i.yielded) sheets pages (page_laws r groups c.requires.drawable (prepared_texts groups
+    c.in_ok-prepared.prepared.items c.in_ok-prepared.ensures.groups c.in_ok-prepared.ensures.prepared)) all c.loop-i.invariant.printed in
     record {
       texts = IfOk-weaker c.texts_of.result (λ texts. texts.items ≡ map (λ (page : SheetPage). page.text) pages)
           (λ texts. AllZip (IsTextUnder Graphic r groups) sheets (map string_bytes texts.items))

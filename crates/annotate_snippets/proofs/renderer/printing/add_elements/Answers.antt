@@ -63,7 +63,7 @@ loop-i-preserved c =
       printed = λ old above printing. elements_drawn c.args.codes.now c.args.page.now.level c.args.renderer.now c.args.group.now.layout
           c.args.group.now.place (option_copied c.args.group.now.file) c.args.elements.items c.in_ok-around.around.items (length c.loop-i.yielded) _
           c.in-Some.i c.in-Some.element c.index-place.result.now above old page after are turn c.index-place.ensures
-          (length_push c.loop-i.yielded (c.in-Some.i, c.in-Some.element)) refl refl c.in_ok-draw_element.ensures.added
+          (length_push c.loop-i.yielded (c.in-Some.i, c.in-Some.element)) refl refl c.in_ok-draw_element.ensures.rows
           (c.loop-i.invariant.printed old above printing);
     }
 

@@ -1,6 +1,4 @@
-use Rattle.std.proofs.Common.{◌≡◌, ◌∙◌, Bool, true, false, not, ap, subst, sym, rules}
-use Rattle.std.specs.Str.{IsUtf8}
-use Rattle.std.proofs.lemmas.Str.{IsUtf8-string_bytes}
+use Rattle.std.proofs.Common.{◌≡◌, ◌∙◌, Bool, true, false, not, ap, sym, rules}
 use denote.Enum.Bare.{same_true, sameb}
 use Rattle.snippet_suggest.specs.contracts.SuggestionStart.{the_type}
 use Rattle.snippet_suggest.specs.declared.SuggestionStart.TheVariants.{Path}
@@ -10,12 +8,11 @@ use Rattle.annotate_snippets.proofs.renderer.suggestions.draw_patches.Goals as g
 
 pub returns : goal.returns
 returns c = record {
-  added = λ above found is.
+  rows = λ above found is.
       patches_added c.args.renderer.now c.args.layout c.args.around c.args.suggestion.now.snippet.now found above c.args.buffer.now c.if-eq.buffer
       c.draw_suggestion.new.buffer c.line_numbers.result _ c.draw_suggestion.result
       c.line_numbers.ensures.value (ap not c.is_nothing-follows.ensures.value)
-      c.requires.prepared.utf8 (subst IsUtf8 c.requires.prepared.text
-      (IsUtf8-string_bytes c.args.suggestion.now.splice.complete)) is c.requires.path
+      is c.requires.path
       (elim c.if-eq.branch [
         | then-eq+in_ok-draw_path w ↦ λ starts. w.buffer-is ∙ w.in_ok-draw_path.ensures.rows
         | else-eq w ↦ λ starts. let never : ◌≡◌ {A = Bool} false true = w.if-eq.ensures ∙ ap (λ at. sameb the_type at Path) starts in absurd (cc)

@@ -6,9 +6,11 @@ use Rattle.snippet_style.specs.declared.stylesheet.Stylesheet.{Stylesheet}
 use Rattle.annotate_snippets.specs.Gutter.{gutter_of_report}
 use Rattle.annotate_snippets.specs.Written.{PrintsGrid, WritesPart, WritesText}
 use Rattle.snippet_grid.proofs.GridShown.{on_err_from}
+use Rattle.annotate_snippets.proofs.AreTexts.{prepared_texts}
 use Rattle.annotate_snippets.proofs.ElementRows.{turn_item}
 use Rattle.annotate_snippets.proofs.GridRows.{turn_grid, turn_group, turn_prepared, turn_within, turns_all}
 use Rattle.annotate_snippets.proofs.PreparedLemmas.{group_of}
+use Rattle.annotate_snippets.proofs.ReportLemmas.{page_laws}
 use Rattle.annotate_snippets.proofs.WriteLemmas.{stopped_at, stopped_before, written_all, written_more, written_none}
 use Rattle.annotate_snippets.proofs.renderer.to_writer.write_groups.Goals as goal
 
@@ -50,7 +52,7 @@ loop-i-preserved g c =
     let at = (turn_item c.in_ok-prepared.prepared.items (length c.loop-i.yielded) c.in-Some.i c.in-Some.group turn).0 in
     let next = length_push c.loop-i.yielded (c.in-Some.i, c.in-Some.group) in
     let so_far = turn_grid r groups c.in_ok-prepared.prepared.items (length c.loop-i.yielded) _ c.in-Some.i c.in-Some.group c.in_ok-grid.grid before.grids
-    _ c.in_ok-prepared.ensures.groups turn c.in_ok-grid.ensures.level c.in_ok-grid.ensures.drawn refl next before.so_far in
+    _ c.in_ok-prepared.ensures.groups turn c.in_ok-grid.ensures.level c.in_ok-grid.ensures.rows refl next before.so_far in
     let added = subst (λ (sheet : Stylesheet). WritesText (PrintsGrid sheet (c.in-Some.i == 0) c.in_ok-grid.grid) (contents c.loop-i.out)
     (contents c.write_grid.new.out)) c.loop-i.invariant.sheet c.in_ok-write_grid.ensures.whole in
     record {
@@ -68,7 +70,7 @@ returns-in_err-grid-clause-part g c =
     (c.in-Some.i, c.in-Some.group) c.in-Some.is c.next.ensures.steps in
     let within = turn_within c.args.groups.now c.in_ok-prepared.prepared.items (length c.loop-i.yielded) c.in-Some.i c.in-Some.group
     c.in_ok-prepared.ensures.groups turn in
-    on_err_from c.from_residual-in_err-grid.result (stopped_before c.args.renderer.now c.args.groups.now g.W.Write.contents c.requires.drawable
+    on_err_from c.from_residual-in_err-grid.result (stopped_before c.args.renderer.now c.args.groups.now g.W.Write.contents
     (length c.loop-i.yielded) c.args.out.now c.loop-i.out within c.loop-i.invariant.first c.loop-i.invariant.written)
 
 pub returns-in_err-write_grid-clause-part : goal.returns-in_err-write_grid-clause-part
@@ -85,11 +87,11 @@ returns-in_err-write_grid-clause-part g c =
     let within = turn_within groups c.in_ok-prepared.prepared.items (length c.loop-i.yielded) c.in-Some.i c.in-Some.group
     c.in_ok-prepared.ensures.groups turn in
     let so_far = turn_grid r groups c.in_ok-prepared.prepared.items (length c.loop-i.yielded) _ c.in-Some.i c.in-Some.group c.in_ok-grid.grid before.grids
-    _ c.in_ok-prepared.ensures.groups turn c.in_ok-grid.ensures.level c.in_ok-grid.ensures.drawn refl next before.so_far in
+    _ c.in_ok-prepared.ensures.groups turn c.in_ok-grid.ensures.level c.in_ok-grid.ensures.rows refl next before.so_far in
     let stopped = subst (λ (sheet : Stylesheet). (c.write_grid.new.out ≡ c.loop-i.out)
     ⊎ WritesPart (PrintsGrid sheet (c.in-Some.i == 0) c.in_ok-grid.grid) (contents c.loop-i.out) (contents c.write_grid.new.out))
     c.loop-i.invariant.sheet c.in_err-write_grid.ensures.part in
-    let stops = stopped_at r groups contents c.requires.drawable (length c.loop-i.yielded) _ c.in_ok-grid.grid (c.in-Some.i == 0) c.args.out.now
+    let stops = stopped_at r groups contents (length c.loop-i.yielded) _ c.in_ok-grid.grid (c.in-Some.i == 0) c.args.out.now
     c.loop-i.out c.write_grid.new.out before within c.loop-i.invariant.first (ap (λ k. k == 0) at) so_far stopped in
     on_err_from c.from_residual-in_err-write_grid.result stops
 
@@ -98,5 +100,7 @@ returns-clause-whole g c =
     let end = YieldsList-end (YieldsList-from_enumerate (YieldsList-from_vec c.in_ok-prepared.prepared.items (cc) (cc))
     (cc)) c.loop-i.yielded c.loop-i.i-iterator c.loop-i.yielded_by c.next.result c.next.new.self c.in-None.is c.next.ensures.steps in
     let all = turns_all c.args.groups.now c.in_ok-prepared.prepared.items (length c.loop-i.yielded) c.in_ok-prepared.ensures.groups end.1 in
-    written_all c.args.renderer.now c.args.groups.now c.requires.drawable (length c.loop-i.yielded) (g.W.Write.contents c.args.out.now)
+    let texts = prepared_texts c.args.groups.now c.in_ok-prepared.prepared.items c.in_ok-prepared.ensures.groups c.in_ok-prepared.ensures.prepared in
+    let laws = page_laws c.args.renderer.now c.args.groups.now c.requires.drawable texts in
+    written_all c.args.renderer.now c.args.groups.now laws (length c.loop-i.yielded) (g.W.Write.contents c.args.out.now)
     (g.W.Write.contents c.loop-i.out) all c.loop-i.invariant.written

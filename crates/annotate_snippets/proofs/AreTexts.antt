@@ -1,0 +1,64 @@
+-- What the types of Rust give of a report's texts: that they are UTF-8.
+use Rattle.std.proofs.Common.{◌≡◌, All, List, map, subst}
+use Rattle.std.specs.Cow.{cow_str_bytes}
+use Rattle.std.specs.Str.{IsUtf8}
+use Rattle.std.proofs.lemmas.List.Elements.{All-map, All-weaker}
+use Rattle.std.proofs.lemmas.Str.{IsUtf8-string_bytes}
+use Rattle.snippet_model.specs.declared.snippet.Annotation.{Annotation}
+use Rattle.snippet_model.specs.declared.snippet.Element.{Element}
+use Rattle.snippet_model.specs.declared.snippet.Element.TheVariants.{Cause, Message, Origin, Padding, Suggestion}
+use Rattle.snippet_model.specs.declared.snippet.Group.{Group}
+use Rattle.snippet_model.specs.declared.snippet.Patch.{Patch}
+use Rattle.snippet_model.specs.declared.snippet.Snippet.{Snippet}
+use Rattle.snippet_parts.specs.Located.{HasTextLabel}
+use Rattle.snippet_suggest.specs.Given.{given_text}
+use Rattle.annotate_snippets.specs.Around.{drawn_elements}
+use Rattle.annotate_snippets.specs.PreparedReport.{IsElementPrepared, IsGroupPrepared, element_of}
+use Rattle.annotate_snippets.specs.declared.renderer.preprocess.PreparedElement.{PreparedElement}
+use Rattle.annotate_snippets.specs.declared.renderer.preprocess.PreparedElement.TheVariants as prepared
+use Rattle.annotate_snippets.specs.declared.renderer.preprocess.PreparedGroup.{PreparedGroup}
+use Rattle.annotate_snippets.proofs.PreparedLemmas.{group_of}
+
+-- the texts of an annotated snippet that laws speak of: its source and its labels
+pub record IsTextCause (s : Snippet Annotation) : Type 0 where
+  pub utf8 : IsUtf8 (cow_str_bytes s.source)
+  pub labels : All HasTextLabel s.markers.items
+
+-- and of a suggestion: its source, and the text of the lines that it gives
+pub record IsTextSuggestion (s : Snippet Patch) : Type 0 where
+  pub utf8 : IsUtf8 (cow_str_bytes s.source)
+  pub given_utf8 : IsUtf8 (given_text s)
+
+abbrev pub IsTextElement : Element → Type 0
+IsTextElement (Message message) = Unit {0}
+IsTextElement (Cause snippet) = IsTextCause snippet
+IsTextElement (Suggestion snippet) = IsTextSuggestion snippet
+IsTextElement (Origin origin) = Unit {0}
+IsTextElement (Padding padding) = Unit {0}
+
+-- those of the elements of a group that are drawn, and of each group of a report
+abbrev pub IsTextGroup : Group → Type 0
+IsTextGroup g = All IsTextElement (drawn_elements g)
+
+abbrev pub AreTexts : List Group → Type 0
+AreTexts groups = All IsTextGroup groups
+
+-- what is prepared has such texts
+element_texts : (p : PreparedElement) → IsElementPrepared p → IsTextElement (element_of p)
+element_texts (prepared.Message message) is = tt
+element_texts (prepared.Cause cause) is = record { utf8 = is.utf8; labels = is.labels }
+element_texts (prepared.Suggestion suggestion) is =
+    record { utf8 = is.utf8; given_utf8 = subst IsUtf8 is.text (IsUtf8-string_bytes suggestion.splice.complete) }
+element_texts (prepared.Origin origin) is = tt
+element_texts (prepared.Padding padding) is = tt
+
+group_texts : (p : PreparedGroup) → IsGroupPrepared p → IsTextGroup (group_of p)
+group_texts p is =
+    subst (All IsTextElement) is.elements_are
+    (All-map IsTextElement element_of p.elements.items (All-weaker IsElementPrepared (λ e. IsTextElement (element_of e)) element_texts p.elements.items
+    is.prepared))
+
+-- so a report has them, once it is prepared
+pub prepared_texts : (groups : List Group) (ps : List PreparedGroup) → map group_of ps ≡ groups → All IsGroupPrepared ps → AreTexts groups
+prepared_texts groups ps same all =
+    subst AreTexts same (All-map IsTextGroup group_of ps (All-weaker IsGroupPrepared (λ p. IsTextGroup (group_of p)) group_texts ps all))

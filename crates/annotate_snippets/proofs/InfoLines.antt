@@ -1,0 +1,155 @@
+-- A snippet's line with its entries, as painters are given it, made from the snippet alone; and what holds of those that are shown.
+use Rattle.std.proofs.Common.{◌≡◌, ℕ, ◌+◌, ◌<◌, ◌≤◌, ◌&&◌, not, All, IfSome, IsUtf8, Bor, get_or, List, [], ◌∷◌, Option, None, Some, map, length}
+use Rattle.std.proofs.Common.{refl, sym, ap, ◌∙◌, arith}
+use Rattle.std.proofs.lemmas.List.{length-map}
+use Rattle.std.proofs.lemmas.List.Elements.{All-map, All-weaker}
+use Rattle.std.specs.Cow.{cow_str_bytes}
+use Rattle.std.specs.List.{list_any}
+use Rattle.std.specs.Option.{option_map}
+use Rattle.snippet_grid.specs.Layout.{Layout}
+use Rattle.snippet_lines.specs.Lines.{Source, source_lines, text_at}
+use Rattle.snippet_lines.specs.Number.{shown_number}
+use Rattle.snippet_lines.specs.Span.{IsSpan}
+use Rattle.snippet_model.specs.declared.snippet.Annotation.{Annotation}
+use Rattle.snippet_model.specs.declared.snippet.Element.TheVariants.{Cause}
+use Rattle.snippet_model.specs.declared.snippet.Snippet.{Snippet}
+use Rattle.snippet_parts.specs.Annotated.{PartEntry, annotated_lines, kept_line, seen_kept}
+use Rattle.snippet_parts.specs.Entries.{AllEntries, HasColumnRoom}
+use Rattle.snippet_parts.specs.Kept.{kept_lines, shown_lines}
+use Rattle.snippet_parts.specs.Located as labels
+use Rattle.snippet_parts.specs.Mark.{is_marking, touches}
+use Rattle.snippet_parts.specs.declared.entries.AnnotatedLineInfo.{AnnotatedLineInfo}
+use Rattle.snippet_parts.specs.declared.entries.LineAnnotation.{LineAnnotation}
+use Rattle.snippet_parts.proofs.EntryFacts.{label-texts, places-fit}
+use Rattle.snippet_parts.proofs.LineCounts.{parts_on-few}
+use Rattle.snippet_parts.proofs.PartLemmas.{All-unmapped}
+use Rattle.snippet_strokes.specs.Drawable.{AreDrawable}
+use Rattle.snippet_strokes.proofs.LineFacts.{CanBeShown}
+use Rattle.snippet_strokes.proofs.PlacedOf.{HasTextLabel}
+use Rattle.snippet_window.specs.Margin.{Bounds, bounds_of}
+use Rattle.snippet_window.specs.Measures.{StandsClear, bounds_of_lines}
+use Rattle.snippet_window.specs.declared.margin.Margin.{Margin}
+use Rattle.snippet_window.proofs.MarginFacts.{lines_clear, lines_sound}
+use Rattle.annotate_snippets.specs.DrawnReport.{HasRoomFor}
+use Rattle.annotate_snippets.specs.GraphicForm.{entries_on, lent, line_entry, margin_in, room_of}
+use Rattle.annotate_snippets.specs.Gutter.{line_numbers, numbered_source}
+use Rattle.annotate_snippets.specs.PreparedReport.{IsDrawable}
+use Rattle.annotate_snippets.specs.declared.renderer.Renderer.{Renderer}
+use Rattle.annotate_snippets.proofs.GutterLemmas.{numbers_fit}
+use Rattle.annotate_snippets.proofs.LineValue.{parts_seen}
+use Rattle.annotate_snippets.proofs.PartsFacts.{bounds_of_kept, lines_entries, shown_clear, snippet_shown-within}
+
+module _ (s : Snippet Annotation) (spans : All (λ a. IsSpan (cow_str_bytes s.source) a.span.start a.span.end) s.markers.items) where
+  -- line k with its entries, of which there are no more than spans
+  abbrev pub info_at : ℕ → AnnotatedLineInfo
+  info_at k =
+      let es : List LineAnnotation = map line_entry (entries_on s k) in
+      record {
+        line = lent (text_at (source_lines (cow_str_bytes s.source)) k);
+        line_index = s.line_start + k;
+        annotations = record {
+          ptr = s.markers.ptr;
+          len = length es;
+          cap = length es;
+          alloc = s.markers.alloc;
+          items = es;
+          ok = (refl, omega arith);
+          small = omega (
+            arith,
+            s.markers.small,
+            length-map (entries_on s k) line_entry,
+            parts_on-few (numbered_source s) s.markers.items k spans,
+          );
+        };
+        keep = list_any (λ (a : Annotation). not (is_marking a.kind) && touches (cow_str_bytes s.source) a k) s.markers.items;
+      }
+
+  -- it is seen as line k
+  pub seen_at : (k : ℕ) → seen_kept (info_at k) ≡ kept_line (numbered_source s) s.markers.items k
+  seen_at k =
+      ap (λ parts. record (kept_line (numbered_source s) s.markers.items k) { parts = parts }) (parts_seen (entries_on s k))
+
+  pub infos_seen : (ks : List ℕ) → map seen_kept (map info_at ks) ≡ map (kept_line (numbered_source s) s.markers.items) ks
+  infos_seen [] = refl
+  infos_seen (k ∷ ks) =
+      ap (λ line. line ∷ map seen_kept (map info_at ks)) (seen_at k)
+      ∙ ap (λ lines. kept_line (numbered_source s) s.markers.items k ∷ lines) (infos_seen ks)
+
+  -- what holds of each of these lines
+  each_of : (P : AnnotatedLineInfo → Type 0) (ks : List ℕ) → All P (map info_at ks) → All (λ k. P (info_at k)) ks
+  each_of P ks all = All-unmapped P info_at ks all
+
+  -- a line of the source that can be shown
+  abbrev pub IsReadyLine : Renderer → Layout → ℕ → Type 0
+  IsReadyLine r layout k =
+      (k < length (source_lines (cow_str_bytes s.source)))
+      × CanBeShown layout (margin_in r layout s) (line_numbers r s.line_numbering) (info_at k)
+
+  -- the labels of entries are texts, where those of annotations are
+  entry_texts : (k : ℕ) → All labels.HasTextLabel s.markers.items → All HasTextLabel (info_at k).annotations.items
+  entry_texts k texts =
+      All-map HasTextLabel line_entry (entries_on s k) (All-weaker (λ (p : PartEntry). IfSome p.entry.label IsUtf8) (λ (p : PartEntry).
+      HasTextLabel (line_entry p)) (λ p text. of p.entry.label text) (entries_on s k) (label-texts (numbered_source s) s.markers.items k texts))
+    where
+      of : (label : Option (List ℕ)) → IfSome label IsUtf8 → IfSome (option_map lent label) (λ (t : Bor (List ℕ)). IsUtf8 t.now)
+      of None text = tt
+      of (Some t) text = text
+
+module _ (r : Renderer) (layout : Layout) (s : Snippet Annotation) (drawable : IsDrawable s) where
+  abbrev source : Source
+  source = numbered_source s
+
+  abbrev marks : List Annotation
+  marks = s.markers.items
+
+  abbrev room : ℕ
+  room = room_of r layout
+
+  abbrev kept : List AnnotatedLineInfo
+  kept = map (info_at s drawable.spans) (kept_lines s.fold (cow_str_bytes s.source) s.markers.items)
+
+  kept_is : map seen_kept kept ≡ annotated_lines s.fold source marks
+  kept_is = infos_seen s drawable.spans (kept_lines s.fold (cow_str_bytes s.source) s.markers.items)
+
+  bounds_are : bounds_of (margin_in r layout s) ≡ bounds_of_lines room kept
+  bounds_are = sym (bounds_of_kept room s.fold source marks kept drawable.spans kept_is)
+
+  places : AllEntries HasColumnRoom kept
+  places = places-fit source marks (kept_lines s.fold (cow_str_bytes s.source) s.markers.items) kept kept_is drawable.source
+
+  -- the bounds of a snippet's window are in order
+  pub bounds_ordered : (bounds_of (margin_in r layout s)).left ≤ (bounds_of (margin_in r layout s)).right
+  bounds_ordered =
+      omega (
+        arith,
+        ap (λ (b : Bounds). b.left) bounds_are,
+        ap (λ (b : Bounds). b.right) bounds_are,
+        (lines_sound room kept places).ordered,
+      )
+
+  -- each line that is shown can be drawn
+  pub lines_ready : HasRoomFor r layout (Cause s) → All labels.HasTextLabel s.markers.items
+      → All (IsReadyLine s drawable.spans r layout) (shown_lines s.fold (cow_str_bytes s.source) s.markers.items)
+  lines_ready fits texts =
+      let ks : List ℕ = shown_lines s.fold (cow_str_bytes s.source) s.markers.items in
+      let at : ℕ → AnnotatedLineInfo = info_at s drawable.spans in
+      let infos : List AnnotatedLineInfo = map at ks in
+      let same : map seen_kept infos ≡ map (kept_line source marks) ks = infos_seen s drawable.spans ks in
+      let margin : Margin = margin_in r layout s in
+      let number = each_of s drawable.spans (λ info. length (shown_number (line_numbers r s.line_numbering) layout.gutter info.line_index) ≤ layout.gutter + 1)
+      ks (numbers_fit r layout s infos fits drawable same) in
+      let entries = each_of s drawable.spans (λ info. AreDrawable layout info.annotations.items) ks
+      (lines_entries source marks drawable.spans ks infos same layout fits.bars drawable.source drawable.labels) in
+      let clear = each_of s drawable.spans (λ info. All (StandsClear margin) info.annotations.items) ks
+      (shown_clear source marks drawable.spans s.fold kept infos margin kept_is same (lines_clear margin room kept bounds_are places)) in
+      let within = snippet_shown-within source marks drawable.spans s.fold in
+      λ i d inside. (
+        within i d inside,
+        record {
+          small = omega (arith, within i d inside, drawable.numbers);
+          number = number i d inside;
+          entries = entries i d inside;
+          clear = clear i d inside;
+          labels = entry_texts s drawable.spans (get_or ks i d) texts;
+        },
+      )

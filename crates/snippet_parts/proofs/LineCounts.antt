@@ -1,0 +1,273 @@
+-- How many entries stand on a line: no more than there are spans.
+use Rattle.std.proofs.Common.{◌≡◌, ℕ, zero, suc, ◌+◌, ◌-◌, ◌<◌, ◌≤◌, ◌==◌, ◌&&◌, Bool, true, false, cond, not, min, List, [], ◌∷◌, ◌++◌, map, length}
+use Rattle.std.proofs.Common.{inl, inr, refl, sym, ap, subst, ◌∙◌, arith, ltb}
+use Rattle.std.specs.List.{All, count_by, filter, list_any, range_with_len}
+use Rattle.std.proofs.Math.Nat.{zero-add}
+use Rattle.std.proofs.lemmas.Bool.{and_parts, cases_Bool, cases_lt, cond-true, cond-false, eq-eqb, ltb-true, ne_eqb, not-true}
+use Rattle.std.proofs.lemmas.List.{length-map, map-append}
+use Rattle.std.proofs.lemmas.List.Elements.{All-filter, All-head, All-map, All-tail, All-weaker}
+use Rattle.std.proofs.lemmas.List.Sums.{count_by-le-length, length-filter, sum_by-append, sum_by-cons}
+use Rattle.snippet_lines.specs.Lines.{Source}
+use Rattle.snippet_lines.specs.OrderedBy.{ordered_by, put_in}
+use Rattle.snippet_lines.specs.Span.{IsSpan}
+use Rattle.snippet_model.specs.declared.snippet.Annotation.{Annotation}
+use Rattle.snippet_model.specs.declared.snippet.AnnotationKind.TheVariants.{Primary}
+use Rattle.snippet_parts.specs.declared.depths.LongExtent.{LongExtent}
+use Rattle.snippet_parts.specs.declared.entries.LineAnnotationType.TheVariants.{MultilineEnd, Singleline}
+use Rattle.snippet_parts.specs.Annotated.{PartEntry, bar_lines, bar_part, end_part, is_long, is_promoted, is_short, long_entry, long_parts, long_place}
+use Rattle.snippet_parts.specs.Annotated.{long_places, long_spans, made_parts, parts_on, promoted, single_part, span_parts, stands_among, stands_before}
+use Rattle.snippet_parts.specs.Annotated.{start_part}
+use Rattle.snippet_parts.specs.Depths.{depth_among}
+use Rattle.snippet_parts.specs.Kept.{is_trivial_line}
+use Rattle.snippet_parts.specs.Mark.{is_marking, is_single_line}
+use Rattle.snippet_parts.specs.Marked.{Entry, first_line, last_line}
+use Rattle.snippet_parts.proofs.EntryFacts.{count-map}
+use Rattle.snippet_parts.proofs.KeptPartLemmas.{lines_ordered}
+use Rattle.snippet_parts.proofs.MarkLemmas.{end-line, start-line}
+use Rattle.snippet_parts.proofs.PartLemmas.{All-filtered, All-order, All-range, IsBarLine, bar_lines-stand}
+
+-- ---- ascending numbers
+
+-- numbers that ascend, from this one on
+abbrev Rising : ℕ → List ℕ → Type 0
+Rising low [] = Unit {0}
+Rising low (n ∷ ns) = (low ≤ n) × Rising (n + 1) ns
+
+rising-lower : (low from : ℕ) (ns : List ℕ) → low ≤ from → Rising from ns → Rising low ns
+rising-lower low from [] le rising = tt
+rising-lower low from (n ∷ ns) le rising = (omega (arith, le, rising.0), rising.1)
+
+rising-filter : (q : ℕ → Bool) (low : ℕ) (ns : List ℕ) → Rising low ns → Rising low (filter q ns)
+rising-filter q low [] rising = tt
+rising-filter q low (n ∷ ns) rising =
+    let rest : Rising (n + 1) (filter q ns) = rising-filter q (n + 1) ns rising.1 in
+    elim (cases_Bool (q n)) [
+      | inl t ↦ subst (Rising low) (sym (cond-true (q n) (n ∷ filter q ns) (filter q ns) t)) (rising.0, rest)
+      | inr f ↦ subst (Rising low) (sym (cond-false (q n) (n ∷ filter q ns) (filter q ns) f))
+          (rising-lower low (n + 1) (filter q ns) (omega (arith, rising.0)) rest)
+    ]
+
+rising-range : (a n : ℕ) → Rising a (range_with_len a n)
+rising-range a zero = tt
+rising-range a (suc n) = (omega arith, rising-range (a + 1) n)
+
+-- those from a number on after those before it
+rising-append : (low high : ℕ) (ms ns : List ℕ) → low ≤ high → Rising low ms → All (λ m. m < high) ms → Rising high ns → Rising low (ms ++ ns)
+rising-append low high [] ns le rising below more = rising-lower low high ns le more
+rising-append low high (m ∷ ms) ns le rising below more = (
+  rising.0,
+  rising-append (m + 1) high ms ns (omega (arith, All-head (λ k. k < high) m ms below)) rising.1 (All-tail (λ k. k < high) m ms below) more,
+)
+
+rising-map : (by low : ℕ) (ns : List ℕ) → Rising low ns → Rising (by + low) (map (λ n. by + n) ns)
+rising-map by low [] rising = tt
+rising-map by low (n ∷ ns) rising =
+    let next : by + (n + 1) ≡ by + n + 1 = omega arith in
+    (omega (arith, rising.0), subst (λ k. Rising k (map (λ m. by + m) ns)) next (rising-map by (n + 1) ns rising.1))
+
+-- none of them is less than the first, so each stands there once
+rising-none : (k low : ℕ) (ns : List ℕ) → k < low → Rising low ns → count_by (λ n. n == k) ns ≡ 0
+rising-none k low [] less rising = refl
+rising-none k low (n ∷ ns) less rising =
+    let other : (n == k) ≡ false = ne_eqb n k (λ same. omega (arith, same, less, rising.0)) in
+    sum_by-cons (λ m. cond (m == k) 1 0) n ns ∙ ap (λ b. cond b 1 0 + count_by (λ m. m == k) ns) other ∙ zero-add (count_by (λ m. m == k) ns)
+    ∙ rising-none k (n + 1) ns (omega (arith, less, rising.0)) rising.1
+
+-- a test counts one at most
+one : (b : Bool) → cond b 1 0 ≤ 1
+one true = omega arith
+one false = omega arith
+
+rising-once : (k low : ℕ) (ns : List ℕ) → Rising low ns → count_by (λ n. n == k) ns ≤ 1
+rising-once k low [] rising = omega arith
+rising-once k low (n ∷ ns) rising =
+    elim (cases_lt k (n + 1)) [
+      | inl less ↦ omega (arith, sum_by-cons (λ m. cond (m == k) 1 0) n ns, rising-none k (n + 1) ns less rising.1, one (n == k))
+      | inr more ↦
+          let other : ◌≡◌ {A = ℕ} (cond (n == k) 1 0) 0 = ap (λ b. cond b 1 0) (ne_eqb n k (λ same. omega (arith, same, more))) in
+          omega (arith, sum_by-cons (λ m. cond (m == k) 1 0) n ns, other, rising-once k (n + 1) ns rising.1)
+    ]
+
+-- ---- spans of several lines
+
+-- a bar stands before the last line
+bar-below : (source : List ℕ) (first last k : ℕ) → IsBarLine source first last k → k < last
+bar-below source first last k bar =
+    elim bar.shown [
+      | inl passes ↦ elim (cases_lt k last) [
+        | inl less ↦ less
+        | inr past ↦
+            let none : min (first + 4) last - k ≡ 0 = omega (arith, past) in
+            let never : false ≡ true = sym (ap (λ n. list_any (λ j. not (is_trivial_line source j)) (range_with_len k n)) none) ∙ passes in
+            absurd cc
+      ]
+      | inr closing ↦ omega (arith, closing.0)
+    ]
+
+-- the lines of bars ascend
+rising-bars : (source : List ℕ) (first last : ℕ) → first < last → Rising (first + 1) (bar_lines source first last)
+rising-bars source first last long =
+    let beginning : ℕ = min (first + 4) last in
+    let test = λ (k : ℕ). list_any (λ j. not (is_trivial_line source j)) (range_with_len k (beginning - k)) in
+    let closing : Bool = ltb beginning (last - 1) && not (is_trivial_line source (last - 1)) in
+    let range : List ℕ = range_with_len (first + 1) (beginning - first) in
+    rising-append (first + 1) (beginning + 1) (filter test range) (cond closing ((last - 1) ∷ []) []) (omega (arith, long))
+    (rising-filter test (first + 1) range (rising-range (first + 1) (beginning - first)))
+    (All-filter test (λ m. m < beginning + 1) range (All-weaker (λ k. (first + 1 ≤ k) × (k < first + 1 + (beginning - first))) (λ m. m < beginning + 1)
+    (λ k within. omega (arith, within.1, long)) range (All-range (first + 1) (beginning - first))))
+    (closed beginning (last - 1) (not (is_trivial_line source (last - 1))))
+  where
+    closed : (low n : ℕ) (b : Bool) → Rising (low + 1) (cond (ltb low n && b) (n ∷ []) [])
+    closed low n b =
+        elim (cases_Bool (ltb low n && b)) [
+          | inl t ↦ subst (Rising (low + 1)) (sym (cond-true (ltb low n && b) (n ∷ []) [] t)) (omega (arith, ltb-true low n (and_parts (ltb low n) b t).0), tt)
+          | inr f ↦ subst (Rising (low + 1)) (sym (cond-false (ltb low n && b) (n ∷ []) [] f)) tt
+        ]
+
+module _ (s : Source) (n : ℕ) where
+  -- whether a part stands on the line of this number
+  abbrev stands : PartEntry → Bool
+  stands p = p.entry.start.line == n
+
+  -- a span of several lines, in a source that begins with a number
+  abbrev IsSeveral : Entry → Type 0
+  IsSeveral e = (s.first ≤ e.start.line) × (e.start.line < e.end.line)
+
+  -- the lines of bars
+  bars_lines : (e : Entry) (depth : ℕ) (ks : List ℕ)
+      → map (λ (p : PartEntry). p.entry.start.line) (map (λ k. bar_part e depth (s.first + k)) ks) ≡ map (λ k. s.first + k) ks
+  bars_lines e depth [] = refl
+  bars_lines e depth (k ∷ ks) = ap (λ ns. (s.first + k) ∷ ns) (bars_lines e depth ks)
+
+  -- one entry of a span of several lines stands on a line at most
+  span_once : (depth : ℕ) (again : Bool) (e : Entry) → IsSeveral e → count_by stands (span_parts s depth again e) ≤ 1
+  span_once depth true e several = count_by-le-length stands (end_part e Singleline ∷ [])
+  span_once depth false e several =
+      let from : ℕ = e.start.line - s.first in
+      let to : ℕ = e.end.line - s.first in
+      let ks : List ℕ = bar_lines s.text from to in
+      let bars : List PartEntry = map (λ k. bar_part e depth (s.first + k)) ks in
+      let parts : List PartEntry = start_part e depth ∷ (bars ++ end_part e (MultilineEnd depth) ∷ []) in
+      let numbers : List ℕ = map (λ k. s.first + k) ks in
+      let long : from < to = omega (arith, several.0, several.1) in
+      let at : s.first + (from + 1) ≡ e.start.line + 1 = omega (arith, several.0) in
+      let middle : Rising (e.start.line + 1) numbers = subst (λ k. Rising k numbers) at (rising-map s.first (from + 1) ks (rising-bars s.text from to long)) in
+      let below : All (λ m. m < e.end.line) numbers = All-map (λ m. m < e.end.line) (λ k. s.first + k) ks
+      (All-weaker (IsBarLine s.text from to) (λ k. s.first + k < e.end.line) (λ k bar. omega (arith, bar-below s.text from to k bar, several.0, several.1))
+      ks (bar_lines-stand s.text from to)) in
+      let rising : Rising e.start.line (e.start.line ∷ (numbers ++ e.end.line ∷ [])) = (
+        omega arith,
+        rising-append (e.start.line + 1) e.end.line numbers
+            (e.end.line ∷ []) (omega (arith, several.1)) middle below (omega arith, tt),
+      ) in
+      let lines : map (λ (p : PartEntry). p.entry.start.line) parts ≡ e.start.line ∷ (numbers ++ e.end.line ∷ []) = ap (λ ns. e.start.line ∷ ns)
+      (map-append (λ (p : PartEntry). p.entry.start.line) bars (end_part e (MultilineEnd depth) ∷ [])
+      ∙ ap (λ ns. ns ++ e.end.line ∷ []) (bars_lines e depth ks)) in
+      omega (
+        arith,
+        sym (count-map (λ m. m == n) (λ (p : PartEntry). p.entry.start.line) parts),
+        ap (count_by (λ m. m == n)) lines,
+        rising-once n e.start.line (e.start.line ∷ (numbers ++ e.end.line ∷ [])) rising,
+      )
+
+  -- nor of one as it is drawn
+  drawn_once : (depth : ℕ) (again : Bool) (before : List Entry) (e : Entry) → IsSeveral e
+      → count_by stands (span_parts s depth again (promoted before e)) ≤ 1
+  drawn_once depth again before e several =
+      elim (is_promoted before e) as (λ b. count_by stands (span_parts s depth again (cond b (record e { kind = Primary }) e)) ≤ 1) [
+        | true ↦ span_once depth again (record e { kind = Primary }) several
+        | false ↦ span_once depth again e several
+      ]
+
+  longs_few : (places : List LongExtent) (before es : List Entry) → All IsSeveral es → count_by stands (long_parts s places before es) ≤ length es
+  longs_few places before [] all = omega arith
+  longs_few places before (e ∷ later) all =
+      let own : List PartEntry = span_parts s (depth_among places (long_place e)) (stands_among e later) (promoted before e) in
+      omega (
+        arith,
+        sum_by-append (λ p. cond (stands p) 1 0) own (long_parts s places (before ++ e ∷ []) later),
+        drawn_once (depth_among places (long_place e)) (stands_among e later) before e (All-head IsSeveral e later all),
+        longs_few places (before ++ e ∷ []) later (All-tail IsSeveral e later all),
+      )
+
+-- ---- all spans
+
+length-put_in : {X : Type 0} (before : X → X → Bool) (x : X) (ys : List X) → length (put_in before x ys) ≡ length ys + 1
+length-put_in before x [] = omega arith
+length-put_in before x (y ∷ ys) =
+    elim (cases_Bool (before y x)) [
+      | inl t ↦ omega (arith, length-put_in before x ys, ap length (cond-true (before y x) (y ∷ put_in before x ys) (x ∷ y ∷ ys) t))
+      | inr f ↦ omega (arith, ap length (cond-false (before y x) (y ∷ put_in before x ys) (x ∷ y ∷ ys) f))
+    ]
+
+-- as many are in order as there are
+pub length-in_order : {X : Type 0} (before : X → X → Bool) (xs : List X) → length (ordered_by before xs) ≡ length xs
+length-in_order before [] = omega arith
+length-in_order before (x ∷ xs) = omega (arith, length-in_order before xs, length-put_in before x (ordered_by before xs))
+
+-- those that pass one of two tests that nothing passes both are no more than all
+either_few : {X : Type 0} (p q : X → Bool) → ((x : X) → p x ≡ true → q x ≡ false) → (xs : List X) → count_by p xs + count_by q xs ≤ length xs
+either_few p q apart [] = omega arith
+either_few p q apart (x ∷ xs) =
+    omega (
+      arith,
+      sum_by-cons (λ y. cond (p y) 1 0) x xs,
+      sum_by-cons (λ y. cond (q y) 1 0) x xs,
+      either_few p q apart xs,
+      both (p x) (q x) (apart x),
+    )
+  where
+    both : (a b : Bool) → (a ≡ true → b ≡ false) → cond a 1 0 + cond b 1 0 ≤ 1
+    both true b other = let none : ◌≡◌ {A = ℕ} (cond b 1 0) 0 = ap (λ c. cond c 1 0) (other refl) in omega (arith, none)
+    both false b other = omega (arith, one b)
+
+-- a span that stands on several lines stands from one to a later one
+is_several : (s : Source) (a : Annotation) → IsSpan s.text a.span.start a.span.end → is_long s.text a ≡ true → IsSeveral s 0 (long_entry s a)
+is_several s a span long =
+    let parts = and_parts (is_marking a.kind) (not (is_single_line s.text a)) long in
+    let first : (long_entry s a).start.line ≡ s.first + first_line s.text a = start-line s a.span.start a.span.end in
+    let last : (long_entry s a).end.line ≡ s.first + last_line s.text a = end-line s a.span.start a.span.end in
+    let ordered : first_line s.text a ≤ last_line s.text a = lines_ordered s.text a span in
+    let apart : last_line s.text a ≡ first_line s.text a → ⊥ = λ same.
+    not_both (is_single_line s.text a) (eq-eqb (last_line s.text a) (first_line s.text a) same) (not-true (is_single_line s.text a) parts.1) in (
+      omega (arith, first),
+      elim (cases_lt (first_line s.text a) (last_line s.text a)) [
+        | inl less ↦ omega (arith, first, last, less)
+        | inr past ↦ absurd (apart (omega (arith, ordered, past)))
+      ],
+    )
+  where
+    not_both : (b : Bool) → b ≡ true → b ≡ false → ⊥
+    not_both b is not_is = let never : true ≡ false = sym is ∙ not_is in absurd cc
+
+-- no more entries stand on a line than there are spans
+pub parts_on-few : (s : Source) (marks : List Annotation) (k : ℕ) → All (λ a. IsSpan s.text a.span.start a.span.end) marks
+    → length (parts_on s marks k) ≤ length marks
+parts_on-few s marks k spans =
+    let n : ℕ = s.first + k in
+    let on = λ (p : PartEntry). p.entry.start.line == n in
+    let singles : List PartEntry = map (single_part s) (filter (is_short s.text) marks) in
+    let given : List Entry = map (long_entry s) (filter (is_long s.text) marks) in
+    let longs : List Entry = long_spans s marks in
+    let several : All (IsSeveral s n) longs = All-order stands_before (IsSeveral s n) given (All-map (IsSeveral s n) (long_entry s)
+    (filter (is_long s.text) marks) (All-filtered (is_long s.text) (λ a. IsSeveral s n (long_entry s a)) marks
+    (All-weaker (λ a. IsSpan s.text a.span.start a.span.end) (λ a. is_long s.text a ≡ true → IsSeveral s n (long_entry s a))
+    (λ a span long. is_several s a span long) marks spans))) in
+    omega (
+      arith,
+      length-filter on (made_parts s marks),
+      sum_by-append (λ p. cond (on p) 1 0) singles (long_parts s (long_places s marks) [] longs),
+      count_by-le-length on singles,
+      length-map (filter (is_short s.text) marks) (single_part s),
+      length-filter (is_short s.text) marks,
+      longs_few s n (long_places s marks) [] longs several,
+      length-in_order stands_before given,
+      length-map (filter (is_long s.text) marks) (long_entry s),
+      length-filter (is_long s.text) marks,
+      either_few (is_short s.text) (is_long s.text) (λ a short. apart (is_marking a.kind) (is_single_line s.text a) short) marks,
+    )
+  where
+    apart : (marking single : Bool) → (marking && single) ≡ true → (marking && not single) ≡ false
+    apart true true both = refl
+    apart true false both = cc
+    apart false single both = refl
