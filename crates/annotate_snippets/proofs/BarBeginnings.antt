@@ -5,9 +5,8 @@ use Rattle.snippet_style.specs.Cell.{Cell}
 use Rattle.snippet_grid.specs.Grid.{cell_at}
 use Rattle.snippet_grid.specs.Layout.{Layout, bar_cell}
 use Rattle.snippet_strokes.specs.Bars.{Bar, bar_cell_part}
-use Rattle.snippet_strokes.specs.EndBars.{start_corner}
 use Rattle.snippet_strokes.specs.declared.bars.BarStroke.TheVariants.{Top}
-use Rattle.snippet_strokes.proofs.BarFacts.{BarBegins}
+use Rattle.snippet_strokes.proofs.BarFacts.{BarBegins, start_corner}
 use Rattle.snippet_strokes.proofs.CellLemmas.{above_zero}
 use Rattle.annotate_snippets.specs.Laws.Bars.{BarStarts}
 

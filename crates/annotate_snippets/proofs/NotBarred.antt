@@ -16,10 +16,12 @@ use Rattle.snippet_parts.specs.Marked.{first_line, last_line}
 use Rattle.snippet_grid.specs.Grid.{cell_at}
 use Rattle.snippet_grid.specs.Layout.{Layout}
 use Rattle.snippet_strokes.specs.Bars.{Bar, bar_cell_part}
-use Rattle.snippet_strokes.specs.EndBars.{IsNoBar, end_corner}
+use Rattle.snippet_strokes.specs.EndBars.{IsNoBar}
+use Rattle.snippet_strokes.proofs.BarFacts.{end_corner}
 use Rattle.snippet_strokes.specs.declared.bars.BarStroke.TheVariants.{Dotted, Solid}
 use Rattle.annotate_snippets.specs.Page.{Elision, NamedRow, OfferedLine, Other, RemovedLine, RowName, SourceRow, rows_below, shows_lines}
-use Rattle.annotate_snippets.specs.Laws.Bars.{ShowsBars, bar_beside, bar_cell_of, bar_of_span, line_beside}
+use Rattle.annotate_snippets.specs.Laws.Bars.{ShowsBars, bar_beside, bar_of_span, line_beside}
+use Rattle.annotate_snippets.proofs.SpanPlaces.{bar_cell_of}
 
 -- no bar is a space
 no_space : (layout : Layout) (name : RowName) (bar : Bar) → bar_beside layout name bar ≡ SPACE → ⊥

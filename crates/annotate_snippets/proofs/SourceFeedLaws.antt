@@ -27,8 +27,8 @@ use Rattle.snippet_grid.specs.Layout.{Layout}
 use Rattle.annotate_snippets.specs.Gutter.{line_numbers, number_text}
 use Rattle.annotate_snippets.specs.Laws.Lines.{ShowsSourceLine, cells_left, wide_spans}
 use Rattle.annotate_snippets.specs.GraphicForm.{bounds_in, room_of}
-use Rattle.annotate_snippets.specs.Laws.Feeds.{HasNoFeed, IsNoFeed}
-use Rattle.annotate_snippets.proofs.OneLineTexts.{HoldsNoFeed}
+use Rattle.annotate_snippets.specs.Laws.Feeds.{HasNoFeed}
+use Rattle.annotate_snippets.proofs.OneLineTexts.{HoldsNoFeed, IsNoFeed}
 use Rattle.snippet_titles.proofs.OriginFree.{each-fails}
 use Rattle.annotate_snippets.proofs.FeedLaws.{at_any, bar_cell}
 use Rattle.annotate_snippets.proofs.PathFeedLaws.{alone, cells_plain, digit_plain, norm-plain}
