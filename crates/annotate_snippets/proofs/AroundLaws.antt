@@ -7,10 +7,9 @@ use Rattle.std.proofs.lemmas.Bool.Decides.{nat_tests}
 use Rattle.snippet_model.specs.declared.snippet.Element.{Element}
 use Rattle.snippet_model.specs.declared.snippet.Element.TheVariants.{Cause, Message, Origin, Padding, Suggestion}
 use Rattle.snippet_suggest.specs.declared.SuggestionStart.TheVariants.{Next, Opening, Path}
-use Rattle.annotate_snippets.specs.Around.{CanStandIn, begins_in_row_above, first_two_share, is_end, is_message, is_next_start, is_other_file, next_of}
+use Rattle.annotate_snippets.specs.Around.{CanStandIn, begins_in_row_above, first_two_share, is_end, is_next_start, is_other_file, next_of}
 use Rattle.annotate_snippets.specs.Around.{path_bytes, share_file, context_at}
 use Rattle.annotate_snippets.specs.declared.renderer.element_context.GroupPosition.{GroupPosition}
-use Rattle.annotate_snippets.specs.declared.renderer.element_context.Next.TheVariants as next
 
 -- whether the element of this number begins in the last row of the one before
 abbrev pub shares_before : List Element → ℕ → Bool
@@ -100,11 +99,14 @@ pub shared_goes_on : (es : List Element) (i : ℕ) → first_two_share (drop i e
 shared_goes_on [] zero shares = cc
 shared_goes_on [] (suc i) shares = cc
 shared_goes_on (d ∷ []) zero shares = cc
-shared_goes_on (d ∷ x ∷ es) zero shares = either (is_message x)
+shared_goes_on (d ∷ x ∷ es) zero shares = follows x
   where
-    either : (message : Bool) → is_end (if message then next.Message else next.Other) ≡ false
-    either true = refl
-    either false = refl
+    follows : (x : Element) → is_end (next_of (x ∷ es)) ≡ false
+    follows (Message message) = refl
+    follows (Cause snippet) = refl
+    follows (Suggestion snippet) = refl
+    follows (Origin origin) = refl
+    follows (Padding padding) = refl
 shared_goes_on (d ∷ es) (suc i) shares =
     let at : suc i + 1 ≡ suc (i + 1) = omega arith in
     ap (λ n. is_end (next_of (drop n (d ∷ es)))) at ∙ shared_goes_on es i shares

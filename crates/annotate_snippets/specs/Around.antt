@@ -30,11 +30,6 @@ is_drawn other = true
 abbrev pub drawn_elements : Group → List Element
 drawn_elements g = filter is_drawn g.elements.items
 
--- whether an element is a message
-abbrev pub is_message : Element → Bool
-is_message (Message message) = true
-is_message other = false
-
 -- the bytes of a path, if there is one
 abbrev pub path_bytes : Option (CowStr Global) → Option (List ℕ)
 path_bytes path = option_map cow_str_bytes path
@@ -85,7 +80,8 @@ suggestion_start file shares other = start.Opening
 -- what follows, given the elements after it: nothing, a message, or another element
 abbrev pub next_of : List Element → Next
 next_of [] = next.Nothing
-next_of (e ∷ es) = if is_message e then next.Message else next.Other
+next_of (Message message ∷ es) = next.Message
+next_of (e ∷ es) = next.Other
 
 -- what stands around an element that is drawn, element i of these, in a group that stands there and whose file this is
 abbrev pub context_at : GroupPosition → Option (List ℕ) → List Element → ℕ → Element → ElementContext
