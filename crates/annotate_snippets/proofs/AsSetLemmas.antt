@@ -34,7 +34,7 @@ use Rattle.snippet_titles.specs.Title.{id_chars, id_links, text_links}
 use Rattle.annotate_snippets.specs.AsSet.{AreWithContext, AreWrapped, IsAsSet, IsRemade, adds_context, shows_as_given, wraps}
 use Rattle.annotate_snippets.specs.Laws.Context.{ShowsLinesAround}
 use Rattle.annotate_snippets.specs.Fault.{first_refusal, form_of}
-use Rattle.annotate_snippets.specs.Laws.Feeds.{HasOneLineTexts, IsNoFeed, page_lines, text_lines}
+use Rattle.annotate_snippets.specs.Laws.Feeds.{HasOneLineTexts, page_lines, text_lines}
 use Rattle.annotate_snippets.specs.Laws.Forms.{FormLaws, HasLaws, IsTextUnder, LawsIn}
 use Rattle.annotate_snippets.specs.Forms.{AreFree, ShowsForm, ShowsReport, TextsShown, links_in}
 use Rattle.annotate_snippets.specs.GraphicForm.{graphic_form}
@@ -47,7 +47,7 @@ use Rattle.annotate_snippets.specs.declared.renderer.Renderer.{Renderer}
 use Rattle.annotate_snippets.specs.declared.renderer.error.RenderError.{RenderError}
 use Rattle.annotate_snippets.specs.declared.renderer.form.Form.{Form}
 use Rattle.annotate_snippets.specs.declared.renderer.form.Form.TheVariants.{Graphic, Short, Text}
-use Rattle.annotate_snippets.proofs.OneLineTexts.{IsOneLineElement, IsOneLineGroup, IsOneLineId, IsOneLineLabel, IsOneLineText, IsOneLineTitle, one_line_texts}
+use Rattle.annotate_snippets.proofs.OneLineTexts.{IsNoFeed, IsOneLineElement, IsOneLineGroup, IsOneLineId, IsOneLineLabel, IsOneLineText, IsOneLineTitle, one_line_texts}
 use Rattle.annotate_snippets.proofs.AsSetSteps.{feeds-set, first-pair, flat-same, remade-set, set-back, set-same, unset-same}
 use Rattle.annotate_snippets.proofs.ContextFaults.{refusal-same}
 use Rattle.annotate_snippets.proofs.ContextShown.{around-set}

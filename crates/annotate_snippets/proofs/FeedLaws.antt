@@ -15,8 +15,8 @@ use Rattle.snippet_strokes.specs.EntryMarks.{IsBarCell}
 use Rattle.snippet_strokes.specs.StrokeRows.{IsElisionRow, bare_elision_row}
 use Rattle.snippet_strokes.specs.SourceRows.{bare_row}
 use Rattle.snippet_grid.specs.Layout.{Layout}
-use Rattle.annotate_snippets.specs.Laws.Feeds.{HasNoFeed, IsNoFeed}
-use Rattle.annotate_snippets.proofs.OneLineTexts.{HoldsNoFeed}
+use Rattle.annotate_snippets.specs.Laws.Feeds.{HasNoFeed}
+use Rattle.annotate_snippets.proofs.OneLineTexts.{HoldsNoFeed, IsNoFeed}
 use Rattle.annotate_snippets.proofs.ListLemmas.{from_any}
 use Rattle.snippet_titles.proofs.OriginFree.{each-fails}
 use Rattle.snippet_style.proofs.CellLemmas.{All-text_cells}

@@ -32,9 +32,9 @@ use Rattle.snippet_grid.specs.Layout.{Layout}
 use Rattle.annotate_snippets.specs.declared.renderer.element_context.GroupPosition.{GroupPosition}
 use Rattle.annotate_snippets.specs.declared.renderer.element_context.Next.{Next as NextElement}
 use Rattle.annotate_snippets.specs.Around.{is_before_message}
-use Rattle.annotate_snippets.specs.Laws.Feeds.{HasNoFeed, IsNoFeed}
+use Rattle.annotate_snippets.specs.Laws.Feeds.{HasNoFeed}
 use Rattle.annotate_snippets.specs.RowsWithoutSource.{rows_after_title, title_part}
-use Rattle.annotate_snippets.proofs.OneLineTexts.{HoldsNoFeed, IsOneLineId, IsOneLineName, IsOneLineText, IsOneLineTitle}
+use Rattle.annotate_snippets.proofs.OneLineTexts.{HoldsNoFeed, IsNoFeed, IsOneLineId, IsOneLineName, IsOneLineText, IsOneLineTitle}
 use Rattle.snippet_titles.proofs.OriginFree.{each-fails}
 use Rattle.annotate_snippets.proofs.FeedLaws.{after_spaces, bare-plain}
 use Rattle.annotate_snippets.proofs.PathFeedLaws.{alone, cells_plain, choice, closing_plain as closing_row-plain, norm-plain}

@@ -18,7 +18,7 @@ use Rattle.snippet_parts.specs.Depths.{depth_among}
 use Rattle.snippet_parts.specs.declared.depths.LongExtent.{LongExtent}
 use Rattle.snippet_model.specs.declared.snippet.Snippet.{Snippet}
 use Rattle.annotate_snippets.specs.Gutter.{numbered_source}
-use Rattle.snippet_parts.specs.Mark.{is_marked_on, is_marking, is_single_line, start_column}
+use Rattle.snippet_parts.specs.Mark.{end_column, is_marked_on, is_marking, is_single_line, start_column}
 use Rattle.snippet_parts.specs.Marked.{Entry, first_line}
 use Rattle.snippet_parts.specs.Entries.{is_bar}
 use Rattle.snippet_parts.specs.declared.entries.LineAnnotation.{LineAnnotation}
@@ -30,8 +30,7 @@ use Rattle.snippet_labels.specs.PlacedEntries.{label_role, label_text, shifted}
 use Rattle.snippet_strokes.proofs.SeenLabels.{IsLabelledAtEnd, IsLedTo, LabelsStand, PlacedLabel, StandsIn, is_cell_of}
 use Rattle.snippet_labels.specs.Positions.{is_start_part}
 use Rattle.snippet_grid.specs.Layout.{Layout}
-use Rattle.annotate_snippets.specs.Laws.Labels.{HasStem, ShowsLabel, ShowsLabels, ShownLabel, SpanLabel, promoted_spans, is_in_label, label_of_end}
-use Rattle.annotate_snippets.specs.Laws.Labels.{label_of_span}
+use Rattle.annotate_snippets.specs.Laws.Labels.{HasStem, ShowsLabel, ShowsLabels, ShownLabel, SpanLabel, promoted_spans, is_in_label}
 use Rattle.snippet_text.specs.Normalized.{normalized_chars}
 use Rattle.annotate_snippets.specs.Laws.Marks.{shown_label}
 use Rattle.annotate_snippets.proofs.MarkLemmas.{end_of_entry, label_is, start_of_entry}
@@ -82,6 +81,15 @@ labelled_at_end s marks k dropped es same =
         (each xs (All-tail HasNoneBefore (seen_part x) (map seen_part xs) all))
 
 -- ---- the labels of the entries at which spans end
+
+-- the label of a span on one line, and that of a span of several lines, below its last column
+abbrev label_of_span : List ℕ → Annotation → SpanLabel
+label_of_span source a =
+    record { text = shown_label a; kind = a.kind; from = start_column source a; to = end_column source a }
+
+abbrev label_of_end : Entry → SpanLabel
+label_of_end e =
+    record { text = normalized_chars e.label; kind = e.kind; from = e.end.display - 1; to = e.end.display }
 
 -- whether an entry is one at which a span ends
 abbrev ends_here : PartEntry → Bool

@@ -55,14 +55,14 @@ use Rattle.snippet_labels.proofs.PlacedLemmas.{entries_all}
 use Rattle.snippet_strokes.proofs.StemWrites.{All-stem_of, All-stems_of}
 use Rattle.snippet_strokes.proofs.WriteLaws.{All-flat_map, painted-cell}
 use Rattle.annotate_snippets.specs.declared.renderer.Renderer.{Renderer}
-use Rattle.annotate_snippets.specs.Laws.Feeds.{HasNoFeed, IsNoFeed}
+use Rattle.annotate_snippets.specs.Laws.Feeds.{HasNoFeed}
 use Rattle.annotate_snippets.specs.Gutter.{numbered_source}
 use Rattle.annotate_snippets.specs.GraphicForm.{entries_on}
 use Rattle.annotate_snippets.proofs.DrawnRows.{AreRowsDrawn, IsLineDrawn, IsRowDrawn, open_after}
 use Rattle.annotate_snippets.specs.Page.{Elision, NamedRow, OfferedLine, Other, RemovedLine, RowName, SourceRow, cells_of, rows_below}
 use Rattle.annotate_snippets.specs.Laws.Snippets.{AreRowsOf, IsRowOf}
 use Rattle.snippet_text.specs.Normalized.{normalized_chars}
-use Rattle.annotate_snippets.proofs.OneLineTexts.{HoldsNoFeed, IsOneLineLabel, IsOneLineText}
+use Rattle.annotate_snippets.proofs.OneLineTexts.{HoldsNoFeed, IsNoFeed, IsOneLineLabel, IsOneLineText}
 use Rattle.annotate_snippets.proofs.FeedLaws.{at_any, bare-plain, elided}
 use Rattle.annotate_snippets.proofs.HeadingFeedLaws.{parts_plain}
 use Rattle.annotate_snippets.proofs.LabelLemmas.{tail_same}

@@ -32,7 +32,7 @@ use Rattle.snippet_parts.specs.Marked.{seen_entry}
 use Rattle.snippet_parts.specs.Entries.{is_bar, is_single_part, is_wide_entry}
 use Rattle.snippet_lines.specs.Span.{IsSpan}
 use Rattle.snippet_window.specs.Window.{AreReplaced, chars_at, dropped_part, stands_whole, window}
-use Rattle.snippet_strokes.specs.EntryMarks.{IsMarkCell, has_mark_role}
+use Rattle.snippet_strokes.specs.EntryMarks.{IsMarkCell, is_mark_role}
 use Rattle.snippet_strokes.proofs.PlainEntries.{IsEntryMark, are_plain, has_column, is_single, wide_entries}
 use Rattle.snippet_labels.specs.PlacedEntries.{label_role, label_text, shifted}
 use Rattle.snippet_lines.specs.Number.{shown_number}
@@ -354,7 +354,7 @@ module _ (r : Renderer) (layout : Layout) (s : Snippet Annotation)
                 let right : d ≤ p = omega (arith, All-contains (λ (e : LineAnnotation). d ≤ e.start.display) es own.entry clear own.among, own.covers.0) in
                 subst (λ c. IsMarkCell layout.decor kind (get_or row c SPACE)) (omega (arith, right))
                 (marks_are.marks (p - d) kind (shifted_mark d es clear p kind own));
-            unmarked = λ p right none. subst (λ c. has_mark_role (get_or row c SPACE) ≡ false) (omega (arith, right))
+            unmarked = λ p right none. subst (λ c. is_mark_role (get_or row c SPACE).role ≡ false) (omega (arith, right))
                 (marks_are.unmarked (p - d) (shifted_unmarked d es clear p right (unmarked_by_entries (numbered_source s) s.markers.items k es same p none)));
             before = λ p right left. subst (λ c. get_or row c SPACE ≡ SPACE) (omega (arith, right))
                 (strokes_row.before plain (layout.code + (p - d)) (layout.code + (p - d) + 1) (omega arith) (omega arith)

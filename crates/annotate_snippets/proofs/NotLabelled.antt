@@ -17,7 +17,7 @@ use Rattle.snippet_model.specs.declared.snippet.AnnotationKind.{AnnotationKind}
 use Rattle.snippet_model.specs.declared.snippet.AnnotationKind.TheVariants.{Primary, Context, Visible}
 use Rattle.snippet_model.specs.declared.snippet.Snippet.{Snippet}
 use Rattle.snippet_strokes.proofs.MarkLemmas.{from_map}
-use Rattle.snippet_strokes.specs.EntryMarks.{has_mark_role, is_mark_role}
+use Rattle.snippet_strokes.specs.EntryMarks.{is_mark_role}
 use Rattle.snippet_strokes.specs.Labels.{IsStemCell}
 use Rattle.snippet_labels.specs.PlacedEntries.{label_role}
 use Rattle.snippet_grid.specs.Layout.{Layout}
@@ -113,7 +113,7 @@ pub stem_left_out : (decor : DecorStyle) (layout : Layout) (s : Snippet Annotati
 stem_left_out decor layout s k dropped rows shows l among some r below above none blank =
     let P : ShownLabel → Type 0 = λ x. 0 < length x.label.text → HasStem decor shows.labels rows x in
     let stem : IsStemCell decor (cell_at rows r l.cell) = All-contains P shows.labels l shows.led among some r below above none in
-    false≢true (sym (ap has_mark_role blank) ∙ stem.1)
+    false≢true (sym (ap (λ (c : Cell). is_mark_role c.role) blank) ∙ stem.1)
 
 -- no span that ends on line k has a label that shows anything
 abbrev pub HasNoLabel : Snippet Annotation → ℕ → Type 0

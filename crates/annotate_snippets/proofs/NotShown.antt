@@ -27,7 +27,7 @@ use Rattle.snippet_lines.specs.Place.{line_of, place_of}
 use Rattle.snippet_parts.specs.Entries.{Ascends}
 use Rattle.snippet_parts.specs.Mark.{is_marked_on, qualifies_for_marks, start_column, end_column, span_width, IsMarkedAt, IsMarkOf}
 use Rattle.snippet_window.specs.Window.{chars_at, stands_whole}
-use Rattle.snippet_strokes.specs.EntryMarks.{IsMarkCell, has_mark_role}
+use Rattle.snippet_strokes.specs.EntryMarks.{IsMarkCell, is_mark_role}
 use Rattle.snippet_style.specs.Separators.{separator_row}
 use Rattle.annotate_snippets.specs.Page.{Elision, RowName, OfferedLine, RemovedLine, SourceRow, Other, NamedRow, lines_named, others}
 use Rattle.annotate_snippets.specs.Around.{closes_with}
@@ -191,7 +191,7 @@ module _ {s : Snippet Annotation} {source : List ℕ} {marks : List Annotation} 
       cc
 
   -- below a column that no span covers no cell is in the role of marks
-  no_mark_role : (p : ℕ) → All (λ a. IsMarkedAt source 0 p a → ⊥) marks → has_mark_role (slice_index_or row (cell_of layout 0 p) SPACE) ≡ false
+  no_mark_role : (p : ℕ) → All (λ a. IsMarkedAt source 0 p a → ⊥) marks → is_mark_role (slice_index_or row (cell_of layout 0 p) SPACE).role ≡ false
   no_mark_role p none =
       shown.unmarked p (omega arith) (subst (λ text. All (λ a. IsMarkedAt text 0 p a → ⊥) s.markers.items) (sym is.source_is)
       (subst (All (λ a. IsMarkedAt source 0 p a → ⊥)) (sym is.marks_are) none))
@@ -272,7 +272,7 @@ coloured_separator : (s : Snippet Annotation) (k dropped : ℕ)
     ++ SPACE ∷ text_cells Quotation (codes "ab")) → ⊥
 coloured_separator s k dropped shown =
     let shown_there : List ℕ = number_text plain_settings s.line_numbering 1 (s.line_start + k) in
-    let marked : true ≡ false = ap has_mark_role (separator_of_left Ascii 1 shown_there
+    let marked : true ≡ false = ap (λ (c : Cell). is_mark_role c.role) (separator_of_left Ascii 1 shown_there
     (text_cells LineNumber (codes "1") ++ SPACE ∷ text_cells UnderlinePrimary (codes "|") ++ SPACE ∷ text_cells Quotation (codes "ab")) shown.left) in
     cc
 

@@ -33,7 +33,7 @@ use Rattle.annotate_snippets.specs.declared.renderer.element_context.GroupPositi
 use Rattle.snippet_grid.specs.Layout.{Layout}
 use Rattle.annotate_snippets.specs.Around.{closes_after, closes_with, context_at, is_before_message, is_end, is_first_group, path_bytes}
 use Rattle.annotate_snippets.specs.DrawnReport.{found_at}
-use Rattle.annotate_snippets.specs.Laws.Numbers.{IsNumberedAsLine, shows_a_line}
+use Rattle.annotate_snippets.specs.Laws.Numbers.{shows_a_line}
 use Rattle.annotate_snippets.specs.Page.{RowName, SourceRow, Elision, OfferedLine, RemovedLine, Other, NamedRow, GroupPage, cells_of, others}
 use Rattle.annotate_snippets.specs.RowsWithoutSource.{cause_head, origin_layout, origin_rows, origin_start, patch_place, path_row, place_given}
 use Rattle.annotate_snippets.specs.RowsWithoutSource.{rows_after_cause, suggestion_head, suggestion_head_at}
@@ -84,6 +84,10 @@ stroke_unnumbered Ascii c is = one_of (strokes Ascii) c refl is
 stroke_unnumbered Unicode c is = one_of (strokes Unicode) c refl is
 
 -- ---- rows
+
+-- a row of an element begins with a number only where it shows a line
+abbrev pub IsNumberedAsLine : ℕ → NamedRow → Type 0
+IsNumberedAsLine gutter row = shows_a_line row.name ≡ false → HasNoNumber gutter row.cells
 
 others_numbered : (gutter : ℕ) (rows : List (List Cell)) → All (HasNoNumber gutter) rows → All (IsNumberedAsLine gutter) (others rows)
 others_numbered gutter [] none = All-nil (IsNumberedAsLine gutter)

@@ -1,5 +1,5 @@
 -- Texts on one line, one by one: what HasOneLineTexts says of all texts of a report, by groups, titles and elements.
-use Rattle.std.proofs.Common.{ℕ, List, [], ◌∷◌, ◌++◌, All, Option, None, Some, IfSome, chars}
+use Rattle.std.proofs.Common.{◌≡◌, ℕ, ◌==◌, false, List, [], ◌∷◌, ◌++◌, All, Option, None, Some, IfSome, chars}
 use Rattle.std.specs.Cow.{cow_str_bytes}
 use Rattle.std.specs.List.{cons_option, filter_map, flat_map}
 use Rattle.std.specs.Option.{option_map, option_to_list}
@@ -14,10 +14,14 @@ use Rattle.snippet_model.specs.declared.snippet.Group.{Group}
 use Rattle.snippet_model.specs.declared.snippet.Id.{Id}
 use Rattle.snippet_model.specs.declared.snippet.Title.{Title}
 use Rattle.annotate_snippets.specs.Around.{path_bytes}
-use Rattle.annotate_snippets.specs.Laws.Feeds.{HasNoFeed, HasOneLineTexts, IsNoFeed, row_texts_of_element, row_texts_of_title}
+use Rattle.annotate_snippets.specs.Laws.Feeds.{HasNoFeed, HasOneLineTexts, row_texts_of_element, row_texts_of_title}
 use Rattle.annotate_snippets.specs.Page.{GroupPage, group_rows}
 
 -- ---- rows
+
+-- a character is no line feed, U+000A
+abbrev pub IsNoFeed : ℕ → Type 0
+IsNoFeed ch = (ch == 10) ≡ false
 
 -- a cell whose character is no line feed
 abbrev pub HoldsNoFeed : Cell → Type 0

@@ -32,7 +32,7 @@ use Rattle.snippet_strokes.proofs.SeenRows.{AreSeen}
 use Rattle.annotate_snippets.specs.declared.renderer.Renderer.{Renderer}
 use Rattle.annotate_snippets.specs.GraphicForm.{bars_on, gap_below, margin_in, named_line, rows_of_line, rows_of_lines}
 use Rattle.annotate_snippets.specs.Gutter.{line_numbers, numbered_source}
-use Rattle.annotate_snippets.specs.Page.{Elision, NamedRow, Other, SourceRow, cells_below, lines_named, others, rows_below}
+use Rattle.annotate_snippets.specs.Page.{Elision, NamedRow, Other, SourceRow, cells_of, lines_named, others, rows_below}
 use Rattle.annotate_snippets.specs.Laws.Snippets.{AreRowsOf, ShowsLineAndMarks}
 use Rattle.annotate_snippets.specs.Laws.Lines.{IsRowBelow}
 use Rattle.annotate_snippets.specs.Laws.Labels.{ShowsLabels}
@@ -44,7 +44,7 @@ use Rattle.annotate_snippets.proofs.LineLemmas.{labels_of_line, marks_of_line, m
 use Rattle.annotate_snippets.proofs.NamedRows.{lines_named-others}
 
 -- the first row below, where there is one
-below-first : (below : List (List Cell)) (more : List NamedRow) → 0 < length below → cells_below (others below ++ more) ≡ row_at below 0
+below-first : (below : List (List Cell)) (more : List NamedRow) → 0 < length below → row_at (cells_of (others below ++ more)) 0 ≡ row_at below 0
 below-first [] more some = absurd (omega arith)
 below-first (row ∷ below) more some = refl
 
@@ -79,7 +79,7 @@ module _ (r : Renderer) (layout : Layout) (s : Snippet Annotation)
       → (line : ShowsLine layout margin (line_numbers r s.line_numbering) last open_bars info rows)
       → (shows : AreSeen layout margin.term_width (map (shifted line.dropped) info.annotations.items) last line.highlighted rows)
       → rows_below more ≡ []
-      → ShowsLineAndMarks r layout s k shows.source (cells_below (others shows.below ++ more)) (rows_below (others shows.below ++ more))
+      → ShowsLineAndMarks r layout s k shows.source (row_at (cells_of (others shows.below ++ more)) 0) (rows_below (others shows.below ++ more))
   line_and_marks last open_bars k info rows more within seen fits line shows ends =
       record {
         dropped = line.dropped;

@@ -30,8 +30,8 @@ use Rattle.annotate_snippets.specs.Around.{closes_after, is_before_message, is_f
 use Rattle.annotate_snippets.specs.Gutter.{numbered_source}
 use Rattle.annotate_snippets.specs.RowsWithoutSource.{cause_head, origin_layout, origin_rows, origin_start, place_given, place_named}
 use Rattle.annotate_snippets.specs.RowsWithoutSource.{rows_after_cause}
-use Rattle.annotate_snippets.specs.Laws.Feeds.{HasNoFeed, IsNoFeed}
-use Rattle.annotate_snippets.proofs.OneLineTexts.{HoldsNoFeed, IsOneLineText}
+use Rattle.annotate_snippets.specs.Laws.Feeds.{HasNoFeed}
+use Rattle.annotate_snippets.proofs.OneLineTexts.{HoldsNoFeed, IsNoFeed, IsOneLineText}
 use Rattle.annotate_snippets.proofs.FeedLaws.{after_spaces, bare-plain}
 pub use Rattle.annotate_snippets.proofs.FeedLaws.{cells_plain}
 use Rattle.snippet_parts.specs.Annotated.{annotated_lines}

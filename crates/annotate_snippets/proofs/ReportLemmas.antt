@@ -25,7 +25,7 @@ use Rattle.annotate_snippets.specs.Around.{drawn_elements, file_of_group, next_o
 use Rattle.annotate_snippets.specs.Fault.{IsWithinBounds, first_fault, first_refusal, form_of, missing_title}
 use Rattle.annotate_snippets.specs.GraphicForm.{graphic_form, page_at}
 use Rattle.annotate_snippets.specs.Gutter.{layout_of_group}
-use Rattle.annotate_snippets.specs.Page.{ArePrinted, GroupPage, Page, PrintsGrids, PrintsPage, group_rows, page_links, page_text}
+use Rattle.annotate_snippets.specs.Page.{ArePrinted, GroupPage, Page, PrintsGrids, PrintsPage, group_rows, page_text}
 use Rattle.annotate_snippets.specs.Laws.Page.{PageLaws}
 use Rattle.annotate_snippets.specs.PreparedReport.{IsGroupDrawable}
 use Rattle.annotate_snippets.specs.Laws.Groups.{AreGroupsShown, ShowsGroup}
@@ -44,7 +44,7 @@ use Rattle.annotate_snippets.proofs.ReportTexts.{free_first, free_rest, links_of
 use Rattle.annotate_snippets.proofs.RoomLemmas.{room_in_report}
 use Rattle.annotate_snippets.proofs.TextLineLaws.{lines_of_page}
 use Rattle.annotate_snippets.proofs.TitleNumbers.{group_title_unnumbered}
-use Rattle.annotate_snippets.proofs.WovenLemmas.{IsWoven-from_page}
+use Rattle.annotate_snippets.proofs.WovenLemmas.{IsWoven-from_page, page_links}
 
 -- two free texts with a line feed between them, which isn't listed
 free_joined : (trusted : List (List ℕ)) (a b : List ℕ) → IsFreeBut trusted a → IsFreeBut trusted b → IsFreeBut trusted (a ++ 10 ∷ b)

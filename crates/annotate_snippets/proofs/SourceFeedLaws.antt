@@ -2,6 +2,7 @@
 use Rattle.std.proofs.Common.{◌≡◌, ℕ, zero, suc, ◌+◌, ◌-◌, ◌<◌, ◌≤◌, ◌==◌, Bool, true, false, cond, Option, None, Some, List, [], ◌∷◌, ◌++◌, All, codes, length}
 use Rattle.std.proofs.Common.{take, drop, get_or, replicate, refl, sym, ap, subst, ◌∙◌, arith, inl, inr}
 use Rattle.std.specs.Cow.{cow_str_bytes}
+use Rattle.std.specs.Option.{option_map_or}
 use Rattle.std.specs.Fmt.{decimal}
 use Rattle.std.proofs.lemmas.Bool.{cases_lt}
 use Rattle.std.proofs.lemmas.List.{get_or-drop, get_or-map, get_or-take, length-drop, length-map}
@@ -15,8 +16,7 @@ use Rattle.snippet_style.specs.declared.role.ElementStyle.TheVariants.{LineNumbe
 use Rattle.snippet_text.specs.Normalized.{norm}
 use Rattle.snippet_titles.proofs.DigitLemmas.{IsDigit, decimal-all}
 use Rattle.snippet_window.specs.Margin.{Bounds}
-use Rattle.snippet_window.specs.Window.{AreReplaced, IsReplaced, begun_with, chars_at, covered_columns, covered_end, ended_with, inner_part, reaching}
-use Rattle.snippet_window.specs.Window.{uncovered_part, window}
+use Rattle.snippet_window.specs.Window.{AreReplaced, chars_at, covered_columns, covered_end, inner_part, reaching, uncovered_part, window}
 use Rattle.snippet_lines.specs.Number.{shown_number}
 use Rattle.snippet_lines.specs.declared.number.LineNumbers.{LineNumbers}
 use Rattle.snippet_lines.specs.declared.number.LineNumbers.TheVariants.{Anonymized, Hidden, Shown}
@@ -27,8 +27,8 @@ use Rattle.snippet_grid.specs.Layout.{Layout}
 use Rattle.annotate_snippets.specs.Gutter.{line_numbers, number_text}
 use Rattle.annotate_snippets.specs.Laws.Lines.{ShowsSourceLine, cells_left, wide_spans}
 use Rattle.annotate_snippets.specs.GraphicForm.{bounds_in, room_of}
-use Rattle.annotate_snippets.specs.Laws.Feeds.{HasNoFeed, IsNoFeed}
-use Rattle.annotate_snippets.proofs.OneLineTexts.{HoldsNoFeed}
+use Rattle.annotate_snippets.specs.Laws.Feeds.{HasNoFeed}
+use Rattle.annotate_snippets.proofs.OneLineTexts.{HoldsNoFeed, IsNoFeed}
 use Rattle.snippet_titles.proofs.OriginFree.{each-fails}
 use Rattle.annotate_snippets.proofs.FeedLaws.{at_any, bar_cell}
 use Rattle.annotate_snippets.proofs.PathFeedLaws.{alone, cells_plain, digit_plain, norm-plain}
@@ -50,7 +50,7 @@ written_plain xs at new plain own =
     (All-drop IsNoFeed (at + length new) xs plain)
 
 begun_plain : (placeholder : List ℕ) (columns : Option ℕ) (text : List ℕ) → All IsNoFeed placeholder → All IsNoFeed text
-    → All IsNoFeed (begun_with placeholder columns text)
+    → All IsNoFeed (option_map_or (λ n. cond (length text == 0) placeholder (written 32 placeholder n text)) columns text)
 begun_plain placeholder None text own plain = plain
 begun_plain placeholder (Some columns) text own plain =
     either (length text == 0) placeholder (written 32 placeholder columns text) own (written_plain placeholder columns text own plain)
@@ -60,7 +60,7 @@ begun_plain placeholder (Some columns) text own plain =
     either false xs ys one other = other
 
 ended_plain : (placeholder : List ℕ) (at : Option ℕ) (text : List ℕ) → All IsNoFeed placeholder → All IsNoFeed text
-    → All IsNoFeed (ended_with placeholder at text)
+    → All IsNoFeed (option_map_or (λ n. written 32 text n placeholder) at text)
 ended_plain placeholder None text own plain = plain
 ended_plain placeholder (Some at) text own plain = written_plain text at placeholder plain own
 
@@ -87,13 +87,15 @@ pub replaced_plain : (placeholder : List ℕ) (n : ℕ) (before after : List ℕ
 replaced_plain placeholder zero before after own is plain = subst (All IsNoFeed) (sym is) plain
 replaced_plain placeholder (suc n) before after own (inl same) plain = subst (All IsNoFeed) (sym same) plain
 replaced_plain placeholder (suc n) before after own (inr replaced) plain =
-    let cut : IsReplaced placeholder before replaced.0 = replaced.1 in
-    let whole : All IsNoFeed (cut.front ++ cut.stretch ++ cut.back) = subst (All IsNoFeed) cut.before_is plain in
-    let front : All IsNoFeed cut.front = left_of cut.front cut.stretch (left_of (cut.front ++ cut.stretch) cut.back whole) in
-    let back : All IsNoFeed cut.back = right_of (cut.front ++ cut.stretch) cut.back whole in
-    let now : All IsNoFeed replaced.0 = subst (All IsNoFeed) (sym cut.after_is)
-    (All-append IsNoFeed (cut.front ++ placeholder) cut.back (All-append IsNoFeed cut.front placeholder front own) back) in
-    replaced_plain placeholder n replaced.0 after own replaced.2 now
+    let front : List ℕ = replaced.0 in
+    let stretch : List ℕ = replaced.1 in
+    let back : List ℕ = replaced.2 in
+    let whole : All IsNoFeed (front ++ stretch ++ back) = subst (All IsNoFeed) replaced.3 plain in
+    let first : All IsNoFeed front = left_of front stretch (left_of (front ++ stretch) back whole) in
+    let last : All IsNoFeed back = right_of (front ++ stretch) back whole in
+    let now : All IsNoFeed (front ++ placeholder ++ back) =
+    All-append IsNoFeed (front ++ placeholder) back (All-append IsNoFeed front placeholder first own) last in
+    replaced_plain placeholder n (front ++ placeholder ++ back) after own replaced.4 now
   where
     left_of : (xs ys : List ℕ) → All IsNoFeed (xs ++ ys) → All IsNoFeed xs
     left_of [] ys all = All-nil IsNoFeed

@@ -43,14 +43,14 @@ use Rattle.annotate_snippets.specs.Page.{Elision, NamedRow, OfferedLine, Other, 
 use Rattle.annotate_snippets.specs.Page.{shows_lines}
 use Rattle.annotate_snippets.specs.Laws.Snippets.{AreRowsOf, IsRowOf}
 use Rattle.annotate_snippets.specs.Laws.Lines.{cells_left}
-use Rattle.annotate_snippets.specs.Laws.Bars.{BarStarts, ShowsBars, bar_beside, bar_cell_of, line_beside}
+use Rattle.annotate_snippets.specs.Laws.Bars.{BarStarts, ShowsBars, bar_beside, line_beside}
 use Rattle.annotate_snippets.proofs.Ascending.{IsAscending}
 use Rattle.annotate_snippets.proofs.BarBeginnings.{begins_so}
 use Rattle.annotate_snippets.proofs.DrawnLines.{bar_shown, bars_seen}
 use Rattle.annotate_snippets.proofs.LabelLemmas.{head_same, tail_same}
 use Rattle.annotate_snippets.proofs.SpanOpen.{AreOpen, IsFreeAt, alone, ends_apart, open_apart, end_here, goes_past, longer, no_end, no_start, none_open}
 use Rattle.annotate_snippets.proofs.SpanOpen.{one_place, open_lower, open_next, own_on_line, start_here}
-use Rattle.annotate_snippets.proofs.SpanPlaces.{bar_by_place, bar_given, bytes_same, marks, source}
+use Rattle.annotate_snippets.proofs.SpanPlaces.{bar_by_place, bar_cell_of, bar_given, bytes_same, marks, source}
 
 -- ---- the lines that are left
 

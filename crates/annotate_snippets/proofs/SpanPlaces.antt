@@ -17,12 +17,17 @@ use Rattle.snippet_parts.specs.Mark.{is_marking, is_single_line}
 use Rattle.snippet_parts.specs.Marked.{Entry, first_line, last_line}
 use Rattle.snippet_parts.proofs.AmongLemmas.{among_filter, among_in_order, among_map, any_among, any_cases, filter_cases, in_order_cases, map_cases}
 use Rattle.snippet_parts.proofs.RawDepthLemmas.{same-refl, same-true}
+use Rattle.snippet_grid.specs.Layout.{Layout, bar_cell}
 use Rattle.snippet_strokes.specs.Bars.{Bar}
 use Rattle.annotate_snippets.specs.Gutter.{numbered_source}
 use Rattle.annotate_snippets.specs.Laws.Bars.{bar_of_span}
 use Rattle.annotate_snippets.proofs.SpanOpen.{bar_at_place, place_in}
 use Rattle.annotate_snippets.proofs.SpanParts.{is_primary_at}
 use Rattle.snippet_parts.proofs.PartWords.{stands_before}
+
+-- the cell of a row in which the bar of a span stands: at depth 1 the second after the separator
+abbrev pub bar_cell_of : Layout → Snippet Annotation → Annotation → ℕ
+bar_cell_of layout s a = bar_cell layout (depth_of (numbered_source s) s.markers.items a)
 
 -- ---- the place of a span is its bytes
 

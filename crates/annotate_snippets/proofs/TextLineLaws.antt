@@ -7,9 +7,9 @@ use Rattle.std.proofs.lemmas.List.Splits.{length-slice_split, slice_split-cons_n
 use Rattle.snippet_grid.specs.Print.{further_text, plain_text, row_text}
 use Rattle.snippet_style.specs.Cell.{Cell, text_cells}
 use Rattle.snippet_style.specs.declared.role.ElementStyle.TheVariants.{LineNumber}
-use Rattle.annotate_snippets.specs.Laws.Feeds.{HasNoFeed, IsNoFeed, or_empty_line, page_lines, text_lines}
+use Rattle.annotate_snippets.specs.Laws.Feeds.{HasNoFeed, or_empty_line, page_lines, text_lines}
 use Rattle.annotate_snippets.specs.Page.{GroupPage, Page, group_rows, page_text}
-use Rattle.annotate_snippets.proofs.OneLineTexts.{HasOneLineRows}
+use Rattle.annotate_snippets.proofs.OneLineTexts.{HasOneLineRows, IsNoFeed}
 
 -- the lines that a group's rows are
 abbrev group_lines : GroupPage → List (List ℕ)

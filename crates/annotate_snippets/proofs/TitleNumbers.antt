@@ -16,7 +16,7 @@ use Rattle.snippet_text.specs.Normalized.{norm}
 use Rattle.snippet_titles.specs.HeadingRows.{colon_of, heading_lines, id_text, heading_label_text, label_width}
 use Rattle.snippet_titles.specs.ShownHeading.{texts_below}
 use Rattle.snippet_titles.proofs.OriginNumbers.{closing_row-unnumbered, separator_row-unnumbered}
-use Rattle.annotate_snippets.specs.Laws.Numbers.{IsTitleOfWords, IsUnnumbered, begins_with_number, begins_with_word}
+use Rattle.annotate_snippets.specs.Laws.Numbers.{IsTitleOfWords, begins_with_number, begins_with_word}
 use Rattle.annotate_snippets.specs.RowsWithoutSource.{rows_after_title}
 use Rattle.annotate_snippets.specs.Laws.Titles.{ShowsTitlePart}
 use Rattle.annotate_snippets.specs.declared.renderer.Renderer.{Renderer}
@@ -60,6 +60,10 @@ unnumbered_row (suc n) [] none = refl
 unnumbered_row (suc n) (cell ∷ cells) none =
     none_there (cell.ch == 32) (is_ascii_alphanumeric cell.ch) (is_ascii_digit cell.ch) (begins_with_number (take n (row_text cells))) (digit_too cell.ch)
     (none 0 (omega arith)) (unnumbered_row n cells (λ c within. none (suc c) (omega (arith, within))))
+
+-- a row has no number where those of lines stand, in the cells up to the one before the separator
+abbrev IsUnnumbered : ℕ → List Cell → Type 0
+IsUnnumbered gutter row = begins_with_number (take (gutter + 1) (row_text row)) ≡ false
 
 unnumbered : (gutter : ℕ) (row : List Cell) → HasNoNumber gutter row → IsUnnumbered gutter row
 unnumbered gutter row none = unnumbered_row (gutter + 1) row (λ c within. none c (omega (arith, within)))

@@ -10,7 +10,7 @@ use Rattle.snippet_grid.specs.Woven.{Piece, Char, piece_text, plain_piece, piece
 use Rattle.snippet_style.specs.declared.role.LevelInner.{LevelInner}
 use Rattle.snippet_style.specs.declared.stylesheet.Stylesheet.{Stylesheet}
 use Rattle.snippet_grid.proofs.WovenLemmas.{IsWoven-from_prints}
-use Rattle.annotate_snippets.specs.Page.{ArePrinted, Page, PrintsPage, group_rows, page_links, page_text}
+use Rattle.annotate_snippets.specs.Page.{ArePrinted, Page, PrintsPage, group_rows, page_text}
 use Rattle.snippet_grid.proofs.WovenLemmas.{ended-append}
 
 -- no text is woven
@@ -37,6 +37,10 @@ IsWoven-joined sheet a pa la b pb lb first second =
           (All-cons (λ p. IsOfSheet sheet p) (Char 10) second.pieces tt second.of_sheet);
       ended = ended-append false first.pieces (Char 10 ∷ second.pieces) first.ended second.ended;
     }
+
+-- the URLs of a page's linked runs of cells, in order
+abbrev pub page_links : Page → List (List ℕ)
+page_links page = flat_map (λ g. links_of (group_rows g)) page
 
 -- so texts that print the groups of a page, joined, are woven of the page's characters, with the page's links
 IsWoven-from_groups : (sheet : Stylesheet) (levels : List LevelInner) (page : Page) (parts : List (List ℕ)) → ArePrinted sheet levels page parts

@@ -3,7 +3,7 @@ use Rattle.std.specs.Prelude.{◌≡◌, ℕ, Bool, true, false, List, [], ◌�
 use Rattle.std.specs.List.{AllZip, flat_map, filter_map, join_with_byte}
 use Rattle.snippet_style.specs.Cell.{Cell}
 use Rattle.snippet_grid.specs.Print.{plain_text}
-use Rattle.snippet_grid.specs.Woven.{Prints, links_of}
+use Rattle.snippet_grid.specs.Woven.{Prints}
 use Rattle.annotate_snippets.specs.declared.renderer.graphic.GroupGrid.{GroupGrid}
 use Rattle.snippet_style.specs.declared.role.LevelInner.{LevelInner}
 use Rattle.snippet_style.specs.declared.stylesheet.Stylesheet.{Stylesheet}
@@ -49,11 +49,6 @@ shows_lines name = false
 abbrev pub cells_of : List NamedRow → List (List Cell)
 cells_of rows = map (λ row. row.cells) rows
 
--- the cells of the row right below, which are none after the last row
-abbrev pub cells_below : List NamedRow → List Cell
-cells_below [] = []
-cells_below (row ∷ rows) = row.cells
-
 -- the cells of the rows right below, up to the next that shows a line or that lines are left out: those of the line above them
 abbrev pub rows_below : List NamedRow → List (List Cell)
 rows_below [] = []
@@ -75,10 +70,6 @@ group_rows g = g.title ++ flat_map cells_of g.elements
 -- the plain characters of a page: the groups' rows, joined by line feeds
 abbrev pub page_text : Page → List ℕ
 page_text page = join_with_byte 10 (map (λ g. plain_text (group_rows g)) page)
-
--- the URLs of a page's linked runs of cells, in order
-abbrev pub page_links : Page → List (List ℕ)
-page_links page = flat_map (λ g. links_of (group_rows g)) page
 
 -- each part prints the rows of one group under a sheet, in the level of the group
 abbrev pub ArePrinted : Stylesheet → List LevelInner → Page → List (List ℕ) → Type 0

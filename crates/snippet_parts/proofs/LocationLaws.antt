@@ -20,7 +20,7 @@ use Rattle.snippet_parts.specs.Kept.{kept_lines}
 use Rattle.snippet_parts.specs.Mark.{is_marking, is_marked_on, is_single_line, touches}
 use Rattle.snippet_parts.specs.Marked.{first_line}
 use Rattle.snippet_parts.specs.Least.{least}
-use Rattle.snippet_parts.specs.Location.{primary_place, naming_kind, start_at, IsLocation}
+use Rattle.snippet_parts.specs.Location.{primary_place, start_at, IsLocation}
 use Rattle.snippet_parts.proofs.EntryFacts.{filter-filter, untouched-parts}
 use Rattle.snippet_parts.proofs.KeptPartLemmas.{any-member}
 use Rattle.snippet_parts.proofs.LocationWords.{start_columns, primary_parts, all_parts, choice_place, first_place, filter-true, primary-is}
@@ -352,7 +352,7 @@ named-primary s marks place some by = record {
   least = λ other naming beside. by.lowest other naming.0 (ap is_primary (naming.1 ∙ kind)) beside;
 }
   where
-    kind : naming_kind marks ≡ Primary
+    kind : cond (list_any (λ a. is_primary a.kind) marks) Primary Context ≡ Primary
     kind = cond-true (list_any (λ a. is_primary a.kind) marks) Primary Context some
 
     primary : (kind : AnnotationKind) → is_primary kind ≡ true → kind ≡ Primary
@@ -371,7 +371,7 @@ named-context s marks place none by = record {
   least = λ other naming beside. by.lowest other naming.0 (ap is_marking (naming.1 ∙ kind)) beside;
 }
   where
-    kind : naming_kind marks ≡ Context
+    kind : cond (list_any (λ a. is_primary a.kind) marks) Primary Context ≡ Context
     kind = cond-false (list_any (λ a. is_primary a.kind) marks) Primary Context none
 
     not-primary : (a : Annotation) → Contains marks a → is_primary a.kind ≡ false

@@ -57,19 +57,15 @@ place_at s b =
 
 -- ---- by the spans of a snippet
 
--- the kind whose spans a primary snippet is named by: `Primary` where it has such a span, else `Context`
-abbrev pub naming_kind : List Annotation → AnnotationKind
-naming_kind marks = if list_any (λ a. is_primary a.kind) marks then Primary else Context
-
--- a span that a primary snippet is named by
+-- a span that a primary snippet is named by: one of kind `Primary` where it has such a span, else one of kind `Context`
 abbrev pub IsNaming : List Annotation → Annotation → Type 0
-IsNaming marks a = Contains marks a × (a.kind ≡ naming_kind marks)
+IsNaming marks a = Contains marks a × (a.kind ≡ (if list_any (λ b. is_primary b.kind) marks then Primary else Context))
 
 -- the column at which a span starts: characters, counted from 1, and one more after the end of the line's text
 abbrev pub start_at : Source → Annotation → ℕ
 start_at s a = (start_location s a.span.start).char + 1
 
--- a place is that of a span of this kind: such a span starts on the line at the column, none starts on an earlier line, and
+-- a place is that of a span that the snippet is named by: such a span starts on the line at the column, none starts on an earlier line, and
 -- none on this line at a lesser column
 pub record IsLocation (s : Source) (marks : List Annotation) (place : Location) : Type 0 where
   pub span : Annotation

@@ -28,10 +28,6 @@ start_column source a = (place_of source a.span.start).column
 abbrev pub end_column : List ℕ → Annotation → ℕ
 end_column source a = max (place_of source a.span.end).column (start_column source a + 1)
 
--- a single-line span covers column p
-abbrev pub Covers : List ℕ → Annotation → ℕ → Type 0
-Covers source a p = (start_column source a ≤ p) × (p < end_column source a)
-
 -- how many columns a single-line span covers
 abbrev pub span_width : List ℕ → Annotation → ℕ
 span_width source a = end_column source a - start_column source a
@@ -53,9 +49,9 @@ qualifies_for_marks room placeholder_width source marks k =
     list_any (is_marked_on source k) marks && list_all (λ a. not (is_marked_on source k a && is_wide room placeholder_width source a)) marks
     && list_all (λ a. not (is_marking a.kind && touches source a k && not (is_single_line source a))) marks
 
--- the span is marked below column p of line k
+-- the span is marked below column p of line k: it is marked below the line, and covers the column
 abbrev pub IsMarkedAt : List ℕ → ℕ → ℕ → Annotation → Type 0
-IsMarkedAt source k p a = (is_marked_on source k a ≡ true) × Covers source a p
+IsMarkedAt source k p a = (is_marked_on source k a ≡ true) × (start_column source a ≤ p) × (p < end_column source a)
 
 -- the mark of column p of line k has this kind: it is the kind of a span of least width among those that cover the
 -- column; where it isn't primary, each primary span there is wider, so that a primary one wins where both kinds have

@@ -1,10 +1,19 @@
 -- Where the bar of a span of several lines stands in the rows of the line on which the span begins, by which laws are proved.
 use Rattle.std.proofs.Common.{◌≡◌, ◌⊎◌, ℕ, ◌<◌, List, length}
-use Rattle.snippet_style.specs.Cell.{Cell, SPACE}
+use Rattle.snippet_style.specs.Cell.{Cell, SPACE, unlinked_cell}
+use Rattle.snippet_style.specs.Glyphs.{strokes_of, underline_role}
 use Rattle.snippet_grid.specs.Grid.{cell_at}
 use Rattle.snippet_grid.specs.Layout.{Layout, bar_cell}
-use Rattle.snippet_strokes.specs.Bars.{Bar}
-use Rattle.snippet_strokes.specs.EndBars.{bar_top, solid_bar, start_corner}
+use Rattle.snippet_strokes.specs.Bars.{Bar, bar_cell_part}
+use Rattle.snippet_strokes.specs.declared.bars.BarStroke.TheVariants.{Solid, Top}
+
+-- the corner at which a bar begins, left of the line that leads to the span's first mark: in ASCII a space
+abbrev pub start_corner : Layout → Bar → Cell
+start_corner layout bar = unlinked_cell (underline_role bar.primary) (strokes_of layout.decor bar.primary).bar_top
+
+-- the corner at which it ends, left of the line that leads to the span's last mark: in ASCII a part of the bar
+abbrev pub end_corner : Layout → Bar → Cell
+end_corner layout bar = unlinked_cell (underline_role bar.primary) (strokes_of layout.decor bar.primary).bar_bottom
 
 -- in the rows of a line the bar begins: in one below the source row stands its corner, and in each row below that the bar; in the
 -- source row a space stands in its cell
@@ -14,12 +23,12 @@ pub record BeginsBelow (layout : Layout) (bar : Bar) (rows : List (List Cell)) :
   pub within : corner < length rows
   pub corner_is : cell_at rows corner (bar_cell layout bar.depth) ≡ start_corner layout bar
   pub source : cell_at rows 0 (bar_cell layout bar.depth) ≡ SPACE
-  pub beside : (i : ℕ) → corner < i → i < length rows → cell_at rows i (bar_cell layout bar.depth) ≡ solid_bar layout bar
+  pub beside : (i : ℕ) → corner < i → i < length rows → cell_at rows i (bar_cell layout bar.depth) ≡ bar_cell_part layout Solid bar
 
 -- or its top stands in the source row, below which the line has none
 pub record BeginsBeside (layout : Layout) (bar : Bar) (rows : List (List Cell)) : Type 0 where
   pub alone : length rows ≡ 1
-  pub top : cell_at rows 0 (bar_cell layout bar.depth) ≡ bar_top layout bar
+  pub top : cell_at rows 0 (bar_cell layout bar.depth) ≡ bar_cell_part layout Top bar
 
 -- in the rows of a line the bar begins, in one of these ways
 abbrev pub BarBegins : Layout → Bar → List (List Cell) → Type 0

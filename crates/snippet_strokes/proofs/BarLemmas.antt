@@ -19,7 +19,7 @@ use Rattle.snippet_text.specs.Normalized.{is_listed}
 use Rattle.snippet_grid.specs.Layout.{Layout}
 use Rattle.snippet_strokes.specs.declared.bars.BarStroke.{BarStroke}
 use Rattle.snippet_strokes.specs.declared.bars.BarStroke.TheVariants.{Top, Solid, Dotted}
-use Rattle.snippet_strokes.specs.EntryMarks.{IsBarCell, IsMarkCell, has_mark_role}
+use Rattle.snippet_strokes.specs.EntryMarks.{IsBarCell, IsMarkCell, is_mark_role}
 use Rattle.snippet_strokes.proofs.PlainEntries.{are_plain, wide_entries}
 use Rattle.snippet_model.specs.FreeRows.{IsFreeCell}
 use Rattle.snippet_style.proofs.StrokeLemmas.{bars_among}
@@ -208,7 +208,7 @@ ShowsMarks-drawn layout es old new shows drawn =
     drawn_right layout old new drawn (layout.code + p) (omega arith) in
     record {
       marks = λ p kind mark. subst (IsMarkCell layout.decor kind) (sym (same p)) (shows.marks p kind mark);
-      unmarked = λ p none. ap has_mark_role (same p) ∙ shows.unmarked p none;
+      unmarked = λ p none. ap (λ (c : Cell). is_mark_role c.role) (same p) ∙ shows.unmarked p none;
       spaces = λ bare p none. same p ∙ shows.spaces bare p none;
       lone = λ e alone wide label. sym (drop-drop e.end.display layout.code new) ∙ ap (drop e.end.display) drawn.code ∙ drop-drop e.end.display layout.code old
           ∙ shows.lone e alone wide label;

@@ -10,7 +10,7 @@ use Rattle.std.specs.Prelude.{◌&&◌, not}
 use Rattle.std.specs.List.{list_any, slice_index_or}
 use Rattle.snippet_parts.specs.declared.entries.LineAnnotation.{LineAnnotation}
 use Rattle.snippet_parts.specs.Entries.{is_wide_entry}
-use Rattle.snippet_window.specs.Window.{AreReplaced, IsReplaced}
+use Rattle.snippet_window.specs.Window.{AreReplaced}
 use Rattle.snippet_style.specs.declared.glyphs.DecorStyle.{DecorStyle}
 use Rattle.snippet_style.specs.declared.role.ElementStyle.TheVariants.{LineNumber}
 use Rattle.snippet_style.specs.Glyphs.{placeholder_of}
@@ -40,7 +40,7 @@ AreReplaced-weaker placeholder zero n before after few same =
 AreReplaced-weaker placeholder (suc m) zero before after few are = absurd (omega arith)
 AreReplaced-weaker placeholder (suc m) (suc n) before after few (inl same) = inl same
 AreReplaced-weaker placeholder (suc m) (suc n) before after few (inr more) =
-    inr (more.0, more.1, AreReplaced-weaker placeholder m n more.0 after (omega arith) more.2)
+    inr (more.0, more.1, more.2, more.3, AreReplaced-weaker placeholder m n (more.0 ++ placeholder ++ more.2) after (omega arith) more.4)
 
 -- some stretches, and then some more
 AreReplaced-more : (placeholder : List ℕ) (m n : ℕ) (before now after : List ℕ) → AreReplaced placeholder m before now → AreReplaced placeholder n now after
@@ -50,9 +50,9 @@ AreReplaced-more placeholder zero n before now after same are =
 AreReplaced-more placeholder (suc m) n before now after (inl same) are =
     AreReplaced-weaker placeholder n (suc m + n) before after (omega arith) (subst (λ text. AreReplaced placeholder n text after) same are)
 AreReplaced-more placeholder (suc m) n before now after (inr first) are =
-    let rest = AreReplaced-more placeholder m n first.0 now after first.2 are in
+    let rest = AreReplaced-more placeholder m n (first.0 ++ placeholder ++ first.2) now after first.4 are in
     let count : suc m + n ≡ suc (m + n) = omega arith in
-    subst (λ k. AreReplaced placeholder k before after) (sym count) (inr (first.0, first.1, rest))
+    subst (λ k. AreReplaced placeholder k before after) (sym count) (inr (first.0, first.1, first.2, first.3, rest))
 
 -- a row that stays is cut nowhere
 IsCut-none : (layout : Layout) (n : ℕ) (row : List Cell) → IsCut layout n row row
@@ -104,18 +104,14 @@ IsCut-there layout start end row from some within =
     let front = take (start - layout.code) (drop layout.code row) in
     let stretch = take (end - start) (drop start row) in
     let back = drop end row in
-    let replaced : IsReplaced (placeholder_of layout.decor) (row_text (drop layout.code row))
-    (row_text (drop layout.code (take start row ++ placeholder ++ drop end row))) = record {
-      front = row_text front;
-      stretch = row_text stretch;
-      back = row_text back;
-      before_is = ap row_text (three_parts row layout.code start end from some within) ∙ row_text-parts front stretch back;
-      after_is = ap row_text (three_parts_now row placeholder layout.code start end from some within) ∙ row_text-parts front placeholder back
-          ∙ ap (λ t. row_text front ++ t ++ row_text back) (row_text-text_cells LineNumber (placeholder_of layout.decor));
-    } in
+    let before : row_text (drop layout.code row) ≡ row_text front ++ row_text stretch ++ row_text back
+    = ap row_text (three_parts row layout.code start end from some within) ∙ row_text-parts front stretch back in
+    let after : row_text (drop layout.code (take start row ++ placeholder ++ drop end row)) ≡ row_text front ++ placeholder_of layout.decor ++ row_text back
+    = ap row_text (three_parts_now row placeholder layout.code start end from some within) ∙ row_text-parts front placeholder back
+    ∙ ap (λ t. row_text front ++ t ++ row_text back) (row_text-text_cells LineNumber (placeholder_of layout.decor)) in
     record {
       left = front_stays row placeholder layout.code start end from some within;
-      text = inr (row_text (drop layout.code (take start row ++ placeholder ++ drop end row)), replaced, refl);
+      text = inr (row_text front, row_text stretch, row_text back, before, after);
       uncut = λ none. absurd (omega (arith, none));
       free = λ free. All-append IsFreeCell (take start row ++ placeholder) (drop end row)
           (All-append IsFreeCell (take start row) placeholder (All-take IsFreeCell start row free) (free_placeholder layout.decor))

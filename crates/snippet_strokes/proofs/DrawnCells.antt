@@ -6,7 +6,7 @@ use Rattle.snippet_style.specs.Cell.{Cell}
 use Rattle.snippet_grid.specs.Layout.{Layout, inner_cell}
 use Rattle.snippet_model.specs.FreeRows.{IsFreeCell}
 use Rattle.snippet_labels.specs.declared.positions.PlacedEntry.{PlacedEntry}
-use Rattle.snippet_strokes.specs.EntryMarks.{IsBarCell, has_mark_role}
+use Rattle.snippet_strokes.specs.EntryMarks.{IsBarCell, is_mark_role}
 use Rattle.std.specs.List.{slice_index_or}
 use Rattle.snippet_style.specs.Cell.{SPACE}
 use Rattle.snippet_model.specs.FreeRows.{IsFree}
@@ -34,7 +34,7 @@ pub record DrawsBarCells (layout : Layout) (row : ℕ) (old new : List (List Cel
 -- something was drawn, and nothing of it in the role of marks but below the first columns of these entries
 abbrev pub MarksStarts : ℕ → List PlacedEntry → List (List Cell) → List (List Cell) → Type 0
 MarksStarts code es old new =
-    (r c : ℕ) → All (λ e. c ≢ code + e.entry.start.display) es → has_mark_role (cell_at old r c) ≡ false → has_mark_role (cell_at new r c) ≡ false
+    (r c : ℕ) → All (λ e. c ≢ code + e.entry.start.display) es → is_mark_role (cell_at old r c).role ≡ false → is_mark_role (cell_at new r c).role ≡ false
 
 -- an entry doesn't start left of this cell
 abbrev pub StandsFrom : ℕ → ℕ → LineAnnotation → Type 0

@@ -28,9 +28,9 @@ use Rattle.snippet_strokes.specs.declared.bars.BarStroke.{BarStroke}
 use Rattle.snippet_strokes.specs.declared.bars.BarStroke.TheVariants.{Dotted, Solid, Top}
 use Rattle.snippet_strokes.specs.Bars.{Bar, HasOwnDepth, bar_at, bar_of, bars_apart, ends_of_bars, has_depth, is_beside, is_whole_line}
 use Rattle.snippet_strokes.proofs.OneStep.{with_bar}
-use Rattle.snippet_strokes.specs.Bars.{with_bars}
+use Rattle.snippet_strokes.specs.Bars.{bar_cell_part, with_bars}
 use Rattle.snippet_strokes.specs.Drawing.{HasRows, row_count}
-use Rattle.snippet_strokes.specs.EndBars.{BarEnds, dotted_bar}
+use Rattle.snippet_strokes.specs.EndBars.{BarEnds}
 use Rattle.snippet_strokes.proofs.BarFacts.{BarBegins, BeginsBelow}
 use Rattle.snippet_strokes.proofs.LineFacts.{AreLineRows, StrokesPainted}
 use Rattle.snippet_strokes.specs.Strokes.{begun_rows, corner_by}
@@ -298,5 +298,5 @@ module _ (layout : Layout) (bar : Bar) (room : layout.gutter + 2 + bar.depth < l
 
 -- in the row in place of lines that are left out each bar that is open there stands, where no other has its depth
 pub elision_stands : (layout : Layout) (bar : Bar) (open_bars : List Bar) (row : List Cell) → HasOwnDepth bar open_bars → Contains open_bars bar
-    → get_or (with_bars layout Dotted open_bars row) (layout.gutter + 2 + bar.depth) SPACE ≡ dotted_bar layout bar
+    → get_or (with_bars layout Dotted open_bars row) (layout.gutter + 2 + bar.depth) SPACE ≡ bar_cell_part layout Dotted bar
 elision_stands layout bar open_bars row alone among = bar_stands layout Dotted bar open_bars row alone among

@@ -22,7 +22,7 @@ use Rattle.snippet_strokes.proofs.OneStep.{written_by}
 use Rattle.snippet_strokes.proofs.WriteLemmas.{painted-append}
 use Rattle.snippet_strokes.specs.declared.bars.BarStroke.TheVariants.{Solid}
 use Rattle.snippet_strokes.specs.Bars.{Bar, bar_cell_part}
-use Rattle.snippet_strokes.specs.EndBars.{end_corner, start_corner}
+use Rattle.snippet_strokes.proofs.BarFacts.{end_corner, start_corner}
 use Rattle.snippet_strokes.proofs.Reach.{Reaches}
 use Rattle.snippet_strokes.specs.Strokes as strokes
 use Rattle.snippet_strokes.specs.Strokes.{column_of, connectors_of, corner_by, corner_of, corners_of, label_of, labels_of}

@@ -9,7 +9,7 @@ use Rattle.snippet_grid.specs.Grid.{cells_written}
 use Rattle.snippet_grid.specs.Layout.{Layout}
 use Rattle.snippet_labels.specs.declared.positions.PlacedEntry.{PlacedEntry}
 use Rattle.snippet_labels.specs.PlacedEntries.{HasPlace, label_role, label_text}
-use Rattle.snippet_strokes.specs.EntryMarks.{has_mark_role}
+use Rattle.snippet_strokes.specs.EntryMarks.{is_mark_role}
 use Rattle.snippet_strokes.specs.Drawing.{HasRows}
 use Rattle.snippet_strokes.proofs.DrawnCells.{DrawsFrom, MarksStarts, StandsFrom}
 use Rattle.snippet_labels.specs.Positions.{has_label}
@@ -49,7 +49,7 @@ DrawsFrom-labels layout row from es old places rows stand =
     DrawsFrom-painted row from (labels_of layout row es) old (labels_within layout row (length old) from es places rows stand)
 
 -- a label is in no role of marks
-label_unmarked : (kind : AnnotationKind) → has_mark_role (unlinked_cell (label_role kind) 32) ≡ false
+label_unmarked : (kind : AnnotationKind) → is_mark_role (unlinked_cell (label_role kind) 32).role ≡ false
 label_unmarked Primary = refl
 label_unmarked Context = refl
 label_unmarked Visible = refl
@@ -58,7 +58,7 @@ label_unmarked Visible = refl
 pub labels_unmarked : (layout : Layout) (row : ℕ) (es : List PlacedEntry) (rows : List (List Cell))
     → MarksStarts layout.code [] rows (painted (labels_of layout row es) rows)
 labels_unmarked layout row es rows r c _ before =
-    let M : Cell → Type 0 = λ cell. has_mark_role cell ≡ false in
+    let M : Cell → Type 0 = λ cell. is_mark_role cell.role ≡ false in
     let Q : Write → Type 0 = λ w. Reaches r c w → M (cell_of_write w c) in
     painted-cell M (labels_of layout row es) rows r c before (All-flat_map Q (label_of layout row) es (λ k d within.
     All-label_of Q layout row (get_or es k d) (λ has there. label_unmarked (get_or es k d).entry.kind)))

@@ -4,7 +4,7 @@ use Rattle.std.proofs.Common.{subst, arith}
 use Rattle.snippet_grid.specs.Grid.{cell_at, row_at}
 use Rattle.snippet_style.specs.Cell.{Cell, SPACE}
 use Rattle.snippet_grid.specs.Layout.{Layout, inner_cell}
-use Rattle.snippet_strokes.specs.EntryMarks.{IsBarCell, has_mark_role}
+use Rattle.snippet_strokes.specs.EntryMarks.{IsBarCell, is_mark_role}
 use Rattle.snippet_strokes.proofs.PlainEntries.{are_plain}
 use Rattle.snippet_strokes.proofs.SeenRows.{AreSeen, HasNoBars, IsStrokeRow}
 use Rattle.snippet_style.specs.Separators.{closing_row}
@@ -33,7 +33,7 @@ none_seen layout room closes source place bare_bars =
         labels = λ _ _. LabelsStand-none layout [] _ (λ k d within. absurd (omega (arith, within))) (blank closes);
         marks = λ _. record {
           marks = λ p kind mark. absurd (omega (arith, mark.among.1));
-          unmarked = λ p _. ap has_mark_role (blank closes 0 (layout.code + p) (omega arith));
+          unmarked = λ p _. ap (λ (c : Cell). is_mark_role c.role) (blank closes 0 (layout.code + p) (omega arith));
           spaces = λ _ p _. blank closes 0 (layout.code + p) (omega arith);
           lone = λ e one some shown. cc one;
         };

@@ -10,7 +10,7 @@ use Rattle.snippet_grid.specs.Print.{row_text}
 use Rattle.snippet_grid.specs.Grid.{row_at}
 use Rattle.snippet_style.specs.Cell.{Cell, SPACE, text_cells}
 use Rattle.snippet_grid.specs.Layout.{Layout, inner_cell, space_cell}
-use Rattle.snippet_strokes.specs.EntryMarks.{IsMarkCell, IsBarCell, has_mark_role}
+use Rattle.snippet_strokes.specs.EntryMarks.{IsMarkCell, IsBarCell, is_mark_role}
 use Rattle.snippet_strokes.proofs.PlainEntries.{EntryCovers, IsEntryMark, are_plain, wide_entries}
 use Rattle.snippet_labels.specs.PlacedEntries.{label_text, label_role}
 use Rattle.snippet_model.specs.FreeRows.{IsFree}
@@ -23,7 +23,7 @@ use Rattle.snippet_strokes.specs.SourceRows.{bare_row}
 -- a space and its label, and nothing more
 pub record ShowsMarks (decor : DecorStyle) (code : ℕ) (es : List LineAnnotation) (row : List Cell) : Type 0 where
   pub marks : (p : ℕ) (kind : AnnotationKind) → IsEntryMark es p kind → IsMarkCell decor kind (slice_index_or row (code + p) SPACE)
-  pub unmarked : (p : ℕ) → All (λ e. EntryCovers e p → ⊥) es → has_mark_role (slice_index_or row (code + p) SPACE) ≡ false
+  pub unmarked : (p : ℕ) → All (λ e. EntryCovers e p → ⊥) es → is_mark_role (slice_index_or row (code + p) SPACE).role ≡ false
   pub spaces : All (λ e. label_text e ≡ []) es → (p : ℕ) → All (λ e. EntryCovers e p → ⊥) es → slice_index_or row (code + p) SPACE ≡ SPACE
   pub lone : (e : LineAnnotation) → es ≡ e ∷ [] → e.start.display < e.end.display → 0 < length (label_text e)
       → drop (code + e.end.display) row ≡ SPACE ∷ text_cells (label_role e.kind) (label_text e)

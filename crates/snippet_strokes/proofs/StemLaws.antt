@@ -10,7 +10,7 @@ use Rattle.snippet_style.specs.Cell.{Cell, SPACE, gives_way}
 use Rattle.snippet_parts.specs.declared.entries.LineAnnotation.{LineAnnotation}
 use Rattle.snippet_grid.specs.Layout.{Layout}
 use Rattle.snippet_labels.specs.PlacedEntries.{label_role, label_text}
-use Rattle.snippet_strokes.specs.EntryMarks.{has_mark_role}
+use Rattle.snippet_strokes.specs.EntryMarks.{is_mark_role}
 use Rattle.snippet_strokes.proofs.SeenLabels.{LabelsStand, PlacedLabel, StandsIn, is_cell_of}
 use Rattle.snippet_strokes.proofs.LabelPlaces.{none_pass}
 
@@ -59,4 +59,4 @@ stem_left_out layout es rows stand k d within some r under above blank =
       | inl holds ↦ absurd (no_space layout rows (get_or stand.labels j x) r c (stand.stand j x inside) holds blank)
       | inr not ↦ not
     ]) in
-    false≢true (sym (ap has_mark_role blank) ∙ (stand.led k d within some r under above none).1)
+    false≢true (sym (ap (λ (c : Cell). is_mark_role c.role) blank) ∙ (stand.led k d within some r under above none).1)

@@ -9,7 +9,7 @@ use Rattle.snippet_style.specs.Cell.{Cell}
 use Rattle.snippet_text.specs.Normalized.{is_listed}
 use Rattle.snippet_grid.specs.Layout.{Layout}
 use Rattle.snippet_labels.specs.declared.positions.PlacedEntry.{PlacedEntry}
-use Rattle.snippet_strokes.specs.EntryMarks.{has_mark_role}
+use Rattle.snippet_strokes.specs.EntryMarks.{is_mark_role}
 use Rattle.snippet_model.specs.AnnotationKind.{is_primary}
 use Rattle.snippet_strokes.specs.Drawing.{HasRows, foot_glyph}
 use Rattle.snippet_strokes.proofs.DrawnCells.{DrawsFrom, MarksStarts, StandsFrom}
@@ -102,7 +102,7 @@ stems_skip layout row e later rows hidden =
 pub stems_start : (layout : Layout) (row : ℕ) (es : List PlacedEntry) (rows : List (List Cell))
     → MarksStarts layout.code es rows (painted (stems_of layout row es) rows)
 stems_start layout row es rows r c beside before =
-    let M : Cell → Type 0 = λ cell. has_mark_role cell ≡ false in
+    let M : Cell → Type 0 = λ cell. is_mark_role cell.role ≡ false in
     let Q : Write → Type 0 = λ w. Reaches r c w → M (cell_of_write w c) in
     painted-cell M (stems_of layout row es) rows r c before (All-stems_of Q layout row es (λ k d within.
     All-stem_of Q layout row (get_or es k d) (λ b low there. absurd (beside k d within (omega (arith, there.from, there.to))))))

@@ -17,7 +17,7 @@ use Rattle.snippet_grid.proofs.GridLemmas.{row_at-cells_written_same}
 use Rattle.snippet_style.proofs.CellLemmas.{length-written}
 use Rattle.snippet_grid.specs.Layout.{Layout}
 use Rattle.snippet_labels.specs.declared.positions.PlacedEntry.{PlacedEntry}
-use Rattle.snippet_strokes.specs.EntryMarks.{HasBarCell, IsBarCell, has_mark_role}
+use Rattle.snippet_strokes.specs.EntryMarks.{HasBarCell, IsBarCell, is_mark_role}
 use Rattle.snippet_strokes.proofs.PlainEntries.{EntryCovers, are_plain, is_single, wide_entries}
 use Rattle.snippet_labels.specs.PlacedEntries.{HasPlace, label_text, label_role}
 use Rattle.snippet_model.specs.FreeRows.{IsFreeCell}
@@ -363,17 +363,17 @@ module _ (layout : Layout) (room : ℕ) (closes : Bool) (es : List LineAnnotatio
       ordered_all (λ e. EntryCovers e p → ⊥) uncovered k d within (covered_painted e p own painted)
 
   -- what was there below such a column is no mark
-  unmarked : plain ≡ true → (p : ℕ) → All (λ e. EntryCovers e p → ⊥) es → has_mark_role (cell_at new row (layout.code + p)) ≡ false
+  unmarked : plain ≡ true → (p : ℕ) → All (λ e. EntryCovers e p → ⊥) es → is_mark_role (cell_at new row (layout.code + p)).role ≡ false
   unmarked flat p uncovered =
       let N : LineAnnotation → Type 0 = λ e. layout.code + p ≢ layout.code + e.start.display in
       let beside : All N es = λ k d within here. uncovered k d within
       (omega (arith, here), omega (arith, here, (plain_entries room layout.decor es flat k d within).1)) in
-      let bare_space : has_mark_role (cell_at barred row (layout.code + p))
-      ≡ false = ap (λ rows. has_mark_role (cell_at rows row (layout.code + p))) (barless flat)
-      ∙ ap (λ cells. has_mark_role (slice_index_or cells (layout.code + p) SPACE)) first_begun ∙ ap has_mark_role (space_at p) in
+      let bare_space : is_mark_role (cell_at barred row (layout.code + p)).role
+      ≡ false = ap (λ rows. is_mark_role (cell_at rows row (layout.code + p)).role) (barless flat)
+      ∙ ap (λ cells. is_mark_role (slice_index_or cells (layout.code + p) SPACE).role) first_begun ∙ ap (λ (c : Cell). is_mark_role c.role) (space_at p) in
       let stems_done = stem_starts row (layout.code + p) (entries_all N es placed is.same beside) bare_space in
       let labels_done = label_starts row (layout.code + p) (All-nil (λ (e : PlacedEntry). layout.code + p ≢ layout.code + e.entry.start.display)) stems_done in
-      ap has_mark_role (marked.painted.unmarked p (unpainted flat p uncovered)) ∙ labels_done
+      ap (λ (c : Cell). is_mark_role c.role) (marked.painted.unmarked p (unpainted flat p uncovered)) ∙ labels_done
 
   shows_marks : plain ≡ true → ShowsMarks layout.decor layout.code es (row_at new row)
   shows_marks flat =

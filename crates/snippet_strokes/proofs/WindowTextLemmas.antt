@@ -1,10 +1,11 @@
 -- The text that the cells of a window print.
 use Rattle.std.proofs.Common.{◌≡◌, ℕ, ◌+◌, ◌-◌, ◌==◌, cond, Bool, true, false, Option, None, Some, List, [], ◌∷◌, ◌++◌, length, map, take, drop, replicate}
 use Rattle.std.proofs.Common.{zero, suc, refl, sym, ap, ◌∙◌}
+use Rattle.std.specs.Option.{option_map_or}
 use Rattle.std.proofs.lemmas.List.{map-append, take-map, drop-map, length-map}
 use Rattle.snippet_window.specs.declared.margin.Margin.{Margin}
 use Rattle.snippet_window.specs.Margin.{bounds_of}
-use Rattle.snippet_window.specs.Window.{inner_part, covered_columns, uncovered_part, covered_end, begun_with, ended_with, window}
+use Rattle.snippet_window.specs.Window.{inner_part, covered_columns, uncovered_part, covered_end, window}
 use Rattle.snippet_style.specs.declared.glyphs.DecorStyle.{DecorStyle}
 use Rattle.snippet_style.specs.declared.role.ElementStyle.TheVariants.{LineNumber, Quotation}
 use Rattle.snippet_style.specs.Glyphs.{placeholder_of}
@@ -33,6 +34,14 @@ row_text-written cells at new =
     ∙ ap (λ xs. xs ++ map f (drop (at + length new) cells))
     (map-append f (take at (cells ++ replicate (at - length cells) SPACE)) new ∙ ap (λ xs. xs ++ map f new) front)
     ∙ ap (λ xs. (take at (map f cells ++ replicate (at - length (map f cells)) 32) ++ map f new) ++ xs) back
+
+-- a text, which stands after as many columns, if lines are cut on the left, with the placeholder at their beginning, and with the
+-- placeholder over its end, from this cell on
+abbrev begun_with : List ℕ → Option ℕ → List ℕ → List ℕ
+begun_with placeholder start text = option_map_or (λ columns. cond (length text == 0) placeholder (written 32 placeholder columns text)) start text
+
+abbrev ended_with : List ℕ → Option ℕ → List ℕ → List ℕ
+ended_with placeholder end text = option_map_or (λ at. written 32 text at placeholder) end text
 
 row_text-begun : (decor : DecorStyle) (start : Option ℕ) (text : List ℕ)
     → row_text (begun_cells decor start text) ≡ begun_with (placeholder_of decor) start text

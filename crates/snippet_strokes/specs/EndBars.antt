@@ -5,39 +5,20 @@ use Rattle.snippet_style.specs.Cell.{Cell, SPACE, unlinked_cell}
 use Rattle.snippet_style.specs.declared.glyphs.DecorStyle.{DecorStyle}
 use Rattle.snippet_grid.specs.Grid.{cell_at}
 use Rattle.snippet_grid.specs.Layout.{Layout, bar_cell}
-use Rattle.snippet_strokes.specs.declared.bars.BarStroke.TheVariants.{Top, Solid, Dotted}
+use Rattle.snippet_strokes.specs.declared.bars.BarStroke.TheVariants.{Solid}
 use Rattle.snippet_strokes.specs.Bars.{Bar, bar_cell_part}
-
--- the cell of a bar in a row of a line
-abbrev pub solid_bar : Layout → Bar → Cell
-solid_bar layout bar = bar_cell_part layout Solid bar
-
--- the cell of a bar in a row in place of lines that are left out
-abbrev pub dotted_bar : Layout → Bar → Cell
-dotted_bar layout bar = bar_cell_part layout Dotted bar
-
--- the cell of its top beside a line that is marked as a whole
-abbrev pub bar_top : Layout → Bar → Cell
-bar_top layout bar = bar_cell_part layout Top bar
-
--- the corner at which a bar begins, left of the line that leads to the span's first mark: in ASCII a space
-abbrev pub start_corner : Layout → Bar → Cell
-start_corner layout bar = unlinked_cell (underline_role bar.primary) (strokes_of layout.decor bar.primary).bar_top
-
--- the corner at which it ends, left of the line that leads to the span's last mark: in ASCII a part of the bar
-abbrev pub end_corner : Layout → Bar → Cell
-end_corner layout bar = unlinked_cell (underline_role bar.primary) (strokes_of layout.decor bar.primary).bar_bottom
 
 -- no bar stands in the cell: it is a space, or a part of a line that leads from another bar to a mark
 abbrev pub IsNoBar : DecorStyle → Cell → Type 0
 IsNoBar decor cell =
     (cell ≡ SPACE) ⊎ ((primary : Bool) × (cell ≡ unlinked_cell (underline_role primary) (strokes_of decor primary).connector))
 
--- in the rows of a line the bar ends: in one below the source row stands its corner, and in each row above that, from the source row on,
--- the bar
+-- in the rows of a line the bar ends: in one below the source row stands its corner, left of the line that leads to the span's last mark,
+-- in ASCII a part of the bar; and in each row above that, from the source row on, the bar
 pub record BarEnds (layout : Layout) (bar : Bar) (rows : List (List Cell)) : Type 0 where
   pub corner : ℕ
   pub below : 0 < corner
   pub within : corner < length rows
-  pub corner_is : cell_at rows corner (bar_cell layout bar.depth) ≡ end_corner layout bar
-  pub beside : (i : ℕ) → i < corner → cell_at rows i (bar_cell layout bar.depth) ≡ solid_bar layout bar
+  pub corner_is : cell_at rows corner (bar_cell layout bar.depth)
+      ≡ unlinked_cell (underline_role bar.primary) (strokes_of layout.decor bar.primary).bar_bottom
+  pub beside : (i : ℕ) → i < corner → cell_at rows i (bar_cell layout bar.depth) ≡ bar_cell_part layout Solid bar

@@ -40,7 +40,3 @@ abbrev pub is_mark_role : ElementStyle → Bool
 is_mark_role UnderlinePrimary = true
 is_mark_role UnderlineSecondary = true
 is_mark_role other = false
-
--- whether a cell is in such a role
-abbrev pub has_mark_role : Cell → Bool
-has_mark_role cell = is_mark_role cell.role

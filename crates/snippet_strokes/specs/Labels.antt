@@ -4,7 +4,7 @@ use Rattle.std.specs.List.{flat_map, list_any}
 use Rattle.snippet_style.specs.Cell.{Cell, SPACE}
 use Rattle.snippet_style.specs.declared.glyphs.DecorStyle.{DecorStyle}
 use Rattle.snippet_style.specs.Glyphs.{strokes_of}
-use Rattle.snippet_strokes.specs.EntryMarks.{has_mark_role}
+use Rattle.snippet_strokes.specs.EntryMarks.{is_mark_role}
 
 -- the glyphs of stems, and of their feet, where lines that lead to bars meet them, primary or for context
 abbrev pub stem_glyphs : DecorStyle → List ℕ
@@ -19,9 +19,9 @@ stroke_glyphs decor =
 -- a cell below a line, from the code on, that is none of a label's: a space, or the glyph of a stroke in a role of marks
 abbrev pub IsStrokeCell : DecorStyle → Cell → Type 0
 IsStrokeCell decor cell =
-    (cell ≡ SPACE) ⊎ ((list_any (λ g. cell.ch == g) (stroke_glyphs decor) ≡ true) × (has_mark_role cell ≡ true))
+    (cell ≡ SPACE) ⊎ ((list_any (λ g. cell.ch == g) (stroke_glyphs decor) ≡ true) × (is_mark_role cell.role ≡ true))
 
 -- a cell in which a stem stands, in a role of marks
 abbrev pub IsStemCell : DecorStyle → Cell → Type 0
 IsStemCell decor cell =
-    (list_any (λ g. cell.ch == g) (stem_glyphs decor) ≡ true) × (has_mark_role cell ≡ true)
+    (list_any (λ g. cell.ch == g) (stem_glyphs decor) ≡ true) × (is_mark_role cell.role ≡ true)

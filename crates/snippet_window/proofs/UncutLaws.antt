@@ -2,7 +2,7 @@
 use Rattle.std.proofs.Common.{◌≡◌, ◌∙◌, ℕ, ◌+◌, ◌-◌, ◌≤◌, Bool, true, false, not, cond, eqb, leb, ltb, max, min, ◌&&◌, ◌||◌, List, [], ◌∷◌, ◌++◌, Option, Some}
 use Rattle.std.proofs.Common.{None, map, chars, unwrap_or, refl, sym, ap, subst, inl, inr, arith}
 use Rattle.std.specs.List.{All, cons_option, flat_map, list_all, list_any}
-use Rattle.std.specs.Option.{is_none}
+use Rattle.std.specs.Option.{is_none, option_map_or}
 use Rattle.std.proofs.lemmas.Bool.{cases_Bool, cond-true, cond-false, and_parts, and_from, not-true, eqb-false, leb-true, or_cases}
 use Rattle.std.proofs.lemmas.Bool.Decides.{nat_tests}
 use Rattle.snippet_text.specs.Width.{width_of}
@@ -18,7 +18,7 @@ use Rattle.snippet_parts.specs.Least.{greatest, least}
 use Rattle.snippet_window.specs.Measures.{margin_of}
 use Rattle.snippet_lines.specs.Span.{IsSpan}
 use Rattle.snippet_lines.specs.Place.{end_location, line_of, location_of, locations_of, place_of, prefix_at, steps_after_text}
-use Rattle.snippet_window.specs.Window.{chars_at, end_mark_column, is_near, is_near_left, is_near_span, leading_whitespace, stands_whole}
+use Rattle.snippet_window.specs.Window.{chars_at, end_mark_column, is_near_left, is_near_span, leading_whitespace, stands_whole}
 use Rattle.snippet_parts.proofs.AmongLemmas.{Among, among_map, map_cases, among_flat_map, any_cases, least_le, greatest_most, all_pass, among_filter_map}
 use Rattle.snippet_parts.proofs.MarkLemmas.{start_column-from}
 use Rattle.snippet_lines.proofs.PlaceLemmas.{locations_of-end}
@@ -35,6 +35,10 @@ blank_none source (k ∷ ks) all =
     none : (o : Option ℕ) → is_none o ≡ true → whitespaces_of (map (chars_at source) ks) ≡ [] → cons_option o (whitespaces_of (map (chars_at source) ks)) ≡ []
     none None blank rest = rest
     none (Some n) blank rest = absurd cc
+
+-- the width is known and at most 26
+abbrev is_near : Option ℕ → Bool
+is_near o = option_map_or (λ columns. leb columns 26) o false
 
 near_some : (o : Option ℕ) → is_near o ≡ true → (n : ℕ) × (o ≡ Some n) × (n ≤ 26)
 near_some None near = absurd cc

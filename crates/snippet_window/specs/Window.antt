@@ -2,7 +2,7 @@
 use Rattle.std.specs.Prelude.{◌≡◌, ℕ, ◌+◌, ◌-◌, ◌≤◌, ◌==◌, ◌&&◌, ◌||◌, ◌⊎◌, nat_lt, nat_le, min, zero, suc, Bool, false, not, List, [], ◌∷◌, ◌++◌, Option, Some}
 use Rattle.std.specs.Prelude.{None, is_none, chars, unwrap_or, length, take, drop, if◌then◌else◌}
 use Rattle.std.specs.List.{list_all, list_any}
-use Rattle.std.specs.Option.{option_map}
+use Rattle.std.specs.Option.{option_map, option_map_or}
 use Rattle.std.specs.Char.{is_whitespace}
 use Rattle.snippet_model.specs.declared.snippet.Annotation.{Annotation}
 use Rattle.snippet_style.specs.Cell.{written}
@@ -66,38 +66,21 @@ covered_end room left right placeholder text =
     let at = unwrap_or (covered_columns left placeholder inner) 0 + length (uncovered_part left placeholder inner) in
     if nat_lt (window_right room left right text) (width_of text) then Some (at - reaching_last (width_of placeholder) inner) else None
 
--- a text, which stands after as many columns, if lines are cut on the left, with the placeholder at their beginning. If
--- nothing stands after them, there is the placeholder alone
-abbrev pub begun_with : List ℕ → Option ℕ → List ℕ → List ℕ
-begun_with placeholder None text = text
-begun_with placeholder (Some columns) text =
-    if length text == 0 then placeholder else written 32 placeholder columns text
-
--- a text with the placeholder over its end, from this cell on, if there is one
-abbrev pub ended_with : List ℕ → Option ℕ → List ℕ → List ℕ
-ended_with placeholder None text = text
-ended_with placeholder (Some at) text = written 32 text at placeholder
-
--- the window of a text between these bounds: what stands in it, with the placeholder over each end that is cut
+-- the window of a text between these bounds: what stands in it, with the placeholder over each end that is cut. On the left what comes
+-- after the columns that the placeholder covers follows it; where that is nothing, there is the placeholder alone
 abbrev pub window : List ℕ → ℕ → ℕ → ℕ → List ℕ → List ℕ
 window placeholder room left right text =
     let inner = inner_part room left right text in
-    let begun = begun_with placeholder (covered_columns left placeholder inner) (uncovered_part left placeholder inner) in
-    ended_with placeholder (covered_end room left right placeholder text) begun
+    let rest = uncovered_part left placeholder inner in
+    let begun = option_map_or (λ columns. if length rest == 0 then placeholder else written 32 placeholder columns rest)
+    (covered_columns left placeholder inner) rest in
+    option_map_or (λ at. written 32 begun at placeholder) (covered_end room left right placeholder text) begun
 
--- one stretch of a text is replaced by the placeholder
-pub record IsReplaced (placeholder before after : List ℕ) : Type 0 where
-  pub front : List ℕ
-  pub stretch : List ℕ
-  pub back : List ℕ
-  pub before_is : before ≡ front ++ stretch ++ back
-  pub after_is : after ≡ front ++ placeholder ++ back
-
--- at most n stretches of a text are replaced by the placeholder, one after the other
+-- at most n stretches of a text are replaced by the placeholder, one after the other: none, or one and then others
 abbrev pub AreReplaced : List ℕ → ℕ → List ℕ → List ℕ → Type 0
 AreReplaced placeholder zero before after = after ≡ before
 AreReplaced placeholder (suc n) before after =
-    (after ≡ before) ⊎ ((now : List ℕ) × IsReplaced placeholder before now × AreReplaced placeholder n now after)
+    (after ≡ before) ⊎ ((front stretch back : List ℕ) × (before ≡ front ++ stretch ++ back) × AreReplaced placeholder n (front ++ placeholder ++ back) after)
 
 -- `shown` is the window of a text between these bounds, left of which so many columns are dropped; where the line has wide
 -- spans, one stretch for each may then be replaced by the placeholder
@@ -110,27 +93,23 @@ pub record IsWindowOf (placeholder : List ℕ) (room wide left right : ℕ) (tex
 abbrev pub chars_at : List ℕ → ℕ → List ℕ
 chars_at source k = chars (text_at (source_lines source) k)
 
--- the width is known and at most 26, up to which nothing is cut from the left
-abbrev pub is_near : Option ℕ → Bool
-is_near None = false
-is_near (Some columns) = nat_le columns 26
-
 -- the column of the mark at the end of a span of several lines: it is one column wide, and ends where the span does, which
 -- is one column farther right where the span ends after the end of its line's text
 abbrev pub end_mark_column : List ℕ → Annotation → ℕ
 end_mark_column source a =
     (end_location (record { text = source; first = 0 }) a.span.start a.span.end).display - 1
 
--- whether a span that is marked starts within those columns, or the mark at its end does
+-- whether a span that is marked starts in a column up to 26, up to which nothing is cut from the left, or the mark at its end does
 abbrev pub is_near_span : List ℕ → Annotation → Bool
 is_near_span source a =
     is_marking a.kind && (nat_le (start_column source a) 26 || (not (is_single_line source a) && nat_le (end_mark_column source a) 26))
 
--- whether nothing is cut from the left of these lines: all are blank, or one begins after its whitespace within those
--- columns, or a span does, or none is marked
+-- whether nothing is cut from the left of these lines: all are blank, or one begins after whitespace of at most 26 columns, or a
+-- span starts as near, or none is marked
 abbrev pub is_near_left : List ℕ → List ℕ → List Annotation → Bool
 is_near_left source kept marks =
-    list_all (λ k. is_none (leading_whitespace (chars_at source k))) kept || list_any (λ k. is_near (leading_whitespace (chars_at source k))) kept
+    list_all (λ k. is_none (leading_whitespace (chars_at source k))) kept
+    || list_any (λ k. option_map_or (λ columns. nat_le columns 26) (leading_whitespace (chars_at source k)) false) kept
     || list_any (is_near_span source) marks || list_all (λ a. not (is_marking a.kind)) marks
 
 -- whether line k stands whole, in a room of so many columns: it and all lines that are kept fit the room, nothing is

@@ -6,14 +6,16 @@ use Rattle.std.specs.Cow.{cow_str_bytes}
 use Rattle.snippet_model.specs.AnnotationKind.{is_primary}
 use Rattle.snippet_model.specs.declared.snippet.Annotation.{Annotation}
 use Rattle.snippet_model.specs.declared.snippet.Snippet.{Snippet}
-use Rattle.snippet_style.specs.Cell.{Cell, SPACE}
+use Rattle.snippet_style.specs.Cell.{Cell, SPACE, unlinked_cell}
+use Rattle.snippet_style.specs.Glyphs.{strokes_of, underline_role}
 use Rattle.snippet_grid.specs.Grid.{cell_at}
 use Rattle.snippet_grid.specs.Layout.{Layout, bar_cell, inner_cell}
 use Rattle.snippet_parts.specs.Annotated.{depth_of, is_long}
 use Rattle.snippet_parts.specs.Mark.{touches}
 use Rattle.snippet_parts.specs.Marked.{first_line, last_line}
-use Rattle.snippet_strokes.specs.Bars.{Bar}
-use Rattle.snippet_strokes.specs.EndBars.{BarEnds, IsNoBar, bar_top, dotted_bar, solid_bar, start_corner}
+use Rattle.snippet_strokes.specs.Bars.{Bar, bar_cell_part}
+use Rattle.snippet_strokes.specs.EndBars.{BarEnds, IsNoBar}
+use Rattle.snippet_strokes.specs.declared.bars.BarStroke.TheVariants.{Dotted, Solid, Top}
 use Rattle.annotate_snippets.specs.Gutter.{numbered_source}
 use Rattle.annotate_snippets.specs.Page.{RowName, SourceRow, Elision, NamedRow, lines_named, rows_below, shows_lines}
 
@@ -23,41 +25,35 @@ bar_of_span s a =
     let primary = list_any (λ b. is_primary b.kind && (b.span.start == a.span.start && b.span.end == a.span.end)) s.markers.items in
     record { depth = depth_of (numbered_source s) s.markers.items a; primary = primary }
 
--- the cell of a row in which it stands: at depth 1 the second after the separator
-abbrev pub bar_cell_of : Layout → Snippet Annotation → Annotation → ℕ
-bar_cell_of layout s a = bar_cell layout (depth_of (numbered_source s) s.markers.items a)
-
--- the line after that of the last source row among some rows: 0 where there is none
-abbrev pub line_after : List NamedRow → ℕ
-line_after rows = fold (λ before k. k + 1) 0 (lines_named rows)
-
--- the line beside which a row of this name stands, below some rows: its own; for a row in place of lines the first of these; and for
--- a row below a line that line
+-- the line beside which a row of this name stands, below some rows: its own; for a row in place of lines the first of these, which is
+-- the one after that of the last source row above, or 0 where there is none; and for a row below a line that line
 abbrev pub line_beside : List NamedRow → RowName → ℕ
 line_beside above (SourceRow k) = k
-line_beside above Elision = line_after above
-line_beside above name = line_after above - 1
+line_beside above Elision = fold (λ before k. k + 1) 0 (lines_named above)
+line_beside above name = fold (λ before k. k + 1) 0 (lines_named above) - 1
 
 -- the cell of a bar beside a row of this name: dotted beside one in place of lines
 abbrev pub bar_beside : Layout → RowName → Bar → Cell
-bar_beside layout Elision bar = dotted_bar layout bar
-bar_beside layout name bar = solid_bar layout bar
+bar_beside layout Elision bar = bar_cell_part layout Dotted bar
+bar_beside layout name bar = bar_cell_part layout Solid bar
 
--- in the rows of a line the bar begins: in one row below the source row stands its corner, or in the source row, below which the line then
--- has none, its top. In each row below that stands the bar, and in the source row, where it isn't that, a space
+-- in the rows of a line the bar begins: in one row below the source row stands its corner, left of the line that leads to the span's first
+-- mark, in ASCII a space; or in the source row, below which the line then has none, its top. In each row below that stands the bar, and in
+-- the source row, where it isn't that, a space
 pub record BarStarts (layout : Layout) (bar : Bar) (rows : List (List Cell)) : Type 0 where
   pub at : ℕ
   pub within : at < length rows
-  pub is : cell_at rows at (bar_cell layout bar.depth) ≡ (if at == 0 then bar_top layout bar else start_corner layout bar)
+  pub is : cell_at rows at (bar_cell layout bar.depth) ≡ (if at == 0 then bar_cell_part layout Top bar
+      else unlinked_cell (underline_role bar.primary) (strokes_of layout.decor bar.primary).bar_top)
   pub alone : at ≡ 0 → length rows ≡ 1
   pub source : 0 < at → cell_at rows 0 (bar_cell layout bar.depth) ≡ SPACE
-  pub beside : (i : ℕ) → at < i → i < length rows → cell_at rows i (bar_cell layout bar.depth) ≡ solid_bar layout bar
+  pub beside : (i : ℕ) → at < i → i < length rows → cell_at rows i (bar_cell layout bar.depth) ≡ bar_cell_part layout Solid bar
 
 -- a row, with those above and below it, has the bar of a span of several lines: between the span's first and last line it stands in its own
 -- cell and in its kind, whatever else the row holds. In the rows of the first line it begins, in those of the last it ends
 pub record HasBar (layout : Layout) (s : Snippet Annotation) (a : Annotation) (above : List NamedRow) (row : NamedRow) (below : List NamedRow) : Type 0 where
   pub stand : first_line (cow_str_bytes s.source) a < line_beside above row.name → line_beside above row.name < last_line (cow_str_bytes s.source) a
-      → slice_index_or row.cells (bar_cell_of layout s a) SPACE ≡ bar_beside layout row.name (bar_of_span s a)
+      → slice_index_or row.cells (bar_cell layout (bar_of_span s a).depth) SPACE ≡ bar_beside layout row.name (bar_of_span s a)
   pub begin : row.name ≡ SourceRow (first_line (cow_str_bytes s.source) a) → BarStarts layout (bar_of_span s a) (row.cells ∷ rows_below below)
   pub end : row.name ≡ SourceRow (last_line (cow_str_bytes s.source) a) → BarEnds layout (bar_of_span s a) (row.cells ∷ rows_below below)
 
@@ -69,12 +65,13 @@ pub record ShowsBars (layout : Layout) (s : Snippet Annotation) (rows : List Nam
   pub each : (a : Annotation) → Contains s.markers.items a → is_long (cow_str_bytes s.source) a ≡ true
       → (above : List NamedRow) (row : NamedRow) (below : List NamedRow) → rows ≡ above ++ row ∷ below → HasBar layout s a above row below
   pub within : (a : Annotation) → Contains s.markers.items a → is_long (cow_str_bytes s.source) a ≡ true
-      → (inner_cell layout ≤ bar_cell_of layout s a) × (bar_cell_of layout s a + 1 < layout.code)
+      → (inner_cell layout ≤ bar_cell layout (bar_of_span s a).depth) × (bar_cell layout (bar_of_span s a).depth + 1 < layout.code)
   pub apart : (a b : Annotation) → Contains s.markers.items a → Contains s.markers.items b → is_long (cow_str_bytes s.source) a ≡ true
       → is_long (cow_str_bytes s.source) b ≡ true → first_line (cow_str_bytes s.source) a ≤ last_line (cow_str_bytes s.source) b
-      → first_line (cow_str_bytes s.source) b ≤ last_line (cow_str_bytes s.source) a → bar_cell_of layout s a ≡ bar_cell_of layout s b
+      → first_line (cow_str_bytes s.source) b ≤ last_line (cow_str_bytes s.source) a
+      → bar_cell layout (bar_of_span s a).depth ≡ bar_cell layout (bar_of_span s b).depth
       → (a.span.start ≡ b.span.start) × (a.span.end ≡ b.span.end)
   pub others : (above : List NamedRow) (row : NamedRow) (below : List NamedRow) → rows ≡ above ++ row ∷ below → (c : ℕ) → inner_cell layout ≤ c
       → c < layout.code → All (λ a. is_long (cow_str_bytes s.source) a ≡ true → touches (cow_str_bytes s.source) a (line_beside above row.name) ≡ true
-      → bar_cell_of layout s a ≢ c) s.markers.items → (slice_index_or row.cells c SPACE ≡ SPACE)
+      → bar_cell layout (bar_of_span s a).depth ≢ c) s.markers.items → (slice_index_or row.cells c SPACE ≡ SPACE)
       ⊎ ((shows_lines row.name ≡ false) × IsNoBar layout.decor (slice_index_or row.cells c SPACE))

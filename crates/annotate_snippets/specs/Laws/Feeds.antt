@@ -16,13 +16,9 @@ use Rattle.annotate_snippets.specs.Page.{Page, group_rows}
 
 -- ---- rows
 
--- a character is no line feed, U+000A
-abbrev pub IsNoFeed : ℕ → Type 0
-IsNoFeed ch = (ch == 10) ≡ false
-
--- a row in which no cell is a line feed
+-- a row in which no cell is a line feed, U+000A
 abbrev pub HasNoFeed : List Cell → Type 0
-HasNoFeed row = All (λ cell. IsNoFeed cell.ch) row
+HasNoFeed row = All (λ cell. (cell.ch == 10) ≡ false) row
 
 -- ---- lines of a text
 
@@ -59,5 +55,5 @@ row_texts_of_element (element.Padding padding) = []
 -- no label, path, id and name of a level of these groups holds a line feed
 abbrev pub HasOneLineTexts : List Group → Type 0
 HasOneLineTexts groups =
-    All (λ text. All IsNoFeed (chars text))
+    All (λ text. All (λ ch. (ch == 10) ≡ false) (chars text))
     (flat_map (λ g. flat_map row_texts_of_title (option_to_list g.title) ++ flat_map row_texts_of_element g.elements.items) groups)

@@ -25,28 +25,20 @@ pub record SpanLabel : Type 0 where
   pub from : ℕ
   pub to : ℕ
 
--- the label of a span on one line
-abbrev pub label_of_span : List ℕ → Annotation → SpanLabel
-label_of_span source a =
-    record { text = shown_label a; kind = a.kind; from = start_column source a; to = end_column source a }
-
--- the label of a span of several lines, below its last column
-abbrev pub label_of_end : Entry → SpanLabel
-label_of_end e =
-    record { text = normalized_chars e.label; kind = e.kind; from = e.end.display - 1; to = e.end.display }
-
 -- spans of several lines as they are drawn, each after those before it: one that has the place of a primary one is primary
 abbrev pub promoted_spans : List Entry → List Entry → List Entry
 promoted_spans before [] = []
 promoted_spans before (e ∷ later) = promoted before e ∷ promoted_spans (before ++ e ∷ []) later
 
 -- the labels of the spans that end on line k: first of those that stand on it alone, as given, and then of those of several lines, in
--- their order
+-- their order, each below its span's last column
 abbrev pub labels_ending_on : Snippet Annotation → ℕ → List SpanLabel
 labels_ending_on s k =
     let source = numbered_source s in
-    map (label_of_span source.text) (filter (is_marked_on source.text k) s.markers.items)
-    ++ map label_of_end (filter (λ (e : Entry). e.end.line == source.first + k) (promoted_spans [] (long_spans source s.markers.items)))
+    map (λ (a : Annotation). record { text = shown_label a; kind = a.kind; from = start_column source.text a; to = end_column source.text a })
+    (filter (is_marked_on source.text k) s.markers.items)
+    ++ map (λ (e : Entry). record { text = normalized_chars e.label; kind = e.kind; from = e.end.display - 1; to = e.end.display })
+    (filter (λ (e : Entry). e.end.line == source.first + k) (promoted_spans [] (long_spans source s.markers.items)))
 
 -- where a label stands: in which of the rows below its line, from 0, and from which cell of it on
 pub record ShownLabel : Type 0 where

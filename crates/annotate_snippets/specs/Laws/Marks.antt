@@ -11,7 +11,7 @@ use Rattle.snippet_model.specs.declared.snippet.Snippet.{Snippet}
 use Rattle.snippet_model.specs.declared.snippet.Annotation.{Annotation}
 use Rattle.snippet_model.specs.declared.snippet.AnnotationKind.{AnnotationKind}
 use Rattle.snippet_parts.specs.Mark.{is_marked_on, start_column, end_column, IsMarkedAt, IsMarkOf}
-use Rattle.snippet_strokes.specs.EntryMarks.{IsMarkCell, has_mark_role}
+use Rattle.snippet_strokes.specs.EntryMarks.{IsMarkCell, is_mark_role}
 use Rattle.snippet_grid.specs.Layout.{Layout, code_cell}
 
 -- the characters that a span's label shows, which are none where it has no label
@@ -32,7 +32,7 @@ pub record ShowsMarksOf (decor : DecorStyle) (layout : Layout) (s : Snippet Anno
   pub marks : (p : ℕ) (kind : AnnotationKind) → IsMarkOf (cow_str_bytes s.source) s.markers.items k p kind
       → IsMarkCell decor kind (slice_index_or row (cell_of layout dropped p) SPACE)
   pub unmarked : (p : ℕ) → dropped ≤ p → All (λ a. IsMarkedAt (cow_str_bytes s.source) k p a → ⊥) s.markers.items
-      → has_mark_role (slice_index_or row (cell_of layout dropped p) SPACE) ≡ false
+      → is_mark_role (slice_index_or row (cell_of layout dropped p) SPACE).role ≡ false
   pub before : (p : ℕ) → dropped ≤ p → All (λ a. is_marked_on (cow_str_bytes s.source) k a ≡ true → p < start_column (cow_str_bytes s.source) a) s.markers.items
       → slice_index_or row (cell_of layout dropped p) SPACE ≡ SPACE
   pub spaces : All (λ a. is_marked_on (cow_str_bytes s.source) k a ≡ true → shown_label a ≡ []) s.markers.items → (p : ℕ) → dropped ≤ p

@@ -1,27 +1,19 @@
 -- Which rows of a page begin with a number: those that show a line, and no other row of an element, nor of a title that begins with a
 -- word.
-use Rattle.std.specs.Prelude.{◌≡◌, ℕ, ◌+◌, ◌<◌, ◌==◌, ◌||◌, not, Bool, true, false, List, [], ◌∷◌, chars, take, if◌then◌else◌}
+use Rattle.std.specs.Prelude.{◌≡◌, ℕ, ◌<◌, ◌==◌, ◌||◌, not, Bool, true, false, List, [], ◌∷◌, chars, if◌then◌else◌}
 use Rattle.std.specs.Char.{is_ascii_digit}
-use Rattle.snippet_grid.specs.Print.{row_text}
 use Rattle.snippet_model.specs.Heading.{heading_of_title}
 use Rattle.snippet_model.specs.Level.{name_of}
-use Rattle.snippet_model.specs.FreeRows.{HasNoNumber}
 use Rattle.snippet_model.specs.declared.snippet.Title.{Title}
-use Rattle.snippet_style.specs.Cell.{Cell}
 use Rattle.snippet_text.specs.Normalized.{norm}
 use Rattle.snippet_titles.specs.HeadingRows.{label_width}
-use Rattle.annotate_snippets.specs.Page.{RowName, Elision, Other, NamedRow}
+use Rattle.annotate_snippets.specs.Page.{RowName, Elision, Other}
 
 -- whether a row of an element shows a line: of the source, of the patched source, or one that is removed
 abbrev pub shows_a_line : RowName → Bool
 shows_a_line Elision = false
 shows_a_line Other = false
 shows_a_line name = true
-
--- a row of an element begins with a number only where it shows a line: else no cell up to the one before the separator holds a letter
--- or digit, so that it can't be taken for the row of a line
-abbrev pub IsNumberedAsLine : ℕ → NamedRow → Type 0
-IsNumberedAsLine gutter row = shows_a_line row.name ≡ false → HasNoNumber gutter row.cells
 
 -- ---- titles
 
@@ -40,7 +32,3 @@ begins_with_word (c ∷ cs) = not (c == 32 || is_ascii_digit c)
 pub record IsTitleOfWords (gutter : ℕ) (title : Title) : Type 0 where
   pub word : begins_with_word (norm (chars (name_of title.level))) ≡ true
   pub wide : gutter < label_width (heading_of_title title)
-
--- a row has no number where those of lines stand, in the cells up to the one before the separator
-abbrev pub IsUnnumbered : ℕ → List Cell → Type 0
-IsUnnumbered gutter row = begins_with_number (take (gutter + 1) (row_text row)) ≡ false

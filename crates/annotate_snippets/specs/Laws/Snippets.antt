@@ -18,7 +18,7 @@ use Rattle.snippet_grid.specs.Layout.{Layout}
 use Rattle.annotate_snippets.specs.declared.renderer.element_context.ElementContext.{ElementContext}
 use Rattle.annotate_snippets.specs.Around.{closes_with, path_bytes}
 use Rattle.annotate_snippets.specs.GraphicForm.{room_of, rows_of_lines}
-use Rattle.annotate_snippets.specs.Page.{RowName, SourceRow, Elision, Other, NamedRow, lines_named, cells_below, cells_of, rows_below, others}
+use Rattle.annotate_snippets.specs.Page.{RowName, SourceRow, Elision, Other, NamedRow, lines_named, cells_of, rows_below, others}
 use Rattle.annotate_snippets.specs.Laws.Bars.{ShowsBars}
 use Rattle.annotate_snippets.specs.RowsWithoutSource.{cause_head, rows_after_cause}
 use Rattle.annotate_snippets.specs.Laws.Lines.{wide_spans, ShowsSourceLine, IsRowBelow}
@@ -39,7 +39,7 @@ pub record ShowsLineAndMarks (r : Renderer) (layout : Layout) (s : Snippet Annot
 -- last one. A row in place of lines that are left out has, up to the bars, just the cells of what stands for such lines, so that it can't
 -- be taken for the row of a line; bars that run past them, and nothing more
 abbrev pub IsRowOf : Renderer → Layout → Bool → Snippet Annotation → RowName → List Cell → List NamedRow → Type 0
-IsRowOf r layout closes s (SourceRow k) row rows = ShowsLineAndMarks r layout s k row (cells_below rows) (rows_below rows)
+IsRowOf r layout closes s (SourceRow k) row rows = ShowsLineAndMarks r layout s k row (row_at (cells_of rows) 0) (rows_below rows)
 IsRowOf r layout closes s Elision row rows = IsElisionRow layout row
 IsRowOf r layout closes s Other row rows = IsRowBelow layout.decor layout (closes && length rows == 0) row
 IsRowOf r layout closes s name row rows = ⊥
