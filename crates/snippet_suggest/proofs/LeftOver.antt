@@ -1,5 +1,5 @@
 -- What stands beside a removed line: its number, what a row that was there held, and the end of a long number.
-use Rattle.std.proofs.Common.{◌⊎◌, ℕ, ◌-◌, ◌+◌, ◌^◌, ◌<◌, ◌≤◌, ◌%◌, List, [], ◌∷◌, All, length, replicate, refl, arith, inl, inr}
+use Rattle.std.proofs.Common.{◌≡◌, ◌⊎◌, true, ℕ, ◌-◌, ◌+◌, ◌^◌, ◌<◌, ◌≤◌, ◌%◌, List, [], ◌∷◌, All, length, replicate, refl, arith, inl, inr}
 use Rattle.std.specs.Fmt.{decimal}
 use Rattle.std.proofs.lemmas.Fmt.{decimal_by_steps}
 use Rattle.std.proofs.lemmas.List.{length-append, length-replicate}
@@ -8,7 +8,14 @@ use Rattle.snippet_style.specs.declared.glyphs.DecorStyle.{DecorStyle}
 use Rattle.snippet_lines.specs.Number.{set_right, shown_number}
 use Rattle.snippet_lines.specs.declared.number.LineNumbers.{LineNumbers}
 use Rattle.snippet_lines.specs.declared.number.LineNumbers.TheVariants.{Shown, Anonymized, Hidden}
-use Rattle.snippet_suggest.specs.SuggestionRows.{IsBeforeSign, IsLeftOver}
+use Rattle.snippet_suggest.specs.SuggestionRows.{IsMarkOrSpace, IsOfNumber, is_stroke}
+
+-- what stands left of the sign of a line that is removed, and what may stand after its text
+abbrev pub IsBeforeSign : LineNumbers → DecorStyle → ℕ → Type 0
+IsBeforeSign numbers decor c = (is_stroke decor c ≡ true) ⊎ IsOfNumber numbers c
+
+abbrev pub IsLeftOver : DecorStyle → ℕ → Type 0
+IsLeftOver decor c = IsMarkOrSpace decor c ⊎ ((48 ≤ c) × (c ≤ 57))
 
 -- a number holds digits and spaces
 decimal_holds : (P : ℕ → Type 0) → ((d : ℕ) → d < 10 → P (48 + d)) → (n : ℕ) → n < 2 ^ 64 → All P (decimal n)

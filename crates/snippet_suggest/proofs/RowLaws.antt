@@ -36,11 +36,11 @@ use Rattle.snippet_suggest.specs.Cells.{stretch_cell, with_stretches}
 use Rattle.snippet_style.specs.Bounds.{max_column}
 use Rattle.snippet_suggest.specs.Kind.{adds_text}
 use Rattle.snippet_suggest.specs.Marks.{edit_columns, mark_glyph_of, mark_start, patch_mark_end, with_mark, with_marks}
-use Rattle.snippet_suggest.specs.SuggestionRows.{IsBareRow, IsBeforeSign, IsEdgeRow, IsLeftOver, IsLineRow, IsMarkOrSpace, IsRowOfRemoved}
+use Rattle.snippet_suggest.specs.SuggestionRows.{IsBareRow, IsEdgeRow, IsLineRow, IsMarkOrSpace, IsRowOfRemoved}
 use Rattle.snippet_suggest.specs.SuggestionRows.{IsSign, IsUnder, begin_glyph, beside_gutter, end_glyph, gap_left, is_stroke}
 use Rattle.snippet_suggest.proofs.BareLemmas.{stroke_blank, stroke_led, stroke_none, stroke_put}
 use Rattle.snippet_suggest.proofs.GlyphLemmas.{glyph_plain, glyph_short, glyph_unlisted, is_sign, sign_first, sign_second}
-use Rattle.snippet_suggest.proofs.LeftOver.{number_before, number_left}
+use Rattle.snippet_suggest.proofs.LeftOver.{IsBeforeSign, IsLeftOver, number_before, number_left}
 use Rattle.snippet_suggest.proofs.PutLemmas.{glyph_some, placeholder_some}
 use Rattle.snippet_suggest.proofs.PutRows.{put_after, put_alone, put_before, put_begun, put_cell, put_covers, put_ends, put_free, put_grows}
 use Rattle.snippet_suggest.proofs.PutRows.{put_inside, put_long}

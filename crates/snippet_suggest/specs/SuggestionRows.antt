@@ -62,26 +62,17 @@ IsOfNumber Shown c = (48 ≤ c) × (c ≤ 57)
 IsOfNumber Anonymized c = c ≡ 76
 IsOfNumber Hidden c = ⊥
 
--- what stands left of the sign of a line that is removed: a character of what the gutter shows beside it, or what stands left of
--- the lines in a row that shows none
-abbrev pub IsBeforeSign : LineNumbers → DecorStyle → ℕ → Type 0
-IsBeforeSign numbers decor c = (is_stroke decor c ≡ true) ⊎ IsOfNumber numbers c
-
--- what may stand after a line that is removed: what stood there before, which is a mark or a space, or a digit of a number that
--- is too long for the gutter
-abbrev pub IsLeftOver : DecorStyle → ℕ → Type 0
-IsLeftOver decor c = IsMarkOrSpace decor c ⊎ ((48 ≤ c) × (c ≤ 57))
-
 -- the row of a line that is removed: it begins with the number beside the line, if that ends before the sign; `-` and a space stand
--- after the gutter, with no letter before them but `LL`, where that stands in place of numbers, and from three cells after it on the
--- line's normalised text, and no letter after that
+-- after the gutter. Left of them stands what the gutter shows beside the line, or what stands left of the lines in a row that shows none:
+-- no letter but those of `LL`, where that stands in place of numbers. From three cells after it on stands the line's normalised text; and
+-- after that what stood there before, which is a mark or a space, or a digit of a number that is too long for the gutter
 pub record IsRemovedRow (numbers : LineNumbers) (decor : DecorStyle) (gutter : ℕ) (number text : List ℕ) (row : List Cell) : Type 0 where
   pub numbered : length number ≤ gutter + 1 → row_text (take (length number) row) ≡ number
-  pub before : (c : ℕ) → c ≤ gutter → IsBeforeSign numbers decor (slice_index_or row c SPACE).ch
+  pub before : (c : ℕ) → c ≤ gutter → let ch = (slice_index_or row c SPACE).ch in (is_stroke decor ch ≡ true) ⊎ IsOfNumber numbers ch
   pub minus : (slice_index_or row (gutter + 1) SPACE).ch ≡ char_of (removed_sign_of decor)
   pub space : (slice_index_or row (gutter + 2) SPACE).ch ≡ 32
   pub begins : row_text (take (length text) (drop (gutter + 3) row)) ≡ text
-  pub after : (c : ℕ) → gutter + 3 + length text ≤ c → IsLeftOver decor (slice_index_or row c SPACE).ch
+  pub after : (c : ℕ) → gutter + 3 + length text ≤ c → let ch = (slice_index_or row c SPACE).ch in IsMarkOrSpace decor ch ⊎ ((48 ≤ ch) × (ch ≤ 57))
   pub free : IsFree row
 
 -- a row that shows no line: up to three cells after the gutter nothing but what stands left of the lines there, so no letter
