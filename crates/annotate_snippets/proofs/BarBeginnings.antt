@@ -25,7 +25,8 @@ begins_so layout bar rows (inr below) =
     record {
       at = below.corner;
       within = below.within;
-      is = below.corner_is ∙ sym (cond-false (below.corner == 0) (bar_cell_part layout Top bar) (start_corner layout bar) (above_zero below.corner below.below));
+      is = below.corner_is
+          ∙ sym (cond-false (below.corner == 0) (bar_cell_part layout Top bar) (start_corner layout bar) (above_zero below.corner below.below));
       alone = λ none. absurd (omega (arith, none, below.below));
       source = λ _. below.source;
       beside = below.beside;

@@ -3,6 +3,7 @@ use Rattle.std.proofs.Common.{◌≡◌, ℕ, zero, suc, ◌+◌, ◌<◌, get_o
 use Rattle.std.proofs.Common.{length, take}
 use Rattle.std.proofs.Common.{chars, refl, sym, ap, subst, ◌∙◌, encode_utf8_all}
 use Rattle.std.specs.List.{AllZip, Contains, enumerate_from, flat_map, slice_get}
+use Rattle.std.specs.Option.{option_or}
 use Rattle.std.specs.Result.{IfOk, MatchResult, IsErrAnd}
 use Rattle.std.proofs.Math.Nat.{zero-add}
 use Rattle.std.proofs.lemmas.List.{length-map, take_all}
@@ -21,7 +22,7 @@ use Rattle.snippet_model.specs.declared.snippet.Group.{Group}
 use Rattle.annotate_snippets.specs.declared.renderer.Renderer.{Renderer}
 use Rattle.annotate_snippets.specs.declared.renderer.graphic.GroupGrid.{GroupGrid}
 use Rattle.annotate_snippets.specs.Around.{drawn_elements, file_of_group, next_of, position_of_group}
-use Rattle.annotate_snippets.specs.Fault.{first_fault, first_refusal, form_of, missing_title}
+use Rattle.annotate_snippets.specs.Fault.{IsWithinBounds, first_fault, first_refusal, form_of, missing_title}
 use Rattle.annotate_snippets.specs.GraphicForm.{graphic_form, page_at}
 use Rattle.annotate_snippets.specs.Gutter.{layout_of_group}
 use Rattle.annotate_snippets.specs.Page.{ArePrinted, GroupPage, Page, PrintsGrids, PrintsPage, group_rows, page_text}
@@ -33,7 +34,7 @@ use Rattle.annotate_snippets.specs.ShownPage.{levels_of}
 use Rattle.annotate_snippets.specs.declared.renderer.error.RenderError.{RenderError}
 use Rattle.annotate_snippets.proofs.OneLineTexts.{HasOneLineRows, IsOneLineGroup, one_line_groups}
 use Rattle.annotate_snippets.proofs.AreTexts.{AreTexts, IsTextGroup}
-use Rattle.annotate_snippets.proofs.FaultLemmas.{titled}
+use Rattle.annotate_snippets.proofs.FaultLemmas.{groups-drawable, titled}
 use Rattle.annotate_snippets.proofs.GridRows.{GridsSoFar, page_count}
 use Rattle.annotate_snippets.proofs.GroupLemmas.{group_shown}
 use Rattle.annotate_snippets.proofs.GroupShown.{GroupShown}
@@ -158,6 +159,15 @@ module _ (r : Renderer) (groups : List Group) (drawable : All IsGroupDrawable gr
         titles = λ i g part title at there titled words. group_title_unnumbered r (layout_of_group r groups g) (position_of_group (length groups) i)
             (next_of (drawn_elements g)) g.title title part.title (page_shows.each i g part at there).title titled words;
       }
+
+-- so has that of each report within bounds whose texts are UTF-8
+pub within_laws : (r : Renderer) (groups : List Group) → IsWithinBounds r groups → AreTexts groups → PageLaws r groups (graphic_form r groups)
+within_laws r groups within texts =
+    page_laws r groups (groups-drawable groups within.fits (unrefused (missing_title (form_of r) groups) (first_fault groups) within.faultless)) texts
+  where
+    unrefused : (missing fault : Option RenderError) → option_or missing fault ≡ None → fault ≡ None
+    unrefused None fault none = none
+    unrefused (Some e) fault none = cc
 
 -- ---- what prints the grids of groups prints their pages
 
