@@ -27,9 +27,9 @@ use Rattle.snippet_strokes.specs.Drawable.{AreDrawable}
 use Rattle.snippet_strokes.proofs.LineFacts.{CanBeShown}
 use Rattle.snippet_strokes.proofs.PlacedOf.{HasTextLabel}
 use Rattle.snippet_window.specs.Margin.{Bounds, bounds_of}
-use Rattle.snippet_window.specs.Measures.{StandsClear, bounds_of_lines}
+use Rattle.snippet_window.specs.Measures.{StandsClear, margin_of}
 use Rattle.snippet_window.specs.declared.margin.Margin.{Margin}
-use Rattle.snippet_window.proofs.MarginFacts.{lines_clear, lines_sound}
+use Rattle.snippet_window.proofs.MarginFacts.{bounds_of_lines, bounds_seen, lines_clear, lines_sound}
 use Rattle.annotate_snippets.specs.DrawnReport.{HasRoomFor}
 use Rattle.annotate_snippets.specs.GraphicForm.{entries_on, lent, line_entry, margin_in, room_of}
 use Rattle.annotate_snippets.specs.Gutter.{line_numbers, numbered_source}
@@ -37,7 +37,7 @@ use Rattle.annotate_snippets.specs.PreparedReport.{IsDrawable}
 use Rattle.annotate_snippets.specs.declared.renderer.Renderer.{Renderer}
 use Rattle.annotate_snippets.proofs.GutterLemmas.{numbers_fit}
 use Rattle.annotate_snippets.proofs.LineValue.{parts_seen}
-use Rattle.annotate_snippets.proofs.PartsFacts.{bounds_of_kept, lines_entries, shown_clear, snippet_shown-within}
+use Rattle.annotate_snippets.proofs.PartsFacts.{lines_entries, shown_clear, snippet_shown-within}
 
 module _ (s : Snippet Annotation) (spans : All (λ a. IsSpan (cow_str_bytes s.source) a.span.start a.span.end) s.markers.items) where
   -- line k with its entries, of which there are no more than spans
@@ -112,7 +112,7 @@ module _ (r : Renderer) (layout : Layout) (s : Snippet Annotation) (drawable : I
   kept_is = infos_seen s drawable.spans (kept_lines s.fold (cow_str_bytes s.source) s.markers.items)
 
   bounds_are : bounds_of (margin_in r layout s) ≡ bounds_of_lines room kept
-  bounds_are = sym (bounds_of_kept room s.fold source marks kept drawable.spans kept_is)
+  bounds_are = sym (bounds_seen room kept ∙ ap (margin_of room) kept_is)
 
   places : AllEntries HasColumnRoom kept
   places = places-fit source marks (kept_lines s.fold (cow_str_bytes s.source) s.markers.items) kept kept_is drawable.source

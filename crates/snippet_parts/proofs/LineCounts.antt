@@ -1,11 +1,11 @@
 -- How many entries stand on a line: no more than there are spans.
 use Rattle.std.proofs.Common.{◌≡◌, ℕ, zero, suc, ◌+◌, ◌-◌, ◌<◌, ◌≤◌, ◌==◌, ◌&&◌, Bool, true, false, cond, not, min, List, [], ◌∷◌, ◌++◌, map, length}
-use Rattle.std.proofs.Common.{inl, inr, refl, sym, ap, subst, ◌∙◌, arith, ltb}
+use Rattle.std.proofs.Common.{inl, inr, refl, sym, ap, subst, ◌∙◌, arith}
 use Rattle.std.specs.List.{All, count_by, filter, list_any, range_with_len}
 use Rattle.std.proofs.Math.Nat.{zero-add}
-use Rattle.std.proofs.lemmas.Bool.{and_parts, cases_Bool, cases_lt, cond-true, cond-false, eq-eqb, ltb-true, ne_eqb, not-true}
+use Rattle.std.proofs.lemmas.Bool.{and_parts, cases_Bool, cases_lt, cond-true, cond-false, eq-eqb, ne_eqb, not-true}
 use Rattle.std.proofs.lemmas.List.{length-map, map-append}
-use Rattle.std.proofs.lemmas.List.Elements.{All-filter, All-head, All-map, All-tail, All-weaker}
+use Rattle.std.proofs.lemmas.List.Elements.{All-head, All-map, All-tail, All-weaker}
 use Rattle.std.proofs.lemmas.List.Sums.{count_by-le-length, length-filter, sum_by-append, sum_by-cons}
 use Rattle.snippet_lines.specs.Lines.{Source}
 use Rattle.snippet_lines.specs.OrderedBy.{ordered_by, put_in}
@@ -14,17 +14,18 @@ use Rattle.snippet_model.specs.declared.snippet.Annotation.{Annotation}
 use Rattle.snippet_model.specs.declared.snippet.AnnotationKind.TheVariants.{Primary}
 use Rattle.snippet_parts.specs.declared.depths.LongExtent.{LongExtent}
 use Rattle.snippet_parts.specs.declared.entries.LineAnnotationType.TheVariants.{MultilineEnd, Singleline}
-use Rattle.snippet_parts.specs.Annotated.{PartEntry, bar_lines, bar_part, end_part, is_long, is_promoted, is_short, long_entry, long_parts, long_place}
-use Rattle.snippet_parts.specs.Annotated.{long_places, long_spans, made_parts, parts_on, promoted, single_part, span_parts, stands_among, stands_before}
+use Rattle.snippet_parts.specs.Annotated.{PartEntry, bar_lines, bar_part, end_part, is_long, long_entry, long_parts, long_place}
+use Rattle.snippet_parts.specs.Annotated.{long_spans, made_parts, parts_on, promoted, single_part, span_parts}
 use Rattle.snippet_parts.specs.Annotated.{start_part}
 use Rattle.snippet_parts.specs.Depths.{depth_among}
-use Rattle.snippet_parts.specs.Kept.{is_trivial_line}
+use Rattle.snippet_parts.specs.Kept.{has_bar, is_trivial_line}
 use Rattle.snippet_parts.specs.Mark.{is_marking, is_single_line}
 use Rattle.snippet_parts.specs.Marked.{Entry, first_line, last_line}
 use Rattle.snippet_parts.proofs.EntryFacts.{count-map}
 use Rattle.snippet_parts.proofs.KeptPartLemmas.{lines_ordered}
 use Rattle.snippet_parts.proofs.MarkLemmas.{end-line, start-line}
-use Rattle.snippet_parts.proofs.PartLemmas.{All-filtered, All-order, All-range, IsBarLine, bar_lines-stand}
+use Rattle.snippet_parts.proofs.PartWords.{is_promoted, is_short, long_places, stands_among, stands_before}
+use Rattle.snippet_parts.proofs.PartLemmas.{All-filtered, All-order, IsBarLine, bar_lines-stand}
 
 -- ---- ascending numbers
 
@@ -107,22 +108,8 @@ bar-below source first last k bar =
 -- the lines of bars ascend
 rising-bars : (source : List ℕ) (first last : ℕ) → first < last → Rising (first + 1) (bar_lines source first last)
 rising-bars source first last long =
-    let beginning : ℕ = min (first + 4) last in
-    let test = λ (k : ℕ). list_any (λ j. not (is_trivial_line source j)) (range_with_len k (beginning - k)) in
-    let closing : Bool = ltb beginning (last - 1) && not (is_trivial_line source (last - 1)) in
-    let range : List ℕ = range_with_len (first + 1) (beginning - first) in
-    rising-append (first + 1) (beginning + 1) (filter test range) (cond closing ((last - 1) ∷ []) []) (omega (arith, long))
-    (rising-filter test (first + 1) range (rising-range (first + 1) (beginning - first)))
-    (All-filter test (λ m. m < beginning + 1) range (All-weaker (λ k. (first + 1 ≤ k) × (k < first + 1 + (beginning - first))) (λ m. m < beginning + 1)
-    (λ k within. omega (arith, within.1, long)) range (All-range (first + 1) (beginning - first))))
-    (closed beginning (last - 1) (not (is_trivial_line source (last - 1))))
-  where
-    closed : (low n : ℕ) (b : Bool) → Rising (low + 1) (cond (ltb low n && b) (n ∷ []) [])
-    closed low n b =
-        elim (cases_Bool (ltb low n && b)) [
-          | inl t ↦ subst (Rising (low + 1)) (sym (cond-true (ltb low n && b) (n ∷ []) [] t)) (omega (arith, ltb-true low n (and_parts (ltb low n) b t).0), tt)
-          | inr f ↦ subst (Rising (low + 1)) (sym (cond-false (ltb low n && b) (n ∷ []) [] f)) tt
-        ]
+    let from : ℕ = first + 1 in
+    rising-filter (has_bar source first last) from (range_with_len from (last - from)) (rising-range from (last - from))
 
 module _ (s : Source) (n : ℕ) where
   -- whether a part stands on the line of this number

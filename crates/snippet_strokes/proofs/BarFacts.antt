@@ -1,4 +1,5 @@
--- Where the bar of a span of several lines stands in the rows of the line on which the span begins, by which laws are proved.
+-- The corners of the bar of a span of several lines, and where it stands in the rows of the line on which the span begins, by which laws
+-- are proved.
 use Rattle.std.proofs.Common.{◌≡◌, ◌⊎◌, ℕ, ◌<◌, List, length}
 use Rattle.snippet_style.specs.Cell.{Cell, SPACE, unlinked_cell}
 use Rattle.snippet_style.specs.Glyphs.{strokes_of, underline_role}

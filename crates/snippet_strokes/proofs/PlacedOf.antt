@@ -13,10 +13,11 @@ use Rattle.snippet_lines.specs.OrderedBy.{ordered_by, put_in}
 use Rattle.snippet_lines.proofs.OrderLemmas.{All-put_in}
 use Rattle.snippet_parts.specs.declared.entries.LineAnnotation.{LineAnnotation}
 use Rattle.snippet_text.specs.Normalized.{norm, shown}
-use Rattle.snippet_labels.specs.PlacedEntries.{label_chars, label_text, shifted}
-use Rattle.snippet_labels.specs.Positions.{ArePlaced, HasItsBytes, HasItsLabel, IsFromRight, StandsLeft, is_placed_before, labelled, line_positions}
+use Rattle.snippet_labels.specs.PlacedEntries.{label_text, shifted}
+use Rattle.snippet_labels.specs.Positions.{ArePlaced, HasItsBytes, HasItsLabel, IsFromRight, StandsLeft, is_placed_before, line_positions}
 use Rattle.snippet_labels.specs.Positions.{look_counts, placed_at, placed_of, position_after, position_at, unplaced}
 use Rattle.snippet_labels.specs.declared.positions.PlacedEntry.{PlacedEntry}
+use Rattle.snippet_labels.proofs.LabelWords.{label_chars, labelled}
 use Rattle.snippet_labels.proofs.PlacedLemmas.{ArePlaced-from, length-line_positions}
 use Rattle.snippet_strokes.proofs.PaintOrder.{IsPermutation-ordered_by}
 

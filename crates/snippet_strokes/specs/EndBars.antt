@@ -1,4 +1,4 @@
--- The bar of a span of several lines: its cells, and where it stands in the rows of the line on which the span ends.
+-- Where the bar of a span of several lines stands in the rows of the line on which the span ends, and cells in which no bar does.
 use Rattle.std.specs.Prelude.{◌≡◌, ◌⊎◌, ℕ, ◌<◌, Bool, List, length}
 use Rattle.snippet_style.specs.Glyphs.{strokes_of, underline_role}
 use Rattle.snippet_style.specs.Cell.{Cell, SPACE, unlinked_cell}

@@ -1,19 +1,24 @@
 -- What holds of the bounds of a snippet's window: they are in order, and entries stand after the padding of the left one.
 use Rattle.std.proofs.Common.{◌≡◌, ℕ, ◌+◌, ◌-◌, ◌*◌, ◌/◌, ◌<◌, ◌≤◌, ◌^◌, ◌&&◌, nat_le, nat_lt, Bool, true, false, cond, not, min, max, List, [], ◌∷◌, ◌++◌, All}
-use Rattle.std.proofs.Common.{ap, arith, inl, inr, unwrap_or, fold}
+use Rattle.std.proofs.Common.{ap, arith, inl, inr, map, refl, unwrap_or, fold}
 use Rattle.std.specs.List.{flat_map}
 use Rattle.std.proofs.lemmas.Bool.{cases_lt}
 use Rattle.std.proofs.lemmas.List.Elements.{All-append, All-cons, All-head, All-nil, All-tail, All-weaker}
 use Rattle.snippet_parts.specs.declared.entries.AnnotatedLineInfo.{AnnotatedLineInfo}
 use Rattle.snippet_parts.specs.declared.entries.LineAnnotation.{LineAnnotation}
+use Rattle.snippet_parts.specs.Annotated.{seen_kept}
 use Rattle.snippet_parts.specs.Entries.{AllEntries, HasColumnRoom, is_bar}
 use Rattle.snippet_parts.specs.Least.{greatest, least}
 use Rattle.snippet_parts.proofs.LeastLemmas.{least_below}
 use Rattle.snippet_style.specs.Bounds.{max_usize}
 use Rattle.snippet_window.specs.declared.margin.Margin.{Margin}
-use Rattle.snippet_window.specs.Margin.{Bounds, bounds_of, capped_sum, margin_bounds, room_from}
-use Rattle.snippet_window.specs.Measures.{StandsClear, bounds_of_lines, columns_of, ends_of, entries_of, line_texts, whitespaces_of, widths_of, with_columns}
+use Rattle.snippet_window.specs.declared.extent.Extent.{Extent}
+use Rattle.snippet_window.specs.Extent.{ReachesLines, columns_of, ends_of, entries_of, line_texts, with_columns}
+use Rattle.snippet_window.specs.Margin.{Bounds, bounds_of, capped_sum, margin_bounds}
+use Rattle.snippet_window.specs.Measures.{StandsClear, margin_of}
 use Rattle.snippet_window.proofs.ExtentLemmas.{lines_all, starts_all}
+use Rattle.snippet_window.proofs.MarginLaws.{bounds_reached}
+use Rattle.snippet_window.proofs.MeasureWords.{whitespaces_of, widths_of}
 
 -- ---- bounds
 
@@ -21,6 +26,10 @@ use Rattle.snippet_window.proofs.ExtentLemmas.{lines_all, starts_all}
 pub record AreSound (first : ℕ) (bounds : Bounds) : Type 0 where
   pub ordered : bounds.left ≤ bounds.right
   pub padded : 0 < bounds.left → bounds.left + 6 ≤ first
+
+-- the bounds of a room that begins at a column
+abbrev room_from : ℕ → ℕ → Bounds
+room_from room left = record { left = left; right = capped_sum left room }
 
 -- what holds of both choices holds of the one that is made
 either : {X : Type 0} (P : X → Type 0) (b : Bool) (x y : X) → P x → P y → P (cond b x y)
@@ -101,6 +110,27 @@ entries_all Q [] all = All-nil Q
 entries_all Q (info ∷ infos) all =
     All-append Q info.annotations.items (entries_of infos) (All-head (λ (x : AnnotatedLineInfo). All Q x.annotations.items) info infos all)
     (entries_all Q infos (All-tail (λ (x : AnnotatedLineInfo). All Q x.annotations.items) info infos all))
+
+-- the bounds of lines, by their entries
+abbrev pub bounds_of_lines : ℕ → List AnnotatedLineInfo → Bounds
+bounds_of_lines room infos =
+    let columns = columns_of (entries_of infos) in
+    margin_bounds (unwrap_or (least (whitespaces_of (line_texts infos))) 0) (unwrap_or (least columns) 0) (greatest columns)
+    (greatest (ends_of (entries_of infos))) room (greatest (widths_of (line_texts infos)))
+
+-- they are those of the lines as they are seen
+pub bounds_seen : (room : ℕ) (infos : List AnnotatedLineInfo) → bounds_of_lines room infos ≡ margin_of room (map seen_kept infos)
+bounds_seen room infos =
+    let columns : List ℕ = columns_of (entries_of infos) in
+    let extent : Extent = record {
+      whitespace = least (whitespaces_of (line_texts infos));
+      first = least columns;
+      last = greatest columns;
+      label_end = greatest (ends_of (entries_of infos));
+      widest = greatest (widths_of (line_texts infos));
+    } in
+    let reaches : ReachesLines infos extent = record { entries = record { first = refl; last = refl; label_end = refl }; whitespace = refl; widest = refl } in
+    bounds_reached room infos extent reaches
 
 -- the bounds of lines whose entries have their places
 pub lines_sound : (room : ℕ) (infos : List AnnotatedLineInfo) → AllEntries HasColumnRoom infos

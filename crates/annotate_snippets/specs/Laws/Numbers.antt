@@ -1,5 +1,5 @@
--- Which rows of a page begin with a number: those that show a line, and no other row of an element, nor of a title that begins with a
--- word.
+-- Words for which rows of a page begin with a number: those that show a line, and no other row of an element, nor of a title that begins
+-- with a word.
 use Rattle.std.specs.Prelude.{◌≡◌, ℕ, ◌<◌, ◌==◌, ◌||◌, not, Bool, true, false, List, [], ◌∷◌, chars, if◌then◌else◌}
 use Rattle.std.specs.Char.{is_ascii_digit}
 use Rattle.snippet_model.specs.Heading.{heading_of_title}
