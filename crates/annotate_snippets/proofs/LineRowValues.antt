@@ -12,8 +12,9 @@ use Rattle.snippet_parts.specs.declared.entries.LineAnnotation.{LineAnnotation}
 use Rattle.snippet_labels.specs.PlacedEntries.{shifted}
 use Rattle.snippet_labels.specs.Positions.{line_positions, look_counts, placed_at, placed_of, positions}
 use Rattle.snippet_labels.specs.declared.positions.PlacedEntry.{PlacedEntry}
-use Rattle.snippet_strokes.specs.Bars.{Bar, bar_cell_part, ends_of_bars, is_whole_line}
-use Rattle.snippet_strokes.specs.declared.bars.BarStroke.TheVariants.{Solid}
+use Rattle.snippet_strokes.specs.Bars.{Bar, ends_of_bars, is_whole_line}
+use Rattle.annotate_snippets.specs.Laws.Bars.{bar_beside}
+use Rattle.annotate_snippets.specs.Page.{Other}
 use Rattle.snippet_strokes.specs.Drawing.{row_count}
 use Rattle.snippet_strokes.specs.LineRows.{line_rows, own_rows}
 use Rattle.snippet_strokes.specs.Strokes.{stroke_rows}
@@ -87,10 +88,10 @@ module _ (layout : Layout) (room : ℕ) (closes : Bool) (text : List ℕ) (dropp
   -- the bar that alone is open above a line on which none begins or ends stands beside each of its rows
   pub bar_beside_line : (bar : Bar) (es : List LineAnnotation) → ends_of_bars es ≡ [] → (i : ℕ)
       → i < length (line_rows layout room closes text dropped (bar ∷ []) es source)
-      → cell_at (line_rows layout room closes text dropped (bar ∷ []) es source) i (layout.gutter + 2 + bar.depth) ≡ bar_cell_part layout Solid bar
+      → cell_at (line_rows layout room closes text dropped (bar ∷ []) es source) i (layout.gutter + 2 + bar.depth) ≡ bar_beside layout Other bar
   bar_beside_line bar es none i within =
       let own : List (List Cell) = own_rows layout room closes text dropped es source in
-      let part : Cell = bar_cell_part layout Solid bar in
+      let part : Cell = bar_beside layout Other bar in
       let cell : ℕ = layout.gutter + 2 + bar.depth in
       let at : cell ≡ cell + 0 = omega arith in
       let same : line_rows layout room closes text dropped (bar ∷ []) es source ≡ map (with_open layout (bar ∷ [])) own = rw none refl in

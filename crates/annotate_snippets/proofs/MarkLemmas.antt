@@ -117,14 +117,14 @@ module _ (s : Source) (marks : List Annotation) (k : ℕ) (es : List LineAnnotat
       record {
         entry = e;
         among = own.1;
-        covers = (omega (arith, is.start, mark.covers.1.0), omega (arith, is.end, mark.covers.1.1));
+        covers = (omega (arith, is.start, mark.covers.1), omega (arith, is.end, mark.covers.2));
         is = is.kind ∙ mark.is;
         least = λ other in_es covers.
             let theirs = span_of_entry other in_es in
             let b : Annotation = theirs.0 in
             let isb : IsEntryOf s k b other = theirs.2 in
             let narrow : span_width s.text mark.span ≤ span_width s.text b = mark.least b theirs.1
-            (isb.marked, (omega (arith, isb.start, covers.0), omega (arith, isb.end, covers.1))) in
+            (isb.marked, omega (arith, isb.start, covers.0), omega (arith, isb.end, covers.1)) in
             omega (arith, is.start, is.end, isb.start, isb.end, narrow);
         primary_wins = λ unprimary other in_es covers primary.
             let theirs = span_of_entry other in_es in
@@ -135,7 +135,7 @@ module _ (s : Source) (marks : List Annotation) (k : ℕ) (es : List LineAnnotat
             (ap is_marking (sym mark.is)
             ∙ (and_parts (is_marking mark.span.kind) (is_single_line s.text mark.span)
             (and_parts (is_marking mark.span.kind && is_single_line s.text mark.span) (first_line s.text mark.span == k) mark.covers.0).0).0)
-            unprimary) b theirs.1 (isb.marked, (omega (arith, isb.start, covers.0), omega (arith, isb.end, covers.1))) (sym isb.kind ∙ primary) in
+            unprimary) b theirs.1 (isb.marked, omega (arith, isb.start, covers.0), omega (arith, isb.end, covers.1)) (sym isb.kind ∙ primary) in
             omega (arith, is.start, is.end, isb.start, isb.end, narrow);
       }
     where
@@ -151,7 +151,7 @@ module _ (s : Source) (marks : List Annotation) (k : ℕ) (es : List LineAnnotat
       let theirs = span_of_entry (get_or es i d) (Contains-get_or es i d within) in
       let b : Annotation = theirs.0 in
       let isb : IsEntryOf s k b (get_or es i d) = theirs.2 in
-      All-contains (λ a. IsMarkedAt s.text k p a → ⊥) marks b none theirs.1 (isb.marked, (omega (arith, isb.start, covers.0), omega (arith, isb.end, covers.1)))
+      All-contains (λ a. IsMarkedAt s.text k p a → ⊥) marks b none theirs.1 (isb.marked, omega (arith, isb.start, covers.0), omega (arith, isb.end, covers.1))
 
   -- where a column stands left of all spans of the line, every entry starts after it
   pub entries_after : (code p : ℕ) → All (λ a. is_marked_on s.text k a ≡ true → p < start_column s.text a) marks → All (StandsFrom code (code + p + 1)) es

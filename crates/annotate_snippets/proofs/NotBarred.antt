@@ -15,10 +15,9 @@ use Rattle.snippet_parts.specs.Mark.{touches}
 use Rattle.snippet_parts.specs.Marked.{first_line, last_line}
 use Rattle.snippet_grid.specs.Grid.{cell_at}
 use Rattle.snippet_grid.specs.Layout.{Layout}
-use Rattle.snippet_strokes.specs.Bars.{Bar, bar_cell_part}
+use Rattle.snippet_strokes.specs.Bars.{Bar}
 use Rattle.snippet_strokes.specs.EndBars.{IsNoBar}
 use Rattle.snippet_strokes.proofs.BarFacts.{end_corner}
-use Rattle.snippet_strokes.specs.declared.bars.BarStroke.TheVariants.{Dotted, Solid}
 use Rattle.annotate_snippets.specs.Page.{Elision, NamedRow, OfferedLine, Other, RemovedLine, RowName, SourceRow, rows_below, shows_lines}
 use Rattle.annotate_snippets.specs.Laws.Bars.{ShowsBars, bar_beside, bar_of_span, line_beside}
 use Rattle.annotate_snippets.proofs.SpanPlaces.{bar_cell_of}
@@ -43,15 +42,15 @@ no_space layout name bar same = by_name name same
     letter cell is = ap (λ (c : Cell). c.ch) is
 
     by_name : (x : RowName) → bar_beside layout x bar ≡ SPACE → ⊥
-    by_name (SourceRow k) is = bar_is layout.decor bar.primary (letter (bar_cell_part layout Solid bar) is)
-    by_name Elision is = elided_is layout.decor bar.primary (letter (bar_cell_part layout Dotted bar) is)
-    by_name (OfferedLine j) is = bar_is layout.decor bar.primary (letter (bar_cell_part layout Solid bar) is)
-    by_name (RemovedLine i) is = bar_is layout.decor bar.primary (letter (bar_cell_part layout Solid bar) is)
-    by_name Other is = bar_is layout.decor bar.primary (letter (bar_cell_part layout Solid bar) is)
+    by_name (SourceRow k) is = bar_is layout.decor bar.primary (letter (bar_beside layout Other bar) is)
+    by_name Elision is = elided_is layout.decor bar.primary (letter (bar_beside layout Elision bar) is)
+    by_name (OfferedLine j) is = bar_is layout.decor bar.primary (letter (bar_beside layout Other bar) is)
+    by_name (RemovedLine i) is = bar_is layout.decor bar.primary (letter (bar_beside layout Other bar) is)
+    by_name Other is = bar_is layout.decor bar.primary (letter (bar_beside layout Other bar) is)
 
 -- nor a part of a line that leads from another
 no_line : (layout : Layout) (bar : Bar) (primary : Bool)
-    → bar_cell_part layout Solid bar ≡ unlinked_cell (underline_role primary) (strokes_of layout.decor primary).connector → ⊥
+    → bar_beside layout Other bar ≡ unlinked_cell (underline_role primary) (strokes_of layout.decor primary).connector → ⊥
 no_line layout bar primary same =
     by_kind layout.decor bar.primary primary (ap (λ (cell : Cell). cell.ch) same)
   where
@@ -116,7 +115,7 @@ module _ (layout : Layout) (s : Snippet Annotation) (rows : List NamedRow) (show
   --       ┃ ^
   pub bar_of_no_span_below : All (λ a. is_long (cow_str_bytes s.source) a ≡ false) s.markers.items → (bar : Bar)
       → layout.gutter + 3 ≤ layout.gutter + 2 + bar.depth → layout.gutter + 2 + bar.depth < layout.code
-      → slice_index_or row.cells (layout.gutter + 2 + bar.depth) SPACE ≡ bar_cell_part layout Solid bar → ⊥
+      → slice_index_or row.cells (layout.gutter + 2 + bar.depth) SPACE ≡ bar_beside layout Other bar → ⊥
   bar_of_no_span_below none bar from to there =
       let c : ℕ = layout.gutter + 2 + bar.depth in
       elim (clear_of_bars none c from to) [

@@ -13,9 +13,8 @@ use Rattle.snippet_grid.specs.Layout.{Layout, bar_cell, inner_cell}
 use Rattle.snippet_parts.specs.Annotated.{depth_of, is_long}
 use Rattle.snippet_parts.specs.Mark.{touches}
 use Rattle.snippet_parts.specs.Marked.{first_line, last_line}
-use Rattle.snippet_strokes.specs.Bars.{Bar, bar_cell_part}
+use Rattle.snippet_strokes.specs.Bars.{Bar}
 use Rattle.snippet_strokes.specs.EndBars.{BarEnds, IsNoBar}
-use Rattle.snippet_strokes.specs.declared.bars.BarStroke.TheVariants.{Dotted, Solid, Top}
 use Rattle.annotate_snippets.specs.Gutter.{numbered_source}
 use Rattle.annotate_snippets.specs.Page.{RowName, SourceRow, Elision, NamedRow, lines_named, rows_below, shows_lines}
 
@@ -32,10 +31,14 @@ line_beside above (SourceRow k) = k
 line_beside above Elision = fold (λ before k. k + 1) 0 (lines_named above)
 line_beside above name = fold (λ before k. k + 1) 0 (lines_named above) - 1
 
+-- the cell of a part of a bar that has this glyph, in the role of the bar's strokes
+abbrev pub part_of_bar : Bar → ℕ → Cell
+part_of_bar bar glyph = unlinked_cell (underline_role bar.primary) glyph
+
 -- the cell of a bar beside a row of this name: dotted beside one in place of lines
 abbrev pub bar_beside : Layout → RowName → Bar → Cell
-bar_beside layout Elision bar = bar_cell_part layout Dotted bar
-bar_beside layout name bar = bar_cell_part layout Solid bar
+bar_beside layout Elision bar = part_of_bar bar (strokes_of layout.decor bar.primary).elided_bar
+bar_beside layout name bar = part_of_bar bar (strokes_of layout.decor bar.primary).bar
 
 -- in the rows of a line the bar begins: in one row below the source row stands its corner, left of the line that leads to the span's first
 -- mark, in ASCII a space; or in the source row, below which the line then has none, its top. In each row below that stands the bar, and in
@@ -43,11 +46,11 @@ bar_beside layout name bar = bar_cell_part layout Solid bar
 pub record BarStarts (layout : Layout) (bar : Bar) (rows : List (List Cell)) : Type 0 where
   pub at : ℕ
   pub within : at < length rows
-  pub is : cell_at rows at (bar_cell layout bar.depth) ≡ (if at == 0 then bar_cell_part layout Top bar
-      else unlinked_cell (underline_role bar.primary) (strokes_of layout.decor bar.primary).bar_top)
+  pub is : cell_at rows at (bar_cell layout bar.depth) ≡ (let strokes = strokes_of layout.decor bar.primary in
+      if at == 0 then part_of_bar bar strokes.whole_line else part_of_bar bar strokes.bar_top)
   pub alone : at ≡ 0 → length rows ≡ 1
   pub source : 0 < at → cell_at rows 0 (bar_cell layout bar.depth) ≡ SPACE
-  pub beside : (i : ℕ) → at < i → i < length rows → cell_at rows i (bar_cell layout bar.depth) ≡ bar_cell_part layout Solid bar
+  pub beside : (i : ℕ) → at < i → i < length rows → cell_at rows i (bar_cell layout bar.depth) ≡ part_of_bar bar (strokes_of layout.decor bar.primary).bar
 
 -- a row, with those above and below it, has the bar of a span of several lines: between the span's first and last line it stands in its own
 -- cell and in its kind, whatever else the row holds. In the rows of the first line it begins, in those of the last it ends
