@@ -11,8 +11,8 @@ use Rattle.snippet_strokes.proofs.CellLemmas.{above_zero}
 use Rattle.annotate_snippets.specs.Laws.Bars.{BarStarts, part_of_bar}
 
 -- the top of a bar, beside a line that is marked as a whole
-abbrev top : Layout → Bar → Cell
-top layout bar = part_of_bar bar (strokes_of layout.decor bar.primary).whole_line
+abbrev bar_top : Layout → Bar → Cell
+bar_top layout bar = part_of_bar bar (strokes_of layout.decor bar.primary).whole_line
 
 -- a bar that begins in one of two ways begins in one of its rows, and the other way round
 pub begins_so : (layout : Layout) (bar : Bar) (rows : List (List Cell)) → BarBegins layout bar rows → BarStarts layout bar rows
@@ -30,7 +30,7 @@ begins_so layout bar rows (inr below) =
       at = below.corner;
       within = below.within;
       is = below.corner_is
-          ∙ sym (cond-false (below.corner == 0) (top layout bar) (start_corner layout bar) (above_zero below.corner below.below));
+          ∙ sym (cond-false (below.corner == 0) (bar_top layout bar) (start_corner layout bar) (above_zero below.corner below.below));
       alone = λ none. absurd (omega (arith, none, below.below));
       source = λ _. below.source;
       beside = below.beside;
@@ -42,7 +42,7 @@ starts_so layout bar rows starts =
       | inl top ↦ inl (record {
         alone = starts.alone top;
         top = ap (λ n. cell_at rows n (bar_cell layout bar.depth)) (sym top) ∙ starts.is
-            ∙ cond-true (starts.at == 0) (top layout bar) (start_corner layout bar) (eq-eqb starts.at 0 top);
+            ∙ cond-true (starts.at == 0) (bar_top layout bar) (start_corner layout bar) (eq-eqb starts.at 0 top);
       })
       | inr some ↦
           let lower : 0 < starts.at = omega (arith, some) in
@@ -50,7 +50,7 @@ starts_so layout bar rows starts =
             corner = starts.at;
             below = lower;
             within = starts.within;
-            corner_is = starts.is ∙ cond-false (starts.at == 0) (top layout bar) (start_corner layout bar) (above_zero starts.at lower);
+            corner_is = starts.is ∙ cond-false (starts.at == 0) (bar_top layout bar) (start_corner layout bar) (above_zero starts.at lower);
             source = starts.source lower;
             beside = starts.beside;
           })

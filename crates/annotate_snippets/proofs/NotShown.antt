@@ -134,7 +134,7 @@ record IsMarkedFrom (source : List ℕ) (a : Annotation) (start end : ℕ) : Typ
   end_is : end_column source a ≡ end
 
 is_marked_at : (source : List ℕ) (a : Annotation) (start end : ℕ) → IsMarkedFrom source a start end → (p : ℕ) → start ≤ p → p < end → IsMarkedAt source 0 p a
-is_marked_at source a start end is p from to = (is.marked, (omega arith, omega arith))
+is_marked_at source a start end is p from to = (is.marked, omega arith, omega arith)
 
 -- what a list of one span contains is that span
 the_one : (a other : Annotation) → Contains (a ∷ []) other → a ≡ other
@@ -383,7 +383,7 @@ unfolding place_of line_of start_of chars char_width unicode_width
 every_column_marked =
     let span : Annotation = span_of Primary 0 1 in
     let IsFreeOf : Annotation → Type 0 = λ a. IsMarkedAt (codes "ab cd") 0 1 a → ⊥ in
-    let free : All IsFreeOf (span ∷ []) = All-cons IsFreeOf span [] (λ at. absurd (omega (arith, at.1.1))) (All-nil IsFreeOf) in
+    let free : All IsFreeOf (span ∷ []) = All-cons IsFreeOf span [] (λ at. absurd (omega (arith, at.2))) (All-nil IsFreeOf) in
     other_marks (codes "ab cd") (span ∷ []) (text_cells UnderlinePrimary (codes "^^^^^")) (record { folded = refl; unfolded = refl; qualified = refl })
     (λ s is shown. let role : true ≡ false = no_mark_role is shown 1 free in cc)
 
