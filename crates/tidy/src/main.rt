@@ -13,7 +13,7 @@ use tidy_run::arguments::{file_word, log_word};
 use tidy_run::final_line::FinalLine;
 use tidy_run::log::Log;
 use tidy_run::rule::Rule;
-use tidy_run::run::run;
+use tidy_run::run::{Streams, run};
 use tidy_run::tabs::Tabs;
 use tidy_run::trailing_blanks::TrailingBlanks;
 
@@ -34,10 +34,12 @@ fn answer(rt: &HostRuntime) -> Result<u8, AllocError> {
     rules.push(Box::new(alloc, TrailingBlanks)?)?;
     rules.push(Box::new(alloc, Tabs)?)?;
     rules.push(Box::new(alloc, FinalLine)?)?;
-    let mut out = Stream::new(rt.stdout());
-    let mut err = Stream::new(rt.stderr());
-    let mut log = Stream::new(Log::new(rt, log_word(&args)));
-    Ok(run(alloc, &rules, &args, file, &mut out, &mut err, &mut log))
+    let mut streams = Streams {
+        out: Stream::new(rt.stdout()),
+        err: Stream::new(rt.stderr()),
+        log: Stream::new(Log::new(rt, log_word(&args))),
+    };
+    Ok(run(alloc, &rules, &args, file, &mut streams))
 }
 
 fn main(rt: HostRuntime) -> ExitCode {

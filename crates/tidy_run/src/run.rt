@@ -42,6 +42,17 @@ const FOUND: u8 = 1;
 /// The status of a run that could do neither.
 const FAILED: u8 = 2;
 
+/// The streams that a run writes to.
+#[derive(Drop)]
+pub struct Streams<W, V, L> {
+    /// Where the report is printed.
+    pub out: Stream<W>,
+    /// Where it is told what went wrong.
+    pub err: Stream<V>,
+    /// What writes to LOG, and isn't written to where the arguments name none.
+    pub log: Stream<L>,
+}
+
 /// Why a command's texts aren't written.
 #[derive(Clone, Copy, Debug, PartialEq, Eq)]
 enum TidyFailure<'a> {
@@ -227,9 +238,9 @@ fn tell<V: Write>(alloc: Global, failure: TidyFailure<'_>, err: &mut Stream<V>)
 /// Looks through a file by rules and prints what they find, as the arguments ask for, and answers the status to end
 /// with.
 ///
-/// `file` is what FILE holds, or `None` where it can't be read; `log` writes to LOG, and isn't written to where the
-/// arguments name none. The status is 0 where the rules find nothing, 1 where what they find was printed, else 2. With
-/// LOG the report is printed in colours, once it stands in LOG without. No stream is flushed.
+/// `file` is what FILE holds, or `None` where it can't be read. The status is 0 where the rules find nothing, 1 where
+/// what they find was printed, else 2. With LOG the report is printed in colours, once it stands in LOG without. No
+/// stream is flushed.
 ///
 /// | Status | `out` | `log` | `err` |
 /// |---|---|---|---|
@@ -246,9 +257,7 @@ pub fn run<W: Write, V: Write, L: Write>(
     rules: &[Box<dyn Rule>],
     args: &[&str],
     file: Option<&[u8]>,
-    out: &mut Stream<W>,
-    err: &mut Stream<V>,
-    log: &mut Stream<L>,
+    streams: &mut Streams<W, V, L>,
 ) -> u8
     ensures status { result ≤ 2 }
     ensures usage { command_line_of (arguments_at args.now) ≡ None → result ≡ 2 }
@@ -256,25 +265,25 @@ pub fn run<W: Write, V: Write, L: Write>(
     // By cases: which status, what each writer is given, and when that is so.
     ensures ends { Ends (arguments_at args.now) (option_copied file.entry)
         (λ source. flat_map (λ rule. told_of (title_of rule) (findings_of (finds rule source) source)) rules.now) result
-        (Receives W.contents out.old out.new) (Receives V.contents err.old err.new)
-        (Receives L.contents log.old log.new) }
+        (Receives W.contents streams.old.out streams.new.out) (Receives V.contents streams.old.err streams.new.err)
+        (Receives L.contents streams.old.log streams.new.log) }
 {
     let Some(command) = command_of(args) else {
-        write_line(USAGE, err);
+        write_line(USAGE, &mut streams.err);
         return FAILED;
     };
     let texts = match texts_of(alloc, rules, &command, file) {
         Ok(texts) => texts,
         Err(failure) => {
-            tell(alloc, failure, err);
+            tell(alloc, failure, &mut streams.err);
             return FAILED;
         }
     };
-    match write_texts(&command, &texts, out, log) {
+    match write_texts(&command, &texts, &mut streams.out, &mut streams.log) {
         WriteOutcome::Nothing => CLEAN,
         WriteOutcome::All => FOUND,
         WriteOutcome::Unlogged(name) => {
-            tell(alloc, TidyFailure::Unwritable(name), err);
+            tell(alloc, TidyFailure::Unwritable(name), &mut streams.err);
             FAILED
         }
         WriteOutcome::Unprinted => FAILED,
