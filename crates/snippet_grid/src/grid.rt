@@ -81,6 +81,11 @@ impl<'a> StyledBuffer<'a> {
         }
     }
 
+    /// Where the grid takes its memory, and who draws into it takes what is needed beside it.
+    pub fn allocator(&self) -> Global {
+        self.alloc
+    }
+
     /// Takes all rows away. What they had room in is used again.
     pub fn clear(&mut self)
         ensures empty { self.new ≡ [] }

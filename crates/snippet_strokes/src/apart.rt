@@ -12,7 +12,7 @@ use crate::labels::draw_label;
 use crate::marks::paint_entry;
 use snippet_grid::{Layout, StyledBuffer};
 use snippet_labels::PlacedEntry;
-use std::alloc::{AllocError, Global};
+use std::alloc::AllocError;
 
 /// How many columns there are at most between the end of a mark and its label.
 const GAP: usize = 2;
@@ -87,7 +87,6 @@ fn reach(placed: &PlacedEntry) -> usize
 ///
 /// There is no memory for the cells.
 pub(crate) fn draw_apart(
-    alloc: Global,
     buffer: &mut StyledBuffer,
     layout: Layout,
     row: usize,
@@ -99,14 +98,13 @@ pub(crate) fn draw_apart(
     ensures count { OnOk result (length buffer.new ≡ length buffer.old) }
 {
     for i in (0..placed.len()).rev() {
-        draw_entry(alloc, buffer, layout, row, &placed[i])?;
+        draw_entry(buffer, layout, row, &placed[i])?;
     }
     Ok(())
 }
 
 /// Draws the strokes of an entry that has no stem: the bar beside it, the line to this, the mark, and the label.
 fn draw_entry(
-    alloc: Global,
     buffer: &mut StyledBuffer,
     layout: Layout,
     row: usize,
@@ -118,7 +116,7 @@ fn draw_entry(
     ensures count { OnOk result (length buffer.new ≡ length buffer.old) }
 {
     draw_corner(buffer, layout, row, placed)?;
-    draw_connector(alloc, buffer, layout, row + 1, placed)?;
-    paint_entry(alloc, buffer, layout, row + 1, placed)?;
+    draw_connector(buffer, layout, row + 1, placed)?;
+    paint_entry(buffer, layout, row + 1, placed)?;
     draw_label(buffer, layout, row + 1, placed)
 }

@@ -14,7 +14,7 @@ use crate::roles::is_primary;
 use snippet_grid::{Layout, StyledBuffer};
 use snippet_parts::{LineAnnotation, LineAnnotationType};
 use snippet_style::DecorStyle;
-use std::alloc::{AllocError, Global};
+use std::alloc::AllocError;
 
 /// A bar that an entry of a line opens or closes.
 #[derive(Clone, Copy, Debug)]
@@ -155,7 +155,6 @@ fn has_depth(bars: &[OpenBar], depth: usize) -> bool
 /// There is no memory for the cells.
 #[inline(always)]
 pub(crate) fn draw_bars(
-    alloc: Global,
     buffer: &mut StyledBuffer,
     layout: Layout,
     row: usize,
@@ -169,13 +168,12 @@ pub(crate) fn draw_bars(
     if bars.is_empty() {
         return Ok(());
     }
-    draw_sides(alloc, buffer, layout, row, bars, stroke)
+    draw_sides(buffer, layout, row, bars, stroke)
 }
 
 /// Draws a part of some bars in each row from this one on, those that stand side by side at a time.
 #[inline(never)]
 fn draw_sides(
-    alloc: Global,
     buffer: &mut StyledBuffer,
     layout: Layout,
     row: usize,
@@ -193,7 +191,7 @@ fn draw_sides(
             count: to - from,
             stroke,
         };
-        draw_side(alloc, buffer, layout, row, side)?;
+        draw_side(buffer, layout, row, side)?;
         from = to;
     }
     Ok(())
@@ -225,7 +223,6 @@ fn side_end(bars: &[OpenBar], from: usize) -> usize
 
 /// Draws a part of bars that stand side by side in each row from this one on.
 fn draw_side(
-    alloc: Global,
     buffer: &mut StyledBuffer,
     layout: Layout,
     row: usize,
@@ -237,6 +234,7 @@ fn draw_side(
         (replicate side.count (bar_cell_part layout side.stroke side.first)))
         row buffer.old) }
 {
+    let alloc = buffer.allocator();
     let glyph = side.stroke.glyph(layout.decor, side.first.primary);
     let part = repeated(alloc, glyph, side.count)?;
     draw_parts(buffer, layout, row, side, part.as_str())

@@ -11,7 +11,7 @@ use crate::roles::is_primary;
 use snippet_grid::{Layout, StyledBuffer};
 use snippet_labels::PlacedEntry;
 use snippet_parts::LineAnnotationType;
-use std::alloc::{AllocError, Global};
+use std::alloc::AllocError;
 
 /// Draws the lines that lead from starts and ends of spans of several lines to their bars, each in the row of its
 /// position, the first of which is the row of the marks.
@@ -26,7 +26,6 @@ use std::alloc::{AllocError, Global};
 ///
 /// There is no memory for the cells.
 pub(crate) fn draw_connectors(
-    alloc: Global,
     buffer: &mut StyledBuffer,
     layout: Layout,
     row: usize,
@@ -37,14 +36,13 @@ pub(crate) fn draw_connectors(
     ensures painted { OnOk result (buffer.new ≡ painted (connectors_of layout row placed.now) buffer.old) }
 {
     for entry in placed {
-        draw_connector(alloc, buffer, layout, row, entry)?;
+        draw_connector(buffer, layout, row, entry)?;
     }
     Ok(())
 }
 
 /// Draws the line from the bar of an entry to its start, if it is the start or the end of a span of several lines.
 pub(crate) fn draw_connector(
-    alloc: Global,
     buffer: &mut StyledBuffer,
     layout: Layout,
     row: usize,
@@ -56,7 +54,7 @@ pub(crate) fn draw_connector(
 {
     match placed.entry.annotation_type {
         LineAnnotationType::MultilineStart(depth) | LineAnnotationType::MultilineEnd(depth) => {
-            draw_line_to(alloc, buffer, layout, row, depth, placed)
+            draw_line_to(buffer, layout, row, depth, placed)
         }
         LineAnnotationType::Singleline | LineAnnotationType::MultilineLine(_) => Ok(()),
     }
@@ -64,7 +62,6 @@ pub(crate) fn draw_connector(
 
 /// Draws the line from the bar of this depth to before the start of an entry.
 fn draw_line_to(
-    alloc: Global,
     buffer: &mut StyledBuffer,
     layout: Layout,
     row: usize,
@@ -79,7 +76,6 @@ fn draw_line_to(
     let start = layout.code_cell(placed.entry.start.display);
     let cells = layout.bar_cell(depth) + 1..start;
     draw_stretch(
-        alloc,
         buffer,
         row + placed.position,
         cells,

@@ -9,7 +9,7 @@ use crate::bars::{BarStroke, OpenBar, draw_bars};
 use snippet_grid::{Layout, StyledBuffer};
 use snippet_parts::ShownLine;
 use snippet_style::{DecorStyle, ElementStyle};
-use std::alloc::{AllocError, Global};
+use std::alloc::AllocError;
 
 /// Draws the row that stands for the lines between one of this number and the first of the lines after it, if there are
 /// any.
@@ -18,7 +18,6 @@ use std::alloc::{AllocError, Global};
 ///
 /// There is no memory for the row.
 pub(crate) fn draw_gap(
-    alloc: Global,
     buffer: &mut StyledBuffer,
     layout: Layout,
     number: usize,
@@ -31,7 +30,7 @@ pub(crate) fn draw_gap(
     if rest.is_empty() || rest[0].info.line_index.saturating_sub(1) <= number {
         return Ok(());
     }
-    draw_elision(alloc, buffer, layout, open_bars)
+    draw_elision(buffer, layout, open_bars)
 }
 
 /// Draws the row that stands for lines that aren't shown, with the bars that run beside them, below all that stands in
@@ -41,7 +40,6 @@ pub(crate) fn draw_gap(
 ///   ...  |  |            ┆ ┇  ┆
 /// ```
 fn draw_elision(
-    alloc: Global,
     buffer: &mut StyledBuffer,
     layout: Layout,
     open_bars: &[OpenBar],
@@ -51,7 +49,7 @@ fn draw_elision(
 {
     let row = buffer.num_lines();
     begin_elision_row(buffer, layout)?;
-    draw_bars(alloc, buffer, layout, row, open_bars, BarStroke::Dotted)
+    draw_bars(buffer, layout, row, open_bars, BarStroke::Dotted)
 }
 
 /// Begins that row, with its sign alone: from the first cell on, or in Unicode in the place of the separator.

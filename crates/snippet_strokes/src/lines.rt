@@ -122,7 +122,6 @@ fn made(alloc: Global, glyph: char, count: usize) -> Result<String, AllocError>
 ///
 /// There is no memory for the cells.
 pub fn draw_stretch(
-    alloc: Global,
     buffer: &mut StyledBuffer,
     row: usize,
     cells: Range<usize>,
@@ -132,6 +131,7 @@ pub fn draw_stretch(
     requires row { HasNext row }
     ensures painted { OnOk result (buffer.new ≡ painted (stretch_of row cells.start cells.end glyph role) buffer.old) }
 {
+    let alloc = buffer.allocator();
     let (start, end) = (cells.start, cells.end);
     if end <= start {
         return Ok(());

@@ -11,7 +11,7 @@ use snippet_grid::{Layout, StyledBuffer};
 use snippet_labels::positions::PlacedEntry;
 use snippet_parts::LineAnnotation;
 use snippet_style::DecorStyle;
-use std::alloc::{AllocError, Global};
+use std::alloc::AllocError;
 use std::cmp::Reverse;
 
 /// Draws the marks of some entries into a row, over what stands there. The entries are put in another order.
@@ -24,7 +24,6 @@ use std::cmp::Reverse;
 ///
 /// There is no memory for the cells, or to sort the entries.
 pub fn draw_marks(
-    alloc: Global,
     buffer: &mut StyledBuffer,
     layout: Layout,
     row: usize,
@@ -36,7 +35,7 @@ pub fn draw_marks(
     ensures order { OnOk result (placed.new.items ≡ painting_order placed.old.items) }
 {
     sort_for_painting(placed)?;
-    paint_entries(alloc, buffer, layout, row, placed)
+    paint_entries(buffer, layout, row, placed)
 }
 
 /// Puts the entries in order from the widest to the narrowest, those of one width with the primary ones last, and else
@@ -60,7 +59,6 @@ fn entry_width(entry: &LineAnnotation) -> usize
 
 /// Paints the marks of entries into a row, each over those before it.
 pub(crate) fn paint_entries(
-    alloc: Global,
     buffer: &mut StyledBuffer,
     layout: Layout,
     row: usize,
@@ -71,7 +69,7 @@ pub(crate) fn paint_entries(
     ensures painted { OnOk result (buffer.new ≡ painted (marks_of layout row placed.now) buffer.old) }
 {
     for entry in placed {
-        paint_entry(alloc, buffer, layout, row, entry)?;
+        paint_entry(buffer, layout, row, entry)?;
     }
     Ok(())
 }
@@ -82,7 +80,6 @@ pub(crate) fn paint_entries(
 ///       |       ^^^^^         ┯━━━━
 /// ```
 pub(crate) fn paint_entry(
-    alloc: Global,
     buffer: &mut StyledBuffer,
     layout: Layout,
     row: usize,
@@ -101,11 +98,11 @@ pub(crate) fn paint_entry(
     let cell = layout.code_cell(start);
     if first == strokes.underline {
         let whole = cell..layout.code_cell(end);
-        return draw_stretch(alloc, buffer, row, whole, first, strokes.style);
+        return draw_stretch(buffer, row, whole, first, strokes.style);
     }
     buffer.putc(row, cell, first, strokes.style)?;
     let rest = cell + 1..layout.code_cell(end);
-    draw_stretch(alloc, buffer, row, rest, strokes.underline, strokes.style)
+    draw_stretch(buffer, row, rest, strokes.underline, strokes.style)
 }
 
 /// The column after the last one at which an entry's mark is painted. Where an entry covers no column, but a glyph of

@@ -17,7 +17,7 @@ use snippet_grid::{Layout, StyledBuffer};
 use snippet_lines::LineNumbers;
 use snippet_parts::ShownLine;
 use snippet_window::Margin;
-use std::alloc::{AllocError, Global};
+use std::alloc::AllocError;
 
 /// How lines of a source are shown.
 #[derive(Clone, Copy, Debug)]
@@ -64,7 +64,6 @@ struct BarLists {
 ///
 /// There is no memory for the rows. The grid may then hold some of them.
 pub fn draw_snippet(
-    alloc: Global,
     buffer: &mut StyledBuffer,
     layout: Layout,
     view: LineView,
@@ -73,6 +72,7 @@ pub fn draw_snippet(
     requires drawable { All (λ line. IsDrawableLine layout view.margin view.numbers line.info) lines.now }
     ensures added { OnOk result (buffer.new ≡ buffer.old ++ infos_rows layout view [] (infos_of lines.now)) }
 {
+    let alloc = buffer.allocator();
     let mut bars = BarLists {
         open_bars: Vec::new(alloc),
         ends: Vec::new(alloc),
@@ -82,16 +82,9 @@ pub fn draw_snippet(
         let closes = view.closes && i + 1 == lines.len();
         let line = &lines[i];
         let shown = LineView { closes, ..view };
-        bars = draw_line(alloc, buffer, layout, shown, line, bars)?;
+        bars = draw_line(buffer, layout, shown, line, bars)?;
         let after = &lines[i + 1..];
-        draw_gap(
-            alloc,
-            buffer,
-            layout,
-            line.info.line_index,
-            after,
-            &bars.open_bars,
-        )?;
+        draw_gap(buffer, layout, line.info.line_index, after, &bars.open_bars)?;
     }
     Ok(())
 }
@@ -104,7 +97,6 @@ pub fn draw_snippet(
 ///       |     ^ here
 /// ```
 fn draw_line(
-    alloc: Global,
     buffer: &mut StyledBuffer,
     layout: Layout,
     view: LineView,
@@ -128,7 +120,7 @@ fn draw_line(
         tops: &ends,
         past: &below,
     };
-    draw_line_rows(alloc, buffer, layout, view, line, beside)?;
+    draw_line_rows(buffer, layout, view, line, beside)?;
     add_bars_apart(&mut below, &ends, &open_bars)?;
     Ok(BarLists {
         open_bars: below,
@@ -139,7 +131,6 @@ fn draw_line(
 
 /// Draws the rows of a line, beside which some bars start or end, and others run past.
 fn draw_line_rows(
-    alloc: Global,
     buffer: &mut StyledBuffer,
     layout: Layout,
     view: LineView,
@@ -155,15 +146,14 @@ fn draw_line_rows(
 {
     let info = &line.info;
     if is_whole_line(info.line, &info.annotations) {
-        return draw_whole_line(alloc, buffer, layout, view, line, beside);
+        return draw_whole_line(buffer, layout, view, line, beside);
     }
-    draw_marked_line(alloc, buffer, layout, view, line, beside.past)
+    draw_marked_line(buffer, layout, view, line, beside.past)
 }
 
 /// Draws the row of a line that is marked as a whole, with the tops of its bars and those that run past beside it. It
 /// has no strokes else.
 fn draw_whole_line(
-    alloc: Global,
     buffer: &mut StyledBuffer,
     layout: Layout,
     view: LineView,
@@ -178,13 +168,12 @@ fn draw_whole_line(
         → beside.entry.past.now ≡ bars_apart above (ends_of_bars line.now.info.annotations.items)
         → buffer.new ≡ buffer.old ++ info_rows layout view above line.now.info) }
 {
-    let (row, dropped) = draw_source_row(alloc, buffer, layout, view, line, beside)?;
+    let (row, dropped) = draw_source_row(buffer, layout, view, line, beside)?;
     highlight_source(buffer, layout, dropped, row, &line.info.annotations)
 }
 
 /// Draws the rows of a line that isn't marked as a whole, with the bars that run past beside them.
 fn draw_marked_line(
-    alloc: Global,
     buffer: &mut StyledBuffer,
     layout: Layout,
     view: LineView,
@@ -202,7 +191,7 @@ fn draw_marked_line(
         tops: &[],
         past: &[],
     };
-    let (row, dropped) = draw_source_row(alloc, buffer, layout, view, line, none)?;
+    let (row, dropped) = draw_source_row(buffer, layout, view, line, none)?;
     let info = &line.info;
     highlight_source(buffer, layout, dropped, row, &info.annotations)?;
     let place = StrokePlace {
@@ -211,6 +200,6 @@ fn draw_marked_line(
         room: view.margin.term_width,
         closes: view.closes,
     };
-    draw_strokes(alloc, buffer, layout, place, &info.annotations)?;
-    draw_bars(alloc, buffer, layout, row, past, BarStroke::Solid)
+    draw_strokes(buffer, layout, place, &info.annotations)?;
+    draw_bars(buffer, layout, row, past, BarStroke::Solid)
 }

@@ -58,7 +58,6 @@ struct SourceTexts<'t> {
 ///
 /// There is no memory for the row or its texts.
 pub fn draw_source_row(
-    alloc: Global,
     buffer: &mut StyledBuffer,
     layout: Layout,
     view: LineView,
@@ -80,6 +79,7 @@ pub fn draw_source_row(
         at.1 ≡ width_of (dropped_part (bounds_of view.margin).left (norm (chars line.now.info.line.now)))) }
     ensures few { IfOk result (λ at. IsWindowColumn at.1) }
 {
+    let alloc = buffer.allocator();
     let mut digits = Buffer::new();
     let number = number_beside(
         alloc,
@@ -103,7 +103,7 @@ pub fn draw_source_row(
         placeholder,
         window,
     };
-    let row = write_source_row(alloc, buffer, layout, texts, beside)?;
+    let row = write_source_row(buffer, layout, texts, beside)?;
     Ok((row, window.dropped))
 }
 
@@ -143,7 +143,6 @@ fn digits_beside<'b>(
 
 /// Writes a source row of these texts from left to right: the number and the separator, the bars, and the window.
 fn write_source_row(
-    alloc: Global,
     buffer: &mut StyledBuffer,
     layout: Layout,
     texts: SourceTexts<'_>,
@@ -165,8 +164,8 @@ fn write_source_row(
 {
     let window = texts.window;
     let row = begin_source_row(buffer, layout, texts.number)?;
-    draw_bars(alloc, buffer, layout, row, beside.past, BarStroke::Solid)?;
-    draw_bars(alloc, buffer, layout, row, beside.tops, BarStroke::Top)?;
+    draw_bars(buffer, layout, row, beside.past, BarStroke::Solid)?;
+    draw_bars(buffer, layout, row, beside.tops, BarStroke::Top)?;
     write_beginning(
         buffer,
         layout,

@@ -46,7 +46,6 @@ pub(crate) struct Stem {
 ///
 /// There is no memory for the rows, or for the list of stems.
 pub(crate) fn begin_stem_rows(
-    alloc: Global,
     buffer: &mut StyledBuffer,
     layout: Layout,
     closes: bool,
@@ -61,6 +60,7 @@ pub(crate) fn begin_stem_rows(
         ++ bare_row layout.decor layout.gutter closes ∷ [])) }
     ensures small { OnOk result (AreRows (length buffer.new)) }
 {
+    let alloc = buffer.allocator();
     let stems = uncovered_stems(alloc, layout, placed)?;
     let row = buffer.num_lines();
     for below in 0..count {

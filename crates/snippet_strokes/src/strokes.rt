@@ -28,7 +28,7 @@ use crate::stems::draw_stems;
 use snippet_grid::{Layout, StyledBuffer};
 use snippet_labels::{PlacedEntry, are_starts, placed_entries};
 use snippet_parts::LineAnnotation;
-use std::alloc::{AllocError, Global};
+use std::alloc::AllocError;
 
 /// Where the strokes of a line stand.
 #[derive(Clone, Copy, Debug)]
@@ -63,7 +63,6 @@ pub(crate) struct StrokePlace {
 ///
 /// There is no memory for the rows, the labels or the list of entries.
 pub(crate) fn draw_strokes(
-    alloc: Global,
     buffer: &mut StyledBuffer,
     layout: Layout,
     place: StrokePlace,
@@ -75,13 +74,14 @@ pub(crate) fn draw_strokes(
         → is_whole_line text entries.now ≡ false → buffer.old ≡ above ++ source ∷ []
         → buffer.new ≡ above ++ own_rows layout place.room place.closes text place.dropped entries.now source) }
 {
+    let alloc = buffer.allocator();
     if entries.is_empty() {
         return close_below(buffer, layout, place.closes);
     }
     let mut placed = placed_entries(alloc, place.dropped, entries)?;
     let overlapped = overlapping(alloc, layout.decor, place.room, &placed)?;
     let count = row_count(&placed);
-    draw_rows(alloc, buffer, layout, place, count, &mut placed)?;
+    draw_rows(buffer, layout, place, count, &mut placed)?;
     cut_wide(buffer, layout, place.row, place.room, &placed, &overlapped)
 }
 
@@ -92,7 +92,6 @@ pub(crate) fn draw_strokes(
 ///
 /// There is no memory for the rows, or to sort the entries.
 fn draw_rows(
-    alloc: Global,
     buffer: &mut StyledBuffer,
     layout: Layout,
     place: StrokePlace,
@@ -112,10 +111,10 @@ fn draw_rows(
     ensures count { OnOk result (length buffer.new ≡ length buffer.old + count) }
 {
     if count > 1 && !has_lines(placed) {
-        return draw_hanging(alloc, buffer, layout, place, count, placed);
+        return draw_hanging(buffer, layout, place, count, placed);
     }
     begin_rows(buffer, layout, place.closes, count)?;
-    paint_strokes(alloc, buffer, layout, place.row, placed)
+    paint_strokes(buffer, layout, place.row, placed)
 }
 
 /// Whether a line leads to a bar from one of these entries.
@@ -132,7 +131,6 @@ fn has_lines(placed: &[PlacedEntry]) -> bool
 ///
 /// There is no memory for the rows, or to sort the entries.
 fn draw_hanging(
-    alloc: Global,
     buffer: &mut StyledBuffer,
     layout: Layout,
     place: StrokePlace,
@@ -152,16 +150,15 @@ fn draw_hanging(
     ensures small { OnOk result (AreRows (length buffer.old + count)) }
     ensures count { OnOk result (length buffer.new ≡ length buffer.old + count) }
 {
-    begin_stem_rows(alloc, buffer, layout, place.closes, count, placed)?;
+    begin_stem_rows(buffer, layout, place.closes, count, placed)?;
     draw_labels(buffer, layout, place.row + 1, placed)?;
-    draw_marks(alloc, buffer, layout, place.row + 1, placed)?;
+    draw_marks(buffer, layout, place.row + 1, placed)?;
     Ok(())
 }
 
 /// Draws the strokes of a line into the rows that are begun for them below its source row, which has this number, and
 /// puts its entries in the order of painting. Where strokes stand side by side they are drawn from left to right.
 fn paint_strokes(
-    alloc: Global,
     buffer: &mut StyledBuffer,
     layout: Layout,
     row: usize,
@@ -174,18 +171,17 @@ fn paint_strokes(
     ensures count { OnOk result (length buffer.new ≡ length buffer.old) }
 {
     if stand_apart(placed) {
-        draw_apart(alloc, buffer, layout, row, placed)?;
+        draw_apart(buffer, layout, row, placed)?;
         return sort_for_painting(placed);
     }
-    draw_under_marks(alloc, buffer, layout, row, placed)?;
-    draw_marks(alloc, buffer, layout, row + 1, placed)?;
+    draw_under_marks(buffer, layout, row, placed)?;
+    draw_marks(buffer, layout, row + 1, placed)?;
     Ok(())
 }
 
 /// Draws the strokes of a line but its marks into the rows that are begun for them below its source row, which has this
 /// number.
 fn draw_under_marks(
-    alloc: Global,
     buffer: &mut StyledBuffer,
     layout: Layout,
     row: usize,
@@ -196,7 +192,7 @@ fn draw_under_marks(
         (length buffer.old) placed.now) buffer.old) }
     ensures count { OnOk result (length buffer.new ≡ length buffer.old) }
 {
-    draw_connectors(alloc, buffer, layout, row + 1, placed)?;
+    draw_connectors(buffer, layout, row + 1, placed)?;
     draw_corners(buffer, layout, row, placed)?;
     draw_stems(buffer, layout, row + 1, placed)?;
     draw_labels(buffer, layout, row + 1, placed)

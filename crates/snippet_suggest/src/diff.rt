@@ -16,7 +16,7 @@ use snippet_grid::StyledBuffer;
 use snippet_parts::LineInfo;
 use snippet_splice::SubstitutionHighlight;
 use snippet_style::{ElementStyle, SuggestionGlyph};
-use std::alloc::{AllocError, Global};
+use std::alloc::AllocError;
 
 /// Lines of a source that are removed, and the one line that stands in their place.
 #[derive(Clone, Copy)]
@@ -46,7 +46,6 @@ pub(crate) struct LineDiff<'a> {
 ///
 /// There is no memory for the rows or their texts.
 pub(crate) fn draw_diff(
-    alloc: Global,
     buffer: &mut StyledBuffer,
     layout: &SuggestionLayout,
     diff: &LineDiff<'_>,
@@ -59,19 +58,18 @@ pub(crate) fn draw_diff(
     let (first, removed, replaced) = (diff.first, diff.removed, diff.replaced);
     let stays = is_last(removed, diff.line);
     let count = removed.len().saturating_sub(usize::from(stays));
-    draw_diff_removed(alloc, buffer, layout, first, &removed[..count], replaced)?;
+    draw_diff_removed(buffer, layout, first, &removed[..count], replaced)?;
     if stays {
         let stretches = diff_stretches(replaced, first, removed[count]);
         paint_last(buffer, layout, diff.line, stretches, ElementStyle::Removal)?;
     }
     let left_out = is_left_out(removed, diff.line);
-    draw_diff_line(alloc, buffer, layout, diff, left_out)
+    draw_diff_line(buffer, layout, diff, left_out)
 }
 
 /// Draws the line that stands in place of those that are removed below all that stands in the grid, unless it is left
 /// out, and gives the stretches that are new in it their role.
 fn draw_diff_line(
-    alloc: Global,
     buffer: &mut StyledBuffer,
     layout: &SuggestionLayout,
     diff: &LineDiff<'_>,
@@ -86,14 +84,7 @@ fn draw_diff_line(
 {
     let line = diff.line;
     if !left_out {
-        draw_line(
-            alloc,
-            buffer,
-            layout,
-            SuggestionGlyph::Added,
-            diff.first,
-            line,
-        )?;
+        draw_line(buffer, layout, SuggestionGlyph::Added, diff.first, line)?;
     }
     paint_last(buffer, layout, line, diff.added, ElementStyle::Addition)
 }
@@ -145,7 +136,6 @@ fn diff_stretches<'a>(
 
 /// Draws lines that are removed below all that stands in the grid.
 fn draw_diff_removed(
-    alloc: Global,
     buffer: &mut StyledBuffer,
     layout: &SuggestionLayout,
     first: usize,
@@ -163,7 +153,7 @@ fn draw_diff_removed(
             number,
             text: info.line,
         };
-        draw_removed_line(alloc, buffer, layout, row, line, ElementStyle::NoStyle)?;
+        draw_removed_line(buffer, layout, row, line, ElementStyle::NoStyle)?;
         let stretches = diff_stretches(replaced, first, info);
         paint_stretches(
             buffer,

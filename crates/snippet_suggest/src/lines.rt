@@ -62,7 +62,6 @@ pub(crate) struct SuggestedText<'a> {
 ///
 /// There is no memory for the rows or their texts.
 pub(crate) fn draw_lines(
-    alloc: Global,
     buffer: &mut StyledBuffer,
     layout: &SuggestionLayout,
     text: &SuggestedText<'_>,
@@ -72,14 +71,14 @@ pub(crate) fn draw_lines(
     ensures cells { OnOk result (buffer.new ≡ buffer.old ++ map (row_shown layout.now text.now)
         (shown_from (is_touched fold ranges.now) 0 0 (length text.now.lines.now))) }
 {
+    let alloc = buffer.allocator();
     let shown = shown_lines(alloc, text.lines.len(), ranges, fold)?;
-    draw_shown(alloc, buffer, layout, text, &shown)?;
+    draw_shown(buffer, layout, text, &shown)?;
     Ok(())
 }
 
 /// Draws these lines of a text, below all that stands in the grid.
 fn draw_shown(
-    alloc: Global,
     buffer: &mut StyledBuffer,
     layout: &SuggestionLayout,
     text: &SuggestedText<'_>,
@@ -88,14 +87,13 @@ fn draw_shown(
     ensures cells { OnOk result (buffer.new ≡ buffer.old ++ map (row_shown layout.now text.now) shown.now) }
 {
     for line in shown {
-        draw_shown_line(alloc, buffer, layout, text, *line)?;
+        draw_shown_line(buffer, layout, text, *line)?;
     }
     Ok(())
 }
 
 /// Draws a line of a text, or the placeholder for lines that are left out, below all that stands in the grid.
 fn draw_shown_line(
-    alloc: Global,
     buffer: &mut StyledBuffer,
     layout: &SuggestionLayout,
     text: &SuggestedText<'_>,
@@ -104,14 +102,13 @@ fn draw_shown_line(
     ensures cells { OnOk result (buffer.new ≡ buffer.old ++ row_shown layout.now text.now line ∷ []) }
 {
     match line {
-        SuggestionLine::Line(k) => draw_text_line(alloc, buffer, layout, text, k),
+        SuggestionLine::Line(k) => draw_text_line(buffer, layout, text, k),
         SuggestionLine::Gap => draw_gap(buffer, layout),
     }
 }
 
 /// Draws line `k` of some lines, from 0, below all that stands in the grid.
 fn draw_text_line(
-    alloc: Global,
     buffer: &mut StyledBuffer,
     layout: &SuggestionLayout,
     text: &SuggestedText<'_>,
@@ -124,10 +121,10 @@ fn draw_text_line(
     let glyph = glyph_of(text.kind, text.lines.len(), line, stretches);
     let number = number_after(text.first, k);
     if are_in_order(line, stretches) {
-        let row = begin_line(alloc, buffer, layout, glyph, number)?;
+        let row = begin_line(buffer, layout, glyph, number)?;
         return put_stretches(buffer, layout, row, line, stretches, ElementStyle::Addition);
     }
-    let row = draw_line(alloc, buffer, layout, glyph, number, line)?;
+    let row = draw_line(buffer, layout, glyph, number, line)?;
     paint_stretches(buffer, layout, row, line, stretches, ElementStyle::Addition)?;
     Ok(())
 }

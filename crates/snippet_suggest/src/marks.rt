@@ -136,7 +136,6 @@ impl Moves {
 ///
 /// There is no memory for the cells.
 pub(crate) fn draw_marks(
-    alloc: Global,
     buffer: &mut StyledBuffer,
     layout: &SuggestionLayout,
     row: usize,
@@ -148,6 +147,7 @@ pub(crate) fn draw_marks(
     ensures cells { (above : List (List Cell)) (last : List Cell) → row ≡ length above → buffer.old ≡ above ++ last ∷ []
         → OnOk result (buffer.new ≡ above ++ with_marks layout.now map.now [] (edits_at patches.now) last ∷ []) }
 {
+    let alloc = buffer.allocator();
     let mut moves = Moves::none(alloc);
     for patch in patches {
         let columns = patch_columns(map, patch);

@@ -11,7 +11,7 @@ use crate::row::{NumberedLine, draw_removed_line};
 use snippet_grid::StyledBuffer;
 use snippet_parts::LineInfo;
 use snippet_style::ElementStyle;
-use std::alloc::{AllocError, Global};
+use std::alloc::AllocError;
 
 /// Draws lines of a source that are removed with nothing in their place, in rows from this one on.
 ///
@@ -24,7 +24,6 @@ use std::alloc::{AllocError, Global};
 ///
 /// There is no memory for the rows or their texts.
 pub(crate) fn draw_removed_lines(
-    alloc: Global,
     buffer: &mut StyledBuffer,
     layout: &SuggestionLayout,
     row: usize,
@@ -41,7 +40,7 @@ pub(crate) fn draw_removed_lines(
             number: info.line_index,
             text: info.line,
         };
-        draw_removed_line(alloc, buffer, layout, row, line, ElementStyle::Removal)?;
+        draw_removed_line(buffer, layout, row, line, ElementStyle::Removal)?;
         row = buffer.num_lines();
     }
     Ok(())

@@ -12,7 +12,7 @@ use snippet_grid::StyledBuffer;
 use snippet_lines::number_text;
 use snippet_style::{ElementStyle, SuggestionGlyph};
 use snippet_text::{normalized, str_width};
-use std::alloc::{AllocError, Global};
+use std::alloc::AllocError;
 
 /// Draws a line as it will be, below all that stands in the grid, and gives the row's number.
 ///
@@ -24,7 +24,6 @@ use std::alloc::{AllocError, Global};
 ///
 /// There is no memory for the row or its texts.
 pub(crate) fn draw_line(
-    alloc: Global,
     buffer: &mut StyledBuffer,
     layout: &SuggestionLayout,
     glyph: SuggestionGlyph,
@@ -34,7 +33,8 @@ pub(crate) fn draw_line(
     ensures cells { OnOk result (buffer.new ≡ buffer.old ++ line_cells layout.now glyph number line.now ∷ []) }
     ensures row { IfOk result (λ row. row ≡ length buffer.old) }
 {
-    let row = begin_line(alloc, buffer, layout, glyph, number)?;
+    let alloc = buffer.allocator();
+    let row = begin_line(buffer, layout, glyph, number)?;
     let text = normalized(alloc, line)?;
     let cell = layout.base.inner_cell();
     buffer.puts(row, cell, text.as_str(), ElementStyle::NoStyle)?;
@@ -47,7 +47,6 @@ pub(crate) fn draw_line(
 ///
 /// There is no memory for the row or the number.
 pub(crate) fn begin_line(
-    alloc: Global,
     buffer: &mut StyledBuffer,
     layout: &SuggestionLayout,
     glyph: SuggestionGlyph,
@@ -56,6 +55,7 @@ pub(crate) fn begin_line(
     ensures cells { OnOk result (buffer.new ≡ buffer.old ++ opened_cells layout.now glyph number ∷ []) }
     ensures row { IfOk result (λ row. (row ≡ length buffer.old) × HasNext row) }
 {
+    let alloc = buffer.allocator();
     let row = buffer.num_lines();
     let base = layout.base;
     let sign = glyph.text(base.decor);
@@ -90,7 +90,6 @@ pub(crate) struct NumberedLine<'a> {
 ///
 /// There is no memory for the row or its texts.
 pub(crate) fn draw_removed_line(
-    alloc: Global,
     buffer: &mut StyledBuffer,
     layout: &SuggestionLayout,
     row: usize,
@@ -102,6 +101,7 @@ pub(crate) fn draw_removed_line(
         → OnOk result (buffer.new ≡ above
         ++ removed_cells layout.now role line.entry.number line.entry.text.now (row_at tail 0) ∷ []) }
 {
+    let alloc = buffer.allocator();
     let base = layout.base;
     let number = number_text(alloc, layout.numbers, base.gutter, line.number)?;
     buffer.puts(row, 0, number.as_str(), ElementStyle::LineNumber)?;

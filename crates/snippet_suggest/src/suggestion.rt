@@ -29,7 +29,7 @@ use crate::shown::is_touched;
 use snippet_grid::StyledBuffer;
 use snippet_parts::SourceMap;
 use snippet_splice::TrimmedPatch;
-use std::alloc::{AllocError, Global};
+use std::alloc::AllocError;
 use std::ops::Range;
 
 /// Draws a suggestion below all that stands in the grid: the lines as they will be.
@@ -47,7 +47,6 @@ use std::ops::Range;
 ///
 /// There is no memory for the rows or their texts.
 pub fn draw_suggestion(
-    alloc: Global,
     buffer: &mut StyledBuffer,
     layout: &SuggestionLayout,
     suggestion: &PreparedSuggestion<'_>,
@@ -60,20 +59,20 @@ pub fn draw_suggestion(
         → OnOk result (buffer.new ≡ above ++ suggestion_cells layout.now start follows suggestion.now.snippet.now
         (row_at tail 0)) }
 {
+    let alloc = buffer.allocator();
     let splice = &suggestion.splice;
     let lines = text_lines(alloc, splice.complete.as_str(), splice.highlights.len())?;
-    let skipped = draw_body(alloc, buffer, layout, suggestion, &lines, start)?;
+    let skipped = draw_body(buffer, layout, suggestion, &lines, start)?;
     let row = draw_end(buffer, layout, skipped, follows)?;
     if suggestion.kind == DisplaySuggestion::Underline {
         let patches = &suggestion.splice.patches;
-        draw_marks(alloc, buffer, layout, row, &suggestion.map, patches)?;
+        draw_marks(buffer, layout, row, &suggestion.map, patches)?;
     }
     Ok(())
 }
 
 /// Draws all rows of a suggestion but the last, and gives the number of rows that stay empty before that one.
 fn draw_body(
-    alloc: Global,
     buffer: &mut StyledBuffer,
     layout: &SuggestionLayout,
     suggestion: &PreparedSuggestion<'_>,
@@ -89,7 +88,7 @@ fn draw_body(
         ++ body_cells layout.now start s (row_at tail 0)) }
 {
     let Some(line) = lines.first() else {
-        draw_emptied(alloc, buffer, layout, suggestion, start)?;
+        draw_emptied(buffer, layout, suggestion, start)?;
         return Ok(0);
     };
     draw_head(buffer, layout, start)?;
@@ -97,7 +96,7 @@ fn draw_body(
     let fold = suggestion.snippet.fold;
     let first = first_number(&suggestion.map, &splice.patches, fold);
     if suggestion.kind == DisplaySuggestion::Diff {
-        return draw_changed(alloc, buffer, layout, suggestion, first, *line);
+        return draw_changed(buffer, layout, suggestion, first, *line);
     }
     let text = SuggestedText {
         kind: suggestion.kind,
@@ -105,14 +104,13 @@ fn draw_body(
         lines,
         stretches: &splice.highlights,
     };
-    draw_lines(alloc, buffer, layout, &text, &splice.ranges, fold)?;
+    draw_lines(buffer, layout, &text, &splice.ranges, fold)?;
     Ok(0)
 }
 
 /// Draws the rows of a suggestion that is shown as removed lines and one line. Where no patch touches this, one row
 /// stays empty.
 fn draw_changed(
-    alloc: Global,
     buffer: &mut StyledBuffer,
     layout: &SuggestionLayout,
     suggestion: &PreparedSuggestion<'_>,
@@ -144,14 +142,13 @@ fn draw_changed(
         line,
         added,
     };
-    draw_diff(alloc, buffer, layout, &diff)?;
+    draw_diff(buffer, layout, &diff)?;
     Ok(0)
 }
 
 /// Draws the lines that are removed where nothing stands in their place. But in a diff they begin in the row that the
 /// suggestion begins with.
 fn draw_emptied(
-    alloc: Global,
     buffer: &mut StyledBuffer,
     layout: &SuggestionLayout,
     suggestion: &PreparedSuggestion<'_>,
@@ -169,10 +166,10 @@ fn draw_emptied(
     if suggestion.kind == DisplaySuggestion::Diff {
         draw_head(buffer, layout, start)?;
         let row = buffer.num_lines();
-        return draw_removed_lines(alloc, buffer, layout, row, &removed);
+        return draw_removed_lines(buffer, layout, row, &removed);
     }
     let row = first_row(buffer, start);
-    draw_removed_lines(alloc, buffer, layout, row, &removed)
+    draw_removed_lines(buffer, layout, row, &removed)
 }
 
 /// The row that a suggestion begins with: the row below all others, or the last one, if that is there for it.

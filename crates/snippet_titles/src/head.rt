@@ -9,7 +9,7 @@ use crate::origin::{FileStart, OriginLayout, OriginLocation, begin_file_row, dra
 use crate::separators::draw_separator;
 use snippet_grid::StyledBuffer;
 use snippet_style::DecorStyle;
-use std::alloc::{AllocError, Global};
+use std::alloc::AllocError;
 
 /// Draws what the group's primary snippet begins with, where it has no path, below all that stands in the grid. The
 /// snippet may be the group's `first` element.
@@ -52,7 +52,6 @@ pub fn draw_opening_head(
 ///
 /// There is no memory for the rows. The grid may then hold some of them.
 pub fn draw_primary_head(
-    alloc: Global,
     buffer: &mut StyledBuffer,
     layout: OriginLayout,
     first: bool,
@@ -62,7 +61,7 @@ pub fn draw_primary_head(
     ensures rows { OnOk result (buffer.new ≡ buffer.old ++ snippet_head layout true first (Some path.now) place) }
 {
     let base = layout.base;
-    draw_origin(alloc, buffer, layout, primary_start(first), path, place)?;
+    draw_origin(buffer, layout, primary_start(first), path, place)?;
     draw_separator(buffer, base)
 }
 
@@ -78,7 +77,6 @@ pub fn draw_primary_head(
 ///
 /// There is no memory for the rows. The grid may then hold some of them.
 pub fn draw_secondary_head(
-    alloc: Global,
     buffer: &mut StyledBuffer,
     layout: OriginLayout,
     path: &str,
@@ -88,7 +86,7 @@ pub fn draw_secondary_head(
 {
     let base = layout.base;
     draw_separator(buffer, base)?;
-    draw_origin(alloc, buffer, layout, FileStart::Secondary, path, place)?;
+    draw_origin(buffer, layout, FileStart::Secondary, path, place)?;
     draw_separator(buffer, base)
 }
 

@@ -38,7 +38,6 @@ use std::alloc::{AllocError, Global};
 ///                   in the arms of a match
 ///
 pub fn draw_heading<'a>(
-    alloc: Global,
     buffer: &mut StyledBuffer<'a>,
     hyperlink: bool,
     style: TitleStyle,
@@ -60,14 +59,13 @@ pub fn draw_heading<'a>(
         row,
         cell: style.start(),
     };
-    draw_label(alloc, buffer, end, hyperlink, roles, heading)?;
-    draw_text(alloc, buffer, row, &style, roles.text, heading)
+    draw_label(buffer, end, hyperlink, roles, heading)?;
+    draw_text(buffer, row, &style, roles.text, heading)
 }
 
 /// Draws what stands before a heading's text after the cells of a row.
 #[inline(always)]
 pub(crate) fn draw_label<'a>(
-    alloc: Global,
     buffer: &mut StyledBuffer<'a>,
     end: RowEnd,
     hyperlink: bool,
@@ -81,6 +79,7 @@ pub(crate) fn draw_label<'a>(
     ensures extended { OnOk result (buffer.new
         ≡ appended buffer.old end.row (label_cells hyperlink roles (heading_of heading.now))) }
 {
+    let alloc = buffer.allocator();
     let row = end.row;
     let level = heading.level();
     let hidden = is_hidden(level);
@@ -95,7 +94,7 @@ pub(crate) fn draw_label<'a>(
         hyperlink,
         hidden,
     };
-    draw_id(alloc, buffer, end, style, heading.id())?;
+    draw_id(buffer, end, style, heading.id())?;
     extend_row(buffer, row, colon(hidden, heading.id()), roles.colon)?;
     Ok(())
 }
@@ -169,7 +168,6 @@ fn text_of(alloc: Global, heading: &dyn MessageOrTitle) -> Result<CowStr<'_>, Al
 /// below a label of its width.
 #[inline(always)]
 pub(crate) fn draw_text(
-    alloc: Global,
     buffer: &mut StyledBuffer,
     row: usize,
     style: &TitleStyle,
@@ -184,6 +182,7 @@ pub(crate) fn draw_text(
         (indent_cells style.now (spec.label_width (heading_of heading.now))) role
         (spec.heading_lines (heading_of heading.now)))) }
 {
+    let alloc = buffer.allocator();
     let text = heading.text();
     // Most texts are printable ASCII: trusted or not they are drawn as they are, and hold no line feed.
     if is_plain(text) {

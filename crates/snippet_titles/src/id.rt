@@ -33,7 +33,6 @@ pub(crate) struct IdStyle {
 ///     [E0308]
 ///
 pub(crate) fn draw_id<'a>(
-    alloc: Global,
     buffer: &mut StyledBuffer<'a>,
     end: RowEnd,
     style: IdStyle,
@@ -46,6 +45,7 @@ pub(crate) fn draw_id<'a>(
     ensures extended { OnOk result (buffer.new ≡ appended buffer.old end.row
         (id_cells style.hyperlink style.hidden style.role (option_copied id.entry))) }
 {
+    let alloc = buffer.allocator();
     let RowEnd { row, cell } = end;
     let IdStyle {
         role,

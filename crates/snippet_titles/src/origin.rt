@@ -140,7 +140,6 @@ fn push_number(text: &mut String, number: usize) -> Result<(), AllocError>
 ///
 /// There is no memory for the row. The grid may then hold a part of it.
 pub fn draw_origin(
-    alloc: Global,
     buffer: &mut StyledBuffer,
     layout: OriginLayout,
     start: FileStart,
@@ -149,6 +148,7 @@ pub fn draw_origin(
 ) -> Result<(), AllocError>
     ensures row { OnOk result (buffer.new ≡ buffer.old ++ origin_row layout start path.now place ∷ []) }
 {
+    let alloc = buffer.allocator();
     let text = origin_text(alloc, path, place, layout.anonymized)?;
     let row = begin_file_row(buffer, layout, start)?;
     buffer.append(row, text.as_str(), ElementStyle::LineAndColumn)

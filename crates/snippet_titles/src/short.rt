@@ -100,7 +100,6 @@ impl<'a> ShortTitle<'a> {
         }
         let mut buffer = StyledBuffer::new(alloc);
         draw_short(
-            alloc,
             &mut buffer,
             parts.hyperlink,
             parts.before.as_str(),
@@ -191,7 +190,6 @@ fn no_id<'r>() -> ShownId<'r>
 /// Draws a title in the short form below all that stands in the grid: after a text, and its first row goes on with
 /// another.
 fn draw_short<'a>(
-    alloc: Global,
     buffer: &mut StyledBuffer<'a>,
     hyperlink: bool,
     before: &str,
@@ -214,7 +212,7 @@ fn draw_short<'a>(
         row,
         cell: char_count(before),
     };
-    draw_label(alloc, buffer, end, hyperlink, roles, heading)?;
-    draw_text(alloc, buffer, row, &TitleStyle::Short, roles.text, heading)?;
+    draw_label(buffer, end, hyperlink, roles, heading)?;
+    draw_text(buffer, row, &TitleStyle::Short, roles.text, heading)?;
     extend_row(buffer, row, after, ElementStyle::NoStyle)
 }

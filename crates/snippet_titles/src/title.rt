@@ -7,12 +7,11 @@ use crate::heading::draw_heading;
 use crate::style::TitleStyle;
 use snippet_grid::StyledBuffer;
 use snippet_model::snippet::Title;
-use std::alloc::{AllocError, Global};
+use std::alloc::AllocError;
 
 /// Draws the title of a group below all that stands in the grid. Where links are on, the text of its id links to its
 /// URL.
 pub fn draw_title<'a>(
-    alloc: Global,
     buffer: &mut StyledBuffer<'a>,
     hyperlink: bool,
     title: &'a Title<'a>,
@@ -20,5 +19,5 @@ pub fn draw_title<'a>(
     requires fits { TitleFits title.now }
     ensures rows { OnOk result (buffer.new ≡ buffer.old ++ title_rows hyperlink title.now) }
 {
-    draw_heading(alloc, buffer, hyperlink, TitleStyle::Title, title)
+    draw_heading(buffer, hyperlink, TitleStyle::Title, title)
 }

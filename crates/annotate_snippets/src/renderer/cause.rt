@@ -31,7 +31,7 @@ use snippet_titles::{
     draw_separator,
 };
 use snippet_window::margin_for;
-use std::alloc::{AllocError, Global};
+use std::alloc::AllocError;
 
 /// Draws an annotated snippet below all that stands in the grid.
 ///
@@ -39,7 +39,6 @@ use std::alloc::{AllocError, Global};
 ///
 /// There is no memory for the rows.
 pub fn draw_cause(
-    alloc: Global,
     buffer: &mut StyledBuffer,
     renderer: &Renderer,
     layout: Layout,
@@ -51,14 +50,13 @@ pub fn draw_cause(
     ensures rows { OnOk result (buffer.new ≡ buffer.old
         ++ cells_of (snippet_rows renderer.now layout around cause.entry.snippet.now)) }
 {
-    draw_cause_head(alloc, buffer, renderer, layout, around, &cause)?;
-    draw_cause_lines(alloc, buffer, renderer, layout, around.closes(), cause)?;
+    draw_cause_head(buffer, renderer, layout, around, &cause)?;
+    draw_cause_lines(buffer, renderer, layout, around.closes(), cause)?;
     draw_after(buffer, renderer, layout, around)
 }
 
 /// Draws what an annotated snippet begins with below all that stands in the grid.
 fn draw_cause_head(
-    alloc: Global,
     buffer: &mut StyledBuffer,
     renderer: &Renderer,
     layout: Layout,
@@ -80,15 +78,14 @@ fn draw_cause_head(
     let path = path.as_str();
     let place = place_in_head(around.primary, cause);
     if around.primary {
-        draw_primary_head(alloc, buffer, origins, around.first, path, place)
+        draw_primary_head(buffer, origins, around.first, path, place)
     } else {
-        draw_secondary_head(alloc, buffer, origins, path, place)
+        draw_secondary_head(buffer, origins, path, place)
     }
 }
 
 /// Draws the lines of an annotated snippet below all that stands in the grid. The group's window may close with them.
 fn draw_cause_lines(
-    alloc: Global,
     buffer: &mut StyledBuffer,
     renderer: &Renderer,
     layout: Layout,
@@ -101,6 +98,7 @@ fn draw_cause_lines(
         ++ cells_of (rows_of_lines renderer.now layout closes s []
         (shown_lines s.fold (cow_str_bytes s.source) s.markers.items))) }
 {
+    let alloc = buffer.allocator();
     let numbers = line_numbers(renderer, cause.snippet.line_numbering);
     let room = renderer.term_width.saturating_sub(layout.code);
     let kept = cause.kept;
@@ -111,7 +109,7 @@ fn draw_cause_lines(
         numbers,
         closes,
     };
-    draw_snippet(alloc, buffer, layout, view, &lines)
+    draw_snippet(buffer, layout, view, &lines)
 }
 
 /// Draws what stands below an annotated snippet's lines, below all that stands in the grid: what sets off a message, or

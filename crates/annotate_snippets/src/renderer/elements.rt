@@ -26,7 +26,7 @@ use snippet_titles::{
     FileStart, MessageContext, OriginLayout, OriginLocation, TitleStyle, draw_closing,
     draw_heading, draw_origin, draw_padding,
 };
-use std::alloc::{AllocError, Global};
+use std::alloc::AllocError;
 
 /// Draws a group's elements below all that stands in the grid.
 ///
@@ -34,7 +34,6 @@ use std::alloc::{AllocError, Global};
 ///
 /// There is no memory for the rows.
 pub fn draw_elements<'a>(
-    alloc: Global,
     buffer: &mut StyledBuffer<'a>,
     renderer: &Renderer,
     group: &GroupContext<'_>,
@@ -45,16 +44,16 @@ pub fn draw_elements<'a>(
     ensures rows { OnOk result (buffer.new ≡ buffer.old ++ flat_map cells_of (rows_of_elements renderer.now
         group.now.layout group.now.place (option_copied group.now.file) (map element_of elements.entry.items))) }
 {
+    let alloc = buffer.allocator();
     let around = contexts_of(alloc, group.place, group.file, &elements)?;
     for (i, element) in elements.into_iter().enumerate() {
-        draw_element(alloc, buffer, renderer, group.layout, around[i], element)?;
+        draw_element(buffer, renderer, group.layout, around[i], element)?;
     }
     Ok(())
 }
 
 /// Draws an element below all that stands in the grid; but a suggestion may begin in the last row there.
 pub fn draw_element<'a>(
-    alloc: Global,
     buffer: &mut StyledBuffer<'a>,
     renderer: &Renderer,
     layout: Layout,
@@ -72,15 +71,13 @@ pub fn draw_element<'a>(
     match element {
         PreparedElement::Message(message) => {
             let style = message_style(layout, around);
-            draw_message(alloc, buffer, renderer.hyperlink, style, message)
+            draw_message(buffer, renderer.hyperlink, style, message)
         }
-        PreparedElement::Cause(cause) => draw_cause(alloc, buffer, renderer, layout, around, cause),
+        PreparedElement::Cause(cause) => draw_cause(buffer, renderer, layout, around, cause),
         PreparedElement::Suggestion(suggestion) => {
-            draw_patches(alloc, buffer, renderer, layout, around, &suggestion)
+            draw_patches(buffer, renderer, layout, around, &suggestion)
         }
-        PreparedElement::Origin(origin) => {
-            draw_place(alloc, buffer, renderer, layout, around, origin)
-        }
+        PreparedElement::Origin(origin) => draw_place(buffer, renderer, layout, around, origin),
         PreparedElement::Padding(_) => {
             let last = around.next.is_nothing();
             draw_padding(buffer, layout, last)
@@ -95,7 +92,6 @@ pub fn draw_element<'a>(
 ///            second line
 /// ```
 pub fn draw_message<'a>(
-    alloc: Global,
     buffer: &mut StyledBuffer<'a>,
     hyperlink: bool,
     style: TitleStyle,
@@ -105,7 +101,7 @@ pub fn draw_message<'a>(
     ensures rows { OnOk result (buffer.new ≡ buffer.old
         ++ heading_rows hyperlink style (heading_of_message message.now)) }
 {
-    draw_heading(alloc, buffer, hyperlink, style, message)
+    draw_heading(buffer, hyperlink, style, message)
 }
 
 /// Where a message stands.
@@ -122,7 +118,6 @@ pub fn message_style(layout: Layout, around: ElementContext) -> TitleStyle
 ///   --> src/main.rs:3:5
 /// ```
 fn draw_place(
-    alloc: Global,
     buffer: &mut StyledBuffer,
     renderer: &Renderer,
     layout: Layout,
@@ -137,14 +132,7 @@ fn draw_place(
         column: origin.char_column,
     };
     let start = origin_start(around);
-    draw_origin(
-        alloc,
-        buffer,
-        origins,
-        start,
-        origin.path.as_str(),
-        location,
-    )?;
+    draw_origin(buffer, origins, start, origin.path.as_str(), location)?;
     if around.closes_after() {
         draw_closing(buffer, layout)?;
     }

@@ -56,7 +56,6 @@ pub struct ReportContext<'r> {
 ///
 /// There is no memory for the rows.
 pub fn draw_at<'a>(
-    alloc: Global,
     renderer: &Renderer,
     report: &ReportContext<'_>,
     number: usize,
@@ -76,7 +75,7 @@ pub fn draw_at<'a>(
         ≡ group_rows (page_at renderer.now report.now.groups.now number group.entry.group.now)) }
 {
     let around = group_context(renderer, report, number, &group);
-    draw_group(alloc, renderer, &around, group, empty)
+    draw_group(renderer, &around, group, empty)
 }
 
 /// What the rows of the report's group of this number, from 0, depend on beside the group.
@@ -107,7 +106,6 @@ pub fn group_context<'r>(
 
 /// The grid of a group, drawn in an empty grid.
 fn draw_group<'a>(
-    alloc: Global,
     renderer: &Renderer,
     around: &GroupContext<'_>,
     group: PreparedGroup<'a>,
@@ -124,8 +122,8 @@ fn draw_group<'a>(
     let level = group.group.level;
     if let Some(title) = &group.group.title {
         let next = next_of(&group.elements);
-        draw_title(alloc, &mut buffer, renderer, around, next, title)?;
+        draw_title(&mut buffer, renderer, around, next, title)?;
     }
-    draw_elements(alloc, &mut buffer, renderer, around, group.elements)?;
+    draw_elements(&mut buffer, renderer, around, group.elements)?;
     Ok(GroupGrid { level, buffer })
 }

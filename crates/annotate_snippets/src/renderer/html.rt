@@ -44,7 +44,7 @@ pub fn page_html(
     let mut text = String::new(alloc);
     let mut buffer = StyledBuffer::new(alloc);
     for (i, group) in prepared.into_iter().enumerate() {
-        let grid = draw_at(alloc, renderer, &report, i, group, buffer)?;
+        let grid = draw_at(renderer, &report, i, group, buffer)?;
         text = html_with(text, &grid, i == 0)?;
         buffer = grid.buffer;
         buffer.clear();

@@ -71,7 +71,7 @@ fn page_texts(
     let mut pages = empty_pages(alloc, sheets)?;
     let mut buffer = StyledBuffer::new(alloc);
     for (i, group) in prepared.into_iter().enumerate() {
-        let grid = draw_at(alloc, renderer, &report, i, group, buffer)?;
+        let grid = draw_at(renderer, &report, i, group, buffer)?;
         print_grid(alloc, &grid, i == 0, &mut pages)?;
         buffer = grid.buffer;
         buffer.clear();

@@ -108,7 +108,7 @@ fn add_title<'a>(
         add_plain_title(alloc, page, codes, title)?;
         draw_below_title(&mut page.buffer, around, next, title)
     } else {
-        draw_title(alloc, &mut page.buffer, renderer, around, next, title)
+        draw_title(&mut page.buffer, renderer, around, next, title)
     }
 }
 
@@ -182,14 +182,7 @@ fn add_elements<'a>(
             let style = message_style(group.layout, place);
             add_message(alloc, page, codes, renderer.hyperlink, style, message)?;
         } else {
-            draw_element(
-                alloc,
-                &mut page.buffer,
-                renderer,
-                group.layout,
-                place,
-                element,
-            )?;
+            draw_element(&mut page.buffer, renderer, group.layout, place, element)?;
         }
     }
     flush(alloc, page, codes)?;
@@ -216,7 +209,7 @@ fn add_message<'a>(
     if is_plain_message(hyperlink, message) {
         add_plain_message(alloc, page, codes, style, message)
     } else {
-        draw_message(alloc, &mut page.buffer, hyperlink, style, message)
+        draw_message(&mut page.buffer, hyperlink, style, message)
     }
 }
 

@@ -22,7 +22,7 @@ use crate::renderer::gutter::line_numbers;
 use snippet_grid::{Layout, StyledBuffer};
 use snippet_suggest::{PreparedSuggestion, SuggestionLayout, SuggestionStart, draw_suggestion};
 use snippet_titles::{OriginLocation, draw_primary_head};
-use std::alloc::{AllocError, Global};
+use std::alloc::AllocError;
 
 /// Draws a snippet of patches below all that stands in the grid, or from its last row on.
 ///
@@ -30,7 +30,6 @@ use std::alloc::{AllocError, Global};
 ///
 /// There is no memory for the rows.
 pub fn draw_patches(
-    alloc: Global,
     buffer: &mut StyledBuffer,
     renderer: &Renderer,
     layout: Layout,
@@ -45,20 +44,19 @@ pub fn draw_patches(
         ++ drawn_rows renderer.now layout around found (Suggestion suggestion.now.snippet.now)) }
 {
     if around.start == SuggestionStart::Path {
-        draw_path(alloc, buffer, renderer, layout, around.first, suggestion)?;
+        draw_path(buffer, renderer, layout, around.first, suggestion)?;
     }
     let suggested = SuggestionLayout {
         base: layout,
         numbers: line_numbers(renderer, suggestion.snippet.line_numbering),
     };
     let follows = !around.next.is_nothing();
-    draw_suggestion(alloc, buffer, &suggested, suggestion, around.start, follows)
+    draw_suggestion(buffer, &suggested, suggestion, around.start, follows)
 }
 
 /// Draws the path of a snippet of patches below all that stands in the grid, and the row that sets it off. A snippet
 /// without a path has neither.
 fn draw_path(
-    alloc: Global,
     buffer: &mut StyledBuffer,
     renderer: &Renderer,
     layout: Layout,
@@ -74,7 +72,7 @@ fn draw_path(
     };
     let origins = origin_layout(renderer, layout);
     let place = first_place(suggestion);
-    draw_primary_head(alloc, buffer, origins, first, path.as_str(), place)
+    draw_primary_head(buffer, origins, first, path.as_str(), place)
 }
 
 /// The place at which the first patch starts.

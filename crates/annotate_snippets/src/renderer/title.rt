@@ -9,7 +9,7 @@ use crate::renderer::element_context::{GroupContext, Next};
 use snippet_grid::StyledBuffer;
 use snippet_model::snippet::Title;
 use snippet_titles::{draw_closing, draw_separator};
-use std::alloc::{AllocError, Global};
+use std::alloc::AllocError;
 
 /// Draws a group's title below all that stands in the grid, with what sets off a message that follows, or closes the
 /// group.
@@ -23,7 +23,6 @@ use std::alloc::{AllocError, Global};
 ///
 /// There is no memory for the rows.
 pub fn draw_title<'a>(
-    alloc: Global,
     buffer: &mut StyledBuffer<'a>,
     renderer: &Renderer,
     group: &GroupContext<'_>,
@@ -34,7 +33,7 @@ pub fn draw_title<'a>(
     ensures rows { OnOk result (buffer.new ≡ buffer.old
         ++ title_part renderer.now group.now.layout group.now.place next (Some title.now)) }
 {
-    snippet_titles::draw_title(alloc, buffer, renderer.hyperlink, title)?;
+    snippet_titles::draw_title(buffer, renderer.hyperlink, title)?;
     draw_below_title(buffer, group, next, title)
 }
 

@@ -202,7 +202,7 @@ fn write_groups<W: Write>(
     let mut codes = SheetCodes::new(alloc, &renderer.stylesheet);
     let mut buffer = StyledBuffer::new(alloc);
     for (i, group) in prepared.into_iter().enumerate() {
-        let grid = draw_at(alloc, renderer, &report, i, group, buffer)?;
+        let grid = draw_at(renderer, &report, i, group, buffer)?;
         write_grid(alloc, &grid, i == 0, &mut codes, out)?;
         buffer = grid.buffer;
         buffer.clear();
