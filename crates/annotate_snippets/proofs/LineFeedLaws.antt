@@ -38,7 +38,8 @@ use Rattle.snippet_parts.specs.declared.entries.LineAnnotationType.{LineAnnotati
 use Rattle.snippet_parts.specs.declared.entries.LineAnnotationType.TheVariants.{Singleline, MultilineStart, MultilineEnd, MultilineLine}
 use Rattle.snippet_parts.proofs.PartLemmas.{made-all}
 use Rattle.snippet_strokes.specs.Bars.{Bar, bars_apart, ends_of_bars, is_whole_line}
-use Rattle.snippet_strokes.specs.Cuts.{Stretch, cut_row, cuts_of, overlapped}
+use Rattle.snippet_strokes.specs.Cuts.{Stretch, cut_row, overlapped}
+use Rattle.snippet_strokes.specs.LookedCuts.{cuts_of}
 use Rattle.snippet_labels.specs.PlacedEntries.{label_text, shifted}
 use Rattle.snippet_strokes.proofs.LineFacts.{AreLineRows, AreOwnRows, StrokesPainted}
 use Rattle.snippet_strokes.specs.Painting.{first_glyph, mark_end, painting_order, mark_of, marks_of, stroke_role}

@@ -6,7 +6,7 @@ use Rattle.std.proofs.lemmas.List.{places, same_lists, map-append, append_assoc,
 use Rattle.std.proofs.lemmas.List.Sums.{sum_by-cons}
 use Rattle.std.proofs.lemmas.List.Elements.{All-append, All-take, All-drop}
 use Rattle.std.proofs.Math.Seq.{set-append_seam}
-use Rattle.std.specs.Prelude.{◌&&◌, not}
+use Rattle.std.specs.Prelude.{◌&&◌, ◌/◌, max, not}
 use Rattle.std.specs.List.{list_any, slice_index_or}
 use Rattle.snippet_parts.specs.declared.entries.LineAnnotation.{LineAnnotation}
 use Rattle.snippet_parts.specs.Entries.{is_wide_entry}
@@ -19,14 +19,21 @@ use Rattle.snippet_style.specs.Cell.{Cell, text_cells}
 use Rattle.snippet_grid.specs.Print.{row_text}
 use Rattle.snippet_grid.proofs.ChangeLemmas.{changed_within_one}
 use Rattle.snippet_grid.proofs.ReplaceLemmas.{replaced_there, replaced_empty, replaced_past}
-use Rattle.snippet_grid.specs.Layout.{Layout}
+use Rattle.snippet_grid.specs.Layout.{Layout, code_cell}
 use Rattle.snippet_labels.specs.declared.positions.PlacedEntry.{PlacedEntry}
 use Rattle.snippet_model.specs.FreeRows.{IsFreeCell}
-use Rattle.snippet_strokes.specs.Cuts.{Stretch, cut_of, cut_row, cut_rows, cuts_of, is_wide_at, middle_of}
+use Rattle.snippet_strokes.specs.Cuts.{Stretch, cut_of, cut_row}
+use Rattle.snippet_strokes.specs.LookedCuts.{cut_rows, cuts_of, is_wide_at}
 use Rattle.snippet_strokes.proofs.PlainEntries.{wide_entries}
 use Rattle.snippet_strokes.proofs.SeenRows.{IsCut}
 use Rattle.snippet_strokes.proofs.CellLemmas.{free_placeholder}
 use Rattle.snippet_grid.proofs.RowLemmas.{row_text-text_cells}
+
+-- the cells of the middle of an entry
+abbrev middle_of : Layout → ℕ → LineAnnotation → Stretch
+middle_of layout room e =
+    let kept = max 5 (room / 3) in
+    record { from = code_cell layout e.start.display + kept; to = code_cell layout e.end.display - kept }
 
 -- nothing was replaced, or fewer stretches than so many
 AreReplaced-none : (placeholder : List ℕ) (n : ℕ) (text : List ℕ) → AreReplaced placeholder n text text

@@ -33,6 +33,7 @@ pub mod LineExamples
 pub mod LineLemmas
 pub mod LineRowLemmas
 pub mod LineValueLaws
+pub mod LookedCuts
 pub mod LowerWrites
 pub mod MarkLemmas
 pub mod MarkStrokeLemmas

@@ -17,7 +17,8 @@ use Rattle.snippet_strokes.proofs.HeldLemmas.{held, held_are, painting_order-hel
 use Rattle.snippet_strokes.specs.declared.bars.BarStroke.TheVariants.{Top, Solid}
 use Rattle.snippet_strokes.specs.declared.bars.OpenBar.{OpenBar}
 use Rattle.snippet_strokes.specs.Bars.{bar_of, bars_apart, ends_of_bars, is_beside, is_whole_line, with_bars}
-use Rattle.snippet_strokes.specs.Cuts.{Stretch, cut_row, cuts_of, overlapped}
+use Rattle.snippet_strokes.specs.Cuts.{Stretch, cut_row, overlapped}
+use Rattle.snippet_strokes.specs.LookedCuts.{cuts_of}
 use Rattle.snippet_strokes.specs.Drawing.{row_count}
 use Rattle.snippet_strokes.proofs.LineFacts.{StrokesPainted}
 use Rattle.snippet_strokes.specs.LineRows.{line_rows, own_rows}

@@ -17,7 +17,8 @@ use Rattle.snippet_parts.specs.declared.entries.LineAnnotationType.{LineAnnotati
 use Rattle.snippet_parts.specs.declared.entries.LineAnnotationType.TheVariants.{MultilineEnd, MultilineLine, MultilineStart, Singleline}
 use Rattle.snippet_labels.specs.Positions.{has_label, label_place, placed_of}
 use Rattle.snippet_labels.specs.declared.positions.PlacedEntry.{PlacedEntry}
-use Rattle.snippet_strokes.specs.Cuts.{cut_row, cuts_of, overlapped}
+use Rattle.snippet_strokes.specs.Cuts.{cut_row, overlapped}
+use Rattle.snippet_strokes.specs.LookedCuts.{cuts_of}
 use Rattle.snippet_strokes.specs.Drawing.{HasRows, row_count}
 use Rattle.snippet_strokes.specs.Painting.{first_glyph, mark_end, mark_of, marks_of, painting_order, stroke_role}
 use Rattle.snippet_strokes.specs.SourceRows.{bare_row}

@@ -1,7 +1,7 @@
 -- What is written for the strokes of a line, as lists of writes: its labels, its stems, the lines that lead to bars, the bars of
 -- the spans that begin or end on it, and all of them, over which its marks are painted.
 use Rattle.std.specs.Prelude.{ℕ, ◌+◌, ◌-◌, List, [], ◌∷◌, map, if◌then◌else◌, ◌==◌, ◌&&◌, nat_le, Bool, false, ◌++◌, replicate, drop, take}
-use Rattle.std.specs.List.{range_with_len, flat_map}
+use Rattle.std.specs.List.{range_with_len, flat_map, zip}
 use Rattle.snippet_style.specs.declared.role.ElementStyle.{ElementStyle}
 use Rattle.snippet_strokes.specs.Writes.{Write, glyph_at, painted, stretch_of}
 use Rattle.snippet_style.specs.Glyphs.{strokes_of}
@@ -17,7 +17,7 @@ use Rattle.snippet_style.specs.Separators.{separator_row}
 use Rattle.snippet_strokes.specs.Drawing.{foot_glyph, row_count}
 use Rattle.snippet_strokes.specs.Painting.{mark_of, painting_order, stroke_role}
 use Rattle.snippet_labels.specs.Positions.{has_label, has_stem, label_place, placed_of}
-use Rattle.snippet_strokes.specs.Cuts.{cut_row, cuts_of, overlapped}
+use Rattle.snippet_strokes.specs.Cuts.{cut_of, cut_row, overlapped}
 use Rattle.snippet_strokes.specs.SourceRows.{bare_row}
 
 -- ---- labels
@@ -119,13 +119,15 @@ begun_rows layout closes count source =
 
 -- the rows of a line with the strokes of these entries, of which this is the source row: all strokes painted over the bare rows, of
 -- which there are as many as the entries ask for, and of the first two, the source row and that of the marks, what is cut where
--- entries are wide. The placeholder comes last, over all that is painted
+-- entries are wide. The placeholder comes last, over all that is painted. As the original does, what is known of the entry at a place in the
+-- order in which they are placed stands there for the one at the same place in the order in which marks are painted
 abbrev pub stroke_rows : Layout → ℕ → Bool → List LineAnnotation → List Cell → List (List Cell)
 stroke_rows layout room closes es source =
     let placed = placed_of es in
     let order = painting_order placed in
+    let cuts = flat_map (cut_of layout room) (zip order (overlapped placed)) in
     let whole = painted (line_strokes layout 0 (row_count placed + 1) placed order) (begun_rows layout closes (row_count placed) source) in
-    map (cut_row layout.decor (cuts_of layout room order (overlapped placed))) (take 2 whole) ++ drop 2 whole
+    map (cut_row layout.decor cuts) (take 2 whole) ++ drop 2 whole
 
 -- ---- a part of them, as its painter promises it
 
