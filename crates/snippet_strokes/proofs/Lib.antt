@@ -68,6 +68,7 @@ pub mod StemWrites
 pub mod StrokeCells
 pub mod StrokeGlyphs
 pub mod StrokeLemmas
+pub mod StrokeWords
 pub mod StrokeWrites
 pub mod StrokesInside
 pub mod TextLemmas

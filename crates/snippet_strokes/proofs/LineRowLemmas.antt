@@ -24,7 +24,8 @@ use Rattle.snippet_strokes.specs.Cuts.{Stretch, cut_row, overlapped}
 use Rattle.snippet_strokes.specs.LookedCuts.{cut_rows, cuts_of, is_wide_at}
 use Rattle.snippet_strokes.proofs.SeenRows.{CutsRows, IsCut}
 use Rattle.snippet_strokes.specs.SourceRows.{bare_row}
-use Rattle.snippet_strokes.specs.Strokes.{begun_rows, line_strokes, stroke_rows}
+use Rattle.snippet_strokes.specs.Strokes.{line_strokes, stroke_rows}
+use Rattle.snippet_strokes.proofs.StrokeWords.{begun_rows}
 use Rattle.snippet_strokes.specs.Writes.{Write, painted}
 use Rattle.snippet_strokes.proofs.PaintOrder.{IsPermutation-painting_order}
 use Rattle.snippet_strokes.proofs.BegunLemmas.{wide_entries-order}

@@ -23,7 +23,8 @@ use Rattle.snippet_strokes.specs.Drawing.{row_count}
 use Rattle.snippet_strokes.proofs.LineFacts.{StrokesPainted}
 use Rattle.snippet_strokes.specs.LineRows.{line_rows, own_rows}
 use Rattle.snippet_strokes.specs.StrokeRows.{highlighted_row, highlights}
-use Rattle.snippet_strokes.specs.Strokes.{begun_rows, stroke_rows, line_strokes}
+use Rattle.snippet_strokes.specs.Strokes.{stroke_rows, line_strokes}
+use Rattle.snippet_strokes.proofs.StrokeWords.{begun_rows}
 use Rattle.snippet_strokes.proofs.HeldStrokes.{cuts_of-held, overlapped-held, row_count-held, line_strokes-held}
 
 -- ---- the rows of strokes
