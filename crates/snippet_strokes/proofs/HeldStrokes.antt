@@ -12,7 +12,8 @@ use Rattle.snippet_strokes.specs.Painting.{marks_of}
 use Rattle.snippet_labels.specs.Positions.{are_starts, do_overlap, has_label, label_place}
 use Rattle.snippet_labels.specs.PlacedEntries.{label_role}
 use Rattle.snippet_strokes.proofs.HeldLemmas.{are_starts-held, held, label_text-plain, marks_of-held}
-use Rattle.snippet_strokes.specs.Cuts.{cut_of, overlapped}
+use Rattle.snippet_strokes.specs.Cuts.{overlapped}
+use Rattle.snippet_strokes.specs.LookedCuts.{cut_of}
 use Rattle.snippet_strokes.specs.LookedCuts.{cuts_of, is_met, is_overlapped, look_ends, meets, overlapped_by}
 use Rattle.snippet_strokes.specs.Drawing.{lowest_position, row_count}
 use Rattle.snippet_strokes.specs.Strokes.{connector_of, connectors_of, corner_of, corners_of, is_stem_covered, label_of, labels_of, stem_of, stems_of}

@@ -24,7 +24,8 @@ use Rattle.snippet_labels.specs.declared.positions.PlacedEntry.{PlacedEntry}
 use Rattle.snippet_strokes.specs.declared.bars.BarStroke.TheVariants.{Solid, Top}
 use Rattle.snippet_strokes.specs.declared.bars.OpenBar.{OpenBar}
 use Rattle.snippet_strokes.specs.Bars.{bars_apart, ends_of_bars, is_whole_line, with_bars}
-use Rattle.snippet_strokes.specs.Cuts.{cut_row, overlapped}
+use Rattle.snippet_strokes.specs.Cuts.{overlapped}
+use Rattle.snippet_strokes.specs.LookedCuts.{cut_row}
 use Rattle.snippet_strokes.specs.LookedCuts.{cuts_of}
 use Rattle.snippet_strokes.specs.Drawable.{AreDrawable}
 use Rattle.snippet_strokes.specs.Drawing.{row_count}

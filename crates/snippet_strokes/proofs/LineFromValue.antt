@@ -30,7 +30,8 @@ use Rattle.snippet_strokes.specs.declared.bars.BarStroke.TheVariants.{Top}
 use Rattle.snippet_strokes.specs.declared.bars.OpenBar.{OpenBar}
 use Rattle.snippet_strokes.specs.declared.snippet.LineView.{LineView}
 use Rattle.snippet_strokes.specs.Bars.{ends_of_bars, is_whole_line, with_bars}
-use Rattle.snippet_strokes.specs.Cuts.{cut_row, overlapped}
+use Rattle.snippet_strokes.specs.Cuts.{overlapped}
+use Rattle.snippet_strokes.specs.LookedCuts.{cut_row}
 use Rattle.snippet_strokes.specs.LookedCuts.{cuts_of}
 use Rattle.snippet_strokes.specs.Drawing.{row_count}
 use Rattle.snippet_strokes.specs.LineRows.{line_rows, own_rows}
@@ -47,6 +48,7 @@ use Rattle.snippet_strokes.proofs.PlacedOf.{HasTextLabel, placed_of_are, texts-s
 use Rattle.snippet_strokes.proofs.PositionLemmas.{row_count_some}
 use Rattle.snippet_strokes.proofs.SourceRowLemmas.{source_celled}
 use Rattle.snippet_strokes.proofs.StrokesInside.{painted_rows-count, stroke_rows-count}
+use Rattle.snippet_strokes.proofs.CutLemmas.{stroke_rows-cut}
 
 -- ---- the source row
 
@@ -112,7 +114,7 @@ stroke_rows_are_painted layout room closes es source texts =
       marks = get_or whole 1 [];
       lower = drop 2 whole;
       painted_are = sym parts;
-      rows_are = ap (λ rows. map cut (take 2 rows) ++ drop 2 rows) parts;
+      rows_are = stroke_rows-cut layout room closes es source ∙ ap (λ rows. map cut (take 2 rows) ++ drop 2 rows) parts;
       count = stroke_rows-count layout room closes es source;
     }
 

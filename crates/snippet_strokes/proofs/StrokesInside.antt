@@ -17,7 +17,8 @@ use Rattle.snippet_parts.specs.declared.entries.LineAnnotationType.{LineAnnotati
 use Rattle.snippet_parts.specs.declared.entries.LineAnnotationType.TheVariants.{MultilineEnd, MultilineLine, MultilineStart, Singleline}
 use Rattle.snippet_labels.specs.Positions.{has_label, label_place, placed_of}
 use Rattle.snippet_labels.specs.declared.positions.PlacedEntry.{PlacedEntry}
-use Rattle.snippet_strokes.specs.Cuts.{cut_row, overlapped}
+use Rattle.snippet_strokes.specs.Cuts.{overlapped}
+use Rattle.snippet_strokes.specs.LookedCuts.{cut_row}
 use Rattle.snippet_strokes.specs.LookedCuts.{cuts_of}
 use Rattle.snippet_strokes.specs.Drawing.{HasRows, row_count}
 use Rattle.snippet_strokes.specs.Painting.{first_glyph, mark_end, mark_of, marks_of, painting_order, stroke_role}
@@ -32,6 +33,7 @@ use Rattle.snippet_strokes.proofs.LabelWrites.{All-label_of}
 use Rattle.snippet_strokes.proofs.PositionLemmas.{HasRows-row_count, row_count_some}
 use Rattle.snippet_strokes.proofs.StemWrites.{All-stem_of, All-stems_of}
 use Rattle.snippet_strokes.proofs.WriteLaws.{All-flat_map, painted-count}
+use Rattle.snippet_strokes.proofs.CutLemmas.{stroke_rows-cut}
 
 module _ (layout : Layout) (count : ℕ) where
   -- a write into one of so many rows
@@ -129,5 +131,6 @@ stroke_rows-count layout room closes es source =
     let order : List PlacedEntry = painting_order placed in
     let whole : List (List Cell) = painted (line_strokes layout 0 (row_count placed + 1) placed order) (begun_rows layout closes (row_count placed) source) in
     let cut : List Cell → List Cell = cut_row layout.decor (cuts_of layout room order (overlapped placed)) in
-    length-append (map cut (take 2 whole)) (drop 2 whole) ∙ ap (λ n. n + length (drop 2 whole)) (length-map (take 2 whole) cut)
+    ap length (stroke_rows-cut layout room closes es source)
+    ∙ length-append (map cut (take 2 whole)) (drop 2 whole) ∙ ap (λ n. n + length (drop 2 whole)) (length-map (take 2 whole) cut)
     ∙ sym (length-append (take 2 whole) (drop 2 whole)) ∙ ap length (take-append-drop 2 whole) ∙ painted_rows-count layout closes placed order source

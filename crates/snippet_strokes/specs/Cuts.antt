@@ -1,10 +1,9 @@
 -- Which stretches of a line give their place to the placeholder, because the entries there are wide.
-use Rattle.std.specs.Prelude.{ℕ, fold, map, ◌+◌, ◌-◌, ◌/◌, ◌&&◌, ◌||◌, nat_le, nat_lt, not, max, Bool, List, [], ◌∷◌, length}
+use Rattle.std.specs.Prelude.{ℕ, map, ◌+◌, ◌-◌, ◌/◌, ◌&&◌, ◌||◌, nat_le, nat_lt, not, max, Bool, List, length}
 use Rattle.std.specs.Prelude.{if◌then◌else◌}
 use Rattle.std.specs.List.{enumerate_from, list_any}
 use Rattle.snippet_style.specs.Cell.{Cell, text_cells}
 use Rattle.snippet_style.specs.Glyphs.{placeholder_of}
-use Rattle.snippet_style.specs.declared.glyphs.DecorStyle.{DecorStyle}
 use Rattle.snippet_style.specs.declared.role.ElementStyle.TheVariants.{LineNumber}
 use Rattle.snippet_grid.specs.Grid.{replaced_within}
 use Rattle.snippet_parts.specs.Entries.{is_wide_entry}
@@ -27,20 +26,12 @@ overlapped placed =
 
 -- ---- what is cut
 
--- cells from one to before another
-pub record Stretch : Type 0 where
-  pub from : ℕ
-  pub to : ℕ
-
--- what is cut for an entry, in a room of so many columns, if it is wide and not overlapped: its middle. A third of the room stays at each of
--- its ends, and five columns at least
-abbrev pub cut_of : Layout → ℕ → PlacedEntry × Bool → List Stretch
-cut_of layout room pair =
+-- a row with the placeholder in place of the middle of an entry, in a room of so many columns, if the entry is wide and, as the flag beside
+-- it says, not overlapped. A third of the room stays at each end of it, and five columns at least. A stretch that the row doesn't hold stays
+abbrev pub cut_middle : Layout → ℕ → List Cell → PlacedEntry × Bool → List Cell
+cut_middle layout room row pair =
     let e = pair.0.entry in
     let kept = max 5 (room / 3) in
     if is_wide_entry room (length (placeholder_of layout.decor)) e && not pair.1
-    then record { from = code_cell layout e.start.display + kept; to = code_cell layout e.end.display - kept } ∷ [] else []
-
--- a row with the placeholder in place of these stretches; one that the row doesn't hold stays
-abbrev pub cut_row : DecorStyle → List Stretch → List Cell → List Cell
-cut_row decor cuts row = fold (λ cells cut. replaced_within cut.from cut.to (text_cells LineNumber (placeholder_of decor)) cells) row cuts
+    then replaced_within (code_cell layout e.start.display + kept) (code_cell layout e.end.display - kept)
+    (text_cells LineNumber (placeholder_of layout.decor)) row else row

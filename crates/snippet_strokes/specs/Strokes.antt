@@ -1,6 +1,6 @@
 -- What is written for the strokes of a line, as lists of writes: its labels, its stems, the lines that lead to bars, the bars of
 -- the spans that begin or end on it, and all of them, over which its marks are painted.
-use Rattle.std.specs.Prelude.{ℕ, ◌+◌, ◌-◌, List, [], ◌∷◌, map, if◌then◌else◌, ◌==◌, ◌&&◌, nat_le, Bool, false, ◌++◌, replicate, drop, take}
+use Rattle.std.specs.Prelude.{ℕ, ◌+◌, ◌-◌, List, [], ◌∷◌, map, if◌then◌else◌, ◌==◌, ◌&&◌, nat_le, Bool, false, ◌++◌, replicate, drop, take, fold}
 use Rattle.std.specs.List.{range_with_len, flat_map, zip}
 use Rattle.snippet_style.specs.declared.role.ElementStyle.{ElementStyle}
 use Rattle.snippet_strokes.specs.Writes.{Write, glyph_at, painted, stretch_of}
@@ -15,7 +15,7 @@ use Rattle.snippet_style.specs.Separators.{separator_row}
 use Rattle.snippet_strokes.specs.Drawing.{foot_glyph, row_count}
 use Rattle.snippet_strokes.specs.Painting.{mark_of, painting_order, stroke_role}
 use Rattle.snippet_labels.specs.Positions.{has_label, has_stem, label_place, placed_of, is_start_part}
-use Rattle.snippet_strokes.specs.Cuts.{cut_of, cut_row, overlapped}
+use Rattle.snippet_strokes.specs.Cuts.{cut_middle, overlapped}
 use Rattle.snippet_strokes.specs.SourceRows.{bare_row}
 use Rattle.std.specs.Option.{option_map_or}
 use Rattle.snippet_strokes.specs.Bars.{bar_at}
@@ -97,8 +97,8 @@ stroke_rows layout room closes es source =
     let count = row_count placed in
     let bare = replicate (count - 1) (separator_row layout.decor layout.gutter) ++ bare_row layout.decor layout.gutter closes ∷ [] in
     let whole = painted (line_strokes layout 0 (count + 1) placed order) (source ∷ bare) in
-    let cuts = flat_map (cut_of layout room) (zip order (overlapped placed)) in
-    map (cut_row layout.decor cuts) (take 2 whole) ++ drop 2 whole
+    let entries = zip order (overlapped placed) in
+    map (λ row. fold (cut_middle layout room) row entries) (take 2 whole) ++ drop 2 whole
 
 -- ---- a part of them, as its painter promises it
 

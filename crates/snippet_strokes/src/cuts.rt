@@ -193,7 +193,7 @@ fn cut_entry(
     requires columns { HasPlace placed.now.entry }
     requires small { HasNext row }
     ensures value { OnOk result (buffer.new ≡ spec.cut_rows layout.decor row
-        (rule.cut_of layout room (placed.now, overlapped)) buffer.old) }
+        (spec.cut_of layout room (placed.now, overlapped)) buffer.old) }
 {
     let entry = &placed.entry;
     if overlapped || !is_wide(room, layout.decor, entry) {

@@ -22,7 +22,8 @@ use Rattle.snippet_window.specs.Window.{chars_at, end_mark_column, is_near_left,
 use Rattle.snippet_parts.proofs.AmongLemmas.{Among, among_map, map_cases, among_flat_map, any_cases, least_le, greatest_most, all_pass, among_filter_map}
 use Rattle.snippet_parts.proofs.MarkLemmas.{start_column-from}
 use Rattle.snippet_lines.proofs.PlaceLemmas.{locations_of-end}
-use Rattle.snippet_window.proofs.MarginLaws.{columns, measured, measured_long, margin_of_spans, short_span, long_span, span_columns, span_ends}
+use Rattle.snippet_window.proofs.MarginLaws.{margin_of_spans}
+use Rattle.snippet_window.proofs.SpanMeasures.{columns, measured, measured_long, short_span, long_span, span_columns, span_ends}
 use Rattle.snippet_window.proofs.MeasureWords.{whitespaces_of, widths_of}
 use Rattle.snippet_window.specs.declared.margin.Margin.{Margin}
 
