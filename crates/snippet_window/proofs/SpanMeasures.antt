@@ -86,7 +86,8 @@ pub seen_texts : (infos : List AnnotatedLineInfo) → line_texts infos ≡ map (
 seen_texts [] = refl
 seen_texts (info ∷ infos) = ap (λ ts. chars info.line.now ∷ ts) (seen_texts infos)
 
-pub kept_texts : (s : Source) (marks : List Annotation) (ks : List ℕ) → map (λ (l : KeptLine). chars l.text) (map (kept_line s marks) ks) ≡ map (chars_at s.text) ks
+pub kept_texts : (s : Source) (marks : List Annotation) (ks : List ℕ)
+    → map (λ (l : KeptLine). chars l.text) (map (kept_line s marks) ks) ≡ map (chars_at s.text) ks
 kept_texts s marks [] = refl
 kept_texts s marks (k ∷ ks) = ap (λ ts. chars_at s.text k ∷ ts) (kept_texts s marks ks)
 

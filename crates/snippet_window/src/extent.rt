@@ -24,7 +24,7 @@ pub fn margin_for(lines: &[ShownLine], room: usize) -> Margin
     requires texts { All (λ line. TextFits line.info.line.now) lines.now }
     requires labels { All (λ line. All (λ e. IfSome e.label (λ t. TextFits t.now)) line.info.annotations.items)
         lines.now }
-    ensures value { result ≡ margin_of room (map seen_kept (kept_of lines.now)) }
+    ensures bounds { result ≡ margin_of room (map seen_kept (kept_of lines.now)) }
     ensures room { result.term_width ≡ room }
     ensures ordered { result.computed_left ≤ result.computed_right }
     ensures clear { All (λ info. All (StandsClear result) info.annotations.items) (kept_of lines.now) }

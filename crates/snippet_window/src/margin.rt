@@ -36,7 +36,7 @@ impl Margin {
         term_width: usize,
         max_line_len: usize,
     ) -> Margin
-        ensures value { result
+        ensures bounds { result
             ≡ margin_bounds whitespace_left span_left span_right label_right term_width max_line_len }
         ensures room { result.term_width ≡ term_width }
         ensures ordered { span_left ≤ span_right → result.computed_left ≤ result.computed_right }

@@ -23,13 +23,13 @@ returns-clause-clear c =
     let starts = starts_all (λ n. unwrap_or (least columns) 0 ≤ n) (entries_of (kept_of lines)) (least_below columns) in
     lines_all (StandsClear c.new.result) (kept_of lines) (λ k d within not_bar cut. omega (arith, starts k d within not_bar, c.new.ensures.padded cut, first))
 
-pub returns-clause-value : goal.returns-clause-value
-returns-clause-value c =
+pub returns-clause-bounds : goal.returns-clause-bounds
+returns-clause-bounds c =
     let lines = c.args.lines.now in
     let all : take c.loop-line.line-index lines ≡ lines = take_all c.loop-line.line-index lines (omega arith) in
     let x = c.loop-line.extent in
     let reaches = subst (λ ls. ReachesLines (kept_of ls) x) all c.loop-line.invariant in
-    c.new.ensures.value ∙ ap (λ n. margin_bounds n c.unwrap_or-2.result x.last x.label_end c.args.room x.widest) c.unwrap_or.ensures
+    c.new.ensures.bounds ∙ ap (λ n. margin_bounds n c.unwrap_or-2.result x.last x.label_end c.args.room x.widest) c.unwrap_or.ensures
     ∙ ap (λ n. margin_bounds (unwrap_or x.whitespace 0) n x.last x.label_end c.args.room x.widest) c.unwrap_or-2.ensures
     ∙ bounds_reached c.args.room (kept_of lines) x reaches
 

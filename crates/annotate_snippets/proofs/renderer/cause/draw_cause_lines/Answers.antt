@@ -138,7 +138,7 @@ returns c =
     let room : c.saturating_sub-room.result ≡ c.args.renderer.now.term_width - layout.code = c.saturating_sub-room.ensures
     ∙ ap (λ (l : Layout). c.args.renderer.now.term_width - l.code) c.layout.view_is in
     let view : LineView = record { margin = c.margin_for-margin.result; numbers = c.line_numbers-numbers.result; closes = c.args.closes } in
-    let margin : view.margin ≡ margin_in c.args.renderer.now layout s = c.margin_for-margin.ensures.value ∙ ap (margin_of c.saturating_sub-room.result) kept
+    let margin : view.margin ≡ margin_in c.args.renderer.now layout s = c.margin_for-margin.ensures.bounds ∙ ap (margin_of c.saturating_sub-room.result) kept
     ∙ ap (λ n. margin_of n (annotated_lines s.fold (numbered_source s) s.markers.items)) room in
     let shown = shown_of c.args.cause prepared c.args.cause.map refl (infos_of c.in_ok-lines.lines.items) lines (ap infos_of c.deref-2.ensures.value)
     c.in_ok-lines.ensures.value in
