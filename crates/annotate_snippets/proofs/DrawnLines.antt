@@ -8,7 +8,6 @@ use Rattle.snippet_model.specs.declared.snippet.Snippet.{Snippet}
 use Rattle.snippet_style.specs.Cell.{Cell, unlinked_cell}
 use Rattle.snippet_text.specs.Normalized.{norm}
 use Rattle.snippet_parts.specs.Annotated.{KeptLine, PartEntry, kept_line, seen_kept, seen_part}
-use Rattle.snippet_window.specs.Margin.{bounds_of}
 use Rattle.snippet_parts.specs.declared.entries.AnnotatedLineInfo.{AnnotatedLineInfo}
 use Rattle.snippet_parts.specs.declared.entries.LineAnnotation.{LineAnnotation}
 use Rattle.snippet_window.specs.declared.margin.Margin.{Margin}
@@ -25,7 +24,8 @@ use Rattle.snippet_grid.specs.Layout.{Layout}
 use Rattle.annotate_snippets.specs.Gutter.{line_numbers, number_text, numbered_source}
 use Rattle.annotate_snippets.specs.GraphicForm.{bars_on, entries_on}
 use Rattle.annotate_snippets.proofs.DrawnRows.{IsLineDrawn}
-use Rattle.annotate_snippets.specs.GraphicForm.{bounds_in, room_of}
+use Rattle.annotate_snippets.specs.GraphicForm.{margin_in}
+use Rattle.annotate_snippets.proofs.MarginWords.{room_of}
 
 bars_of_parts : (es : List LineAnnotation) → ends_of_bars es ≡ filter_map (λ (p : PartEntry). bar_at p.part (is_primary p.entry.kind)) (map seen_part es)
 bars_of_parts [] = refl
@@ -40,7 +40,7 @@ bars_seen s k es are =
     bars_of_parts es ∙ ap (filter_map (λ (p : PartEntry). bar_at p.part (is_primary p.entry.kind))) are
 
 module _ (r : Renderer) (layout : Layout) (s : Snippet Annotation) (margin : Margin) (room : margin.term_width ≡ room_of r layout)
-    (bounds : bounds_of margin ≡ bounds_in r layout s) where
+    (margin_is : margin ≡ margin_in r layout s) where
   abbrev numbers : LineNumbers
   numbers = line_numbers r s.line_numbering
 
@@ -63,7 +63,7 @@ module _ (r : Renderer) (layout : Layout) (s : Snippet Annotation) (margin : Mar
         are = ap (λ (l : KeptLine). l.parts) seen;
         margin = margin;
         room = room;
-        bounds = bounds;
+        margin_is = margin_is;
         text = text;
         text_is = ap (λ bytes. norm (chars bytes)) (ap (λ (l : KeptLine). l.text) seen);
         dropped = shows.dropped;

@@ -6,9 +6,7 @@ use Rattle.std.specs.Cow.{cow_str_bytes}
 use Rattle.snippet_style.specs.Cell.{Cell}
 use Rattle.snippet_text.specs.Normalized.{norm}
 use Rattle.snippet_text.specs.Width.{width_of}
-use Rattle.snippet_parts.specs.Annotated.{annotated_lines, seen_part}
-use Rattle.snippet_window.specs.Margin.{bounds_of}
-use Rattle.snippet_window.specs.Measures.{margin_of}
+use Rattle.snippet_parts.specs.Annotated.{seen_part}
 use Rattle.snippet_window.specs.Window.{chars_at, dropped_part}
 use Rattle.snippet_parts.specs.declared.entries.LineAnnotation.{LineAnnotation}
 use Rattle.snippet_window.specs.declared.margin.Margin.{Margin}
@@ -19,8 +17,8 @@ use Rattle.snippet_strokes.proofs.LineFacts.{AreLineRows, IsHighlighted, IsSourc
 use Rattle.snippet_strokes.specs.Snippet.{gap_row}
 use Rattle.annotate_snippets.specs.declared.renderer.Renderer.{Renderer}
 use Rattle.snippet_grid.specs.Layout.{Layout}
-use Rattle.annotate_snippets.specs.GraphicForm.{bars_on, entries_on}
-use Rattle.annotate_snippets.specs.Gutter.{number_text, numbered_source}
+use Rattle.annotate_snippets.specs.GraphicForm.{bars_on, entries_on, margin_in}
+use Rattle.annotate_snippets.specs.Gutter.{number_text}
 use Rattle.annotate_snippets.specs.Page.{RowName, SourceRow, Elision, OfferedLine, RemovedLine, Other, NamedRow, rows_below}
 
 -- the bars that are open below a row of this name, where these are open above it
@@ -40,11 +38,11 @@ pub record IsLineDrawn (r : Renderer) (layout : Layout) (closes : Bool) (s : Sni
   pub are : map seen_part entries ≡ entries_on s k
   pub margin : Margin
   pub room : margin.term_width ≡ r.term_width - layout.code
-  pub bounds : bounds_of margin ≡ margin_of (r.term_width - layout.code) (annotated_lines s.fold (numbered_source s) s.markers.items)
+  pub margin_is : margin ≡ margin_in r layout s
   pub text : List ℕ
   pub text_is : text ≡ norm (chars_at (cow_str_bytes s.source) k)
   pub dropped : ℕ
-  pub dropped_is : dropped ≡ width_of (dropped_part (bounds_of margin).left text)
+  pub dropped_is : dropped ≡ width_of (dropped_part margin.computed_left text)
   pub plain : List Cell
   pub shows : IsSourceRow layout (number_text r s.line_numbering layout.gutter (s.line_start + k)) (window_cells layout.decor margin text) plain
   pub highlighted : List Cell

@@ -7,7 +7,6 @@ use Rattle.snippet_model.specs.declared.snippet.Snippet.{Snippet}
 use Rattle.snippet_style.specs.Cell.{Cell}
 use Rattle.snippet_text.specs.Normalized.{norm}
 use Rattle.snippet_text.specs.Width.{width_of}
-use Rattle.snippet_window.specs.Margin.{bounds_of}
 use Rattle.snippet_window.specs.Window.{chars_at, dropped_part}
 use Rattle.snippet_window.specs.declared.margin.Margin.{Margin}
 use Rattle.snippet_strokes.specs.Bars.{Bar, open_past}
@@ -116,7 +115,7 @@ module _ (r : Renderer) (layout : Layout) (s : Snippet Annotation) where
   line_some closes open_bars k =
       let margin : Margin = margin_in r layout s in
       let text : List ℕ = norm (chars_at (cow_str_bytes s.source) k) in
-      line_rows-some layout margin.term_width closes text (width_of (dropped_part (bounds_of margin).left text)) _ open_bars
+      line_rows-some layout margin.term_width closes text (width_of (dropped_part margin.computed_left text)) _ open_bars
       (map line_entry (entries_on s k))
 
   -- and these are the names of those that show lines, or stand in place of lines

@@ -26,12 +26,12 @@ use Rattle.snippet_parts.proofs.PartLemmas.{All-unmapped}
 use Rattle.snippet_strokes.specs.Drawable.{AreDrawable}
 use Rattle.snippet_strokes.proofs.LineFacts.{CanBeShown}
 use Rattle.snippet_strokes.proofs.PlacedOf.{HasTextLabel}
-use Rattle.snippet_window.specs.Margin.{Bounds, bounds_of}
 use Rattle.snippet_window.specs.Measures.{StandsClear, margin_of}
 use Rattle.snippet_window.specs.declared.margin.Margin.{Margin}
-use Rattle.snippet_window.proofs.MarginFacts.{bounds_of_lines, bounds_seen, lines_clear, lines_sound}
+use Rattle.snippet_window.proofs.MarginFacts.{margin_of_lines, margin_seen, lines_clear, lines_sound}
 use Rattle.annotate_snippets.specs.DrawnReport.{HasRoomFor}
-use Rattle.annotate_snippets.specs.GraphicForm.{entries_on, lent, line_entry, margin_in, room_of}
+use Rattle.annotate_snippets.specs.GraphicForm.{entries_on, lent, line_entry, margin_in}
+use Rattle.annotate_snippets.proofs.MarginWords.{room_of}
 use Rattle.annotate_snippets.specs.Gutter.{line_numbers, numbered_source}
 use Rattle.annotate_snippets.specs.PreparedReport.{IsDrawable}
 use Rattle.annotate_snippets.specs.declared.renderer.Renderer.{Renderer}
@@ -111,19 +111,19 @@ module _ (r : Renderer) (layout : Layout) (s : Snippet Annotation) (drawable : I
   kept_is : map seen_kept kept ≡ annotated_lines s.fold source marks
   kept_is = infos_seen s drawable.spans (kept_lines s.fold (cow_str_bytes s.source) s.markers.items)
 
-  bounds_are : bounds_of (margin_in r layout s) ≡ bounds_of_lines room kept
-  bounds_are = sym (bounds_seen room kept ∙ ap (margin_of room) kept_is)
+  margin_is : margin_in r layout s ≡ margin_of_lines room kept
+  margin_is = sym (margin_seen room kept ∙ ap (margin_of room) kept_is)
 
   places : AllEntries HasColumnRoom kept
   places = places-fit source marks (kept_lines s.fold (cow_str_bytes s.source) s.markers.items) kept kept_is drawable.source
 
   -- the bounds of a snippet's window are in order
-  pub bounds_ordered : (bounds_of (margin_in r layout s)).left ≤ (bounds_of (margin_in r layout s)).right
+  pub bounds_ordered : (margin_in r layout s).computed_left ≤ (margin_in r layout s).computed_right
   bounds_ordered =
       omega (
         arith,
-        ap (λ (b : Bounds). b.left) bounds_are,
-        ap (λ (b : Bounds). b.right) bounds_are,
+        ap (λ (m : Margin). m.computed_left) margin_is,
+        ap (λ (m : Margin). m.computed_right) margin_is,
         (lines_sound room kept places).ordered,
       )
 
@@ -141,7 +141,7 @@ module _ (r : Renderer) (layout : Layout) (s : Snippet Annotation) (drawable : I
       let entries = each_of s drawable.spans (λ info. AreDrawable layout info.annotations.items) ks
       (lines_entries source marks drawable.spans ks infos same layout fits.bars drawable.source drawable.labels) in
       let clear = each_of s drawable.spans (λ info. All (StandsClear margin) info.annotations.items) ks
-      (shown_clear source marks drawable.spans s.fold kept infos margin kept_is same (lines_clear margin room kept bounds_are places)) in
+      (shown_clear source marks drawable.spans s.fold kept infos margin kept_is same (lines_clear margin room kept margin_is places)) in
       let within = snippet_shown-within source marks drawable.spans s.fold in
       λ i d inside. (
         within i d inside,

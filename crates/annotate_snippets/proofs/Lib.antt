@@ -38,6 +38,7 @@ pub mod LineLemmas
 pub mod LineRowValues
 pub mod LineValue
 pub mod ListLemmas
+pub mod MarginWords
 pub mod MarkLemmas
 pub mod NamedRows
 pub mod NotAround

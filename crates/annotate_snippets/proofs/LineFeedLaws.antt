@@ -38,15 +38,19 @@ use Rattle.snippet_parts.specs.declared.entries.LineAnnotationType.{LineAnnotati
 use Rattle.snippet_parts.specs.declared.entries.LineAnnotationType.TheVariants.{Singleline, MultilineStart, MultilineEnd, MultilineLine}
 use Rattle.snippet_parts.proofs.PartLemmas.{made-all}
 use Rattle.snippet_strokes.specs.Bars.{Bar, bars_apart, ends_of_bars, is_whole_line}
-use Rattle.snippet_strokes.specs.Cuts.{Stretch, cut_row, cuts_of, overlapped}
+use Rattle.snippet_strokes.specs.Cuts.{overlapped}
+use Rattle.snippet_strokes.specs.LookedCuts.{Stretch, cut_row}
+use Rattle.snippet_strokes.specs.LookedCuts.{cuts_of}
 use Rattle.snippet_labels.specs.PlacedEntries.{label_text, shifted}
 use Rattle.snippet_strokes.proofs.LineFacts.{AreLineRows, AreOwnRows, StrokesPainted}
 use Rattle.snippet_strokes.specs.Painting.{first_glyph, mark_end, painting_order, mark_of, marks_of, stroke_role}
 use Rattle.snippet_strokes.specs.Drawing.{row_count}
 use Rattle.snippet_labels.specs.Positions.{has_label}
 use Rattle.snippet_strokes.specs.SourceRows.{bare_row}
-use Rattle.snippet_strokes.specs.Strokes.{bar_writes, begun_rows, connector_of, connectors_of, corner_by, corner_of}
-use Rattle.snippet_strokes.specs.Strokes.{corners_of, label_of, label_write, labels_of, stem_write, stems_of, line_strokes, column_of}
+use Rattle.snippet_strokes.specs.Strokes.{connector_of, connectors_of, corner_of}
+use Rattle.snippet_strokes.proofs.StrokeWords.{bar_writes, begun_rows, corner_by}
+use Rattle.snippet_strokes.specs.Strokes.{corners_of, label_of, labels_of, stems_of, line_strokes, column_of}
+use Rattle.snippet_strokes.proofs.StrokeWords.{label_write, stem_write}
 use Rattle.snippet_strokes.specs.Writes.{Write, glyph_at, painted, stretch_of}
 use Rattle.snippet_grid.specs.Layout.{Layout, bar_cell as bar_column}
 use Rattle.snippet_strokes.proofs.BarWrites.{All-connector_of, All-stretch_of}

@@ -26,7 +26,6 @@ use Rattle.snippet_parts.specs.declared.entries.LineAnnotationType.TheVariants.{
 use Rattle.snippet_window.specs.declared.margin.Margin.{Margin}
 use Rattle.snippet_parts.specs.Annotated.{KeptLine, PartEntry, kept_line, parts_on, seen_kept, seen_part, single_part}
 use Rattle.snippet_lines.specs.Lines.{source_lines}
-use Rattle.snippet_window.specs.Margin.{Bounds, bounds_of}
 use Rattle.snippet_parts.specs.Mark.{end_column, is_marked_on, is_marking, is_single_line, is_wide, qualifies_for_marks, touches}
 use Rattle.snippet_parts.specs.Marked.{seen_entry}
 use Rattle.snippet_parts.specs.Entries.{is_bar, is_single_part, is_wide_entry}
@@ -49,7 +48,8 @@ use Rattle.annotate_snippets.specs.Gutter.{line_numbers, number_text, numbered_s
 use Rattle.annotate_snippets.specs.Laws.Lines.{IsRowBelow, ShowsSourceLine, cells_left, wide_spans}
 use Rattle.annotate_snippets.specs.Laws.Labels.{ShowsLabels}
 use Rattle.annotate_snippets.specs.Laws.Marks.{ShowsMarksOf, shown_label}
-use Rattle.annotate_snippets.specs.GraphicForm.{bounds_in, room_of}
+use Rattle.annotate_snippets.specs.GraphicForm.{margin_in}
+use Rattle.annotate_snippets.proofs.MarginWords.{room_of}
 use Rattle.annotate_snippets.proofs.LabelLemmas.{labelled_at_end, labels_shown, head_same, tail_same}
 use Rattle.annotate_snippets.proofs.LeftLaws.{left_of_source, space_of_source}
 use Rattle.annotate_snippets.proofs.MarkLemmas.{span_of_entry, IsEntryOf, mark_of_entries, unmarked_by_entries, entries_after, unlabelled_entries, lone_entry}
@@ -162,8 +162,8 @@ single_columns dropped es all clear = λ i d within.
 
 module _ (r : Renderer) (layout : Layout) (s : Snippet Annotation)
     (spans : All (λ a. IsSpan (cow_str_bytes s.source) a.span.start a.span.end) s.markers.items) (margin : Margin)
-    (room : margin.term_width ≡ room_of r layout) (bounds : bounds_of margin ≡ bounds_in r layout s)
-    (ordered : (bounds_of margin).left ≤ (bounds_of margin).right) where
+    (room : margin.term_width ≡ room_of r layout) (margin_is : margin ≡ margin_in r layout s)
+    (ordered : margin.computed_left ≤ margin.computed_right) where
   abbrev row_shows : Bool → List Bar → AnnotatedLineInfo → List (List Cell) → Type 0
   row_shows closes open_bars info rows = ShowsLine layout margin (line_numbers r s.line_numbering) closes open_bars info rows
 
@@ -212,27 +212,27 @@ module _ (r : Renderer) (layout : Layout) (s : Snippet Annotation)
             ]
 
     -- the text of the line before it is cut where spans are wide
-    window_text : row_text (drop layout.code shows.highlighted) ≡ window (placeholder_of layout.decor) (room_of r layout) (bounds_in r layout s).left
-        (bounds_in r layout s).right text
+    window_text : row_text (drop layout.code shows.highlighted) ≡ window (placeholder_of layout.decor) (room_of r layout) (margin_in r layout s).computed_left
+        (margin_in r layout s).computed_right text
     window_text =
         sym (drop-map (λ (cell : Cell). cell.ch) layout.code shows.highlighted)
         ∙ ap (drop layout.code) (highlighted_text layout.code shows.dropped _ shows.plain shows.highlighted shows.highlights)
         ∙ drop-map (λ (cell : Cell). cell.ch) layout.code shows.plain
         ∙ ap row_text shows.shows.shows.code ∙ row_text-window_cells layout.decor margin (norm (chars info.line.now))
-        ∙ ap (λ n. window (placeholder_of layout.decor) n (bounds_of margin).left (bounds_of margin).right (norm (chars info.line.now))) room
-        ∙ ap (λ (b : Bounds). window (placeholder_of layout.decor) (room_of r layout) b.left b.right (norm (chars info.line.now))) bounds
-        ∙ ap (λ cs. window (placeholder_of layout.decor) (room_of r layout) (bounds_in r layout s).left (bounds_in r layout s).right cs) line_text
+        ∙ ap (λ n. window (placeholder_of layout.decor) n margin.computed_left margin.computed_right (norm (chars info.line.now))) room
+        ∙ ap (λ (m : Margin). window (placeholder_of layout.decor) (room_of r layout) m.computed_left m.computed_right (norm (chars info.line.now))) margin_is
+        ∙ ap (window (placeholder_of layout.decor) (room_of r layout) (margin_in r layout s).computed_left (margin_in r layout s).computed_right) line_text
 
-    dropped_here : shows.dropped ≡ width_of (dropped_part (bounds_in r layout s).left text)
+    dropped_here : shows.dropped ≡ width_of (dropped_part (margin_in r layout s).computed_left text)
     dropped_here =
-        shows.dropped_is ∙ ap (λ (b : Bounds). width_of (dropped_part b.left (norm (chars info.line.now)))) bounds
-        ∙ ap (λ cs. width_of (dropped_part (bounds_in r layout s).left cs)) line_text
+        shows.dropped_is ∙ ap (λ (m : Margin). width_of (dropped_part m.computed_left (norm (chars info.line.now)))) margin_is
+        ∙ ap (λ cs. width_of (dropped_part (margin_in r layout s).computed_left cs)) line_text
 
     -- where the line stands whole, nothing is dropped and nothing is cut
     whole_text : stands_whole (room_of r layout) placeholder_width s.fold (cow_str_bytes s.source) s.markers.items k ≡ true
         → (shows.dropped ≡ 0) × (row_text (drop layout.code rows_show.source) ≡ text)
     whole_text stands =
-        let left : (bounds_in r layout s).left ≡ 0 = stands_left (numbered_source s) s.markers.items spans
+        let left : (margin_in r layout s).computed_left ≡ 0 = stands_left (numbered_source s) s.markers.items spans
         (room_of r layout) placeholder_width s.fold k stands in
         let parts = and_parts _ _ stands in
         let narrow : list_all (λ a. not (is_marked_on (cow_str_bytes s.source) k a
@@ -241,7 +241,7 @@ module _ (r : Renderer) (layout : Layout) (s : Snippet Annotation)
         ≡ 0 = count-none (λ a. is_marked_on (cow_str_bytes s.source) k a
         && is_wide (room_of r layout) placeholder_width (cow_str_bytes s.source) a) s.markers.items narrow in
         let own_fits : width_of (chars_at (cow_str_bytes s.source) k) ≤ room_of r layout = le_of _ _ (and_parts _ _ (and_parts _ _ parts.0).0).0 in
-        let at_left : (bounds_of margin).left ≡ 0 = ap (λ (b : Bounds). b.left) bounds ∙ left in
+        let at_left : margin.computed_left ≡ 0 = ap (λ (m : Margin). m.computed_left) margin_is ∙ left in
         let uncut : drop layout.code rows_show.source ≡ drop layout.code shows.highlighted = rows_show.beside.uncut (wide_is ∙ none) in
         let narrow_text : width_of (norm (chars info.line.now)) ≤ margin.term_width = omega
         (arith, room, own_fits, ap width_of line_text, width_of-norm (chars_at (cow_str_bytes s.source) k)) in
@@ -269,10 +269,10 @@ module _ (r : Renderer) (layout : Layout) (s : Snippet Annotation)
           space = space_of_source layout shown cells shows.plain rows_show.source fits place shows.shows same;
           bars = rows_show.beside.bar_cells;
           window = record {
-            ordered = omega (arith, ordered, ap (λ (b : Bounds). b.left) bounds, ap (λ (b : Bounds). b.right) bounds);
+            ordered = omega (arith, ordered, ap (λ (m : Margin). m.computed_left) margin_is, ap (λ (m : Margin). m.computed_right) margin_is);
             dropped_is = dropped_here;
             shown_is = subst (λ n. AreReplaced (placeholder_of layout.decor)
-                n (window (placeholder_of layout.decor) (room_of r layout) (bounds_in r layout s).left (bounds_in r layout s).right text)
+                n (window (placeholder_of layout.decor) (room_of r layout) (margin_in r layout s).computed_left (margin_in r layout s).computed_right text)
                 (row_text (drop layout.code rows_show.source)))
                 wide_is (subst (λ before. AreReplaced (placeholder_of layout.decor)
                 (wide_entries margin.term_width layout.decor (map (shifted shows.dropped) es)) before (row_text (drop layout.code rows_show.source)))

@@ -14,7 +14,6 @@ use Rattle.snippet_text.specs.Width.{width_of}
 use Rattle.snippet_lines.specs.Number.{shown_number}
 use Rattle.snippet_lines.specs.declared.number.LineNumbers.{LineNumbers}
 use Rattle.snippet_parts.specs.Annotated.{KeptLine, PartEntry, kept_line, seen_kept, seen_part}
-use Rattle.snippet_window.specs.Margin.{Bounds, bounds_of}
 use Rattle.snippet_window.specs.Window.{chars_at, dropped_part}
 use Rattle.snippet_parts.specs.declared.entries.AnnotatedLineInfo.{AnnotatedLineInfo}
 use Rattle.snippet_parts.specs.declared.entries.LineAnnotation.{LineAnnotation}
@@ -59,21 +58,12 @@ parts_seen (p ∷ ps) =
     ap (λ label. record { entry = record (p.entry) { label = label }; part = p.part } ∷ map seen_part (map line_entry ps)) (same_text p.entry.label)
     ∙ ap (λ rest. p ∷ rest) (parts_seen ps)
 
--- a margin of this room and these bounds
-abbrev margin_at : ℕ → Bounds → Margin
-margin_at room bounds = record { computed_left = bounds.left; computed_right = bounds.right; term_width = room }
-
--- the only margin of a room and bounds
-pub one_margin : (m : Margin) (room : ℕ) (bounds : Bounds) → m.term_width ≡ room → bounds_of m ≡ bounds → m ≡ margin_at room bounds
-one_margin m room bounds room_is bounds_are =
-    ap (margin_at m.term_width) bounds_are ∙ ap (λ w. margin_at w bounds) room_is
-
 -- the rows of a line don't depend on where labels stand in memory
 rows_plain : (layout : Layout) (margin : Margin) (closes : Bool) (open_bars : List Bar) (number text : List ℕ) (es : List LineAnnotation)
     → shown_rows layout margin closes open_bars number text (map plain_entry es) ≡ shown_rows layout margin closes open_bars number text es
 rows_plain layout margin closes open_bars number text es =
     let colours : LineAnnotation → Bool = λ e. not (is_end_part e.annotation_type) in
-    let dropped : ℕ = width_of (dropped_part (bounds_of margin).left text) in
+    let dropped : ℕ = width_of (dropped_part margin.computed_left text) in
     let source : List Cell = source_row layout number (window_cells layout.decor margin text) in
     let Rows : List LineAnnotation → List Cell → List (List Cell) = λ xs row. line_rows layout margin.term_width closes text dropped open_bars xs row in
     ap (λ xs. Rows (map plain_entry es) (highlighted_row layout.code dropped xs source)) (filter-map colours plain_entry es)

@@ -18,7 +18,6 @@ use Rattle.snippet_lines.specs.Place.{line_of, place_of}
 use Rattle.snippet_text.specs.Normalized.{norm}
 use Rattle.snippet_text.specs.Width.{width_of}
 use Rattle.snippet_parts.specs.declared.entries.LineAnnotation.{LineAnnotation}
-use Rattle.snippet_window.specs.Margin.{bounds_of}
 use Rattle.snippet_window.specs.Window.{chars_at, dropped_part}
 use Rattle.snippet_window.specs.declared.margin.Margin.{Margin}
 use Rattle.snippet_parts.specs.Kept.{shown_lines}
@@ -60,7 +59,7 @@ row_doubled r layout around s rows shown above row below is k named lone many =
     line_alone r layout closes s open_bars k lone =
         let margin : Margin = margin_in r layout s in
         let text : List ℕ = norm (chars_at (cow_str_bytes s.source) k) in
-        lone_line_rows layout margin.term_width closes text (width_of (dropped_part (bounds_of margin).left text)) _ open_bars (map line_entry (entries_on s k))
+        lone_line_rows layout margin.term_width closes text (width_of (dropped_part margin.computed_left text)) _ open_bars (map line_entry (entries_on s k))
         (length-map (entries_on s k) line_entry ∙ lone)
 
 -- beside a line on which no bar begins or ends, and above which one is open, a cell at its depth in another role than that of the
@@ -76,7 +75,7 @@ bar_of_other_kind r layout closes s bar k none i within other =
     let entries : List LineAnnotation = map line_entry (entries_on s k) in
     let ends : ends_of_bars entries ≡ [] = bars_seen s k entries (parts_seen (entries_on s k)) ∙ none in
     other (ap (λ (cell : Cell). cell.role)
-    (bar_beside_line layout margin.term_width closes text (width_of (dropped_part (bounds_of margin).left text)) _ bar entries ends i within))
+    (bar_beside_line layout margin.term_width closes text (width_of (dropped_part margin.computed_left text)) _ bar entries ends i within))
 
 -- ---- rows that no line has
 

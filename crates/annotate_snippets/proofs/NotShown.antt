@@ -37,7 +37,7 @@ use Rattle.snippet_grid.specs.Layout.{Layout}
 use Rattle.annotate_snippets.specs.declared.renderer.element_context.ElementContext.{ElementContext}
 use Rattle.snippet_style.specs.Glyphs.{IsMarkGlyph, char_of, placeholder_of}
 use Rattle.annotate_snippets.specs.Laws.Marks.{cell_of, shown_label, ShowsMarksOf}
-use Rattle.annotate_snippets.specs.GraphicForm.{room_of}
+use Rattle.annotate_snippets.proofs.MarginWords.{room_of}
 use Rattle.snippet_text.specs.Normalized.{normalized_chars}
 use Rattle.annotate_snippets.specs.Laws.Lines.{ShowsSourceLine, IsRowBelow}
 use Rattle.annotate_snippets.specs.Laws.Snippets.{ShowsLineAndMarks}

@@ -17,7 +17,6 @@ use Rattle.snippet_parts.specs.Annotated.{KeptLine, kept_line, seen_kept}
 use Rattle.snippet_lines.specs.Lines.{source_lines}
 use Rattle.snippet_lines.specs.Number.{shown_number}
 use Rattle.snippet_lines.specs.Span.{IsSpan}
-use Rattle.snippet_window.specs.Margin.{bounds_of}
 use Rattle.snippet_labels.specs.PlacedEntries.{shifted}
 use Rattle.snippet_strokes.specs.Bars.{Bar, HasBarRoom, open_below, open_past}
 use Rattle.snippet_strokes.specs.Snippet.{gap_row}
@@ -42,6 +41,7 @@ use Rattle.annotate_snippets.proofs.DrawnRows.{AreRowsDrawn, IsLineDrawn}
 use Rattle.annotate_snippets.proofs.InfoLines.{IsReadyLine, info_at, seen_at}
 use Rattle.annotate_snippets.proofs.LineLemmas.{labels_of_line, marks_of_line, marks_there, row_below, source_line}
 use Rattle.annotate_snippets.proofs.NamedRows.{lines_named-others}
+use Rattle.annotate_snippets.proofs.MarginWords.{margin_room}
 
 -- the first row below, where there is one
 below-first : (below : List (List Cell)) (more : List NamedRow) → 0 < length below → row_at (cells_of (others below ++ more)) 0 ≡ row_at below 0
@@ -59,7 +59,7 @@ some_more m n = grind (arith, nat_tests)
 
 module _ (r : Renderer) (layout : Layout) (s : Snippet Annotation)
     (spans : All (λ a. IsSpan (cow_str_bytes s.source) a.span.start a.span.end) s.markers.items)
-    (ordered : (bounds_of (margin_in r layout s)).left ≤ (bounds_of (margin_in r layout s)).right) (place : layout.gutter + 3 ≤ layout.code)
+    (ordered : (margin_in r layout s).computed_left ≤ (margin_in r layout s).computed_right) (place : layout.gutter + 3 ≤ layout.code)
     (closes : Bool) where
   abbrev own_lines : ℕ
   own_lines = length (source_lines (cow_str_bytes s.source))
@@ -83,13 +83,13 @@ module _ (r : Renderer) (layout : Layout) (s : Snippet Annotation)
   line_and_marks last open_bars k info rows more within seen fits line shows ends =
       record {
         dropped = line.dropped;
-        line = source_line r layout s spans margin refl refl ordered last open_bars k info rows within seen fits line shows place;
+        line = source_line r layout s spans margin (margin_room r layout s) refl ordered last open_bars k info rows within seen fits line shows place;
         marks = λ qualifies. subst (λ row. ShowsMarksOf layout.decor layout s k line.dropped row)
             (sym (below-first shows.below more
-            (marks_there r layout s spans margin refl refl ordered last open_bars k info rows within seen fits line shows qualifies)))
-            (marks_of_line r layout s spans margin refl refl ordered last open_bars k info rows within seen fits line shows qualifies);
+            (marks_there r layout s spans margin (margin_room r layout s) refl ordered last open_bars k info rows within seen fits line shows qualifies)))
+            (marks_of_line r layout s spans margin (margin_room r layout s) refl ordered last open_bars k info rows within seen fits line shows qualifies);
         labels = λ uncut. subst (λ lower. ShowsLabels layout.decor layout s k line.dropped lower) (sym (below-own shows.below more ends))
-            (labels_of_line r layout s spans margin refl refl ordered last open_bars k info rows within seen fits line shows uncut);
+            (labels_of_line r layout s spans margin (margin_room r layout s) refl ordered last open_bars k info rows within seen fits line shows uncut);
       }
 
   -- rows below a line, with the last of which the window closes where no row stands after
@@ -200,7 +200,8 @@ module _ (r : Renderer) (layout : Layout) (s : Snippet Annotation)
       let after : List NamedRow = gap_below r layout past k ks ++ rest in
       let source_row : NamedRow = record { name = SourceRow k; cells = shows.source } in
       let line : IsLineDrawn r layout (closes && last) s open_bars k (shows.source ∷ shows.below) = subst
-      (IsLineDrawn r layout (closes && last) s open_bars k) shows.rows_are (line_drawn r layout s margin refl refl (closes && last) open_bars k info rows
+      (IsLineDrawn r layout (closes && last) s open_bars k) shows.rows_are
+      (line_drawn r layout s margin (margin_room r layout s) refl (closes && last) open_bars k info rows
       here shown) in
       subst (AreNamed open_bars (k ∷ ks)) (sym (ap (λ rs. named_line k rs ++ after) shows.rows_are)) (record {
         lines = ap (λ js. k ∷ js) (lines_named-others shows.below after ∙ between.lines ∙ below.lines);

@@ -79,7 +79,7 @@ module _ (s : Source) (marks : List Annotation) (spans : All (λ a. IsSpan s.tex
 
   -- where lines stand whole, nothing is cut on the left
   pub stands_left : (room placeholder_width : ℕ) (fold : Bool) (k : ℕ) → stands_whole room placeholder_width fold s.text marks k ≡ true
-      → (margin_of room (annotated_lines fold s marks)).left ≡ 0
+      → (margin_of room (annotated_lines fold s marks)).computed_left ≡ 0
   stands_left room placeholder_width fold k whole = margin_whole room placeholder_width fold s marks k spans whole
 
 -- where the code leaves room for the greatest depth, a bar of a depth that is no greater has a cell

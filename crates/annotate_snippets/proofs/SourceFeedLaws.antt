@@ -15,7 +15,6 @@ use Rattle.snippet_style.specs.declared.glyphs.DecorStyle.TheVariants.{Ascii, Un
 use Rattle.snippet_style.specs.declared.role.ElementStyle.TheVariants.{LineNumber}
 use Rattle.snippet_text.specs.Normalized.{norm}
 use Rattle.snippet_titles.proofs.DigitLemmas.{IsDigit, decimal-all}
-use Rattle.snippet_window.specs.Margin.{Bounds}
 use Rattle.snippet_window.specs.Window.{AreReplaced, chars_at, covered_columns, covered_end, inner_part, reaching, uncovered_part, window}
 use Rattle.snippet_lines.specs.Number.{shown_number}
 use Rattle.snippet_lines.specs.declared.number.LineNumbers.{LineNumbers}
@@ -26,12 +25,14 @@ use Rattle.annotate_snippets.specs.declared.renderer.Renderer.{Renderer}
 use Rattle.snippet_grid.specs.Layout.{Layout}
 use Rattle.annotate_snippets.specs.Gutter.{line_numbers, number_text}
 use Rattle.annotate_snippets.specs.Laws.Lines.{ShowsSourceLine, cells_left, wide_spans}
-use Rattle.annotate_snippets.specs.GraphicForm.{bounds_in, room_of}
+use Rattle.annotate_snippets.specs.GraphicForm.{margin_in}
+use Rattle.annotate_snippets.proofs.MarginWords.{room_of}
 use Rattle.annotate_snippets.specs.Laws.Feeds.{HasNoFeed}
 use Rattle.annotate_snippets.proofs.OneLineTexts.{HoldsNoFeed, IsNoFeed}
 use Rattle.snippet_titles.proofs.OriginFree.{each-fails}
 use Rattle.annotate_snippets.proofs.FeedLaws.{at_any, bar_cell}
 use Rattle.annotate_snippets.proofs.PathFeedLaws.{alone, cells_plain, digit_plain, norm-plain}
+use Rattle.snippet_window.specs.declared.margin.Margin.{Margin}
 
 -- ---- windows
 
@@ -148,14 +149,15 @@ pub source_one_line : (r : Renderer) (layout : Layout) (s : Snippet Annotation) 
 source_one_line r layout s k dropped row shows plain =
     let placeholder : List ℕ = placeholder_of layout.decor in
     let room : ℕ = room_of r layout in
-    let bounds : Bounds = bounds_in r layout s in
+    let margin : Margin = margin_in r layout s in
     let line : List ℕ = norm (chars_at (cow_str_bytes s.source) k) in
     let shown : List ℕ = row_text (drop layout.code row) in
     let own : All IsNoFeed placeholder = placeholder_plain layout.decor in
-    let windowed : All IsNoFeed (window placeholder room bounds.left bounds.right line) = window_plain placeholder room bounds.left bounds.right line own
+    let windowed : All IsNoFeed (window placeholder room margin.computed_left margin.computed_right line) =
+    window_plain placeholder room margin.computed_left margin.computed_right line own
     (norm-plain (chars_at (cow_str_bytes s.source) k) plain) in
     let text : All IsNoFeed shown = replaced_plain placeholder (wide_spans room (length placeholder) s k)
-    (window placeholder room bounds.left bounds.right line) shown own shows.window.shown_is windowed in
+    (window placeholder room margin.computed_left margin.computed_right line) shown own shows.window.shown_is windowed in
     let number : List ℕ = number_text r s.line_numbering layout.gutter (s.line_start + k) in
     let left : HasNoFeed (cells_left layout.decor layout.gutter number) = left_plain layout.decor layout.gutter number
     (number_plain (line_numbers r s.line_numbering) layout.gutter (s.line_start + k)) in

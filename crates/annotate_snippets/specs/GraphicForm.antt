@@ -15,7 +15,6 @@ use Rattle.snippet_model.specs.declared.snippet.Snippet.{Snippet}
 use Rattle.snippet_text.specs.Normalized.{norm}
 use Rattle.snippet_parts.specs.Annotated.{PartEntry, annotated_lines, parts_on}
 use Rattle.snippet_parts.specs.Kept.{shown_lines}
-use Rattle.snippet_window.specs.Margin.{Bounds}
 use Rattle.snippet_window.specs.Measures.{margin_of}
 use Rattle.snippet_window.specs.Window.{chars_at}
 use Rattle.snippet_parts.specs.declared.entries.LineAnnotation.{LineAnnotation}
@@ -23,7 +22,7 @@ use Rattle.snippet_window.specs.declared.margin.Margin.{Margin}
 use Rattle.snippet_strokes.specs.Bars.{Bar, bar_at, open_past}
 use Rattle.snippet_strokes.specs.Snippet.{gap_row, shown_rows}
 use Rattle.snippet_suggest.specs.Given.{first_given}
-use Rattle.snippet_suggest.specs.RowOrder.{Begins, Empty, Ends, Offers, Removes, Skips, SuggestionRow}
+use Rattle.snippet_suggest.specs.RowOrder.{Offers, Removes, SuggestionRow}
 use Rattle.snippet_titles.specs.Origin.{padding_row}
 use Rattle.annotate_snippets.specs.declared.renderer.Renderer.{Renderer}
 use Rattle.snippet_grid.specs.Layout.{Layout}
@@ -45,19 +44,9 @@ entries_on s k = parts_on (numbered_source s) s.markers.items k
 abbrev pub bars_on : Snippet Annotation → ℕ → List Bar
 bars_on s k = filter_map (λ e. bar_at e.part (is_primary e.entry.kind)) (entries_on s k)
 
--- the columns that code has
-abbrev pub room_of : Renderer → Layout → ℕ
-room_of r layout = r.term_width - layout.code
-
--- the bounds between which a snippet's lines are shown: those for the lines that are kept, and for its spans
-abbrev pub bounds_in : Renderer → Layout → Snippet Annotation → Bounds
-bounds_in r layout s = margin_of (room_of r layout) (annotated_lines s.fold (numbered_source s) s.markers.items)
-
--- these bounds, and the room between them
+-- the margin of a snippet: that of the lines that are kept, with its spans, in the columns that code has
 abbrev pub margin_in : Renderer → Layout → Snippet Annotation → Margin
-margin_in r layout s =
-    let bounds = bounds_in r layout s in
-    record { computed_left = bounds.left; computed_right = bounds.right; term_width = room_of r layout }
+margin_in r layout s = margin_of (r.term_width - layout.code) (annotated_lines s.fold (numbered_source s) s.markers.items)
 
 -- a text that is lent, from wherever it stands
 abbrev pub lent : List ℕ → Bor (List ℕ)

@@ -22,8 +22,10 @@ use Rattle.snippet_labels.specs.PlacedEntries.{HasPlace, is_end_part}
 use Rattle.snippet_labels.specs.Positions.{HasItsLabel, has_label, has_stem, label_place, takes_space}
 use Rattle.snippet_strokes.specs.Apart.{FitsBefore, StandApart, free_before, reach, strokes_apart, strokes_of_part}
 use Rattle.snippet_strokes.specs.Painting.{is_painted_before, mark_end, mark_of, marks_of, painting_order, first_glyph, stroke_role}
-use Rattle.snippet_strokes.specs.Strokes.{connector_by, connector_of, connectors_of, corner_by, corner_of, corners_of, label_of, label_write, labels_of}
-use Rattle.snippet_strokes.specs.Strokes.{is_stem_covered, line_strokes, stem_of, stem_write, stems_of}
+use Rattle.snippet_strokes.specs.Strokes.{connector_of, connectors_of, corner_of, corners_of, label_of, labels_of}
+use Rattle.snippet_strokes.proofs.StrokeWords.{connector_by, corner_by, label_write}
+use Rattle.snippet_strokes.specs.Strokes.{is_stem_covered, line_strokes, stem_of, stems_of}
+use Rattle.snippet_strokes.proofs.StrokeWords.{stem_write}
 use Rattle.snippet_strokes.specs.Writes.{Write, glyph_at, painted, stretch_of}
 use Rattle.snippet_strokes.proofs.BarWrites.{All-column_of, All-stretch_of}
 use Rattle.snippet_strokes.proofs.LabelWrites.{All-label_of}

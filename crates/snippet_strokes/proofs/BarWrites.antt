@@ -21,7 +21,8 @@ use Rattle.snippet_strokes.specs.EntryMarks.{HasBarCell, HasBarCellAt, IsBarCell
 use Rattle.snippet_strokes.proofs.PlainEntries.{is_single}
 use Rattle.snippet_strokes.specs.Drawing.{HasRows}
 use Rattle.snippet_strokes.proofs.DrawnCells.{DrawsBarCells, DrawsFrom, KeepsBarCells}
-use Rattle.snippet_strokes.specs.Strokes.{bar_writes, connector_by, connector_of, connectors_of, corner_by, corner_of, corners_of, line_to}
+use Rattle.snippet_strokes.specs.Strokes.{connector_of, connectors_of, corner_of, corners_of}
+use Rattle.snippet_strokes.proofs.StrokeWords.{bar_writes, connector_by, corner_by, line_to}
 use Rattle.snippet_strokes.specs.Strokes.{column_of}
 use Rattle.snippet_strokes.specs.Painting.{stroke_role}
 use Rattle.snippet_strokes.proofs.Reach.{IsWithin}

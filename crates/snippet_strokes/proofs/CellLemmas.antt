@@ -7,7 +7,6 @@ use Rattle.std.proofs.lemmas.Str.{chars-nil}
 use Rattle.snippet_model.proofs.RowLemmas.{each_fails}
 use Rattle.snippet_window.proofs.LineWindowLemmas.{uncovered_short, part_short}
 use Rattle.snippet_window.specs.declared.margin.Margin.{Margin}
-use Rattle.snippet_window.specs.Margin.{bounds_of}
 use Rattle.std.proofs.lemmas.Bool.Decides.{nat_tests}
 use Rattle.snippet_text.specs.Width.{width_of}
 use Rattle.snippet_window.specs.Window.{reaching, fitting, window_left, window_right, inner_part, covered_columns, uncovered_part, covered_end}
@@ -93,9 +92,6 @@ pub put_begun : (decor : DecorStyle) (columns : ℕ) (cs : List ℕ)
 put_begun decor columns [] = put_alone LineNumber (placeholder_of decor)
 put_begun decor columns (c ∷ cs) =
     ap (λ cells. written SPACE cells columns (text_cells Quotation (c ∷ cs))) (put_alone LineNumber (placeholder_of decor))
-    ∙ ap (λ b. cond b (text_cells LineNumber (placeholder_of decor))
-    (written SPACE (text_cells LineNumber (placeholder_of decor)) columns (text_cells Quotation (c ∷ cs))))
-    (sym (above_zero (length (c ∷ cs)) (omega arith)))
 
 pub put_ended : (decor : DecorStyle) (at : ℕ) (cells : List Cell)
     → put at cells (text_cells LineNumber (placeholder_of decor)) ≡ ended_cells decor (Some at) cells
@@ -108,13 +104,10 @@ free_placeholder Unicode = free_drawn LineNumber (placeholder_of Unicode) (each_
 
 free_begun : (decor : DecorStyle) (start : Option ℕ) (text : List ℕ) → All (λ c. is_listed c ≡ false) text → IsFree (begun_cells decor start text)
 free_begun decor None text free = free_drawn Quotation text free
-free_begun decor (Some columns) text free =
-    elim (length text == 0) as (λ b. IsFree (cond b (text_cells LineNumber (placeholder_of decor))
-    (written SPACE (text_cells LineNumber (placeholder_of decor)) columns (text_cells Quotation text)))) [
-      | true ↦ free_placeholder decor
-      | false ↦ free_written (text_cells LineNumber (placeholder_of decor)) columns (text_cells Quotation text) (free_placeholder decor)
-          (free_drawn Quotation text free)
-    ]
+free_begun decor (Some columns) [] free = free_placeholder decor
+free_begun decor (Some columns) (c ∷ cs) free =
+    free_written (text_cells LineNumber (placeholder_of decor)) columns (text_cells Quotation (c ∷ cs)) (free_placeholder decor)
+    (free_drawn Quotation (c ∷ cs) free)
 
 -- the cells that show a text without listed characters are free
 pub free_shown : (decor : DecorStyle) (start : Option ℕ) (text : List ℕ) (end : Option ℕ) → All (λ c. is_listed c ≡ false) text
@@ -131,20 +124,17 @@ placeholder_short Unicode = omega arith
 begun_short : (decor : DecorStyle) (start : Option ℕ) (text : List ℕ) → IfSome start (λ s. s < 2 ^ 59) → length text < 2 ^ 60
     → length (begun_cells decor start text) < 2 ^ 61
 begun_short decor None text few short = omega (arith, length-text_cells Quotation text)
-begun_short decor (Some columns) text few short =
-    elim (length text == 0) as (λ b. length (cond b (text_cells LineNumber (placeholder_of decor))
-    (written SPACE (text_cells LineNumber (placeholder_of decor)) columns (text_cells Quotation text))) < 2 ^ 61) [
-      | true ↦ omega (arith, placeholder_short decor)
-      | false ↦ omega (
-        arith,
-        placeholder_short decor,
-        length-written SPACE (text_cells LineNumber (placeholder_of decor)) columns
-            (text_cells Quotation text),
-        length-text_cells Quotation text,
-        few,
-        short,
-      )
-    ]
+begun_short decor (Some columns) [] few short = omega (arith, placeholder_short decor)
+begun_short decor (Some columns) (c ∷ cs) few short =
+    omega (
+      arith,
+      placeholder_short decor,
+      length-written SPACE (text_cells LineNumber (placeholder_of decor)) columns
+          (text_cells Quotation (c ∷ cs)),
+      length-text_cells Quotation (c ∷ cs),
+      few,
+      short,
+    )
 
 -- the cells that show a short text are few
 pub shown_short : (decor : DecorStyle) (start : Option ℕ) (text : List ℕ) (end : Option ℕ) → IfSome start (λ s. s < 2 ^ 59) → length text < 2 ^ 60
@@ -225,13 +215,13 @@ part_few left room from right placeholder text =
 -- the cells of a window that was found
 pub cells_are : (decor : DecorStyle) (margin : Margin) (start end : Option ℕ) (shown placeholder cs text : List ℕ)
     → placeholder ≡ placeholder_of decor → cs ≡ text
-    → start ≡ covered_columns (bounds_of margin).left placeholder (inner_part margin.term_width (bounds_of margin).left (bounds_of margin).right cs)
-    → shown ≡ uncovered_part (bounds_of margin).left placeholder (inner_part margin.term_width (bounds_of margin).left (bounds_of margin).right cs)
-    → end ≡ covered_end margin.term_width (bounds_of margin).left (bounds_of margin).right placeholder cs
+    → start ≡ covered_columns margin.computed_left placeholder (inner_part margin.term_width margin.computed_left margin.computed_right cs)
+    → shown ≡ uncovered_part margin.computed_left placeholder (inner_part margin.term_width margin.computed_left margin.computed_right cs)
+    → end ≡ covered_end margin.term_width margin.computed_left margin.computed_right placeholder cs
     → ended_cells decor end (begun_cells decor start shown) ≡ window_cells decor margin text
 cells_are decor margin start end shown placeholder cs text is_placeholder is_text is_start is_shown is_end =
-    let left = (bounds_of margin).left in
-    let right = (bounds_of margin).right in
+    let left = margin.computed_left in
+    let right = margin.computed_right in
     let room = margin.term_width in
     let inner : List ℕ = inner_part room left right cs in
     ap (λ s. ended_cells decor end (begun_cells decor s shown)) is_start

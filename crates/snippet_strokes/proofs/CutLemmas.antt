@@ -1,13 +1,13 @@
 -- Rows in which stretches gave their place to the placeholder.
 use Rattle.std.proofs.Common.{◌≡◌, ◌∙◌, true, false, ℕ, zero, suc, ◌+◌, ◌-◌, ◌<◌, ◌≤◌, Bool, List, [], ◌∷◌, ◌++◌, length, map, take, drop, set, get_or, cond}
-use Rattle.std.proofs.Common.{refl, sym, ap, subst, arith, inl, inr}
+use Rattle.std.proofs.Common.{refl, sym, ap, subst, arith, inl, inr, fold}
 use Rattle.std.proofs.lemmas.Bool.{cases_lt, or_parts}
 use Rattle.std.proofs.lemmas.List.{places, same_lists, map-append, append_assoc, length-append, drop_more, drop_all}
 use Rattle.std.proofs.lemmas.List.Sums.{sum_by-cons}
 use Rattle.std.proofs.lemmas.List.Elements.{All-append, All-take, All-drop}
 use Rattle.std.proofs.Math.Seq.{set-append_seam}
-use Rattle.std.specs.Prelude.{◌&&◌, not}
-use Rattle.std.specs.List.{list_any, slice_index_or}
+use Rattle.std.specs.Prelude.{◌&&◌, ◌/◌, max, not}
+use Rattle.std.specs.List.{list_any, slice_index_or, flat_map, zip}
 use Rattle.snippet_parts.specs.declared.entries.LineAnnotation.{LineAnnotation}
 use Rattle.snippet_parts.specs.Entries.{is_wide_entry}
 use Rattle.snippet_window.specs.Window.{AreReplaced}
@@ -19,14 +19,28 @@ use Rattle.snippet_style.specs.Cell.{Cell, text_cells}
 use Rattle.snippet_grid.specs.Print.{row_text}
 use Rattle.snippet_grid.proofs.ChangeLemmas.{changed_within_one}
 use Rattle.snippet_grid.proofs.ReplaceLemmas.{replaced_there, replaced_empty, replaced_past}
-use Rattle.snippet_grid.specs.Layout.{Layout}
+use Rattle.snippet_grid.specs.Layout.{Layout, code_cell}
 use Rattle.snippet_labels.specs.declared.positions.PlacedEntry.{PlacedEntry}
 use Rattle.snippet_model.specs.FreeRows.{IsFreeCell}
-use Rattle.snippet_strokes.specs.Cuts.{Stretch, cut_of, cut_row, cut_rows, cuts_of, is_wide_at, middle_of}
+use Rattle.snippet_strokes.specs.LookedCuts.{Stretch, cut_of, cut_row}
+use Rattle.snippet_strokes.specs.LookedCuts.{cut_rows, cuts_of, is_wide_at}
 use Rattle.snippet_strokes.proofs.PlainEntries.{wide_entries}
 use Rattle.snippet_strokes.proofs.SeenRows.{IsCut}
 use Rattle.snippet_strokes.proofs.CellLemmas.{free_placeholder}
 use Rattle.snippet_grid.proofs.RowLemmas.{row_text-text_cells}
+use Rattle.snippet_strokes.specs.Cuts.{cut_middle, overlapped}
+use Rattle.snippet_strokes.specs.Drawing.{row_count}
+use Rattle.snippet_strokes.specs.Painting.{painting_order}
+use Rattle.snippet_labels.specs.Positions.{placed_of}
+use Rattle.snippet_strokes.specs.Strokes.{line_strokes, stroke_rows}
+use Rattle.snippet_strokes.specs.Writes.{painted}
+use Rattle.snippet_strokes.proofs.StrokeWords.{begun_rows}
+
+-- the cells of the middle of an entry
+abbrev middle_of : Layout → ℕ → LineAnnotation → Stretch
+middle_of layout room e =
+    let kept = max 5 (room / 3) in
+    record { from = code_cell layout e.start.display + kept; to = code_cell layout e.end.display - kept }
 
 -- nothing was replaced, or fewer stretches than so many
 AreReplaced-none : (placeholder : List ℕ) (n : ℕ) (text : List ℕ) → AreReplaced placeholder n text text
@@ -238,3 +252,48 @@ IsCut-cuts layout room (e ∷ es) (flag ∷ flags) row =
         IsCut-replaced layout cut.from cut.to row (omega arith)
     one true true = IsCut-none layout 1 row
     one false flag = IsCut-none layout 0 row
+
+-- ---- entry by entry
+
+-- what is cut for one entry
+cut_one : (layout : Layout) (room : ℕ) (pair : PlacedEntry × Bool) (row : List Cell)
+    → cut_row layout.decor (cut_of layout room pair) row ≡ cut_middle layout room row pair
+cut_one layout room pair row =
+    either (is_wide_entry room (length (placeholder_of layout.decor)) pair.0.entry && not pair.1)
+  where
+    either : (b : Bool) → cut_row layout.decor (cond b (middle_of layout room pair.0.entry ∷ []) []) row
+        ≡ cond b (replaced_within (middle_of layout room pair.0.entry).from (middle_of layout room pair.0.entry).to
+        (text_cells LineNumber (placeholder_of layout.decor)) row) row
+    either true = refl
+    either false = refl
+
+-- a row that is cut for one entry after another is cut at the stretches of all
+pub cut_each : (layout : Layout) (room : ℕ) (pairs : List (PlacedEntry × Bool)) (row : List Cell)
+    → fold (cut_middle layout room) row pairs ≡ cut_row layout.decor (flat_map (cut_of layout room) pairs) row
+cut_each layout room [] row = refl
+cut_each layout room (pair ∷ pairs) row =
+    let rest : List Stretch = flat_map (cut_of layout room) pairs in
+    cut_each layout room pairs (cut_middle layout room row pair) ∙ ap (cut_row layout.decor rest) (sym (cut_one layout room pair row))
+    ∙ sym (cut_row-append layout.decor (cut_of layout room pair) rest row)
+
+map_alike : {X Y : Type 0} (f g : X → Y) (xs : List X) → ((x : X) → f x ≡ g x) → map f xs ≡ map g xs
+map_alike f g [] same = refl
+map_alike f g (x ∷ xs) same = ap (λ y. y ∷ map f xs) (same x) ∙ ap (λ ys. g x ∷ ys) (map_alike f g xs same)
+
+-- the rows of the strokes of a line, of which stretches are cut
+abbrev pub rows_of_strokes : Layout → ℕ → Bool → List LineAnnotation → List Cell → List (List Cell)
+rows_of_strokes layout room closes es source =
+    let placed = placed_of es in
+    let order = painting_order placed in
+    let whole = painted (line_strokes layout 0 (row_count placed + 1) placed order) (begun_rows layout closes (row_count placed) source) in
+    map (cut_row layout.decor (cuts_of layout room order (overlapped placed))) (take 2 whole) ++ drop 2 whole
+
+pub stroke_rows-cut : (layout : Layout) (room : ℕ) (closes : Bool) (es : List LineAnnotation) (source : List Cell)
+    → stroke_rows layout room closes es source ≡ rows_of_strokes layout room closes es source
+stroke_rows-cut layout room closes es source =
+    let placed = placed_of es in
+    let order = painting_order placed in
+    let whole = painted (line_strokes layout 0 (row_count placed + 1) placed order) (begun_rows layout closes (row_count placed) source) in
+    let pairs = zip order (overlapped placed) in
+    ap (λ rows. rows ++ drop 2 whole) (map_alike (λ row. fold (cut_middle layout room) row pairs)
+    (cut_row layout.decor (flat_map (cut_of layout room) pairs)) (take 2 whole) (cut_each layout room pairs))

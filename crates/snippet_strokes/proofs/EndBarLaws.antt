@@ -1,5 +1,5 @@
 -- Laws of the bars of spans that begin or end on a line: they stand in its rows from their corner on, or down to it.
-use Rattle.std.proofs.Common.{◌≡◌, ◌≢◌, ℕ, zero, suc, ◌+◌, ◌-◌, ◌<◌, ◌==◌, ◌||◌, ◌&&◌, Bool, true, false, not, Some, List, [], ◌∷◌, All}
+use Rattle.std.proofs.Common.{◌≡◌, ◌≢◌, ℕ, zero, suc, ◌+◌, ◌<◌, ◌==◌, ◌||◌, ◌&&◌, Bool, true, false, not, Some, List, [], ◌∷◌, All}
 use Rattle.std.proofs.Common.{Contains, map, length, get_or, take, refl, sym, ap, ◌∙◌, arith, inl, inr}
 use Rattle.std.specs.Char.{is_whitespace}
 use Rattle.std.specs.List.{filter, list_all, list_any}
@@ -33,7 +33,7 @@ use Rattle.snippet_strokes.specs.Drawing.{HasRows, row_count}
 use Rattle.snippet_strokes.specs.EndBars.{BarEnds}
 use Rattle.snippet_strokes.proofs.BarFacts.{BarBegins, BeginsBelow}
 use Rattle.snippet_strokes.proofs.LineFacts.{AreLineRows, StrokesPainted}
-use Rattle.snippet_strokes.specs.Strokes.{begun_rows, corner_by}
+use Rattle.snippet_strokes.proofs.StrokeWords.{begun_rows, corner_by}
 use Rattle.snippet_strokes.specs.Strokes.{line_strokes}
 use Rattle.snippet_strokes.proofs.LineRowLemmas.{rows_cut}
 use Rattle.snippet_strokes.proofs.AmongLaws.{all_from_among, among_contains, contains_among, filter_map_cases}

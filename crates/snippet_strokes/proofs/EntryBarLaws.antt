@@ -24,8 +24,8 @@ use Rattle.snippet_strokes.specs.declared.bars.BarStroke.TheVariants.{Solid}
 use Rattle.snippet_strokes.specs.Bars.{Bar, bar_cell_part}
 use Rattle.snippet_strokes.proofs.BarFacts.{end_corner, start_corner}
 use Rattle.snippet_strokes.proofs.Reach.{Reaches}
-use Rattle.snippet_strokes.specs.Strokes as strokes
-use Rattle.snippet_strokes.specs.Strokes.{column_of, connectors_of, corner_by, corner_of, corners_of, label_of, labels_of}
+use Rattle.snippet_strokes.specs.Strokes.{column_of, connectors_of, corner_of, corners_of, label_of, labels_of}
+use Rattle.snippet_strokes.proofs.StrokeWords.{corner_by, bar_writes}
 use Rattle.snippet_strokes.specs.Strokes.{stems_of, line_strokes}
 use Rattle.snippet_strokes.proofs.BarWrites.{All-column_of, All-stretch_of}
 use Rattle.snippet_strokes.proofs.LabelWrites.{All-label_of}
@@ -182,7 +182,7 @@ module _ (layout : Layout) (bar : Bar) (room : layout.gutter + 2 + bar.depth < l
       let glyph : ℕ = (strokes_of layout.decor (is_primary e.entry.kind)).bar_top in
       let line : ℕ = (strokes_of layout.decor (is_primary e.entry.kind)).bar in
       let own : Write = glyph_at corner (layout.gutter + 2 + depth) glyph (stroke_role e) in
-      All-cons (Leaves r) own (strokes.bar_writes layout e depth (corner + 1) count) (glyph_leaves r corner depth glyph (stroke_role e) apart)
+      All-cons (Leaves r) own (bar_writes layout e depth (corner + 1) count) (glyph_leaves r corner depth glyph (stroke_role e) apart)
       (column_leaves r (corner + 1) count depth line (stroke_role e) apart)
   part_leaves r e (MultilineEnd depth) other =
       let apart : depth ≢ bar.depth = λ same. both_ways (depth == bar.depth) other (eq-eqb depth bar.depth same) in
@@ -191,7 +191,7 @@ module _ (layout : Layout) (bar : Bar) (room : layout.gutter + 2 + bar.depth < l
       let own : Write = glyph_at corner (layout.gutter + 2 + depth) glyph (stroke_role e) in
       let line : ℕ = (strokes_of layout.decor (is_primary e.entry.kind)).bar in
       let last : All (Leaves r) (own ∷ []) = All-cons (Leaves r) own [] (glyph_leaves r corner depth glyph (stroke_role e) apart) (All-nil (Leaves r)) in
-      All-append (Leaves r) (strokes.bar_writes layout e depth 0 corner) (own ∷ []) (column_leaves r 0 corner depth line (stroke_role e) apart) last
+      All-append (Leaves r) (bar_writes layout e depth 0 corner) (own ∷ []) (column_leaves r 0 corner depth line (stroke_role e) apart) last
   part_leaves r e (MultilineLine depth) other = All-nil (Leaves r)
 
   -- so in it stands what the last entry of its depth leaves there

@@ -14,10 +14,12 @@ use Rattle.snippet_style.specs.declared.role.ElementStyle.TheVariants.{LineNumbe
 use Rattle.snippet_parts.specs.declared.entries.LineAnnotation.{LineAnnotation}
 use Rattle.snippet_parts.specs.declared.entries.LineAnnotationType.TheVariants.{Singleline}
 use Rattle.snippet_labels.specs.declared.positions.PlacedEntry.{PlacedEntry}
-use Rattle.snippet_strokes.specs.Cuts.{cut_row, end_columns, overlapped_by}
+use Rattle.snippet_strokes.specs.Cuts.{overlapped}
+use Rattle.snippet_strokes.specs.LookedCuts.{cut_of, cut_row}
 use Rattle.snippet_strokes.specs.Labels.{stroke_glyphs}
 use Rattle.snippet_strokes.specs.Painting.{painting_order}
 use Rattle.snippet_labels.specs.Positions.{is_placed_before}
+use Rattle.snippet_grid.specs.Layout.{Layout}
 
 -- an entry of these columns, each of one character
 abbrev entry : AnnotationKind → ℕ → ℕ → LineAnnotation
@@ -59,27 +61,41 @@ stem_of_strokes = refl
 letter_of_none : list_any (λ g. char_of (codes "x") == g) (stroke_glyphs Ascii) ≡ false
 letter_of_none = refl
 
+-- an entry of these columns, for the place of whose label so many of those after it are looked at
+abbrev looking : CowStr Global → ℕ → ℕ → ℕ → PlacedEntry
+looking label looked from to = record { entry = entry Primary from to; label = label; position = 0; looked = looked }
+
 -- of three marks, from right to left, where all are looked at for each: the two farthest right count for no one, and the third overlaps itself
 -- `          ^^^^^`
 -- `        -----`
 -- `  ^^^`
 two_do_not_count : (label : CowStr Global)
-    → let marks = placed label Primary 10 15 ∷ placed label Context 8 13 ∷ placed label Primary 2 5 ∷ [] in overlapped_by marks (3 ∷ 3 ∷ 3 ∷ []) 0 marks
-    ≡ false ∷ false ∷ true ∷ []
+    → overlapped (looking label 2 10 15 ∷ looking label 1 8 13 ∷ looking label 0 2 5 ∷ []) ≡ false ∷ false ∷ true ∷ []
 two_do_not_count label = refl
+
+-- where the third reaches below both, they are overlapped
+third_counts : (label : CowStr Global)
+    → overlapped (looking label 2 10 15 ∷ looking label 1 8 13 ∷ looking label 0 2 12 ∷ []) ≡ true ∷ true ∷ true ∷ []
+third_counts label = refl
 
 -- but where the place of no label is sought beyond the mark before it, the third isn't looked at
 looked_at_no_more : (label : CowStr Global)
-    → let marks = placed label Primary 10 15 ∷ placed label Context 8 13 ∷ placed label Primary 2 5 ∷ [] in overlapped_by marks (2 ∷ 2 ∷ 2 ∷ []) 0 marks
-    ≡ false ∷ false ∷ false ∷ []
+    → overlapped (looking label 0 10 15 ∷ looking label 0 8 13 ∷ looking label 0 2 12 ∷ []) ≡ false ∷ false ∷ true ∷ []
 looked_at_no_more label = refl
 
 -- a third of the room stays at each end of what is cut, and five columns at least
-third_stays : end_columns 24 ≡ 8
-third_stays = refl
+abbrev layout : Layout
+layout = record { decor = Ascii; gutter = 1; code = 6 }
 
-five_stay : end_columns 9 ≡ 5
-five_stay = refl
+third_stays : (label : CowStr Global) → cut_of layout 24 (looking label 0 0 60, false) ≡ record { from = 14; to = 58 } ∷ []
+third_stays label = refl
+
+five_stay : (label : CowStr Global) → cut_of layout 9 (looking label 0 0 30, false) ≡ record { from = 11; to = 31 } ∷ []
+five_stay label = refl
+
+-- nothing is cut of an entry that is overlapped
+overlapped_stays : (label : CowStr Global) → cut_of layout 24 (looking label 0 0 60, true) ≡ []
+overlapped_stays label = refl
 
 -- the placeholder stands in place of the cells that are cut: `ab...gh` for `abcdefgh`
 cut_in_the_middle : cut_row Ascii (record { from = 2; to = 6 } ∷ []) (text_cells Quotation (codes "abcdefgh"))

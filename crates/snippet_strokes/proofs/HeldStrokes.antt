@@ -1,5 +1,5 @@
 -- How an entry holds its label, and from where a text is lent, makes no difference to what is drawn of a line.
-use Rattle.std.proofs.Common.{◌≡◌, ℕ, ◌+◌, ◌==◌, ◌&&◌, ◌||◌, nat_le, nat_lt, cond, Bool, List, [], ◌∷◌, ◌++◌, map, max, take, drop}
+use Rattle.std.proofs.Common.{◌≡◌, ℕ, ◌+◌, ◌==◌, ◌&&◌, ◌||◌, nat_le, nat_lt, cond, Bool, List, [], ◌∷◌, ◌++◌, map, max, take, drop, sym}
 use Rattle.std.proofs.Common.{get_or, refl, ap, ◌∙◌}
 use Rattle.std.specs.List.{flat_map, list_any, zip}
 use Rattle.std.specs.List.{drop-map, take-map}
@@ -12,10 +12,13 @@ use Rattle.snippet_strokes.specs.Painting.{marks_of}
 use Rattle.snippet_labels.specs.Positions.{are_starts, do_overlap, has_label, label_place}
 use Rattle.snippet_labels.specs.PlacedEntries.{label_role}
 use Rattle.snippet_strokes.proofs.HeldLemmas.{are_starts-held, held, label_text-plain, marks_of-held}
-use Rattle.snippet_strokes.specs.Cuts.{cut_of, cuts_of, is_met, is_overlapped, look_ends, meets, overlapped, overlapped_by}
+use Rattle.snippet_strokes.specs.Cuts.{overlapped}
+use Rattle.snippet_strokes.specs.LookedCuts.{cut_of}
+use Rattle.snippet_strokes.specs.LookedCuts.{cuts_of, is_met, is_overlapped, look_ends, meets, overlapped_by}
 use Rattle.snippet_strokes.specs.Drawing.{lowest_position, row_count}
 use Rattle.snippet_strokes.specs.Strokes.{connector_of, connectors_of, corner_of, corners_of, is_stem_covered, label_of, labels_of, stem_of, stems_of}
 use Rattle.snippet_strokes.specs.Strokes.{line_strokes}
+use Rattle.snippet_strokes.proofs.LookedCuts.{overlapped_looked}
 
 -- ---- how many rows there are
 
@@ -111,8 +114,9 @@ overlapped_by-held placed ends k (e ∷ es) =
 
 pub overlapped-held : (placed : List PlacedEntry) → overlapped (map held placed) ≡ overlapped placed
 overlapped-held placed =
-    ap (λ ends. overlapped_by (map held placed) ends 0 (map held placed)) (look_ends-held 0 placed)
-    ∙ overlapped_by-held placed (look_ends 0 placed) 0 placed
+    sym (overlapped_looked (map held placed))
+    ∙ ap (λ ends. overlapped_by (map held placed) ends 0 (map held placed)) (look_ends-held 0 placed)
+    ∙ overlapped_by-held placed (look_ends 0 placed) 0 placed ∙ overlapped_looked placed
 
 pub cuts_of-held : (layout : Layout) (room : ℕ) (order : List PlacedEntry) (flags : List Bool)
     → cuts_of layout room (map held order) flags ≡ cuts_of layout room order flags

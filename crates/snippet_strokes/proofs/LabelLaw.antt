@@ -9,7 +9,8 @@ use Rattle.snippet_labels.specs.declared.positions.PlacedEntry.{PlacedEntry}
 use Rattle.snippet_labels.specs.PlacedEntries.{HasPlace, label_text, label_role}
 use Rattle.snippet_labels.specs.Positions.{HasItsLabel, has_label, do_overlap, ends_no_later, blocks, reaches, label_place, ArePlaced}
 use Rattle.snippet_strokes.proofs.Reach.{Reaches}
-use Rattle.snippet_strokes.specs.Strokes.{label_write, label_of, labels_of}
+use Rattle.snippet_strokes.specs.Strokes.{label_of, labels_of}
+use Rattle.snippet_strokes.proofs.StrokeWords.{label_write}
 use Rattle.std.proofs.lemmas.List.{drop_more, take-append-drop, length-drop, get_or-drop}
 use Rattle.std.proofs.lemmas.List.Concat.{flat_map-append}
 use Rattle.snippet_style.specs.Cell.{Cell, unlinked_cell}

@@ -21,7 +21,7 @@ use Rattle.snippet_strokes.specs.Labels.{IsStemCell, IsStrokeCell}
 use Rattle.snippet_strokes.proofs.SeenLabels.{IsLedTo, LabelsStand, PlacedLabel, StandsIn, is_cell_of}
 use Rattle.snippet_strokes.proofs.PaintedMarks.{StandsWhole}
 use Rattle.snippet_labels.specs.Positions.{ArePlaced, HasItsLabel, has_label, label_place}
-use Rattle.snippet_strokes.specs.Strokes.{label_write}
+use Rattle.snippet_strokes.proofs.StrokeWords.{label_write}
 use Rattle.snippet_strokes.proofs.Reach.{Reaches}
 use Rattle.snippet_strokes.proofs.StrokeCells.{BesideLabels}
 use Rattle.snippet_strokes.proofs.StemCells.{IsHung}

@@ -15,7 +15,8 @@ use Rattle.snippet_strokes.proofs.DrawnCells.{DrawsFrom, MarksStarts, StandsFrom
 use Rattle.snippet_labels.specs.Positions.{has_label}
 use Rattle.snippet_strokes.specs.Writes.{Write, painted}
 use Rattle.snippet_strokes.proofs.Reach.{Reaches, IsWithin, cell_of_write}
-use Rattle.snippet_strokes.specs.Strokes.{label_write, label_of, labels_of}
+use Rattle.snippet_strokes.specs.Strokes.{label_of, labels_of}
+use Rattle.snippet_strokes.proofs.StrokeWords.{label_write}
 use Rattle.snippet_strokes.proofs.PositionLemmas.{label_beside, label_column, label_stands}
 use Rattle.snippet_strokes.proofs.TextLemmas.{free_label_text}
 use Rattle.snippet_strokes.proofs.WriteLaws.{All-flat_map, DrawsFrom-painted, flat_map-none, painted-cell}

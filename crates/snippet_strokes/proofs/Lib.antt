@@ -33,6 +33,7 @@ pub mod LineExamples
 pub mod LineLemmas
 pub mod LineRowLemmas
 pub mod LineValueLaws
+pub mod LookedCuts
 pub mod LowerWrites
 pub mod MarkLemmas
 pub mod MarkStrokeLemmas
@@ -67,6 +68,7 @@ pub mod StemWrites
 pub mod StrokeCells
 pub mod StrokeGlyphs
 pub mod StrokeLemmas
+pub mod StrokeWords
 pub mod StrokeWrites
 pub mod StrokesInside
 pub mod TextLemmas

@@ -9,7 +9,6 @@ use Rattle.snippet_parts.specs.declared.entries.LineAnnotation.{LineAnnotation}
 use Rattle.snippet_style.specs.Cell.{Cell}
 use Rattle.snippet_text.specs.Normalized.{norm}
 use Rattle.snippet_text.specs.Width.{width_of}
-use Rattle.snippet_window.specs.Margin.{bounds_of}
 use Rattle.snippet_window.specs.Window.{dropped_part}
 use Rattle.snippet_grid.specs.Grid.{changed_within, row_at}
 use Rattle.snippet_grid.specs.Layout.{Layout}
@@ -33,7 +32,7 @@ row_added old new row r last added = ap (λ rows. row_at rows r) added ∙ get_o
 -- ---- one line
 
 module _ (layout : Layout) (view : LineView) (open_bars : List OpenBar) (info : AnnotatedLineInfo) (dropped row : ℕ) (old : List (List Cell))
-    (dropped_is : dropped ≡ width_of (dropped_part (bounds_of view.margin).left (norm (chars info.line.now)))) (last : row ≡ length old) where
+    (dropped_is : dropped ≡ width_of (dropped_part view.margin.computed_left (norm (chars info.line.now)))) (last : row ≡ length old) where
   abbrev es : List LineAnnotation
   es = info.annotations.items
 
@@ -41,7 +40,7 @@ module _ (layout : Layout) (view : LineView) (open_bars : List OpenBar) (info : 
   text = norm (chars info.line.now)
 
   abbrev drop_count : ℕ
-  drop_count = width_of (dropped_part (bounds_of view.margin).left text)
+  drop_count = width_of (dropped_part view.margin.computed_left text)
 
   abbrev plain : List Cell
   plain = source_row layout (shown_number view.numbers layout.gutter info.line_index) (window_cells layout.decor view.margin text)

@@ -14,7 +14,6 @@ use Rattle.snippet_style.specs.Separators.{closing_row}
 use Rattle.snippet_style.specs.declared.role.ElementStyle.TheVariants.{LineNumber}
 use Rattle.snippet_text.specs.Normalized.{norm}
 use Rattle.snippet_text.specs.Width.{width_of}
-use Rattle.snippet_window.specs.Margin.{bounds_of}
 use Rattle.snippet_window.specs.Measures.{StandsClear}
 use Rattle.snippet_window.specs.Window.{dropped_part}
 use Rattle.snippet_window.specs.declared.margin.Margin.{Margin}
@@ -25,13 +24,16 @@ use Rattle.snippet_labels.specs.declared.positions.PlacedEntry.{PlacedEntry}
 use Rattle.snippet_strokes.specs.declared.bars.BarStroke.TheVariants.{Solid, Top}
 use Rattle.snippet_strokes.specs.declared.bars.OpenBar.{OpenBar}
 use Rattle.snippet_strokes.specs.Bars.{bars_apart, ends_of_bars, is_whole_line, with_bars}
-use Rattle.snippet_strokes.specs.Cuts.{cut_row, cuts_of, overlapped}
+use Rattle.snippet_strokes.specs.Cuts.{overlapped}
+use Rattle.snippet_strokes.specs.LookedCuts.{cut_row}
+use Rattle.snippet_strokes.specs.LookedCuts.{cuts_of}
 use Rattle.snippet_strokes.specs.Drawable.{AreDrawable}
 use Rattle.snippet_strokes.specs.Drawing.{row_count}
 use Rattle.snippet_strokes.specs.Painting.{painting_order}
 use Rattle.snippet_strokes.specs.SourceRows.{source_row, window_cells}
 use Rattle.snippet_strokes.specs.StrokeRows.{role_in_source}
-use Rattle.snippet_strokes.specs.Strokes.{begun_rows, line_strokes}
+use Rattle.snippet_strokes.specs.Strokes.{line_strokes}
+use Rattle.snippet_strokes.proofs.StrokeWords.{begun_rows}
 use Rattle.snippet_strokes.specs.Writes.{painted}
 use Rattle.snippet_strokes.proofs.PlacedOf.{HasTextLabel}
 
@@ -108,7 +110,7 @@ pub record ShowsLine (layout : Layout) (margin : Margin) (numbers : LineNumbers)
   pub plain : List Cell
   pub shows : IsSourceRow layout (shown_number numbers layout.gutter info.line_index) (window_cells layout.decor margin (norm (chars info.line.now))) plain
   pub dropped : ℕ
-  pub dropped_is : dropped ≡ width_of (dropped_part (bounds_of margin).left (norm (chars info.line.now)))
+  pub dropped_is : dropped ≡ width_of (dropped_part margin.computed_left (norm (chars info.line.now)))
   pub clear : All (λ e. is_bar e.annotation_type ≡ false → dropped ≤ e.start.display) info.annotations.items
   pub highlighted : List Cell
   pub highlights : IsHighlighted layout.code dropped (filter (λ e. not (is_end_part e.annotation_type)) info.annotations.items) plain highlighted

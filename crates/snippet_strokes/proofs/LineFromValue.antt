@@ -1,5 +1,5 @@
 -- What is known of the rows of a line that painters promise, from the value alone: its source row, and the rows of its strokes.
-use Rattle.std.proofs.Common.{◌≡◌, ℕ, suc, ◌+◌, ◌-◌, ◌<◌, ◌≤◌, ◌^◌, Bool, true, false, List, [], ◌∷◌, ◌++◌, All, chars, drop, filter, get_or, length, map, not}
+use Rattle.std.proofs.Common.{◌≡◌, ℕ, suc, ◌+◌, ◌-◌, ◌<◌, ◌≤◌, ◌^◌, Bool, false, List, [], ◌∷◌, ◌++◌, All, chars, drop, filter, get_or, length, map, not}
 use Rattle.std.proofs.Common.{take, refl, sym, ap, ◌∙◌, subst, arith, inl, inr}
 use Rattle.std.proofs.lemmas.Bool.{cases_lt, cond-false, cond-true, false≢true}
 use Rattle.std.proofs.lemmas.List.FromFn.{get_or-map-range_with_len, length-map-range_with_len}
@@ -18,7 +18,6 @@ use Rattle.snippet_text.specs.Normalized.{is_listed, norm}
 use Rattle.snippet_text.specs.Width.{char_width, width_of}
 use Rattle.snippet_text.proofs.NormLemmas.{list_any-norm}
 use Rattle.snippet_text.proofs.WidthBounds.{char_width-bound}
-use Rattle.snippet_window.specs.Margin.{bounds_of}
 use Rattle.snippet_window.specs.Measures.{StandsClear}
 use Rattle.snippet_window.specs.Window.{covered_columns, covered_end, dropped_part, inner_part, reaching, uncovered_part, window_left}
 use Rattle.snippet_window.specs.declared.margin.Margin.{Margin}
@@ -31,14 +30,17 @@ use Rattle.snippet_strokes.specs.declared.bars.BarStroke.TheVariants.{Top}
 use Rattle.snippet_strokes.specs.declared.bars.OpenBar.{OpenBar}
 use Rattle.snippet_strokes.specs.declared.snippet.LineView.{LineView}
 use Rattle.snippet_strokes.specs.Bars.{ends_of_bars, is_whole_line, with_bars}
-use Rattle.snippet_strokes.specs.Cuts.{cut_row, cuts_of, overlapped}
+use Rattle.snippet_strokes.specs.Cuts.{overlapped}
+use Rattle.snippet_strokes.specs.LookedCuts.{cut_row}
+use Rattle.snippet_strokes.specs.LookedCuts.{cuts_of}
 use Rattle.snippet_strokes.specs.Drawing.{row_count}
 use Rattle.snippet_strokes.specs.LineRows.{line_rows, own_rows}
 use Rattle.snippet_strokes.specs.Painting.{painting_order}
 use Rattle.snippet_strokes.specs.Snippet.{info_rows}
 use Rattle.snippet_strokes.specs.SourceRows.{source_row, window_cells}
 use Rattle.snippet_strokes.specs.StrokeRows.{highlighted_row, role_in_source}
-use Rattle.snippet_strokes.specs.Strokes.{begun_rows, line_strokes, stroke_rows}
+use Rattle.snippet_strokes.specs.Strokes.{line_strokes, stroke_rows}
+use Rattle.snippet_strokes.proofs.StrokeWords.{begun_rows}
 use Rattle.snippet_strokes.specs.Writes.{painted}
 use Rattle.snippet_strokes.proofs.CellLemmas.{free_shown, unlisted_part}
 use Rattle.snippet_strokes.proofs.LineFacts.{AreLineRows, AreOwnRows, CanBeShown, IsHighlighted, IsSourceRow, ShowsLine, StrokesPainted}
@@ -46,6 +48,7 @@ use Rattle.snippet_strokes.proofs.PlacedOf.{HasTextLabel, placed_of_are, texts-s
 use Rattle.snippet_strokes.proofs.PositionLemmas.{row_count_some}
 use Rattle.snippet_strokes.proofs.SourceRowLemmas.{source_celled}
 use Rattle.snippet_strokes.proofs.StrokesInside.{painted_rows-count, stroke_rows-count}
+use Rattle.snippet_strokes.proofs.CutLemmas.{stroke_rows-cut}
 
 -- ---- the source row
 
@@ -57,8 +60,8 @@ source_row_shows layout shown cells place short free_shown free_cells = source_c
 -- the window of a normalised text holds no listed character
 pub free_window : (decor : DecorStyle) (margin : Margin) (line : List ℕ) → IsFree (window_cells decor margin (norm line))
 free_window decor margin line =
-    let left : ℕ = (bounds_of margin).left in
-    let right : ℕ = (bounds_of margin).right in
+    let left : ℕ = margin.computed_left in
+    let right : ℕ = margin.computed_right in
     let placeholder : List ℕ = placeholder_of decor in
     let text : List ℕ = norm line in
     let inner : List ℕ = inner_part margin.term_width left right text in
@@ -111,7 +114,7 @@ stroke_rows_are_painted layout room closes es source texts =
       marks = get_or whole 1 [];
       lower = drop 2 whole;
       painted_are = sym parts;
-      rows_are = ap (λ rows. map cut (take 2 rows) ++ drop 2 rows) parts;
+      rows_are = stroke_rows-cut layout room closes es source ∙ ap (λ rows. map cut (take 2 rows) ++ drop 2 rows) parts;
       count = stroke_rows-count layout room closes es source;
     }
 
@@ -175,9 +178,9 @@ reached_near n (c ∷ cs) =
 
 -- entries that stand after the padding of the margin's left bound start in no column that is dropped
 pub entries_clear : (margin : Margin) (text : List ℕ) (es : List LineAnnotation) → All (StandsClear margin) es
-    → All (λ e. is_bar e.annotation_type ≡ false → width_of (dropped_part (bounds_of margin).left text) ≤ e.start.display) es
+    → All (λ e. is_bar e.annotation_type ≡ false → width_of (dropped_part margin.computed_left text) ≤ e.start.display) es
 entries_clear margin text es clear k d within columns =
-    let left : ℕ = (bounds_of margin).left in
+    let left : ℕ = margin.computed_left in
     let near = reached_near (window_left left text) text in
     elim (cases_lt 0 left) [
       | inl cut ↦ omega (arith, clear k d within columns cut, near)
@@ -195,7 +198,7 @@ info_rows_show layout view open_bars info place can =
     let margin : Margin = view.margin in
     let es : List LineAnnotation = info.annotations.items in
     let text : List ℕ = norm (chars info.line.now) in
-    let dropped : ℕ = width_of (dropped_part (bounds_of margin).left text) in
+    let dropped : ℕ = width_of (dropped_part margin.computed_left text) in
     let asking : List LineAnnotation = filter (λ (e : LineAnnotation). not (is_end_part e.annotation_type)) es in
     let shown : List ℕ = shown_number view.numbers layout.gutter info.line_index in
     let plain : List Cell = source_row layout shown (window_cells layout.decor margin text) in

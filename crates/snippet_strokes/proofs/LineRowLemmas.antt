@@ -20,10 +20,13 @@ use Rattle.snippet_strokes.specs.LineRows.{own_rows}
 use Rattle.snippet_strokes.specs.Painting.{painting_order}
 use Rattle.snippet_labels.specs.Positions.{ArePlaced}
 use Rattle.snippet_strokes.specs.Drawing.{row_count}
-use Rattle.snippet_strokes.specs.Cuts.{Stretch, cut_row, cut_rows, cuts_of, is_wide_at, overlapped}
+use Rattle.snippet_strokes.specs.Cuts.{overlapped}
+use Rattle.snippet_strokes.specs.LookedCuts.{Stretch, cut_row}
+use Rattle.snippet_strokes.specs.LookedCuts.{cut_rows, cuts_of, is_wide_at}
 use Rattle.snippet_strokes.proofs.SeenRows.{CutsRows, IsCut}
 use Rattle.snippet_strokes.specs.SourceRows.{bare_row}
-use Rattle.snippet_strokes.specs.Strokes.{begun_rows, line_strokes, stroke_rows}
+use Rattle.snippet_strokes.specs.Strokes.{line_strokes, stroke_rows}
+use Rattle.snippet_strokes.proofs.StrokeWords.{begun_rows}
 use Rattle.snippet_strokes.specs.Writes.{Write, painted}
 use Rattle.snippet_strokes.proofs.PaintOrder.{IsPermutation-painting_order}
 use Rattle.snippet_strokes.proofs.BegunLemmas.{wide_entries-order}

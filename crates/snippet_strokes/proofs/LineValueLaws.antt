@@ -17,13 +17,17 @@ use Rattle.snippet_strokes.proofs.HeldLemmas.{held, held_are, painting_order-hel
 use Rattle.snippet_strokes.specs.declared.bars.BarStroke.TheVariants.{Top, Solid}
 use Rattle.snippet_strokes.specs.declared.bars.OpenBar.{OpenBar}
 use Rattle.snippet_strokes.specs.Bars.{bar_of, bars_apart, ends_of_bars, is_beside, is_whole_line, with_bars}
-use Rattle.snippet_strokes.specs.Cuts.{Stretch, cut_row, cuts_of, overlapped}
+use Rattle.snippet_strokes.specs.Cuts.{overlapped}
+use Rattle.snippet_strokes.specs.LookedCuts.{Stretch, cut_row}
+use Rattle.snippet_strokes.specs.LookedCuts.{cuts_of}
 use Rattle.snippet_strokes.specs.Drawing.{row_count}
 use Rattle.snippet_strokes.proofs.LineFacts.{StrokesPainted}
 use Rattle.snippet_strokes.specs.LineRows.{line_rows, own_rows}
 use Rattle.snippet_strokes.specs.StrokeRows.{highlighted_row, highlights}
-use Rattle.snippet_strokes.specs.Strokes.{begun_rows, stroke_rows, line_strokes}
+use Rattle.snippet_strokes.specs.Strokes.{stroke_rows, line_strokes}
+use Rattle.snippet_strokes.proofs.StrokeWords.{begun_rows}
 use Rattle.snippet_strokes.proofs.HeldStrokes.{cuts_of-held, overlapped-held, row_count-held, line_strokes-held}
+use Rattle.snippet_strokes.proofs.CutLemmas.{stroke_rows-cut}
 
 -- ---- the rows of strokes
 
@@ -71,10 +75,13 @@ module _ (layout : Layout) (room : ℕ) (closes : Bool) (source : List Cell) whe
   stroke_rows_are es rows is =
       let cut = cut_row layout.decor (cuts_at is.placed) in
       is.rows_are ∙ ap (λ whole. map cut (take 2 whole) ++ drop 2 whole) is.painted_are ∙ alike is.placed (placed_of es) (held_are es is.placed is.are)
+      ∙ sym (stroke_rows-cut layout room closes es source)
 
   -- and from where labels are lent makes no difference
   stroke_rows-plain : (es : List LineAnnotation) → stroke_rows layout room closes (map plain_entry es) source ≡ stroke_rows layout room closes es source
-  stroke_rows-plain es = alike (placed_of (map plain_entry es)) (placed_of es) (placed_of-plain es)
+  stroke_rows-plain es =
+      stroke_rows-cut layout room closes (map plain_entry es) source ∙ alike (placed_of (map plain_entry es)) (placed_of es) (placed_of-plain es)
+      ∙ sym (stroke_rows-cut layout room closes es source)
 
 -- ---- entries whose labels are lent from elsewhere
 

@@ -16,8 +16,10 @@ use Rattle.snippet_labels.specs.declared.positions.PlacedEntry.{PlacedEntry}
 use Rattle.snippet_strokes.specs.Painting.{first_glyph, mark_end, mark_of, marks_of, stroke_role}
 use Rattle.snippet_strokes.specs.Drawing.{foot_glyph}
 use Rattle.snippet_labels.specs.Positions.{has_label, has_stem, label_place}
-use Rattle.snippet_strokes.specs.Strokes.{bar_writes, connector_by, connector_of, connectors_of, corner_by, corner_of, corners_of, is_stem_covered}
-use Rattle.snippet_strokes.specs.Strokes.{label_of, label_write, labels_of, line_to, stem_of, stem_write, stems_of, line_strokes, column_of}
+use Rattle.snippet_strokes.specs.Strokes.{connector_of, connectors_of, corner_of, corners_of, is_stem_covered}
+use Rattle.snippet_strokes.proofs.StrokeWords.{bar_writes, connector_by, corner_by}
+use Rattle.snippet_strokes.specs.Strokes.{label_of, labels_of, stem_of, stems_of, line_strokes, column_of}
+use Rattle.snippet_strokes.proofs.StrokeWords.{label_write, line_to, stem_write}
 use Rattle.snippet_strokes.specs.Writes.{Write, glyph_at, painted, stretch_of}
 use Rattle.snippet_strokes.proofs.OneStep.{written_by}
 

@@ -1,5 +1,5 @@
 -- The entries of a line as they are placed: the one entry of a line, and lines that take one row.
-use Rattle.std.proofs.Common.{◌≡◌, ℕ, ◌-◌, ◌≤◌, ◌==◌, not, false, List, [], ◌∷◌, length, map}
+use Rattle.std.proofs.Common.{◌≡◌, ℕ, ◌≤◌, ◌==◌, not, false, List, [], ◌∷◌, length, map}
 use Rattle.std.proofs.Common.{get_or, sym, ap, ◌∙◌, subst, arith, All}
 use Rattle.std.specs.List.Sorted.{IsPermutation}
 use Rattle.std.proofs.lemmas.List.{length-map}

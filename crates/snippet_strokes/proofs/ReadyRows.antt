@@ -20,7 +20,8 @@ use Rattle.snippet_strokes.proofs.MarkWriteLemmas.{Painted-marks}
 use Rattle.snippet_strokes.specs.Drawable.{AreDrawable}
 use Rattle.snippet_strokes.specs.Drawing.{AreEnough, HasPlaceAmong, row_count}
 use Rattle.snippet_strokes.proofs.LineFacts.{StrokesPainted}
-use Rattle.snippet_strokes.specs.Strokes.{begun_rows, connectors_of, corners_of, labels_of, line_strokes, stems_of}
+use Rattle.snippet_strokes.specs.Strokes.{connectors_of, corners_of, labels_of, line_strokes, stems_of}
+use Rattle.snippet_strokes.proofs.StrokeWords.{begun_rows}
 use Rattle.snippet_strokes.proofs.BarWrites.{DrawsBarCells-corners, DrawsFrom-connectors}
 use Rattle.snippet_strokes.proofs.BegunLemmas.{rows_begun, rows_ready}
 use Rattle.snippet_strokes.proofs.LabelWrites.{DrawsFrom-labels}

@@ -1,5 +1,5 @@
 -- Entries of a line of which columns are dropped.
-use Rattle.std.proofs.Common.{ℕ, ◌-◌, List, All, map, arith}
+use Rattle.std.proofs.Common.{ℕ, List, All, map, arith}
 use Rattle.std.proofs.lemmas.List.Elements.{All-map}
 use Rattle.snippet_grid.specs.Layout.{Layout}
 use Rattle.snippet_parts.specs.declared.entries.LineAnnotation.{LineAnnotation}

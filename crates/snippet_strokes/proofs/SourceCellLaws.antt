@@ -27,7 +27,8 @@ use Rattle.snippet_strokes.proofs.LineRowLemmas.{rows_cut}
 use Rattle.snippet_strokes.proofs.Reach.{Reaches}
 use Rattle.snippet_strokes.specs.StrokeRows.{bare_elision_row}
 use Rattle.snippet_strokes.specs.Snippet.{gap_row}
-use Rattle.snippet_strokes.specs.Strokes.{begun_rows, column_of, connector_of, connectors_of, corner_by, corner_of, corners_of, labels_of}
+use Rattle.snippet_strokes.specs.Strokes.{column_of, connector_of, connectors_of, corner_of, corners_of, labels_of}
+use Rattle.snippet_strokes.proofs.StrokeWords.{begun_rows, corner_by}
 use Rattle.snippet_strokes.specs.Strokes.{stems_of, line_strokes}
 use Rattle.snippet_strokes.proofs.AmongLaws.{all_from_among}
 use Rattle.snippet_strokes.proofs.BarWrites.{All-column_of, All-connector_of, All-stretch_of}

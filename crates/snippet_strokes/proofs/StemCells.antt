@@ -22,7 +22,8 @@ use Rattle.snippet_strokes.proofs.WriteLemmas.{painted-append}
 use Rattle.snippet_strokes.specs.Drawing.{foot_glyph}
 use Rattle.snippet_strokes.specs.Labels.{IsStemCell, stem_glyphs}
 use Rattle.snippet_strokes.proofs.Reach.{Reaches, cell_of_write}
-use Rattle.snippet_strokes.specs.Strokes.{connectors_of, corners_of, is_stem_covered, label_of, labels_of, stem_of, stem_write, stems_of, line_strokes}
+use Rattle.snippet_strokes.specs.Strokes.{connectors_of, corners_of, is_stem_covered, label_of, labels_of, stem_of, stems_of, line_strokes}
+use Rattle.snippet_strokes.proofs.StrokeWords.{stem_write}
 use Rattle.snippet_strokes.proofs.BarWrites.{All-stretch_of}
 use Rattle.snippet_strokes.proofs.LabelWrites.{All-label_of}
 use Rattle.snippet_strokes.proofs.StemWrites.{All-stem_of, All-stems_of, stems_next, stems_skip}

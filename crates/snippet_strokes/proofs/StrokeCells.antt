@@ -20,7 +20,8 @@ use Rattle.snippet_strokes.specs.Drawing.{foot_glyph}
 use Rattle.snippet_labels.specs.Positions.{has_label}
 use Rattle.snippet_strokes.proofs.Reach.{Reaches, cell_of_write}
 use Rattle.snippet_strokes.specs.Writes.{Write, glyph_at, painted, stretch_of}
-use Rattle.snippet_strokes.specs.Strokes.{bar_writes, connector_of, connectors_of, corner_by, corner_of, corners_of, label_of, label_write, labels_of, stems_of}
+use Rattle.snippet_strokes.specs.Strokes.{connector_of, connectors_of, corner_of, corners_of, label_of, labels_of, stems_of}
+use Rattle.snippet_strokes.proofs.StrokeWords.{bar_writes, corner_by, label_write}
 use Rattle.snippet_strokes.specs.Strokes.{line_strokes, stem_of}
 use Rattle.snippet_strokes.proofs.BarWrites.{All-column_of, All-connector_of, All-stretch_of}
 use Rattle.snippet_strokes.proofs.LabelWrites.{All-label_of}

@@ -15,7 +15,8 @@ use Rattle.snippet_strokes.specs.Drawing.{foot_glyph}
 use Rattle.snippet_labels.specs.Positions.{has_label, label_place}
 use Rattle.snippet_strokes.specs.Writes.{Write, glyph_at, painted}
 use Rattle.snippet_strokes.proofs.OneStep.{written_by}
-use Rattle.snippet_strokes.specs.Strokes.{column_of, connectors_of, corners_of, label_write, label_of, labels_of, stem_write, stems_of}
+use Rattle.snippet_strokes.specs.Strokes.{column_of, connectors_of, corners_of, label_of, labels_of, stems_of}
+use Rattle.snippet_strokes.proofs.StrokeWords.{label_write, stem_write}
 use Rattle.snippet_strokes.specs.Strokes.{line_strokes, strokes_under_marks}
 use Rattle.snippet_strokes.specs.Painting.{marks_of}
 use Rattle.snippet_strokes.proofs.WriteLemmas.{painted-append}

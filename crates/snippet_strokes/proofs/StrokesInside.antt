@@ -17,11 +17,14 @@ use Rattle.snippet_parts.specs.declared.entries.LineAnnotationType.{LineAnnotati
 use Rattle.snippet_parts.specs.declared.entries.LineAnnotationType.TheVariants.{MultilineEnd, MultilineLine, MultilineStart, Singleline}
 use Rattle.snippet_labels.specs.Positions.{has_label, label_place, placed_of}
 use Rattle.snippet_labels.specs.declared.positions.PlacedEntry.{PlacedEntry}
-use Rattle.snippet_strokes.specs.Cuts.{cut_row, cuts_of, overlapped}
+use Rattle.snippet_strokes.specs.Cuts.{overlapped}
+use Rattle.snippet_strokes.specs.LookedCuts.{cut_row}
+use Rattle.snippet_strokes.specs.LookedCuts.{cuts_of}
 use Rattle.snippet_strokes.specs.Drawing.{HasRows, row_count}
 use Rattle.snippet_strokes.specs.Painting.{first_glyph, mark_end, mark_of, marks_of, painting_order, stroke_role}
 use Rattle.snippet_strokes.specs.SourceRows.{bare_row}
-use Rattle.snippet_strokes.specs.Strokes.{bar_writes, begun_rows, column_of, connector_of, connectors_of, corner_by, corner_of, corners_of, label_of}
+use Rattle.snippet_strokes.specs.Strokes.{column_of, connector_of, connectors_of, corner_of, corners_of, label_of}
+use Rattle.snippet_strokes.proofs.StrokeWords.{bar_writes, begun_rows, corner_by}
 use Rattle.snippet_strokes.specs.Strokes.{labels_of, line_strokes, stems_of, stroke_rows}
 use Rattle.snippet_strokes.specs.Writes.{Write, glyph_at, painted, stretch_of}
 use Rattle.snippet_strokes.proofs.CellLemmas.{above_zero}
@@ -30,6 +33,7 @@ use Rattle.snippet_strokes.proofs.LabelWrites.{All-label_of}
 use Rattle.snippet_strokes.proofs.PositionLemmas.{HasRows-row_count, row_count_some}
 use Rattle.snippet_strokes.proofs.StemWrites.{All-stem_of, All-stems_of}
 use Rattle.snippet_strokes.proofs.WriteLaws.{All-flat_map, painted-count}
+use Rattle.snippet_strokes.proofs.CutLemmas.{stroke_rows-cut}
 
 module _ (layout : Layout) (count : ℕ) where
   -- a write into one of so many rows
@@ -127,5 +131,6 @@ stroke_rows-count layout room closes es source =
     let order : List PlacedEntry = painting_order placed in
     let whole : List (List Cell) = painted (line_strokes layout 0 (row_count placed + 1) placed order) (begun_rows layout closes (row_count placed) source) in
     let cut : List Cell → List Cell = cut_row layout.decor (cuts_of layout room order (overlapped placed)) in
-    length-append (map cut (take 2 whole)) (drop 2 whole) ∙ ap (λ n. n + length (drop 2 whole)) (length-map (take 2 whole) cut)
+    ap length (stroke_rows-cut layout room closes es source)
+    ∙ length-append (map cut (take 2 whole)) (drop 2 whole) ∙ ap (λ n. n + length (drop 2 whole)) (length-map (take 2 whole) cut)
     ∙ sym (length-append (take 2 whole) (drop 2 whole)) ∙ ap length (take-append-drop 2 whole) ∙ painted_rows-count layout closes placed order source

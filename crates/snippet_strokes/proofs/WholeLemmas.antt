@@ -3,7 +3,6 @@ use Rattle.std.proofs.Common.{◌≡◌, ℕ, ◌+◌, ◌-◌, ◌≤◌, min, 
 use Rattle.std.proofs.lemmas.Bool.{le-leb}
 use Rattle.std.proofs.lemmas.List.{take_all}
 use Rattle.snippet_window.specs.declared.margin.Margin.{Margin}
-use Rattle.snippet_window.specs.Margin.{bounds_of}
 use Rattle.snippet_window.specs.Window.{reaching_last, window_left, window_right, inner_part, covered_columns, uncovered_part, covered_end}
 use Rattle.snippet_style.specs.declared.glyphs.DecorStyle.{DecorStyle}
 use Rattle.snippet_style.specs.declared.role.ElementStyle.TheVariants.{Quotation}
@@ -52,9 +51,9 @@ whole_between decor room right text fits =
     ∙ ap (text_cells Quotation) (inner-whole room right text fits)
 
 -- a text that fits the room, of which nothing is cut on the left, is shown whole
-pub window_cells-whole : (decor : DecorStyle) (margin : Margin) (text : List ℕ) → (bounds_of margin).left ≡ 0 → width_of text ≤ margin.term_width
+pub window_cells-whole : (decor : DecorStyle) (margin : Margin) (text : List ℕ) → margin.computed_left ≡ 0 → width_of text ≤ margin.term_width
     → window_cells decor margin text ≡ text_cells Quotation text
 unfolding cells_between
 window_cells-whole decor margin text uncut fits =
-    ap (λ left. cells_between decor margin.term_width left (bounds_of margin).right text) uncut
-    ∙ whole_between decor margin.term_width (bounds_of margin).right text fits
+    ap (λ left. cells_between decor margin.term_width left margin.computed_right text) uncut
+    ∙ whole_between decor margin.term_width margin.computed_right text fits

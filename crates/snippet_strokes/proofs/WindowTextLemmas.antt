@@ -1,10 +1,9 @@
 -- The text that the cells of a window print.
-use Rattle.std.proofs.Common.{◌≡◌, ℕ, ◌+◌, ◌-◌, ◌==◌, cond, Bool, true, false, Option, None, Some, List, [], ◌∷◌, ◌++◌, length, map, take, drop, replicate}
-use Rattle.std.proofs.Common.{zero, suc, refl, sym, ap, ◌∙◌}
+use Rattle.std.proofs.Common.{◌≡◌, ℕ, ◌+◌, ◌-◌, ◌==◌, cond, Option, None, Some, List, [], ◌∷◌, ◌++◌, length, map, take, drop, replicate}
+use Rattle.std.proofs.Common.{zero, suc, refl, sym, ap, ◌∙◌, arith}
 use Rattle.std.specs.Option.{option_map_or}
 use Rattle.std.proofs.lemmas.List.{map-append, take-map, drop-map, length-map}
 use Rattle.snippet_window.specs.declared.margin.Margin.{Margin}
-use Rattle.snippet_window.specs.Margin.{bounds_of}
 use Rattle.snippet_window.specs.Window.{inner_part, covered_columns, uncovered_part, covered_end, window}
 use Rattle.snippet_style.specs.declared.glyphs.DecorStyle.{DecorStyle}
 use Rattle.snippet_style.specs.declared.role.ElementStyle.TheVariants.{LineNumber, Quotation}
@@ -13,6 +12,7 @@ use Rattle.snippet_style.specs.Cell.{Cell, SPACE, text_cells, written}
 use Rattle.snippet_grid.specs.Print.{row_text}
 use Rattle.snippet_strokes.specs.SourceRows.{begun_cells, ended_cells, window_cells}
 use Rattle.snippet_grid.proofs.RowLemmas.{row_text-text_cells}
+use Rattle.snippet_strokes.proofs.CellLemmas.{above_zero}
 
 -- the characters of cells that were written
 map-replicate : {X Y : Type 0} (f : X → Y) (n : ℕ) (x : X) → map f (replicate n x) ≡ replicate n (f x)
@@ -48,18 +48,10 @@ row_text-begun : (decor : DecorStyle) (start : Option ℕ) (text : List ℕ)
 row_text-begun decor None text = row_text-text_cells Quotation text
 row_text-begun decor (Some columns) [] = row_text-text_cells LineNumber (placeholder_of decor)
 row_text-begun decor (Some columns) (c ∷ cs) =
-    some (length (c ∷ cs) == 0)
-    (row_text-written (text_cells LineNumber (placeholder_of decor)) columns (text_cells Quotation (c ∷ cs))
+    row_text-written (text_cells LineNumber (placeholder_of decor)) columns (text_cells Quotation (c ∷ cs))
     ∙ ap (λ p. written 32 p columns (row_text (text_cells Quotation (c ∷ cs)))) (row_text-text_cells LineNumber (placeholder_of decor))
-    ∙ ap (written 32 (placeholder_of decor) columns) (row_text-text_cells Quotation (c ∷ cs)))
-  where
-    some : (b : Bool) → row_text (written SPACE (text_cells LineNumber (placeholder_of decor)) columns (text_cells Quotation (c ∷ cs)))
-        ≡ written 32 (placeholder_of decor) columns (c ∷ cs)
-        → row_text (cond b (text_cells LineNumber (placeholder_of decor))
-        (written SPACE (text_cells LineNumber (placeholder_of decor)) columns (text_cells Quotation (c ∷ cs)))) ≡ cond b (placeholder_of decor)
-        (written 32 (placeholder_of decor) columns (c ∷ cs))
-    some true is = row_text-text_cells LineNumber (placeholder_of decor)
-    some false is = is
+    ∙ ap (written 32 (placeholder_of decor) columns) (row_text-text_cells Quotation (c ∷ cs))
+    ∙ ap (λ b. cond b (placeholder_of decor) (written 32 (placeholder_of decor) columns (c ∷ cs))) (sym (above_zero (length (c ∷ cs)) (omega arith)))
 
 row_text-ended : (decor : DecorStyle) (end : Option ℕ) (cells : List Cell) (text : List ℕ) → row_text cells ≡ text
     → row_text (ended_cells decor end cells) ≡ ended_with (placeholder_of decor) end text
@@ -71,10 +63,10 @@ row_text-ended decor (Some at) cells text is =
 
 -- the characters of the cells of a window are the window
 pub row_text-window_cells : (decor : DecorStyle) (margin : Margin) (text : List ℕ)
-    → row_text (window_cells decor margin text) ≡ window (placeholder_of decor) margin.term_width (bounds_of margin).left (bounds_of margin).right text
+    → row_text (window_cells decor margin text) ≡ window (placeholder_of decor) margin.term_width margin.computed_left margin.computed_right text
 row_text-window_cells decor margin text =
-    let left = (bounds_of margin).left in
-    let right = (bounds_of margin).right in
+    let left = margin.computed_left in
+    let right = margin.computed_right in
     let placeholder = placeholder_of decor in
     let inner = inner_part margin.term_width left right text in
     row_text-ended decor (covered_end margin.term_width left right placeholder text) _ _

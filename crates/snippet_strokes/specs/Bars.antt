@@ -41,7 +41,7 @@ has_depth bars depth = list_any (λ b. b.depth == depth) bars
 
 -- the bars whose depth none of the others has
 abbrev pub bars_apart : List OpenBar → List OpenBar → List OpenBar
-bars_apart bars others = filter (λ b. not (has_depth others b.depth)) bars
+bars_apart bars others = filter (λ bar. not (list_any (λ other. other.depth == bar.depth) others)) bars
 
 -- of some bars none but this one has its depth
 abbrev pub HasOwnDepth : OpenBar → List OpenBar → Type 0
@@ -88,10 +88,11 @@ abbrev pub bar_cell_part : Layout → BarStroke → OpenBar → Cell
 bar_cell_part layout stroke bar =
     unlinked_cell (underline_role bar.primary) (bar_glyph stroke layout.decor bar.primary)
 
--- a row with a part of each of some bars in the cell of its depth: of two of one depth the later one stands
+-- a row with a part of each of some bars in the cell of its depth, in the role of its strokes: of two of one depth the later one stands
 abbrev pub with_bars : Layout → BarStroke → List OpenBar → List Cell → List Cell
 with_bars layout stroke bars row =
-    fold (λ cells bar. written SPACE cells (bar_cell layout bar.depth) (bar_cell_part layout stroke bar ∷ [])) row bars
+    fold (λ cells bar. written SPACE cells (bar_cell layout bar.depth)
+    (unlinked_cell (underline_role bar.primary) (bar_glyph stroke layout.decor bar.primary) ∷ [])) row bars
 
 -- rows of which each from `row` on is changed by a rule
 abbrev pub changed_from : (List Cell → List Cell) → ℕ → List (List Cell) → List (List Cell)

@@ -46,4 +46,5 @@ lowest_position placed = fold (λ lowest e. max lowest e.position) 0 placed
 -- as many as the lowest position, and one more for labels, which starts don't have
 abbrev pub row_count : List PlacedEntry → ℕ
 row_count placed =
-    if lowest_position placed == 0 then 1 else (if are_starts placed then lowest_position placed + 1 else lowest_position placed + 2)
+    let lowest = fold (λ lowest e. max lowest e.position) 0 placed in
+    if lowest == 0 then 1 else (if are_starts placed then lowest + 1 else lowest + 2)

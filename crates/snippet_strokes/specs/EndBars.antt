@@ -5,8 +5,7 @@ use Rattle.snippet_style.specs.Cell.{Cell, SPACE, unlinked_cell}
 use Rattle.snippet_style.specs.declared.glyphs.DecorStyle.{DecorStyle}
 use Rattle.snippet_grid.specs.Grid.{cell_at}
 use Rattle.snippet_grid.specs.Layout.{Layout, bar_cell}
-use Rattle.snippet_strokes.specs.declared.bars.BarStroke.TheVariants.{Solid}
-use Rattle.snippet_strokes.specs.Bars.{Bar, bar_cell_part}
+use Rattle.snippet_strokes.specs.Bars.{Bar}
 
 -- no bar stands in the cell: it is a space, or a part of a line that leads from another bar to a mark
 abbrev pub IsNoBar : DecorStyle → Cell → Type 0
@@ -21,4 +20,5 @@ pub record BarEnds (layout : Layout) (bar : Bar) (rows : List (List Cell)) : Typ
   pub within : corner < length rows
   pub corner_is : cell_at rows corner (bar_cell layout bar.depth)
       ≡ unlinked_cell (underline_role bar.primary) (strokes_of layout.decor bar.primary).bar_bottom
-  pub beside : (i : ℕ) → i < corner → cell_at rows i (bar_cell layout bar.depth) ≡ bar_cell_part layout Solid bar
+  pub beside : (i : ℕ) → i < corner → cell_at rows i (bar_cell layout bar.depth)
+      ≡ unlinked_cell (underline_role bar.primary) (strokes_of layout.decor bar.primary).bar

@@ -1,5 +1,5 @@
 -- The glyphs and cells of strokes and stems, by which what stands below a line is told from labels.
-use Rattle.std.specs.Prelude.{ℕ, true, false, ◌+◌, ◌≡◌, ◌⊎◌, ◌==◌, List, [], ◌∷◌, ◌++◌}
+use Rattle.std.specs.Prelude.{ℕ, true, false, ◌≡◌, ◌⊎◌, ◌==◌, List, [], ◌∷◌, ◌++◌}
 use Rattle.std.specs.List.{flat_map, list_any}
 use Rattle.snippet_style.specs.Cell.{Cell, SPACE}
 use Rattle.snippet_style.specs.declared.glyphs.DecorStyle.{DecorStyle}

@@ -7,6 +7,7 @@ pub mod EndBars
 pub mod EntryMarks
 pub mod Labels
 pub mod LineRows
+pub mod LookedCuts
 pub mod Painting
 pub mod StemRows
 pub mod StrokeRows

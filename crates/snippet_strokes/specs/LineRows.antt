@@ -6,18 +6,19 @@ use Rattle.snippet_parts.specs.declared.entries.LineAnnotation.{LineAnnotation}
 use Rattle.snippet_strokes.specs.declared.bars.OpenBar.{OpenBar}
 use Rattle.snippet_strokes.specs.declared.bars.BarStroke.TheVariants.{Top, Solid}
 use Rattle.snippet_grid.specs.Layout.{Layout}
-use Rattle.snippet_strokes.specs.Bars.{bars_apart, ends_of_bars, is_whole_line, with_bars}
+use Rattle.snippet_strokes.specs.Bars.{bars_apart, ends_of_bars, is_beside, with_bars}
 use Rattle.snippet_labels.specs.PlacedEntries.{shifted}
 use Rattle.snippet_strokes.specs.Strokes.{stroke_rows}
+use Rattle.std.specs.List.{list_all}
 
 -- the rows that a line has by its own entries, of which so many columns are dropped: without entries its source row, and a closing row
--- where the window closes with the line; where the line is marked as a whole the source row alone, with the tops of its bars beside it;
+-- where the window closes with the line; where each entry is drawn by bars alone the source row alone, with the tops of its bars beside it;
 -- and else the rows of its strokes
 abbrev pub own_rows : Layout → ℕ → Bool → List ℕ → ℕ → List LineAnnotation → List Cell → List (List Cell)
 own_rows layout room closes text dropped [] source =
     source ∷ (if closes then closing_row layout.decor layout.gutter ∷ [] else [])
 own_rows layout room closes text dropped (e ∷ es) source =
-    if is_whole_line text (e ∷ es) then with_bars layout Top (ends_of_bars (e ∷ es)) source ∷ [] else stroke_rows layout room closes
+    if list_all (is_beside text) (e ∷ es) then with_bars layout Top (ends_of_bars (e ∷ es)) source ∷ [] else stroke_rows layout room closes
     (map (shifted dropped) (e ∷ es)) source
 
 -- the rows of a line, where these bars are open above it: its own, and over each of them the bars that run past, which are drawn last

@@ -30,8 +30,7 @@ painting_order placed = ordered_by (λ e f. is_painted_before e.entry f.entry) p
 abbrev pub first_glyph : DecorStyle → PlacedEntry → ℕ
 first_glyph decor e =
     let strokes = strokes_of decor (is_primary e.entry.kind) in
-    if takes_space e
-    then (if has_stem e then strokes.end_down else strokes.end_flat)
+    if takes_space e then (if has_stem e then strokes.end_down else strokes.end_flat)
     else (if has_stem e then strokes.label_start else strokes.underline)
 
 -- the column after the last one at which an entry's mark is painted: after its first column even where it covers none, if

@@ -3,7 +3,6 @@ use Rattle.std.specs.Prelude.{ℕ, ◌+◌, ◌==◌, ◌&&◌, Bool, not, List,
 use Rattle.snippet_parts.specs.declared.entries.AnnotatedLineInfo.{AnnotatedLineInfo}
 use Rattle.snippet_parts.specs.declared.entries.LineAnnotation.{LineAnnotation}
 use Rattle.snippet_window.specs.declared.margin.Margin.{Margin}
-use Rattle.snippet_window.specs.Margin.{bounds_of}
 use Rattle.snippet_window.specs.Window.{dropped_part}
 use Rattle.snippet_grid.specs.Layout.{Layout}
 use Rattle.snippet_style.specs.Cell.{Cell}
@@ -24,7 +23,7 @@ use Rattle.snippet_strokes.specs.StrokeRows.{bare_elision_row, highlighted_row}
 -- that row, as far left as columns of the line are dropped
 abbrev pub shown_rows : Layout → Margin → Bool → List OpenBar → List ℕ → List ℕ → List LineAnnotation → List (List Cell)
 shown_rows layout margin closes open_bars number text es =
-    let dropped = width_of (dropped_part (bounds_of margin).left text) in
+    let dropped = width_of (dropped_part margin.computed_left text) in
     let plain = source_row layout number (window_cells layout.decor margin text) in
     line_rows layout margin.term_width closes text dropped open_bars es
     (highlighted_row layout.code dropped (filter (λ e. not (is_end_part e.annotation_type)) es) plain)
@@ -37,8 +36,7 @@ info_rows layout view open_bars info =
 
 -- the row that stands for lines that are left out, where these bars run past them
 abbrev pub gap_row : Layout → List OpenBar → List Cell
-gap_row layout open_bars =
-    with_bars layout Dotted open_bars (bare_elision_row layout.decor layout.gutter)
+gap_row layout open_bars = with_bars layout Dotted open_bars (bare_elision_row layout.decor layout.gutter)
 
 -- what stands between the rows of a line of this number and those of the next of these lines: the row for the lines that are left
 -- out, if there are any, with the bars that are open there

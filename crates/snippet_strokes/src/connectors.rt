@@ -2,9 +2,12 @@
 ghost use Rattle.std.specs.Prelude.{◌≡◌, ◌+◌, ◌<◌, All, OnOk, length};
 ghost use Rattle.snippet_strokes.specs.EntryMarks.{HasBarCell};
 ghost use Rattle.snippet_strokes.specs.Drawing.{HasPlaceAmong};
-ghost use Rattle.snippet_strokes.specs.Strokes.{connector_of, connectors_of, line_to};
-ghost use Rattle.snippet_strokes.specs.Writes.{painted};
-ghost use Rattle.snippet_grid.specs.Layout.{inner_cell};
+ghost use Rattle.snippet_strokes.specs.Strokes.{connector_of, connectors_of};
+ghost use Rattle.snippet_strokes.specs.Painting.{stroke_role};
+ghost use Rattle.snippet_strokes.specs.Writes.{painted, stretch_of};
+ghost use Rattle.snippet_grid.specs.Layout.{code_cell, inner_cell};
+ghost use Rattle.snippet_model.specs.AnnotationKind.{is_primary};
+ghost use Rattle.snippet_style.specs.Glyphs.{strokes_of};
 
 use crate::lines::draw_stretch;
 use crate::roles::is_primary;
@@ -70,7 +73,9 @@ fn draw_line_to(
 ) -> Result<(), AllocError>
     requires place { HasPlaceAmong row (length buffer.old) placed.now }
     requires depth { inner_cell layout + depth < layout.code }
-    ensures painted { OnOk result (buffer.new ≡ painted (line_to layout row placed.now depth) buffer.old) }
+    ensures painted { OnOk result (buffer.new ≡ painted (stretch_of (row + placed.now.position) (inner_cell layout
+        + depth) (code_cell layout placed.now.entry.start.display)
+        (strokes_of layout.decor (is_primary placed.now.entry.kind)).connector (stroke_role placed.now)) buffer.old) }
 {
     let strokes = layout.decor.underline(is_primary(placed.entry.kind));
     let start = layout.code_cell(placed.entry.start.display);

@@ -1,13 +1,14 @@
 //! Wide spans, of which the middle gives its place to the placeholder, in the source row and in the row of the marks.
-ghost use Rattle.std.specs.Prelude.{◌≡◌, ◌+◌, ◌<◌, ◌≤◌, [], false, true, All, IfOk, OnOk, length};
+ghost use Rattle.std.specs.Prelude.{◌≡◌, ◌+◌, ◌/◌, ◌<◌, ◌≤◌, max, [], false, true, All, IfOk, OnOk, length};
 ghost use Rattle.std.specs.List.{list_any};
 ghost use Rattle.snippet_parts.specs.Entries.{is_wide_entry};
 ghost use Rattle.snippet_style.specs.Glyphs.{placeholder_of};
 ghost use Rattle.snippet_grid.specs.Grid.{cells_replaced};
 ghost use Rattle.snippet_style.specs.Cell.{text_cells};
 ghost use Rattle.snippet_style.specs.declared.role.ElementStyle.TheVariants.{LineNumber};
-ghost use Rattle.snippet_strokes.specs.Cuts as spec;
-ghost use Rattle.snippet_strokes.specs.Cuts.{is_wide_at};
+ghost use Rattle.snippet_strokes.specs.Cuts as rule;
+ghost use Rattle.snippet_strokes.specs.LookedCuts as spec;
+ghost use Rattle.snippet_strokes.specs.LookedCuts.{is_wide_at};
 ghost use Rattle.snippet_labels.specs.PlacedEntries.{HasPlace};
 ghost use Rattle.snippet_labels.specs.Positions.{do_overlap};
 ghost use Rattle.snippet_style.specs.Bounds.{AreRows, HasNext, IsCount};
@@ -34,6 +35,7 @@ const LEAST_END: usize = 5;
 /// # Errors
 ///
 /// There is no memory for the list.
+#[tactic(auto, using(crate::proofs::LookedCuts::overlapped_looked))]
 pub(crate) fn overlapping(
     alloc: Global,
     decor: DecorStyle,
@@ -44,7 +46,7 @@ pub(crate) fn overlapping(
     requires looked { All (λ e. IsCount e.looked) placed.now }
     ensures count { IfOk result (λ flags. length flags.items ≤ length placed.now) }
     ensures value { IfOk result (λ flags. list_any (is_wide_at room decor) placed.now ≡ true → flags.items
-        ≡ spec.overlapped placed.now) }
+        ≡ rule.overlapped placed.now) }
     ensures none { IfOk result (λ flags. list_any (is_wide_at room decor) placed.now ≡ false → flags.items ≡ []) }
 {
     if !has_wide(room, decor, placed) {
@@ -216,7 +218,7 @@ fn is_wide(room: usize, decor: DecorStyle, entry: &LineAnnotation) -> bool
 
 /// How many columns stay at each end of an entry that is cut, in a room of this many columns.
 fn end_columns(room: usize) -> usize
-    ensures value { result ≡ spec.end_columns room }
+    ensures value { result ≡ max 5 (room / 3) }
 {
     let third = room / 3;
     if third > LEAST_END { third } else { LEAST_END }

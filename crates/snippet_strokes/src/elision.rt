@@ -1,5 +1,5 @@
 //! The rows that stand for lines that aren't shown.
-ghost use Rattle.std.specs.Prelude.{◌≡◌, ◌+◌, ◌<◌, ◌++◌, ◌∷◌, [], All, OnOk};
+ghost use Rattle.std.specs.Prelude.{◌≡◌, ◌++◌, ◌∷◌, [], All, OnOk};
 ghost use Rattle.snippet_strokes.specs.Bars.{HasBarRoom};
 ghost use Rattle.snippet_strokes.specs.StrokeRows.{bare_elision_row};
 ghost use Rattle.snippet_strokes.specs.Snippet.{gap_row, gap_rows};

@@ -1,5 +1,5 @@
 //! The row that shows a line of the source.
-ghost use Rattle.std.specs.Prelude.{◌≡◌, ◌+◌, ◌<◌, ◌≤◌, ◌++◌, ◌∷◌, [], IfOk, IfSome, List, OnOk, chars};
+ghost use Rattle.std.specs.Prelude.{◌≡◌, ◌≤◌, ◌++◌, ◌∷◌, [], IfOk, IfSome, List, OnOk, chars};
 ghost use Rattle.std.specs.Prelude.{length};
 ghost use Rattle.snippet_style.specs.Cell.{Cell, SPACE, text_cells, written};
 ghost use Rattle.snippet_style.specs.Separators.{separator_row};
@@ -7,7 +7,6 @@ ghost use Rattle.snippet_style.specs.declared.role.ElementStyle.TheVariants.{Lin
 ghost use Rattle.snippet_strokes.specs.Bars.{FitBeside, with_bars};
 ghost use Rattle.snippet_strokes.specs.declared.bars.BarStroke.TheVariants.{Solid, Top};
 ghost use Rattle.std.specs.Cow.{cow_str_bytes};
-ghost use Rattle.snippet_window.specs.Margin.{bounds_of};
 ghost use Rattle.snippet_window.specs.Window.{dropped_part};
 ghost use Rattle.snippet_style.specs.Glyphs.{placeholder_of};
 ghost use Rattle.snippet_lines.specs.Number.{shown_number};
@@ -76,7 +75,7 @@ pub fn draw_source_row(
         (norm (chars line.now.info.line.now))))) }
     ensures row { IfOk result (λ at. at.0 ≡ length buffer.old) }
     ensures dropped { IfOk result (λ at.
-        at.1 ≡ width_of (dropped_part (bounds_of view.margin).left (norm (chars line.now.info.line.now)))) }
+        at.1 ≡ width_of (dropped_part view.margin.computed_left (norm (chars line.now.info.line.now)))) }
     ensures few { IfOk result (λ at. IsWindowColumn at.1) }
 {
     let alloc = buffer.allocator();

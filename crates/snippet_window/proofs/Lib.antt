@@ -6,5 +6,6 @@ pub mod MarginLaws
 pub mod MeasureWords
 pub mod NearLemmas
 pub mod PlainFront
+pub mod SpanMeasures
 pub mod UncutLaws
 pub mod WindowLemmas

@@ -1,12 +1,12 @@
 -- What holds of the bounds of a snippet's window: they are in order, and entries stand after the padding of the left one.
-use Rattle.std.proofs.Common.{◌≡◌, ℕ, ◌+◌, ◌-◌, ◌*◌, ◌/◌, ◌<◌, ◌≤◌, ◌^◌, ◌&&◌, nat_le, nat_lt, Bool, true, false, cond, not, min, max, List, [], ◌∷◌, ◌++◌, All}
-use Rattle.std.proofs.Common.{ap, arith, inl, inr, map, refl, unwrap_or, fold}
-use Rattle.std.specs.List.{flat_map}
+use Rattle.std.proofs.Common.{◌≡◌, ℕ, ◌+◌, ◌-◌, ◌*◌, ◌/◌, ◌<◌, ◌≤◌, ◌^◌, ◌&&◌, nat_le, nat_lt, Bool, true, false, cond, not, min, max, List, [], ◌∷◌, All}
+use Rattle.std.proofs.Common.{ap, arith, inl, inr, map, refl, unwrap_or, fold, chars}
+use Rattle.std.specs.List.{flat_map, filter}
 use Rattle.std.proofs.lemmas.Bool.{cases_lt}
 use Rattle.std.proofs.lemmas.List.Elements.{All-append, All-cons, All-head, All-nil, All-tail, All-weaker}
 use Rattle.snippet_parts.specs.declared.entries.AnnotatedLineInfo.{AnnotatedLineInfo}
 use Rattle.snippet_parts.specs.declared.entries.LineAnnotation.{LineAnnotation}
-use Rattle.snippet_parts.specs.Annotated.{seen_kept}
+use Rattle.snippet_parts.specs.Annotated.{seen_kept, KeptLine, PartEntry}
 use Rattle.snippet_parts.specs.Entries.{AllEntries, HasColumnRoom, is_bar}
 use Rattle.snippet_parts.specs.Least.{greatest, least}
 use Rattle.snippet_parts.proofs.LeastLemmas.{least_below}
@@ -14,22 +14,22 @@ use Rattle.snippet_style.specs.Bounds.{max_usize}
 use Rattle.snippet_window.specs.declared.margin.Margin.{Margin}
 use Rattle.snippet_window.specs.declared.extent.Extent.{Extent}
 use Rattle.snippet_window.specs.Extent.{ReachesLines, columns_of, ends_of, entries_of, line_texts, with_columns}
-use Rattle.snippet_window.specs.Margin.{Bounds, bounds_of, capped_sum, margin_bounds}
-use Rattle.snippet_window.specs.Measures.{StandsClear, margin_of}
+use Rattle.snippet_window.specs.Margin.{capped_sum, margin_bounds}
+use Rattle.snippet_window.specs.Measures.{StandsClear, margin_of, end_with}
 use Rattle.snippet_window.proofs.ExtentLemmas.{lines_all, starts_all}
 use Rattle.snippet_window.proofs.MarginLaws.{bounds_reached}
 use Rattle.snippet_window.proofs.MeasureWords.{whitespaces_of, widths_of}
 
--- ---- bounds
+-- ---- margins
 
--- bounds in order, the left of which leaves room for the padding before this column, if lines are cut there
-pub record AreSound (first : ℕ) (bounds : Bounds) : Type 0 where
-  pub ordered : bounds.left ≤ bounds.right
-  pub padded : 0 < bounds.left → bounds.left + 6 ≤ first
+-- a margin with its bounds in order, the left of which leaves room for the padding before this column, if lines are cut there
+pub record IsSound (first : ℕ) (margin : Margin) : Type 0 where
+  pub ordered : margin.computed_left ≤ margin.computed_right
+  pub padded : 0 < margin.computed_left → margin.computed_left + 6 ≤ first
 
--- the bounds of a room that begins at a column
-abbrev room_from : ℕ → ℕ → Bounds
-room_from room left = record { left = left; right = capped_sum left room }
+-- the margin of a room that begins at a column
+abbrev room_from : ℕ → ℕ → Margin
+room_from room left = record { computed_left = left; computed_right = capped_sum left room; term_width = room }
 
 -- what holds of both choices holds of the one that is made
 either : {X : Type 0} (P : X → Type 0) (b : Bool) (x y : X) → P x → P y → P (cond b x y)
@@ -37,7 +37,7 @@ either P true x y first second = first
 either P false x y first second = second
 
 -- a room that begins before the padding
-room_sound : (first room left : ℕ) → (0 < left → left + 6 ≤ first) → first ≤ max_usize → AreSound first (room_from room left)
+room_sound : (first room left : ℕ) → (0 < left → left + 6 ≤ first) → first ≤ max_usize → IsSound first (room_from room left)
 room_sound first room left padded fits =
     elim (cases_lt 0 left) [
       | inl some ↦ record { ordered = omega (arith, padded some, fits); padded = padded }
@@ -49,13 +49,13 @@ cut_low : (blank : ℕ) → cond (nat_lt 20 blank) (blank - 16) 0 ≤ blank
 cut_low blank = either (λ n. n ≤ blank) (nat_lt 20 blank) (blank - 16) 0 (omega arith) (omega arith)
 
 pub margin_sound : (whitespace first last label_end room widest : ℕ) → first ≤ last → first ≤ max_usize
-    → AreSound first (margin_bounds whitespace first last label_end room widest)
+    → IsSound first (margin_bounds whitespace first last label_end room widest)
 margin_sound whitespace first last label_end room widest ordered fits =
-    let Sound : Bounds → Type 0 = AreSound first in
+    let Sound : Margin → Type 0 = IsSound first in
     let blank : ℕ = min whitespace first - 6 in
     let left : ℕ = cond (nat_lt 20 blank) (blank - 16) 0 in
-    let all : Bounds = record { left = left; right = max widest left } in
-    let spans : Bounds = record { left = first - 6; right = capped_sum last 6 } in
+    let all : Margin = record { computed_left = left; computed_right = max widest left; term_width = room } in
+    let spans : Margin = record { computed_left = first - 6; computed_right = capped_sum last 6; term_width = room } in
     let low : left ≤ blank = cut_low blank in
     let all_sound : Sound all = record { ordered = omega arith; padded = λ some. omega (arith, some, low) } in
     let spans_sound : Sound spans = record { ordered = omega (arith, ordered, fits); padded = λ some. omega (arith, some) } in
@@ -64,16 +64,48 @@ margin_sound whitespace first last label_end room widest ordered fits =
     let after : ℕ = capped_sum label_end 6 in
     let by_label : ℕ = (room - (after - from)) / 2 in
     let by_spans : ℕ = (room - (to - from)) / 5 * 2 in
-    let within_spans : Bounds = cond (nat_le (to - from) room) (room_from room (from - by_spans)) spans in
-    let within_labels : Bounds = cond (nat_le (after - from) room) (room_from room (from - by_label)) within_spans in
-    let after_blank : Bounds = cond (nat_le (after - blank) room && nat_le blank after) (room_from room blank) within_labels in
+    let within_spans : Margin = cond (nat_le (to - from) room) (room_from room (from - by_spans)) spans in
+    let within_labels : Margin = cond (nat_le (after - from) room) (room_from room (from - by_label)) within_spans in
+    let after_blank : Margin = cond (nat_le (after - blank) room && nat_le blank after) (room_from room blank) within_labels in
     either Sound (nat_le (max widest left - left) room) all after_blank all_sound
     (either Sound (nat_le (after - blank) room && nat_le blank after) (room_from room blank) within_labels (room_sound first room blank (λ some.
     omega (arith, some)) fits) (either Sound (nat_le (after - from) room) (room_from room (from - by_label)) within_spans (less by_label)
     (either Sound (nat_le (to - from) room) (room_from room (from - by_spans)) spans (less by_spans) spans_sound)))
   where
-    less : (by : ℕ) → AreSound first (room_from room (first - 6 - by))
+    less : (by : ℕ) → IsSound first (room_from room (first - 6 - by))
     less by = room_sound first room (first - 6 - by) (λ some. omega (arith, some)) fits
+
+-- a margin has the room for which it is computed
+either_room : (room : ℕ) (b : Bool) (x y : Margin) → x.term_width ≡ room → y.term_width ≡ room → (cond b x y).term_width ≡ room
+either_room room b x y = either (λ (m : Margin). m.term_width ≡ room) b x y
+
+margin_bounds-room : (whitespace first last label_end room widest : ℕ) → (margin_bounds whitespace first last label_end room widest).term_width ≡ room
+margin_bounds-room whitespace first last label_end room widest =
+    let blank : ℕ = min whitespace first - 6 in
+    let from : ℕ = first - 6 in
+    let to : ℕ = capped_sum last 6 in
+    let after : ℕ = capped_sum label_end 6 in
+    let left : ℕ = cond (nat_lt 20 blank) (blank - 16) 0 in
+    let all : Margin = record { computed_left = left; computed_right = max widest left; term_width = room } in
+    let spans : Margin = record { computed_left = from; computed_right = to; term_width = room } in
+    let by_spans : Margin = room_from room (from - (room - (to - from)) / 5 * 2) in
+    let by_labels : Margin = room_from room (from - (room - (after - from)) / 2) in
+    let within_spans : Margin = cond (nat_le (to - from) room) by_spans spans in
+    let within_labels : Margin = cond (nat_le (after - from) room) by_labels within_spans in
+    let after_blank : Margin = cond (nat_le (after - blank) room && nat_le blank after) (room_from room blank) within_labels in
+    either_room room (nat_le (max widest left - left) room) all after_blank refl
+    (either_room room (nat_le (after - blank) room && nat_le blank after) (room_from room blank) within_labels refl
+    (either_room room (nat_le (after - from) room) by_labels within_spans refl
+    (either_room room (nat_le (to - from) room) by_spans spans refl refl)))
+
+pub margin_of-room : (room : ℕ) (lines : List KeptLine) → (margin_of room lines).term_width ≡ room
+margin_of-room room lines =
+    let texts : List (List ℕ) = map (λ (l : KeptLine). chars l.text) lines in
+    let parts : List PartEntry = filter (λ (p : PartEntry). not (is_bar p.part)) (flat_map (λ (l : KeptLine). l.parts) lines) in
+    let columns : List ℕ = flat_map (λ (p : PartEntry). p.entry.start.display ∷ p.entry.end.display ∷ []) parts in
+    let ends : List ℕ = map (λ (p : PartEntry). end_with p.entry.end.display p.entry.label) parts in
+    margin_bounds-room (unwrap_or (least (whitespaces_of texts)) 0) (unwrap_or (least columns) 0) (greatest columns) (greatest ends) room
+    (greatest (widths_of texts))
 
 -- ---- the least and the greatest column
 
@@ -111,16 +143,16 @@ entries_all Q (info ∷ infos) all =
     All-append Q info.annotations.items (entries_of infos) (All-head (λ (x : AnnotatedLineInfo). All Q x.annotations.items) info infos all)
     (entries_all Q infos (All-tail (λ (x : AnnotatedLineInfo). All Q x.annotations.items) info infos all))
 
--- the bounds of lines, by their entries
-abbrev pub bounds_of_lines : ℕ → List AnnotatedLineInfo → Bounds
-bounds_of_lines room infos =
+-- the margin of lines, by their entries
+abbrev pub margin_of_lines : ℕ → List AnnotatedLineInfo → Margin
+margin_of_lines room infos =
     let columns = columns_of (entries_of infos) in
     margin_bounds (unwrap_or (least (whitespaces_of (line_texts infos))) 0) (unwrap_or (least columns) 0) (greatest columns)
     (greatest (ends_of (entries_of infos))) room (greatest (widths_of (line_texts infos)))
 
--- they are those of the lines as they are seen
-pub bounds_seen : (room : ℕ) (infos : List AnnotatedLineInfo) → bounds_of_lines room infos ≡ margin_of room (map seen_kept infos)
-bounds_seen room infos =
+-- it is that of the lines as they are seen
+pub margin_seen : (room : ℕ) (infos : List AnnotatedLineInfo) → margin_of_lines room infos ≡ margin_of room (map seen_kept infos)
+margin_seen room infos =
     let columns : List ℕ = columns_of (entries_of infos) in
     let extent : Extent = record {
       whitespace = least (whitespaces_of (line_texts infos));
@@ -132,9 +164,9 @@ bounds_seen room infos =
     let reaches : ReachesLines infos extent = record { entries = record { first = refl; last = refl; label_end = refl }; whitespace = refl; widest = refl } in
     bounds_reached room infos extent reaches
 
--- the bounds of lines whose entries have their places
+-- the margin of lines whose entries have their places
 pub lines_sound : (room : ℕ) (infos : List AnnotatedLineInfo) → AllEntries HasColumnRoom infos
-    → AreSound (unwrap_or (least (columns_of (entries_of infos))) 0) (bounds_of_lines room infos)
+    → IsSound (unwrap_or (least (columns_of (entries_of infos))) 0) (margin_of_lines room infos)
 lines_sound room infos places =
     let es : List LineAnnotation = entries_of infos in
     let columns : List ℕ = columns_of es in
@@ -145,13 +177,13 @@ lines_sound room infos places =
     margin_sound (unwrap_or (least (whitespaces_of texts)) 0) (unwrap_or (least columns) 0) (greatest columns) (greatest (ends_of es)) room
     (greatest (widths_of texts)) (least_low columns) (omega (arith, least_small (2 ^ 60) columns (omega arith) small))
 
--- in a margin of these bounds the entries stand after the padding
-pub lines_clear : (margin : Margin) (room : ℕ) (infos : List AnnotatedLineInfo) → bounds_of margin ≡ bounds_of_lines room infos
+-- in this margin the entries stand after the padding
+pub lines_clear : (margin : Margin) (room : ℕ) (infos : List AnnotatedLineInfo) → margin ≡ margin_of_lines room infos
     → AllEntries HasColumnRoom infos → AllEntries (StandsClear margin) infos
 lines_clear margin room infos is places =
     let columns : List ℕ = columns_of (entries_of infos) in
     let sound = lines_sound room infos places in
-    let left : (bounds_of margin).left ≡ (bounds_of_lines room infos).left = ap (λ (b : Bounds). b.left) is in
+    let left : margin.computed_left ≡ (margin_of_lines room infos).computed_left = ap (λ (m : Margin). m.computed_left) is in
     let starts = starts_all (λ n. unwrap_or (least columns) 0 ≤ n) (entries_of infos) (least_below columns) in
     lines_all (StandsClear margin) infos
     (λ k d within not_bar cut. omega (arith, starts k d within not_bar, sound.padded (omega (arith, left, cut)), left))

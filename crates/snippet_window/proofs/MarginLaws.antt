@@ -3,18 +3,16 @@ use Rattle.std.proofs.Common.{◌≡◌, ◌∙◌, ◌⊎◌, ℕ, ◌+◌, ◌
 use Rattle.std.proofs.Common.{map, chars, unwrap_or, refl, sym, ap, subst, inl, inr, arith, length}
 use Rattle.std.specs.List.{filter, flat_map, list_any, range_with_len}
 use Rattle.std.specs.Option.{option_copied}
-use Rattle.std.proofs.lemmas.Bool.{cases_Bool, cond-true, cond-false, or_right, and_parts, and_from, not-true, eq-eqb, eqb-true}
+use Rattle.std.proofs.lemmas.Bool.{cases_Bool, or_right, and_parts, and_from, eq-eqb, eqb-true}
 use Rattle.std.proofs.lemmas.Bool.Decides.{nat_tests}
-use Rattle.std.proofs.lemmas.List.{map-append}
 use Rattle.snippet_model.specs.declared.snippet.Annotation.{Annotation}
 use Rattle.snippet_model.specs.declared.snippet.AnnotationKind.TheVariants.{Primary}
 use Rattle.snippet_parts.specs.declared.depths.LongExtent.{LongExtent}
 use Rattle.snippet_parts.specs.declared.entries.AnnotatedLineInfo.{AnnotatedLineInfo}
 use Rattle.snippet_parts.specs.declared.entries.LineAnnotation.{LineAnnotation}
-use Rattle.snippet_parts.specs.declared.entries.LineAnnotationType.{LineAnnotationType}
 use Rattle.snippet_parts.specs.declared.entries.LineAnnotationType.TheVariants.{Singleline, MultilineEnd}
 use Rattle.snippet_lines.specs.declared.place.Loc.{Loc}
-use Rattle.snippet_parts.specs.Annotated.{PartEntry, seen_part, long_entry, long_place, is_long, long_spans, bar_lines}
+use Rattle.snippet_parts.specs.Annotated.{PartEntry, long_entry, long_place, is_long, long_spans, bar_lines}
 use Rattle.snippet_parts.specs.Annotated.{bar_part, single_part}
 use Rattle.snippet_parts.specs.Annotated.{start_part, end_part, span_parts, promoted, long_parts, made_parts, parts_on, KeptLine}
 use Rattle.snippet_parts.specs.Annotated.{seen_kept, kept_line, annotated_lines}
@@ -24,209 +22,24 @@ use Rattle.snippet_lines.specs.Lines.{Source, source_lines}
 use Rattle.snippet_window.specs.Margin.{margin_bounds}
 use Rattle.snippet_parts.specs.Mark.{is_marking, is_single_line}
 use Rattle.snippet_parts.specs.Marked.{Entry, first_line, last_line}
-use Rattle.snippet_window.specs.Extent.{ReachesLines, columns_of, ends_of, entries_of, line_texts, with_columns}
+use Rattle.snippet_window.specs.Extent.{ReachesLines, columns_of, ends_of, entries_of, with_columns}
 use Rattle.snippet_window.specs.Measures.{end_with, margin_of}
 use Rattle.snippet_parts.specs.Least.{greatest, least}
-use Rattle.snippet_parts.specs.Entries.{is_bar}
 use Rattle.snippet_window.specs.declared.extent.Extent.{Extent}
 use Rattle.snippet_window.proofs.MeasureWords.{whitespaces_of, widths_of}
 use Rattle.snippet_lines.specs.Place.{start_location}
 use Rattle.snippet_lines.specs.Span.{IsSpan}
 use Rattle.snippet_window.specs.Window.{chars_at}
-use Rattle.snippet_parts.proofs.AmongLemmas.{Among, all_among, among_left, among_right, append_cases, among_map, map_cases, among_filter, filter_cases}
-use Rattle.snippet_parts.proofs.AmongLemmas.{among_flat_map, flat_map_cases, among_in_order, in_order_cases, among_range, any_among, any_cases, least_same}
+use Rattle.snippet_parts.proofs.AmongLemmas.{Among, all_among, among_left, among_right, append_cases, among_map, among_filter}
+use Rattle.snippet_parts.proofs.AmongLemmas.{among_flat_map, flat_map_cases, among_in_order, among_range, any_among, any_cases, least_same}
 use Rattle.snippet_parts.proofs.AmongLemmas.{greatest_same}
 use Rattle.snippet_parts.proofs.MarkLemmas.{start-line, end-line, entry_of-line}
 use Rattle.snippet_lines.proofs.PlaceLemmas.{line_of-mono, line_of-within, locations_of-start}
 use Rattle.snippet_parts.proofs.StartByte.{start_byte}
 use Rattle.snippet_parts.proofs.PartWords.{is_promoted, is_short, long_places, stands_among, stands_before}
-
--- what is measured of an entry: some numbers, by where it starts and ends and by its label
-abbrev Measure : Type 0
-Measure = Loc → Loc → Option (List ℕ) → List ℕ
-
--- the columns at which an entry starts and ends
-abbrev pub columns : Measure
-columns start end label = start.display ∷ end.display ∷ []
-
-abbrev ends : Measure
-ends start end label = end_with end.display label ∷ []
-
--- what is measured of a part
-abbrev pub measured : Measure → PartEntry → List ℕ
-measured g p = g p.entry.start p.entry.end p.entry.label
-
--- whether a part has columns
-abbrev has_columns : PartEntry → Bool
-has_columns p = not (is_bar p.part)
-
-abbrev measured_parts : Measure → List PartEntry → List ℕ
-measured_parts g ps = flat_map (measured g) (filter has_columns ps)
-
--- ---- entries as they are seen
-
-measured_entries : (g : Measure) (es : List LineAnnotation)
-    → flat_map (λ (e : LineAnnotation). g e.start e.end (option_copied e.label)) (with_columns es) ≡ measured_parts g (map seen_part es)
-measured_entries g [] = refl
-measured_entries g (e ∷ es) =
-    let here : List ℕ = g e.start e.end (option_copied e.label) in
-    let read : LineAnnotation → List ℕ = λ x. g x.start x.end (option_copied x.label) in
-    elim (cases_Bool (not (is_bar e.annotation_type))) [
-      | inl some ↦ ap (flat_map read) (cond-true (not (is_bar e.annotation_type)) (e ∷ with_columns es) (with_columns es) some)
-          ∙ ap (λ ns. here ++ ns) (measured_entries g es)
-          ∙ sym (ap (flat_map (measured g))
-          (cond-true (not (is_bar e.annotation_type)) (seen_part e ∷ filter has_columns (map seen_part es)) (filter has_columns (map seen_part es))
-          some))
-      | inr none ↦ ap (flat_map read) (cond-false (not (is_bar e.annotation_type)) (e ∷ with_columns es) (with_columns es) none)
-          ∙ measured_entries g es ∙ sym
-          (ap (flat_map (measured g))
-          (cond-false (not (is_bar e.annotation_type)) (seen_part e ∷ filter has_columns (map seen_part es)) (filter has_columns (map seen_part es))
-          none))
-    ]
-
-single_list : {X : Type 0} (f : X → ℕ) (xs : List X) → map f xs ≡ flat_map (λ x. f x ∷ []) xs
-single_list f [] = refl
-single_list f (x ∷ xs) = ap (λ ns. f x ∷ ns) (single_list f xs)
-
-seen_entries : (infos : List AnnotatedLineInfo) → map seen_part (entries_of infos) ≡ flat_map (λ (l : KeptLine). l.parts) (map seen_kept infos)
-seen_entries [] = refl
-seen_entries (info ∷ infos) =
-    map-append seen_part info.annotations.items (entries_of infos) ∙ ap (λ ps. map seen_part info.annotations.items ++ ps) (seen_entries infos)
-
-seen_texts : (infos : List AnnotatedLineInfo) → line_texts infos ≡ map (λ (l : KeptLine). chars l.text) (map seen_kept infos)
-seen_texts [] = refl
-seen_texts (info ∷ infos) = ap (λ ts. chars info.line.now ∷ ts) (seen_texts infos)
-
-kept_texts : (s : Source) (marks : List Annotation) (ks : List ℕ) → map (λ (l : KeptLine). chars l.text) (map (kept_line s marks) ks) ≡ map (chars_at s.text) ks
-kept_texts s marks [] = refl
-kept_texts s marks (k ∷ ks) = ap (λ ts. chars_at s.text k ∷ ts) (kept_texts s marks ks)
-
--- ---- what is measured of a span
-
--- what is measured of a span of several lines: its start, and its end
-abbrev pub measured_long : Measure → Entry → List ℕ
-measured_long g e = measured g (start_part e 0) ++ measured g (end_part e Singleline)
-
-abbrev measured_span : Measure → Source → Annotation → List ℕ
-measured_span g s a =
-    cond (not (is_marking a.kind)) [] (cond (is_single_line s.text a) (measured g (single_part s a)) (measured_long g (long_entry s a)))
-
--- the columns at which the marks of a span start and end, and those after its marks with its label
-abbrev pub span_columns : Source → Annotation → List ℕ
-span_columns s a = measured_span columns s a
-
-abbrev pub span_ends : Source → Annotation → List ℕ
-span_ends s a = measured_span ends s a
-
--- what is measured of a span on one line is measured of its part
-pub short_span : (g : Measure) (s : Source) (a : Annotation) → is_short s.text a ≡ true → measured_span g s a ≡ measured g (single_part s a)
-short_span g s a short =
-    let both = and_parts (is_marking a.kind) (is_single_line s.text a) short in
-    ap (λ b. cond (not b) [] (cond (is_single_line s.text a) (measured g (single_part s a)) (measured_long g (long_entry s a)))) both.0
-    ∙ ap (λ b. cond b (measured g (single_part s a)) (measured_long g (long_entry s a))) both.1
-
--- what is measured of a span of several lines is measured of its entry
-pub long_span : (g : Measure) (s : Source) (a : Annotation) → is_long s.text a ≡ true → measured_span g s a ≡ measured_long g (long_entry s a)
-long_span g s a long =
-    let both = and_parts (is_marking a.kind) (not (is_single_line s.text a)) long in
-    ap (λ b. cond (not b) [] (cond (is_single_line s.text a) (measured g (single_part s a)) (measured_long g (long_entry s a)))) both.0
-    ∙ ap (λ b. cond b (measured g (single_part s a)) (measured_long g (long_entry s a))) (not-true (is_single_line s.text a) both.1)
-
--- the kind with which a span is drawn isn't measured
-drawn_start : (g : Measure) (before : List Entry) (e : Entry) (depth : ℕ) → measured g (start_part (promoted before e) depth) ≡ measured g (start_part e 0)
-drawn_start g before e depth =
-    elim (is_promoted before e) as (λ b. measured g (start_part (cond b (record e { kind = Primary }) e) depth)
-    ≡ measured g (start_part e 0)) [ true ↦ refl | false ↦ refl ]
-
-drawn_end : (g : Measure) (before : List Entry) (e : Entry) (part : LineAnnotationType)
-    → measured g (end_part (promoted before e) part) ≡ measured g (end_part e Singleline)
-drawn_end g before e part =
-    elim (is_promoted before e) as (λ b. measured g (end_part (cond b (record e { kind = Primary }) e) part)
-    ≡ measured g (end_part e Singleline)) [ true ↦ refl | false ↦ refl ]
-
--- ---- what is measured of the parts is measured of the spans
-
--- each bar has no columns
-bars_none : (e : Entry) (depth first : ℕ) (ks : List ℕ) (p : PartEntry) → Among (map (λ k. bar_part e depth (first + k)) ks) p → has_columns p ≡ true → ⊥
-bars_none e depth first ks p here some =
-    let bar = map_cases (λ k. bar_part e depth (first + k)) ks p here in
-    let none : has_columns p ≡ false = ap has_columns (sym bar.2) in
-    absurd cc
-
-span_part : (g : Measure) (s : Source) (before : List Entry) (depth : ℕ) (again : Bool) (e : Entry) (p : PartEntry) (c : ℕ)
-    → Among (span_parts s depth again (promoted before e)) p → has_columns p ≡ true → Among (measured g p) c → Among (measured_long g e) c
-span_part g s before depth true e p c (inl same) some inside =
-    among_right (measured g (start_part e 0)) (measured g (end_part e Singleline)) c
-    (subst (λ ns. Among ns c) (ap (measured g) (sym same) ∙ drawn_end g before e Singleline) inside)
-span_part g s before depth true e p c (inr later) some inside = elim later [ ]
-span_part g s before depth false e p c (inl same) some inside =
-    among_left (measured g (start_part e 0)) (measured g (end_part e Singleline)) c
-    (subst (λ ns. Among ns c) (ap (measured g) (sym same) ∙ drawn_start g before e depth) inside)
-span_part g s before depth false e p c (inr later) some inside =
-    let x = promoted before e in
-    let lines = bar_lines s.text (x.start.line - s.first) (x.end.line - s.first) in
-    elim (append_cases (map (λ k. bar_part x depth (s.first + k)) lines) (end_part x (MultilineEnd depth) ∷ []) p later) [
-      | inl bar ↦ absurd (bars_none x depth s.first lines p bar some)
-      | inr last ↦ closing last
-    ]
-  where
-    closing : Among (end_part (promoted before e) (MultilineEnd depth) ∷ []) p → Among (measured_long g e) c
-    closing (inl same) = among_right (measured g (start_part e 0)) (measured g (end_part e Singleline)) c
-        (subst (λ ns. Among ns c) (ap (measured g) (sym same) ∙ drawn_end g before e (MultilineEnd depth)) inside)
-    closing (inr none) = absurd none
-
-long_part : (g : Measure) (s : Source) (places : List LongExtent) (before es : List Entry) (p : PartEntry) (c : ℕ) → Among (long_parts s places before es) p
-    → has_columns p ≡ true → Among (measured g p) c → (e : Entry) × Among es e × Among (measured_long g e) c
-long_part g s places before [] p c here some inside = absurd here
-long_part g s places before (e ∷ later) p c here some inside =
-    elim (append_cases (span_parts s (depth_among places (long_place e)) (stands_among e later) (promoted before e))
-    (long_parts s places (before ++ e ∷ []) later) p here) [
-      | inl first ↦ (e, inl refl, span_part g s before (depth_among places (long_place e)) (stands_among e later) e p c first some inside)
-      | inr rest ↦ (let more = long_part g s places (before ++ e ∷ []) later p c rest some inside in (more.0, inr more.1, more.2))
-    ]
-
--- an entry among the spans of several lines stands for one of them
-long_among : (s : Source) (marks : List Annotation) (e : Entry) → Among (long_spans s marks) e
-    → (a : Annotation) × Among marks a × (is_long s.text a ≡ true) × (long_entry s a ≡ e)
-long_among s marks e here =
-    let found = map_cases (long_entry s) (filter (is_long s.text) marks) e
-    (in_order_cases stands_before (map (long_entry s) (filter (is_long s.text) marks)) e here) in
-    let taken = filter_cases (is_long s.text) marks found.0 found.1 in
-    (found.0, taken.0, taken.1, found.2)
-
-made_part : (g : Measure) (s : Source) (marks : List Annotation) (p : PartEntry) (c : ℕ) → Among (made_parts s marks) p → has_columns p ≡ true
-    → Among (measured g p) c → Among (flat_map (measured_span g s) marks) c
-made_part g s marks p c here some inside =
-    elim (append_cases (map (single_part s) (filter (is_short s.text) marks)) (long_parts s (long_places s marks) [] (long_spans s marks)) p here) [
-      | inl single ↦
-          let found = map_cases (single_part s) (filter (is_short s.text) marks) p single in
-          let taken = filter_cases (is_short s.text) marks found.0 found.1 in
-          among_flat_map (measured_span g s) marks found.0 c taken.0 (subst (λ ns.
-          Among ns c) (ap (measured g) (sym found.2) ∙ sym (short_span g s found.0 taken.1)) inside)
-      | inr several ↦
-          let part = long_part g s (long_places s marks) [] (long_spans s marks) p c several some inside in
-          let found = long_among s marks part.0 part.1 in
-          among_flat_map (measured_span g s) marks found.0 c found.1 (subst (λ ns.
-          Among ns c) (ap (measured_long g) (sym found.3) ∙ sym (long_span g s found.0 found.2)) part.2)
-    ]
-
--- the parts of the kept lines
-abbrev kept_parts : Bool → Source → List Annotation → List PartEntry
-kept_parts fold s marks = flat_map (λ (l : KeptLine). l.parts) (annotated_lines fold s marks)
-
-kept_part : (fold : Bool) (s : Source) (marks : List Annotation) (p : PartEntry) → Among (kept_parts fold s marks) p → Among (made_parts s marks) p
-kept_part fold s marks p here =
-    let line = flat_map_cases (λ (l : KeptLine). l.parts) (annotated_lines fold s marks) p here in
-    let number = map_cases (kept_line s marks) (kept_lines fold s.text marks) line.0 line.1 in
-    let on : Among (parts_on s marks number.0) p = subst (λ (l : KeptLine). Among l.parts p) (sym number.2) line.2 in
-    (filter_cases (λ (q : PartEntry). eqb q.entry.start.line (s.first + number.0)) (made_parts s marks) p on).0
-
-parts_there : (g : Measure) (fold : Bool) (s : Source) (marks : List Annotation) (c : ℕ) → Among (measured_parts g (kept_parts fold s marks)) c
-    → Among (flat_map (measured_span g s) marks) c
-parts_there g fold s marks c here =
-    let part = flat_map_cases (measured g) (filter has_columns (kept_parts fold s marks)) c here in
-    let taken = filter_cases has_columns (kept_parts fold s marks) part.0 part.1 in
-    made_part g s marks part.0 c (kept_part fold s marks part.0 taken.0) taken.1 part.2
+use Rattle.snippet_window.proofs.SpanMeasures.{Measure, columns, drawn_end, drawn_start, ends, has_columns, kept_parts, kept_texts, long_among, long_span}
+use Rattle.snippet_window.proofs.SpanMeasures.{measured, measured_entries, measured_long, measured_parts, measured_span, parts_there, seen_entries}
+use Rattle.snippet_window.proofs.SpanMeasures.{seen_texts, short_span, single_list, span_columns, span_ends}
 
 -- ---- what is measured of the spans is measured of the parts
 

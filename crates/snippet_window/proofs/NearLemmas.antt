@@ -13,7 +13,6 @@ use Rattle.std.proofs.lemmas.Bool.Decides.{nat_tests}
 use Rattle.snippet_window.specs.Window.{reaching, fitting, reaching_last, window_left, window_right, dropped_part, inner_part, covered_columns, uncovered_part}
 use Rattle.snippet_window.specs.Window.{covered_end}
 use Rattle.snippet_window.specs.declared.margin.Margin.{Margin}
-use Rattle.snippet_window.specs.Margin.{bounds_of}
 use Rattle.snippet_window.specs.NearPart.{HoldsWindow, IsPartOf, falling_short, window_columns}
 use Rattle.snippet_window.proofs.LineWindowLemmas.{width-cons, reaching-cons, reaching-none, fitting-cons, fitting-stop}
 
@@ -240,16 +239,16 @@ window_inner room left right skipped l n line part rest inner holds is_left is_c
 
 -- so what is found between the bounds of a margin is the inner part of a line
 pub inner_found : (margin : Margin) (skipped width l r n : ℕ) (line part rest inner : List ℕ) → IsPartOf margin line width skipped part
-    → l ≡ min (bounds_of margin).left width
-    → r ≡ cond (nat_le (width - (bounds_of margin).left) margin.term_width) width (min width (bounds_of margin).right) → n ≡ r - l
+    → l ≡ min margin.computed_left width
+    → r ≡ cond (nat_le (width - margin.computed_left) margin.term_width) width (min width margin.computed_right) → n ≡ r - l
     → width_of (take (reaching (l - skipped) part) part) < (l - skipped) + 4 → rest ≡ drop (reaching (l - skipped) part) part
-    → inner ≡ take (fitting n rest) rest → inner ≡ inner_part margin.term_width (bounds_of margin).left (bounds_of margin).right line
+    → inner ≡ take (fitting n rest) rest → inner ≡ inner_part margin.term_width margin.computed_left margin.computed_right line
 inner_found margin skipped width l r n line part rest inner is is_left is_right is_columns near is_rest is_inner =
-    let bounds = bounds_of margin in
     let room = margin.term_width in
-    let left : l ≡ window_left bounds.left line = is_left ∙ ap (min bounds.left) is.0 in
-    let right = right_is room bounds.left bounds.right width r line is.0 is_right in
-    window_inner room bounds.left bounds.right skipped l n line part rest inner is.1 left (omega (arith, is_columns, left, right)) near is_rest is_inner
+    let left : l ≡ window_left margin.computed_left line = is_left ∙ ap (min margin.computed_left) is.0 in
+    let right = right_is room margin.computed_left margin.computed_right width r line is.0 is_right in
+    window_inner room margin.computed_left margin.computed_right skipped l n line part rest inner is.1 left (omega (arith, is_columns, left, right))
+    near is_rest is_inner
 
 -- the cell of the placeholder on the right
 pub end_some : (room left right end : ℕ) (start : Option ℕ) (placeholder line inner shown : List ℕ) → inner ≡ inner_part room left right line
@@ -302,8 +301,8 @@ holds_norm room left right skipped line part holds =
 
 -- the normalised near text is the part of the line that its window needs
 pub part_of_norm : (margin : Margin) (width skipped : ℕ) (line near part : List ℕ) → width ≡ width_of line → part ≡ norm near
-    → HoldsWindow margin.term_width (bounds_of margin).left (bounds_of margin).right line skipped near → IsPartOf margin (norm line) width skipped part
+    → HoldsWindow margin.term_width margin.computed_left margin.computed_right line skipped near → IsPartOf margin (norm line) width skipped part
 part_of_norm margin width skipped line near part is_width is_part holds =
-    let bounds = bounds_of margin in
-    let all = holds_norm margin.term_width bounds.left bounds.right skipped line near holds in
-    (is_width ∙ sym (width_of-norm line), subst (HoldsWindow margin.term_width bounds.left bounds.right (norm line) skipped) (sym is_part) all)
+    let all = holds_norm margin.term_width margin.computed_left margin.computed_right skipped line near holds in
+    (is_width ∙ sym (width_of-norm line), subst (HoldsWindow margin.term_width margin.computed_left
+    margin.computed_right (norm line) skipped) (sym is_part) all)

@@ -11,7 +11,7 @@ use Rattle.snippet_lines.specs.declared.place.Loc.{Loc}
 use Rattle.snippet_parts.specs.Annotated.{annotated_lines, long_entry, single_part}
 use Rattle.snippet_parts.specs.Kept.{kept_lines}
 use Rattle.snippet_lines.specs.Lines.{Source, source_lines}
-use Rattle.snippet_window.specs.Margin.{Bounds, margin_bounds}
+use Rattle.snippet_window.specs.Margin.{margin_bounds}
 use Rattle.snippet_parts.specs.Mark.{is_marking, is_marked_on, is_single_line, is_wide, start_column}
 use Rattle.snippet_parts.specs.Marked.{first_line, last_line}
 use Rattle.snippet_parts.specs.Least.{greatest, least}
@@ -22,8 +22,10 @@ use Rattle.snippet_window.specs.Window.{chars_at, end_mark_column, is_near_left,
 use Rattle.snippet_parts.proofs.AmongLemmas.{Among, among_map, map_cases, among_flat_map, any_cases, least_le, greatest_most, all_pass, among_filter_map}
 use Rattle.snippet_parts.proofs.MarkLemmas.{start_column-from}
 use Rattle.snippet_lines.proofs.PlaceLemmas.{locations_of-end}
-use Rattle.snippet_window.proofs.MarginLaws.{columns, measured, measured_long, margin_of_spans, short_span, long_span, span_columns, span_ends}
+use Rattle.snippet_window.proofs.MarginLaws.{margin_of_spans}
+use Rattle.snippet_window.proofs.SpanMeasures.{columns, measured, measured_long, short_span, long_span, span_columns, span_ends}
 use Rattle.snippet_window.proofs.MeasureWords.{whitespaces_of, widths_of}
+use Rattle.snippet_window.specs.declared.margin.Margin.{Margin}
 
 -- lines of which each is blank begin with no whitespace that counts
 blank_none : (source ks : List ℕ) → list_all (λ k. is_none (leading_whitespace (chars_at source k))) ks ≡ true → whitespaces_of (map (chars_at source) ks) ≡ []
@@ -144,15 +146,15 @@ near_left s marks ks near =
     ]
 
 -- lines that fit the room, of which little is blank on the left, aren't cut
-uncut_left : (left room widest : ℕ) (rest : Bounds) → left ≡ 0 → widest ≤ room
-    → (cond (leb (max widest left - left) room) (record { left = left; right = max widest left }) rest).left ≡ 0
+uncut_left : (left room widest : ℕ) (rest : Margin) → left ≡ 0 → widest ≤ room
+    → (cond (leb (max widest left - left) room) (record { computed_left = left; computed_right = max widest left; term_width = room }) rest).computed_left ≡ 0
 uncut_left left room widest rest none fits =
     let here : leb (max widest left - left) room ≡ true = grind (arith, nat_tests) in
-    let kept : Bounds = record { left = left; right = max widest left } in
-    ap (λ (b : Bounds). b.left) (cond-true (leb (max widest left - left) room) kept rest here) ∙ none
+    let kept : Margin = record { computed_left = left; computed_right = max widest left; term_width = room } in
+    ap (λ (m : Margin). m.computed_left) (cond-true (leb (max widest left - left) room) kept rest here) ∙ none
 
 margin_near : (whitespace first last after room widest : ℕ) → min whitespace first ≤ 26 → widest ≤ room
-    → (margin_bounds whitespace first last after room widest).left ≡ 0
+    → (margin_bounds whitespace first last after room widest).computed_left ≡ 0
 margin_near whitespace first last after room widest near fits =
     let blank : ℕ = min whitespace first - 6 in
     uncut_left (cond (ltb 20 blank) (blank - 16) 0) room widest _ (cond-false (ltb 20 blank) (blank - 16) 0 (grind (arith, nat_tests))) fits
@@ -160,7 +162,7 @@ margin_near whitespace first last after room widest near fits =
 -- where a line stands whole, nothing is cut on the left
 pub margin_whole : (room placeholder_width : ℕ) (fold : Bool) (s : Source) (marks : List Annotation) (k : ℕ)
     → All (λ (a : Annotation). IsSpan s.text a.span.start a.span.end) marks → stands_whole room placeholder_width fold s.text marks k ≡ true
-    → (margin_of room (annotated_lines fold s marks)).left ≡ 0
+    → (margin_of room (annotated_lines fold s marks)).computed_left ≡ 0
 margin_whole room placeholder_width fold s marks k spans whole =
     let kept = kept_lines fold s.text marks in
     let here : Bool = leb (width_of (chars_at s.text k)) room in
@@ -172,7 +174,7 @@ margin_whole room placeholder_width fold s marks k spans whole =
     let fits = and_parts here fit known.0 in
     let texts = map (chars_at s.text) kept in
     let widest : greatest (widths_of texts) ≤ room = greatest_most (widths_of texts) room (each fits.1) in
-    ap (λ (b : Bounds). b.left) (margin_of_spans room fold s marks spans)
+    ap (λ (m : Margin). m.computed_left) (margin_of_spans room fold s marks spans)
     ∙ margin_near _ _ (greatest (flat_map (span_columns s) marks)) (greatest (flat_map (span_ends s) marks)) room (greatest (widths_of texts))
     (near_left s marks kept known.1) widest
   where

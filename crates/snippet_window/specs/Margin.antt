@@ -3,27 +3,18 @@ use Rattle.std.specs.Prelude.{ℕ, ◌+◌, ◌-◌, ◌*◌, ◌/◌, ◌&&◌,
 use Rattle.snippet_style.specs.Bounds.{max_usize}
 use Rattle.snippet_window.specs.declared.margin.Margin.{Margin}
 
--- two bounds, in columns: what lies between them is shown
-pub record Bounds : Type 0 where
-  pub left : ℕ
-  pub right : ℕ
-
--- the bounds of a margin
-abbrev pub bounds_of : Margin → Bounds
-bounds_of m = record { left = m.computed_left; right = m.computed_right }
-
 -- a sum, which stops at the greatest number that there is
 abbrev pub capped_sum : ℕ → ℕ → ℕ
 capped_sum a b = min (a + b) max_usize
 
--- the bounds of a snippet's window in a room of so many columns, where the whitespace that all its lines begin with has
--- this width, its spans reach from column `first` to column `last`, their labels to column `label_end`, and its widest line
--- has this width. Six columns stay free around the spans and after the labels, for the placeholders.
+-- the margin of a snippet, between the bounds of which its lines are shown, in a room of so many columns, where the whitespace that all
+-- its lines begin with has this width, its spans reach from column `first` to column `last`, their labels to column `label_end`, and its
+-- widest line has this width. Six columns stay free around the spans and after the labels, for the placeholders.
 -- Of whitespace that is wider than 20 columns, less those six, all but 16 is cut. If a line then still reaches past the
 -- room, the room begins, with the first of these that brings all of it inside, where the whitespace ends; or farther right,
 -- with spans and labels in the middle; or with the spans so that two fifths of what is left stand before them. If nothing
 -- does, the spans alone are shown
-abbrev pub margin_bounds : ℕ → ℕ → ℕ → ℕ → ℕ → ℕ → Bounds
+abbrev pub margin_bounds : ℕ → ℕ → ℕ → ℕ → ℕ → ℕ → Margin
 margin_bounds whitespace first last label_end room widest =
     let blank = min whitespace first - 6 in
     let from = first - 6 in
@@ -31,9 +22,10 @@ margin_bounds whitespace first last label_end room widest =
     let after = capped_sum label_end 6 in
     let left = if nat_lt 20 blank then blank - 16 else 0 in
     let right = max widest left in
-    let room_from : ℕ → Bounds = λ start. record { left = start; right = capped_sum start room } in
-    if nat_le (right - left) room then record { left = left; right = right }
+    let between : ℕ → ℕ → Margin = λ start end. record { computed_left = start; computed_right = end; term_width = room } in
+    let room_from : ℕ → Margin = λ start. between start (capped_sum start room) in
+    if nat_le (right - left) room then between left right
     else if nat_le (after - blank) room && nat_le blank after then room_from blank
     else if nat_le (after - from) room then room_from (from - (room - (after - from)) / 2)
     else if nat_le (to - from) room then room_from (from - (room - (to - from)) / 5 * 2)
-    else record { left = from; right = to }
+    else between from to

@@ -2,7 +2,6 @@
 use Rattle.std.specs.Prelude.{◌≡◌, ℕ, ◌+◌, ◌-◌, ◌<◌, ◌≤◌, ◌==◌, List, ◌++◌, length, if◌then◌else◌}
 use Rattle.snippet_text.specs.Width.{width_of}
 use Rattle.snippet_window.specs.declared.margin.Margin.{Margin}
-use Rattle.snippet_window.specs.Margin.{bounds_of}
 use Rattle.snippet_window.specs.Window.{fitting, window_left, window_right}
 
 -- how many characters, from the first on, take fewer columns than these: the most, and none where there is no column
@@ -26,4 +25,4 @@ pub record HoldsWindow (room left right : ℕ) (text : List ℕ) (skipped : ℕ)
 -- that part of a line of this width, between the bounds of a margin
 abbrev pub IsPartOf : Margin → List ℕ → ℕ → ℕ → List ℕ → Type 0
 IsPartOf margin line width skipped part =
-    (width ≡ width_of line) × HoldsWindow margin.term_width (bounds_of margin).left (bounds_of margin).right line skipped part
+    (width ≡ width_of line) × HoldsWindow margin.term_width margin.computed_left margin.computed_right line skipped part

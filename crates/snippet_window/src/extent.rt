@@ -1,11 +1,10 @@
 //! How far the lines of a snippet reach, with their spans and labels, and the margin for them.
-ghost use Rattle.std.specs.Prelude.{◌≡◌, ◌-◌, ◌≤◌, ◌++◌, ◌∷◌, [], All, List, IfSome, Some, map, max};
+ghost use Rattle.std.specs.Prelude.{◌≡◌, ◌≤◌, ◌++◌, ◌∷◌, [], All, List, IfSome, Some, map, max};
 ghost use Rattle.std.specs.Option.{option_copied};
 ghost use Rattle.snippet_parts.specs.declared.entries.AnnotatedLineInfo.{AnnotatedLineInfo};
 ghost use Rattle.snippet_parts.specs.declared.entries.LineAnnotation.{LineAnnotation};
 ghost use Rattle.snippet_parts.specs.Annotated.{seen_kept};
 ghost use Rattle.snippet_parts.specs.Entries.{is_bar};
-ghost use Rattle.snippet_window.specs.Margin.{bounds_of};
 ghost use Rattle.snippet_window.specs.Measures as spec;
 ghost use Rattle.snippet_window.specs.Measures.{StandsClear, end_with, margin_of};
 ghost use Rattle.snippet_window.specs.Extent.{ReachesEntries, ReachesLines};
@@ -25,9 +24,9 @@ pub fn margin_for(lines: &[ShownLine], room: usize) -> Margin
     requires texts { All (λ line. TextFits line.info.line.now) lines.now }
     requires labels { All (λ line. All (λ e. IfSome e.label (λ t. TextFits t.now)) line.info.annotations.items)
         lines.now }
-    ensures bounds { bounds_of result ≡ margin_of room (map seen_kept (kept_of lines.now)) }
+    ensures bounds { result ≡ margin_of room (map seen_kept (kept_of lines.now)) }
     ensures room { result.term_width ≡ room }
-    ensures ordered { (bounds_of result).left ≤ (bounds_of result).right }
+    ensures ordered { result.computed_left ≤ result.computed_right }
     ensures clear { All (λ info. All (StandsClear result) info.annotations.items) (kept_of lines.now) }
 {
     let mut extent = Extent::NONE;

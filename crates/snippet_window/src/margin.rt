@@ -1,6 +1,6 @@
 //! The bounds between which the lines of a snippet are shown.
 ghost use Rattle.std.specs.Prelude.{◌≡◌, ◌+◌, ◌-◌, ◌<◌, ◌≤◌, nat_le, nat_lt, min, if◌then◌else◌};
-ghost use Rattle.snippet_window.specs.Margin.{bounds_of, capped_sum, margin_bounds};
+ghost use Rattle.snippet_window.specs.Margin.{capped_sum, margin_bounds};
 
 /// The columns that stay free around spans and labels, for the placeholder.
 const PADDING: usize = 6;
@@ -36,12 +36,12 @@ impl Margin {
         term_width: usize,
         max_line_len: usize,
     ) -> Margin
-        ensures bounds { bounds_of result
+        ensures bounds { result
             ≡ margin_bounds whitespace_left span_left span_right label_right term_width max_line_len }
         ensures room { result.term_width ≡ term_width }
-        ensures ordered { span_left ≤ span_right → (bounds_of result).left ≤ (bounds_of result).right }
+        ensures ordered { span_left ≤ span_right → result.computed_left ≤ result.computed_right }
         // Where lines are cut on the left, the first span stands after the padding.
-        ensures padded { 0 < (bounds_of result).left → (bounds_of result).left + 6 ≤ span_left }
+        ensures padded { 0 < result.computed_left → result.computed_left + 6 ≤ span_left }
     {
         let blank = whitespace_left.min(span_left).saturating_sub(PADDING);
         let from = span_left.saturating_sub(PADDING);
@@ -68,8 +68,8 @@ impl Margin {
 
     /// These bounds.
     fn between(left: usize, right: usize, term_width: usize) -> Margin
-        ensures left { (bounds_of result).left ≡ left }
-        ensures right { (bounds_of result).right ≡ right }
+        ensures left { result.computed_left ≡ left }
+        ensures right { result.computed_right ≡ right }
         ensures room { result.term_width ≡ term_width }
     {
         Margin {
@@ -81,9 +81,9 @@ impl Margin {
 
     /// The bounds of all the room, from a column on.
     fn with_room_from(left: usize, term_width: usize) -> Margin
-        ensures left { (bounds_of result).left ≡ left }
-        ensures right { (bounds_of result).right ≡ capped_sum left term_width }
-        ensures ordered { (bounds_of result).left ≤ (bounds_of result).right }
+        ensures left { result.computed_left ≡ left }
+        ensures right { result.computed_right ≡ capped_sum left term_width }
+        ensures ordered { result.computed_left ≤ result.computed_right }
         ensures room { result.term_width ≡ term_width }
     {
         Margin::between(left, left.saturating_add(term_width), term_width)
@@ -92,14 +92,14 @@ impl Margin {
     /// Whether lines are cut on the left: their first columns are dropped, and a placeholder stands in place of the
     /// next.
     pub fn was_cut_left(&self) -> bool
-        ensures value { result ≡ nat_lt 0 (bounds_of self.now).left }
+        ensures value { result ≡ nat_lt 0 self.now.computed_left }
     {
         self.computed_left > 0
     }
 
     /// The column at which a line of this width begins to be shown: its end where it ends before the bound.
     pub fn left(&self, line_len: usize) -> usize
-        ensures value { result ≡ min (bounds_of self.now).left line_len }
+        ensures value { result ≡ min self.now.computed_left line_len }
     {
         self.computed_left.min(line_len)
     }
@@ -107,11 +107,10 @@ impl Margin {
     /// The column after the last one that is shown of a line of this width: its end where the room holds the line from
     /// the left bound on.
     pub fn right(&self, line_len: usize) -> usize
-        ensures value { let bounds = bounds_of self.now in
-            result ≡ (if nat_le (line_len - bounds.left) self.now.term_width then line_len else min line_len
-            bounds.right) }
-        ensures ordered { let bounds = bounds_of self.now in
-            bounds.left ≤ bounds.right → min bounds.left line_len ≤ result }
+        ensures value { result ≡ (if nat_le (line_len - self.now.computed_left) self.now.term_width
+            then line_len else min line_len self.now.computed_right) }
+        ensures ordered { self.now.computed_left ≤ self.now.computed_right
+            → min self.now.computed_left line_len ≤ result }
     {
         if line_len.saturating_sub(self.computed_left) <= self.term_width {
             line_len

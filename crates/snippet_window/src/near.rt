@@ -1,7 +1,6 @@
 //! The part of a line that is sure to hold its window.
 ghost use Rattle.std.specs.Prelude.{◌≡◌, ◌+◌, ◌-◌, ◌<◌, ◌≤◌, length, take, drop, chars, min};
 ghost use Rattle.snippet_text.specs.Width.{width_of};
-ghost use Rattle.snippet_window.specs.Margin.{bounds_of};
 ghost use Rattle.snippet_window.specs.NearPart.{HoldsWindow, falling_short, window_columns};
 ghost use Rattle.snippet_window.specs.Window.{reaching};
 ghost use Rattle.snippet_style.specs.Bounds.{IsColumn, IsTextWidth};
@@ -33,14 +32,13 @@ pub struct NearPart<'a> {
 pub fn near_part<'a>(margin: Margin, line: &'a str, width: usize) -> NearPart<'a>
     requires width { width ≡ width_of (chars line.now) }
     requires narrow { IsTextWidth width }
-    ensures holds { let bounds = bounds_of margin in
-        HoldsWindow margin.term_width bounds.left bounds.right (chars line.now) result.skipped (chars result.text.now) }
-    ensures within { result.skipped ≤ min (bounds_of margin).left width }
+    ensures holds { HoldsWindow margin.term_width margin.computed_left margin.computed_right (chars line.now)
+        result.skipped (chars result.text.now) }
+    ensures within { result.skipped ≤ min margin.computed_left width }
     ensures short { length result.text.now ≤ length line.now }
     // Little of the line is kept beside the window.
-    ensures few { let bounds = bounds_of margin in
-        width_of (chars result.text.now) < window_columns margin.term_width bounds.left bounds.right
-        (chars line.now) + 12 }
+    ensures few { width_of (chars result.text.now) < window_columns margin.term_width margin.computed_left
+        margin.computed_right (chars line.now) + 12 }
 {
     let left = margin.left(width);
     let columns = margin.right(width).saturating_sub(left);

@@ -2,7 +2,6 @@
 ghost use Rattle.std.specs.Prelude.{◌≡◌, ◌+◌, ◌-◌, ◌<◌, ◌≤◌, All, IfSome, List, ℕ, length, take, drop, chars, min};
 ghost use Rattle.snippet_text.specs.Plain.{IsPlain};
 ghost use Rattle.snippet_text.specs.Width.{width_of};
-ghost use Rattle.snippet_window.specs.Margin.{bounds_of};
 ghost use Rattle.snippet_window.specs.NearPart.{IsPartOf};
 ghost use Rattle.snippet_window.specs.Window.{reaching, fitting, reaching_last, dropped_part, inner_part};
 ghost use Rattle.snippet_window.specs.Window.{covered_columns, uncovered_part, covered_end};
@@ -55,25 +54,23 @@ pub fn window_of<'a>(
     width: usize,
 ) -> LineWindow<'a>
     requires narrow { IsColumn width }
-    requires skipped { skipped ≤ min (bounds_of margin).left width }
+    requires skipped { skipped ≤ min margin.computed_left width }
     requires short { FitsRow (chars text.now) }
     requires placeholder { TextFits placeholder.now }
     ensures dropped { (line : List ℕ) → IsPartOf margin line width skipped (chars text.now)
-        → result.dropped ≡ width_of (dropped_part (bounds_of margin).left line) }
+        → result.dropped ≡ width_of (dropped_part margin.computed_left line) }
     ensures few_dropped { IsWindowColumn result.dropped }
     ensures few_start { IfSome result.start (λ start. IsTextWidth start) }
     ensures few_end { IfSome result.end (λ end. IsWindowColumn end) }
     ensures start { (line : List ℕ) → IsPartOf margin line width skipped (chars text.now)
-        → let bounds = bounds_of margin in
-        result.start ≡ covered_columns bounds.left (chars placeholder.now)
-        (inner_part margin.term_width bounds.left bounds.right line) }
+        → result.start ≡ covered_columns margin.computed_left (chars placeholder.now)
+        (inner_part margin.term_width margin.computed_left margin.computed_right line) }
     ensures text { (line : List ℕ) → IsPartOf margin line width skipped (chars text.now)
-        → let bounds = bounds_of margin in
-        chars result.text.now ≡ uncovered_part bounds.left (chars placeholder.now)
-        (inner_part margin.term_width bounds.left bounds.right line) }
+        → chars result.text.now ≡ uncovered_part margin.computed_left (chars placeholder.now)
+        (inner_part margin.term_width margin.computed_left margin.computed_right line) }
     ensures end { (line : List ℕ) → IsPartOf margin line width skipped (chars text.now)
-        → let bounds = bounds_of margin in
-        result.end ≡ covered_end margin.term_width bounds.left bounds.right (chars placeholder.now) line }
+        → result.end ≡ covered_end margin.term_width margin.computed_left margin.computed_right
+        (chars placeholder.now) line }
 {
     let left = margin.left(width);
     let right = margin.right(width);
@@ -100,10 +97,10 @@ pub fn window_of<'a>(
 fn uncovered<'a>(margin: Margin, columns: usize, inner: &'a str) -> (Option<usize>, &'a str)
     requires few { IsColumn columns }
     ensures start { (placeholder : List ℕ) → columns ≡ width_of placeholder
-        → result.0 ≡ covered_columns (bounds_of margin).left placeholder (chars inner.now) }
+        → result.0 ≡ covered_columns margin.computed_left placeholder (chars inner.now) }
     ensures bound { IfSome result.0 (λ start. start < columns + 4) }
     ensures text { (placeholder : List ℕ) → columns ≡ width_of placeholder
-        → chars result.1.now ≡ uncovered_part (bounds_of margin).left placeholder (chars inner.now) }
+        → chars result.1.now ≡ uncovered_part margin.computed_left placeholder (chars inner.now) }
 {
     if margin.was_cut_left() {
         let (skipped, shown) = after_columns(inner, columns);

@@ -17,7 +17,7 @@ use Rattle.snippet_strokes.specs.EntryMarks.{IsBarCell}
 use Rattle.snippet_strokes.specs.SourceRows.{bare_row}
 use Rattle.annotate_snippets.specs.declared.renderer.Renderer.{Renderer}
 use Rattle.snippet_grid.specs.Layout.{Layout, inner_cell}
-use Rattle.annotate_snippets.specs.GraphicForm.{bounds_in, room_of}
+use Rattle.annotate_snippets.specs.GraphicForm.{margin_in}
 use Rattle.annotate_snippets.specs.Gutter.{number_text}
 
 -- how many spans that are marked below line k are wide
@@ -44,9 +44,10 @@ pub record ShowsSourceLine (r : Renderer) (layout : Layout) (s : Snippet Annotat
   pub left : take (layout.gutter + 2) row ≡ cells_left layout.decor layout.gutter (number_text r s.line_numbering layout.gutter (s.line_start + k))
   pub space : slice_index_or row (layout.gutter + 2) SPACE ≡ SPACE
   pub bars : HasBarsAlone layout.decor layout row
-  pub window : IsWindowOf (placeholder_of layout.decor) (room_of r layout) (wide_spans (room_of r layout) (length (placeholder_of layout.decor)) s k)
-      (bounds_in r layout s).left (bounds_in r layout s).right (norm (chars_at (cow_str_bytes s.source) k)) dropped (row_text (drop layout.code row))
-  pub whole : stands_whole (room_of r layout) (length (placeholder_of layout.decor)) s.fold (cow_str_bytes s.source) s.markers.items k ≡ true
+  pub window : IsWindowOf (placeholder_of layout.decor) (r.term_width - layout.code)
+      (wide_spans (r.term_width - layout.code) (length (placeholder_of layout.decor)) s k) (margin_in r layout s).computed_left
+      (margin_in r layout s).computed_right (norm (chars_at (cow_str_bytes s.source) k)) dropped (row_text (drop layout.code row))
+  pub whole : stands_whole (r.term_width - layout.code) (length (placeholder_of layout.decor)) s.fold (cow_str_bytes s.source) s.markers.items k ≡ true
       → (dropped ≡ 0) × (row_text (drop layout.code row) ≡ norm (chars_at (cow_str_bytes s.source) k))
 
 -- a row below that of a line: up to the bars it has just the cells of a separator row, or where the group's window closes with it

@@ -1,5 +1,5 @@
 -- What the rows of an annotated snippet show.
-use Rattle.std.specs.Prelude.{◌≡◌, ℕ, ◌==◌, ◌&&◌, Bool, true, false, List, [], ◌∷◌, ◌++◌, All, Contains, Some, length}
+use Rattle.std.specs.Prelude.{◌≡◌, ℕ, ◌==◌, ◌&&◌, Bool, true, false, List, [], ◌∷◌, ◌++◌, All, Contains, Some, length, ◌-◌}
 use Rattle.std.specs.List.{list_any}
 use Rattle.std.specs.Cow.{cow_str_bytes}
 use Rattle.snippet_grid.specs.Grid.{row_at}
@@ -17,7 +17,7 @@ use Rattle.annotate_snippets.specs.declared.renderer.Renderer.{Renderer}
 use Rattle.snippet_grid.specs.Layout.{Layout}
 use Rattle.annotate_snippets.specs.declared.renderer.element_context.ElementContext.{ElementContext}
 use Rattle.annotate_snippets.specs.Around.{closes_with, path_bytes}
-use Rattle.annotate_snippets.specs.GraphicForm.{room_of, rows_of_lines}
+use Rattle.annotate_snippets.specs.GraphicForm.{rows_of_lines}
 use Rattle.annotate_snippets.specs.Page.{RowName, SourceRow, Elision, Other, NamedRow, lines_named, cells_of, rows_below, others}
 use Rattle.annotate_snippets.specs.Laws.Bars.{ShowsBars}
 use Rattle.annotate_snippets.specs.RowsWithoutSource.{cause_head, rows_after_cause}
@@ -31,9 +31,9 @@ use Rattle.annotate_snippets.specs.Laws.Paths.{NamesLocation}
 pub record ShowsLineAndMarks (r : Renderer) (layout : Layout) (s : Snippet Annotation) (k : ℕ) (row below : List Cell) (rows : List (List Cell)) : Type 0 where
   pub dropped : ℕ
   pub line : ShowsSourceLine r layout s k dropped row
-  pub marks : qualifies_for_marks (room_of r layout) (length (placeholder_of layout.decor)) (cow_str_bytes s.source) s.markers.items k ≡ true
+  pub marks : qualifies_for_marks (r.term_width - layout.code) (length (placeholder_of layout.decor)) (cow_str_bytes s.source) s.markers.items k ≡ true
       → ShowsMarksOf layout.decor layout s k dropped below
-  pub labels : wide_spans (room_of r layout) (length (placeholder_of layout.decor)) s k ≡ 0 → ShowsLabels layout.decor layout s k dropped rows
+  pub labels : wide_spans (r.term_width - layout.code) (length (placeholder_of layout.decor)) s k ≡ 0 → ShowsLabels layout.decor layout s k dropped rows
 
 -- a row of an annotated snippet's lines, with the rows below it, is what its name says; the group's window may close with the
 -- last one. A row in place of lines that are left out has, up to the bars, just the cells of what stands for such lines, so that it can't

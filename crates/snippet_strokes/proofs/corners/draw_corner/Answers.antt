@@ -3,7 +3,8 @@ use Rattle.std.proofs.lemmas.Result.{on_ok_weaker}
 use Rattle.snippet_parts.specs.declared.entries.LineAnnotationType.{LineAnnotationType}
 use Rattle.snippet_style.specs.Cell.{Cell}
 use Rattle.snippet_style.specs.declared.glyphs.Strokes.{Strokes}
-use Rattle.snippet_strokes.specs.Strokes.{column_of, corner_by}
+use Rattle.snippet_strokes.specs.Strokes.{column_of}
+use Rattle.snippet_strokes.proofs.StrokeWords.{corner_by}
 use Rattle.snippet_strokes.specs.Writes.{glyph_at, painted}
 use Rattle.snippet_strokes.proofs.corners.draw_corner.Goals as goal
 

@@ -1,6 +1,7 @@
 use Rattle.std.proofs.Common.{◌∙◌, ◌+◌, ◌<◌, List, false, sym, ap, arith, length, drop, get_or}
 use Rattle.snippet_labels.specs.declared.positions.PlacedEntry.{PlacedEntry}
-use Rattle.snippet_strokes.specs.Cuts.{Stretch, cut_of, cut_rows, cuts_of}
+use Rattle.snippet_strokes.specs.LookedCuts.{Stretch, cut_of}
+use Rattle.snippet_strokes.specs.LookedCuts.{cut_rows, cuts_of}
 use Rattle.snippet_strokes.proofs.CutLemmas.{cut_rows-append, cuts_of-more, cuts_of-none}
 use Rattle.snippet_strokes.proofs.cuts.cut_wide.Goals as goal
 

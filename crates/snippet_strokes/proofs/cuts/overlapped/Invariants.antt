@@ -1,5 +1,5 @@
 use Rattle.std.proofs.Common.{◌≡◌, ◌++◌, drop, length}
-use Rattle.snippet_strokes.specs.Cuts.{overlapped_by}
+use Rattle.snippet_strokes.specs.LookedCuts.{overlapped_by}
 use Rattle.snippet_strokes.proofs.cuts.overlapped.Given as goal
 
 -- the flags so far are there, and the others follow

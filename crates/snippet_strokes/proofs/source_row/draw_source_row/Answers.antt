@@ -6,7 +6,6 @@ use Rattle.snippet_style.specs.Cell.{Cell}
 use Rattle.snippet_style.specs.declared.glyphs.DecorStyle.{DecorStyle}
 use Rattle.snippet_strokes.specs.Bars.{with_bars}
 use Rattle.snippet_strokes.specs.declared.bars.BarStroke.TheVariants.{Solid, Top}
-use Rattle.snippet_window.specs.Margin.{bounds_of}
 use Rattle.snippet_window.proofs.NearLemmas.{part_of_norm}
 use Rattle.snippet_text.specs.Normalized.{norm}
 use Rattle.snippet_text.proofs.WidthBounds.{width_of-chars}
@@ -46,7 +45,6 @@ write_source_row-requires-clause-number c =
 
 pub write_source_row-requires-clause-text : goal.write_source_row-requires-clause-text
 write_source_row-requires-clause-text c =
-    let bounds = bounds_of c.args.view.margin in
     let line = chars c.args.line.now.info.line.now in
     let text = ap chars c.as_str.ensures.value ∙ c.in_ok-text.ensures.value in
     let part = part_of_norm c.args.view.margin c.args.line.now.width c.near_part-near.result.skipped line (chars c.near_part-near.result.text.now)
@@ -54,7 +52,7 @@ write_source_row-requires-clause-text c =
     omega (
       arith,
       ap length (c.window_of-window.ensures.text (norm line) part),
-      part_few bounds.left c.args.view.margin.term_width bounds.left bounds.right
+      part_few c.args.view.margin.computed_left c.args.view.margin.term_width c.args.view.margin.computed_left c.args.view.margin.computed_right
           (chars c.placeholder-placeholder.result.now) (norm line),
       norm_short c.args.line.now.info.line.now c.requires.text,
     )

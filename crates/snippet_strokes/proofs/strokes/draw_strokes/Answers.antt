@@ -13,7 +13,8 @@ use Rattle.snippet_style.specs.Cell.{Cell}
 use Rattle.snippet_labels.specs.PlacedEntries.{HasPlace, shifted}
 use Rattle.std.specs.Prelude.{if◌then◌else◌}
 use Rattle.std.specs.List.{list_any}
-use Rattle.snippet_strokes.specs.Cuts.{cut_rows, cuts_of, is_wide_at, overlapped}
+use Rattle.snippet_strokes.specs.Cuts.{overlapped}
+use Rattle.snippet_strokes.specs.LookedCuts.{cut_rows, cuts_of, is_wide_at}
 use Rattle.snippet_strokes.specs.SourceRows.{bare_row}
 use Rattle.snippet_style.specs.Separators.{closing_row, separator_row}
 use Rattle.snippet_strokes.proofs.PaintOrder.{IsPermutation-painting_order}

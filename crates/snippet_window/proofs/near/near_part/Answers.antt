@@ -1,6 +1,5 @@
 use Rattle.std.proofs.Common.{◌≡◌, ◌∙◌, ap, arith, min, chars, take, drop}
 use Rattle.snippet_text.specs.Width.{width_of}
-use Rattle.snippet_window.specs.Margin.{bounds_of}
 use Rattle.snippet_window.specs.NearPart.{falling_short}
 use Rattle.snippet_window.specs.Window.{window_left}
 use Rattle.snippet_window.proofs.NearLemmas.{near_holds, right_is, width_left}
@@ -13,11 +12,11 @@ part_reaching-requires-clause-width c =
 
 pub returns-clause-holds : goal.returns-clause-holds
 returns-clause-holds c =
-    let bounds = bounds_of c.args.margin in
+    let margin = c.args.margin in
     let cs = chars c.args.line.now in
-    let left : c.left-left.result ≡ window_left bounds.left cs = c.left-left.ensures.value ∙ ap (min bounds.left) c.requires.width in
+    let left : c.left-left.result ≡ window_left margin.computed_left cs = c.left-left.ensures.value ∙ ap (min margin.computed_left) c.requires.width in
     let skipped = c.after_fewer-skipped.ensures.width ∙ ap (λ n. width_of (take (falling_short n cs) cs)) left in
     let rest = c.after_fewer-skipped.ensures.rest ∙ ap (λ n. drop (falling_short n cs) cs) left in
-    let right = right_is c.args.margin.term_width bounds.left bounds.right c.args.width c.right.result cs c.requires.width c.right.ensures.value in
-    near_holds c.args.margin.term_width bounds.left bounds.right c.after_fewer-skipped.result.0 _ cs (chars c.after_fewer-skipped.result.1.now)
+    let right = right_is margin.term_width margin.computed_left margin.computed_right c.args.width c.right.result cs c.requires.width c.right.ensures.value in
+    near_holds margin.term_width margin.computed_left margin.computed_right c.after_fewer-skipped.result.0 _ cs (chars c.after_fewer-skipped.result.1.now)
     (chars c.part_reaching.result.now) skipped rest (omega (arith, left, c.saturating_sub-columns.ensures, right)) c.part_reaching.ensures.value

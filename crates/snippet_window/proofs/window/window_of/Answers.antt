@@ -1,6 +1,5 @@
 use Rattle.std.proofs.Common.{Option, IfSome, ℕ, sym, subst, ◌≡◌, ◌<◌, ◌≤◌, ◌+◌, ◌-◌, ◌^◌, ◌∙◌, min, ap, arith, length, unwrap_or, chars}
 use Rattle.snippet_text.specs.Width.{width_of}
-use Rattle.snippet_window.specs.Margin.{bounds_of}
 use Rattle.snippet_window.specs.Window.{reaching_last, covered_columns, uncovered_part, window_left, window_right}
 use Rattle.snippet_window.proofs.LineWindowLemmas.{cells_few, start_is_few, part_short}
 use Rattle.snippet_window.proofs.NearLemmas.{right_is, window_dropped, inner_found, end_some, end_none}
@@ -9,7 +8,7 @@ use Rattle.snippet_window.proofs.window.window_of.Goals.{then-right-width, else-
 
 pub overflow_add-at : goal.overflow_add-at
 overflow_add-at c =
-    let bounds = bounds_of c.args.margin in
+    let margin = c.args.margin in
     let inner = chars c.within_columns-inner_width.result.0.now in
     let short : length inner < 2 ^ 60 = omega (
       arith,
@@ -19,7 +18,7 @@ overflow_add-at c =
     ) in
     omega (
       arith,
-      cells_few c.uncovered-start.result.0 c.str_width-columns.result bounds.left (chars c.args.placeholder.now)
+      cells_few c.uncovered-start.result.0 c.str_width-columns.result margin.computed_left (chars c.args.placeholder.now)
           inner (chars c.uncovered-start.result.1.now)
           c.unwrap_or.result c.char_count.result (omega (arith, c.str_width-columns.ensures.bound, c.requires.placeholder))
           c.uncovered-start.ensures.bound (c.uncovered-start.ensures.text (chars c.args.placeholder.now) c.str_width-columns.ensures.value)
@@ -28,10 +27,10 @@ overflow_add-at c =
 
 pub returns-clause-dropped : goal.returns-clause-dropped
 returns-clause-dropped c line part =
-    let bounds = bounds_of c.args.margin in
-    let left : c.left-left.result ≡ window_left bounds.left line = c.left-left.ensures.value ∙ ap (min bounds.left) part.0 in
+    let margin = c.args.margin in
+    let left : c.left-left.result ≡ window_left margin.computed_left line = c.left-left.ensures.value ∙ ap (min margin.computed_left) part.0 in
     ap (λ n. c.args.skipped + n) c.after_columns-reached.ensures.width
-    ∙ window_dropped c.args.margin.term_width bounds.left bounds.right c.args.skipped c.left-left.result line (chars c.args.text.now) part.1 left
+    ∙ window_dropped margin.term_width margin.computed_left margin.computed_right c.args.skipped c.left-left.result line (chars c.args.text.now) part.1 left
 
 pub returns-clause-few_start : goal.returns-clause-few_start
 returns-clause-few_start c =
@@ -40,34 +39,34 @@ returns-clause-few_start c =
 
 pub returns-clause-start : goal.returns-clause-start
 returns-clause-start c line part =
-    let bounds = bounds_of c.args.margin in
+    let margin = c.args.margin in
     let inner = inner_found c.args.margin c.args.skipped c.args.width c.left-left.result c.right-right.result c.saturating_sub.result line
     (chars c.args.text.now) (chars c.after_columns-reached.result.1.now) (chars c.within_columns-inner_width.result.0.now) part
     c.left-left.ensures.value c.right-right.ensures.value (omega (arith, c.saturating_sub.ensures))
     (omega (arith, c.after_columns-reached.ensures.width, c.after_columns-reached.ensures.near)) c.after_columns-reached.ensures.rest
     c.within_columns-inner_width.ensures.value in
     c.uncovered-start.ensures.start (chars c.args.placeholder.now) c.str_width-columns.ensures.value
-    ∙ ap (covered_columns bounds.left (chars c.args.placeholder.now)) inner
+    ∙ ap (covered_columns margin.computed_left (chars c.args.placeholder.now)) inner
 
 pub returns-clause-text : goal.returns-clause-text
 returns-clause-text c line part =
-    let bounds = bounds_of c.args.margin in
+    let margin = c.args.margin in
     let inner = inner_found c.args.margin c.args.skipped c.args.width c.left-left.result c.right-right.result c.saturating_sub.result line
     (chars c.args.text.now) (chars c.after_columns-reached.result.1.now) (chars c.within_columns-inner_width.result.0.now) part
     c.left-left.ensures.value c.right-right.ensures.value (omega (arith, c.saturating_sub.ensures))
     (omega (arith, c.after_columns-reached.ensures.width, c.after_columns-reached.ensures.near)) c.after_columns-reached.ensures.rest
     c.within_columns-inner_width.ensures.value in
     c.uncovered-start.ensures.text (chars c.args.placeholder.now) c.str_width-columns.ensures.value
-    ∙ ap (uncovered_part bounds.left (chars c.args.placeholder.now)) inner
+    ∙ ap (uncovered_part margin.computed_left (chars c.args.placeholder.now)) inner
 
 pub returns-clause-end : goal.returns-clause-end
 returns-clause-end c line part =
-    let bounds = bounds_of c.args.margin in
-    let room = c.args.margin.term_width in
+    let margin = c.args.margin in
+    let room = margin.term_width in
     let placeholder = chars c.args.placeholder.now in
     let found = chars c.within_columns-inner_width.result.0.now in
     let shown = chars c.uncovered-start.result.1.now in
-    let right = right_is room bounds.left bounds.right c.args.width c.right-right.result line part.0 c.right-right.ensures.value in
+    let right = right_is room margin.computed_left margin.computed_right c.args.width c.right-right.result line part.0 c.right-right.ensures.value in
     let inner = inner_found c.args.margin c.args.skipped c.args.width c.left-left.result c.right-right.result c.saturating_sub.result line
     (chars c.args.text.now) (chars c.after_columns-reached.result.1.now) (chars c.within_columns-inner_width.result.0.now) part
     c.left-left.ensures.value c.right-right.ensures.value (omega (arith, c.saturating_sub.ensures))
@@ -75,22 +74,24 @@ returns-clause-end c line part =
     c.within_columns-inner_width.ensures.value in
     elim c.if-right-width.branch [
       | then-right-width w ↦
-          let cut : window_right room bounds.left bounds.right line < width_of line = omega (arith, right, part.0, w.if-right-width.true) in
+          let cut : window_right room margin.computed_left margin.computed_right line < width_of line =
+          omega (arith, right, part.0, w.if-right-width.true) in
           let last : w.last_reaching.result ≡ reaching_last (width_of placeholder) found = w.last_reaching.ensures.value
           ∙ ap (λ n. reaching_last n found) c.str_width-columns.ensures.value in
           let end : w.saturating_sub-then-right-width.result ≡ (unwrap_or c.uncovered-start.result.0 0 + length shown) - reaching_last
           (width_of placeholder) found = omega (arith, w.saturating_sub-then-right-width.ensures, last, w.unwrap_or.ensures, w.char_count.ensures.value) in
-          w.end-is ∙ end_some room bounds.left bounds.right w.saturating_sub-then-right-width.result c.uncovered-start.result.0 placeholder line found
-          shown inner cut (c.uncovered-start.ensures.start placeholder c.str_width-columns.ensures.value)
+          w.end-is ∙ end_some room margin.computed_left margin.computed_right w.saturating_sub-then-right-width.result c.uncovered-start.result.0
+          placeholder line found shown inner cut (c.uncovered-start.ensures.start placeholder c.str_width-columns.ensures.value)
           (c.uncovered-start.ensures.text placeholder c.str_width-columns.ensures.value) end
       | else-right-width w ↦
-          let uncut : width_of line ≤ window_right room bounds.left bounds.right line = omega (arith, right, part.0, w.if-right-width.false) in
-          w.end-is ∙ end_none room bounds.left bounds.right placeholder line uncut
+          let uncut : width_of line ≤ window_right room margin.computed_left margin.computed_right line =
+          omega (arith, right, part.0, w.if-right-width.false) in
+          w.end-is ∙ end_none room margin.computed_left margin.computed_right placeholder line uncut
     ]
 
 pub returns-clause-few_end : goal.returns-clause-few_end
 returns-clause-few_end c =
-    let bounds = bounds_of c.args.margin in
+    let margin = c.args.margin in
     let inner = chars c.within_columns-inner_width.result.0.now in
     let short : length inner < 2 ^ 60 = omega (
       arith,
@@ -100,7 +101,7 @@ returns-clause-few_end c =
     ) in
     elim c.if-right-width.branch [
       | then-right-width w ↦
-          let few = cells_few c.uncovered-start.result.0 c.str_width-columns.result bounds.left (chars c.args.placeholder.now)
+          let few = cells_few c.uncovered-start.result.0 c.str_width-columns.result margin.computed_left (chars c.args.placeholder.now)
           inner (chars c.uncovered-start.result.1.now)
           w.unwrap_or.result w.char_count.result (omega (arith, c.str_width-columns.ensures.bound, c.requires.placeholder))
           c.uncovered-start.ensures.bound (c.uncovered-start.ensures.text (chars c.args.placeholder.now) c.str_width-columns.ensures.value)

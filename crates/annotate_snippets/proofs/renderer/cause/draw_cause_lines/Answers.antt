@@ -11,13 +11,12 @@ use Rattle.snippet_parts.specs.ShownLines.{infos_of, kept_of}
 use Rattle.snippet_parts.proofs.ShownLineLemmas.{infos_all}
 use Rattle.snippet_parts.specs.Annotated.{annotated_lines, kept_line, seen_kept}
 use Rattle.snippet_parts.specs.Kept.{kept_lines, shown_lines}
-use Rattle.snippet_window.specs.Margin.{bounds_of}
 use Rattle.snippet_window.specs.Measures.{margin_of}
 use Rattle.snippet_parts.specs.declared.entries.LineAnnotation.{LineAnnotation}
 use Rattle.snippet_grid.specs.Layout.{Layout}
 use Rattle.snippet_strokes.specs.Drawable.{IsDrawableLine}
 use Rattle.snippet_strokes.specs.declared.snippet.LineView.{LineView}
-use Rattle.annotate_snippets.specs.GraphicForm.{bounds_in, margin_in, room_of, rows_of_lines}
+use Rattle.annotate_snippets.specs.GraphicForm.{margin_in, rows_of_lines}
 use Rattle.annotate_snippets.specs.Page.{cells_of}
 use Rattle.snippet_strokes.specs.Snippet.{infos_rows}
 use Rattle.snippet_style.specs.Cell.{Cell}
@@ -25,7 +24,7 @@ use Rattle.annotate_snippets.specs.Gutter.{numbered_source}
 use Rattle.annotate_snippets.specs.PreparedReport.{IsCausePrepared}
 use Rattle.annotate_snippets.specs.declared.renderer.preprocess.PreparedCause.{PreparedCause}
 use Rattle.annotate_snippets.proofs.GutterLemmas.{numbers_fit}
-use Rattle.annotate_snippets.proofs.LineValue.{lines_value, one_margin}
+use Rattle.annotate_snippets.proofs.LineValue.{lines_value}
 use Rattle.annotate_snippets.proofs.PartsFacts.{lines_entries, lines_labels, lines_texts, shown_clear}
 use Rattle.annotate_snippets.proofs.renderer.cause.draw_cause_lines.Goals as goal
 use Rattle.annotate_snippets.proofs.renderer.cause.draw_cause_lines.Goals.{After-deref, After-deref-2}
@@ -138,12 +137,9 @@ returns c =
     (ap kept_of c.deref.ensures.value ∙ c.in_ok-lines.ensures.kept_are) ∙ prepared.kept_are in
     let room : c.saturating_sub-room.result ≡ c.args.renderer.now.term_width - layout.code = c.saturating_sub-room.ensures
     ∙ ap (λ (l : Layout). c.args.renderer.now.term_width - l.code) c.layout.view_is in
-    let bounds : bounds_of c.margin_for-margin.result ≡ margin_of (c.args.renderer.now.term_width - layout.code)
-    (annotated_lines s.fold (numbered_source s) s.markers.items) = c.margin_for-margin.ensures.bounds ∙ ap (margin_of c.saturating_sub-room.result) kept
-    ∙ ap (λ n. margin_of n (annotated_lines s.fold (numbered_source s) s.markers.items)) room in
     let view : LineView = record { margin = c.margin_for-margin.result; numbers = c.line_numbers-numbers.result; closes = c.args.closes } in
-    let margin : view.margin ≡ margin_in c.args.renderer.now layout s = one_margin view.margin (room_of c.args.renderer.now layout)
-    (bounds_in c.args.renderer.now layout s) (c.margin_for-margin.ensures.room ∙ room) bounds in
+    let margin : view.margin ≡ margin_in c.args.renderer.now layout s = c.margin_for-margin.ensures.bounds ∙ ap (margin_of c.saturating_sub-room.result) kept
+    ∙ ap (λ n. margin_of n (annotated_lines s.fold (numbered_source s) s.markers.items)) room in
     let shown = shown_of c.args.cause prepared c.args.cause.map refl (infos_of c.in_ok-lines.lines.items) lines (ap infos_of c.deref-2.ensures.value)
     c.in_ok-lines.ensures.value in
     let value = lines_value c.args.renderer.now layout s view margin c.line_numbers-numbers.ensures.value []

@@ -1,0 +1,132 @@
+-- Which entries are overlapped: what the code finds step by step is what the rule says.
+use Rattle.std.proofs.Common.{◌≡◌, ◌∙◌, ℕ, zero, suc, ◌+◌, ◌-◌, ◌≤◌, Bool, true, false, ◌&&◌, ◌||◌, List, [], ◌∷◌, ◌++◌, take, drop}
+use Rattle.std.proofs.Common.{length, map, refl, sym, ap, inl, inr, arith}
+use Rattle.std.specs.Prelude.{nat_le, nat_lt}
+use Rattle.std.specs.List.{enumerate_from, list_any, slice_index_or}
+use Rattle.std.proofs.lemmas.List.{append_assoc, length-append}
+use Rattle.std.proofs.Math.Seq.{get_or-append_seam}
+use Rattle.std.proofs.lemmas.Bool.{cases_lt}
+use Rattle.std.proofs.lemmas.Bool.Decides.{nat_tests}
+use Rattle.snippet_labels.specs.declared.positions.PlacedEntry.{PlacedEntry}
+use Rattle.snippet_labels.specs.Positions.{do_overlap}
+use Rattle.snippet_strokes.specs.Cuts.{overlapped, sees}
+use Rattle.snippet_strokes.specs.LookedCuts.{is_met, look_ends, meets, overlapped_by}
+
+-- ---- tests of a list
+
+-- a test that each fails, where this much is known beside it
+list_any-and : {X : Type 0} (b : Bool) (p : X → Bool) (xs : List X) → (b && list_any p xs) ≡ list_any (λ x. b && p x) xs
+list_any-and true p xs = refl
+list_any-and false p [] = refl
+list_any-and false p (x ∷ xs) = list_any-and false p xs
+
+swapped : (a b c d : Bool) → ((a || b) || (c || d)) ≡ ((a || c) || (b || d))
+swapped true b c d = refl
+swapped false true true d = refl
+swapped false true false d = refl
+swapped false false true d = refl
+swapped false false false d = refl
+
+list_any-or : {X : Type 0} (p q : X → Bool) (xs : List X) → (list_any p xs || list_any q xs) ≡ list_any (λ x. p x || q x) xs
+list_any-or p q [] = refl
+list_any-or p q (x ∷ xs) = swapped (p x) (list_any p xs) (q x) (list_any q xs) ∙ ap (λ b. (p x || q x) || b) (list_any-or p q xs)
+
+-- ---- elements with their numbers
+
+none_from : {X : Type 0} (p : ℕ × X → Bool) (s : ℕ) (xs : List X) → ((y : ℕ × X) → s ≤ y.0 → p y ≡ false) → list_any p (enumerate_from s xs) ≡ false
+none_from p s [] none = refl
+none_from p s (x ∷ xs) none =
+    ap (λ b. b || list_any p (enumerate_from (s + 1) xs)) (none (s, x) (omega arith)) ∙ none_from p (s + 1) xs (λ y from. none y (omega (arith, from)))
+
+-- whether an element passes a test, and its number is from one to before another
+abbrev is_within : {X : Type 0} → (X → Bool) → ℕ → ℕ → ℕ × X → Bool
+is_within p from to y = nat_le from y.0 && (nat_lt y.0 to && p y.1)
+
+past_end : {X : Type 0} (p : X → Bool) (from to : ℕ) (y : ℕ × X) → to ≤ y.0 → is_within p from to y ≡ false
+past_end p from to y past = grind (arith, nat_tests, past)
+
+nothing : {X : Type 0} (m n : ℕ) → drop {A = X} m (take n []) ≡ []
+nothing zero zero = refl
+nothing zero (suc n) = refl
+nothing (suc m) zero = refl
+nothing (suc m) (suc n) = refl
+
+nothing_more : {X : Type 0} (m : ℕ) (xs : List X) → drop {A = X} m (take 0 xs) ≡ []
+nothing_more zero xs = refl
+nothing_more (suc m) xs = refl
+
+-- some of the elements from one place to before another passes a test, if one of the numbered ones does
+pub any_within : {X : Type 0} (p : X → Bool) (from to s : ℕ) (xs : List X)
+    → list_any p (drop (from - s) (take (to - s) xs)) ≡ list_any (is_within p from to) (enumerate_from s xs)
+any_within p from to s [] = ap (list_any p) (nothing (from - s) (to - s))
+any_within {X = X} p from to s (x ∷ xs) =
+    elim (cases_lt s to) [
+      | inr past ↦
+          let none : to - s ≡ 0 = omega (arith, past) in
+          ap (λ n. list_any p (drop (from - s) (take n (x ∷ xs)))) none ∙ ap (list_any p) (nothing_more (from - s) (x ∷ xs))
+          ∙ sym (none_from (is_within p from to) s (x ∷ xs) (λ y at. past_end p from to y (omega (arith, past, at))))
+      | inl inside ↦
+          let more : to - s ≡ suc (to - (s + 1)) = omega (arith, inside) in
+          let rest : List X = take (to - (s + 1)) xs in
+          ap (λ n. list_any p (drop (from - s) (take n (x ∷ xs)))) more
+          ∙ elim (cases_lt s from) [
+            | inl before ↦
+                let fewer : from - s ≡ suc (from - (s + 1)) = omega (arith, before) in
+                let out : is_within p from to (s, x) ≡ false = grind (arith, nat_tests, before) in
+                ap (λ n. list_any p (drop n (x ∷ rest))) fewer ∙ any_within p from to (s + 1) xs
+                ∙ ap (λ b. b || list_any (is_within p from to) (enumerate_from (s + 1) xs)) (sym out)
+            | inr reached ↦
+                let zero_here : from - s ≡ 0 = omega (arith, reached) in
+                let zero_next : from - (s + 1) ≡ 0 = omega (arith, reached) in
+                let here : is_within p from to (s, x) ≡ p x = grind (arith, nat_tests, reached, inside) in
+                let later : list_any p rest ≡ list_any (is_within p from to) (enumerate_from (s + 1) xs) =
+                ap (λ n. list_any p (drop n rest)) (sym zero_next) ∙ any_within p from to (s + 1) xs in
+                ap (λ n. list_any p (drop n (x ∷ rest))) zero_here ∙ ap (λ b. p x || b) later
+                ∙ ap (λ b. b || list_any (is_within p from to) (enumerate_from (s + 1) xs)) (sym here)
+          ]
+    ]
+
+-- ---- entries
+
+-- an entry is met if one that is numbered sees it
+met_by_number : (k : ℕ) (e : PlacedEntry) (s : ℕ) (es : List PlacedEntry)
+    → is_met k e es (look_ends s es) ≡ list_any (λ y. nat_lt k (y.0 + 1 + y.1.looked) && do_overlap e 0 y.1) (enumerate_from s es)
+met_by_number k e s [] = refl
+met_by_number k e s (other ∷ es) = ap (λ b. (nat_lt k (s + 1 + other.looked) && do_overlap e 0 other) || b) (met_by_number k e (s + 1) es)
+
+-- an entry is overlapped if it sees one, or is seen by one
+is_seen : (placed : List PlacedEntry) (k n : ℕ) (e : PlacedEntry) → n ≡ k + 1 + e.looked
+    → (meets e (take n placed) || (nat_le 2 k && is_met k e placed (look_ends 0 placed)))
+    ≡ list_any (λ y. sees k e y.0 y.1 || sees y.0 y.1 k e) (enumerate_from 0 placed)
+is_seen placed k n e end =
+    let numbered = enumerate_from 0 placed in
+    let is_hit : PlacedEntry → Bool = λ other. do_overlap other 0 e in
+    let from_it : meets e (take n placed) ≡ list_any (λ y. sees k e y.0 y.1) numbered =
+    ap (λ m. list_any is_hit (drop 2 (take m placed))) (omega (arith, end))
+    ∙ any_within is_hit 2 (k + 1 + e.looked) 0 placed in
+    let to_it : (nat_le 2 k && is_met k e placed (look_ends 0 placed)) ≡ list_any (λ y. sees y.0 y.1 k e) numbered =
+    ap (λ b. nat_le 2 k && b) (met_by_number k e 0 placed)
+    ∙ list_any-and (nat_le 2 k) (λ (y : ℕ × PlacedEntry). nat_lt k (y.0 + 1 + y.1.looked) && do_overlap e 0 y.1) numbered in
+    ap (λ b. b || (nat_le 2 k && is_met k e placed (look_ends 0 placed))) from_it
+    ∙ ap (λ b. list_any (λ y. sees k e y.0 y.1) numbered || b) to_it
+    ∙ list_any-or (λ y. sees k e y.0 y.1) (λ y. sees y.0 y.1 k e) numbered
+
+-- the flags from one entry on, before which there are so many
+flags_from : (placed : List PlacedEntry) (front : List ℕ) (k : ℕ) (es : List PlacedEntry) → look_ends 0 placed ≡ front ++ look_ends k es → length front ≡ k
+    → overlapped_by placed (look_ends 0 placed) k es
+    ≡ map (λ x. list_any (λ y. sees x.0 x.1 y.0 y.1 || sees y.0 y.1 x.0 x.1) (enumerate_from 0 placed)) (enumerate_from k es)
+flags_from placed front k [] parts count = refl
+flags_from placed front k (e ∷ es) parts count =
+    let numbered = enumerate_from 0 placed in
+    let end : slice_index_or (look_ends 0 placed) k 0 ≡ k + 1 + e.looked = ap (λ ns. slice_index_or ns k 0) parts
+    ∙ ap (λ i. slice_index_or (front ++ look_ends k (e ∷ es)) i 0) (sym count)
+    ∙ get_or-append_seam front (k + 1 + e.looked) (look_ends (k + 1) es) 0 in
+    let next : look_ends 0 placed ≡ (front ++ (k + 1 + e.looked) ∷ []) ++ look_ends (k + 1) es = parts
+    ∙ sym (append_assoc front ((k + 1 + e.looked) ∷ []) (look_ends (k + 1) es)) in
+    ap (λ b. b ∷ overlapped_by placed (look_ends 0 placed) (k + 1) es) (is_seen placed k (slice_index_or (look_ends 0 placed) k 0) e end)
+    ∙ ap (λ bs. list_any (λ y. sees k e y.0 y.1 || sees y.0 y.1 k e) numbered ∷ bs)
+    (flags_from placed (front ++ (k + 1 + e.looked) ∷ []) (k + 1) es next (omega (arith, count, length-append front ((k + 1 + e.looked) ∷ []))))
+
+-- what the code finds is the rule
+pub overlapped_looked : (placed : List PlacedEntry) → overlapped_by placed (look_ends 0 placed) 0 placed ≡ overlapped placed
+overlapped_looked placed = flags_from placed [] 0 placed refl refl
