@@ -49,7 +49,7 @@ use Rattle.snippet_labels.specs.Positions.{has_label}
 use Rattle.snippet_strokes.specs.SourceRows.{bare_row}
 use Rattle.snippet_strokes.specs.Strokes.{connector_of, connectors_of, corner_of}
 use Rattle.snippet_strokes.proofs.StrokeWords.{bar_writes, begun_rows, corner_by}
-use Rattle.snippet_strokes.specs.Strokes.{corners_of, label_of, labels_of, stems_of, line_strokes, column_of}
+use Rattle.snippet_strokes.specs.Strokes.{corners_of, label_of, labels_of, stems_of, drawn_strokes, column_of}
 use Rattle.snippet_strokes.proofs.StrokeWords.{label_write, stem_write}
 use Rattle.snippet_strokes.specs.Writes.{Write, glyph_at, painted, stretch_of}
 use Rattle.snippet_grid.specs.Layout.{Layout, bar_cell as bar_column}
@@ -199,7 +199,7 @@ module _ (layout : Layout) where
   -- no stroke of a line is a line feed, where no label holds one
   strokes_plain : (row count : ℕ) (placed order : _)
       → ((k : ℕ) (d : _) → k < length placed → IsPlainWrite (label_write layout (row + 1) (get_or placed k d)))
-      → All IsPlainWrite (line_strokes layout row count placed order)
+      → All IsPlainWrite (drawn_strokes layout row count placed order)
   strokes_plain row count placed order plain =
       let connectors : List Write = connectors_of layout (row + 1) placed in
       let corners : List Write = corners_of layout row count placed in
@@ -293,7 +293,7 @@ module _ (layout : Layout) (room : ℕ) (closes : Bool) where
       → All (λ e. All IsNoFeed (label_text e)) es → All HasNoFeed (strokes.marks ∷ strokes.lower)
   drawn_plain es source rows strokes plain =
       let placed = strokes.placed in
-      let ws : List Write = line_strokes layout 0 (row_count placed + 1) placed (painting_order placed) in
+      let ws : List Write = drawn_strokes layout 0 (row_count placed + 1) placed (painting_order placed) in
       let begun : List (List Cell) = begun_rows layout closes (row_count placed) source in
       let own = entries_all (λ e. All IsNoFeed (label_text e)) es placed strokes.are.same plain in
       let written : All IsPlainWrite ws = strokes_plain layout 0 (row_count placed + 1) placed (painting_order placed) own in

@@ -23,7 +23,7 @@ use Rattle.snippet_strokes.specs.Bars.{Bar, bar_at, open_past}
 use Rattle.snippet_strokes.specs.Snippet.{gap_row, shown_rows}
 use Rattle.snippet_suggest.specs.Given.{first_given}
 use Rattle.snippet_suggest.specs.RowOrder.{Offers, Removes, SuggestionRow}
-use Rattle.snippet_titles.specs.Origin.{padding_row}
+use Rattle.snippet_strokes.specs.SourceRows.{bare_row}
 use Rattle.annotate_snippets.specs.declared.renderer.Renderer.{Renderer}
 use Rattle.snippet_grid.specs.Layout.{Layout}
 use Rattle.annotate_snippets.specs.declared.renderer.element_context.GroupPosition.{GroupPosition}
@@ -117,7 +117,7 @@ element_rows r layout around found (element.Cause snippet) = snippet_rows r layo
 element_rows r layout around found (element.Suggestion snippet) = patch_rows r layout around found snippet
 element_rows r layout around found (element.Origin origin) = others (origin_rows r layout around origin)
 element_rows r layout around found (element.Padding padding) =
-    others (padding_row layout.decor layout.gutter (is_end around.next) ∷ [])
+    others (bare_row layout.decor layout.gutter (is_end around.next) ∷ [])
 
 -- the rows that drawing an element leaves: its own, and the row in which the next one begins, where it shares that
 abbrev pub drawn_rows : Renderer → Layout → ElementContext → List Cell → Element → List (List Cell)

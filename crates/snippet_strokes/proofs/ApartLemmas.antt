@@ -24,7 +24,7 @@ use Rattle.snippet_strokes.specs.Apart.{FitsBefore, StandApart, free_before, rea
 use Rattle.snippet_strokes.specs.Painting.{is_painted_before, mark_end, mark_of, marks_of, painting_order, first_glyph, stroke_role}
 use Rattle.snippet_strokes.specs.Strokes.{connector_of, connectors_of, corner_of, corners_of, label_of, labels_of}
 use Rattle.snippet_strokes.proofs.StrokeWords.{connector_by, corner_by, label_write}
-use Rattle.snippet_strokes.specs.Strokes.{is_stem_covered, line_strokes, stem_of, stems_of}
+use Rattle.snippet_strokes.specs.Strokes.{is_stem_covered, drawn_strokes, stem_of, stems_of}
 use Rattle.snippet_strokes.proofs.StrokeWords.{stem_write}
 use Rattle.snippet_strokes.specs.Writes.{Write, glyph_at, painted, stretch_of}
 use Rattle.snippet_strokes.proofs.BarWrites.{All-column_of, All-stretch_of}
@@ -416,7 +416,7 @@ module _ (layout : Layout) (row count : ℕ) where
   -- so all strokes of a line may be painted entry by entry where these stand apart
   pub apart_painted : (placed : List PlacedEntry) (free : ℕ) → StandApart free placed → All (λ e. HasPlace e.entry) placed → All HasItsLabel placed
       → (rows : List (List Cell)) → painted (strokes_apart layout row count placed) rows
-      ≡ painted (line_strokes layout row count placed (painting_order placed)) rows
+      ≡ painted (drawn_strokes layout row count placed (painting_order placed)) rows
   apart_painted placed free apart places its rows =
       let joined : List (List Cell) = painted (connectors_of layout (row + 1) placed) rows in
       let barred : List (List Cell) = painted (corners_of layout row count placed) joined in

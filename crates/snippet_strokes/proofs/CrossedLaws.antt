@@ -25,7 +25,7 @@ use Rattle.snippet_strokes.specs.EndBars.{IsNoBar}
 use Rattle.snippet_strokes.proofs.LineFacts.{AreLineRows, AreOwnRows, StrokesPainted}
 use Rattle.snippet_strokes.proofs.LineRowLemmas.{rows_cut}
 use Rattle.snippet_strokes.proofs.Reach.{Reaches, cell_of_write}
-use Rattle.snippet_strokes.specs.Strokes.{connector_of, connectors_of, corner_of, corners_of, labels_of, stems_of, line_strokes}
+use Rattle.snippet_strokes.specs.Strokes.{connector_of, connectors_of, corner_of, corners_of, labels_of, stems_of, drawn_strokes}
 use Rattle.snippet_strokes.proofs.StrokeWords.{begun_rows}
 use Rattle.snippet_strokes.proofs.BarWrites.{All-connector_of, All-stretch_of}
 use Rattle.snippet_strokes.proofs.EntryBarLaws.{is_at, labels_right, marks_right, part_leaves, stems_right}
@@ -71,7 +71,7 @@ module _ (layout : Layout) (depth : ℕ) (some : 0 < depth) (room : layout.gutte
   -- so the strokes of a line leave none, if none was there and no entry has this depth
   strokes_clear : (count : ℕ) (placed order : List PlacedEntry) (begun : List (List Cell)) (r : ℕ)
       → All (λ (e : PlacedEntry). is_at depth e.entry.annotation_type ≡ false) placed → NoBar (cell_at begun r cell)
-      → NoBar (cell_at (painted (line_strokes layout 0 count placed order) begun) r cell)
+      → NoBar (cell_at (painted (drawn_strokes layout 0 count placed order) begun) r cell)
   strokes_clear count placed order begun r others before =
       let one : List Write = connectors_of layout 1 placed in
       let two : List Write = corners_of layout 0 count placed in
@@ -85,7 +85,7 @@ module _ (layout : Layout) (depth : ℕ) (some : 0 < depth) (room : layout.gutte
       let hung : All C (one ++ two ++ three) = All-append C (one ++ two) three barred (away r three (stems_right layout bar room count placed order begun r)) in
       let named : All C (one ++ two ++ three ++ four) = All-append C (one ++ two ++ three) four hung
       (away r four (labels_right layout bar room count placed order begun r)) in
-      painted-cell NoBar (line_strokes layout 0 count placed order) begun r cell before
+      painted-cell NoBar (drawn_strokes layout 0 count placed order) begun r cell before
       (All-append C (one ++ two ++ three ++ four) five named (away r five (marks_right layout bar room count placed order begun r)))
 
   -- ---- rows

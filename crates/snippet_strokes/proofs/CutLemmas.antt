@@ -32,9 +32,10 @@ use Rattle.snippet_strokes.specs.Cuts.{cut_middle, overlapped}
 use Rattle.snippet_strokes.specs.Drawing.{row_count}
 use Rattle.snippet_strokes.specs.Painting.{painting_order}
 use Rattle.snippet_labels.specs.Positions.{placed_of}
-use Rattle.snippet_strokes.specs.Strokes.{line_strokes, stroke_rows}
+use Rattle.snippet_strokes.specs.Strokes.{drawn_strokes, stroke_rows}
 use Rattle.snippet_strokes.specs.Writes.{painted}
 use Rattle.snippet_strokes.proofs.StrokeWords.{begun_rows}
+use Rattle.snippet_strokes.proofs.EveryStem.{strokes_painted}
 
 -- the cells of the middle of an entry
 abbrev middle_of : Layout → ℕ → LineAnnotation → Stretch
@@ -285,7 +286,7 @@ abbrev pub rows_of_strokes : Layout → ℕ → Bool → List LineAnnotation →
 rows_of_strokes layout room closes es source =
     let placed = placed_of es in
     let order = painting_order placed in
-    let whole = painted (line_strokes layout 0 (row_count placed + 1) placed order) (begun_rows layout closes (row_count placed) source) in
+    let whole = painted (drawn_strokes layout 0 (row_count placed + 1) placed order) (begun_rows layout closes (row_count placed) source) in
     map (cut_row layout.decor (cuts_of layout room order (overlapped placed))) (take 2 whole) ++ drop 2 whole
 
 pub stroke_rows-cut : (layout : Layout) (room : ℕ) (closes : Bool) (es : List LineAnnotation) (source : List Cell)
@@ -293,7 +294,11 @@ pub stroke_rows-cut : (layout : Layout) (room : ℕ) (closes : Bool) (es : List 
 stroke_rows-cut layout room closes es source =
     let placed = placed_of es in
     let order = painting_order placed in
-    let whole = painted (line_strokes layout 0 (row_count placed + 1) placed order) (begun_rows layout closes (row_count placed) source) in
+    let count = row_count placed in
+    let bare = begun_rows layout closes count source in
+    let whole = painted (drawn_strokes layout 0 (count + 1) placed order) bare in
     let pairs = zip order (overlapped placed) in
-    ap (λ rows. rows ++ drop 2 whole) (map_alike (λ row. fold (cut_middle layout room) row pairs)
+    ap (λ rows. map (λ row. fold (cut_middle layout room) row pairs) (take 2 rows) ++ drop 2 rows)
+    (strokes_painted layout 0 (count + 1) placed order bare)
+    ∙ ap (λ rows. rows ++ drop 2 whole) (map_alike (λ row. fold (cut_middle layout room) row pairs)
     (cut_row layout.decor (flat_map (cut_of layout room) pairs)) (take 2 whole) (cut_each layout room pairs))

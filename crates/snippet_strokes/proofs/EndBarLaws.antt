@@ -34,7 +34,7 @@ use Rattle.snippet_strokes.specs.EndBars.{BarEnds}
 use Rattle.snippet_strokes.proofs.BarFacts.{BarBegins, BeginsBelow}
 use Rattle.snippet_strokes.proofs.LineFacts.{AreLineRows, StrokesPainted}
 use Rattle.snippet_strokes.proofs.StrokeWords.{begun_rows, corner_by}
-use Rattle.snippet_strokes.specs.Strokes.{line_strokes}
+use Rattle.snippet_strokes.specs.Strokes.{drawn_strokes}
 use Rattle.snippet_strokes.proofs.LineRowLemmas.{rows_cut}
 use Rattle.snippet_strokes.proofs.AmongLaws.{all_from_among, among_contains, contains_among, filter_map_cases}
 use Rattle.snippet_strokes.proofs.BarLaws.{bar_stands, drawn_beside}
@@ -112,7 +112,7 @@ module _ (layout : Layout) (bar : Bar) (room : layout.gutter + 2 + bar.depth < l
 
       cut : (r : ℕ)
           → cell_at rows r (layout.gutter + 2 + bar.depth) ≡ cell_at (painted
-          (line_strokes layout 0 (row_count drawn.placed + 1) drawn.placed (painting_order drawn.placed))
+          (drawn_strokes layout 0 (row_count drawn.placed + 1) drawn.placed (painting_order drawn.placed))
           (begun_rows layout closes (row_count drawn.placed) source)) r (layout.gutter + 2 + bar.depth)
       cut r =
           let at : List (List Cell) → Cell = λ all. cell_at all r (layout.gutter + 2 + bar.depth) in

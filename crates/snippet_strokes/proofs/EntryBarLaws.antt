@@ -26,7 +26,7 @@ use Rattle.snippet_strokes.proofs.BarFacts.{end_corner, start_corner}
 use Rattle.snippet_strokes.proofs.Reach.{Reaches}
 use Rattle.snippet_strokes.specs.Strokes.{column_of, connectors_of, corner_of, corners_of, label_of, labels_of}
 use Rattle.snippet_strokes.proofs.StrokeWords.{corner_by, bar_writes}
-use Rattle.snippet_strokes.specs.Strokes.{stems_of, line_strokes}
+use Rattle.snippet_strokes.specs.Strokes.{stems_of, drawn_strokes}
 use Rattle.snippet_strokes.proofs.BarWrites.{All-column_of, All-stretch_of}
 use Rattle.snippet_strokes.proofs.LabelWrites.{All-label_of}
 use Rattle.snippet_strokes.proofs.StemWrites.{All-stems_of, All-stem_of}
@@ -197,7 +197,7 @@ module _ (layout : Layout) (bar : Bar) (room : layout.gutter + 2 + bar.depth < l
   -- so in it stands what the last entry of its depth leaves there
   pub last_stands : (before : List PlacedEntry) (e : PlacedEntry) (after : List PlacedEntry) → placed ≡ before ++ e ∷ after
       → All (λ f. is_at bar.depth f.entry.annotation_type ≡ false) after
-      → (old : List (List Cell)) × ((r : ℕ) → cell_at (painted (line_strokes layout 0 count placed order) begun) r cell
+      → (old : List (List Cell)) × ((r : ℕ) → cell_at (painted (drawn_strokes layout 0 count placed order) begun) r cell
       ≡ cell_at (painted (corner_of layout 0 count e) old) r cell)
   last_stands before e after split others =
       let f : PlacedEntry → List Write = corner_of layout 0 count in

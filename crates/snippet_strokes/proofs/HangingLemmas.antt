@@ -15,7 +15,7 @@ use Rattle.snippet_strokes.specs.Drawable.{IsReady}
 use Rattle.snippet_strokes.proofs.BegunLemmas.{rows_begun}
 use Rattle.snippet_strokes.proofs.StemWrites.{DrawsFrom-stems}
 use Rattle.snippet_strokes.specs.Painting.{marks_of}
-use Rattle.snippet_strokes.specs.Strokes.{connector_of, connectors_of, corner_of, corners_of, labels_of, line_strokes, stems_of}
+use Rattle.snippet_strokes.specs.Strokes.{connector_of, connectors_of, corner_of, corners_of, labels_of, drawn_strokes, stems_of}
 use Rattle.snippet_strokes.proofs.StrokeWords.{connector_by, corner_by}
 use Rattle.snippet_strokes.specs.Writes.{painted}
 use Rattle.snippet_strokes.proofs.StrokeWrites.{marks_painted, under_painted}
@@ -48,7 +48,7 @@ none_takes (e ∷ es) none =
 pub hanging_painted : (layout : Layout) (row all : ℕ) (placed order : List PlacedEntry) (begun stemmed labelled new : List (List Cell))
     → list_any takes_space placed ≡ false → stemmed ≡ painted (stems_of layout (row + 1) placed) begun
     → labelled ≡ painted (labels_of layout (row + 1) placed) stemmed → new ≡ painted (marks_of layout (row + 1) order) labelled
-    → new ≡ painted (line_strokes layout row all placed order) begun
+    → new ≡ painted (drawn_strokes layout row all placed order) begun
 hanging_painted layout row all placed order begun stemmed labelled new none stems labels marks =
     let each = none_takes placed none in
     let lines : connectors_of layout (row + 1) placed ≡ [] = flat_map-none (connector_of layout (row + 1)) placed

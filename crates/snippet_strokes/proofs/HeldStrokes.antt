@@ -17,7 +17,7 @@ use Rattle.snippet_strokes.specs.LookedCuts.{cut_of}
 use Rattle.snippet_strokes.specs.LookedCuts.{cuts_of, is_met, is_overlapped, look_ends, meets, overlapped_by}
 use Rattle.snippet_strokes.specs.Drawing.{lowest_position, row_count}
 use Rattle.snippet_strokes.specs.Strokes.{connector_of, connectors_of, corner_of, corners_of, is_stem_covered, label_of, labels_of, stem_of, stems_of}
-use Rattle.snippet_strokes.specs.Strokes.{line_strokes}
+use Rattle.snippet_strokes.specs.Strokes.{drawn_strokes}
 use Rattle.snippet_strokes.proofs.LookedCuts.{overlapped_looked}
 
 -- ---- how many rows there are
@@ -63,9 +63,9 @@ module _ (layout : Layout) (row : ℕ) where
   corners_of-held count es = flat_map-map (corner_of layout row count) held es
 
 -- all strokes of a line
-pub line_strokes-held : (layout : Layout) (row count : ℕ) (placed order : List PlacedEntry)
-    → line_strokes layout row count (map held placed) (map held order) ≡ line_strokes layout row count placed order
-line_strokes-held layout row count placed order =
+pub drawn_strokes-held : (layout : Layout) (row count : ℕ) (placed order : List PlacedEntry)
+    → drawn_strokes layout row count (map held placed) (map held order) ≡ drawn_strokes layout row count placed order
+drawn_strokes-held layout row count placed order =
     let lines = connectors_of layout (row + 1) placed in
     let bars = corners_of layout row count placed in
     let stems = stems_of layout (row + 1) placed in

@@ -17,6 +17,7 @@ pub mod DrawnCells
 pub mod ElisionLemmas
 pub mod EndBarLaws
 pub mod EntryBarLaws
+pub mod EveryStem
 pub mod Examples
 pub mod HangingLemmas
 pub mod HeldLemmas

@@ -32,7 +32,7 @@ use Rattle.snippet_strokes.specs.Drawing.{row_count}
 use Rattle.snippet_strokes.specs.Painting.{painting_order}
 use Rattle.snippet_strokes.specs.SourceRows.{source_row, window_cells}
 use Rattle.snippet_strokes.specs.StrokeRows.{role_in_source}
-use Rattle.snippet_strokes.specs.Strokes.{line_strokes}
+use Rattle.snippet_strokes.specs.Strokes.{drawn_strokes}
 use Rattle.snippet_strokes.proofs.StrokeWords.{begun_rows}
 use Rattle.snippet_strokes.specs.Writes.{painted}
 use Rattle.snippet_strokes.proofs.PlacedOf.{HasTextLabel}
@@ -69,7 +69,7 @@ pub record StrokesPainted (layout : Layout) (room : ℕ) (closes : Bool) (es : L
   pub top : List Cell
   pub marks : List Cell
   pub lower : List (List Cell)
-  pub painted_are : top ∷ marks ∷ lower ≡ painted (line_strokes layout 0 (row_count placed + 1) placed (painting_order placed))
+  pub painted_are : top ∷ marks ∷ lower ≡ painted (drawn_strokes layout 0 (row_count placed + 1) placed (painting_order placed))
       (begun_rows layout closes (row_count placed) source)
   pub rows_are : rows ≡ (let cuts = cuts_of layout room (painting_order placed)
       (overlapped placed) in cut_row layout.decor cuts top ∷ cut_row layout.decor cuts marks ∷ lower)

@@ -39,7 +39,7 @@ use Rattle.snippet_strokes.specs.Painting.{painting_order}
 use Rattle.snippet_strokes.specs.Snippet.{info_rows}
 use Rattle.snippet_strokes.specs.SourceRows.{source_row, window_cells}
 use Rattle.snippet_strokes.specs.StrokeRows.{highlighted_row, role_in_source}
-use Rattle.snippet_strokes.specs.Strokes.{line_strokes, stroke_rows}
+use Rattle.snippet_strokes.specs.Strokes.{drawn_strokes, stroke_rows}
 use Rattle.snippet_strokes.proofs.StrokeWords.{begun_rows}
 use Rattle.snippet_strokes.specs.Writes.{painted}
 use Rattle.snippet_strokes.proofs.CellLemmas.{free_shown, unlisted_part}
@@ -103,7 +103,7 @@ stroke_rows_are_painted layout room closes es source texts =
     let placed : List PlacedEntry = placed_of es in
     let order : List PlacedEntry = painting_order placed in
     let count : ℕ = row_count placed in
-    let whole : List (List Cell) = painted (line_strokes layout 0 (count + 1) placed order) (begun_rows layout closes count source) in
+    let whole : List (List Cell) = painted (drawn_strokes layout 0 (count + 1) placed order) (begun_rows layout closes count source) in
     let long : length whole ≡ count + 1 = painted_rows-count layout closes placed order source in
     let parts = two_more whole (omega (arith, long, row_count_some placed)) in
     let cut : List Cell → List Cell = cut_row layout.decor (cuts_of layout room order (overlapped placed)) in

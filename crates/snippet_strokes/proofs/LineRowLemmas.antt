@@ -25,7 +25,7 @@ use Rattle.snippet_strokes.specs.LookedCuts.{Stretch, cut_row}
 use Rattle.snippet_strokes.specs.LookedCuts.{cut_rows, cuts_of, is_wide_at}
 use Rattle.snippet_strokes.proofs.SeenRows.{CutsRows, IsCut}
 use Rattle.snippet_strokes.specs.SourceRows.{bare_row}
-use Rattle.snippet_strokes.specs.Strokes.{line_strokes, stroke_rows}
+use Rattle.snippet_strokes.specs.Strokes.{drawn_strokes, stroke_rows}
 use Rattle.snippet_strokes.proofs.StrokeWords.{begun_rows}
 use Rattle.snippet_strokes.specs.Writes.{Write, painted}
 use Rattle.snippet_strokes.proofs.PaintOrder.{IsPermutation-painting_order}
@@ -69,7 +69,7 @@ module _ (layout : Layout) (room : ℕ) (closes : Bool) (es : List LineAnnotatio
     (old_is : old ≡ above ++ source ∷ [])
     (row_is : row ≡ length above)
     (long : length new ≡ length old + row_count placed)
-    (new_is : new ≡ painted (line_strokes layout row (length old + row_count placed) placed (painting_order placed))
+    (new_is : new ≡ painted (drawn_strokes layout row (length old + row_count placed) placed (painting_order placed))
     (old ++ replicate (row_count placed - 1) (separator_row layout.decor layout.gutter) ++ bare_row layout.decor layout.gutter closes ∷ []))
     (flags_are : list_any (is_wide_at room layout.decor) placed ≡ true → flags ≡ overlapped placed)
     (final_is : final ≡ cut_rows layout.decor row (cuts_of layout room (painting_order placed) flags) new) where
@@ -84,7 +84,7 @@ module _ (layout : Layout) (room : ℕ) (closes : Bool) (es : List LineAnnotatio
   bare = begun_rows layout closes count source
 
   abbrev strokes : List Write
-  strokes = line_strokes layout 0 (count + 1) placed order
+  strokes = drawn_strokes layout 0 (count + 1) placed order
 
   abbrev own : List (List Cell)
   own = painted strokes bare
@@ -98,9 +98,9 @@ module _ (layout : Layout) (room : ℕ) (closes : Bool) (es : List LineAnnotatio
       let end : List (List Cell) = bare_row layout.decor layout.gutter closes ∷ [] in
       let n : ℕ = length above in
       let begun : old ++ seps ++ end ≡ above ++ bare = ap (λ rs. rs ++ seps ++ end) old_is ∙ begun_below layout closes count above source in
-      let by_row = ap (λ r. painted (line_strokes layout r (length old + count) placed order) (old ++ seps ++ end)) row_is in
-      let by_count = ap (λ m. painted (line_strokes layout n m placed order) (old ++ seps ++ end)) all_rows in
-      let by_rows = ap (painted (line_strokes layout n (n + (count + 1)) placed order)) begun in
+      let by_row = ap (λ r. painted (drawn_strokes layout r (length old + count) placed order) (old ++ seps ++ end)) row_is in
+      let by_count = ap (λ m. painted (drawn_strokes layout n m placed order) (old ++ seps ++ end)) all_rows in
+      let by_rows = ap (painted (drawn_strokes layout n (n + (count + 1)) placed order)) begun in
       let lower = ap (λ ws. painted ws (above ++ bare)) (strokes-lowered layout n (count + 1) placed order) in
       new_is ∙ by_row ∙ by_count ∙ by_rows ∙ lower ∙ painted-below above strokes bare
 

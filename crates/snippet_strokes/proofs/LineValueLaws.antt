@@ -24,9 +24,9 @@ use Rattle.snippet_strokes.specs.Drawing.{row_count}
 use Rattle.snippet_strokes.proofs.LineFacts.{StrokesPainted}
 use Rattle.snippet_strokes.specs.LineRows.{line_rows, own_rows}
 use Rattle.snippet_strokes.specs.StrokeRows.{highlighted_row, highlights}
-use Rattle.snippet_strokes.specs.Strokes.{stroke_rows, line_strokes}
+use Rattle.snippet_strokes.specs.Strokes.{stroke_rows, drawn_strokes}
 use Rattle.snippet_strokes.proofs.StrokeWords.{begun_rows}
-use Rattle.snippet_strokes.proofs.HeldStrokes.{cuts_of-held, overlapped-held, row_count-held, line_strokes-held}
+use Rattle.snippet_strokes.proofs.HeldStrokes.{cuts_of-held, overlapped-held, row_count-held, drawn_strokes-held}
 use Rattle.snippet_strokes.proofs.CutLemmas.{stroke_rows-cut}
 
 -- ---- the rows of strokes
@@ -39,7 +39,7 @@ module _ (layout : Layout) (room : ℕ) (closes : Bool) (source : List Cell) whe
       map (cut_row layout.decor cuts) (take 2 whole) ++ drop 2 whole
 
   abbrev strokes_at : List PlacedEntry → List Write
-  strokes_at placed = line_strokes layout 0 (row_count placed + 1) placed (painting_order placed)
+  strokes_at placed = drawn_strokes layout 0 (row_count placed + 1) placed (painting_order placed)
 
   abbrev cuts_at : List PlacedEntry → List Stretch
   cuts_at placed = cuts_of layout room (painting_order placed) (overlapped placed)
@@ -50,9 +50,9 @@ module _ (layout : Layout) (room : ℕ) (closes : Bool) (source : List Cell) whe
 
   strokes_at-held : (placed : List PlacedEntry) → strokes_at (map held placed) ≡ strokes_at placed
   strokes_at-held placed =
-      ap (λ n. line_strokes layout 0 (n + 1) (map held placed) (painting_order (map held placed))) (row_count-held placed)
-      ∙ ap (line_strokes layout 0 (row_count placed + 1) (map held placed)) (painting_order-held placed)
-      ∙ line_strokes-held layout 0 (row_count placed + 1) placed (painting_order placed)
+      ap (λ n. drawn_strokes layout 0 (n + 1) (map held placed) (painting_order (map held placed))) (row_count-held placed)
+      ∙ ap (drawn_strokes layout 0 (row_count placed + 1) (map held placed)) (painting_order-held placed)
+      ∙ drawn_strokes-held layout 0 (row_count placed + 1) placed (painting_order placed)
 
   cuts_at-held : (placed : List PlacedEntry) → cuts_at (map held placed) ≡ cuts_at placed
   cuts_at-held placed =

@@ -18,7 +18,7 @@ use Rattle.snippet_strokes.specs.Drawing.{foot_glyph}
 use Rattle.snippet_labels.specs.Positions.{has_label, has_stem, label_place}
 use Rattle.snippet_strokes.specs.Strokes.{connector_of, connectors_of, corner_of, corners_of, is_stem_covered}
 use Rattle.snippet_strokes.proofs.StrokeWords.{bar_writes, connector_by, corner_by}
-use Rattle.snippet_strokes.specs.Strokes.{label_of, labels_of, stem_of, stems_of, line_strokes, column_of}
+use Rattle.snippet_strokes.specs.Strokes.{label_of, labels_of, stem_of, stems_of, drawn_strokes, column_of}
 use Rattle.snippet_strokes.proofs.StrokeWords.{label_write, line_to, stem_write}
 use Rattle.snippet_strokes.specs.Writes.{Write, glyph_at, painted, stretch_of}
 use Rattle.snippet_strokes.proofs.OneStep.{written_by}
@@ -226,7 +226,7 @@ module _ (layout : Layout) (n : ℕ) where
 
   -- all strokes of a line
   pub strokes-lowered : (count : ℕ) (placed order : List PlacedEntry)
-      → line_strokes layout n (n + count) placed order ≡ map (lowered n) (line_strokes layout 0 count placed order)
+      → drawn_strokes layout n (n + count) placed order ≡ map (lowered n) (drawn_strokes layout 0 count placed order)
   strokes-lowered count placed order =
       let none : n + 0 ≡ n = omega arith in
       let one : List Write = connectors_of layout 1 placed in

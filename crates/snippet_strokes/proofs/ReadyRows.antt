@@ -20,7 +20,7 @@ use Rattle.snippet_strokes.proofs.MarkWriteLemmas.{Painted-marks}
 use Rattle.snippet_strokes.specs.Drawable.{AreDrawable}
 use Rattle.snippet_strokes.specs.Drawing.{AreEnough, HasPlaceAmong, row_count}
 use Rattle.snippet_strokes.proofs.LineFacts.{StrokesPainted}
-use Rattle.snippet_strokes.specs.Strokes.{connectors_of, corners_of, labels_of, line_strokes, stems_of}
+use Rattle.snippet_strokes.specs.Strokes.{connectors_of, corners_of, labels_of, drawn_strokes, stems_of}
 use Rattle.snippet_strokes.proofs.StrokeWords.{begun_rows}
 use Rattle.snippet_strokes.proofs.BarWrites.{DrawsBarCells-corners, DrawsFrom-connectors}
 use Rattle.snippet_strokes.proofs.BegunLemmas.{rows_begun, rows_ready}
@@ -99,8 +99,8 @@ painted_seen layout room closes es source rows place places bar_cells bare_bars 
     let marked = painted (marks_of layout 1 order) labelled in
     let many : length joined ≡ length begun = (DrawsFrom-connectors layout 1 placed begun (HasRows-row_count 1 (length begun) placed long)).count in
     let under = under_painted layout 0 (length joined) (length begun) placed begun joined barred stemmed labelled many refl refl refl refl in
-    let all : painted (line_strokes layout 0 (row_count placed + 1) placed order) begun ≡ marked = ap (λ n.
-    painted (line_strokes layout 0 n placed order) begun) (omega (arith, long))
+    let all : painted (drawn_strokes layout 0 (row_count placed + 1) placed order) begun ≡ marked = ap (λ n.
+    painted (drawn_strokes layout 0 n placed order) begun) (omega (arith, long))
     ∙ sym (marks_painted layout 0 (length begun) placed order begun labelled marked under refl) in
     let Cut : List (List Cell) → Type 0 = λ drawn.
     CutsRows layout (wide_entries room layout.decor es) (row_at drawn 0) (row_at drawn 1) (drop 2 drawn) rows in

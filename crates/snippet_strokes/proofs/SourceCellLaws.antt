@@ -29,7 +29,7 @@ use Rattle.snippet_strokes.specs.StrokeRows.{bare_elision_row}
 use Rattle.snippet_strokes.specs.Snippet.{gap_row}
 use Rattle.snippet_strokes.specs.Strokes.{column_of, connector_of, connectors_of, corner_of, corners_of, labels_of}
 use Rattle.snippet_strokes.proofs.StrokeWords.{begun_rows, corner_by}
-use Rattle.snippet_strokes.specs.Strokes.{stems_of, line_strokes}
+use Rattle.snippet_strokes.specs.Strokes.{stems_of, drawn_strokes}
 use Rattle.snippet_strokes.proofs.AmongLaws.{all_from_among}
 use Rattle.snippet_strokes.proofs.BarWrites.{All-column_of, All-connector_of, All-stretch_of}
 use Rattle.snippet_strokes.proofs.ElisionLemmas.{bare_elision_short}
@@ -82,7 +82,7 @@ module _ (layout : Layout) (depth : ℕ) (room : layout.gutter + 2 + depth < lay
 
   -- so no stroke of a line reaches it, if no entry is such an end: the bar of a start stands below the source row
   untouched : (count : ℕ) (placed order : List PlacedEntry) (begun : List (List Cell)) → All (λ (e : PlacedEntry). IsNoEnd e.entry) placed
-      → cell_at (painted (line_strokes layout 0 count placed order) begun) 0 cell ≡ cell_at begun 0 cell
+      → cell_at (painted (drawn_strokes layout 0 count placed order) begun) 0 cell ≡ cell_at begun 0 cell
   unfolding is_at
   untouched count placed order begun others =
       let one : List Write = connectors_of layout 1 placed in
@@ -96,7 +96,7 @@ module _ (layout : Layout) (depth : ℕ) (room : layout.gutter + 2 + depth < lay
       let hung : All Leaves (one ++ two ++ three) = All-append Leaves (one ++ two) three barred (stems_right layout bar room count placed order begun 0) in
       let named : All Leaves (one ++ two ++ three ++ four) = All-append Leaves (one ++ two ++ three) four hung
       (labels_right layout bar room count placed order begun 0) in
-      painted-untouched (line_strokes layout 0 count placed order) begun 0 cell
+      painted-untouched (drawn_strokes layout 0 count placed order) begun 0 cell
       (All-append Leaves (one ++ two ++ three ++ four) five named (marks_right layout bar room count placed order begun 0))
     where
       by_part : (e : PlacedEntry) (part : LineAnnotationType) → (part ≡ MultilineEnd depth → ⊥) → All Leaves (corner_by layout 0 count e part)

@@ -22,7 +22,7 @@ use Rattle.snippet_strokes.proofs.WriteLemmas.{painted-append}
 use Rattle.snippet_strokes.specs.Drawing.{foot_glyph}
 use Rattle.snippet_strokes.specs.Labels.{IsStemCell, stem_glyphs}
 use Rattle.snippet_strokes.proofs.Reach.{Reaches, cell_of_write}
-use Rattle.snippet_strokes.specs.Strokes.{connectors_of, corners_of, is_stem_covered, label_of, labels_of, stem_of, stems_of, line_strokes}
+use Rattle.snippet_strokes.specs.Strokes.{connectors_of, corners_of, is_stem_covered, label_of, labels_of, stem_of, stems_of, drawn_strokes}
 use Rattle.snippet_strokes.proofs.StrokeWords.{stem_write}
 use Rattle.snippet_strokes.proofs.BarWrites.{All-stretch_of}
 use Rattle.snippet_strokes.proofs.LabelWrites.{All-label_of}
@@ -164,7 +164,7 @@ module _ (layout : Layout) (r c : ℕ) where
   stem_of_strokes : (row count : ℕ) (placed order : List PlacedEntry) (rows : List (List Cell)) (k b : ℕ) (d : PlacedEntry) → k < length placed
       → has_label (get_or placed k d) ≡ true → 0 < b → b ≤ (get_or placed k d).position → r ≡ row + 1 + b
       → c ≡ layout.code + (get_or placed k d).entry.start.display → BesideLabels layout (row + 1) r c placed
-      → P (cell_at (painted (line_strokes layout row count placed order) rows) r c)
+      → P (cell_at (painted (drawn_strokes layout row count placed order) rows) r c)
   stem_of_strokes row count placed order rows k b d within has some low at_row at_cell beside =
       let e : PlacedEntry = get_or placed k d in
       let bars : List Write = connectors_of layout (row + 1) placed ++ corners_of layout row count placed in
@@ -193,7 +193,7 @@ IsHung layout row placed rows e =
 
 -- all strokes of a line leave rows in which each label that hangs is hung so
 pub all_hung : (layout : Layout) (row count : ℕ) (placed order : List PlacedEntry) (rows : List (List Cell))
-    → All (IsHung layout (row + 1) placed (painted (line_strokes layout row count placed order) rows)) placed
+    → All (IsHung layout (row + 1) placed (painted (drawn_strokes layout row count placed order) rows)) placed
 all_hung layout row count placed order rows k d within has b some low beside =
     stem_of_strokes layout (row + 1 + b) (layout.code + (get_or placed k d).entry.start.display) row count placed order rows k b d within has some low refl
     refl beside

@@ -65,7 +65,7 @@ move_row n w (v ∷ vs) rows low here =
     ∙ move_row n w vs (written_by rows v) low (All-tail (λ (v : Write). v.row ≡ n) v vs here)
 
 -- writes of a row may come before those of rows below it
-move_rows : (n : ℕ) (ws vs : List Write) (rows : List (List Cell)) → All (λ w. n < w.row) ws → All (λ v. v.row ≡ n) vs
+pub move_rows : (n : ℕ) (ws vs : List Write) (rows : List (List Cell)) → All (λ w. n < w.row) ws → All (λ v. v.row ≡ n) vs
     → painted vs (painted ws rows) ≡ painted ws (painted vs rows)
 move_rows n [] vs rows low here = refl
 move_rows n (w ∷ ws) vs rows low here =
@@ -137,7 +137,7 @@ across_row row k s = by_test (nat_le k s.position)
     by_test true = All-cons (λ (w : Write). w.row ≡ row + k) (cell_of_stem row s k) [] refl (All-nil (λ (w : Write). w.row ≡ row + k))
     by_test false = All-nil (λ (w : Write). w.row ≡ row + k)
 
-down_rows : (row n k : ℕ) (s : Stem) → All (λ w. row + k ≤ w.row) (map (cell_of_stem row s) (range_with_len k n))
+pub down_rows : (row n k : ℕ) (s : Stem) → All (λ w. row + k ≤ w.row) (map (cell_of_stem row s) (range_with_len k n))
 down_rows row zero k s = All-nil (λ (w : Write). row + k ≤ w.row)
 down_rows row (suc n) k s =
     All-cons (λ (w : Write). row + k ≤ w.row) (cell_of_stem row s k) (map (cell_of_stem row s) (range_with_len (k + 1) n)) (omega arith)

@@ -22,7 +22,7 @@ use Rattle.snippet_strokes.proofs.Reach.{Reaches, cell_of_write}
 use Rattle.snippet_strokes.specs.Writes.{Write, glyph_at, painted, stretch_of}
 use Rattle.snippet_strokes.specs.Strokes.{connector_of, connectors_of, corner_of, corners_of, label_of, labels_of, stems_of}
 use Rattle.snippet_strokes.proofs.StrokeWords.{bar_writes, corner_by, label_write}
-use Rattle.snippet_strokes.specs.Strokes.{line_strokes, stem_of}
+use Rattle.snippet_strokes.specs.Strokes.{drawn_strokes, stem_of}
 use Rattle.snippet_strokes.proofs.BarWrites.{All-column_of, All-connector_of, All-stretch_of}
 use Rattle.snippet_strokes.proofs.LabelWrites.{All-label_of}
 use Rattle.snippet_strokes.proofs.StemWrites.{All-stem_of, All-stems_of}
@@ -148,7 +148,7 @@ module _ (layout : Layout) (r c : ℕ) (right : layout.code ≤ c) where
 
   -- so all strokes of a line leave in a cell that no label reaches a space or a stroke, if nothing else stood there before
   pub cell_of_strokes : (row count : ℕ) (placed order : List PlacedEntry) (rows : List (List Cell)) → All (λ e. HasBarCell layout e.entry) placed
-      → P (cell_at rows r c) → BesideLabels layout (row + 1) r c placed → P (cell_at (painted (line_strokes layout row count placed order) rows) r c)
+      → P (cell_at rows r c) → BesideLabels layout (row + 1) r c placed → P (cell_at (painted (drawn_strokes layout row count placed order) rows) r c)
   cell_of_strokes row count placed order rows bar_cells before beside =
       let one : List Write = connectors_of layout (row + 1) placed in
       let two : List Write = corners_of layout row count placed in
@@ -158,5 +158,5 @@ module _ (layout : Layout) (r c : ℕ) (right : layout.code ≤ c) where
       let bars : All Q (one ++ two) = All-append Q one two (connectors (row + 1) placed) (corners row count placed bar_cells) in
       let hung : All Q (one ++ two ++ three) = All-append Q (one ++ two) three bars (stems (row + 1) placed) in
       let named : All Q (one ++ two ++ three ++ four) = All-append Q (one ++ two ++ three) four hung (labels (row + 1) placed beside) in
-      painted-cell P (line_strokes layout row count placed order) rows r c before
+      painted-cell P (drawn_strokes layout row count placed order) rows r c before
       (All-append Q (one ++ two ++ three ++ four) five named (marks (row + 1) order))

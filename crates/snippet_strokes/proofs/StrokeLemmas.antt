@@ -32,7 +32,7 @@ use Rattle.snippet_strokes.proofs.SeenRows.{AreSeen, CutsRows, HasNoBars, IsCut,
 use Rattle.snippet_style.specs.Separators.{separator_row}
 use Rattle.snippet_strokes.proofs.DrawLemmas.{DrawsFrom-more, bar_space}
 use Rattle.snippet_strokes.specs.Labels.{IsStrokeCell}
-use Rattle.snippet_strokes.specs.Strokes.{connectors_of, corners_of, labels_of, stems_of, line_strokes}
+use Rattle.snippet_strokes.specs.Strokes.{connectors_of, corners_of, labels_of, stems_of, drawn_strokes}
 use Rattle.snippet_strokes.proofs.LabelPlaces.{HasStrokesBeside, LabelsStand-placed}
 use Rattle.snippet_strokes.proofs.StrokeCells.{cell_of_strokes}
 use Rattle.snippet_strokes.proofs.StemCells.{IsHung, all_hung}
@@ -155,7 +155,7 @@ module _ (layout : Layout) (room : ℕ) (closes : Bool) (es : List LineAnnotatio
       (subst (λ rows. All (StandsWhole layout row rows) placed) (sym labels_are) (labels_stand layout row es placed stemmed is places))
 
   -- all strokes, as one list
-  new_is : new ≡ painted (line_strokes layout (length above_rows) (length begun) placed (painting_order placed)) begun
+  new_is : new ≡ painted (drawn_strokes layout (length above_rows) (length begun) placed (painting_order placed)) begun
   new_is =
       marks_painted layout (length above_rows) (length begun) placed (painting_order placed) begun labelled new
       (under_painted layout (length above_rows) (length joined) (length begun) placed begun joined barred stemmed labelled lines.count

@@ -17,7 +17,7 @@ use Rattle.snippet_strokes.specs.Writes.{Write, glyph_at, painted}
 use Rattle.snippet_strokes.proofs.OneStep.{written_by}
 use Rattle.snippet_strokes.specs.Strokes.{column_of, connectors_of, corners_of, label_of, labels_of, stems_of}
 use Rattle.snippet_strokes.proofs.StrokeWords.{label_write, stem_write}
-use Rattle.snippet_strokes.specs.Strokes.{line_strokes, strokes_under_marks}
+use Rattle.snippet_strokes.specs.Strokes.{drawn_strokes, strokes_under_marks}
 use Rattle.snippet_strokes.specs.Painting.{marks_of}
 use Rattle.snippet_strokes.proofs.WriteLemmas.{painted-append}
 
@@ -90,7 +90,7 @@ under_painted layout row count all placed begun joined barred stemmed labelled i
 -- and the marks over them
 pub marks_painted : (layout : Layout) (row all : ℕ) (placed order : List PlacedEntry) (begun labelled new : List (List Cell))
     → labelled ≡ painted (strokes_under_marks layout row all placed) begun → new ≡ painted (marks_of layout (row + 1) order) labelled
-    → new ≡ painted (line_strokes layout row all placed order) begun
+    → new ≡ painted (drawn_strokes layout row all placed order) begun
 marks_painted layout row all placed order begun labelled new under marks =
     marks ∙ ap (painted (marks_of layout (row + 1) order)) under
     ∙ sym (painted-append (strokes_under_marks layout row all placed) (marks_of layout (row + 1) order) begun)

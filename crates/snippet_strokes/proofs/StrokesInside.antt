@@ -25,7 +25,7 @@ use Rattle.snippet_strokes.specs.Painting.{first_glyph, mark_end, mark_of, marks
 use Rattle.snippet_strokes.specs.SourceRows.{bare_row}
 use Rattle.snippet_strokes.specs.Strokes.{column_of, connector_of, connectors_of, corner_of, corners_of, label_of}
 use Rattle.snippet_strokes.proofs.StrokeWords.{bar_writes, begun_rows, corner_by}
-use Rattle.snippet_strokes.specs.Strokes.{labels_of, line_strokes, stems_of, stroke_rows}
+use Rattle.snippet_strokes.specs.Strokes.{labels_of, drawn_strokes, stems_of, stroke_rows}
 use Rattle.snippet_strokes.specs.Writes.{Write, glyph_at, painted, stretch_of}
 use Rattle.snippet_strokes.proofs.CellLemmas.{above_zero}
 use Rattle.snippet_strokes.proofs.BarWrites.{All-connector_of, All-stretch_of}
@@ -85,7 +85,7 @@ module _ (layout : Layout) (count : ℕ) where
         | false ↦ All-nil Inside
       ]
 
-  pub strokes_inside : (placed order : List PlacedEntry) → 1 < count → All (HasRows 1 count) placed → All Inside (line_strokes layout 0 count placed order)
+  pub strokes_inside : (placed order : List PlacedEntry) → 1 < count → All (HasRows 1 count) placed → All Inside (drawn_strokes layout 0 count placed order)
   strokes_inside placed order some rows =
       let connectors : All Inside (connectors_of layout 1 placed) = All-flat_map Inside (connector_of layout 1) placed (λ k d within.
       let e : PlacedEntry = get_or placed k d in
@@ -107,7 +107,7 @@ module _ (layout : Layout) (count : ℕ) where
 
 -- the rows over which strokes are painted stay as many
 pub painted_rows-count : (layout : Layout) (closes : Bool) (placed order : List PlacedEntry) (source : List Cell)
-    → length (painted (line_strokes layout 0 (row_count placed + 1) placed order) (begun_rows layout closes (row_count placed) source)) ≡ row_count placed + 1
+    → length (painted (drawn_strokes layout 0 (row_count placed + 1) placed order) (begun_rows layout closes (row_count placed) source)) ≡ row_count placed + 1
 painted_rows-count layout closes placed order source =
     let count : ℕ = row_count placed in
     let seps : List (List Cell) = replicate (count - 1) (separator_row layout.decor layout.gutter) in
@@ -120,7 +120,7 @@ painted_rows-count layout closes placed order source =
       length-replicate (count - 1) (separator_row layout.decor layout.gutter),
     ) in
     let rows : All (HasRows 1 (count + 1)) placed = HasRows-row_count 1 (count + 1) placed (omega arith) in
-    painted-count (line_strokes layout 0 (count + 1) placed order) (begun_rows layout closes count source) (count + 1) bare
+    painted-count (drawn_strokes layout 0 (count + 1) placed order) (begun_rows layout closes count source) (count + 1) bare
     (strokes_inside layout (count + 1) placed order (omega (arith, some)) rows)
 
 -- so there are as many rows of strokes as the entries ask for, and the source row
@@ -129,7 +129,7 @@ pub stroke_rows-count : (layout : Layout) (room : ℕ) (closes : Bool) (es : Lis
 stroke_rows-count layout room closes es source =
     let placed : List PlacedEntry = placed_of es in
     let order : List PlacedEntry = painting_order placed in
-    let whole : List (List Cell) = painted (line_strokes layout 0 (row_count placed + 1) placed order) (begun_rows layout closes (row_count placed) source) in
+    let whole : List (List Cell) = painted (drawn_strokes layout 0 (row_count placed + 1) placed order) (begun_rows layout closes (row_count placed) source) in
     let cut : List Cell → List Cell = cut_row layout.decor (cuts_of layout room order (overlapped placed)) in
     ap length (stroke_rows-cut layout room closes es source)
     ∙ length-append (map cut (take 2 whole)) (drop 2 whole) ∙ ap (λ n. n + length (drop 2 whole)) (length-map (take 2 whole) cut)

@@ -1,9 +1,9 @@
 -- A line that fits the room is shown as it is, where lines aren't cut on the left.
-use Rattle.std.proofs.Common.{◌≡◌, ℕ, ◌+◌, ◌-◌, ◌≤◌, min, cond, ltb, false, None, Some, List, length, ap, ◌∙◌, arith, unwrap_or}
+use Rattle.std.proofs.Common.{◌≡◌, ℕ, ◌+◌, ◌-◌, ◌≤◌, min, cond, ltb, false, None, Some, List, length, ap, ◌∙◌, arith, unwrap_or, reverse}
 use Rattle.std.proofs.lemmas.Bool.{le-leb}
 use Rattle.std.proofs.lemmas.List.{take_all}
 use Rattle.snippet_window.specs.declared.margin.Margin.{Margin}
-use Rattle.snippet_window.specs.Window.{reaching_last, window_left, window_right, inner_part, covered_columns, uncovered_part, covered_end}
+use Rattle.snippet_window.specs.Window.{reaching, window_left, window_right, inner_part, covered_columns, uncovered_part, covered_end}
 use Rattle.snippet_style.specs.declared.glyphs.DecorStyle.{DecorStyle}
 use Rattle.snippet_style.specs.declared.role.ElementStyle.TheVariants.{Quotation}
 use Rattle.snippet_style.specs.Glyphs.{placeholder_of}
@@ -32,8 +32,8 @@ end_none : (room right : ℕ) (placeholder text : List ℕ) → width_of text �
 end_none room right placeholder text fits =
     let at = unwrap_or (covered_columns 0 placeholder (inner_part room 0 right text)) 0 + length
     (uncovered_part 0 placeholder (inner_part room 0 right text)) in
-    ap (λ n. cond (ltb n (width_of text)) (Some (at - reaching_last (width_of placeholder) (inner_part room 0 right text))) None)
-    (right-whole room right text fits) ∙ ap (λ b. cond b (Some (at - reaching_last (width_of placeholder) (inner_part room 0 right text))) None)
+    ap (λ n. cond (ltb n (width_of text)) (Some (at - reaching (width_of placeholder) (reverse (inner_part room 0 right text)))) None)
+    (right-whole room right text fits) ∙ ap (λ b. cond b (Some (at - reaching (width_of placeholder) (reverse (inner_part room 0 right text)))) None)
     (not_less (width_of text))
 
 -- the cells between any bounds

@@ -13,8 +13,8 @@ use Rattle.snippet_labels.specs.Positions.{do_overlap}
 
 -- ---- which entries are overlapped: the original's rule
 
--- whether entry e sees entry f, where they stand at places i and j of their line, from right to left: f is looked at while the place of e's
--- label is sought, as many of those after e are as it says, and they overlap. The two farthest right are seen by none, any other by itself too
+-- whether entry e sees entry f, where they stand at places i and j of their line, from right to left: they overlap, and f is none after the
+-- last that is looked at while the place of e's label is sought, so many after e. The two farthest right are seen by none
 abbrev pub sees : ℕ → PlacedEntry → ℕ → PlacedEntry → Bool
 sees i e j f = nat_le 2 j && (nat_lt j (i + 1 + e.looked) && do_overlap f 0 e)
 

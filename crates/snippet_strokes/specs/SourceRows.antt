@@ -10,7 +10,7 @@ use Rattle.snippet_style.specs.Cell.{Cell, SPACE, text_cells, written}
 use Rattle.snippet_grid.specs.Layout.{Layout}
 use Rattle.std.specs.Option.{option_map_or}
 
--- a row of strokes before any stroke is drawn: the closing row where the window closes with it, else the separator row
+-- the row of a padding, and one of strokes before any is drawn: the closing row where the window closes with it, else the separator row
 abbrev pub bare_row : DecorStyle → ℕ → Bool → List Cell
 bare_row decor gutter closes = if closes then closing_row decor gutter else separator_row decor gutter
 

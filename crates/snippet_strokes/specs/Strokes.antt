@@ -39,21 +39,9 @@ stem_of layout row e =
     then map (λ below. glyph_at (row + below) (code_cell layout e.entry.start.display) (if below == e.position then foot_glyph layout.decor e else stem)
     (stroke_role e)) (range_with_len 0 (e.position + 1)) else []
 
--- whether the stem of the next of some later entries covers that of an entry: it stands in the same column, and reaches as far down
-abbrev pub is_stem_covered : PlacedEntry → List PlacedEntry → Bool
-is_stem_covered e [] = false
-is_stem_covered e (next ∷ later) =
-    has_stem next && (next.entry.start.display == e.entry.start.display && nat_le e.position next.position)
-
--- the stems of some entries, but those that the next one's covers
-abbrev pub stems_of : Layout → ℕ → List PlacedEntry → List Write
-stems_of layout row [] = []
-stems_of layout row (e ∷ later) =
-    (if is_stem_covered e later then [] else stem_of layout row e) ++ stems_of layout row later
-
 -- ---- lines to bars
 
--- the line from the bar of a start or an end to before the start of its mark, in the row of its position
+-- the line from the cell after the bar of a start or an end to before the start of its mark, in the row of its position
 abbrev pub connector_of : Layout → ℕ → PlacedEntry → List Write
 connector_of layout row e =
     let glyph = (strokes_of layout.decor (is_primary e.entry.kind)).connector in
@@ -83,7 +71,7 @@ corner_of layout row count e =
 -- bars, the stems, and the labels; and last, over all others, the marks in the order in which they are painted
 abbrev pub line_strokes : Layout → ℕ → ℕ → List PlacedEntry → List PlacedEntry → List Write
 line_strokes layout row count placed order =
-    flat_map (connector_of layout (row + 1)) placed ++ flat_map (corner_of layout row count) placed ++ stems_of layout (row + 1) placed
+    flat_map (connector_of layout (row + 1)) placed ++ flat_map (corner_of layout row count) placed ++ flat_map (stem_of layout (row + 1)) placed
     ++ flat_map (label_of layout (row + 1)) placed ++ flat_map (mark_of layout (row + 1)) order
 
 -- the rows of a line with the strokes of these entries, of which this is the source row. All strokes are painted over this row and those below
@@ -114,7 +102,25 @@ corners_of layout row count placed = flat_map (corner_of layout row count) place
 abbrev pub labels_of : Layout → ℕ → List PlacedEntry → List Write
 labels_of layout row placed = flat_map (label_of layout row) placed
 
+-- whether the stem of the next of some later entries covers that of an entry: it stands in the same column, and reaches as far down
+abbrev pub is_stem_covered : PlacedEntry → List PlacedEntry → Bool
+is_stem_covered e [] = false
+is_stem_covered e (next ∷ later) =
+    has_stem next && (next.entry.start.display == e.entry.start.display && nat_le e.position next.position)
+
+-- the stems of some entries, but those that the next one's covers
+abbrev pub stems_of : Layout → ℕ → List PlacedEntry → List Write
+stems_of layout row [] = []
+stems_of layout row (e ∷ later) =
+    (if is_stem_covered e later then [] else stem_of layout row e) ++ stems_of layout row later
+
 -- the strokes of a line but its marks
 abbrev pub strokes_under_marks : Layout → ℕ → ℕ → List PlacedEntry → List Write
 strokes_under_marks layout row count placed =
     connectors_of layout (row + 1) placed ++ corners_of layout row count placed ++ stems_of layout (row + 1) placed ++ labels_of layout (row + 1) placed
+
+-- all of them, as they are drawn: the same as all strokes of a line, but the stems that the next one's covers
+abbrev pub drawn_strokes : Layout → ℕ → ℕ → List PlacedEntry → List PlacedEntry → List Write
+drawn_strokes layout row count placed order =
+    flat_map (connector_of layout (row + 1)) placed ++ flat_map (corner_of layout row count) placed ++ stems_of layout (row + 1) placed
+    ++ flat_map (label_of layout (row + 1)) placed ++ flat_map (mark_of layout (row + 1)) order

@@ -1,8 +1,8 @@
 -- How the window of a line is found, character by character.
 use Rattle.std.proofs.Common.{◌≡◌, ◌^◌, Option, Some, None, IfSome, unwrap_or, ℕ, ◌+◌, ◌-◌, ◌<◌, ◌≤◌, cond, eqb, leb, true, false, List, [], ◌∷◌, ◌++◌, length}
-use Rattle.std.proofs.Common.{take, drop, refl, sym, ap, ◌∙◌, le_refl, arith, chars, encode_utf8, IsUtf8}
+use Rattle.std.proofs.Common.{take, drop, refl, sym, ap, ◌∙◌, le_refl, arith, chars, encode_utf8, IsUtf8, zero, suc, Bool, reverse}
 use Rattle.std.proofs.lemmas.Str.{encodes-chars}
-use Rattle.std.proofs.lemmas.List.{drop_all, length-drop, length-take, take_all}
+use Rattle.std.proofs.lemmas.List.{drop_all, length-drop, length-take, take_all, length-reverse, reverse-append}
 use Rattle.std.proofs.lemmas.List.Sums.{sum_by-cons, fold_push}
 use Rattle.std.proofs.lemmas.Bool.{le-leb}
 use Rattle.std.proofs.lemmas.Bool.Decides.{nat_tests}
@@ -225,3 +225,42 @@ pub cells_few : (start : Option ℕ) (columns left : ℕ) (placeholder inner sho
     → count ≡ length shown → n + count < 2 ^ 61
 cells_few start columns left placeholder inner shown n count narrow few is short n_is count_is =
     omega (arith, start_few start columns narrow few, ap length is, uncovered_short left placeholder inner)
+
+-- ---- the last characters
+
+-- one more character at the end is needed where those before it don't reach so many columns
+reaching-push : (k d : ℕ) (cs : List ℕ) → reaching k (cs ++ d ∷ []) ≡ cond (leb k (width_of cs)) (reaching k cs) (length cs + 1)
+reaching-push zero d [] = refl
+reaching-push (suc k) d [] = grind (arith, nat_tests)
+reaching-push zero d (c ∷ cs) =
+    sym (ap (λ b. cond b 0 (length (c ∷ cs) + 1)) (le-leb 0 (width_of (c ∷ cs)) (omega arith)))
+reaching-push (suc k) d (c ∷ cs) =
+    let left : ℕ = suc k - char_width c in
+    reaching-cons (suc k) c (cs ++ d ∷ []) (omega arith) ∙ ap (λ n. n + 1) (reaching-push left d cs) ∙ either (leb left (width_of cs))
+    ∙ ap (λ b. cond b (reaching left cs + 1) (length (c ∷ cs) + 1)) (same (char_width c) (width_of cs))
+    ∙ ap (λ n. cond (leb (suc k) n) (reaching left cs + 1) (length (c ∷ cs) + 1)) (sym (width-cons c cs))
+    ∙ ap (λ n. cond (leb (suc k) (width_of (c ∷ cs))) n (length (c ∷ cs) + 1)) (sym (reaching-cons (suc k) c cs (omega arith)))
+  where
+    same : (w n : ℕ) → leb (suc k - w) n ≡ leb (suc k) (w + n)
+    same w n = grind (arith, nat_tests)
+
+    either : (b : Bool) → cond b (reaching (suc k - char_width c) cs) (length cs + 1) + 1
+        ≡ cond b (reaching (suc k - char_width c) cs + 1) (length (c ∷ cs) + 1)
+    either true = refl
+    either false = omega arith
+
+width-reverse : (cs : List ℕ) → width_of (reverse cs) ≡ width_of cs
+width-reverse [] = refl
+width-reverse (c ∷ cs) =
+    let back : reverse (c ∷ cs) ≡ reverse cs ++ c ∷ [] = reverse-append (c ∷ []) cs in
+    omega (arith, ap width_of back, width-push (reverse cs) c, width-reverse cs, width-cons c cs)
+
+-- the last characters that reach so many columns are the first ones of the reverse
+pub reaching_last-reverse : (k : ℕ) (cs : List ℕ) → reaching_last k cs ≡ reaching k (reverse cs)
+reaching_last-reverse k [] = refl
+reaching_last-reverse k (c ∷ cs) =
+    let back : reverse (c ∷ cs) ≡ reverse cs ++ c ∷ [] = reverse-append (c ∷ []) cs in
+    ap (λ n. cond (leb k (width_of cs)) n (length cs + 1)) (reaching_last-reverse k cs)
+    ∙ ap (λ n. cond (leb k (width_of cs)) (reaching k (reverse cs)) (n + 1)) (sym (length-reverse cs))
+    ∙ ap (λ n. cond (leb k n) (reaching k (reverse cs)) (length (reverse cs) + 1)) (sym (width-reverse cs))
+    ∙ sym (ap (reaching k) back ∙ reaching-push k c (reverse cs))

@@ -1,6 +1,6 @@
 -- The window of a line is found in a part of the line that is sure to hold it.
 use Rattle.std.proofs.Common.{◌≡◌, ℕ, suc, ◌+◌, ◌-◌, ◌<◌, ◌≤◌, inl, inr, Option, Some, None, unwrap_or, cond, nat_le, nat_lt, true, false, min, List, [], ◌∷◌}
-use Rattle.std.proofs.Common.{◌++◌, length, take, drop, sym, ap, ◌∙◌, subst, arith}
+use Rattle.std.proofs.Common.{◌++◌, length, take, drop, sym, ap, ◌∙◌, subst, arith, reverse}
 use Rattle.std.proofs.Math.Seq.{take-append-add, drop-append-add}
 use Rattle.std.proofs.lemmas.List.{take-append-drop, take-append-le, drop-append-le, append-nil}
 use Rattle.std.proofs.lemmas.List.Sums.{sum_by-append}
@@ -14,7 +14,7 @@ use Rattle.snippet_window.specs.Window.{reaching, fitting, reaching_last, window
 use Rattle.snippet_window.specs.Window.{covered_end}
 use Rattle.snippet_window.specs.declared.margin.Margin.{Margin}
 use Rattle.snippet_window.specs.NearPart.{HoldsWindow, IsPartOf, falling_short, window_columns}
-use Rattle.snippet_window.proofs.LineWindowLemmas.{width-cons, reaching-cons, reaching-none, fitting-cons, fitting-stop}
+use Rattle.snippet_window.proofs.LineWindowLemmas.{width-cons, reaching-cons, reaching-none, fitting-cons, fitting-stop, reaching_last-reverse}
 
 take-cons : (n c : ℕ) (cs : List ℕ) → take (n + 1) (c ∷ cs) ≡ c ∷ take n cs
 take-cons n c cs =
@@ -256,19 +256,21 @@ pub end_some : (room left right end : ℕ) (start : Option ℕ) (placeholder lin
     → shown ≡ uncovered_part left placeholder inner → end ≡ (unwrap_or start 0 + length shown) - reaching_last (width_of placeholder) inner
     → Some end ≡ covered_end room left right placeholder line
 end_some room left right end start placeholder line inner shown is_inner cut is_start is_shown is_end =
-    let at : List ℕ → ℕ = λ i. (unwrap_or (covered_columns left placeholder i) 0 + length (uncovered_part left placeholder i)) - reaching_last
-    (width_of placeholder) i in
+    let at : List ℕ → ℕ = λ i. (unwrap_or (covered_columns left placeholder i) 0 + length (uncovered_part left placeholder i)) - reaching
+    (width_of placeholder) (reverse i) in
     let cut_off : nat_lt (window_right room left right line) (width_of line) ≡ true = grind (arith, nat_tests, cut) in
     let value = is_end ∙ ap (λ (s : Option ℕ). (unwrap_or s 0 + length shown) - reaching_last (width_of placeholder) inner) is_start
-    ∙ ap (λ t. (unwrap_or (covered_columns left placeholder inner) 0 + length t) - reaching_last (width_of placeholder) inner) is_shown ∙ ap at is_inner in
+    ∙ ap (λ t. (unwrap_or (covered_columns left placeholder inner) 0 + length t) - reaching_last (width_of placeholder) inner) is_shown
+    ∙ ap (λ n. (unwrap_or (covered_columns left placeholder inner) 0 + length (uncovered_part left placeholder inner)) - n)
+    (reaching_last-reverse (width_of placeholder) inner) ∙ ap at is_inner in
     ap Some value ∙ sym (ap (λ b. cond b (Some (at (inner_part room left right line))) None) cut_off)
 
 -- a line that ends within the window isn't covered at its end
 pub end_none : (room left right : ℕ) (placeholder line : List ℕ) → width_of line ≤ window_right room left right line
     → None ≡ covered_end room left right placeholder line
 end_none room left right placeholder line uncut =
-    let at : List ℕ → ℕ = λ i. (unwrap_or (covered_columns left placeholder i) 0 + length (uncovered_part left placeholder i)) - reaching_last
-    (width_of placeholder) i in
+    let at : List ℕ → ℕ = λ i. (unwrap_or (covered_columns left placeholder i) 0 + length (uncovered_part left placeholder i)) - reaching
+    (width_of placeholder) (reverse i) in
     let whole : nat_lt (window_right room left right line) (width_of line) ≡ false = grind (arith, nat_tests, uncut) in
     sym (ap (λ b. cond b (Some (at (inner_part room left right line))) None) whole)
 

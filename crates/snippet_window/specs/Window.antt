@@ -1,6 +1,6 @@
 -- The window of a line: the part of it that is shown.
 use Rattle.std.specs.Prelude.{◌≡◌, ℕ, ◌+◌, ◌-◌, ◌≤◌, ◌==◌, ◌&&◌, ◌||◌, ◌⊎◌, nat_lt, nat_le, min, zero, suc, Bool, false, not, List, [], ◌∷◌, ◌++◌, Option, Some}
-use Rattle.std.specs.Prelude.{None, is_none, chars, unwrap_or, length, take, drop, if◌then◌else◌}
+use Rattle.std.specs.Prelude.{None, is_none, chars, unwrap_or, length, take, drop, if◌then◌else◌, reverse}
 use Rattle.std.specs.List.{list_all, list_any}
 use Rattle.std.specs.Option.{option_map, option_map_or}
 use Rattle.std.specs.Char.{is_whitespace}
@@ -45,11 +45,6 @@ inner_part room left right text =
     let rest = drop (reaching (window_left left text) text) text in
     take (fitting (window_right room left right text - window_left left text) rest) rest
 
--- how many characters, up to the last one, reach so many columns: the fewest, or all
-abbrev pub reaching_last : ℕ → List ℕ → ℕ
-reaching_last columns [] = 0
-reaching_last columns (c ∷ cs) = if nat_le columns (width_of cs) then reaching_last columns cs else length cs + 1
-
 -- where lines are cut on the left, the first characters in the window, as many as reach the width of the placeholder, give
 -- their place to it: these are the columns that they take, and the characters after them
 abbrev pub covered_columns : ℕ → List ℕ → List ℕ → Option ℕ
@@ -64,7 +59,7 @@ abbrev pub covered_end : ℕ → ℕ → ℕ → List ℕ → List ℕ → Optio
 covered_end room left right placeholder text =
     let inner = inner_part room left right text in
     let at = unwrap_or (covered_columns left placeholder inner) 0 + length (uncovered_part left placeholder inner) in
-    if nat_lt (window_right room left right text) (width_of text) then Some (at - reaching_last (width_of placeholder) inner) else None
+    if nat_lt (window_right room left right text) (width_of text) then Some (at - reaching (width_of placeholder) (reverse inner)) else None
 
 -- the window of a text between these bounds: what stands in it, with the placeholder over each end that is cut. On the left what comes
 -- after the columns that the placeholder covers follows it; where that is nothing, there is the placeholder alone
@@ -119,3 +114,10 @@ stands_whole room placeholder_width fold source marks k =
     let kept = kept_lines fold source marks in
     nat_le (width_of (chars_at source k)) room && list_all (λ j. nat_le (width_of (chars_at source j)) room) kept && is_near_left source kept marks
     && list_all (λ a. not (is_marked_on source k a && is_wide room placeholder_width source a)) marks
+
+-- ---- how the code finds the end
+
+-- how many characters, up to the last one, reach so many columns, the fewest, or all: as many as reach them in the reverse
+abbrev pub reaching_last : ℕ → List ℕ → ℕ
+reaching_last columns [] = 0
+reaching_last columns (c ∷ cs) = if nat_le columns (width_of cs) then reaching_last columns cs else length cs + 1

@@ -4,7 +4,7 @@ use Rattle.std.specs.List.{slice_get, slice_index_or}
 use Rattle.snippet_style.specs.Cell.{Cell}
 use Rattle.snippet_model.specs.declared.snippet.Group.{Group}
 use Rattle.snippet_model.specs.declared.snippet.Element.{Element}
-use Rattle.snippet_titles.specs.Origin.{padding_row}
+use Rattle.snippet_strokes.specs.SourceRows.{bare_row}
 use Rattle.annotate_snippets.specs.declared.renderer.Renderer.{Renderer}
 use Rattle.snippet_grid.specs.Layout.{Layout}
 use Rattle.annotate_snippets.specs.declared.renderer.element_context.GroupPosition.{GroupPosition}
@@ -27,7 +27,7 @@ ShowsElement r layout around found (element.Cause snippet) rows = ShowsSnippet r
 ShowsElement r layout around found (element.Suggestion snippet) rows = ShowsSuggestion r layout around found snippet rows
 ShowsElement r layout around found (element.Origin origin) rows = ShowsOrigin r layout around origin rows
 ShowsElement r layout around found (element.Padding padding) rows =
-    rows ≡ others (padding_row layout.decor layout.gutter (is_end around.next) ∷ [])
+    rows ≡ others (bare_row layout.decor layout.gutter (is_end around.next) ∷ [])
 
 -- the parts of a group's page show these elements, which are all that are drawn, one by one, in order
 pub record AreElementsShown (r : Renderer) (layout : Layout) (place : GroupPosition) (file : Option (List ℕ)) (es : List Element)

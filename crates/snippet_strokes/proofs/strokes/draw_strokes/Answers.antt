@@ -22,7 +22,7 @@ use Rattle.snippet_strokes.proofs.PositionLemmas.{looked_of_placed, row_count_so
 use Rattle.snippet_strokes.proofs.BegunLemmas.{rows_begun, rows_ready}
 use Rattle.snippet_strokes.proofs.ReadyLemmas.{all_ready, ready_places}
 use Rattle.snippet_strokes.proofs.ReadyRows.{enough_begun}
-use Rattle.snippet_strokes.specs.Strokes.{line_strokes}
+use Rattle.snippet_strokes.specs.Strokes.{drawn_strokes}
 use Rattle.snippet_strokes.specs.Writes.{painted}
 use Rattle.snippet_strokes.proofs.LineRowLemmas.{own_none, own_strokes, painted_added}
 use Rattle.snippet_strokes.proofs.strokes.draw_strokes.Goals as goal
@@ -161,8 +161,8 @@ returns c =
     let begun_is : begun ≡ rows = ap (λ n. old ++ replicate (n - 1) sep ++ end ∷ []) count in
     let all : ℕ = length old + row_count placed in
     let long : length begun ≡ all = rows_begun old begun sep end (row_count placed) (row_count_some placed) begun_is in
-    let new_is : new ≡ painted (line_strokes layout row (length begun) placed after) begun = c.in_ok-draw_rows.ensures.painted
-    ∙ ap (λ n. painted (line_strokes layout row n placed after) begun) (sym whole) in
+    let new_is : new ≡ painted (drawn_strokes layout row (length begun) placed after) begun = c.in_ok-draw_rows.ensures.painted
+    ∙ ap (λ n. painted (drawn_strokes layout row n placed after) begun) (sym whole) in
     let flags = c.in_ok-overlapped.overlapped.items in
     let final = c.cut_wide.new.buffer in
     let cut_to : List PlacedEntry → List Bool → List (List Cell) = λ ps fs. cut_rows layout.decor row (cuts_of layout c.args.place.room ps fs) new in
@@ -181,7 +181,7 @@ returns c =
           ∙ ap (list_any is_wide) c.deref.ensures.value ∙ some_wide) ∙ ap overlapped c.deref.ensures.value in
           painted_added layout c.args.place.room c.args.place.closes es placed flags above source old new final row are old_is
           (last_row above source old_is) all_rows
-          (new_is ∙ ap (λ n. painted (line_strokes layout row n placed after) begun) long ∙ ap (painted (line_strokes layout row all placed after)) begun_is)
+          (new_is ∙ ap (λ n. painted (drawn_strokes layout row n placed after) begun) long ∙ ap (painted (drawn_strokes layout row all placed after)) begun_is)
           flags_are (final_is value)
           ∙ ap (λ rows. above ++ rows) (sym (own_strokes layout c.args.place.room closes text c.args.place.dropped c.args.entries.now source other given)))
           c.cut_wide.ensures.value;

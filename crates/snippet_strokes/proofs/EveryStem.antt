@@ -1,0 +1,128 @@
+-- The stem of an entry that the next one's covers leaves nothing of its own: to draw all stems is to draw those that none covers.
+use Rattle.std.proofs.Common.{◌≡◌, ℕ, zero, suc, ◌+◌, ◌-◌, ◌<◌, ◌≤◌, ◌==◌, ◌&&◌, nat_le, cond, true, List, [], ◌∷◌, ◌++◌, map}
+use Rattle.std.proofs.Common.{inl, inr, refl, sym, ap, ◌∙◌, arith, All}
+use Rattle.std.specs.List.{flat_map, range_with_len}
+use Rattle.std.proofs.lemmas.Bool.{and_parts, cases_Bool, eqb-true, leb-true}
+use Rattle.std.proofs.lemmas.List.{places, same_lists}
+use Rattle.std.proofs.lemmas.List.Elements.{All-cons, All-nil}
+use Rattle.snippet_grid.proofs.GridLemmas.{row_at-cells_written_same}
+use Rattle.snippet_grid.specs.Grid.{cells_written, row_at}
+use Rattle.snippet_grid.specs.Layout.{Layout}
+use Rattle.snippet_labels.specs.declared.positions.PlacedEntry.{PlacedEntry}
+use Rattle.snippet_labels.specs.Positions.{has_stem}
+use Rattle.snippet_style.specs.Cell.{Cell, SPACE, text_cells, written}
+use Rattle.snippet_strokes.specs.declared.stem_rows.Stem.{Stem}
+use Rattle.snippet_strokes.specs.Painting.{mark_of}
+use Rattle.snippet_strokes.specs.StemRows.{cell_of_stem, stem_down, stem_from}
+use Rattle.snippet_strokes.specs.Strokes.{connector_of, corner_of, drawn_strokes, is_stem_covered, label_of, line_strokes, stem_of, stems_of}
+use Rattle.snippet_strokes.specs.Writes.{Write, painted}
+use Rattle.snippet_strokes.proofs.OneStep.{written_by}
+use Rattle.snippet_strokes.proofs.StemRowLemmas.{down_rows, move_rows}
+use Rattle.snippet_strokes.proofs.StrokeWords.{stem_write}
+use Rattle.snippet_strokes.proofs.WriteLemmas.{painted-append}
+
+-- ---- one write over another
+
+-- what was written at a place is gone where something else is
+rewritten : {X : Type 0} (pad : X) (xs : List X) (at : ℕ) (x y : X) → written pad (written pad xs at (x ∷ [])) at (y ∷ []) ≡ written pad xs at (y ∷ [])
+rewritten pad xs at x y =
+    same_lists _ _ (unfold written in grind (arith, places)) (λ i d h. unfold written in grind (arith, places))
+
+cells_rewritten : (rows : List (List Cell)) (r at : ℕ) (x y : Cell)
+    → cells_written (cells_written rows r at (x ∷ [])) r at (y ∷ []) ≡ cells_written rows r at (y ∷ [])
+cells_rewritten rows r at x y =
+    let row : List Cell = row_at rows r in
+    let low : List (List Cell) = cells_written rows r at (x ∷ []) in
+    ap (λ cells. written [] low r (written SPACE cells at (y ∷ []) ∷ [])) (row_at-cells_written_same rows r at (x ∷ []))
+    ∙ ap (λ cells. written [] low r (cells ∷ [])) (rewritten SPACE row at x y)
+    ∙ rewritten [] rows r (written SPACE row at (x ∷ [])) (written SPACE row at (y ∷ []))
+
+-- ---- one stem over another
+
+-- from a row down a stem that reaches as far covers another in its column
+covers_down : (row n k : ℕ) (s t : Stem) (rows : List (List Cell)) → s.cell ≡ t.cell → s.position + 1 - k ≡ n → s.position ≤ t.position
+    → painted (stem_down row k t) (painted (map (cell_of_stem row s) (range_with_len k n)) rows) ≡ painted (stem_down row k t) rows
+covers_down row zero k s t rows same many far = refl
+covers_down row (suc n) k s t rows same many far =
+    let a : Write = cell_of_stem row s k in
+    let b : Write = cell_of_stem row t k in
+    let rest : List Write = map (cell_of_stem row s) (range_with_len (k + 1) n) in
+    let below : List Write = stem_down row (k + 1) t in
+    let more : t.position + 1 - k ≡ suc (t.position + 1 - (k + 1)) = omega (arith, many, far) in
+    let split : stem_down row k t ≡ b ∷ below = ap (λ m. map (cell_of_stem row t) (range_with_len k m)) more in
+    let here : All (λ (v : Write). v.row ≡ row + k) (b ∷ []) = All-cons (λ (v : Write). v.row ≡ row + k) b [] refl (All-nil (λ (v : Write). v.row ≡ row + k)) in
+    let low : All (λ (w : Write). row + k < w.row) rest = λ j d within. let next = down_rows row n (k + 1) s j d within in omega (arith, next) in
+    let over : written_by (written_by rows a) b ≡ written_by rows b =
+    ap (λ c. written_by (cells_written rows (row + k) c (text_cells a.role a.text)) b) same
+    ∙ cells_rewritten rows (row + k) t.cell _ _ in
+    ap (λ ws. painted ws (painted rest (written_by rows a))) split
+    ∙ ap (painted below) (move_rows (row + k) rest (b ∷ []) (written_by rows a) low here ∙ ap (painted rest) over)
+    ∙ covers_down row n (k + 1) s t (written_by rows b) same (omega (arith, many)) far
+    ∙ ap (λ ws. painted ws rows) (sym split)
+
+-- the stem of an entry that has one
+own_down : (layout : Layout) (row : ℕ) (e : PlacedEntry) → has_stem e ≡ true → stem_of layout row e ≡ stem_down row 0 (stem_from layout e)
+own_down layout row e has =
+    let whole : e.position + 1 ≡ e.position + 1 - 0 = omega arith in
+    ap (λ b. cond b (map (stem_write layout row e) (range_with_len 0 (e.position + 1))) []) has
+    ∙ ap (λ n. map (stem_write layout row e) (range_with_len 0 n)) whole
+
+-- ---- the stems of a line
+
+hidden : (layout : Layout) (row : ℕ) (e : PlacedEntry) (later : List PlacedEntry) (rows : List (List Cell)) → is_stem_covered e later ≡ true
+    → painted (flat_map (stem_of layout row) later) (painted (stem_of layout row e) rows) ≡ painted (flat_map (stem_of layout row) later) rows
+hidden layout row e [] rows covered = cc
+hidden layout row e (next ∷ later) rows covered =
+    let own : List Write = stem_of layout row next in
+    let others : List Write = flat_map (stem_of layout row) later in
+    painted-append own others (painted (stem_of layout row e) rows) ∙ ap (painted others) (elim (cases_Bool (has_stem e)) [
+      | inl has ↦ ap (λ ws. painted ws (painted (stem_of layout row e) rows)) next_down
+          ∙ ap (λ ws. painted (stem_down row 0 (stem_from layout next)) (painted ws rows)) (own_down layout row e has)
+          ∙ covers_down row (e.position + 1 - 0) 0 (stem_from layout e) (stem_from layout next) rows column refl far
+          ∙ ap (λ ws. painted ws rows) (sym next_down)
+      | inr none ↦ ap (λ b. painted own (painted (cond b (map (stem_write layout row e) (range_with_len 0 (e.position + 1))) []) rows)) none
+    ]) ∙ sym (painted-append own others rows)
+  where
+    parts : (has_stem next ≡ true) × ((next.entry.start.display == e.entry.start.display && nat_le e.position next.position) ≡ true)
+    parts = and_parts _ _ covered
+
+    places_too : ((next.entry.start.display == e.entry.start.display) ≡ true) × (nat_le e.position next.position ≡ true)
+    places_too = and_parts _ _ parts.1
+
+    next_down : stem_of layout row next ≡ stem_down row 0 (stem_from layout next)
+    next_down = own_down layout row next parts.0
+
+    column : layout.code + e.entry.start.display ≡ layout.code + next.entry.start.display
+    column = ap (λ n. layout.code + n) (sym (eqb-true next.entry.start.display e.entry.start.display places_too.0))
+
+    far : e.position ≤ next.position
+    far = leb-true e.position next.position places_too.1
+
+-- the stems that none covers are drawn as all are
+stems_painted : (layout : Layout) (row : ℕ) (es : List PlacedEntry) (rows : List (List Cell))
+    → painted (flat_map (stem_of layout row) es) rows ≡ painted (stems_of layout row es) rows
+stems_painted layout row [] rows = refl
+stems_painted layout row (e ∷ later) rows =
+    let own : List Write = stem_of layout row e in
+    let all : List Write = flat_map (stem_of layout row) later in
+    let drawn : List Write = stems_of layout row later in
+    painted-append own all rows ∙ elim (cases_Bool (is_stem_covered e later)) [
+      | inl covered ↦ hidden layout row e later rows covered ∙ stems_painted layout row later rows
+          ∙ ap (λ b. painted (cond b [] own ++ drawn) rows) (sym covered)
+      | inr seen ↦ stems_painted layout row later (painted own rows) ∙ sym (painted-append own drawn rows)
+          ∙ ap (λ b. painted (cond b [] own ++ drawn) rows) (sym seen)
+    ]
+
+-- so all strokes of a line are drawn
+pub strokes_painted : (layout : Layout) (row count : ℕ) (placed order : List PlacedEntry) (rows : List (List Cell))
+    → painted (line_strokes layout row count placed order) rows ≡ painted (drawn_strokes layout row count placed order) rows
+strokes_painted layout row count placed order rows =
+    let bars : List Write = flat_map (connector_of layout (row + 1)) placed ++ flat_map (corner_of layout row count) placed in
+    let all : List Write = flat_map (stem_of layout (row + 1)) placed in
+    let drawn : List Write = stems_of layout (row + 1) placed in
+    let labels : List Write = flat_map (label_of layout (row + 1)) placed in
+    let marks : List Write = flat_map (mark_of layout (row + 1)) order in
+    painted-append (bars ++ all ++ labels) marks rows
+    ∙ ap (painted marks) (painted-append (bars ++ all) labels rows ∙ ap (painted labels) (painted-append bars all rows
+    ∙ stems_painted layout (row + 1) placed (painted bars rows) ∙ sym (painted-append bars drawn rows)) ∙ sym (painted-append (bars ++ drawn) labels rows))
+    ∙ sym (painted-append (bars ++ drawn ++ labels) marks rows)
