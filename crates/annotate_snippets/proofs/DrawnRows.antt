@@ -1,12 +1,12 @@
 -- What laws are proved from: what is known of the rows that the graphic form has for a line, and in place of lines (PageLemmas).
-use Rattle.std.proofs.Common.{◌≡◌, ℕ, ◌+◌, ◌-◌, ◌==◌, ◌&&◌, Bool, not, List, [], ◌∷◌, filter, length, map}
+use Rattle.std.proofs.Common.{◌≡◌, ℕ, ◌+◌, ◌-◌, ◌==◌, ◌&&◌, Bool, not, List, [], ◌∷◌, filter, length}
 use Rattle.snippet_model.specs.declared.snippet.Annotation.{Annotation}
 use Rattle.snippet_model.specs.declared.snippet.Snippet.{Snippet}
 use Rattle.std.specs.Cow.{cow_str_bytes}
 use Rattle.snippet_style.specs.Cell.{Cell}
 use Rattle.snippet_text.specs.Normalized.{norm}
 use Rattle.snippet_text.specs.Width.{width_of}
-use Rattle.snippet_parts.specs.Annotated.{annotated_lines, seen_part}
+use Rattle.snippet_parts.specs.Annotated.{annotated_lines}
 use Rattle.snippet_window.specs.Margin.{bounds_of}
 use Rattle.snippet_window.specs.Measures.{margin_of}
 use Rattle.snippet_window.specs.Window.{chars_at, dropped_part}
@@ -19,7 +19,7 @@ use Rattle.snippet_strokes.proofs.LineFacts.{AreLineRows, IsHighlighted, IsSourc
 use Rattle.snippet_strokes.specs.Snippet.{gap_row}
 use Rattle.annotate_snippets.specs.declared.renderer.Renderer.{Renderer}
 use Rattle.snippet_grid.specs.Layout.{Layout}
-use Rattle.annotate_snippets.specs.GraphicForm.{bars_on, entries_on}
+use Rattle.annotate_snippets.proofs.LineWords.{bars_on, entries_on}
 use Rattle.annotate_snippets.specs.Gutter.{number_text, numbered_source}
 use Rattle.annotate_snippets.specs.Page.{RowName, SourceRow, Elision, OfferedLine, RemovedLine, Other, NamedRow, rows_below}
 
@@ -37,7 +37,7 @@ open_after s Other open_bars = open_bars
 pub record IsLineDrawn (r : Renderer) (layout : Layout) (closes : Bool) (s : Snippet Annotation) (open_bars : List Bar) (k : ℕ)
     (rows : List (List Cell)) : Type 0 where
   pub entries : List LineAnnotation
-  pub are : map seen_part entries ≡ entries_on s k
+  pub are : entries ≡ entries_on s k
   pub margin : Margin
   pub room : margin.term_width ≡ r.term_width - layout.code
   pub bounds : bounds_of margin ≡ margin_of (r.term_width - layout.code) (annotated_lines s.fold (numbered_source s) s.markers.items)

@@ -1,8 +1,6 @@
 -- The definitions, computed on small inputs.
-use Rattle.std.proofs.Common.{◌≡◌, ℕ, ◌==◌, true, false, None, [], ◌∷◌, ◌++◌, codes, refl}
+use Rattle.std.proofs.Common.{◌≡◌, ℕ, ◌==◌, true, false, None, List, [], ◌∷◌, ◌++◌, codes, refl}
 use Rattle.std.specs.List.{list_any}
-use Rattle.std.specs.declared.alloc.Global.{Global}
-use Rattle.std.specs.declared.borrow.CowStr.{CowStr}
 use Rattle.snippet_lines.specs.OrderedBy.{ordered_by}
 use Rattle.snippet_model.specs.declared.snippet.AnnotationKind.{AnnotationKind}
 use Rattle.snippet_model.specs.declared.snippet.AnnotationKind.TheVariants.{Primary, Context}
@@ -40,11 +38,11 @@ ties_as_given : ordered_by is_placed_before (entry Context 1 2 ∷ entry Primary
     ≡ entry Context 1 2 ∷ entry Primary 1 5 ∷ entry Context 1 9 ∷ []
 ties_as_given = refl
 
-abbrev placed : CowStr Global → AnnotationKind → ℕ → ℕ → PlacedEntry
+abbrev placed : List ℕ → AnnotationKind → ℕ → ℕ → PlacedEntry
 placed label kind from to = record { entry = entry kind from to; label = label; position = 0; looked = 0 }
 
 -- the widest mark is painted first, and of one width those for context before a primary one; all others as they are placed
-widest_first : (label : CowStr Global)
+widest_first : (label : List ℕ)
     → painting_order (placed label Primary 4 6 ∷ placed label Context 2 4 ∷ placed label Context 0 2 ∷ placed label Primary 0 9 ∷ [])
     ≡ placed label Primary 0 9 ∷ placed label Context 2 4 ∷ placed label Context 0 2 ∷ placed label Primary 4 6 ∷ []
 widest_first label = refl
@@ -63,13 +61,13 @@ letter_of_none = refl
 -- `          ^^^^^`
 -- `        -----`
 -- `  ^^^`
-two_do_not_count : (label : CowStr Global)
+two_do_not_count : (label : List ℕ)
     → let marks = placed label Primary 10 15 ∷ placed label Context 8 13 ∷ placed label Primary 2 5 ∷ [] in overlapped_by marks (3 ∷ 3 ∷ 3 ∷ []) 0 marks
     ≡ false ∷ false ∷ true ∷ []
 two_do_not_count label = refl
 
 -- but where the place of no label is sought beyond the mark before it, the third isn't looked at
-looked_at_no_more : (label : CowStr Global)
+looked_at_no_more : (label : List ℕ)
     → let marks = placed label Primary 10 15 ∷ placed label Context 8 13 ∷ placed label Primary 2 5 ∷ [] in overlapped_by marks (2 ∷ 2 ∷ 2 ∷ []) 0 marks
     ≡ false ∷ false ∷ false ∷ []
 looked_at_no_more label = refl

@@ -19,8 +19,7 @@ pub mod EndBarLaws
 pub mod EntryBarLaws
 pub mod Examples
 pub mod HangingLemmas
-pub mod HeldLemmas
-pub mod HeldStrokes
+pub mod PlacedAre
 pub mod HighlightLaws
 pub mod LabelKept
 pub mod LabelLaw

@@ -10,7 +10,8 @@ use Rattle.snippet_parts.specs.declared.entries.LineAnnotationType.TheVariants.{
 use Rattle.snippet_model.specs.AnnotationKind.{is_primary}
 use Rattle.snippet_grid.specs.Layout.{Layout, bar_cell, code_cell, inner_cell}
 use Rattle.snippet_labels.specs.declared.positions.PlacedEntry.{PlacedEntry}
-use Rattle.snippet_labels.specs.PlacedEntries.{label_role, label_text}
+use Rattle.snippet_labels.specs.PlacedEntries.{label_role}
+use Rattle.snippet_text.specs.Normalized.{normalized_chars}
 use Rattle.snippet_parts.specs.declared.entries.LineAnnotation.{LineAnnotation}
 use Rattle.snippet_style.specs.Cell.{Cell}
 use Rattle.snippet_style.specs.Separators.{separator_row}
@@ -25,7 +26,7 @@ use Rattle.snippet_strokes.specs.SourceRows.{bare_row}
 -- the label of an entry, if it has one, at its place below the row of the marks
 abbrev pub label_write : Layout → ℕ → PlacedEntry → Write
 label_write layout row e =
-    record { row = row + (label_place e).0; cell = code_cell layout (label_place e).1; text = label_text e.entry; role = label_role e.entry.kind }
+    record { row = row + (label_place e).0; cell = code_cell layout (label_place e).1; text = normalized_chars e.entry.label; role = label_role e.entry.kind }
 
 -- the label as a list: empty where the entry has none
 abbrev pub label_of : Layout → ℕ → PlacedEntry → List Write

@@ -2,10 +2,8 @@
 use Rattle.std.proofs.Common.{◌≡◌, ◌∙◌, ◌⊎◌, ℕ, ◌+◌, ◌-◌, ◌<◌, ◌≤◌, Bool, true, false, not, cond, eqb, leb, ◌&&◌, ◌||◌, List, [], ◌∷◌, ◌++◌, All, Option, None}
 use Rattle.std.proofs.Common.{map, chars, unwrap_or, refl, sym, ap, subst, inl, inr, arith, length}
 use Rattle.std.specs.List.{filter, flat_map, list_any, range_with_len}
-use Rattle.std.specs.Option.{option_copied}
-use Rattle.std.proofs.lemmas.Bool.{cases_Bool, cond-true, cond-false, or_right, and_parts, and_from, not-true, eq-eqb, eqb-true}
+use Rattle.std.proofs.lemmas.Bool.{cases_Bool, or_right, and_parts, and_from, not-true, eq-eqb, eqb-true}
 use Rattle.std.proofs.lemmas.Bool.Decides.{nat_tests}
-use Rattle.std.proofs.lemmas.List.{map-append}
 use Rattle.snippet_model.specs.declared.snippet.Annotation.{Annotation}
 use Rattle.snippet_model.specs.declared.snippet.AnnotationKind.TheVariants.{Primary}
 use Rattle.snippet_parts.specs.declared.depths.LongExtent.{LongExtent}
@@ -14,7 +12,8 @@ use Rattle.snippet_parts.specs.declared.entries.LineAnnotation.{LineAnnotation}
 use Rattle.snippet_parts.specs.declared.entries.LineAnnotationType.{LineAnnotationType}
 use Rattle.snippet_parts.specs.declared.entries.LineAnnotationType.TheVariants.{Singleline, MultilineEnd}
 use Rattle.snippet_lines.specs.declared.place.Loc.{Loc}
-use Rattle.snippet_parts.specs.Annotated.{PartEntry, seen_part, long_entry, long_place, is_long, long_spans, bar_lines}
+use Rattle.snippet_parts.specs.Annotated.{long_entry, long_place, is_long, long_spans}
+use Rattle.snippet_parts.specs.LongSpans.{bar_lines}
 use Rattle.snippet_parts.specs.Annotated.{bar_part, single_part}
 use Rattle.snippet_parts.specs.Annotated.{start_part, end_part, span_parts, promoted, long_parts, made_parts, parts_on, KeptLine}
 use Rattle.snippet_parts.specs.Annotated.{seen_kept, kept_line, annotated_lines}
@@ -23,7 +22,7 @@ use Rattle.snippet_parts.specs.Kept.{keeps, kept_lines}
 use Rattle.snippet_lines.specs.Lines.{Source, source_lines}
 use Rattle.snippet_window.specs.Margin.{margin_bounds}
 use Rattle.snippet_parts.specs.Mark.{is_marking, is_single_line}
-use Rattle.snippet_parts.specs.Marked.{Entry, first_line, last_line}
+use Rattle.snippet_parts.specs.Marked.{first_line, last_line}
 use Rattle.snippet_window.specs.Extent.{ReachesLines, columns_of, ends_of, entries_of, line_texts, with_columns}
 use Rattle.snippet_window.specs.Measures.{end_with, margin_of}
 use Rattle.snippet_parts.specs.Least.{greatest, least}
@@ -53,45 +52,26 @@ abbrev ends : Measure
 ends start end label = end_with end.display label ∷ []
 
 -- what is measured of a part
-abbrev pub measured : Measure → PartEntry → List ℕ
-measured g p = g p.entry.start p.entry.end p.entry.label
+abbrev pub measured : Measure → LineAnnotation → List ℕ
+measured g p = g p.start p.end p.label
 
 -- whether a part has columns
-abbrev has_columns : PartEntry → Bool
-has_columns p = not (is_bar p.part)
+abbrev has_columns : LineAnnotation → Bool
+has_columns p = not (is_bar p.annotation_type)
 
-abbrev measured_parts : Measure → List PartEntry → List ℕ
+abbrev measured_parts : Measure → List LineAnnotation → List ℕ
 measured_parts g ps = flat_map (measured g) (filter has_columns ps)
 
 -- ---- entries as they are seen
-
-measured_entries : (g : Measure) (es : List LineAnnotation)
-    → flat_map (λ (e : LineAnnotation). g e.start e.end (option_copied e.label)) (with_columns es) ≡ measured_parts g (map seen_part es)
-measured_entries g [] = refl
-measured_entries g (e ∷ es) =
-    let here : List ℕ = g e.start e.end (option_copied e.label) in
-    let read : LineAnnotation → List ℕ = λ x. g x.start x.end (option_copied x.label) in
-    elim (cases_Bool (not (is_bar e.annotation_type))) [
-      | inl some ↦ ap (flat_map read) (cond-true (not (is_bar e.annotation_type)) (e ∷ with_columns es) (with_columns es) some)
-          ∙ ap (λ ns. here ++ ns) (measured_entries g es)
-          ∙ sym (ap (flat_map (measured g))
-          (cond-true (not (is_bar e.annotation_type)) (seen_part e ∷ filter has_columns (map seen_part es)) (filter has_columns (map seen_part es))
-          some))
-      | inr none ↦ ap (flat_map read) (cond-false (not (is_bar e.annotation_type)) (e ∷ with_columns es) (with_columns es) none)
-          ∙ measured_entries g es ∙ sym
-          (ap (flat_map (measured g))
-          (cond-false (not (is_bar e.annotation_type)) (seen_part e ∷ filter has_columns (map seen_part es)) (filter has_columns (map seen_part es))
-          none))
-    ]
 
 single_list : {X : Type 0} (f : X → ℕ) (xs : List X) → map f xs ≡ flat_map (λ x. f x ∷ []) xs
 single_list f [] = refl
 single_list f (x ∷ xs) = ap (λ ns. f x ∷ ns) (single_list f xs)
 
-seen_entries : (infos : List AnnotatedLineInfo) → map seen_part (entries_of infos) ≡ flat_map (λ (l : KeptLine). l.parts) (map seen_kept infos)
+seen_entries : (infos : List AnnotatedLineInfo) → entries_of infos ≡ flat_map (λ (l : KeptLine). l.parts) (map seen_kept infos)
 seen_entries [] = refl
 seen_entries (info ∷ infos) =
-    map-append seen_part info.annotations.items (entries_of infos) ∙ ap (λ ps. map seen_part info.annotations.items ++ ps) (seen_entries infos)
+    ap (λ ps. info.annotations.items ++ ps) (seen_entries infos)
 
 seen_texts : (infos : List AnnotatedLineInfo) → line_texts infos ≡ map (λ (l : KeptLine). chars l.text) (map seen_kept infos)
 seen_texts [] = refl
@@ -104,7 +84,7 @@ kept_texts s marks (k ∷ ks) = ap (λ ts. chars_at s.text k ∷ ts) (kept_texts
 -- ---- what is measured of a span
 
 -- what is measured of a span of several lines: its start, and its end
-abbrev pub measured_long : Measure → Entry → List ℕ
+abbrev pub measured_long : Measure → LineAnnotation → List ℕ
 measured_long g e = measured g (start_part e 0) ++ measured g (end_part e Singleline)
 
 abbrev measured_span : Measure → Source → Annotation → List ℕ
@@ -133,12 +113,13 @@ long_span g s a long =
     ∙ ap (λ b. cond b (measured g (single_part s a)) (measured_long g (long_entry s a))) (not-true (is_single_line s.text a) both.1)
 
 -- the kind with which a span is drawn isn't measured
-drawn_start : (g : Measure) (before : List Entry) (e : Entry) (depth : ℕ) → measured g (start_part (promoted before e) depth) ≡ measured g (start_part e 0)
+drawn_start : (g : Measure) (before : List LineAnnotation) (e : LineAnnotation) (depth : ℕ)
+    → measured g (start_part (promoted before e) depth) ≡ measured g (start_part e 0)
 drawn_start g before e depth =
     elim (is_promoted before e) as (λ b. measured g (start_part (cond b (record e { kind = Primary }) e) depth)
     ≡ measured g (start_part e 0)) [ true ↦ refl | false ↦ refl ]
 
-drawn_end : (g : Measure) (before : List Entry) (e : Entry) (part : LineAnnotationType)
+drawn_end : (g : Measure) (before : List LineAnnotation) (e : LineAnnotation) (part : LineAnnotationType)
     → measured g (end_part (promoted before e) part) ≡ measured g (end_part e Singleline)
 drawn_end g before e part =
     elim (is_promoted before e) as (λ b. measured g (end_part (cond b (record e { kind = Primary }) e) part)
@@ -147,13 +128,14 @@ drawn_end g before e part =
 -- ---- what is measured of the parts is measured of the spans
 
 -- each bar has no columns
-bars_none : (e : Entry) (depth first : ℕ) (ks : List ℕ) (p : PartEntry) → Among (map (λ k. bar_part e depth (first + k)) ks) p → has_columns p ≡ true → ⊥
+bars_none : (e : LineAnnotation) (depth first : ℕ) (ks : List ℕ) (p : LineAnnotation) → Among (map (λ k. bar_part e depth (first + k)) ks) p
+    → has_columns p ≡ true → ⊥
 bars_none e depth first ks p here some =
     let bar = map_cases (λ k. bar_part e depth (first + k)) ks p here in
     let none : has_columns p ≡ false = ap has_columns (sym bar.2) in
     absurd cc
 
-span_part : (g : Measure) (s : Source) (before : List Entry) (depth : ℕ) (again : Bool) (e : Entry) (p : PartEntry) (c : ℕ)
+span_part : (g : Measure) (s : Source) (before : List LineAnnotation) (depth : ℕ) (again : Bool) (e : LineAnnotation) (p : LineAnnotation) (c : ℕ)
     → Among (span_parts s depth again (promoted before e)) p → has_columns p ≡ true → Among (measured g p) c → Among (measured_long g e) c
 span_part g s before depth true e p c (inl same) some inside =
     among_right (measured g (start_part e 0)) (measured g (end_part e Singleline)) c
@@ -175,8 +157,9 @@ span_part g s before depth false e p c (inr later) some inside =
         (subst (λ ns. Among ns c) (ap (measured g) (sym same) ∙ drawn_end g before e (MultilineEnd depth)) inside)
     closing (inr none) = absurd none
 
-long_part : (g : Measure) (s : Source) (places : List LongExtent) (before es : List Entry) (p : PartEntry) (c : ℕ) → Among (long_parts s places before es) p
-    → has_columns p ≡ true → Among (measured g p) c → (e : Entry) × Among es e × Among (measured_long g e) c
+long_part : (g : Measure) (s : Source) (places : List LongExtent) (before es : List LineAnnotation) (p : LineAnnotation) (c : ℕ)
+    → Among (long_parts s places before es) p
+    → has_columns p ≡ true → Among (measured g p) c → (e : LineAnnotation) × Among es e × Among (measured_long g e) c
 long_part g s places before [] p c here some inside = absurd here
 long_part g s places before (e ∷ later) p c here some inside =
     elim (append_cases (span_parts s (depth_among places (long_place e)) (stands_among e later) (promoted before e))
@@ -186,7 +169,7 @@ long_part g s places before (e ∷ later) p c here some inside =
     ]
 
 -- an entry among the spans of several lines stands for one of them
-long_among : (s : Source) (marks : List Annotation) (e : Entry) → Among (long_spans s marks) e
+long_among : (s : Source) (marks : List Annotation) (e : LineAnnotation) → Among (long_spans s marks) e
     → (a : Annotation) × Among marks a × (is_long s.text a ≡ true) × (long_entry s a ≡ e)
 long_among s marks e here =
     let found = map_cases (long_entry s) (filter (is_long s.text) marks) e
@@ -194,7 +177,7 @@ long_among s marks e here =
     let taken = filter_cases (is_long s.text) marks found.0 found.1 in
     (found.0, taken.0, taken.1, found.2)
 
-made_part : (g : Measure) (s : Source) (marks : List Annotation) (p : PartEntry) (c : ℕ) → Among (made_parts s marks) p → has_columns p ≡ true
+made_part : (g : Measure) (s : Source) (marks : List Annotation) (p : LineAnnotation) (c : ℕ) → Among (made_parts s marks) p → has_columns p ≡ true
     → Among (measured g p) c → Among (flat_map (measured_span g s) marks) c
 made_part g s marks p c here some inside =
     elim (append_cases (map (single_part s) (filter (is_short s.text) marks)) (long_parts s (long_places s marks) [] (long_spans s marks)) p here) [
@@ -211,15 +194,15 @@ made_part g s marks p c here some inside =
     ]
 
 -- the parts of the kept lines
-abbrev kept_parts : Bool → Source → List Annotation → List PartEntry
+abbrev kept_parts : Bool → Source → List Annotation → List LineAnnotation
 kept_parts fold s marks = flat_map (λ (l : KeptLine). l.parts) (annotated_lines fold s marks)
 
-kept_part : (fold : Bool) (s : Source) (marks : List Annotation) (p : PartEntry) → Among (kept_parts fold s marks) p → Among (made_parts s marks) p
+kept_part : (fold : Bool) (s : Source) (marks : List Annotation) (p : LineAnnotation) → Among (kept_parts fold s marks) p → Among (made_parts s marks) p
 kept_part fold s marks p here =
     let line = flat_map_cases (λ (l : KeptLine). l.parts) (annotated_lines fold s marks) p here in
     let number = map_cases (kept_line s marks) (kept_lines fold s.text marks) line.0 line.1 in
     let on : Among (parts_on s marks number.0) p = subst (λ (l : KeptLine). Among l.parts p) (sym number.2) line.2 in
-    (filter_cases (λ (q : PartEntry). eqb q.entry.start.line (s.first + number.0)) (made_parts s marks) p on).0
+    (filter_cases (λ (q : LineAnnotation). eqb q.start.line (s.first + number.0)) (made_parts s marks) p on).0
 
 parts_there : (g : Measure) (fold : Bool) (s : Source) (marks : List Annotation) (c : ℕ) → Among (measured_parts g (kept_parts fold s marks)) c
     → Among (flat_map (measured_span g s) marks) c
@@ -230,21 +213,21 @@ parts_there g fold s marks c here =
 
 -- ---- what is measured of the spans is measured of the parts
 
-drawn_start_line : (before : List Entry) (e : Entry) → (promoted before e).start.line ≡ e.start.line
+drawn_start_line : (before : List LineAnnotation) (e : LineAnnotation) → (promoted before e).start.line ≡ e.start.line
 drawn_start_line before e =
     elim (is_promoted before e) as (λ b. (cond b (record e { kind = Primary }) e).start.line ≡ e.start.line) [ true ↦ refl | false ↦ refl ]
 
-drawn_end_line : (before : List Entry) (e : Entry) → (promoted before e).end.line ≡ e.end.line
+drawn_end_line : (before : List LineAnnotation) (e : LineAnnotation) → (promoted before e).end.line ≡ e.end.line
 drawn_end_line before e =
     elim (is_promoted before e) as (λ b. (cond b (record e { kind = Primary }) e).end.line ≡ e.end.line) [ true ↦ refl | false ↦ refl ]
 
 -- a part with columns on this line, of which these numbers are measured
-abbrev Stands : Measure → List PartEntry → ℕ → List ℕ → Type 0
+abbrev Stands : Measure → List LineAnnotation → ℕ → List ℕ → Type 0
 Stands g ps line ns =
-    (p : PartEntry) × Among ps p × (has_columns p ≡ true) × (p.entry.start.line ≡ line) × (measured g p ≡ ns)
+    (p : LineAnnotation) × Among ps p × (has_columns p ≡ true) × (p.start.line ≡ line) × (measured g p ≡ ns)
 
 -- the end of a span has a part
-span_end : (g : Measure) (s : Source) (before : List Entry) (depth : ℕ) (again : Bool) (e : Entry)
+span_end : (g : Measure) (s : Source) (before : List LineAnnotation) (depth : ℕ) (again : Bool) (e : LineAnnotation)
     → Stands g (span_parts s depth again (promoted before e)) e.end.line (measured g (end_part e Singleline))
 span_end g s before depth true e =
     (end_part (promoted before e) Singleline, inl refl, refl, drawn_end_line before e, drawn_end g before e Singleline)
@@ -254,7 +237,7 @@ span_end g s before depth false e =
     let p = end_part x (MultilineEnd depth) in
     (p, inr (among_right bars (p ∷ []) p (inl refl)), refl, drawn_end_line before e, drawn_end g before e (MultilineEnd depth))
 
-end_there : (g : Measure) (s : Source) (places : List LongExtent) (before es : List Entry) (e : Entry) → Among es e
+end_there : (g : Measure) (s : Source) (places : List LongExtent) (before es : List LineAnnotation) (e : LineAnnotation) → Among es e
     → Stands g (long_parts s places before es) e.end.line (measured g (end_part e Singleline))
 end_there g s places before [] e here = absurd here
 end_there g s places before (d ∷ later) e (inl same) =
@@ -265,8 +248,8 @@ end_there g s places before (d ∷ later) e (inl same) =
       among_left (span_parts s depth again (promoted before d)) (long_parts s places (before ++ d ∷ []) later) found.0 found.1,
       found.2,
       found.3
-          ∙ ap (λ (x : Entry). x.end.line) same,
-      found.4 ∙ ap (λ (x : Entry). measured g (end_part x Singleline)) same,
+          ∙ ap (λ (x : LineAnnotation). x.end.line) same,
+      found.4 ∙ ap (λ (x : LineAnnotation). measured g (end_part x Singleline)) same,
     )
 end_there g s places before (d ∷ later) e (inr more) =
     let depth = depth_among places (long_place d) in
@@ -281,18 +264,19 @@ end_there g s places before (d ∷ later) e (inr more) =
     )
 
 -- of the spans of one place the last has a part at its start
-abbrev StandsSomewhere : Measure → Source → List LongExtent → List Entry → List Entry → Entry → Type 0
+abbrev StandsSomewhere : Measure → Source → List LongExtent → List LineAnnotation → List LineAnnotation → LineAnnotation → Type 0
 StandsSomewhere g s places before es e =
-    (d : Entry) × Among es d × (d.start.byte ≡ e.start.byte) × Stands g (long_parts s places before es) d.start.line (measured g (start_part d 0))
+    (d : LineAnnotation) × Among es d × (d.start.byte ≡ e.start.byte) × Stands g (long_parts s places before es) d.start.line (measured g (start_part d 0))
 
-later_stands : (g : Measure) (s : Source) (places : List LongExtent) (before later : List Entry) (d e : Entry)
+later_stands : (g : Measure) (s : Source) (places : List LongExtent) (before later : List LineAnnotation) (d e : LineAnnotation)
     → StandsSomewhere g s places (before ++ d ∷ []) later e → StandsSomewhere g s places before (d ∷ later) e
 later_stands g s places before later d e found =
     let first = span_parts s (depth_among places (long_place d)) (stands_among d later) (promoted before d) in
     let part = found.3 in
     (found.0, inr found.1, found.2, (part.0, among_right first (long_parts s places (before ++ d ∷ []) later) part.0 part.1, part.2, part.3, part.4))
 
-start_there : (g : Measure) (s : Source) (places : List LongExtent) (before es : List Entry) (e : Entry) → Among es e → StandsSomewhere g s places before es e
+start_there : (g : Measure) (s : Source) (places : List LongExtent) (before es : List LineAnnotation) (e : LineAnnotation) → Among es e
+    → StandsSomewhere g s places before es e
 start_there g s places before [] e here = absurd here
 start_there g s places before (d ∷ later) e (inr more) =
     later_stands g s places before later d e (start_there g s places (before ++ d ∷ []) later e more)
@@ -306,14 +290,14 @@ start_there g s places before (d ∷ later) e (inl same) =
           && (eqb d.start.line next.0.start.line && eqb d.end.line next.0.end.line)) next.2 in
           let byte : d.start.byte ≡ next.0.start.byte = eqb-true d.start.byte next.0.start.byte place.0 in
           let found = start_there g s places (before ++ d ∷ []) later next.0 next.1 in
-          later_stands g s places before later d e (found.0, found.1, found.2 ∙ sym byte ∙ ap (λ (x : Entry). x.start.byte) same, found.3)
+          later_stands g s places before later d e (found.0, found.1, found.2 ∙ sym byte ∙ ap (λ (x : LineAnnotation). x.start.byte) same, found.3)
       | inr last ↦
           let p = start_part (promoted before d) depth in
           let here : Among (span_parts s depth (stands_among d later) (promoted before d)) p = subst (λ b.
           Among (span_parts s depth b (promoted before d)) p) (sym last) (inl refl) in (
             d,
             inl refl,
-            ap (λ (x : Entry). x.start.byte) same,
+            ap (λ (x : LineAnnotation). x.start.byte) same,
             (
               p,
               among_left
@@ -358,8 +342,8 @@ part_measured : (g : Measure) (fold : Bool) (s : Source) (marks : List Annotatio
     → Stands g (made_parts s marks) (s.first + k) ns → Among ns c → Among (measured_parts g (kept_parts fold s marks)) c
 part_measured g fold s marks k c ns kept found inside =
     let p = found.0 in
-    let on : Among (parts_on s marks k) p = among_filter (λ (q : PartEntry). eqb q.entry.start.line (s.first + k)) (made_parts s marks) p found.1
-    (eq-eqb p.entry.start.line (s.first + k) found.3) in
+    let on : Among (parts_on s marks k) p = among_filter (λ (q : LineAnnotation). eqb q.start.line (s.first + k)) (made_parts s marks) p found.1
+    (eq-eqb p.start.line (s.first + k) found.3) in
     let here : Among (kept_parts fold s marks) p = among_flat_map (λ (l : KeptLine). l.parts) (annotated_lines fold s marks) (kept_line s marks k) p
     (among_map (kept_line s marks) (kept_lines fold s.text marks) k kept) on in
     among_flat_map (measured g) (filter has_columns (kept_parts fold s marks)) p c (among_filter has_columns (kept_parts fold s marks) p here found.2)
@@ -403,9 +387,10 @@ start_back g fold s marks a c spans here long inside =
     let found = long_among s marks there.0 there.1 in
     let b = found.0 in
     let span = all_among (λ (x : Annotation). IsSpan s.text x.span.start x.span.end) marks b spans found.1 in
-    let byte : b.span.start ≡ a.span.start = sym (start_byte s b) ∙ ap (λ (x : Entry). x.start.byte) found.3 ∙ there.2 ∙ start_byte s a in
-    let start : there.0.start ≡ (long_entry s a).start = ap (λ (x : Entry). x.start) (sym found.3) ∙ same_start s b a byte in
-    let line : there.0.start.line ≡ s.first + first_line s.text b = ap (λ (x : Entry). x.start.line) (sym found.3) ∙ start-line s b.span.start b.span.end in
+    let byte : b.span.start ≡ a.span.start = sym (start_byte s b) ∙ ap (λ (x : LineAnnotation). x.start.byte) found.3 ∙ there.2 ∙ start_byte s a in
+    let start : there.0.start ≡ (long_entry s a).start = ap (λ (x : LineAnnotation). x.start) (sym found.3) ∙ same_start s b a byte in
+    let line : there.0.start.line
+    ≡ s.first + first_line s.text b = ap (λ (x : LineAnnotation). x.start.line) (sym found.3) ∙ start-line s b.span.start b.span.end in
     let part = there.3 in
     let read : Loc → List ℕ = λ l. g l (record { line = l.line; char = l.char + 1; display = l.display + 1; byte = l.byte }) None in
     part_measured g fold s marks (first_line s.text b) c (measured g (start_part (long_entry s a) 0))
@@ -456,10 +441,10 @@ bounds_reached room infos x reaches =
     let es = entries_of infos in
     let texts = map (λ (l : KeptLine). chars l.text) lines in
     let parts = filter has_columns (flat_map (λ (l : KeptLine). l.parts) lines) in
-    let end_of : PartEntry → ℕ = λ p. end_with p.entry.end.display p.entry.label in
-    let all_columns : columns_of es ≡ flat_map (measured columns) parts = measured_entries columns es ∙ ap (measured_parts columns) (seen_entries infos) in
-    let all_ends : ends_of es ≡ map end_of parts = single_list (λ (e : LineAnnotation). end_with e.end.display (option_copied e.label)) (with_columns es)
-    ∙ measured_entries ends es ∙ ap (measured_parts ends) (seen_entries infos) ∙ sym (single_list end_of parts) in
+    let end_of : LineAnnotation → ℕ = λ p. end_with p.end.display p.label in
+    let all_columns : columns_of es ≡ flat_map (measured columns) parts = ap (measured_parts columns) (seen_entries infos) in
+    let all_ends : ends_of es ≡ map end_of parts = single_list end_of (with_columns es) ∙ ap (measured_parts ends) (seen_entries infos)
+    ∙ sym (single_list end_of parts) in
     let blank : unwrap_or x.whitespace 0 ≡ unwrap_or (least (whitespaces_of texts)) 0 = ap (λ (o : Option ℕ). unwrap_or o 0) reaches.whitespace
     ∙ ap (λ ts. unwrap_or (least (whitespaces_of ts)) 0) (seen_texts infos) in
     let low : unwrap_or x.first 0 ≡ unwrap_or (least (flat_map (measured columns) parts)) 0 = ap (λ (o : Option ℕ). unwrap_or o 0) reaches.entries.first
@@ -482,7 +467,7 @@ pub margin_of_spans : (room : ℕ) (fold : Bool) (s : Source) (marks : List Anno
     (greatest (widths_of (map (chars_at s.text) (kept_lines fold s.text marks))))
 margin_of_spans room fold s marks spans =
     let parts = filter has_columns (kept_parts fold s marks) in
-    let end_of : PartEntry → ℕ = λ p. end_with p.entry.end.display p.entry.label in
+    let end_of : LineAnnotation → ℕ = λ p. end_with p.end.display p.label in
     let texts = map (chars_at s.text) (kept_lines fold s.text marks) in
     let low : unwrap_or (least (flat_map (measured columns) parts)) 0 ≡ unwrap_or (least (flat_map (span_columns s) marks)) 0 =
     least_same (measured_parts columns (kept_parts fold s marks)) (flat_map (span_columns s) marks) (parts_there columns fold s marks)
