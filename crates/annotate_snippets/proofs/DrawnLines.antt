@@ -1,13 +1,10 @@
 -- The rows of a line are what the spans of the snippet make of it.
-use Rattle.std.proofs.Common.{◌≡◌, ℕ, ◌+◌, ◌<◌, Bool, Option, List, [], ◌∷◌, ◌++◌, Contains, map, length, chars, refl, sym, ap, subst, ◌∙◌}
-use Rattle.std.specs.List.{filter_map}
-use Rattle.std.proofs.lemmas.List.Elements.{filter_map-append}
-use Rattle.snippet_model.specs.AnnotationKind.{is_primary}
+use Rattle.std.proofs.Common.{◌≡◌, ℕ, ◌+◌, ◌<◌, Bool, List, Contains, length, chars, sym, ap, subst}
 use Rattle.snippet_model.specs.declared.snippet.Annotation.{Annotation}
 use Rattle.snippet_model.specs.declared.snippet.Snippet.{Snippet}
 use Rattle.snippet_style.specs.Cell.{Cell, unlinked_cell}
 use Rattle.snippet_text.specs.Normalized.{norm}
-use Rattle.snippet_parts.specs.Annotated.{KeptLine, PartEntry, kept_line, seen_kept, seen_part}
+use Rattle.snippet_parts.specs.Annotated.{KeptLine, kept_line, seen_kept}
 use Rattle.snippet_parts.specs.declared.entries.AnnotatedLineInfo.{AnnotatedLineInfo}
 use Rattle.snippet_parts.specs.declared.entries.LineAnnotation.{LineAnnotation}
 use Rattle.snippet_window.specs.declared.margin.Margin.{Margin}
@@ -15,29 +12,21 @@ use Rattle.snippet_lines.specs.Number.{shown_number}
 use Rattle.snippet_lines.specs.declared.number.LineNumbers.{LineNumbers}
 use Rattle.snippet_grid.specs.Grid.{cell_at}
 use Rattle.snippet_style.specs.Glyphs.{strokes_of, underline_role}
-use Rattle.snippet_strokes.specs.Bars.{Bar, HasOwnDepth, bar_at, bar_of, bars_apart, ends_of_bars}
+use Rattle.snippet_strokes.specs.Bars.{Bar, HasOwnDepth, bars_apart, ends_of_bars}
 use Rattle.snippet_strokes.specs.SourceRows.{window_cells}
 use Rattle.snippet_strokes.proofs.LineFacts.{IsSourceRow, ShowsLine}
 use Rattle.snippet_strokes.proofs.BarLaws.{bar_past}
 use Rattle.annotate_snippets.specs.declared.renderer.Renderer.{Renderer}
 use Rattle.snippet_grid.specs.Layout.{Layout}
 use Rattle.annotate_snippets.specs.Gutter.{line_numbers, number_text, numbered_source}
-use Rattle.annotate_snippets.specs.GraphicForm.{bars_on, entries_on}
+use Rattle.annotate_snippets.proofs.LineWords.{bars_on, entries_on}
 use Rattle.annotate_snippets.proofs.DrawnRows.{IsLineDrawn}
 use Rattle.annotate_snippets.specs.GraphicForm.{margin_in}
 use Rattle.annotate_snippets.proofs.MarginWords.{room_of}
 
-bars_of_parts : (es : List LineAnnotation) → ends_of_bars es ≡ filter_map (λ (p : PartEntry). bar_at p.part (is_primary p.entry.kind)) (map seen_part es)
-bars_of_parts [] = refl
-bars_of_parts (e ∷ es) =
-    let h : PartEntry → Option Bar = λ p. bar_at p.part (is_primary p.entry.kind) in
-    filter_map-append bar_of (e ∷ []) es ∙ ap (λ bs. filter_map h (seen_part e ∷ []) ++ bs) (bars_of_parts es)
-    ∙ sym (filter_map-append h (seen_part e ∷ []) (map seen_part es))
-
 -- the bars of a line's entries are those of its spans
-pub bars_seen : (s : Snippet Annotation) (k : ℕ) (es : List LineAnnotation) → map seen_part es ≡ entries_on s k → ends_of_bars es ≡ bars_on s k
-bars_seen s k es are =
-    bars_of_parts es ∙ ap (filter_map (λ (p : PartEntry). bar_at p.part (is_primary p.entry.kind))) are
+pub bars_seen : (s : Snippet Annotation) (k : ℕ) (es : List LineAnnotation) → es ≡ entries_on s k → ends_of_bars es ≡ bars_on s k
+bars_seen s k es are = ap ends_of_bars are
 
 module _ (r : Renderer) (layout : Layout) (s : Snippet Annotation) (margin : Margin) (room : margin.term_width ≡ room_of r layout)
     (margin_is : margin ≡ margin_in r layout s) where

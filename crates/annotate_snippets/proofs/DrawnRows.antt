@@ -1,12 +1,13 @@
 -- What laws are proved from: what is known of the rows that the graphic form has for a line, and in place of lines (PageLemmas).
-use Rattle.std.proofs.Common.{◌≡◌, ℕ, ◌+◌, ◌-◌, ◌==◌, ◌&&◌, Bool, not, List, [], ◌∷◌, filter, length, map}
+use Rattle.std.proofs.Common.{◌≡◌, ℕ, ◌+◌, ◌-◌, ◌==◌, ◌&&◌, Bool, not, List, [], ◌∷◌, filter, length}
 use Rattle.snippet_model.specs.declared.snippet.Annotation.{Annotation}
 use Rattle.snippet_model.specs.declared.snippet.Snippet.{Snippet}
 use Rattle.std.specs.Cow.{cow_str_bytes}
 use Rattle.snippet_style.specs.Cell.{Cell}
 use Rattle.snippet_text.specs.Normalized.{norm}
 use Rattle.snippet_text.specs.Width.{width_of}
-use Rattle.snippet_parts.specs.Annotated.{seen_part}
+use Rattle.snippet_parts.specs.Annotated.{annotated_lines}
+use Rattle.snippet_window.specs.Measures.{margin_of}
 use Rattle.snippet_window.specs.Window.{chars_at, dropped_part}
 use Rattle.snippet_parts.specs.declared.entries.LineAnnotation.{LineAnnotation}
 use Rattle.snippet_window.specs.declared.margin.Margin.{Margin}
@@ -17,8 +18,10 @@ use Rattle.snippet_strokes.proofs.LineFacts.{AreLineRows, IsHighlighted, IsSourc
 use Rattle.snippet_strokes.specs.Snippet.{gap_row}
 use Rattle.annotate_snippets.specs.declared.renderer.Renderer.{Renderer}
 use Rattle.snippet_grid.specs.Layout.{Layout}
-use Rattle.annotate_snippets.specs.GraphicForm.{bars_on, entries_on, margin_in}
+use Rattle.annotate_snippets.specs.GraphicForm.{margin_in}
 use Rattle.annotate_snippets.specs.Gutter.{number_text}
+use Rattle.annotate_snippets.proofs.LineWords.{bars_on, entries_on}
+use Rattle.annotate_snippets.specs.Gutter.{numbered_source}
 use Rattle.annotate_snippets.specs.Page.{RowName, SourceRow, Elision, OfferedLine, RemovedLine, Other, NamedRow, rows_below}
 
 -- the bars that are open below a row of this name, where these are open above it
@@ -35,7 +38,7 @@ open_after s Other open_bars = open_bars
 pub record IsLineDrawn (r : Renderer) (layout : Layout) (closes : Bool) (s : Snippet Annotation) (open_bars : List Bar) (k : ℕ)
     (rows : List (List Cell)) : Type 0 where
   pub entries : List LineAnnotation
-  pub are : map seen_part entries ≡ entries_on s k
+  pub are : entries ≡ entries_on s k
   pub margin : Margin
   pub room : margin.term_width ≡ r.term_width - layout.code
   pub margin_is : margin ≡ margin_in r layout s

@@ -13,7 +13,8 @@ use Rattle.snippet_strokes.specs.Bars.{Bar, open_past}
 use Rattle.snippet_strokes.specs.Snippet.{gap_row}
 use Rattle.snippet_grid.specs.Layout.{Layout}
 use Rattle.annotate_snippets.specs.declared.renderer.Renderer.{Renderer}
-use Rattle.annotate_snippets.specs.GraphicForm.{bars_on, entries_on, gap_below, line_entry, margin_in, named_line, rows_of_line, rows_of_lines}
+use Rattle.annotate_snippets.specs.GraphicForm.{gap_below, margin_in, named_line, rows_of_line, rows_of_lines}
+use Rattle.annotate_snippets.proofs.LineWords.{bars_on, entries_on}
 use Rattle.annotate_snippets.specs.Page.{Elision, NamedRow, OfferedLine, Other, RemovedLine, RowName, SourceRow, others, rows_below, shows_lines}
 use Rattle.annotate_snippets.proofs.LabelLemmas.{head_same, tail_same}
 use Rattle.annotate_snippets.proofs.LineRowValues.{line_rows-some}
@@ -116,7 +117,7 @@ module _ (r : Renderer) (layout : Layout) (s : Snippet Annotation) where
       let margin : Margin = margin_in r layout s in
       let text : List ℕ = norm (chars_at (cow_str_bytes s.source) k) in
       line_rows-some layout margin.term_width closes text (width_of (dropped_part margin.computed_left text)) _ open_bars
-      (map line_entry (entries_on s k))
+      (entries_on s k)
 
   -- and these are the names of those that show lines, or stand in place of lines
   pub names_of_rows : (closes : Bool) (open_bars : List Bar) (ks : List ℕ) → names_in (rows_of_lines r layout closes s open_bars ks) ≡ names_of_lines ks

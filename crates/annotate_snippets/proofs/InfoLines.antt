@@ -1,11 +1,8 @@
 -- A snippet's line with its entries, as painters are given it, made from the snippet alone; and what holds of those that are shown.
-use Rattle.std.proofs.Common.{◌≡◌, ℕ, ◌+◌, ◌<◌, ◌≤◌, ◌&&◌, not, All, IfSome, IsUtf8, Bor, get_or, List, [], ◌∷◌, Option, None, Some, map, length}
+use Rattle.std.proofs.Common.{◌≡◌, ℕ, ◌+◌, ◌<◌, ◌≤◌, ◌&&◌, not, All, get_or, List, [], ◌∷◌, map, length}
 use Rattle.std.proofs.Common.{refl, sym, ap, ◌∙◌, arith}
-use Rattle.std.proofs.lemmas.List.{length-map}
-use Rattle.std.proofs.lemmas.List.Elements.{All-map, All-weaker}
 use Rattle.std.specs.Cow.{cow_str_bytes}
 use Rattle.std.specs.List.{list_any}
-use Rattle.std.specs.Option.{option_map}
 use Rattle.snippet_grid.specs.Layout.{Layout}
 use Rattle.snippet_lines.specs.Lines.{Source, source_lines, text_at}
 use Rattle.snippet_lines.specs.Number.{shown_number}
@@ -13,7 +10,7 @@ use Rattle.snippet_lines.specs.Span.{IsSpan}
 use Rattle.snippet_model.specs.declared.snippet.Annotation.{Annotation}
 use Rattle.snippet_model.specs.declared.snippet.Element.TheVariants.{Cause}
 use Rattle.snippet_model.specs.declared.snippet.Snippet.{Snippet}
-use Rattle.snippet_parts.specs.Annotated.{PartEntry, annotated_lines, kept_line, seen_kept}
+use Rattle.snippet_parts.specs.Annotated.{annotated_lines, kept_line, seen_kept}
 use Rattle.snippet_parts.specs.Entries.{AllEntries, HasColumnRoom}
 use Rattle.snippet_parts.specs.Kept.{kept_lines, shown_lines}
 use Rattle.snippet_parts.specs.Located as labels
@@ -30,22 +27,22 @@ use Rattle.snippet_window.specs.Measures.{StandsClear, margin_of}
 use Rattle.snippet_window.specs.declared.margin.Margin.{Margin}
 use Rattle.snippet_window.proofs.MarginFacts.{margin_of_lines, margin_seen, lines_clear, lines_sound}
 use Rattle.annotate_snippets.specs.DrawnReport.{HasRoomFor}
-use Rattle.annotate_snippets.specs.GraphicForm.{entries_on, lent, line_entry, margin_in}
+use Rattle.annotate_snippets.specs.GraphicForm.{margin_in}
 use Rattle.annotate_snippets.proofs.MarginWords.{room_of}
+use Rattle.annotate_snippets.proofs.LineWords.{entries_on}
 use Rattle.annotate_snippets.specs.Gutter.{line_numbers, numbered_source}
 use Rattle.annotate_snippets.specs.PreparedReport.{IsDrawable}
 use Rattle.annotate_snippets.specs.declared.renderer.Renderer.{Renderer}
 use Rattle.annotate_snippets.proofs.GutterLemmas.{numbers_fit}
-use Rattle.annotate_snippets.proofs.LineValue.{parts_seen}
 use Rattle.annotate_snippets.proofs.PartsFacts.{lines_entries, shown_clear, snippet_shown-within}
 
 module _ (s : Snippet Annotation) (spans : All (λ a. IsSpan (cow_str_bytes s.source) a.span.start a.span.end) s.markers.items) where
   -- line k with its entries, of which there are no more than spans
   abbrev pub info_at : ℕ → AnnotatedLineInfo
   info_at k =
-      let es : List LineAnnotation = map line_entry (entries_on s k) in
+      let es : List LineAnnotation = entries_on s k in
       record {
-        line = lent (text_at (source_lines (cow_str_bytes s.source)) k);
+        line = record { ref_ptr = (0, 0); now = text_at (source_lines (cow_str_bytes s.source)) k };
         line_index = s.line_start + k;
         annotations = record {
           ptr = s.markers.ptr;
@@ -57,7 +54,6 @@ module _ (s : Snippet Annotation) (spans : All (λ a. IsSpan (cow_str_bytes s.so
           small = omega (
             arith,
             s.markers.small,
-            length-map (entries_on s k) line_entry,
             parts_on-few (numbered_source s) s.markers.items k spans,
           );
         };
@@ -66,8 +62,7 @@ module _ (s : Snippet Annotation) (spans : All (λ a. IsSpan (cow_str_bytes s.so
 
   -- it is seen as line k
   pub seen_at : (k : ℕ) → seen_kept (info_at k) ≡ kept_line (numbered_source s) s.markers.items k
-  seen_at k =
-      ap (λ parts. record (kept_line (numbered_source s) s.markers.items k) { parts = parts }) (parts_seen (entries_on s k))
+  seen_at k = refl
 
   pub infos_seen : (ks : List ℕ) → map seen_kept (map info_at ks) ≡ map (kept_line (numbered_source s) s.markers.items) ks
   infos_seen [] = refl
@@ -87,13 +82,7 @@ module _ (s : Snippet Annotation) (spans : All (λ a. IsSpan (cow_str_bytes s.so
 
   -- the labels of entries are texts, where those of annotations are
   entry_texts : (k : ℕ) → All labels.HasTextLabel s.markers.items → All HasTextLabel (info_at k).annotations.items
-  entry_texts k texts =
-      All-map HasTextLabel line_entry (entries_on s k) (All-weaker (λ (p : PartEntry). IfSome p.entry.label IsUtf8) (λ (p : PartEntry).
-      HasTextLabel (line_entry p)) (λ p text. of p.entry.label text) (entries_on s k) (label-texts (numbered_source s) s.markers.items k texts))
-    where
-      of : (label : Option (List ℕ)) → IfSome label IsUtf8 → IfSome (option_map lent label) (λ (t : Bor (List ℕ)). IsUtf8 t.now)
-      of None text = tt
-      of (Some t) text = text
+  entry_texts k texts = label-texts (numbered_source s) s.markers.items k texts
 
 module _ (r : Renderer) (layout : Layout) (s : Snippet Annotation) (drawable : IsDrawable s) where
   abbrev source : Source

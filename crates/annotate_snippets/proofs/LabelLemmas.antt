@@ -12,28 +12,30 @@ use Rattle.snippet_style.specs.Cell.{Cell, unlinked_cell}
 use Rattle.snippet_model.specs.declared.snippet.Annotation.{Annotation}
 use Rattle.snippet_model.specs.declared.snippet.AnnotationKind.{AnnotationKind}
 use Rattle.snippet_lines.specs.Lines.{Source}
-use Rattle.snippet_parts.specs.Annotated.{PartEntry, promoted, end_part, long_parts, long_place, long_spans, made_parts, parts_on}
-use Rattle.snippet_parts.specs.Annotated.{seen_part, single_part, span_parts, start_part}
+use Rattle.snippet_parts.specs.Annotated.{promoted, end_part, long_parts, long_place, long_spans, made_parts, parts_on}
+use Rattle.snippet_parts.specs.Annotated.{single_part, span_parts, start_part}
 use Rattle.snippet_parts.specs.Depths.{depth_among}
 use Rattle.snippet_parts.specs.declared.depths.LongExtent.{LongExtent}
 use Rattle.snippet_model.specs.declared.snippet.Snippet.{Snippet}
 use Rattle.annotate_snippets.specs.Gutter.{numbered_source}
 use Rattle.snippet_parts.specs.Mark.{end_column, is_marked_on, is_marking, is_single_line, start_column}
-use Rattle.snippet_parts.specs.Marked.{Entry, first_line}
+use Rattle.snippet_parts.specs.Marked.{first_line}
 use Rattle.snippet_parts.specs.Entries.{is_bar}
 use Rattle.snippet_parts.specs.declared.entries.LineAnnotation.{LineAnnotation}
 use Rattle.snippet_parts.specs.declared.entries.LineAnnotationType.TheVariants.{Singleline, MultilineEnd}
 use Rattle.snippet_parts.proofs.EntryFacts.{singles-on}
 use Rattle.snippet_parts.proofs.PartLemmas.{filter-none, made-all}
-use Rattle.snippet_parts.specs.Annotated.{bar_lines, bar_part, long_entry}
-use Rattle.snippet_labels.specs.PlacedEntries.{label_role, label_text, shifted}
+use Rattle.snippet_parts.specs.Annotated.{bar_part, long_entry}
+use Rattle.snippet_parts.specs.LongSpans.{bar_lines}
+use Rattle.snippet_labels.specs.PlacedEntries.{label_role, shifted}
+use Rattle.snippet_labels.proofs.LabelWords.{label_text}
 use Rattle.snippet_strokes.proofs.SeenLabels.{IsLabelledAtEnd, IsLedTo, LabelsStand, PlacedLabel, StandsIn, is_cell_of}
 use Rattle.snippet_labels.specs.Positions.{is_start_part}
 use Rattle.snippet_grid.specs.Layout.{Layout}
 use Rattle.annotate_snippets.specs.Laws.Labels.{HasStem, ShowsLabel, ShowsLabels, ShownLabel, SpanLabel, promoted_spans, is_in_label}
 use Rattle.snippet_text.specs.Normalized.{normalized_chars}
 use Rattle.annotate_snippets.specs.Laws.Marks.{shown_label}
-use Rattle.annotate_snippets.proofs.MarkLemmas.{end_of_entry, label_is, start_of_entry}
+use Rattle.annotate_snippets.proofs.MarkLemmas.{end_of_entry, start_of_entry}
 use Rattle.snippet_parts.proofs.PartWords.{entry_of, is_short, long_places, stands_among}
 
 -- lists that are the same begin with the same
@@ -47,13 +49,13 @@ tail_same x y xs ys same = cc
 -- ---- which entries have labels
 
 -- the start of a span of several lines, and a bar, have none
-abbrev HasNoneBefore : PartEntry → Type 0
-HasNoneBefore p = (is_start_part p.part || is_bar p.part) ≡ true → p.entry.label ≡ None
+abbrev HasNoneBefore : LineAnnotation → Type 0
+HasNoneBefore p = (is_start_part p.annotation_type || is_bar p.annotation_type) ≡ true → p.label ≡ None
 
 none_before : (s : Source) (marks : List Annotation) → All HasNoneBefore (made_parts s marks)
 none_before s marks =
     made-all HasNoneBefore s marks (λ a among short wrong. cc wrong) (λ a among long kind.
-    let e : Entry = record (long_entry s a) { kind = kind } in
+    let e : LineAnnotation = record (long_entry s a) { kind = kind } in
     record {
       start = λ _. refl;
       bars = λ i d within _. refl;
@@ -62,23 +64,23 @@ none_before s marks =
     })
 
 -- so an entry of a line has a label only where a span ends
-pub labelled_at_end : (s : Source) (marks : List Annotation) (k dropped : ℕ) (es : List LineAnnotation) → map seen_part es ≡ parts_on s marks k
+pub labelled_at_end : (s : Source) (marks : List Annotation) (k dropped : ℕ) (es : List LineAnnotation) → es ≡ parts_on s marks k
     → All IsLabelledAtEnd (map (shifted dropped) es)
 labelled_at_end s marks k dropped es same =
-    each es (subst (All HasNoneBefore) (sym same) (All-filter (λ (p : PartEntry). p.entry.start.line == s.first + k) HasNoneBefore (made_parts s marks)
+    each es (subst (All HasNoneBefore) (sym same) (All-filter (λ (p : LineAnnotation). p.start.line == s.first + k) HasNoneBefore (made_parts s marks)
     (none_before s marks)))
   where
-    own : (e : LineAnnotation) → HasNoneBefore (seen_part e) → IsLabelledAtEnd (shifted dropped e)
-    own e none before = label_is e.label ∙ no_text (none before)
+    own : (e : LineAnnotation) → HasNoneBefore e → IsLabelledAtEnd (shifted dropped e)
+    own e none before = no_text (none before)
       where
         no_text : {o : Option (List ℕ)} → o ≡ None → normalized_chars o ≡ []
         no_text is = ap normalized_chars is
 
-    each : (xs : List LineAnnotation) → All HasNoneBefore (map seen_part xs) → All IsLabelledAtEnd (map (shifted dropped) xs)
+    each : (xs : List LineAnnotation) → All HasNoneBefore xs → All IsLabelledAtEnd (map (shifted dropped) xs)
     each [] all = All-nil IsLabelledAtEnd
     each (x ∷ xs) all =
-        All-cons IsLabelledAtEnd (shifted dropped x) (map (shifted dropped) xs) (own x (All-head HasNoneBefore (seen_part x) (map seen_part xs) all))
-        (each xs (All-tail HasNoneBefore (seen_part x) (map seen_part xs) all))
+        All-cons IsLabelledAtEnd (shifted dropped x) (map (shifted dropped) xs) (own x (All-head HasNoneBefore x xs all))
+        (each xs (All-tail HasNoneBefore x xs all))
 
 -- ---- the labels of the entries at which spans end
 
@@ -87,41 +89,41 @@ abbrev label_of_span : List ℕ → Annotation → SpanLabel
 label_of_span source a =
     record { text = shown_label a; kind = a.kind; from = start_column source a; to = end_column source a }
 
-abbrev label_of_end : Entry → SpanLabel
+abbrev label_of_end : LineAnnotation → SpanLabel
 label_of_end e =
     record { text = normalized_chars e.label; kind = e.kind; from = e.end.display - 1; to = e.end.display }
 
 -- whether an entry is one at which a span ends
-abbrev ends_here : PartEntry → Bool
-ends_here p = not (is_start_part p.part || is_bar p.part)
+abbrev ends_here : LineAnnotation → Bool
+ends_here p = not (is_start_part p.annotation_type || is_bar p.annotation_type)
 
 -- the label of an entry
-abbrev label_of_part : PartEntry → SpanLabel
+abbrev label_of_part : LineAnnotation → SpanLabel
 label_of_part p =
-    record { text = normalized_chars p.entry.label; kind = p.entry.kind; from = p.entry.start.display; to = p.entry.end.display }
+    record { text = normalized_chars p.label; kind = p.kind; from = p.start.display; to = p.end.display }
 
 -- the labels of those entries, at their places
 abbrev shown_at : LineAnnotation → PlacedLabel → ShownLabel
-shown_at e l = record { label = label_of_part (seen_part e); row = l.row; cell = l.cell }
+shown_at e l = record { label = label_of_part e; row = l.row; cell = l.cell }
 
 shown_labels : List LineAnnotation → List PlacedLabel → List ShownLabel
 shown_labels [] ls = []
 shown_labels (e ∷ es) [] = []
 shown_labels (e ∷ es) (l ∷ ls) =
-    cond (ends_here (seen_part e)) (shown_at e l ∷ shown_labels es ls) (shown_labels es ls)
+    cond (ends_here e) (shown_at e l ∷ shown_labels es ls) (shown_labels es ls)
 
 labels_are : (es : List LineAnnotation) (ls : List PlacedLabel) → length ls ≡ length es
-    → map (λ (l : ShownLabel). l.label) (shown_labels es ls) ≡ map label_of_part (filter ends_here (map seen_part es))
+    → map (λ (l : ShownLabel). l.label) (shown_labels es ls) ≡ map label_of_part (filter ends_here es)
 unfolding shown_labels
 labels_are [] ls long = refl
 labels_are (e ∷ es) [] long = absurd (omega (arith, long))
 labels_are (e ∷ es) (l ∷ ls) long =
-    both (ends_here (seen_part e)) (labels_are es ls (omega (arith, long)))
+    both (ends_here e) (labels_are es ls (omega (arith, long)))
   where
-    both : (b : Bool) → map (λ (x : ShownLabel). x.label) (shown_labels es ls) ≡ map label_of_part (filter ends_here (map seen_part es))
+    both : (b : Bool) → map (λ (x : ShownLabel). x.label) (shown_labels es ls) ≡ map label_of_part (filter ends_here es)
         → map (λ (x : ShownLabel). x.label) (cond b (shown_at e l ∷ shown_labels es ls) (shown_labels es ls))
-        ≡ map label_of_part (cond b (seen_part e ∷ filter ends_here (map seen_part es)) (filter ends_here (map seen_part es)))
-    both true rest = ap (λ xs. label_of_part (seen_part e) ∷ xs) rest
+        ≡ map label_of_part (cond b (e ∷ filter ends_here es) (filter ends_here es))
+    both true rest = ap (λ xs. label_of_part e ∷ xs) rest
     both false rest = rest
 
 module _ (dropped : ℕ) (layout : Layout) (rows_layout : Layout) (code : rows_layout.code ≡ layout.code) (rows : List (List Cell)) where
@@ -134,10 +136,10 @@ module _ (dropped : ℕ) (layout : Layout) (rows_layout : Layout) (code : rows_l
   abbrev Shows : ShownLabel → Type 0
   Shows l = 0 < length l.label.text → ShowsLabel layout dropped rows l
 
-  text_is : (e : LineAnnotation) (l : PlacedLabel) → l.entry ≡ shifted dropped e → label_text l.entry ≡ normalized_chars (seen_part e).entry.label
-  text_is e l entry = ap label_text entry ∙ label_is e.label
+  text_is : (e : LineAnnotation) (l : PlacedLabel) → l.entry ≡ shifted dropped e → label_text l.entry ≡ normalized_chars e.label
+  text_is e l entry = ap label_text entry
 
-  one_label : (e : LineAnnotation) (l : PlacedLabel) → l.entry ≡ shifted dropped e → IsClear e → ends_here (seen_part e) ≡ true → Stands l
+  one_label : (e : LineAnnotation) (l : PlacedLabel) → l.entry ≡ shifted dropped e → IsClear e → ends_here e ≡ true → Stands l
       → Shows (shown_at e l)
   one_label e l entry clear ends stands some =
       let text = text_is e l entry in
@@ -169,7 +171,7 @@ module _ (dropped : ℕ) (layout : Layout) (rows_layout : Layout) (code : rows_l
   all_shown (e ∷ es) (l ∷ ls) entries clear stand =
       let entry = head_same l.entry (shifted dropped e) (map (λ (x : PlacedLabel). x.entry) ls) (map (shifted dropped) es) entries in
       let further = tail_same l.entry (shifted dropped e) (map (λ (x : PlacedLabel). x.entry) ls) (map (shifted dropped) es) entries in
-      both (ends_here (seen_part e)) (one_label e l entry (All-head IsClear e es clear)) (All-head Stands l ls stand)
+      both (ends_here e) (one_label e l entry (All-head IsClear e es clear)) (All-head Stands l ls stand)
       (all_shown es ls further (All-tail IsClear e es clear) (All-tail Stands l ls stand))
     where
       both : (b : Bool) → (b ≡ true → Stands l → Shows (shown_at e l)) → Stands l → All Shows (shown_labels es ls)
@@ -195,7 +197,7 @@ module _ (dropped : ℕ) (layout : Layout) (rows_layout : Layout) (code : rows_l
       let further = tail_same l.entry (shifted dropped e) (map (λ (x : PlacedLabel). x.entry) ls) (map (shifted dropped) es) entries in
       let own : Stemmed shown (shown_at e l) = λ some r under above none.
       All-head (Led all) l ls led (omega (arith, ap length (text_is e l entry), some)) r under above (clear r l.cell none) in
-      both (ends_here (seen_part e)) own (all_led all shown clear es ls further (All-tail (Led all) l ls led))
+      both (ends_here e) own (all_led all shown clear es ls further (All-tail (Led all) l ls led))
     where
       both : (b : Bool) → Stemmed shown (shown_at e l) → All (Stemmed shown) (shown_labels es ls)
           → All (Stemmed shown) (cond b (shown_at e l ∷ shown_labels es ls) (shown_labels es ls))
@@ -213,7 +215,7 @@ module _ (dropped : ℕ) (layout : Layout) (rows_layout : Layout) (code : rows_l
       let further = tail_same l.entry (shifted dropped e) (map (λ (x : PlacedLabel). x.entry) ls) (map (shifted dropped) es) entries in
       let one : is_in_label r c (shown_at e l) ≡ is_cell_of r c l = ap (λ (n : ℕ). l.row == r && (nat_le l.cell c && nat_lt c (l.cell + n)))
       (sym (ap length (text_is e l entry))) in
-      both (ends_here (seen_part e)) one (cells_few r c es ls further)
+      both (ends_here e) one (cells_few r c es ls further)
     where
       both : (b : Bool) → is_in_label r c (shown_at e l) ≡ is_cell_of r c l → count_by (is_in_label r c) (shown_labels es ls) ≤ count_by (is_cell_of r c) ls
           → count_by (is_in_label r c) (cond b (shown_at e l ∷ shown_labels es ls) (shown_labels es ls)) ≤ count_by (is_cell_of r c) (l ∷ ls)
@@ -263,8 +265,8 @@ module _ (dropped : ℕ) (layout : Layout) (rows_layout : Layout) (code : rows_l
 -- ---- which spans these are
 
 -- of the entries of a span of several lines the last one alone is where it ends
-one_end : (s : Source) (k depth : ℕ) (again : Bool) (e : Entry)
-    → map label_of_part (filter ends_here (filter (λ (p : PartEntry). p.entry.start.line == s.first + k) (span_parts s depth again e)))
+one_end : (s : Source) (k depth : ℕ) (again : Bool) (e : LineAnnotation)
+    → map label_of_part (filter ends_here (filter (λ (p : LineAnnotation). p.start.line == s.first + k) (span_parts s depth again e)))
     ≡ map label_of_end (cond (e.end.line == s.first + k) (e ∷ []) [])
 one_end s k depth true e = both (e.end.line == s.first + k)
   where
@@ -272,8 +274,8 @@ one_end s k depth true e = both (e.end.line == s.first + k)
     both true = refl
     both false = refl
 one_end s k depth false e =
-    let bars : List PartEntry = map (λ n. bar_part e depth (s.first + n)) (bar_lines s.text (e.start.line - s.first) (e.end.line - s.first)) in
-    let rest : List PartEntry = bars ++ end_part e (MultilineEnd depth) ∷ [] in
+    let bars : List LineAnnotation = map (λ n. bar_part e depth (s.first + n)) (bar_lines s.text (e.start.line - s.first) (e.end.line - s.first)) in
+    let rest : List LineAnnotation = bars ++ end_part e (MultilineEnd depth) ∷ [] in
     ap (map label_of_part) (first (e.start.line == s.first + k) (filter on_line rest))
     ∙ ap (λ ps. map label_of_part (filter ends_here ps)) (filter-append on_line bars (end_part e (MultilineEnd depth) ∷ []))
     ∙ ap (map label_of_part) (filter-append ends_here (filter on_line bars) (filter on_line (end_part e (MultilineEnd depth) ∷ [])))
@@ -283,10 +285,10 @@ one_end s k depth false e =
     bars (All-map (λ p. ends_here p ≡ false) (λ n. bar_part e depth (s.first + n))
     (bar_lines s.text (e.start.line - s.first) (e.end.line - s.first)) (λ i d within. refl)))) ∙ both (e.end.line == s.first + k)
   where
-    on_line : PartEntry → Bool
-    on_line = λ (p : PartEntry). p.entry.start.line == s.first + k
+    on_line : LineAnnotation → Bool
+    on_line = λ (p : LineAnnotation). p.start.line == s.first + k
 
-    first : (b : Bool) (ps : List PartEntry) → filter ends_here (cond b (start_part e depth ∷ ps) ps) ≡ filter ends_here ps
+    first : (b : Bool) (ps : List LineAnnotation) → filter ends_here (cond b (start_part e depth ∷ ps) ps) ≡ filter ends_here ps
     first true ps = refl
     first false ps = refl
 
@@ -294,16 +296,16 @@ one_end s k depth false e =
     both true = refl
     both false = refl
 
-long_ends : (s : Source) (k : ℕ) (places : List LongExtent) (before es : List Entry)
-    → map label_of_part (filter ends_here (filter (λ (p : PartEntry). p.entry.start.line == s.first + k) (long_parts s places before es)))
-    ≡ map label_of_end (filter (λ (e : Entry). e.end.line == s.first + k) (promoted_spans before es))
+long_ends : (s : Source) (k : ℕ) (places : List LongExtent) (before es : List LineAnnotation)
+    → map label_of_part (filter ends_here (filter (λ (p : LineAnnotation). p.start.line == s.first + k) (long_parts s places before es)))
+    ≡ map label_of_end (filter (λ (e : LineAnnotation). e.end.line == s.first + k) (promoted_spans before es))
 long_ends s k places before [] = refl
 long_ends s k places before (e ∷ later) =
-    let on_line : PartEntry → Bool = λ (p : PartEntry). p.entry.start.line == s.first + k in
-    let own : List PartEntry = span_parts s (depth_among places (long_place e)) (stands_among e later) (promoted before e) in
-    let others : List PartEntry = long_parts s places (before ++ e ∷ []) later in
-    let ends : Entry → Bool = λ (x : Entry). x.end.line == s.first + k in
-    let rest : List Entry = promoted_spans (before ++ e ∷ []) later in
+    let on_line : LineAnnotation → Bool = λ (p : LineAnnotation). p.start.line == s.first + k in
+    let own : List LineAnnotation = span_parts s (depth_among places (long_place e)) (stands_among e later) (promoted before e) in
+    let others : List LineAnnotation = long_parts s places (before ++ e ∷ []) later in
+    let ends : LineAnnotation → Bool = λ (x : LineAnnotation). x.end.line == s.first + k in
+    let rest : List LineAnnotation = promoted_spans (before ++ e ∷ []) later in
     ap (λ ps. map label_of_part (filter ends_here ps)) (filter-append on_line own others)
     ∙ ap (map label_of_part) (filter-append ends_here (filter on_line own) (filter on_line others))
     ∙ map-append label_of_part (filter ends_here (filter on_line own)) (filter ends_here (filter on_line others))
@@ -312,7 +314,7 @@ long_ends s k places before (e ∷ later) =
     ∙ ap (λ xs. map label_of_end (cond (ends (promoted before e)) (promoted before e ∷ []) []) ++ xs)
     (long_ends s k places (before ++ e ∷ []) later) ∙ both (ends (promoted before e)) (filter ends rest)
   where
-    both : (b : Bool) (xs : List Entry)
+    both : (b : Bool) (xs : List LineAnnotation)
         → map label_of_end (cond b (promoted before e ∷ []) []) ++ map label_of_end xs ≡ map label_of_end (cond b (promoted before e ∷ xs) xs)
     both true xs = refl
     both false xs = refl
@@ -335,17 +337,17 @@ single_labels s k (a ∷ marked) own =
 
 -- the labels of the spans that end on line k stand below it, whatever other entries the line has
 pub labels_shown : (sn : Snippet Annotation) (k dropped : ℕ) (layout : Layout) (rows_layout : Layout) (es : List LineAnnotation) (rows : List (List Cell))
-    → rows_layout.code ≡ layout.code → map seen_part es ≡ parts_on (numbered_source sn) sn.markers.items k
+    → rows_layout.code ≡ layout.code → es ≡ parts_on (numbered_source sn) sn.markers.items k
     → All (λ e. is_bar e.annotation_type ≡ false → dropped ≤ e.start.display) es → LabelsStand rows_layout (map (shifted dropped) es) rows
     → ShowsLabels rows_layout.decor layout sn k dropped rows
 labels_shown sn k dropped layout rows_layout es rows code same clear stand =
     let s : Source = numbered_source sn in
     let marks : List Annotation = sn.markers.items in
-    let on_line : PartEntry → Bool = λ (p : PartEntry). p.entry.start.line == s.first + k in
+    let on_line : LineAnnotation → Bool = λ (p : LineAnnotation). p.start.line == s.first + k in
     let marked : List Annotation = filter (is_marked_on s.text k) marks in
-    let singles : List PartEntry = map (single_part s) marked in
-    let longs : List PartEntry = filter on_line (long_parts s (long_places s marks) [] (long_spans s marks)) in
-    let parts : map seen_part es ≡ singles ++ longs = same ∙ filter-append on_line (map (single_part s) (filter (is_short s.text) marks))
+    let singles : List LineAnnotation = map (single_part s) marked in
+    let longs : List LineAnnotation = filter on_line (long_parts s (long_places s marks) [] (long_spans s marks)) in
+    let parts : es ≡ singles ++ longs = same ∙ filter-append on_line (map (single_part s) (filter (is_short s.text) marks))
     (long_parts s (long_places s marks) [] (long_spans s marks)) ∙ ap (λ ps. ps ++ longs) (singles-on s marks k) in
     let none_kept : (r c : ℕ) → count_by (is_in_label r c) (shown_labels es stand.labels) ≡ 0 → count_by (is_cell_of r c) stand.labels ≡ 0 = λ r c none.
     omega (arith, none, cells_all dropped layout rows_layout code rows r c es stand.labels stand.are (labelled_at_end s marks k dropped es same)) in

@@ -37,6 +37,7 @@ pub mod LineFeedLaws
 pub mod LineLemmas
 pub mod LineRowValues
 pub mod LineValue
+pub mod LineWords
 pub mod ListLemmas
 pub mod MarginWords
 pub mod MarkLemmas

@@ -32,7 +32,7 @@ use Rattle.snippet_style.specs.declared.role.ElementStyle.{ElementStyle}
 use Rattle.snippet_style.specs.declared.role.ElementStyle.TheVariants.{LineNumber}
 use Rattle.snippet_text.specs.OneLine.{IsOneLine}
 use Rattle.snippet_titles.proofs.SplitLemmas.{lines_at, lines_at-chars}
-use Rattle.snippet_parts.specs.Annotated.{PartEntry, made_parts, seen_part}
+use Rattle.snippet_parts.specs.Annotated.{made_parts}
 use Rattle.snippet_parts.specs.declared.entries.LineAnnotation.{LineAnnotation}
 use Rattle.snippet_parts.specs.declared.entries.LineAnnotationType.{LineAnnotationType}
 use Rattle.snippet_parts.specs.declared.entries.LineAnnotationType.TheVariants.{Singleline, MultilineStart, MultilineEnd, MultilineLine}
@@ -41,7 +41,8 @@ use Rattle.snippet_strokes.specs.Bars.{Bar, bars_apart, ends_of_bars, is_whole_l
 use Rattle.snippet_strokes.specs.Cuts.{overlapped}
 use Rattle.snippet_strokes.specs.LookedCuts.{Stretch, cut_row}
 use Rattle.snippet_strokes.specs.LookedCuts.{cuts_of}
-use Rattle.snippet_labels.specs.PlacedEntries.{label_text, shifted}
+use Rattle.snippet_labels.specs.PlacedEntries.{shifted}
+use Rattle.snippet_labels.proofs.LabelWords.{label_text}
 use Rattle.snippet_strokes.proofs.LineFacts.{AreLineRows, AreOwnRows, StrokesPainted}
 use Rattle.snippet_strokes.specs.Painting.{first_glyph, mark_end, painting_order, mark_of, marks_of, stroke_role}
 use Rattle.snippet_strokes.specs.Drawing.{row_count}
@@ -61,7 +62,7 @@ use Rattle.snippet_strokes.proofs.WriteLaws.{All-flat_map, painted-cell}
 use Rattle.annotate_snippets.specs.declared.renderer.Renderer.{Renderer}
 use Rattle.annotate_snippets.specs.Laws.Feeds.{HasNoFeed}
 use Rattle.annotate_snippets.specs.Gutter.{numbered_source}
-use Rattle.annotate_snippets.specs.GraphicForm.{entries_on}
+use Rattle.annotate_snippets.proofs.LineWords.{entries_on}
 use Rattle.annotate_snippets.proofs.DrawnRows.{AreRowsDrawn, IsLineDrawn, IsRowDrawn, open_after}
 use Rattle.annotate_snippets.specs.Page.{Elision, NamedRow, OfferedLine, Other, RemovedLine, RowName, SourceRow, cells_of, rows_below}
 use Rattle.annotate_snippets.specs.Laws.Snippets.{AreRowsOf, IsRowOf}
@@ -70,7 +71,6 @@ use Rattle.annotate_snippets.proofs.OneLineTexts.{HoldsNoFeed, IsNoFeed, IsOneLi
 use Rattle.annotate_snippets.proofs.FeedLaws.{at_any, bare-plain, elided}
 use Rattle.annotate_snippets.proofs.HeadingFeedLaws.{parts_plain}
 use Rattle.annotate_snippets.proofs.LabelLemmas.{tail_same}
-use Rattle.annotate_snippets.proofs.MarkLemmas.{label_is}
 use Rattle.annotate_snippets.proofs.PathFeedLaws.{alone, cells_plain, norm-plain}
 use Rattle.annotate_snippets.proofs.SourceFeedLaws.{placeholder_plain, source_one_line}
 
@@ -351,8 +351,8 @@ shown_text_plain : (text : Option (List ℕ)) → IsOneLineText text → All IsN
 shown_text_plain None plain = All-nil IsNoFeed
 shown_text_plain (Some text) plain = norm-plain (chars text) plain
 
-abbrev IsPlainPart : PartEntry → Type 0
-IsPlainPart p = All IsNoFeed (normalized_chars p.entry.label)
+abbrev IsPlainPart : LineAnnotation → Type 0
+IsPlainPart p = All IsNoFeed (normalized_chars p.label)
 
 parts_one_line : (s : Source) (marks : List Annotation) → All IsOneLineLabel marks → All IsPlainPart (made_parts s marks)
 parts_one_line s marks plain =
@@ -368,18 +368,12 @@ parts_one_line s marks plain =
     of_label a among = shown_text_plain (option_map cow_str_bytes a.label) (All-contains IsOneLineLabel marks a plain among)
 
 -- the label of each entry of a line is one of its spans'
-entries_plain : (s : Snippet Annotation) (k : ℕ) (es : List LineAnnotation) → map seen_part es ≡ entries_on s k → All IsOneLineLabel s.markers.items
+entries_plain : (s : Snippet Annotation) (k : ℕ) (es : List LineAnnotation) → es ≡ entries_on s k → All IsOneLineLabel s.markers.items
     → All (λ e. All IsNoFeed (label_text e)) es
 entries_plain s k es are plain =
     let source : Source = numbered_source s in
-    each es (subst (All IsPlainPart) (sym are) (All-filter (λ (p : PartEntry). p.entry.start.line == source.first + k) IsPlainPart
-    (made_parts source s.markers.items) (parts_one_line source s.markers.items plain)))
-  where
-    each : (xs : List LineAnnotation) → All IsPlainPart (map seen_part xs) → All (λ e. All IsNoFeed (label_text e)) xs
-    each [] all = All-nil (λ e. All IsNoFeed (label_text e))
-    each (x ∷ xs) all =
-        All-cons (λ e. All IsNoFeed (label_text e)) x xs (subst (All IsNoFeed) (sym (label_is x.label))
-        (All-head IsPlainPart (seen_part x) (map seen_part xs) all)) (each xs (All-tail IsPlainPart (seen_part x) (map seen_part xs) all))
+    subst (All IsPlainPart) (sym are) (All-filter (λ (p : LineAnnotation). p.start.line == source.first + k) IsPlainPart
+    (made_parts source s.markers.items) (parts_one_line source s.markers.items plain))
 
 -- ---- all rows
 

@@ -24,16 +24,16 @@ use Rattle.snippet_parts.specs.declared.entries.LineAnnotation.{LineAnnotation}
 use Rattle.snippet_parts.specs.declared.entries.LineAnnotationType.{LineAnnotationType}
 use Rattle.snippet_parts.specs.declared.entries.LineAnnotationType.TheVariants.{Singleline, MultilineStart, MultilineEnd, MultilineLine}
 use Rattle.snippet_window.specs.declared.margin.Margin.{Margin}
-use Rattle.snippet_parts.specs.Annotated.{KeptLine, PartEntry, kept_line, parts_on, seen_kept, seen_part, single_part}
+use Rattle.snippet_parts.specs.Annotated.{KeptLine, kept_line, parts_on, seen_kept, single_part}
 use Rattle.snippet_lines.specs.Lines.{source_lines}
 use Rattle.snippet_parts.specs.Mark.{end_column, is_marked_on, is_marking, is_single_line, is_wide, qualifies_for_marks, touches}
-use Rattle.snippet_parts.specs.Marked.{seen_entry}
 use Rattle.snippet_parts.specs.Entries.{is_bar, is_single_part, is_wide_entry}
 use Rattle.snippet_lines.specs.Span.{IsSpan}
 use Rattle.snippet_window.specs.Window.{AreReplaced, chars_at, dropped_part, stands_whole, window}
 use Rattle.snippet_strokes.specs.EntryMarks.{IsMarkCell, is_mark_role}
 use Rattle.snippet_strokes.proofs.PlainEntries.{IsEntryMark, are_plain, has_column, is_single, wide_entries}
-use Rattle.snippet_labels.specs.PlacedEntries.{label_role, label_text, shifted}
+use Rattle.snippet_labels.specs.PlacedEntries.{label_role, shifted}
+use Rattle.snippet_labels.proofs.LabelWords.{label_text}
 use Rattle.snippet_lines.specs.Number.{shown_number}
 use Rattle.snippet_strokes.proofs.SeenRows.{AreSeen, IsStrokeRow, ShowsMarks}
 use Rattle.snippet_strokes.proofs.WholeLemmas.{window_cells-whole}
@@ -57,7 +57,6 @@ use Rattle.annotate_snippets.proofs.MarkLemmas.{some_entry, shifted_mark, shifte
 use Rattle.annotate_snippets.proofs.PartsFacts.{stands_left, untouched, wide_on_line}
 use Rattle.annotate_snippets.proofs.WindowLemmas.{dropped-none}
 use Rattle.snippet_grid.proofs.RowLemmas.{row_text-text_cells}
-use Rattle.snippet_parts.proofs.PartWords.{entry_of}
 
 -- a row that is as a bare one left of the bars is a row below a line
 pub row_below : (decor : DecorStyle) (layout : Layout) (closes plain : Bool) (es : List LineAnnotation) (rows : List (List Cell)) (i : ℕ)
@@ -108,38 +107,24 @@ count-none p (x ∷ xs) none =
     negated true is = cc
     negated false is = refl
 
--- an entry of a line as it is seen, and the part that it stands for
-seen_alone : (es : List LineAnnotation) → map (λ (p : PartEntry). p.entry) (map seen_part es) ≡ map seen_entry es
-seen_alone [] = refl
-seen_alone (e ∷ es) = ap (λ xs. seen_entry e ∷ xs) (seen_alone es)
-
 module _ (s : Snippet Annotation) (es : List LineAnnotation) (k : ℕ)
-    (same : map seen_part es ≡ map (single_part (numbered_source s)) (filter (is_marked_on (cow_str_bytes s.source) k) s.markers.items)) where
+    (same : es ≡ map (single_part (numbered_source s)) (filter (is_marked_on (cow_str_bytes s.source) k) s.markers.items)) where
   abbrev marked : List Annotation
   marked = filter (is_marked_on (cow_str_bytes s.source) k) s.markers.items
 
-  -- entries that stand for whole spans are seen as these
-  pub single_seen : map seen_entry es ≡ map (entry_of (numbered_source s)) marked
-  single_seen =
-      sym (seen_alone es) ∙ ap (map (λ (p : PartEntry). p.entry)) same ∙ entries marked
-    where
-      entries : (ys : List Annotation) → map (λ (p : PartEntry). p.entry) (map (single_part (numbered_source s)) ys) ≡ map (entry_of (numbered_source s)) ys
-      entries [] = refl
-      entries (y ∷ ys) = ap (λ xs. entry_of (numbered_source s) y ∷ xs) (entries ys)
-
-  -- and each of them does
+  -- each of them stands for a whole span
   pub all_single : list_all is_single es ≡ true
   all_single = each es marked same
     where
-      each : (xs : List LineAnnotation) (ys : List Annotation) → map seen_part xs ≡ map (single_part (numbered_source s)) ys → list_all is_single xs ≡ true
+      each : (xs : List LineAnnotation) (ys : List Annotation) → xs ≡ map (single_part (numbered_source s)) ys → list_all is_single xs ≡ true
       each [] ys is = refl
       each (x ∷ xs) [] is = cc
       each (x ∷ xs) (y ∷ ys) is =
-          let here : seen_part x ≡ single_part (numbered_source s) y = head_same (seen_part x) (single_part (numbered_source s) y) (map seen_part xs)
+          let here : x ≡ single_part (numbered_source s) y = head_same x (single_part (numbered_source s) y) xs
           (map (single_part (numbered_source s)) ys) is in
-          let rest : map seen_part xs ≡ map (single_part (numbered_source s)) ys = tail_same (seen_part x) (single_part (numbered_source s) y)
-          (map seen_part xs) (map (single_part (numbered_source s)) ys) is in
-          and_from (is_single x) (list_all is_single xs) (ap is_single_part (ap (λ (p : PartEntry). p.part) here)) (each xs ys rest)
+          let rest : xs ≡ map (single_part (numbered_source s)) ys = tail_same x (single_part (numbered_source s) y)
+          xs (map (single_part (numbered_source s)) ys) is in
+          and_from (is_single x) (list_all is_single xs) (ap is_single_part (ap (λ (p : LineAnnotation). p.annotation_type) here)) (each xs ys rest)
 
 -- so they are where columns are dropped
 single-shifted : (dropped : ℕ) (es : List LineAnnotation) → list_all is_single es ≡ true → list_all is_single (map (shifted dropped) es) ≡ true
@@ -284,7 +269,7 @@ module _ (r : Renderer) (layout : Layout) (s : Snippet Annotation)
     -- no label of the spans that end on the line is lost, where none of its spans is cut
     pub labels_of_line : wide_spans (room_of r layout) placeholder_width s k ≡ 0 → ShowsLabels layout.decor layout s k shows.dropped rows_show.below
     labels_of_line uncut =
-        let parts : map seen_part es ≡ parts_on (numbered_source s) s.markers.items k = ap (λ (l : KeptLine). l.parts) seen in
+        let parts : es ≡ parts_on (numbered_source s) s.markers.items k = ap (λ (l : KeptLine). l.parts) seen in
         let stand = rows_show.strokes.labels (wide_is ∙ uncut) (labelled_at_end (numbered_source s) s.markers.items k shows.dropped es parts) in
         labels_shown s k shows.dropped layout layout es rows_show.below refl parts shows.clear stand
 
@@ -303,11 +288,8 @@ module _ (r : Renderer) (layout : Layout) (s : Snippet Annotation)
           let inner = and_parts _ _ outer.0 in
           (inner.0, inner.1, outer.1)
 
-      same_parts : map seen_part es ≡ map (single_part (numbered_source s)) (filter (is_marked_on (cow_str_bytes s.source) k) s.markers.items)
+      same_parts : es ≡ map (single_part (numbered_source s)) (filter (is_marked_on (cow_str_bytes s.source) k) s.markers.items)
       same_parts = ap (λ (l : KeptLine). l.parts) seen ∙ untouched (numbered_source s) s.markers.items spans k qualified_parts.2
-
-      same : map seen_entry es ≡ map (entry_of (numbered_source s)) (filter (is_marked_on (cow_str_bytes s.source) k) s.markers.items)
-      same = single_seen s es k same_parts
 
       single : list_all is_single es ≡ true
       single = all_single s es k same_parts
@@ -320,7 +302,7 @@ module _ (r : Renderer) (layout : Layout) (s : Snippet Annotation)
       columns =
           list_all-from_AllPass has_column moved (All-map (λ e. has_column e ≡ true) (shifted shows.dropped) es (λ i d inside.
           let e : LineAnnotation = get_or es i d in
-          let own = span_of_entry (numbered_source s) s.markers.items k es same e (Contains-get_or es i d inside) in
+          let own = span_of_entry (numbered_source s) s.markers.items k es same_parts e (Contains-get_or es i d inside) in
           let is : IsEntryOf (numbered_source s) k own.0 e = own.2 in
           lt-ltb (e.start.display - shows.dropped) (e.end.display - shows.dropped) (omega (arith, clear i d inside, is.start, is.end))))
 
@@ -338,7 +320,7 @@ module _ (r : Renderer) (layout : Layout) (s : Snippet Annotation)
       -- there is a row below
       pub marks_there : 0 < length rows_show.below
       marks_there =
-          let some : 0 < length es = some_entry (numbered_source s) s.markers.items k es same qualified_parts.0 in
+          let some : 0 < length es = some_entry (numbered_source s) s.markers.items k es same_parts qualified_parts.0 in
           rows_show.strokes.some plain (omega (arith, some, length-map es (shifted shows.dropped)))
 
       -- and it has the marks of the line
@@ -350,21 +332,22 @@ module _ (r : Renderer) (layout : Layout) (s : Snippet Annotation)
           let strokes_row = rows_show.strokes.are 0 marks_there in
           record {
             marks = λ p kind mark.
-                let own : IsEntryMark es p kind = mark_of_entries (numbered_source s) s.markers.items k es same p kind mark in
+                let own : IsEntryMark es p kind = mark_of_entries (numbered_source s) s.markers.items k es same_parts p kind mark in
                 let right : d ≤ p = omega (arith, All-contains (λ (e : LineAnnotation). d ≤ e.start.display) es own.entry clear own.among, own.covers.0) in
                 subst (λ c. IsMarkCell layout.decor kind (get_or row c SPACE)) (omega (arith, right))
                 (marks_are.marks (p - d) kind (shifted_mark d es clear p kind own));
             unmarked = λ p right none. subst (λ c. is_mark_role (get_or row c SPACE).role ≡ false) (omega (arith, right))
-                (marks_are.unmarked (p - d) (shifted_unmarked d es clear p right (unmarked_by_entries (numbered_source s) s.markers.items k es same p none)));
+                (marks_are.unmarked (p - d) (shifted_unmarked d es clear p right
+                (unmarked_by_entries (numbered_source s) s.markers.items k es same_parts p none)));
             before = λ p right left. subst (λ c. get_or row c SPACE ≡ SPACE) (omega (arith, right))
                 (strokes_row.before plain (layout.code + (p - d)) (layout.code + (p - d) + 1) (omega arith) (omega arith)
-                (shifted_after d es clear layout.code p right (entries_after (numbered_source s) s.markers.items k es same layout.code p left)));
+                (shifted_after d es clear layout.code p right (entries_after (numbered_source s) s.markers.items k es same_parts layout.code p left)));
             spaces = λ unlabelled p right none. subst (λ c. get_or row c SPACE ≡ SPACE) (omega (arith, right))
                 (marks_are.spaces (All-map (λ (e : LineAnnotation). label_text e ≡ []) (shifted d) es (unlabelled_entries (numbered_source s)
-                s.markers.items k es same unlabelled)) (p - d)
-                (shifted_unmarked d es clear p right (unmarked_by_entries (numbered_source s) s.markers.items k es same p none)));
+                s.markers.items k es same_parts unlabelled)) (p - d)
+                (shifted_unmarked d es clear p right (unmarked_by_entries (numbered_source s) s.markers.items k es same_parts p none)));
             lone = λ a alone label.
-                let own = lone_entry (numbered_source s) s.markers.items k es same a alone in
+                let own = lone_entry (numbered_source s) s.markers.items k es same_parts a alone in
                 let e : LineAnnotation = own.0 in
                 let is : IsEntryOf (numbered_source s) k a e = own.2 in
                 let right : d ≤ e.start.display = All-head (λ (x : LineAnnotation). d ≤ x.start.display) e []

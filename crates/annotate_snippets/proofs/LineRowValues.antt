@@ -10,7 +10,7 @@ use Rattle.snippet_style.specs.Cell.{Cell, SPACE}
 use Rattle.snippet_style.proofs.CellLemmas.{slice_index_or-written_inside}
 use Rattle.snippet_parts.specs.declared.entries.LineAnnotation.{LineAnnotation}
 use Rattle.snippet_labels.specs.PlacedEntries.{shifted}
-use Rattle.snippet_labels.specs.Positions.{line_positions, look_counts, placed_at, placed_of, positions}
+use Rattle.snippet_labels.specs.Positions.{line_positions, look_counts, placed_of, positions}
 use Rattle.snippet_labels.specs.declared.positions.PlacedEntry.{PlacedEntry}
 use Rattle.snippet_strokes.specs.Bars.{Bar, ends_of_bars, is_whole_line}
 use Rattle.annotate_snippets.specs.Laws.Bars.{bar_beside}
@@ -19,6 +19,8 @@ use Rattle.snippet_strokes.specs.Drawing.{row_count}
 use Rattle.snippet_strokes.specs.LineRows.{line_rows, own_rows}
 use Rattle.snippet_strokes.specs.Strokes.{stroke_rows}
 use Rattle.snippet_strokes.proofs.PositionLemmas.{line_positions_low, positions_sole, row_count_one}
+use Rattle.snippet_labels.proofs.LabelWords.{placed_at}
+use Rattle.snippet_labels.proofs.PlacedLemmas.{placed_of-at}
 use Rattle.snippet_strokes.proofs.StrokesInside.{stroke_rows-count}
 
 -- one entry asks for one
@@ -27,7 +29,8 @@ lone_count e =
     let bare : PlacedEntry = placed_at (e, (0, 0)) in
     let Low : ℕ → Type 0 = λ q. q ≤ 0 in
     let first : All Low (positions 0 (bare ∷ [])) = subst (All Low) (sym (positions_sole bare)) (All-cons Low 0 [] (omega arith) (All-nil Low)) in
-    row_count_one (placed_of (e ∷ [])) (placed_low (line_positions (bare ∷ [])) (look_counts 0 (bare ∷ [])) (line_positions_low 0 (bare ∷ []) first))
+    row_count_one (placed_of (e ∷ [])) (subst (All (λ (p : PlacedEntry). p.position ≤ 0)) (sym (placed_of-at (e ∷ [])))
+    (placed_low (line_positions (bare ∷ [])) (look_counts 0 (bare ∷ [])) (line_positions_low 0 (bare ∷ []) first)))
   where
     placed_low : (ps ls : List ℕ) → All (λ q. q ≤ 0) ps → All (λ (p : PlacedEntry). p.position ≤ 0) (map placed_at (zip (e ∷ []) (zip ps ls)))
     placed_low [] ls low = All-nil (λ (p : PlacedEntry). p.position ≤ 0)

@@ -1,74 +1,31 @@
 -- The rows of a line that painters promise are those that the graphic form has for it.
-use Rattle.std.proofs.Common.{◌≡◌, ℕ, ◌+◌, ◌==◌, ◌&&◌, Bool, true, false, cond, not, nat_lt, Option, None, Some, List, [], ◌∷◌, ◌++◌, chars, filter}
+use Rattle.std.proofs.Common.{◌≡◌, ℕ, ◌+◌, ◌==◌, ◌&&◌, Bool, true, false, cond, nat_lt, List, [], ◌∷◌, ◌++◌, chars}
 use Rattle.std.proofs.Common.{length, map, refl, sym, ap, ◌∙◌, arith}
-use Rattle.std.specs.Borrow.{Bor}
-use Rattle.std.specs.Cow.{cow_str_bytes}
-use Rattle.std.specs.Option.{option_copied, option_map}
 use Rattle.std.proofs.lemmas.Bool.Decides.{nat_tests}
 use Rattle.std.proofs.lemmas.List.{length-map}
 use Rattle.snippet_model.specs.declared.snippet.Annotation.{Annotation}
 use Rattle.snippet_model.specs.declared.snippet.Snippet.{Snippet}
-use Rattle.snippet_style.specs.Cell.{Cell}
 use Rattle.snippet_text.specs.Normalized.{norm}
-use Rattle.snippet_text.specs.Width.{width_of}
 use Rattle.snippet_lines.specs.Number.{shown_number}
 use Rattle.snippet_lines.specs.declared.number.LineNumbers.{LineNumbers}
-use Rattle.snippet_parts.specs.Annotated.{KeptLine, PartEntry, kept_line, seen_kept, seen_part}
+use Rattle.snippet_parts.specs.Annotated.{KeptLine, kept_line, seen_kept}
 use Rattle.snippet_window.specs.Window.{chars_at, dropped_part}
 use Rattle.snippet_parts.specs.declared.entries.AnnotatedLineInfo.{AnnotatedLineInfo}
 use Rattle.snippet_parts.specs.declared.entries.LineAnnotation.{LineAnnotation}
 use Rattle.snippet_window.specs.declared.margin.Margin.{Margin}
-use Rattle.snippet_parts.proofs.ShownLemmas.{filter-map}
-use Rattle.snippet_labels.specs.PlacedEntries.{is_end_part, plain_entry}
-use Rattle.snippet_strokes.specs.SourceRows.{source_row, window_cells}
 use Rattle.snippet_strokes.specs.Bars.{Bar, open_below, open_past}
-use Rattle.snippet_strokes.specs.LineRows.{line_rows}
 use Rattle.snippet_strokes.specs.Snippet.{gap_row, gap_rows, info_rows, infos_rows, shown_rows}
-use Rattle.snippet_strokes.specs.StrokeRows.{highlighted_row}
 use Rattle.snippet_strokes.specs.declared.snippet.LineView.{LineView}
-use Rattle.snippet_strokes.proofs.LineValueLaws.{highlighted_row-plain, line_rows-plain}
 use Rattle.annotate_snippets.specs.declared.renderer.Renderer.{Renderer}
 use Rattle.snippet_grid.specs.Layout.{Layout}
-use Rattle.annotate_snippets.specs.GraphicForm.{bars_on, entries_on, gap_below, lent, line_entry, margin_in, named_line, rows_of_line, rows_of_lines}
-use Rattle.annotate_snippets.specs.Gutter.{line_numbers, number_text, numbered_source}
+use Rattle.annotate_snippets.specs.GraphicForm.{gap_below, margin_in, named_line, rows_of_line, rows_of_lines}
+use Rattle.annotate_snippets.proofs.LineWords.{bars_on}
+use Rattle.annotate_snippets.specs.Gutter.{line_numbers, numbered_source}
 use Rattle.annotate_snippets.specs.Page.{Elision, NamedRow, cells_of}
 use Rattle.annotate_snippets.proofs.DrawnLines.{bars_seen}
 use Rattle.annotate_snippets.proofs.LabelLemmas.{head_same, tail_same}
 use Rattle.annotate_snippets.proofs.NamedRows.{cells_of-append, cells_of-line}
 
--- a label that is lent from nowhere has the text of the one that was lent
-same_label : (label : Option (Bor (List ℕ))) → option_map lent (option_copied label) ≡ option_map (λ t. lent t.now) label
-same_label None = refl
-same_label (Some label) = refl
-
--- entries as they are seen make the entries that are drawn, but for where their labels stand
-plain_parts : (es : List LineAnnotation) → map line_entry (map seen_part es) ≡ map plain_entry es
-plain_parts [] = refl
-plain_parts (e ∷ es) =
-    ap (λ label. record e { label = label } ∷ map line_entry (map seen_part es)) (same_label e.label) ∙ ap (λ rest. plain_entry e ∷ rest) (plain_parts es)
-
--- and entries that are drawn are seen as those of which they are made
-same_text : (label : Option (List ℕ)) → option_copied (option_map lent label) ≡ label
-same_text None = refl
-same_text (Some label) = refl
-
-pub parts_seen : (ps : List PartEntry) → map seen_part (map line_entry ps) ≡ ps
-parts_seen [] = refl
-parts_seen (p ∷ ps) =
-    ap (λ label. record { entry = record (p.entry) { label = label }; part = p.part } ∷ map seen_part (map line_entry ps)) (same_text p.entry.label)
-    ∙ ap (λ rest. p ∷ rest) (parts_seen ps)
-
--- the rows of a line don't depend on where labels stand in memory
-rows_plain : (layout : Layout) (margin : Margin) (closes : Bool) (open_bars : List Bar) (number text : List ℕ) (es : List LineAnnotation)
-    → shown_rows layout margin closes open_bars number text (map plain_entry es) ≡ shown_rows layout margin closes open_bars number text es
-rows_plain layout margin closes open_bars number text es =
-    let colours : LineAnnotation → Bool = λ e. not (is_end_part e.annotation_type) in
-    let dropped : ℕ = width_of (dropped_part margin.computed_left text) in
-    let source : List Cell = source_row layout number (window_cells layout.decor margin text) in
-    let Rows : List LineAnnotation → List Cell → List (List Cell) = λ xs row. line_rows layout margin.term_width closes text dropped open_bars xs row in
-    ap (λ xs. Rows (map plain_entry es) (highlighted_row layout.code dropped xs source)) (filter-map colours plain_entry es)
-    ∙ ap (Rows (map plain_entry es)) (highlighted_row-plain layout.code dropped (filter colours es) source)
-    ∙ line_rows-plain layout margin.term_width closes text dropped open_bars es (highlighted_row layout.code dropped (filter colours es) source)
 
 module _ (r : Renderer) (layout : Layout) (s : Snippet Annotation) where
   -- the rows of a line that is seen as line k are the form's
@@ -76,15 +33,8 @@ module _ (r : Renderer) (layout : Layout) (s : Snippet Annotation) where
       → shown_rows layout (margin_in r layout s) closes open_bars (shown_number (line_numbers r s.line_numbering) layout.gutter info.line_index)
       (norm (chars info.line.now)) info.annotations.items ≡ rows_of_line r layout closes s open_bars k
   line_value closes open_bars k info seen =
-      let margin : Margin = margin_in r layout s in
-      let es : List LineAnnotation = info.annotations.items in
-      let entries : List LineAnnotation = map line_entry (entries_on s k) in
-      let number : List ℕ = number_text r s.line_numbering layout.gutter (s.line_start + k) in
-      let text : List ℕ = norm (chars_at (cow_str_bytes s.source) k) in
-      let entries_are : map plain_entry es ≡ entries = sym (plain_parts es) ∙ ap (λ (l : KeptLine). map line_entry l.parts) seen in
-      ap (λ (l : KeptLine). shown_rows layout margin closes open_bars (shown_number (line_numbers r s.line_numbering) layout.gutter l.number)
-      (norm (chars l.text)) es) seen
-      ∙ sym (rows_plain layout margin closes open_bars number text es) ∙ ap (shown_rows layout margin closes open_bars number text) entries_are
+      ap (λ (l : KeptLine). shown_rows layout (margin_in r layout s) closes open_bars
+      (shown_number (line_numbers r s.line_numbering) layout.gutter l.number) (norm (chars l.text)) l.parts) seen
 
   -- the row between two lines is that of the form
   gap_value : (open_bars : List Bar) (j : ℕ) (info : AnnotatedLineInfo) (ks : List ℕ) (infos : List AnnotatedLineInfo)

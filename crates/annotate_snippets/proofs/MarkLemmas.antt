@@ -1,9 +1,8 @@
 -- The marks of a line's spans are those of its entries.
-use Rattle.std.proofs.Common.{Option, Some, None, ◌≡◌, ℕ, ◌+◌, ◌-◌, ◌<◌, ◌≤◌, ◌==◌, ◌&&◌, max, true, false, List, [], ◌∷◌, map, length, get_or, refl, sym, ap}
+use Rattle.std.proofs.Common.{◌≡◌, ℕ, ◌+◌, ◌-◌, ◌<◌, ◌≤◌, ◌==◌, ◌&&◌, max, true, false, List, [], ◌∷◌, map, length, get_or, refl, sym, ap}
 use Rattle.std.proofs.Common.{subst, ◌∙◌, arith, inl, inr}
 use Rattle.std.specs.List.{All, Contains, filter, list_any}
 use Rattle.std.proofs.lemmas.Bool.{and_parts, eqb-true, eq-eqb, cases_Bool}
-use Rattle.std.proofs.lemmas.List.{length-map}
 use Rattle.std.proofs.lemmas.List.Elements.{All-contains, All-contains_itself, All-filter, All-map, filter_passes, Contains-get_or}
 use Rattle.snippet_model.specs.declared.snippet.Annotation.{Annotation}
 use Rattle.snippet_model.specs.declared.snippet.AnnotationKind.{AnnotationKind}
@@ -11,12 +10,10 @@ use Rattle.snippet_model.specs.declared.snippet.AnnotationKind.TheVariants.{Prim
 use Rattle.snippet_parts.specs.declared.entries.LineAnnotation.{LineAnnotation}
 use Rattle.snippet_lines.specs.Lines.{Source}
 use Rattle.snippet_lines.specs.Place.{place_of, location_of, start_location, end_location, locations_of}
-use Rattle.snippet_parts.specs.Marked.{first_line, last_line, Entry, seen_entry}
+use Rattle.snippet_parts.specs.Marked.{first_line, last_line}
 use Rattle.snippet_parts.specs.Mark.{is_marking, is_single_line, is_marked_on, start_column, end_column, span_width, IsMarkedAt, IsMarkOf}
-use Rattle.std.specs.Borrow.{Bor}
-use Rattle.std.specs.Option.{option_copied}
 use Rattle.snippet_labels.specs.PlacedEntries as entry
-use Rattle.snippet_labels.proofs.LabelWords.{label_chars}
+use Rattle.snippet_labels.proofs.LabelWords.{label_chars, label_text}
 use Rattle.annotate_snippets.specs.Laws.Marks.{shown_label}
 use Rattle.snippet_text.specs.Normalized.{normalized_chars}
 use Rattle.snippet_strokes.proofs.PlainEntries.{EntryCovers, IsEntryMark}
@@ -63,24 +60,19 @@ pub record IsEntryOf (s : Source) (k : ℕ) (a : Annotation) (e : LineAnnotation
   pub kind : e.kind ≡ a.kind
   pub label : label_chars e.label ≡ shown_label a
 
--- an entry's label shows what its text does
-pub label_is : (label : Option (Bor (List ℕ))) → label_chars label ≡ normalized_chars (option_copied label)
-label_is None = refl
-label_is (Some l) = refl
-
 entry_is : (s : Source) (k : ℕ) (a : Annotation) (e : LineAnnotation) → is_marked_on s.text k a ≡ true → is_single_line s.text a ≡ true
-    → seen_entry e ≡ entry_of s a → IsEntryOf s k a e
+    → e ≡ entry_of s a → IsEntryOf s k a e
 entry_is s k a e marked single same =
     record {
       marked = marked;
-      start = ap (λ (x : Entry). x.start.display) same ∙ start_of_entry s a;
-      end = ap (λ (x : Entry). x.end.display) same ∙ end_of_entry s a single;
-      kind = ap (λ (x : Entry). x.kind) same;
-      label = label_is e.label ∙ ap normalized_chars (ap (λ (x : Entry). x.label) same);
+      start = ap (λ (x : LineAnnotation). x.start.display) same ∙ start_of_entry s a;
+      end = ap (λ (x : LineAnnotation). x.end.display) same ∙ end_of_entry s a single;
+      kind = ap (λ (x : LineAnnotation). x.kind) same;
+      label = ap (λ (x : LineAnnotation). normalized_chars x.label) same;
     }
 
 module _ (s : Source) (marks : List Annotation) (k : ℕ) (es : List LineAnnotation)
-    (same : map seen_entry es ≡ map (entry_of s) (filter (is_marked_on s.text k) marks)) where
+    (same : es ≡ map (entry_of s) (filter (is_marked_on s.text k) marks)) where
   -- a span that is marked on a line stands on it alone
   single_of : (a : Annotation) → is_marked_on s.text k a ≡ true → is_single_line s.text a ≡ true
   single_of a marked =
@@ -89,18 +81,16 @@ module _ (s : Source) (marks : List Annotation) (k : ℕ) (es : List LineAnnotat
   -- each span of the line has an entry
   pub entry_of_span : (a : Annotation) → Contains marks a → is_marked_on s.text k a ≡ true → (e : LineAnnotation) × Contains es e × IsEntryOf s k a e
   entry_of_span a among marked =
-      let seen : Contains (map seen_entry es) (entry_of s a) = subst (λ xs.
+      let seen : Contains es (entry_of s a) = subst (λ xs.
       Contains xs (entry_of s a)) (sym same) (Contains-map (entry_of s) (filter (is_marked_on s.text k) marks) a
       (Contains-filter (is_marked_on s.text k) marks a marked among)) in
-      let found = from_map seen_entry es (entry_of s a) seen in
-      (found.0, found.1, entry_is s k a found.0 marked (single_of a marked) found.2)
+      (entry_of s a, seen, entry_is s k a (entry_of s a) marked (single_of a marked) refl)
 
   -- each entry is that of a span
   pub span_of_entry : (e : LineAnnotation) → Contains es e → (a : Annotation) × Contains marks a × IsEntryOf s k a e
   span_of_entry e among =
       let kept : List Annotation = filter (is_marked_on s.text k) marks in
-      let seen : Contains (map (entry_of s) kept) (seen_entry e) = subst (λ xs. Contains xs (seen_entry e)) same (Contains-map seen_entry es e among) in
-      let found = from_map (entry_of s) kept (seen_entry e) seen in
+      let found = from_map (entry_of s) kept e (subst (λ xs. Contains xs e) same among) in
       let a : Annotation = found.0 in
       let in_marks : Contains marks a = All-contains (Contains marks) kept a
       (All-filter (is_marked_on s.text k) (Contains marks) marks (All-contains_itself marks)) found.1 in
@@ -172,7 +162,7 @@ module _ (s : Source) (marks : List Annotation) (k : ℕ) (es : List LineAnnotat
       omega (arith, own.1.1)
 
   -- where no span on the line has a label that shows anything, no entry has one
-  pub unlabelled_entries : All (λ a. is_marked_on s.text k a ≡ true → shown_label a ≡ []) marks → All (λ e. entry.label_text e ≡ []) es
+  pub unlabelled_entries : All (λ a. is_marked_on s.text k a ≡ true → shown_label a ≡ []) marks → All (λ e. label_text e ≡ []) es
   unlabelled_entries none =
       λ i d within.
       let theirs = span_of_entry (get_or es i d) (Contains-get_or es i d within) in
@@ -183,27 +173,11 @@ module _ (s : Source) (marks : List Annotation) (k : ℕ) (es : List LineAnnotat
   -- the one span of a line has the one entry
   pub lone_entry : (a : Annotation) → filter (is_marked_on s.text k) marks ≡ a ∷ [] → (e : LineAnnotation) × (es ≡ e ∷ []) × IsEntryOf s k a e
   lone_entry a lone =
-      let seen : map seen_entry es ≡ entry_of s a ∷ [] = same ∙ ap (map (entry_of s)) lone in
-      let one : length es ≡ 1 = sym (length-map es seen_entry) ∙ ap length seen in
-      let first : LineAnnotation × Unit {0} = head_of es one in
-      let e : LineAnnotation = first.0 in
-      let sole : es ≡ e ∷ [] = head_of_is es one in
+      let sole : es ≡ entry_of s a ∷ [] = same ∙ ap (map (entry_of s)) lone in
       let marked : is_marked_on s.text k a ≡ true = All-contains (λ b.
       is_marked_on s.text k b ≡ true) (filter (is_marked_on s.text k) marks) a (filter_passes (is_marked_on s.text k) marks)
       (subst (λ xs. Contains xs a) (sym lone) (Contains-head a [])) in
-      (e, sole, entry_is s k a e marked (single_of a marked) (same_head (sym (ap (map seen_entry) sole) ∙ seen)))
-    where
-      head_of : (xs : List LineAnnotation) → length xs ≡ 1 → LineAnnotation × Unit {0}
-      head_of [] one = absurd (omega (arith, one))
-      head_of (x ∷ xs) one = (x, tt)
-
-      head_of_is : (xs : List LineAnnotation) (one : length xs ≡ 1) → xs ≡ (head_of xs one).0 ∷ []
-      head_of_is [] one = absurd (omega (arith, one))
-      head_of_is (x ∷ []) one = refl
-      head_of_is (x ∷ y ∷ xs) one = absurd (omega (arith, one))
-
-      same_head : {x y : Entry} → x ∷ [] ≡ y ∷ [] → x ≡ y
-      same_head is = cc
+      (entry_of s a, sole, entry_is s k a (entry_of s a) marked (single_of a marked) refl)
 
 -- ---- entries on a line of which columns are dropped
 

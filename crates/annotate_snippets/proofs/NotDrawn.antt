@@ -1,9 +1,9 @@
 -- Rows that are none of a line, and cells that are none of a row: each contradicts what is said of all rows of a snippet's lines.
-use Rattle.std.proofs.Common.{◌≡◌, ℕ, ◌+◌, ◌<◌, ◌≤◌, Bool, true, false, cond, None, List, [], ◌∷◌, ◌++◌, codes, length, map, refl, sym, ap, subst, ◌∙◌}
+use Rattle.std.proofs.Common.{◌≡◌, ℕ, ◌+◌, ◌<◌, ◌≤◌, Bool, true, false, cond, None, List, [], ◌∷◌, ◌++◌, codes, length, refl, sym, ap, subst, ◌∙◌}
 use Rattle.std.proofs.Common.{arith}
 use Rattle.std.specs.Cow.{cow_str_bytes}
 use Rattle.std.specs.Str.{chars}
-use Rattle.std.proofs.lemmas.List.{append_cancel_left, append_cancel_right, length-map}
+use Rattle.std.proofs.lemmas.List.{append_cancel_left, append_cancel_right}
 use Rattle.snippet_grid.specs.Grid.{cell_at}
 use Rattle.snippet_model.specs.FreeRows.{HasNoNumber}
 use Rattle.snippet_model.specs.declared.snippet.Annotation.{Annotation}
@@ -21,23 +21,22 @@ use Rattle.snippet_parts.specs.declared.entries.LineAnnotation.{LineAnnotation}
 use Rattle.snippet_window.specs.Window.{chars_at, dropped_part}
 use Rattle.snippet_window.specs.declared.margin.Margin.{Margin}
 use Rattle.snippet_parts.specs.Kept.{shown_lines}
-use Rattle.snippet_strokes.specs.Bars.{Bar, ends_of_bars}
+use Rattle.snippet_strokes.specs.Bars.{Bar}
 use Rattle.snippet_strokes.proofs.RowLemmas.{bare_row_left}
 use Rattle.annotate_snippets.specs.declared.renderer.Renderer.{Renderer}
 use Rattle.snippet_grid.specs.Layout.{Layout}
 use Rattle.annotate_snippets.specs.declared.renderer.element_context.ElementContext.{ElementContext}
 use Rattle.annotate_snippets.specs.Around.{closes_with}
-use Rattle.annotate_snippets.specs.GraphicForm.{bars_on, entries_on, line_entry, margin_in, rows_of_line}
+use Rattle.annotate_snippets.specs.GraphicForm.{margin_in, rows_of_line}
+use Rattle.annotate_snippets.proofs.LineWords.{bars_on, entries_on}
 use Rattle.annotate_snippets.specs.Page.{Elision, NamedRow, OfferedLine, Other, RemovedLine, RowName, SourceRow, line_named, others}
 use Rattle.annotate_snippets.specs.Page.{rows_below, shows_lines}
 use Rattle.annotate_snippets.specs.RowsWithoutSource.{cause_head, rows_after_cause}
 use Rattle.annotate_snippets.specs.Settings.{plain_settings}
 use Rattle.annotate_snippets.specs.Laws.Snippets.{AreRowsOf, IsRowOf, ShowsSnippet}
 use Rattle.annotate_snippets.specs.Laws.Lines.{IsRowBelow, ShowsSourceLine}
-use Rattle.annotate_snippets.proofs.DrawnLines.{bars_seen}
 use Rattle.annotate_snippets.proofs.FormLines.{IsWholeLine, line_of_rows, names_in, names_of_lines, names_of_rows, none_above}
 use Rattle.annotate_snippets.proofs.LineRowValues.{bar_beside_line, lone_line_rows}
-use Rattle.annotate_snippets.proofs.LineValue.{parts_seen}
 use Rattle.annotate_snippets.proofs.NotShown.{layout, span_of}
 use Rattle.annotate_snippets.proofs.NotWhole.{IsLineA, unnamed}
 
@@ -59,8 +58,7 @@ row_doubled r layout around s rows shown above row below is k named lone many =
     line_alone r layout closes s open_bars k lone =
         let margin : Margin = margin_in r layout s in
         let text : List ℕ = norm (chars_at (cow_str_bytes s.source) k) in
-        lone_line_rows layout margin.term_width closes text (width_of (dropped_part margin.computed_left text)) _ open_bars (map line_entry (entries_on s k))
-        (length-map (entries_on s k) line_entry ∙ lone)
+        lone_line_rows layout margin.term_width closes text (width_of (dropped_part margin.computed_left text)) _ open_bars (entries_on s k) lone
 
 -- beside a line on which no bar begins or ends, and above which one is open, a cell at its depth in another role than that of the
 -- bar's kind, be it of the other kind or a space:
@@ -72,10 +70,8 @@ pub bar_of_other_kind : (r : Renderer) (layout : Layout) (closes : Bool) (s : Sn
 bar_of_other_kind r layout closes s bar k none i within other =
     let margin : Margin = margin_in r layout s in
     let text : List ℕ = norm (chars_at (cow_str_bytes s.source) k) in
-    let entries : List LineAnnotation = map line_entry (entries_on s k) in
-    let ends : ends_of_bars entries ≡ [] = bars_seen s k entries (parts_seen (entries_on s k)) ∙ none in
     other (ap (λ (cell : Cell). cell.role)
-    (bar_beside_line layout margin.term_width closes text (width_of (dropped_part margin.computed_left text)) _ bar entries ends i within))
+    (bar_beside_line layout margin.term_width closes text (width_of (dropped_part margin.computed_left text)) _ bar (entries_on s k) none i within))
 
 -- ---- rows that no line has
 

@@ -29,7 +29,8 @@ use Rattle.snippet_strokes.proofs.OpenLemmas.{room_below}
 use Rattle.snippet_strokes.proofs.SeenLines.{line_seen}
 use Rattle.snippet_strokes.proofs.SeenRows.{AreSeen}
 use Rattle.annotate_snippets.specs.declared.renderer.Renderer.{Renderer}
-use Rattle.annotate_snippets.specs.GraphicForm.{bars_on, gap_below, margin_in, named_line, rows_of_line, rows_of_lines}
+use Rattle.annotate_snippets.specs.GraphicForm.{gap_below, margin_in, named_line, rows_of_line, rows_of_lines}
+use Rattle.annotate_snippets.proofs.LineWords.{bars_on}
 use Rattle.annotate_snippets.specs.Gutter.{line_numbers, numbered_source}
 use Rattle.annotate_snippets.specs.Page.{Elision, NamedRow, Other, SourceRow, cells_of, lines_named, others, rows_below}
 use Rattle.annotate_snippets.specs.Laws.Snippets.{AreRowsOf, ShowsLineAndMarks}

@@ -3,15 +3,14 @@ use Rattle.std.proofs.Common.{◌≡◌, ℕ, ◌+◌, ◌<◌, ◌≤◌, ◌^�
 use Rattle.std.specs.List.{All, Contains, filter, list_all}
 use Rattle.snippet_model.specs.declared.snippet.Annotation.{Annotation}
 use Rattle.snippet_parts.specs.declared.entries.AnnotatedLineInfo.{AnnotatedLineInfo}
-use Rattle.std.proofs.Common.{cond, ◌==◌, ◌||◌, sym, subst, ◌∙◌, get_or, ap, arith, inl, inr, IfSome, [], ◌∷◌}
+use Rattle.std.proofs.Common.{cond, ◌==◌, ◌||◌, sym, subst, ◌∙◌, get_or, ap, arith, inl, inr, IfSome, []}
 use Rattle.std.specs.List.{list_any}
 use Rattle.std.proofs.lemmas.Bool.{cases_Bool, or_parts}
 use Rattle.std.proofs.lemmas.Bool.Decides.{nat_tests}
-use Rattle.std.proofs.lemmas.List.Elements.{All-cons, All-contains, All-head, All-nil, All-tail, All-weaker, Contains-get_or}
+use Rattle.std.proofs.lemmas.List.Elements.{All-contains, All-nil, All-weaker, Contains-get_or}
 use Rattle.std.proofs.lemmas.List.FromFn.{get_or-range_with_len, length-range_with_len}
 use Rattle.std.specs.List.{range_with_len}
 use Rattle.snippet_parts.specs.Kept.{keeps, kept_lines}
-use Rattle.snippet_parts.specs.Entries.{is_bar}
 use Rattle.snippet_parts.proofs.KeptPartLemmas.{none-unkept}
 use Rattle.snippet_parts.proofs.LineCounts.{length-in_order}
 use Rattle.snippet_strokes.proofs.MarkLemmas.{from_map}
@@ -28,7 +27,7 @@ use Rattle.snippet_parts.proofs.EntryFacts.{depths-fit, each-line, labels-fit, p
 use Rattle.snippet_window.proofs.UncutLaws.{margin_whole}
 use Rattle.snippet_parts.proofs.ShownFacts.{shown_lines-first_line, last-shown, shown-ascends, shown-within}
 use Rattle.snippet_parts.specs.Depths.{places_of}
-use Rattle.snippet_parts.specs.Annotated.{KeptLine, PartEntry, seen_part, annotated_lines, deepest, is_long, kept_line, long_entry, long_place}
+use Rattle.snippet_parts.specs.Annotated.{KeptLine, annotated_lines, deepest, is_long, kept_line, long_entry, long_place}
 use Rattle.snippet_parts.specs.Annotated.{long_spans, parts_on, seen_kept, single_part}
 use Rattle.snippet_parts.specs.Kept.{shown_lines}
 use Rattle.snippet_lines.specs.Lines.{Source, source_lines}
@@ -109,7 +108,7 @@ module _ (s : Source) (marks : List Annotation) (spans : All (λ a. IsSpan s.tex
   lines_texts short = texts-fit s marks ks infos same short
 
   -- the labels on kept lines fit, where those of the annotations do
-  pub lines_labels : All AnnotationFits marks → All (λ info. All (λ e. IfSome e.label (λ t. length t.now < 2 ^ 56)) info.annotations.items) infos
+  pub lines_labels : All AnnotationFits marks → All (λ info. All (λ e. IfSome e.label (λ t. length t < 2 ^ 56)) info.annotations.items) infos
   lines_labels fit = labels-fit s marks ks infos same fit
 
   -- the entries of kept lines have places, where the source fits
@@ -136,13 +135,6 @@ module _ (s : Source) (marks : List Annotation) (spans : All (λ a. IsSpan s.tex
         bar_cells = lines_bar_cells layout code k d within;
         labels = lines_labels fit k d within;
       }
-
--- an entry stands clear where one that is seen as it does
-clear_seen : (margin : Margin) (d e : LineAnnotation) → seen_part d ≡ seen_part e → StandsClear margin d → StandsClear margin e
-clear_seen margin d e same clear own cut =
-    let part : d.annotation_type ≡ e.annotation_type = ap (λ (p : PartEntry). p.part) same in
-    let start : d.start.display ≡ e.start.display = ap (λ (p : PartEntry). p.entry.start.display) same in
-    omega (arith, clear (ap is_bar part ∙ own) cut, start)
 
 -- entries stand clear on all lines that are shown, where they do on those that are kept: none stand on the others
 pub shown_clear : (s : Source) (marks : List Annotation) → All (λ a. IsSpan s.text a.span.start a.span.end) marks
@@ -175,30 +167,13 @@ shown_clear s marks spans fold kept shown margin kept_is shown_is clear =
               Contains ls (kept_line s marks k)) (sym kept_is) (Contains-map (kept_line s marks) (kept_lines fold s.text marks) k among)) in
               let own : All (StandsClear margin) found.0.annotations.items = All-contains
               (λ (x : AnnotatedLineInfo). All (StandsClear margin) x.annotations.items) kept found.0 clear found.1 in
-              let same : map seen_part found.0.annotations.items ≡ map seen_part info.annotations.items = ap (λ (l : KeptLine). l.parts) (found.2 ∙ sym seen) in
-              all_seen found.0.annotations.items info.annotations.items same own
+              let same : found.0.annotations.items ≡ info.annotations.items = ap (λ (l : KeptLine). l.parts) (found.2 ∙ sym seen) in
+              subst (All (StandsClear margin)) same own
           | inr left_out ↦
               let unkept = (or_parts (not fold) (list_any (keeps s.text k) marks) left_out).1 in
-              let none : map seen_part info.annotations.items ≡ [] = ap (λ (l : KeptLine). l.parts) seen ∙ none-unkept s marks k spans unkept in
-              all_seen [] info.annotations.items (sym none) (All-nil (StandsClear margin))
+              let none : info.annotations.items ≡ [] = ap (λ (l : KeptLine). l.parts) seen ∙ none-unkept s marks k spans unkept in
+              subst (All (StandsClear margin)) (sym none) (All-nil (StandsClear margin))
         ]
-      where
-        all_seen : (ds es : List LineAnnotation) → map seen_part ds ≡ map seen_part es → All (StandsClear margin) ds → All (StandsClear margin) es
-        all_seen [] [] same own = All-nil (StandsClear margin)
-        all_seen [] (e ∷ es) same own = cc
-        all_seen (d ∷ ds) [] same own = cc
-        all_seen (d ∷ ds) (e ∷ es) same own =
-            All-cons (StandsClear margin)
-            e es (clear_seen margin d e (head_seen (seen_part d) (seen_part e) (map seen_part ds) (map seen_part es) same)
-            (All-head (StandsClear margin) d ds own))
-            (all_seen ds es (tail_seen (seen_part d) (seen_part e) (map seen_part ds) (map seen_part es) same)
-            (All-tail (StandsClear margin) d ds own))
-          where
-            head_seen : (x y : PartEntry) (xs ys : List PartEntry) → x ∷ xs ≡ y ∷ ys → x ≡ y
-            head_seen x y xs ys same = cc
-
-            tail_seen : (x y : PartEntry) (xs ys : List PartEntry) → x ∷ xs ≡ y ∷ ys → xs ≡ ys
-            tail_seen x y xs ys same = cc
 
 -- ---- how deep bars stand
 

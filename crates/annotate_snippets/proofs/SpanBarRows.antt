@@ -1,6 +1,6 @@
 -- Beside the rows of a snippet's lines stand the bars of its spans.
 use Rattle.std.proofs.Common.{◌≡◌, ℕ, zero, suc, ◌+◌, ◌-◌, ◌<◌, ◌≤◌, ◌==◌, ◌&&◌, Bool, true, false, not, cond, leb, take, replicate, ◌≢◌, List, [], ◌∷◌, ◌++◌}
-use Rattle.std.proofs.Common.{◌⊎◌, fold, map, length, get_or, inl, inr, refl, sym, ap, subst, ◌∙◌, arith}
+use Rattle.std.proofs.Common.{◌⊎◌, fold, length, get_or, inl, inr, refl, sym, ap, subst, ◌∙◌, arith}
 use Rattle.std.specs.List.{All, Contains, filter}
 use Rattle.std.specs.Cow.{cow_str_bytes}
 use Rattle.std.proofs.lemmas.Bool.{le-leb, and_from, cases_Bool}
@@ -15,7 +15,7 @@ use Rattle.snippet_style.specs.declared.role.ElementStyle.TheVariants.{LineNumbe
 use Rattle.snippet_style.proofs.CellLemmas.{length-text_cells}
 use Rattle.std.proofs.lemmas.List.{length-append, length-replicate, length-take}
 use Rattle.snippet_lines.specs.Span.{IsSpan}
-use Rattle.snippet_parts.specs.Annotated.{PartEntry, deepest, depth_of, is_long, seen_part}
+use Rattle.snippet_parts.specs.Annotated.{deepest, depth_of, is_long}
 use Rattle.snippet_parts.specs.declared.entries.LineAnnotation.{LineAnnotation}
 use Rattle.snippet_parts.specs.declared.entries.LineAnnotationType.{LineAnnotationType}
 use Rattle.snippet_parts.specs.declared.entries.LineAnnotationType.TheVariants.{MultilineEnd, MultilineStart}
@@ -23,7 +23,6 @@ use Rattle.snippet_parts.specs.Mark.{touches}
 use Rattle.snippet_parts.specs.Marked.{first_line, last_line}
 use Rattle.snippet_parts.proofs.AmongLemmas.{Among}
 use Rattle.snippet_parts.proofs.EntryFacts.{depth-within}
-use Rattle.snippet_parts.proofs.PartLemmas.{All-unmapped}
 use Rattle.snippet_strokes.specs.Bars.{Bar, HasOwnDepth, bars_apart, ends_of_bars, has_depth}
 use Rattle.snippet_strokes.specs.StrokeRows.{bare_elision_row}
 use Rattle.snippet_strokes.specs.EndBars.{BarEnds, IsNoBar}
@@ -37,7 +36,7 @@ use Rattle.snippet_labels.specs.PlacedEntries.{is_end_part}
 use Rattle.annotate_snippets.specs.declared.renderer.Renderer.{Renderer}
 use Rattle.snippet_grid.specs.Layout.{Layout}
 use Rattle.annotate_snippets.specs.Gutter.{code_after, number_text}
-use Rattle.annotate_snippets.specs.GraphicForm.{bars_on, entries_on}
+use Rattle.annotate_snippets.proofs.LineWords.{bars_on, entries_on}
 use Rattle.annotate_snippets.proofs.DrawnRows.{AreRowsDrawn, IsRowDrawn, open_after}
 use Rattle.annotate_snippets.specs.Page.{Elision, NamedRow, OfferedLine, Other, RemovedLine, RowName, SourceRow, lines_named, rows_below}
 use Rattle.annotate_snippets.specs.Page.{shows_lines}
@@ -368,11 +367,11 @@ module _ (r : Renderer) (layout : Layout) (closes : Bool) (s : Snippet Annotatio
     bar = bar_by_place s a
 
     -- no entry of line k stands for this part of a span, where none of those of its spans does
-    none_there : (k : ℕ) (part : LineAnnotationType) (es : List LineAnnotation) → map seen_part es ≡ entries_on s k
-        → ((p : PartEntry) → Among (entries_on s k) p → p.part ≡ part → ⊥) → All (λ (e : LineAnnotation). e.annotation_type ≡ part → ⊥) es
+    none_there : (k : ℕ) (part : LineAnnotationType) (es : List LineAnnotation) → es ≡ entries_on s k
+        → ((p : LineAnnotation) → Among (entries_on s k) p → p.annotation_type ≡ part → ⊥) → All (λ (e : LineAnnotation). e.annotation_type ≡ part → ⊥) es
     none_there k part es are none =
-        let P : PartEntry → Type 0 = λ p. p.part ≡ part → ⊥ in
-        All-unmapped P seen_part es (subst (All P) (sym are) (all_from_among P (entries_on s k) none))
+        let P : LineAnnotation → Type 0 = λ p. p.annotation_type ≡ part → ⊥ in
+        subst (All P) (sym are) (all_from_among P (entries_on s k) none)
 
     -- the bar begins in the rows of the span's first line
     line_begins : (open_bars : List Bar) (k : ℕ) (row : List Cell) (rows : List NamedRow) → IsRowOf r layout closes s (SourceRow k) row rows

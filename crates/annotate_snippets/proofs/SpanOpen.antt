@@ -8,13 +8,14 @@ use Rattle.snippet_model.specs.AnnotationKind.{is_primary}
 use Rattle.snippet_model.specs.declared.snippet.Annotation.{Annotation}
 use Rattle.snippet_lines.specs.Lines.{Source}
 use Rattle.snippet_lines.specs.Span.{IsSpan}
+use Rattle.snippet_parts.specs.declared.entries.LineAnnotation.{LineAnnotation}
 use Rattle.snippet_parts.specs.declared.depths.LongExtent.{LongExtent}
 use Rattle.snippet_parts.specs.declared.entries.LineAnnotationType.TheVariants.{MultilineEnd, MultilineStart}
-use Rattle.snippet_parts.specs.Annotated.{PartEntry, depth_of, end_part, is_long, long_entry, long_parts, long_place, long_spans}
+use Rattle.snippet_parts.specs.Annotated.{depth_of, end_part, is_long, long_entry, long_parts, long_place, long_spans}
 use Rattle.snippet_parts.specs.Annotated.{made_parts, parts_on, single_part, start_part}
 use Rattle.snippet_parts.specs.Depths.{depth_among}
 use Rattle.snippet_parts.specs.Mark.{is_marking, is_single_line}
-use Rattle.snippet_parts.specs.Marked.{Entry, first_line, last_line}
+use Rattle.snippet_parts.specs.Marked.{first_line, last_line}
 use Rattle.snippet_parts.proofs.AmongLemmas.{Among, among_filter, among_filter_map, among_in_order, among_left, among_map, among_right, any_among, any_cases}
 use Rattle.snippet_parts.proofs.AmongLemmas.{append_cases, filter_cases, in_order_cases, map_cases}
 use Rattle.snippet_parts.proofs.KeptPartLemmas.{lines_ordered}
@@ -38,15 +39,16 @@ bar_at_place s marks place =
 
 -- the bars of the starts and ends on line k
 abbrev pub bars_of_line : Source → List Annotation → ℕ → List Bar
-bars_of_line s marks k = filter_map (λ (e : PartEntry). bar_at e.part (is_primary e.entry.kind)) (parts_on s marks k)
+bars_of_line s marks k = filter_map (λ (e : LineAnnotation). bar_at e.annotation_type (is_primary e.kind)) (parts_on s marks k)
 
 -- an entry is the start of a span on line k, or the end of one, with this bar
-pub record IsPartOf (s : Source) (marks : List Annotation) (k : ℕ) (p : PartEntry) (bar : Bar) : Type 0 where
+pub record IsPartOf (s : Source) (marks : List Annotation) (k : ℕ) (p : LineAnnotation) (bar : Bar) : Type 0 where
   pub span : Annotation
   pub among : Contains marks span
   pub long : is_long s.text span ≡ true
   pub bar_is : bar ≡ bar_at_place s marks (place_in s span)
-  pub line : ((p.part ≡ MultilineStart bar.depth) × (first_line s.text span ≡ k)) ⊎ ((p.part ≡ MultilineEnd bar.depth) × (last_line s.text span ≡ k))
+  pub line : ((p.annotation_type ≡ MultilineStart bar.depth) × (first_line s.text span ≡ k))
+      ⊎ ((p.annotation_type ≡ MultilineEnd bar.depth) × (last_line s.text span ≡ k))
 
 -- the bar is that of a span which begins or ends on line k
 pub record IsBarOf (s : Source) (marks : List Annotation) (k : ℕ) (bar : Bar) : Type 0 where
@@ -57,29 +59,29 @@ pub record IsBarOf (s : Source) (marks : List Annotation) (k : ℕ) (bar : Bar) 
   pub line : (first_line s.text span ≡ k) ⊎ (last_line s.text span ≡ k)
 
 module _ (s : Source) (marks : List Annotation) where
-  abbrev spans_in_order : List Entry
+  abbrev spans_in_order : List LineAnnotation
   spans_in_order = long_spans s marks
 
   abbrev places : List LongExtent
   places = long_places s marks
 
-  abbrev singles : List PartEntry
+  abbrev singles : List LineAnnotation
   singles = map (single_part s) (filter (is_short s.text) marks)
 
-  abbrev longs : List PartEntry
+  abbrev longs : List LineAnnotation
   longs = long_parts s places [] spans_in_order
 
-  abbrev has : PartEntry → Option Bar
-  has e = bar_at e.part (is_primary e.entry.kind)
+  abbrev has : LineAnnotation → Option Bar
+  has e = bar_at e.annotation_type (is_primary e.kind)
 
-  abbrev on_line : ℕ → PartEntry → Bool
-  on_line k p = p.entry.start.line == s.first + k
+  abbrev on_line : ℕ → LineAnnotation → Bool
+  on_line k p = p.start.line == s.first + k
 
   -- an entry of line k that has a bar is the start or the end of a span
-  pub part_bar : (k : ℕ) (p : PartEntry) (bar : Bar) → Among (parts_on s marks k) p → has p ≡ Some bar → IsPartOf s marks k p bar
+  pub part_bar : (k : ℕ) (p : LineAnnotation) (bar : Bar) → Among (parts_on s marks k) p → has p ≡ Some bar → IsPartOf s marks k p bar
   part_bar k p bar here has_it =
       let on = filter_cases (on_line k) (made_parts s marks) p here in
-      let line : p.entry.start.line ≡ s.first + k = eqb-true p.entry.start.line (s.first + k) on.1 in
+      let line : p.start.line ≡ s.first + k = eqb-true p.start.line (s.first + k) on.1 in
       elim (append_cases singles longs p on.0) [
         | inl single ↦ (let made = map_cases (single_part s) (filter (is_short s.text) marks) p single in absurd (no_bar (ap has made.2 ∙ has_it)))
         | inr long ↦
@@ -89,13 +91,13 @@ module _ (s : Source) (marks : List Annotation) where
             let given = filter_cases (is_long s.text) marks made.0 made.1 in
             let first : (long_entry s made.0).start.line ≡ s.first + first_line s.text made.0 = start-line s made.0.span.start made.0.span.end in
             let last : (long_entry s made.0).end.line ≡ s.first + last_line s.text made.0 = end-line s made.0.span.start made.0.span.end in
-            let starts : (long_entry s made.0).start.line ≡ e.span.start.line = ap (λ (d : Entry). d.start.line) made.2 in
-            let ends : (long_entry s made.0).end.line ≡ e.span.end.line = ap (λ (d : Entry). d.end.line) made.2 in
+            let starts : (long_entry s made.0).start.line ≡ e.span.start.line = ap (λ (d : LineAnnotation). d.start.line) made.2 in
+            let ends : (long_entry s made.0).end.line ≡ e.span.end.line = ap (λ (d : LineAnnotation). d.end.line) made.2 in
             record {
               span = made.0;
               among = among_contains marks made.0 given.0;
               long = given.1;
-              bar_is = e.bar_is ∙ ap (λ (d : Entry). bar_at_place s marks (long_place d)) (sym made.2);
+              bar_is = e.bar_is ∙ ap (λ (d : LineAnnotation). bar_at_place s marks (long_place d)) (sym made.2);
               line = elim e.line [
                 | inl at ↦ inl (at.0, omega (arith, at.1, line, first, starts))
                 | inr at ↦ inr (at.0, omega (arith, at.1, line, last, ends))
@@ -127,11 +129,11 @@ module _ (s : Source) (marks : List Annotation) where
       ends_of s places [] spans_in_order spans_in_order refl (place_in s a) (long_entry s a) ordered refl
 
   -- an entry of a span's place that stands on line k gives its bar
-  gives_bar : (k : ℕ) (p : PartEntry) (place : LongExtent) → Among longs p → p.entry.start.line ≡ s.first + k → has p ≡ Some (bar_at_place s marks place)
+  gives_bar : (k : ℕ) (p : LineAnnotation) (place : LongExtent) → Among longs p → p.start.line ≡ s.first + k → has p ≡ Some (bar_at_place s marks place)
       → Among (bars_of_line s marks k) (bar_at_place s marks place)
   gives_bar k p place among line is =
       among_filter_map has (parts_on s marks k) p (bar_at_place s marks place)
-      (among_filter (on_line k) (made_parts s marks) p (among_right singles longs p among) (eq-eqb p.entry.start.line (s.first + k) line)) is
+      (among_filter (on_line k) (made_parts s marks) p (among_right singles longs p among) (eq-eqb p.start.line (s.first + k) line)) is
 
   -- where a span begins its bar is one of the line's
   pub start_here : (k : ℕ) (a : Annotation) → Contains marks a → is_long s.text a ≡ true → first_line s.text a ≡ k
@@ -273,11 +275,11 @@ module _ (s : Source) (marks : List Annotation) (spans : All (λ a. IsSpan s.tex
         touch-to is order = elim is.line [ inl first ↦ omega (arith, first, order, from) | inr last ↦ omega (arith, last, from) ]
 
     -- where a span begins no end of a span has its depth
-    pub no_end : (a : Annotation) → Contains marks a → is_long s.text a ≡ true → first_line s.text a ≡ k → (p : PartEntry) → Among (parts_on s marks k) p
-        → p.part ≡ MultilineEnd (depth_of s marks a) → ⊥
+    pub no_end : (a : Annotation) → Contains marks a → is_long s.text a ≡ true → first_line s.text a ≡ k → (p : LineAnnotation) → Among (parts_on s marks k) p
+        → p.annotation_type ≡ MultilineEnd (depth_of s marks a) → ⊥
     no_end a among long here p on end =
-        let b : Bar = record { depth = depth_of s marks a; primary = is_primary p.entry.kind } in
-        let is : IsPartOf s marks k p b = part_bar s marks k p b on (ap (λ t. bar_at t (is_primary p.entry.kind)) end) in
+        let b : Bar = record { depth = depth_of s marks a; primary = is_primary p.kind } in
+        let is : IsPartOf s marks k p b = part_bar s marks k p b on (ap (λ t. bar_at t (is_primary p.kind)) end) in
         let order = longer is.span is.among is.long in
         let order-a = longer a among long in
         let depth : depth_of s marks is.span ≡ depth_of s marks a = sym (ap (λ (x : Bar). x.depth) is.bar_is) in
@@ -291,11 +293,11 @@ module _ (s : Source) (marks : List Annotation) (spans : All (λ a. IsSpan s.tex
         two_parts wrong = cc wrong
 
     -- and where it ends no start
-    pub no_start : (a : Annotation) → Contains marks a → is_long s.text a ≡ true → last_line s.text a ≡ k → (p : PartEntry) → Among (parts_on s marks k) p
-        → p.part ≡ MultilineStart (depth_of s marks a) → ⊥
+    pub no_start : (a : Annotation) → Contains marks a → is_long s.text a ≡ true → last_line s.text a ≡ k → (p : LineAnnotation) → Among (parts_on s marks k) p
+        → p.annotation_type ≡ MultilineStart (depth_of s marks a) → ⊥
     no_start a among long here p on start =
-        let b : Bar = record { depth = depth_of s marks a; primary = is_primary p.entry.kind } in
-        let is : IsPartOf s marks k p b = part_bar s marks k p b on (ap (λ t. bar_at t (is_primary p.entry.kind)) start) in
+        let b : Bar = record { depth = depth_of s marks a; primary = is_primary p.kind } in
+        let is : IsPartOf s marks k p b = part_bar s marks k p b on (ap (λ t. bar_at t (is_primary p.kind)) start) in
         let order = longer is.span is.among is.long in
         let order-a = longer a among long in
         let depth : depth_of s marks is.span ≡ depth_of s marks a = sym (ap (λ (x : Bar). x.depth) is.bar_is) in

@@ -7,12 +7,13 @@ use Rattle.std.proofs.lemmas.List.Folds.{list_any-append}
 use Rattle.snippet_model.specs.AnnotationKind.{is_primary}
 use Rattle.snippet_model.specs.declared.snippet.AnnotationKind.TheVariants.{Primary}
 use Rattle.snippet_lines.specs.Lines.{Source}
+use Rattle.snippet_parts.specs.declared.entries.LineAnnotation.{LineAnnotation}
 use Rattle.snippet_parts.specs.declared.depths.LongExtent.{LongExtent}
 use Rattle.snippet_parts.specs.declared.entries.LineAnnotationType.TheVariants.{Singleline, MultilineEnd, MultilineStart}
-use Rattle.snippet_parts.specs.Annotated.{PartEntry, bar_lines, bar_part, end_part, long_parts, long_place, promoted, span_parts}
+use Rattle.snippet_parts.specs.Annotated.{bar_part, end_part, long_parts, long_place, promoted, span_parts}
+use Rattle.snippet_parts.specs.LongSpans.{bar_lines}
 use Rattle.snippet_parts.specs.Annotated.{start_part}
 use Rattle.snippet_parts.specs.Depths.{depth_among, same_place}
-use Rattle.snippet_parts.specs.Marked.{Entry}
 use Rattle.snippet_parts.proofs.AmongLemmas.{Among, among_left, among_right, any_cases, append_cases, map_cases}
 use Rattle.snippet_parts.proofs.LongStarts.{promoted-end, promoted-start}
 use Rattle.snippet_parts.proofs.RawDepthLemmas.{same-refl, same-true}
@@ -20,28 +21,28 @@ use Rattle.snippet_strokes.specs.Bars.{Bar, bar_at}
 use Rattle.snippet_parts.proofs.PartWords.{is_promoted, stands_among}
 
 -- whether one of some spans of this place is primary
-abbrev pub is_primary_at : List Entry → LongExtent → Bool
-is_primary_at es place = list_any (λ (d : Entry). is_primary d.kind && same_place place (long_place d)) es
+abbrev pub is_primary_at : List LineAnnotation → LongExtent → Bool
+is_primary_at es place = list_any (λ (d : LineAnnotation). is_primary d.kind && same_place place (long_place d)) es
 
 -- ---- the kind of the last span of a place
 
 -- a span that is promoted is primary
-promoted-kind : (before : List Entry) (e : Entry) → is_primary (promoted before e).kind ≡ is_promoted before e
+promoted-kind : (before : List LineAnnotation) (e : LineAnnotation) → is_primary (promoted before e).kind ≡ is_promoted before e
 promoted-kind before e =
-    let drawn : Entry = record e { kind = Primary } in
+    let drawn : LineAnnotation = record e { kind = Primary } in
     elim (cases_Bool (is_promoted before e)) [
-      | inl so ↦ ap (λ (d : Entry). is_primary d.kind) (cond-true (is_promoted before e) drawn e so) ∙ sym so
-      | inr other ↦ ap (λ (d : Entry). is_primary d.kind) (cond-false (is_promoted before e) drawn e other)
+      | inl so ↦ ap (λ (d : LineAnnotation). is_primary d.kind) (cond-true (is_promoted before e) drawn e so) ∙ sym so
+      | inr other ↦ ap (λ (d : LineAnnotation). is_primary d.kind) (cond-false (is_promoted before e) drawn e other)
           ∙ (or_parts (is_primary e.kind) (is_primary_at before (long_place e)) other).0 ∙ sym other
     ]
 
 -- it keeps its place
-promoted_place : (before : List Entry) (e : Entry) → long_place (promoted before e) ≡ long_place e
+promoted_place : (before : List LineAnnotation) (e : LineAnnotation) → long_place (promoted before e) ≡ long_place e
 promoted_place before e =
-    cond_both (is_promoted before e) (record e { kind = Primary }) e (λ (d : Entry). long_place d ≡ long_place e) (λ _. refl) (λ _. refl)
+    cond_both (is_promoted before e) (record e { kind = Primary }) e (λ (d : LineAnnotation). long_place d ≡ long_place e) (λ _. refl) (λ _. refl)
 
 -- where no later span has a place none is primary there
-none_later : (e : Entry) (later : List Entry) → stands_among e later ≡ false → is_primary_at later (long_place e) ≡ false
+none_later : (e : LineAnnotation) (later : List LineAnnotation) → stands_among e later ≡ false → is_primary_at later (long_place e) ≡ false
 none_later e [] none = refl
 none_later e (d ∷ later) none =
     let parts = or_parts (same_place (long_place e) (long_place d)) (stands_among e later) none in
@@ -53,11 +54,11 @@ none_later e (d ∷ later) none =
     neither false b is = is
 
 -- so the last span of a place is drawn as primary where any span of that place is
-kind_drawn : (before : List Entry) (e : Entry) (later : List Entry) → stands_among e later ≡ false
+kind_drawn : (before : List LineAnnotation) (e : LineAnnotation) (later : List LineAnnotation) → stands_among e later ≡ false
     → is_primary (promoted before e).kind ≡ is_primary_at (before ++ e ∷ later) (long_place e)
 kind_drawn before e later last =
     let place = long_place e in
-    let test : Entry → Bool = λ d. is_primary d.kind && same_place place (long_place d) in
+    let test : LineAnnotation → Bool = λ d. is_primary d.kind && same_place place (long_place d) in
     let earlier : Bool = is_primary_at before place in
     let after : earlier || ((is_primary e.kind && true) || false) ≡ earlier
     || ((is_primary e.kind && true) || is_primary_at later place) = ap (λ b.
@@ -74,14 +75,14 @@ kind_drawn before e later last =
 -- ---- each place has a start and an end
 
 -- the entries of some spans have a start and an end of this place, with its bar
-pub record HasEnds (places : List LongExtent) (all : List Entry) (parts : List PartEntry) (place : LongExtent) : Type 0 where
-  pub span : Entry
+pub record HasEnds (places : List LongExtent) (all : List LineAnnotation) (parts : List LineAnnotation) (place : LongExtent) : Type 0 where
+  pub span : LineAnnotation
   pub place_is : long_place span ≡ place
   pub primary : is_primary span.kind ≡ is_primary_at all place
   pub start : Among parts (start_part span (depth_among places place))
   pub end : Among parts (end_part span (MultilineEnd (depth_among places place)))
 
-further : (places : List LongExtent) (all : List Entry) (own parts : List PartEntry) (place : LongExtent) → HasEnds places all parts place
+further : (places : List LongExtent) (all : List LineAnnotation) (own parts : List LineAnnotation) (place : LongExtent) → HasEnds places all parts place
     → HasEnds places all (own ++ parts) place
 further places all own parts place ends =
     record {
@@ -92,16 +93,17 @@ further places all own parts place ends =
       end = among_right own parts (end_part ends.span (MultilineEnd (depth_among places place))) ends.end;
     }
 
-last_ends : (s : Source) (places : List LongExtent) (before : List Entry) (e : Entry) (later : List Entry) (others : List PartEntry)
+last_ends : (s : Source) (places : List LongExtent) (before : List LineAnnotation) (e : LineAnnotation) (later : List LineAnnotation)
+    (others : List LineAnnotation)
     → stands_among e later ≡ false
     → HasEnds places (before ++ e ∷ later) (span_parts s (depth_among places (long_place e)) (stands_among e later) (promoted before e) ++ others)
     (long_place e)
 last_ends s places before e later others last =
     let depth : ℕ = depth_among places (long_place e) in
-    let drawn : Entry = promoted before e in
-    let bars : List PartEntry = map (λ k. bar_part drawn depth (s.first + k)) (bar_lines s.text (drawn.start.line - s.first) (drawn.end.line - s.first)) in
-    let start : PartEntry = start_part drawn depth in
-    let end : PartEntry = end_part drawn (MultilineEnd depth) in
+    let drawn : LineAnnotation = promoted before e in
+    let bars : List LineAnnotation = map (λ k. bar_part drawn depth (s.first + k)) (bar_lines s.text (drawn.start.line - s.first) (drawn.end.line - s.first)) in
+    let start : LineAnnotation = start_part drawn depth in
+    let end : LineAnnotation = end_part drawn (MultilineEnd depth) in
     record {
       span = drawn;
       place_is = promoted_place before e;
@@ -113,7 +115,8 @@ last_ends s places before e later others last =
     }
 
 -- a span's place has them
-pub ends_of : (s : Source) (places : List LongExtent) (before later all : List Entry) → all ≡ before ++ later → (place : LongExtent) (e : Entry) → Among later e
+pub ends_of : (s : Source) (places : List LongExtent) (before later all : List LineAnnotation) → all ≡ before ++ later
+    → (place : LongExtent) (e : LineAnnotation) → Among later e
     → long_place e ≡ place → HasEnds places all (long_parts s places before later) place
 ends_of s places before [] all is place e here at = absurd here
 ends_of s places before (f ∷ later) all is place e (inr among) at =
@@ -123,13 +126,13 @@ ends_of s places before (f ∷ later) all is place e (inr among) at =
 ends_of s places before (f ∷ later) all is place e (inl same) at =
     elim (cases_Bool (stands_among f later)) [
       | inl again ↦
-          let g = any_cases (λ (d : Entry). same_place (long_place f) (long_place d)) later again in
+          let g = any_cases (λ (d : LineAnnotation). same_place (long_place f) (long_place d)) later again in
           let next = ends_of s places (before ++ f ∷ []) later all (is ∙ sym (append_assoc before (f ∷ []) later)) place g.0 g.1
           (sym (same-true (long_place f) (long_place g.0) g.2) ∙ here) in
           further places all (span_parts s (depth_among places (long_place f)) (stands_among f later) (promoted before f))
           (long_parts s places (before ++ f ∷ []) later) place next
       | inr last ↦
-          let parts : List PartEntry = long_parts s places before (f ∷ later) in
+          let parts : List LineAnnotation = long_parts s places before (f ∷ later) in
           subst (λ p. HasEnds places all parts p) here (subst (λ es. HasEnds places es parts (long_place f)) (sym is)
           (last_ends s places before f later (long_parts s places (before ++ f ∷ []) later) last))
     ]
@@ -140,35 +143,36 @@ ends_of s places before (f ∷ later) all is place e (inl same) at =
 -- ---- and no other entry has a bar
 
 -- the bar of an entry is that of one of some spans, of which it is the start, on the first line, or the end, on the last
-pub record IsEndOf (places : List LongExtent) (all later : List Entry) (p : PartEntry) (bar : Bar) : Type 0 where
-  pub span : Entry
+pub record IsEndOf (places : List LongExtent) (all later : List LineAnnotation) (p : LineAnnotation) (bar : Bar) : Type 0 where
+  pub span : LineAnnotation
   pub among : Among later span
   pub bar_is : bar ≡ record { depth = depth_among places (long_place span); primary = is_primary_at all (long_place span) }
-  pub line : ((p.part ≡ MultilineStart bar.depth) × (p.entry.start.line ≡ span.start.line))
-      ⊎ ((p.part ≡ MultilineEnd bar.depth) × (p.entry.start.line ≡ span.end.line))
+  pub line : ((p.annotation_type ≡ MultilineStart bar.depth) × (p.start.line ≡ span.start.line))
+      ⊎ ((p.annotation_type ≡ MultilineEnd bar.depth) × (p.start.line ≡ span.end.line))
 
 some_same : {X : Type 0} (x y : X) → Some x ≡ Some y → x ≡ y
 some_same x y same = cc
 
-module _ (s : Source) (places : List LongExtent) (before : List Entry) (e : Entry) (later : List Entry) (all : List Entry) (all_is : all ≡ before ++ e ∷ later)
-    (p : PartEntry) (bar : Bar) (bar_is : bar_at p.part (is_primary p.entry.kind) ≡ Some bar) where
+module _ (s : Source) (places : List LongExtent) (before : List LineAnnotation) (e : LineAnnotation) (later : List LineAnnotation)
+    (all : List LineAnnotation) (all_is : all ≡ before ++ e ∷ later)
+    (p : LineAnnotation) (bar : Bar) (bar_is : bar_at p.annotation_type (is_primary p.kind) ≡ Some bar) where
   abbrev depth : ℕ
   depth = depth_among places (long_place e)
 
-  abbrev drawn : Entry
+  abbrev drawn : LineAnnotation
   drawn = promoted before e
 
   -- the bar that an entry has
-  has : PartEntry → Option Bar
-  has q = bar_at q.part (is_primary q.entry.kind)
+  has : LineAnnotation → Option Bar
+  has q = bar_at q.annotation_type (is_primary q.kind)
 
-  own_bar : (q : PartEntry) → q ≡ p → has q ≡ Some bar
+  own_bar : (q : LineAnnotation) → q ≡ p → has q ≡ Some bar
   unfolding has
   own_bar q same = ap has same ∙ bar_is
 
   -- where it is the span's own
   is_own : stands_among e later ≡ false → Some (record { depth = depth; primary = is_primary drawn.kind }) ≡ Some bar
-      → ((p.part ≡ MultilineStart depth) × (p.entry.start.line ≡ e.start.line)) ⊎ ((p.part ≡ MultilineEnd depth) × (p.entry.start.line ≡ e.end.line))
+      → ((p.annotation_type ≡ MultilineStart depth) × (p.start.line ≡ e.start.line)) ⊎ ((p.annotation_type ≡ MultilineEnd depth) × (p.start.line ≡ e.end.line))
       → IsEndOf places all (e ∷ later) p bar
   is_own last same line =
       let own : record { depth = depth; primary = is_primary drawn.kind }
@@ -197,22 +201,23 @@ module _ (s : Source) (places : List LongExtent) (before : List Entry) (e : Entr
   unfolding has
   one_part last (inl same) =
       is_own last (own_bar (start_part drawn depth) same) (inl (
-        sym (ap (λ (q : PartEntry). q.part) same),
+        sym (ap (λ (q : LineAnnotation). q.annotation_type) same),
         sym
-            (ap (λ (q : PartEntry). q.entry.start.line) same) ∙ ap (λ l. l.line) (promoted-start before e),
+            (ap (λ (q : LineAnnotation). q.start.line) same) ∙ ap (λ l. l.line) (promoted-start before e),
       ))
   one_part last (inr rest) =
-      let bars : List PartEntry = map (λ k. bar_part drawn depth (s.first + k)) (bar_lines s.text (drawn.start.line - s.first) (drawn.end.line - s.first)) in
-      let end : PartEntry = end_part drawn (MultilineEnd depth) in
+      let bars : List LineAnnotation = map (λ k. bar_part drawn depth (s.first + k))
+      (bar_lines s.text (drawn.start.line - s.first) (drawn.end.line - s.first)) in
+      let end : LineAnnotation = end_part drawn (MultilineEnd depth) in
       elim (append_cases bars (end ∷ []) p rest) [
         | inl beside ↦
             let made = map_cases (λ k. bar_part drawn depth (s.first + k))
             (bar_lines s.text (drawn.start.line - s.first) (drawn.end.line - s.first)) p beside in
             absurd (no_bar (own_bar (bar_part drawn depth (s.first + made.0)) made.2))
         | inr (inl same) ↦ is_own last (own_bar end same) (inr (
-          sym (ap (λ (q : PartEntry). q.part) same),
+          sym (ap (λ (q : LineAnnotation). q.annotation_type) same),
           sym
-              (ap (λ (q : PartEntry). q.entry.start.line) same) ∙ ap (λ l. l.line) (promoted-end before e),
+              (ap (λ (q : LineAnnotation). q.start.line) same) ∙ ap (λ l. l.line) (promoted-end before e),
         ))
         | inr (inr none) ↦ absurd none
       ]
@@ -228,8 +233,8 @@ module _ (s : Source) (places : List LongExtent) (before : List Entry) (e : Entr
       ]
 
 -- an entry that has a bar is the start or the end of a span
-pub end_of : (s : Source) (places : List LongExtent) (before later all : List Entry) → all ≡ before ++ later → (p : PartEntry) (bar : Bar)
-    → Among (long_parts s places before later) p → bar_at p.part (is_primary p.entry.kind) ≡ Some bar → IsEndOf places all later p bar
+pub end_of : (s : Source) (places : List LongExtent) (before later all : List LineAnnotation) → all ≡ before ++ later → (p : LineAnnotation) (bar : Bar)
+    → Among (long_parts s places before later) p → bar_at p.annotation_type (is_primary p.kind) ≡ Some bar → IsEndOf places all later p bar
 end_of s places before [] all is p bar here bar_is = absurd here
 end_of s places before (e ∷ later) all is p bar here bar_is =
     elim (append_cases (span_parts s (depth_among places (long_place e)) (stands_among e later) (promoted before e))

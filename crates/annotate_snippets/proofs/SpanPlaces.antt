@@ -10,11 +10,12 @@ use Rattle.snippet_model.specs.declared.snippet.Snippet.{Snippet}
 use Rattle.snippet_lines.specs.declared.place.Loc.{Loc}
 use Rattle.snippet_lines.specs.Lines.{Source, source_lines}
 use Rattle.snippet_lines.specs.Place.{end_location, line_of, location_of, locations_of, start_location}
+use Rattle.snippet_parts.specs.declared.entries.LineAnnotation.{LineAnnotation}
 use Rattle.snippet_parts.specs.declared.depths.LongExtent.{LongExtent}
 use Rattle.snippet_parts.specs.Annotated.{depth_of, is_long, long_entry, long_place, long_spans}
 use Rattle.snippet_parts.specs.Depths.{same_place}
 use Rattle.snippet_parts.specs.Mark.{is_marking, is_single_line}
-use Rattle.snippet_parts.specs.Marked.{Entry, first_line, last_line}
+use Rattle.snippet_parts.specs.Marked.{first_line, last_line}
 use Rattle.snippet_parts.proofs.AmongLemmas.{among_filter, among_in_order, among_map, any_among, any_cases, filter_cases, in_order_cases, map_cases}
 use Rattle.snippet_parts.proofs.RawDepthLemmas.{same-refl, same-true}
 use Rattle.snippet_grid.specs.Layout.{Layout, bar_cell}
@@ -99,14 +100,14 @@ module _ (s : Snippet Annotation) where
     where
       given : is_primary_at (long_spans source marks) (place_in source a) ≡ true → (bar_of_span s a).primary ≡ true
       given there =
-          let d = any_cases (λ (d : Entry). is_primary d.kind && same_place (place_in source a) (long_place d)) (long_spans source marks) there in
+          let d = any_cases (λ (d : LineAnnotation). is_primary d.kind && same_place (place_in source a) (long_place d)) (long_spans source marks) there in
           let made = map_cases (long_entry source) (filter (is_long source.text) marks) d.0
           (in_order_cases stands_before (map (long_entry source) (filter (is_long source.text) marks)) d.0 d.1) in
           let b : Annotation = made.0 in
           let among = filter_cases (is_long source.text) marks b made.1 in
           let parts = and_parts (is_primary d.0.kind) (same_place (place_in source a) (long_place d.0)) d.2 in
           let bytes = bytes_same source b a (ap long_place made.2 ∙ sym (same-true (place_in source a) (long_place d.0) parts.1)) in
-          let primary : is_primary b.kind ≡ true = ap (λ (e : Entry). is_primary e.kind) made.2 ∙ parts.0 in
+          let primary : is_primary b.kind ≡ true = ap (λ (e : LineAnnotation). is_primary e.kind) made.2 ∙ parts.0 in
           any_among (λ (b : Annotation). is_primary b.kind && (b.span.start == a.span.start && b.span.end == a.span.end)) marks b among.0
           (and_from (is_primary b.kind) (b.span.start == a.span.start && b.span.end == a.span.end) primary
           (and_from (b.span.start == a.span.start) (b.span.end == a.span.end) (eq-eqb b.span.start a.span.start bytes.0)
@@ -125,5 +126,6 @@ module _ (s : Snippet Annotation) where
           (among_map (long_entry source) (filter (is_long source.text) marks) b among) in
           let same : same_place (place_in source a) (place_in source b) ≡ true = ap (same_place (place_in source a)) (same_bytes source b a starts ends)
           ∙ same-refl (place_in source a) in
-          any_among (λ (d : Entry). is_primary d.kind && same_place (place_in source a) (long_place d)) (long_spans source marks) (long_entry source b) ordered
+          any_among (λ (d : LineAnnotation). is_primary d.kind && same_place (place_in source a) (long_place d)) (long_spans source marks)
+          (long_entry source b) ordered
           (and_from (is_primary b.kind) (same_place (place_in source a) (place_in source b)) parts.0 same)

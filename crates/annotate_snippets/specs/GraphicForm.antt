@@ -1,11 +1,8 @@
 -- The graphic form of a report, as a value: a page, each row of which is made from the report by the rule of its part.
 use Rattle.std.specs.Prelude.{ℕ, ◌+◌, ◌-◌, ◌==◌, ◌&&◌, nat_lt, not, List, [], ◌∷◌, ◌++◌, Bool, Option, Some, length, map, if◌then◌else◌}
-use Rattle.std.specs.Borrow.{Bor}
 use Rattle.std.specs.Cow.{cow_str_bytes}
-use Rattle.std.specs.List.{enumerate_from, filter_map}
-use Rattle.std.specs.Option.{option_map}
+use Rattle.std.specs.List.{enumerate_from}
 use Rattle.snippet_style.specs.Cell.{Cell}
-use Rattle.snippet_model.specs.AnnotationKind.{is_primary}
 use Rattle.snippet_model.specs.declared.snippet.Annotation.{Annotation}
 use Rattle.snippet_model.specs.declared.snippet.Element.{Element}
 use Rattle.snippet_model.specs.declared.snippet.Element.TheVariants as element
@@ -13,13 +10,12 @@ use Rattle.snippet_model.specs.declared.snippet.Group.{Group}
 use Rattle.snippet_model.specs.declared.snippet.Patch.{Patch}
 use Rattle.snippet_model.specs.declared.snippet.Snippet.{Snippet}
 use Rattle.snippet_text.specs.Normalized.{norm}
-use Rattle.snippet_parts.specs.Annotated.{PartEntry, annotated_lines, parts_on}
+use Rattle.snippet_parts.specs.Annotated.{annotated_lines, parts_on}
 use Rattle.snippet_parts.specs.Kept.{shown_lines}
 use Rattle.snippet_window.specs.Measures.{margin_of}
 use Rattle.snippet_window.specs.Window.{chars_at}
-use Rattle.snippet_parts.specs.declared.entries.LineAnnotation.{LineAnnotation}
 use Rattle.snippet_window.specs.declared.margin.Margin.{Margin}
-use Rattle.snippet_strokes.specs.Bars.{Bar, bar_at, open_past}
+use Rattle.snippet_strokes.specs.Bars.{Bar, ends_of_bars, open_past}
 use Rattle.snippet_strokes.specs.Snippet.{gap_row, shown_rows}
 use Rattle.snippet_suggest.specs.Given.{first_given}
 use Rattle.snippet_suggest.specs.RowOrder.{Offers, Removes, SuggestionRow}
@@ -36,34 +32,16 @@ use Rattle.annotate_snippets.specs.RowsWithoutSource.{cause_head, message_rows, 
 
 -- ---- lines
 
--- the entries of a snippet's spans on line k
-abbrev pub entries_on : Snippet Annotation → ℕ → List PartEntry
-entries_on s k = parts_on (numbered_source s) s.markers.items k
-
--- the bar that the start or the end of a span of several lines has, and those of all that stand on line k
-abbrev pub bars_on : Snippet Annotation → ℕ → List Bar
-bars_on s k = filter_map (λ e. bar_at e.part (is_primary e.entry.kind)) (entries_on s k)
-
 -- the margin of a snippet: that of the lines that are kept, with its spans, in the columns that code has
 abbrev pub margin_in : Renderer → Layout → Snippet Annotation → Margin
 margin_in r layout s = margin_of (r.term_width - layout.code) (annotated_lines s.fold (numbered_source s) s.markers.items)
-
--- a text that is lent, from wherever it stands
-abbrev pub lent : List ℕ → Bor (List ℕ)
-lent text = record { ref_ptr = (0, 0); now = text }
-
--- an entry as it is drawn
-abbrev pub line_entry : PartEntry → LineAnnotation
-line_entry p =
-    let e = p.entry in
-    record { start = e.start; end = e.end; kind = e.kind; label = option_map lent e.label; annotation_type = p.part; highlight_source = e.highlight_source }
 
 -- the rows of line k of a snippet, where these bars are open above it: what its entries make of the row that holds its number, the
 -- separator and its window, with the roles that entries highlight. The group's window may close with the line
 abbrev pub rows_of_line : Renderer → Layout → Bool → Snippet Annotation → List Bar → ℕ → List (List Cell)
 rows_of_line r layout closes s open_bars k =
     shown_rows layout (margin_in r layout s) closes open_bars (number_text r s.line_numbering layout.gutter (s.line_start + k))
-    (norm (chars_at (cow_str_bytes s.source) k)) (map line_entry (entries_on s k))
+    (norm (chars_at (cow_str_bytes s.source) k)) (parts_on (numbered_source s) s.markers.items k)
 
 -- the rows of line k with their names: the first shows the line
 abbrev pub named_line : ℕ → List (List Cell) → List NamedRow
@@ -81,7 +59,7 @@ gap_below r layout open_bars j (k ∷ ks) =
 abbrev pub rows_of_lines : Renderer → Layout → Bool → Snippet Annotation → List Bar → List ℕ → List NamedRow
 rows_of_lines r layout closes s open_bars [] = []
 rows_of_lines r layout closes s open_bars (k ∷ ks) =
-    let below = open_past open_bars (bars_on s k) in
+    let below = open_past open_bars (ends_of_bars (parts_on (numbered_source s) s.markers.items k)) in
     named_line k (rows_of_line r layout (closes && length ks == 0) s open_bars k) ++ (gap_below r layout below k ks ++ rows_of_lines r layout closes s below ks)
 
 -- ---- elements

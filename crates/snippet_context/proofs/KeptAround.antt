@@ -12,10 +12,11 @@ use Rattle.snippet_lines.specs.Lines.{Source, source_lines}
 use Rattle.snippet_model.specs.declared.snippet.Annotation.{Annotation}
 use Rattle.snippet_model.specs.declared.snippet.Snippet.{Snippet}
 use Rattle.snippet_parts.proofs.KeptLemmas.{among-kept, kept-within}
-use Rattle.snippet_parts.specs.Annotated.{PartEntry, is_long, long_entry, long_parts, long_place, made_parts, single_part}
+use Rattle.snippet_parts.specs.declared.entries.LineAnnotation.{LineAnnotation}
+use Rattle.snippet_parts.specs.Annotated.{is_long, long_entry, long_parts, long_place, made_parts, single_part}
 use Rattle.snippet_parts.specs.Kept.{has_bar, keeps, kept_lines}
 use Rattle.snippet_parts.specs.Mark.{touches}
-use Rattle.snippet_parts.specs.Marked.{Entry, first_line, last_line}
+use Rattle.snippet_parts.specs.Marked.{first_line, last_line}
 use Rattle.snippet_parts.specs.Numbered.{numbered_source}
 use Rattle.snippet_context.proofs.SpanLemmas.{around-first, around-last}
 use Rattle.snippet_context.specs.Context.{context_spans, is_line_near, lines_around, span_around, visible_mark}
@@ -152,8 +153,8 @@ made-same s marks spans =
     ap₂ (λ (short long : List Annotation). map (single_part s) short ++ long_of long) (still-marked (is_short s.text) (λ span. refl) marks spans)
     (still-marked (is_long s.text) (λ span. refl) marks spans)
   where
-    long_of : List Annotation → List PartEntry
-    long_of long = let es : List Entry = ordered_by stands_before (map (long_entry s) long) in long_parts s (map long_place es) [] es
+    long_of : List Annotation → List LineAnnotation
+    long_of long = let es : List LineAnnotation = ordered_by stands_before (map (long_entry s) long) in long_parts s (map long_place es) [] es
 
 -- ---- of a snippet
 

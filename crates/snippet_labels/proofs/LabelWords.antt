@@ -1,16 +1,19 @@
 -- Words for parts of where labels stand, which proofs cite.
-use Rattle.std.proofs.Common.{◌+◌, ◌-◌, ◌&&◌, ◌||◌, Bool, List, Option, [], map, not, chars, ℕ}
-use Rattle.std.specs.Borrow.{Bor}
+use Rattle.std.proofs.Common.{◌+◌, ◌-◌, ◌&&◌, ◌||◌, Bool, List, Option, map, not, encode_utf8_all, ℕ}
 use Rattle.std.specs.Option.{option_map_or}
-use Rattle.snippet_text.specs.Normalized.{norm}
+use Rattle.snippet_text.specs.Normalized.{normalized_chars}
 use Rattle.snippet_parts.specs.declared.entries.LineAnnotation.{LineAnnotation}
 use Rattle.snippet_parts.specs.Least.{greatest}
 use Rattle.snippet_labels.specs.declared.positions.PlacedEntry.{PlacedEntry}
-use Rattle.snippet_labels.specs.Positions.{blocks, has_label, is_start_part, placed_at, reaches}
+use Rattle.snippet_labels.specs.Positions.{blocks, has_label, is_start_part, reaches}
 
 -- the characters that a label shows: normalised, and none where there is no label
-abbrev pub label_chars : Option (Bor (List ℕ)) → List ℕ
-label_chars label = option_map_or (λ (text : Bor (List ℕ)). norm (chars text.now)) label []
+abbrev pub label_chars : Option (List ℕ) → List ℕ
+label_chars label = normalized_chars label
+
+-- those that the label of an entry shows
+abbrev pub label_text : LineAnnotation → List ℕ
+label_text e = normalized_chars e.label
 
 -- whether another entry needs a row below that of this entry, which has position p
 abbrev pub crowds : ℕ → PlacedEntry → PlacedEntry → Bool
@@ -27,6 +30,11 @@ is_start e = is_start_part e.entry.annotation_type && not (has_label e)
 -- positions flipped: the greatest becomes 0, and 0 the greatest
 abbrev pub flipped : List ℕ → List ℕ
 flipped ps = map (λ p. greatest ps - p) ps
+
+-- an entry with its label, at this position, for which so many were looked at
+abbrev pub placed_at : LineAnnotation × (ℕ × ℕ) → PlacedEntry
+placed_at found =
+    record { entry = found.0; label = encode_utf8_all (label_text found.0); position = found.1.0; looked = found.1.1 }
 
 -- entries with their labels, none of which is placed yet
 abbrev pub labelled : List LineAnnotation → List PlacedEntry

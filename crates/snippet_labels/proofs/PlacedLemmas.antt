@@ -2,8 +2,7 @@
 use Rattle.std.proofs.Common.{◌≡◌, ℕ, suc, ◌+◌, ◌-◌, ◌<◌, ◌≤◌, ◌^◌, ◌==◌, ◌&&◌, ◌||◌, cond, nat_lt, not, None, Some, Bool, true, false, List, [], ◌∷◌, ◌++◌}
 use Rattle.std.proofs.Common.{length, map, drop, take}
 use Rattle.std.proofs.Common.{set, get_or, refl, sym, ap, ◌∙◌, subst, arith, All, zero}
-use Rattle.std.specs.List.{list_all, list_any, position, position_or_len}
-use Rattle.std.specs.Cow.{cow_str_bytes}
+use Rattle.std.specs.List.{list_all, list_any, position, position_or_len, zip}
 use Rattle.std.proofs.lemmas.Bool.{lt-ltb}
 use Rattle.std.proofs.lemmas.Bool.Decides.{nat_tests}
 use Rattle.std.proofs.lemmas.Simd.{map-map}
@@ -16,12 +15,12 @@ use Rattle.snippet_parts.specs.declared.entries.LineAnnotation.{LineAnnotation}
 use Rattle.snippet_labels.specs.declared.positions.PlacedEntry.{PlacedEntry}
 use Rattle.snippet_labels.specs.Positions.{ArePlaced, IsFromRight, HasItsBytes, HasItsLabel, asks, do_overlap, ends_no_later, has_label, takes_space}
 use Rattle.snippet_labels.specs.Positions.{are_starts, crosses, position_at, position_after, positions, line_positions, unplaced}
-use Rattle.snippet_labels.specs.Positions.{is_placed_before, look_counts, looked_after}
+use Rattle.snippet_labels.specs.Positions.{is_placed_before, look_counts, looked_after, placed_of}
 use Rattle.snippet_parts.specs.Least.{greatest}
 use Rattle.snippet_parts.proofs.PartLemmas.{list_any-map}
 use Rattle.std.proofs.lemmas.List.Elements.{All-map}
 use Rattle.snippet_labels.specs.PlacedEntries.{shifted}
-use Rattle.snippet_labels.proofs.LabelWords.{crowds, flipped, is_start, up_to}
+use Rattle.snippet_labels.proofs.LabelWords.{crowds, flipped, is_start, labelled, placed_at, up_to}
 
 -- the position of an entry whose label could stand after its mark: where a mark is in the way, and where none is
 pub position_at-crossed : (p : ℕ) (e : PlacedEntry) (others : List PlacedEntry) → p ≤ 0 → has_label e ≡ true → list_any (crosses e) others ≡ true
@@ -256,7 +255,7 @@ any_front q (suc n) (x ∷ xs) none =
 -- an entry that asks for no row crowds no other
 uncrowding : (p : ℕ) (e other : PlacedEntry) → asks other ≡ false → crowds p e other ≡ false
 uncrowding p e other none =
-    by_tests (takes_space e) (has_label e) (has_label other) (takes_space other) (do_overlap other (length (cow_str_bytes other.label) + 2) e)
+    by_tests (takes_space e) (has_label e) (has_label other) (takes_space other) (do_overlap other (length other.label + 2) e)
     (has_label e || (p == 0 && ends_no_later other e)) none
   where
     by_tests : (own_space own_label label space overlap wide : Bool) → (label || space) ≡ false
@@ -280,3 +279,19 @@ pub shifted_narrow : (dropped : ℕ) (es : List LineAnnotation) → All (λ e. e
     → All (λ e. e.end.display < 2 ^ 60) (map (shifted dropped) es)
 shifted_narrow dropped es narrow =
     All-map (λ (e : LineAnnotation). e.end.display < 2 ^ 60) (shifted dropped) es (λ k d within. omega (arith, narrow k d within))
+
+-- ---- placed entries as a value
+
+-- they are made one by one, each from its entry and its place
+pub placed_of-at : (es : List LineAnnotation) → let ordered = ordered_by is_placed_before es in
+    placed_of es ≡ map placed_at (zip ordered (zip (line_positions (labelled ordered)) (look_counts 0 (labelled ordered))))
+placed_of-at es =
+    let ordered = ordered_by is_placed_before es in
+    each ordered (zip (line_positions (labelled ordered)) (look_counts 0 (labelled ordered)))
+  where
+    each : (xs : List LineAnnotation) (at : List (ℕ × ℕ))
+        → map (λ (found : PlacedEntry × (ℕ × ℕ)). record found.0 { position = found.1.0; looked = found.1.1 }) (zip (labelled xs) at)
+        ≡ map placed_at (zip xs at)
+    each [] at = refl
+    each (x ∷ xs) [] = refl
+    each (x ∷ xs) (p ∷ at) = ap (λ ys. placed_at (x, p) ∷ ys) (each xs at)

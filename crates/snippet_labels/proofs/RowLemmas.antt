@@ -3,7 +3,6 @@ use Rattle.std.proofs.Common.{◌≡◌, ℕ, zero, suc, ◌+◌, ◌-◌, ◌<�
 use Rattle.std.proofs.Common.{drop, length, map, reverse, get_or, refl, sym, ap, ◌∙◌, subst, arith, All}
 use Rattle.std.specs.List.{list_any, range_with_len}
 use Rattle.std.specs.List.Sorted.{IsPermutation}
-use Rattle.std.specs.Cow.{cow_str_bytes}
 use Rattle.std.proofs.Math.Bool.{and-false}
 use Rattle.std.proofs.lemmas.Bool.{cond-true}
 use Rattle.std.proofs.lemmas.Bool.Decides.{nat_tests}
@@ -53,7 +52,7 @@ reach_over false end more = omega arith
 not_crossed : (e other : PlacedEntry) → FitsLeftOf e.entry.start.display other → crosses e other ≡ false
 not_crossed e other fits =
     let ends : other.entry.end.display + 0 ≤ label_reach other =
-    reach_over (has_label other) other.entry.end.display (length (cow_str_bytes other.label) + 2) in
+    reach_over (has_label other) other.entry.end.display (length other.label + 2) in
     ap (λ b. b && (has_label other || not (is_same_place e other)))
     (row_apart other.entry.start.display other.entry.end.display e.entry.start.display e.entry.end.display 0 fits.begins (omega (arith, ends, fits.ends)))
 
@@ -63,7 +62,7 @@ not_reached false overlap wide none = refl
 
 not_crowded : (column : ℕ) (e other : PlacedEntry) → FitsLeftOf column e → FitsLeftOf e.entry.start.display other → crowds 0 e other ≡ false
 not_crowded column e other own fits =
-    let more = length (cow_str_bytes other.label) + 2 in
+    let more = length other.label + 2 in
     let unblocked : blocks e other ≡ false = ap (λ b. (b && (has_label other || takes_space other)) || (has_label e && takes_space other)) own.single
     ∙ ap (λ b. has_label e && b) fits.single ∙ and-false (has_label e) in
     let meets : has_label other ≡ true → do_overlap other more e ≡ false = λ has.

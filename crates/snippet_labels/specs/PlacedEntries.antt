@@ -1,7 +1,5 @@
--- The entries of a line: where they stand, and what their labels show.
-use Rattle.std.specs.Prelude.{ℕ, ◌-◌, ◌≤◌, Bool, true, false, List, [], chars}
-use Rattle.std.specs.Borrow.{Bor}
-use Rattle.std.specs.Option.{option_map, option_map_or}
+-- The entries of a line: where they stand, and the roles of their labels.
+use Rattle.std.specs.Prelude.{ℕ, ◌-◌, ◌≤◌, Bool, true, false}
 use Rattle.snippet_model.specs.declared.snippet.AnnotationKind.{AnnotationKind}
 use Rattle.snippet_model.specs.declared.snippet.AnnotationKind.TheVariants.{Primary}
 use Rattle.snippet_parts.specs.declared.entries.LineAnnotation.{LineAnnotation}
@@ -9,7 +7,6 @@ use Rattle.snippet_parts.specs.declared.entries.LineAnnotationType.{LineAnnotati
 use Rattle.snippet_parts.specs.declared.entries.LineAnnotationType.TheVariants.{MultilineStart, MultilineEnd}
 use Rattle.snippet_style.specs.declared.role.ElementStyle.{ElementStyle}
 use Rattle.snippet_style.specs.declared.role.ElementStyle.TheVariants.{LabelPrimary, LabelSecondary}
-use Rattle.snippet_text.specs.Normalized.{norm}
 use Rattle.snippet_style.specs.Bounds.{IsColumn}
 
 -- an entry on a line of which so many columns are dropped on the left
@@ -35,12 +32,3 @@ entry_width e = e.end.display - e.start.display
 abbrev pub label_role : AnnotationKind → ElementStyle
 label_role Primary = LabelPrimary
 label_role other = LabelSecondary
-
--- the characters that the label of an entry shows: normalised, and none where there is no label
-abbrev pub label_text : LineAnnotation → List ℕ
-label_text e = option_map_or (λ (label : Bor (List ℕ)). norm (chars label.now)) e.label []
-
--- an entry whose label is lent from nowhere: of a label only its text is drawn
-abbrev pub plain_entry : LineAnnotation → LineAnnotation
-plain_entry e =
-    record e { label = option_map (λ (text : Bor (List ℕ)). record text { ref_ptr = (0, 0) }) e.label }

@@ -3,27 +3,26 @@ use Rattle.std.specs.Prelude.{◌≡◌, ℕ, ◌+◌, ◌-◌, ◌<◌, ◌≤�
 use Rattle.std.specs.Prelude.{map, chars, encode_utf8_all, slice_index_or, if◌then◌else◌}
 use Rattle.std.specs.List.{list_all, list_any, position, zip}
 use Rattle.std.specs.Option.{option_map_or}
-use Rattle.std.specs.declared.borrow.CowStr.TheVariants.{Borrowed}
-use Rattle.std.specs.Cow.{cow_str_bytes}
 use Rattle.snippet_parts.specs.declared.entries.LineAnnotation.{LineAnnotation}
 use Rattle.snippet_parts.specs.declared.entries.LineAnnotationType.{LineAnnotationType}
 use Rattle.snippet_parts.specs.declared.entries.LineAnnotationType.TheVariants.{MultilineStart}
 use Rattle.snippet_lines.specs.OrderedBy.{ordered_by}
 use Rattle.snippet_parts.specs.Least.{greatest}
 use Rattle.snippet_labels.specs.declared.positions.PlacedEntry.{PlacedEntry}
-use Rattle.snippet_labels.specs.PlacedEntries.{is_end_part, label_text}
+use Rattle.snippet_labels.specs.PlacedEntries.{is_end_part}
+use Rattle.snippet_text.specs.Normalized.{normalized_chars}
 
 -- the label holds the characters that its entry shows
 abbrev pub HasItsLabel : PlacedEntry → Type 0
-HasItsLabel e = chars (cow_str_bytes e.label) ≡ label_text e.entry
+HasItsLabel e = chars e.label ≡ normalized_chars e.entry.label
 
 -- the label's bytes are those of these characters
 abbrev pub HasItsBytes : PlacedEntry → Type 0
-HasItsBytes e = cow_str_bytes e.label ≡ encode_utf8_all (label_text e.entry)
+HasItsBytes e = e.label ≡ encode_utf8_all (normalized_chars e.entry.label)
 
 -- whether an entry has a label that shows anything
 abbrev pub has_label : PlacedEntry → Bool
-has_label e = not (length (chars (cow_str_bytes e.label)) == 0)
+has_label e = not (length (chars e.label) == 0)
 
 -- whether an entry is the start or the end of a span of several lines, so that a line leads from its mark to a bar
 abbrev pub takes_space : PlacedEntry → Bool
@@ -64,7 +63,7 @@ blocks e other = (takes_space e && (has_label other || takes_space other)) || (h
 -- stands at position 0 and ends no earlier
 abbrev pub reaches : ℕ → PlacedEntry → PlacedEntry → Bool
 reaches p e other =
-    has_label other && do_overlap other (length (cow_str_bytes other.label) + 2) e && (has_label e || (p == 0 && ends_no_later other e))
+    has_label other && do_overlap other (length other.label + 2) e && (has_label e || (p == 0 && ends_no_later other e))
 
 -- whether an entry may need a row of its own at all: it has a label, or a line to a bar
 abbrev pub asks : PlacedEntry → Bool
@@ -118,7 +117,7 @@ line_positions es =
 -- the column before which an entry ends: its mark, or its label after it and the two columns after that
 abbrev pub label_reach : PlacedEntry → ℕ
 label_reach e =
-    if has_label e then e.entry.end.display + (length (cow_str_bytes e.label) + 2) else e.entry.end.display
+    if has_label e then e.entry.end.display + (length e.label + 2) else e.entry.end.display
 
 -- an entry begins before a column, and ends before it with its label; no line leads from it to a bar
 pub record FitsLeftOf (column : ℕ) (e : PlacedEntry) : Type 0 where
@@ -170,15 +169,9 @@ pub record ArePlaced (es : List LineAnnotation) (placed : List PlacedEntry) : Ty
 
 -- ---- the same as a value
 
--- an entry with its label, which is held as borrowed bytes, at this position, for which so many were looked at
-abbrev pub placed_at : LineAnnotation × (ℕ × ℕ) → PlacedEntry
-placed_at found =
-    let label = Borrowed (record { ref_ptr = (0, 0); now = encode_utf8_all (label_text found.0) }) in
-    record { entry = found.0; label = label; position = found.1.0; looked = found.1.1 }
-
 -- the entries of a line from right to left, each with its label, at the positions of that order
 abbrev pub placed_of : List LineAnnotation → List PlacedEntry
 placed_of es =
     let ordered = ordered_by is_placed_before es in
-    let bare = map (λ e. placed_at (e, (0, 0))) ordered in
-    map placed_at (zip ordered (zip (line_positions bare) (look_counts 0 bare)))
+    let bare : List PlacedEntry = map (λ e. record { entry = e; label = encode_utf8_all (normalized_chars e.label); position = 0; looked = 0 }) ordered in
+    map (λ found. record found.0 { position = found.1.0; looked = found.1.1 }) (zip bare (zip (line_positions bare) (look_counts 0 bare)))

@@ -2,6 +2,8 @@
 //! way.
 #![tactic(auto)]
 
+pub mod drawn_label;
 pub mod positions;
 
+pub use drawn_label::DrawnLabel;
 pub use positions::{PlacedEntry, are_starts, overlap, placed_entries};

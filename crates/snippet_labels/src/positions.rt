@@ -2,15 +2,15 @@
 ghost use Rattle.std.specs.Prelude.{◌≡◌, ◌+◌, ◌-◌, ◌^◌, ◌<◌, ◌≤◌, ◌&&◌, ◌||◌, true, All, IfOk, IfSome, chars, length};
 ghost use Rattle.std.specs.Prelude.{map, not, reverse};
 ghost use Rattle.std.specs.List.{list_any, position, range_with_len};
-ghost use Rattle.std.specs.Cow.{cow_str_bytes};
 ghost use Rattle.snippet_labels.specs.Positions as spec;
 ghost use Rattle.snippet_labels.specs.Positions.{ArePlaced, AsksBefore, FitsLeftOf, HasItsBytes, HasItsLabel};
 ghost use Rattle.snippet_labels.specs.Positions.{StandInRow};
-ghost use Rattle.snippet_labels.specs.PlacedEntries.{label_text, shifted};
+ghost use Rattle.snippet_labels.specs.PlacedEntries.{shifted};
+ghost use Rattle.snippet_text.specs.Normalized.{normalized_chars};
 ghost use Rattle.snippet_parts.specs.Least.{greatest};
 ghost use Rattle.snippet_style.specs.Bounds.{HasNext, IsColumn, IsUsize};
 
-use snippet_lines::Loc;
+use crate::drawn_label::DrawnLabel;
 use snippet_parts::{LineAnnotation, LineAnnotationType};
 use snippet_text::normalized;
 use std::alloc::{AllocError, Global};
@@ -26,7 +26,7 @@ pub struct PlacedEntry<'a> {
     /// The entry.
     pub entry: LineAnnotation<'a>,
     /// Its label, normalised; empty where it has none to show.
-    pub label: CowStr<'a>,
+    pub label: DrawnLabel<'a>,
     /// At 0 the label stands after its mark; at n it hangs from it, in the row n + 1 below the row of the marks. The
     /// line from the mark of a start or an end to its bar stands in the row n below that of the marks.
     pub position: usize,
@@ -182,19 +182,10 @@ fn label_reach(placed: &PlacedEntry) -> usize
 fn shifted<'a>(entry: &LineAnnotation<'a>, dropped: usize) -> LineAnnotation<'a>
     ensures value { result ≡ shifted dropped entry.now }
 {
-    let start = Loc {
-        display: entry.start.display.saturating_sub(dropped),
-        ..entry.start
-    };
-    let end = Loc {
-        display: entry.end.display.saturating_sub(dropped),
-        ..entry.end
-    };
-    LineAnnotation {
-        start,
-        end,
-        ..*entry
-    }
+    let mut shifted = entry.copied();
+    shifted.start.display = entry.start.display.saturating_sub(dropped);
+    shifted.end.display = entry.end.display.saturating_sub(dropped);
+    shifted
 }
 
 /// What an entry's label shows: its text, normalised, or nothing.
@@ -202,12 +193,12 @@ fn shifted<'a>(entry: &LineAnnotation<'a>, dropped: usize) -> LineAnnotation<'a>
 /// # Errors
 ///
 /// There is no memory for the text.
-fn shown_label<'a>(alloc: Global, entry: &LineAnnotation<'a>) -> Result<CowStr<'a>, AllocError>
-    ensures shows { IfOk result (λ label. chars (cow_str_bytes label) ≡ label_text entry.now) }
+fn shown_label<'a>(alloc: Global, entry: &LineAnnotation<'a>) -> Result<DrawnLabel<'a>, AllocError>
+    ensures shows { IfOk result (λ label. chars label ≡ normalized_chars entry.now.label) }
 {
-    match entry.label {
-        Some(label) => normalized(alloc, label),
-        None => Ok(CowStr::Borrowed("")),
+    match &entry.label {
+        Some(label) => Ok(DrawnLabel::new(normalized(alloc, label.as_str())?)),
+        None => Ok(DrawnLabel::new(CowStr::Borrowed(""))),
     }
 }
 

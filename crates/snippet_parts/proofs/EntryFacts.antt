@@ -1,8 +1,8 @@
 -- What is known of the entries of the lines that are kept or shown, for those who draw them.
-use Rattle.std.proofs.Common.{◌≡◌, ℕ, ◌+◌, ◌-◌, ◌*◌, ◌^◌, ◌<◌, ◌≤◌, Bool, true, false, ◌&&◌, cond, not, add-zero, eqb, leb, ltb, max, Option, Some, None, Bor}
+use Rattle.std.proofs.Common.{◌≡◌, ℕ, ◌+◌, ◌-◌, ◌*◌, ◌^◌, ◌<◌, ◌≤◌, Bool, true, false, ◌&&◌, cond, not, add-zero, eqb, leb, ltb, max, Option, Some, None}
 use Rattle.std.proofs.Common.{List, [], ◌∷◌, ◌++◌, map, length, get_or, inl, inr, refl, sym, ap, subst, ◌∙◌, arith}
 use Rattle.std.specs.List.{All, Contains, count_by, filter, list_all, list_any}
-use Rattle.std.specs.Option.{IfSome, option_copied, option_map}
+use Rattle.std.specs.Option.{IfSome, option_map}
 use Rattle.std.specs.Cow.{cow_str_bytes}
 use Rattle.std.specs.Str.{IsUtf8}
 use Rattle.std.proofs.Math.Nat.{zero-add}
@@ -15,11 +15,13 @@ use Rattle.std.proofs.lemmas.List.Sums.{sum_by-cons, sum_by-append}
 use Rattle.snippet_model.specs.declared.snippet.Annotation.{Annotation}
 use Rattle.snippet_model.specs.declared.snippet.AnnotationKind.{AnnotationKind}
 use Rattle.snippet_model.specs.Fits.{AnnotationFits, TextFits}
+use Rattle.snippet_parts.specs.declared.entries.LineAnnotation.{LineAnnotation}
 use Rattle.snippet_parts.specs.declared.depths.LongExtent.{LongExtent}
 use Rattle.snippet_parts.specs.declared.entries.AnnotatedLineInfo.{AnnotatedLineInfo}
 use Rattle.snippet_lines.specs.declared.place.Loc.{Loc}
-use Rattle.snippet_parts.specs.Annotated.{PartEntry, seen_part, KeptLine, seen_kept, kept_line, is_long, long_entry, long_place}
-use Rattle.snippet_parts.specs.Annotated.{long_spans, long_parts, depth_of, deepest, single_part, bar_lines, made_parts, parts_on}
+use Rattle.snippet_parts.specs.Annotated.{KeptLine, seen_kept, kept_line, is_long, long_entry, long_place}
+use Rattle.snippet_parts.specs.Annotated.{long_spans, long_parts, depth_of, deepest, single_part, made_parts, parts_on}
+use Rattle.snippet_parts.specs.LongSpans.{bar_lines}
 use Rattle.snippet_parts.specs.Depths.{same_place, depth_among, greatest_depth}
 use Rattle.snippet_parts.specs.Entries.{AllEntries, HasCharacterRoom, HasColumnRoom, HasShortLabel, HasDepthWithin, is_untouched}
 use Rattle.snippet_lines.specs.Lines.{Source}
@@ -34,7 +36,7 @@ use Rattle.snippet_parts.proofs.RawDepthLemmas.{same-true}
 use Rattle.snippet_parts.proofs.KeptPartLemmas.{lines_ordered}
 use Rattle.snippet_lines.proofs.LinesLemmas.{length-text_at-source}
 use Rattle.snippet_parts.proofs.MarkLemmas.{start-line, end-line, start_column-from, end_column-from, entry_of-line, eqb-shift}
-use Rattle.snippet_parts.proofs.PartLemmas.{HoldsOfSpan, IsBarLine, All-unmapped, bar_lines-stand, filter-none, longs-all, made-all}
+use Rattle.snippet_parts.proofs.PartLemmas.{HoldsOfSpan, IsBarLine, bar_lines-stand, filter-none, longs-all, made-all}
 use Rattle.snippet_parts.proofs.PlaceBounds.{start-column-bound, end-column-bound, start-character-bound, end-character-bound}
 use Rattle.snippet_parts.proofs.ShownLemmas.{filter-map, place-among}
 use Rattle.snippet_parts.proofs.PartWords.{entry_of, is_short, long_places}
@@ -60,18 +62,17 @@ each-line Q s marks (k ∷ ks) (info ∷ infos) same all =
     tail_same x y xs ys same = cc
 
 -- the entries of a line that is seen as line k
-pub seen_part-parts_on : (s : Source) (marks : List Annotation) (k : ℕ) (info : AnnotatedLineInfo) → seen_kept info ≡ kept_line s marks k
-    → map seen_part info.annotations.items ≡ parts_on s marks k
-seen_part-parts_on s marks k info seen = ap (λ (l : KeptLine). l.parts) seen
+pub entries-parts_on : (s : Source) (marks : List Annotation) (k : ℕ) (info : AnnotatedLineInfo) → seen_kept info ≡ kept_line s marks k
+    → info.annotations.items ≡ parts_on s marks k
+entries-parts_on s marks k info seen = ap (λ (l : KeptLine). l.parts) seen
 
 -- what holds of each entry that is made holds of those of these lines
-pub each-entry : (P : PartEntry → Type 0) (s : Source) (marks : List Annotation) (ks : List ℕ) (infos : List AnnotatedLineInfo)
-    → map seen_kept infos ≡ map (kept_line s marks) ks → All P (made_parts s marks) → AllEntries (λ e. P (seen_part e)) infos
+pub each-entry : (P : LineAnnotation → Type 0) (s : Source) (marks : List Annotation) (ks : List ℕ) (infos : List AnnotatedLineInfo)
+    → map seen_kept infos ≡ map (kept_line s marks) ks → All P (made_parts s marks) → AllEntries P infos
 each-entry P s marks ks infos same all =
-    each-line (λ info. All (λ e. P (seen_part e)) info.annotations.items) s marks ks infos same (λ i d within info seen. let k : ℕ = get_or ks i d in
-    let on : All P (parts_on s marks k) = All-filter (λ (p : PartEntry). eqb p.entry.start.line (s.first + k)) P (made_parts s marks) all in
-    All-unmapped P seen_part info.annotations.items (All-same P (map seen_part info.annotations.items) (parts_on s marks k)
-    (seen_part-parts_on s marks k info seen) on))
+    each-line (λ info. All P info.annotations.items) s marks ks infos same (λ i d within info seen. let k : ℕ = get_or ks i d in
+    let on : All P (parts_on s marks k) = All-filter (λ (p : LineAnnotation). eqb p.start.line (s.first + k)) P (made_parts s marks) all in
+    All-same P info.annotations.items (parts_on s marks k) (entries-parts_on s marks k info seen) on)
 
 -- ---- places
 
@@ -81,8 +82,8 @@ pub places-fit : (s : Source) (marks : List Annotation) (ks : List ℕ) (infos :
 places-fit s marks ks infos same fits =
     each-entry Room s marks ks infos same (made-all Room s marks (λ a among is. short a) (λ a among is kind. long a kind))
   where
-    Room : PartEntry → Type 0
-    Room p = (p.entry.start.display ≤ p.entry.end.display) × (p.entry.end.display < 2 ^ 60)
+    Room : LineAnnotation → Type 0
+    Room p = (p.start.display ≤ p.end.display) × (p.end.display < 2 ^ 60)
 
     short : (a : Annotation) → Room (single_part s a)
     short a = (omega arith, omega (arith, start-column-bound s a.span.start a.span.end, end-column-bound s a.span.start a.span.end))
@@ -102,8 +103,8 @@ characters-fit s marks ks infos same fits =
     each-entry Room s marks ks infos same (made-all Room s marks (λ a among is.
     omega (arith, start-character-bound s a.span.start a.span.end)) (λ a among is kind. long a kind))
   where
-    Room : PartEntry → Type 0
-    Room p = p.entry.start.char < 2 ^ 60
+    Room : LineAnnotation → Type 0
+    Room p = p.start.char < 2 ^ 60
 
     long : (a : Annotation) (kind : AnnotationKind) → HoldsOfSpan Room s (depth_of s marks a) (record (long_entry s a) { kind = kind })
     long a kind = record {
@@ -128,16 +129,10 @@ texts-fit s marks ks infos same fits =
 pub labels-fit : (s : Source) (marks : List Annotation) (ks : List ℕ) (infos : List AnnotatedLineInfo) → map seen_kept infos ≡ map (kept_line s marks) ks
     → All AnnotationFits marks → AllEntries HasShortLabel infos
 labels-fit s marks ks infos same fit =
-    All-weaker (λ info. All (λ e. Short (seen_part e)) info.annotations.items) (λ info. All HasShortLabel info.annotations.items) (λ info all.
-    All-weaker (λ e. Short (seen_part e)) HasShortLabel (λ e short. copied e.label short) info.annotations.items all) infos
-    (each-entry Short s marks ks infos same (made-all Short s marks (λ a among is. mapped a among) (λ a among is kind. long a among kind)))
+    each-entry Short s marks ks infos same (made-all Short s marks (λ a among is. mapped a among) (λ a among is kind. long a among kind))
   where
-    Short : PartEntry → Type 0
-    Short p = IfSome p.entry.label (λ t. length t < 2 ^ 56)
-
-    copied : (label : Option (Bor (List ℕ))) → IfSome (option_copied label) (λ t. length t < 2 ^ 56) → IfSome label (λ t. length t.now < 2 ^ 56)
-    copied None short = tt
-    copied (Some t) short = short
+    Short : LineAnnotation → Type 0
+    Short p = IfSome p.label (λ t. length t < 2 ^ 56)
 
     of-mark : {X : Type 0} (f : X → List ℕ) (label : Option X) → IfSome label (λ t. TextFits (f t)) → IfSome (option_map f label) (λ t. length t < 2 ^ 56)
     of-mark f None fits = tt
@@ -151,13 +146,13 @@ labels-fit s marks ks infos same fit =
 
 -- the labels of the entries of a line are UTF-8, where those of the annotations are
 pub label-texts : (s : Source) (marks : List Annotation) (k : ℕ) → All HasTextLabel marks
-    → All (λ p. IfSome p.entry.label IsUtf8) (parts_on s marks k)
+    → All (λ p. IfSome p.label IsUtf8) (parts_on s marks k)
 label-texts s marks k texts =
-    All-filter (λ (p : PartEntry). eqb p.entry.start.line (s.first + k)) IsText (made_parts s marks)
+    All-filter (λ (p : LineAnnotation). eqb p.start.line (s.first + k)) IsText (made_parts s marks)
     (made-all IsText s marks (λ a among is. mapped a among) (λ a among is kind. long a among kind))
   where
-    IsText : PartEntry → Type 0
-    IsText p = IfSome p.entry.label IsUtf8
+    IsText : LineAnnotation → Type 0
+    IsText p = IfSome p.label IsUtf8
 
     of-mark : {X : Type 0} (f : X → List ℕ) (label : Option X) → IfSome label (λ t. IsUtf8 (f t)) → IfSome (option_map f label) IsUtf8
     of-mark f None text = tt
@@ -190,11 +185,11 @@ depth-within s marks a among long =
 pub depths-fit : (s : Source) (marks : List Annotation) (ks : List ℕ) (infos : List AnnotatedLineInfo) → map seen_kept infos ≡ map (kept_line s marks) ks
     → AllEntries (λ e. HasDepthWithin (deepest s marks) e.annotation_type) infos
 depths-fit s marks ks infos same =
-    each-entry (λ p. HasDepthWithin (deepest s marks) p.part) s marks ks infos same
-    (made-all (λ p. HasDepthWithin (deepest s marks) p.part) s marks (λ a among is. tt) (λ a among is kind. long a among is kind))
+    each-entry (λ p. HasDepthWithin (deepest s marks) p.annotation_type) s marks ks infos same
+    (made-all (λ p. HasDepthWithin (deepest s marks) p.annotation_type) s marks (λ a among is. tt) (λ a among is kind. long a among is kind))
   where
     long : (a : Annotation) → Contains marks a → is_long s.text a ≡ true → (kind : AnnotationKind)
-        → HoldsOfSpan (λ p. HasDepthWithin (deepest s marks) p.part) s (depth_of s marks a) (record (long_entry s a) { kind = kind })
+        → HoldsOfSpan (λ p. HasDepthWithin (deepest s marks) p.annotation_type) s (depth_of s marks a) (record (long_entry s a) { kind = kind })
     long a among is kind =
         let within : (0 < depth_of s marks a) × (depth_of s marks a ≤ deepest s marks) = depth-within s marks a among is in
         record { start = within; bars = λ k d below. within; end = within; again = tt }
@@ -221,10 +216,10 @@ all-member p xs x all among =
 
 -- the entries on line k of spans on one line are those of the spans that are marked there
 pub singles-on : (s : Source) (marks : List Annotation) (k : ℕ)
-    → filter (λ (p : PartEntry). eqb p.entry.start.line (s.first + k)) (map (single_part s) (filter (is_short s.text) marks))
+    → filter (λ (p : LineAnnotation). eqb p.start.line (s.first + k)) (map (single_part s) (filter (is_short s.text) marks))
     ≡ map (single_part s) (filter (is_marked_on s.text k) marks)
 singles-on s marks k =
-    filter-map (λ (p : PartEntry). eqb p.entry.start.line (s.first + k)) (single_part s) (filter (is_short s.text) marks)
+    filter-map (λ (p : LineAnnotation). eqb p.start.line (s.first + k)) (single_part s) (filter (is_short s.text) marks)
     ∙ ap (map (single_part s))
     (filter-filter (λ (a : Annotation). eqb (entry_of s a).start.line (s.first + k)) (is_short s.text) marks ∙ filter_agree (λ (a : Annotation).
     is_short s.text a && eqb (entry_of s a).start.line (s.first + k)) (is_marked_on s.text k)
@@ -232,13 +227,13 @@ singles-on s marks k =
 
 -- no part of a span of several lines stands on a line that no span touches
 pub longs-off : (s : Source) (marks : List Annotation) (k : ℕ) → All (λ a. IsSpan s.text a.span.start a.span.end) marks → is_untouched s.text marks k ≡ true
-    → filter (λ (p : PartEntry). eqb p.entry.start.line (s.first + k)) (long_parts s (long_places s marks) [] (long_spans s marks)) ≡ []
+    → filter (λ (p : LineAnnotation). eqb p.start.line (s.first + k)) (long_parts s (long_places s marks) [] (long_spans s marks)) ≡ []
 longs-off s marks k spans untouched =
-    filter-none (λ (p : PartEntry). eqb p.entry.start.line (s.first + k)) (long_parts s (long_places s marks) [] (long_spans s marks))
+    filter-none (λ (p : LineAnnotation). eqb p.start.line (s.first + k)) (long_parts s (long_places s marks) [] (long_spans s marks))
     (longs-all Off s marks long)
   where
-    Off : PartEntry → Type 0
-    Off p = eqb p.entry.start.line (s.first + k) ≡ false
+    Off : LineAnnotation → Type 0
+    Off p = eqb p.start.line (s.first + k) ≡ false
 
     away : (a : Annotation) → Contains marks a → is_long s.text a ≡ true → first_line s.text a ≤ k → k ≤ last_line s.text a → ⊥
     away a among long from to =
@@ -281,11 +276,11 @@ longs-off s marks k spans untouched =
 pub untouched-parts : (s : Source) (marks : List Annotation) (k : ℕ) → All (λ a. IsSpan s.text a.span.start a.span.end) marks
     → is_untouched s.text marks k ≡ true → parts_on s marks k ≡ map (single_part s) (filter (is_marked_on s.text k) marks)
 untouched-parts s marks k spans untouched =
-    filter-append (λ (p : PartEntry). eqb p.entry.start.line (s.first + k)) (map (single_part s) (filter (is_short s.text) marks))
+    filter-append (λ (p : LineAnnotation). eqb p.start.line (s.first + k)) (map (single_part s) (filter (is_short s.text) marks))
     (long_parts s (long_places s marks) [] (long_spans s marks))
-    ∙ ap (λ ps. filter (λ (p : PartEntry). eqb p.entry.start.line (s.first + k)) (map (single_part s) (filter (is_short s.text) marks)) ++ ps)
+    ∙ ap (λ ps. filter (λ (p : LineAnnotation). eqb p.start.line (s.first + k)) (map (single_part s) (filter (is_short s.text) marks)) ++ ps)
     (longs-off s marks k spans untouched)
-    ∙ append-nil (filter (λ (p : PartEntry). eqb p.entry.start.line (s.first + k)) (map (single_part s) (filter (is_short s.text) marks)))
+    ∙ append-nil (filter (λ (p : LineAnnotation). eqb p.start.line (s.first + k)) (map (single_part s) (filter (is_short s.text) marks)))
     ∙ singles-on s marks k
 
 -- ---- wide spans
@@ -321,10 +316,10 @@ count-none p (x ∷ xs) all =
     ∙ count-none p xs (All-tail (λ x. p x ≡ false) x xs all)
 
 -- whether an entry that is made stands for a whole span that is wide
-is_wide_part : ℕ → ℕ → PartEntry → Bool
+is_wide_part : ℕ → ℕ → LineAnnotation → Bool
 is_wide_part room placeholder_width p =
-    let width = p.entry.end.display - p.entry.start.display in
-    is_single_part p.part && ltb (2 * room) width && ltb (10 + placeholder_width) width
+    let width = p.end.display - p.start.display in
+    is_single_part p.annotation_type && ltb (2 * room) width && ltb (10 + placeholder_width) width
 
 wide-single : (room placeholder_width : ℕ) (s : Source) (a : Annotation) → is_single_line s.text a ≡ true
     → is_wide_part room placeholder_width (single_part s a) ≡ is_wide room placeholder_width s.text a
@@ -368,11 +363,11 @@ pub wide-count : (room placeholder_width : ℕ) (s : Source) (marks : List Annot
     info.annotations.items ≡ count_by (λ a. is_marked_on s.text k a && is_wide room placeholder_width s.text a) marks
 unfolding is_wide_part
 wide-count room placeholder_width s marks k info seen =
-    let wide = λ (p : PartEntry). is_wide_part room placeholder_width p in
-    let on = λ (p : PartEntry). eqb p.entry.start.line (s.first + k) in
-    let singles : List PartEntry = map (single_part s) (filter (is_short s.text) marks) in
-    let longs : List PartEntry = long_parts s (long_places s marks) [] (long_spans s marks) in
-    sym (count-map wide seen_part info.annotations.items) ∙ ap (count_by wide) (seen_part-parts_on s marks k info seen ∙ filter-append on singles longs)
+    let wide = λ (p : LineAnnotation). is_wide_part room placeholder_width p in
+    let on = λ (p : LineAnnotation). eqb p.start.line (s.first + k) in
+    let singles : List LineAnnotation = map (single_part s) (filter (is_short s.text) marks) in
+    let longs : List LineAnnotation = long_parts s (long_places s marks) [] (long_spans s marks) in
+    ap (count_by wide) (entries-parts_on s marks k info seen ∙ filter-append on singles longs)
     ∙ sum_by-append (λ p. cond (wide p) 1 0) (filter on singles) (filter on longs)
     ∙ ap (λ n. count_by wide (filter on singles) + n) (count-none wide (filter on longs)
     (All-filter on (λ p. wide p ≡ false) longs (wide-long room placeholder_width s marks)))

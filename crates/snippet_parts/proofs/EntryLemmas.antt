@@ -5,21 +5,20 @@ use Rattle.std.specs.List.{All, filter, list_any, range_with_len}
 use Rattle.std.proofs.lemmas.Bool.{cases_Bool, cases_lt, le-leb, le-ltb, lt-leb, cond-true, cond-false, and_parts, both_ways, eq-eqb, ne_eqb}
 use Rattle.std.proofs.lemmas.Bool.{false_from_ne_true}
 use Rattle.std.proofs.lemmas.List.{append_assoc, append-nil, map-append}
-use Rattle.std.proofs.lemmas.List.{map_push, map_more, drop-map, take-map, drop_more, length-map, get_or-map}
+use Rattle.std.proofs.lemmas.List.{map_more, drop-map, take-map, drop_more, length-map, get_or-map}
 use Rattle.std.proofs.lemmas.List.Elements.{filter-append}
 use Rattle.std.proofs.lemmas.List.FromFn.{map-range_with_len_more}
 use Rattle.snippet_parts.specs.declared.entries.LineAnnotation.{LineAnnotation}
-use Rattle.snippet_parts.specs.Annotated.{PartEntry, seen_part, bar_lines, span_parts, long_parts, long_place, promoted}
+use Rattle.snippet_parts.specs.Annotated.{span_parts, long_parts, long_place, promoted}
 use Rattle.snippet_model.specs.AnnotationKind.{is_primary}
 use Rattle.snippet_parts.specs.Depths.{same_place, depth_among}
 use Rattle.snippet_parts.specs.declared.depths.LongExtent.{LongExtent}
-use Rattle.snippet_parts.specs.Marked.{Entry}
 use Rattle.snippet_model.specs.declared.snippet.AnnotationKind.{AnnotationKind}
 use Rattle.snippet_model.specs.declared.snippet.AnnotationKind.TheVariants.{Primary, Context, Visible}
 use Rattle.std.specs.List.Sorted.{IsNonDecreasingBy}
 use Rattle.snippet_parts.specs.Kept.{has_bar, is_trivial_line}
 use Rattle.snippet_lines.specs.Lines.{Source}
-use Rattle.snippet_parts.specs.LongSpans.{seen_long, HasFit}
+use Rattle.snippet_parts.specs.LongSpans.{bar_lines, seen_long, HasFit}
 use Rattle.snippet_parts.specs.declared.long_spans.LongSpan.{LongSpan}
 use Rattle.snippet_lines.specs.declared.place.Loc.{Loc}
 use Rattle.snippet_parts.proofs.RawDepthLemmas.{same-true}
@@ -84,44 +83,44 @@ bars-are source first last u m closing from to before bars is count =
 -- ---- bars that are pushed
 
 -- with one more bar the bars so far are those of the lines up to that one
-pub bars_more : (f : ℕ → PartEntry) (old now new : List LineAnnotation) (e : LineAnnotation) (a line : ℕ) → a ≤ line → new ≡ now ++ e ∷ []
-    → seen_part e ≡ f line → map seen_part now ≡ map seen_part old ++ map f (range_with_len a (line - a))
-    → map seen_part new ≡ map seen_part old ++ map f (range_with_len a ((line + 1) - a))
+pub bars_more : (f : ℕ → LineAnnotation) (old now new : List LineAnnotation) (e : LineAnnotation) (a line : ℕ) → a ≤ line → new ≡ now ++ e ∷ []
+    → e ≡ f line → now ≡ old ++ map f (range_with_len a (line - a))
+    → new ≡ old ++ map f (range_with_len a ((line + 1) - a))
 bars_more f old now new e a line le pushed is before =
     let count : (line + 1) - a ≡ (line - a) + 1 = omega arith in
-    ap (map seen_part) pushed ∙ map_push seen_part now e ∙ ap (λ ps. ps ++ seen_part e ∷ []) before
-    ∙ ap (λ p. (map seen_part old ++ map f (range_with_len a (line - a))) ++ p ∷ []) is
-    ∙ append_assoc (map seen_part old) (map f (range_with_len a (line - a))) (f line ∷ [])
-    ∙ ap (λ ps. map seen_part old ++ ps) (sym (map-range_with_len_more f a (line - a) line (omega arith)))
-    ∙ ap (λ n. map seen_part old ++ map f (range_with_len a n)) (sym count)
+    pushed ∙ ap (λ ps. ps ++ e ∷ []) before
+    ∙ ap (λ p. (old ++ map f (range_with_len a (line - a))) ++ p ∷ []) is
+    ∙ append_assoc old (map f (range_with_len a (line - a))) (f line ∷ [])
+    ∙ ap (λ ps. old ++ ps) (sym (map-range_with_len_more f a (line - a) line (omega arith)))
+    ∙ ap (λ n. old ++ map f (range_with_len a n)) (sym count)
 
 -- all bars, with the one before the last line
-pub bars-closed : (f : ℕ → PartEntry) (old now new : List LineAnnotation) (e : LineAnnotation) (source : List ℕ) (first last u a n : ℕ)
-    (closing : Bool) → closing ≡ true → new ≡ now ++ e ∷ [] → seen_part e ≡ f (last - 1)
-    → map seen_part now ≡ map seen_part old ++ map f (range_with_len a n) → a ≡ first + 1 → n ≡ u - first → first ≤ u → u ≤ min (first + 4) last → u < last
+pub bars-closed : (f : ℕ → LineAnnotation) (old now new : List LineAnnotation) (e : LineAnnotation) (source : List ℕ) (first last u a n : ℕ)
+    (closing : Bool) → closing ≡ true → new ≡ now ++ e ∷ [] → e ≡ f (last - 1)
+    → now ≡ old ++ map f (range_with_len a n) → a ≡ first + 1 → n ≡ u - first → first ≤ u → u ≤ min (first + 4) last → u < last
     → ((k : ℕ) → first < k → leb k u ≡ list_any (λ j. not (is_trivial_line source j)) (range_with_len k (min (first + 4) last - k)))
     → closing ≡ (ltb (min (first + 4) last) (last - 1) && not (is_trivial_line source (last - 1)))
-    → map seen_part new ≡ map seen_part old ++ map f (bar_lines source first last)
+    → new ≡ old ++ map f (bar_lines source first last)
 bars-closed f old now new e source first last u a n closing there pushed is before at count from to inside bars close =
     let all : range_with_len (first + 1) n ++ cond closing ((last - 1) ∷ []) []
     ≡ bar_lines source first last = bars-are source first last u n closing from to inside bars close count in
-    ap (map seen_part) pushed ∙ map_push seen_part now e ∙ ap (λ ps. ps ++ seen_part e ∷ []) before
-    ∙ ap (λ p. (map seen_part old ++ map f (range_with_len a n)) ++ p ∷ []) is
-    ∙ append_assoc (map seen_part old) (map f (range_with_len a n)) (f (last - 1) ∷ [])
-    ∙ ap (λ ps. map seen_part old ++ ps) (ap (λ x. map f (range_with_len x n) ++ f (last - 1) ∷ []) at
+    pushed ∙ ap (λ ps. ps ++ e ∷ []) before
+    ∙ ap (λ p. (old ++ map f (range_with_len a n)) ++ p ∷ []) is
+    ∙ append_assoc old (map f (range_with_len a n)) (f (last - 1) ∷ [])
+    ∙ ap (λ ps. old ++ ps) (ap (λ x. map f (range_with_len x n) ++ f (last - 1) ∷ []) at
     ∙ sym (map-append f (range_with_len (first + 1) n) ((last - 1) ∷ []))
     ∙ ap (λ b. map f (range_with_len (first + 1) n ++ cond b ((last - 1) ∷ []) [])) (sym there) ∙ ap (map f) all)
 
 -- all bars, without it
-pub bars-open : (f : ℕ → PartEntry) (old now : List LineAnnotation) (source : List ℕ) (first last u a n : ℕ) (closing : Bool) → closing ≡ false
-    → map seen_part now ≡ map seen_part old ++ map f (range_with_len a n) → a ≡ first + 1 → n ≡ u - first → first ≤ u → u ≤ min (first + 4) last → u < last
+pub bars-open : (f : ℕ → LineAnnotation) (old now : List LineAnnotation) (source : List ℕ) (first last u a n : ℕ) (closing : Bool) → closing ≡ false
+    → now ≡ old ++ map f (range_with_len a n) → a ≡ first + 1 → n ≡ u - first → first ≤ u → u ≤ min (first + 4) last → u < last
     → ((k : ℕ) → first < k → leb k u ≡ list_any (λ j. not (is_trivial_line source j)) (range_with_len k (min (first + 4) last - k)))
     → closing ≡ (ltb (min (first + 4) last) (last - 1) && not (is_trivial_line source (last - 1)))
-    → map seen_part now ≡ map seen_part old ++ map f (bar_lines source first last)
+    → now ≡ old ++ map f (bar_lines source first last)
 bars-open f old now source first last u a n closing none before at count from to inside bars close =
     let all : range_with_len (first + 1) n ++ cond closing ((last - 1) ∷ []) []
     ≡ bar_lines source first last = bars-are source first last u n closing from to inside bars close count in
-    before ∙ ap (λ ps. map seen_part old ++ ps) (ap (λ x. map f (range_with_len x n)) at
+    before ∙ ap (λ ps. old ++ ps) (ap (λ x. map f (range_with_len x n)) at
     ∙ ap (map f) (sym (append-nil (range_with_len (first + 1) n)) ∙ ap (λ b. range_with_len (first + 1) n ++ cond b ((last - 1) ∷ []) []) (sym none) ∙ all))
 
 -- ---- the entries of all spans of several lines
@@ -134,7 +133,7 @@ promoted-primary before l b is there =
     sym (cond-true (is_promoted (map seen_long before) (seen_long l)) (record (seen_long l)
     { kind = Primary }) (seen_long l)
     (ap (λ c. is_primary l.kind ||
-    c) (list_any-map (λ (d : Entry). is_primary d.kind && same_place (long_place (seen_long l)) (long_place d)) seen_long before) ∙ sym is
+    c) (list_any-map (λ (d : LineAnnotation). is_primary d.kind && same_place (long_place (seen_long l)) (long_place d)) seen_long before) ∙ sym is
     ∙ there))
 
 -- a span that is neither primary nor at the place of a primary one stays as it is
@@ -145,20 +144,20 @@ promoted-plain before l b is none =
     sym (cond-false (is_promoted (map seen_long before) (seen_long l)) (record (seen_long l)
     { kind = Primary }) (seen_long l)
     (ap (λ c. is_primary l.kind ||
-    c) (list_any-map (λ (d : Entry). is_primary d.kind && same_place (long_place (seen_long l)) (long_place d)) seen_long before) ∙ sym is
+    c) (list_any-map (λ (d : LineAnnotation). is_primary d.kind && same_place (long_place (seen_long l)) (long_place d)) seen_long before) ∙ sym is
     ∙ none))
 
 -- one more span of several lines
-pub parts-more : (s : Source) (places : List LongExtent) (spans : List LongSpan) (i : ℕ) (x : LongSpan) (now new all : List PartEntry) (depth : ℕ)
-    (again : Bool) (e : Entry) → i < length spans → x ≡ get_or spans i x → new ≡ now ++ span_parts s depth again e
+pub parts-more : (s : Source) (places : List LongExtent) (spans : List LongSpan) (i : ℕ) (x : LongSpan) (now new all : List LineAnnotation) (depth : ℕ)
+    (again : Bool) (e : LineAnnotation) → i < length spans → x ≡ get_or spans i x → new ≡ now ++ span_parts s depth again e
     → depth ≡ depth_among places (long_place (seen_long x))
     → again ≡ list_any (λ (o : LongSpan). same_place (long_place (seen_long x)) (long_place (seen_long o))) (drop (i + 1) spans)
     → e ≡ promoted (map seen_long (take i spans)) (seen_long x)
     → now ++ long_parts s places (take i (map seen_long spans)) (drop i (map seen_long spans)) ≡ all
     → new ++ long_parts s places (take (i + 1) (map seen_long spans)) (drop (i + 1) (map seen_long spans)) ≡ all
 parts-more s places spans i x now new all depth again e within is pushed deep among draw before =
-    let later : List Entry = map seen_long (drop (i + 1) spans) in
-    let earlier : List Entry = map seen_long (take i spans) in
+    let later : List LineAnnotation = map seen_long (drop (i + 1) spans) in
+    let earlier : List LineAnnotation = map seen_long (take i spans) in
     let e1 : drop i (map seen_long spans) ≡ seen_long x ∷ later = drop-map seen_long i spans ∙ ap (map seen_long) (drop_more spans i x within)
     ∙ ap (λ y. seen_long y ∷ later) (sym is) in
     let e2 : drop (i + 1) (map seen_long spans) ≡ later = drop-map seen_long (i + 1) spans in
@@ -168,7 +167,7 @@ parts-more s places spans i x now new all depth again e within is pushed deep am
     let same : span_parts s depth again e ≡ span_parts s (depth_among places (long_place (seen_long x))) (stands_among (seen_long x) later)
     (promoted earlier (seen_long x)) = ap (λ n. span_parts s n again e) deep
     ∙ ap (λ b. span_parts s (depth_among places (long_place (seen_long x))) b e)
-    (among ∙ sym (list_any-map (λ (d : Entry). same_place (long_place (seen_long x)) (long_place d)) seen_long (drop (i + 1) spans)))
+    (among ∙ sym (list_any-map (λ (d : LineAnnotation). same_place (long_place (seen_long x)) (long_place d)) seen_long (drop (i + 1) spans)))
     ∙ ap (λ d. span_parts s (depth_among places (long_place (seen_long x))) (stands_among (seen_long x) later) d) draw in
     ap (λ ps. ps ++ long_parts s places (take (i + 1) (map seen_long spans)) (drop (i + 1) (map seen_long spans))) (pushed ∙ ap (λ ps. now ++ ps) same)
     ∙ ap (λ es. (now ++ span_parts s (depth_among places (long_place (seen_long x))) (stands_among (seen_long x) later) (promoted earlier (seen_long x)))

@@ -10,30 +10,31 @@ use Rattle.std.proofs.lemmas.Bool.{cases_eq, cases_lt, eq-eqb, ne_eqb}
 use Rattle.std.proofs.lemmas.List.{append-nil, ext_get_or, get_or-map, get_or-set_same, get_or-set_other, length-map, length-set, places, same_lists}
 use Rattle.std.proofs.lemmas.List.Elements.{filter-append}
 use Rattle.snippet_lines.specs.Lines.{Source}
-use Rattle.snippet_parts.specs.Annotated.{KeptLine, PartEntry}
+use Rattle.snippet_parts.specs.declared.entries.LineAnnotation.{LineAnnotation}
+use Rattle.snippet_parts.specs.Annotated.{KeptLine}
 use Rattle.snippet_parts.specs.KeptEntries.{line_with}
 
 -- an entry that stands on line k comes after its others
-one_more : (s : Source) (seen : List ℕ) (parts : List PartEntry) (p : PartEntry) (k : ℕ) → s.first + k ≡ p.entry.start.line
+one_more : (s : Source) (seen : List ℕ) (parts : List LineAnnotation) (p : LineAnnotation) (k : ℕ) → s.first + k ≡ p.start.line
     → line_with s seen (parts ++ p ∷ []) k ≡ record (line_with s seen parts k) { parts = (line_with s seen parts k).parts ++ p ∷ [] }
 one_more s seen parts p k here =
-    let test : PartEntry → Bool = λ q. eqb q.entry.start.line (s.first + k) in
-    let yes : test p ≡ true = eq-eqb p.entry.start.line (s.first + k) (sym here) in
+    let test : LineAnnotation → Bool = λ q. eqb q.start.line (s.first + k) in
+    let yes : test p ≡ true = eq-eqb p.start.line (s.first + k) (sym here) in
     ap (λ ps. record (line_with s seen parts k) { parts = ps })
     (filter-append test parts (p ∷ []) ∙ ap (λ b. filter test parts ++ cond b (p ∷ []) []) yes)
 
 -- one that stands on another line doesn't change it
-none_more : (s : Source) (seen : List ℕ) (parts : List PartEntry) (p : PartEntry) (k : ℕ) → s.first + k ≢ p.entry.start.line
+none_more : (s : Source) (seen : List ℕ) (parts : List LineAnnotation) (p : LineAnnotation) (k : ℕ) → s.first + k ≢ p.start.line
     → line_with s seen (parts ++ p ∷ []) k ≡ line_with s seen parts k
 none_more s seen parts p k away =
-    let test : PartEntry → Bool = λ q. eqb q.entry.start.line (s.first + k) in
-    let no : test p ≡ false = ne_eqb p.entry.start.line (s.first + k) (λ same. away (sym same)) in
+    let test : LineAnnotation → Bool = λ q. eqb q.start.line (s.first + k) in
+    let no : test p ≡ false = ne_eqb p.start.line (s.first + k) (λ same. away (sym same)) in
     ap (λ ps. record (line_with s seen parts k) { parts = ps })
     (filter-append test parts (p ∷ []) ∙ ap (λ b. filter test parts ++ cond b (p ∷ []) []) no ∙ append-nil (filter test parts))
 
 -- an entry that stands on none of some lines changes none
-pub stands_nowhere : (s : Source) (seen : List ℕ) (parts : List PartEntry) (p : PartEntry) (ks : List ℕ)
-    → ((k : ℕ) → k < length ks → s.first + get_or ks k 0 ≢ p.entry.start.line)
+pub stands_nowhere : (s : Source) (seen : List ℕ) (parts : List LineAnnotation) (p : LineAnnotation) (ks : List ℕ)
+    → ((k : ℕ) → k < length ks → s.first + get_or ks k 0 ≢ p.start.line)
     → map (line_with s seen parts) ks ≡ map (line_with s seen (parts ++ p ∷ [])) ks
 stands_nowhere s seen parts p ks nowhere =
     let f : ℕ → KeptLine = line_with s seen parts in
@@ -43,8 +44,8 @@ stands_nowhere s seen parts p ks nowhere =
     get_or-map f ks i 0 (f 0) there ∙ sym (none_more s seen parts p (get_or ks i 0) (nowhere i there)) ∙ sym (get_or-map g ks i 0 (f 0) there))
 
 -- and one that stands on a line at a place changes the line there
-pub entry_stands_at : (s : Source) (seen : List ℕ) (parts : List PartEntry) (p : PartEntry) (ks : List ℕ) (at : ℕ) (ls : List KeptLine) (l : KeptLine)
-    → AllPairs (λ (a b : ℕ). a < b) ks → at < length ks → s.first + get_or ks at 0 ≡ p.entry.start.line → ls ≡ map (line_with s seen parts) ks
+pub entry_stands_at : (s : Source) (seen : List ℕ) (parts : List LineAnnotation) (p : LineAnnotation) (ks : List ℕ) (at : ℕ) (ls : List KeptLine) (l : KeptLine)
+    → AllPairs (λ (a b : ℕ). a < b) ks → at < length ks → s.first + get_or ks at 0 ≡ p.start.line → ls ≡ map (line_with s seen parts) ks
     → l ≡ record (get_or ls at l) { parts = (get_or ls at l).parts ++ p ∷ [] }
     → set ls at l ≡ map (line_with s seen (parts ++ p ∷ [])) ks
 entry_stands_at s seen parts p ks at ls l up within here are is =
@@ -59,7 +60,7 @@ entry_stands_at s seen parts p ks at ls l up within here are is =
           ∙ ap (λ (m : KeptLine). record m { parts = m.parts ++ p ∷ [] }) (ap (λ xs. get_or xs at l) are ∙ get_or-map f ks at 0 l within)
           ∙ sym (one_more s seen parts p (get_or ks at 0) here) ∙ sym (get_or-map g ks at 0 l within) ∙ ap (λ j. get_or (map g ks) j l) (sym same)
       | inr other ↦
-          let apart : s.first + get_or ks i 0 ≢ p.entry.start.line = λ meets. elim (cases_lt i at) [
+          let apart : s.first + get_or ks i 0 ≢ p.start.line = λ meets. elim (cases_lt i at) [
             | inl before ↦ omega (arith, here, meets, up i at 0 before within)
             | inr from ↦ omega (arith, here, meets, up at i 0 (omega (arith, from, other)) there)
           ] in

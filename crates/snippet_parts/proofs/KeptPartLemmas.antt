@@ -6,7 +6,9 @@ use Rattle.std.proofs.lemmas.List.Elements.{All-contains, All-weaker, All-contai
 use Rattle.std.proofs.lemmas.List.Folds.{list_any_at, list_any_none}
 use Rattle.snippet_model.specs.declared.snippet.Annotation.{Annotation}
 use Rattle.snippet_model.specs.declared.snippet.AnnotationKind.{AnnotationKind}
-use Rattle.snippet_parts.specs.Annotated.{PartEntry, is_long, long_entry, depth_of, single_part, made_parts, parts_on, bar_lines}
+use Rattle.snippet_parts.specs.declared.entries.LineAnnotation.{LineAnnotation}
+use Rattle.snippet_parts.specs.Annotated.{is_long, long_entry, depth_of, single_part, made_parts, parts_on}
+use Rattle.snippet_parts.specs.LongSpans.{bar_lines}
 use Rattle.snippet_parts.specs.Kept.{has_bar, is_trivial_line, keeps}
 use Rattle.snippet_lines.specs.Lines.{Source, source_lines}
 use Rattle.snippet_parts.specs.Mark.{is_marking, touches}
@@ -95,8 +97,8 @@ keeps-bar source a k bar =
 -- ---- the line of an entry
 
 -- the line on which an entry stands is one that a span keeps
-abbrev pub StandsOnKept : Source → List Annotation → PartEntry → Type 0
-StandsOnKept s marks p = (k : ℕ) → p.entry.start.line ≡ s.first + k → list_any (keeps s.text k) marks ≡ true
+abbrev pub StandsOnKept : Source → List Annotation → LineAnnotation → Type 0
+StandsOnKept s marks p = (k : ℕ) → p.start.line ≡ s.first + k → list_any (keeps s.text k) marks ≡ true
 
 pub made-kept : (s : Source) (marks : List Annotation) → All (λ a. IsSpan s.text a.span.start a.span.end) marks
     → All (StandsOnKept s marks) (made_parts s marks)
@@ -143,9 +145,9 @@ made-kept s marks spans = made-all (StandsOnKept s marks) s marks short long
 pub none-unkept : (s : Source) (marks : List Annotation) (k : ℕ) → All (λ a. IsSpan s.text a.span.start a.span.end) marks
     → list_any (keeps s.text k) marks ≡ false → parts_on s marks k ≡ []
 none-unkept s marks k spans none =
-    filter-none (λ (p : PartEntry). eqb p.entry.start.line (s.first + k)) (made_parts s marks)
-    (All-weaker (StandsOnKept s marks) (λ p. eqb p.entry.start.line (s.first + k) ≡ false)
-    (λ p kept. ne_eqb p.entry.start.line (s.first + k) (λ at. both_ways (list_any (keeps s.text k) marks) none (kept k at))) (made_parts s marks)
+    filter-none (λ (p : LineAnnotation). eqb p.start.line (s.first + k)) (made_parts s marks)
+    (All-weaker (StandsOnKept s marks) (λ p. eqb p.start.line (s.first + k) ≡ false)
+    (λ p kept. ne_eqb p.start.line (s.first + k) (λ at. both_ways (list_any (keeps s.text k) marks) none (kept k at))) (made_parts s marks)
     (made-kept s marks spans))
 
 -- and no span keeps it without marking it

@@ -12,15 +12,17 @@ use Rattle.snippet_lines.specs.OrderedBy.{ordered_by, put_in}
 use Rattle.snippet_lines.specs.Span.{IsSpan}
 use Rattle.snippet_model.specs.declared.snippet.Annotation.{Annotation}
 use Rattle.snippet_model.specs.declared.snippet.AnnotationKind.TheVariants.{Primary}
+use Rattle.snippet_parts.specs.declared.entries.LineAnnotation.{LineAnnotation}
 use Rattle.snippet_parts.specs.declared.depths.LongExtent.{LongExtent}
 use Rattle.snippet_parts.specs.declared.entries.LineAnnotationType.TheVariants.{MultilineEnd, Singleline}
-use Rattle.snippet_parts.specs.Annotated.{PartEntry, bar_lines, bar_part, end_part, is_long, long_entry, long_parts, long_place}
+use Rattle.snippet_parts.specs.Annotated.{bar_part, end_part, is_long, long_entry, long_parts, long_place}
+use Rattle.snippet_parts.specs.LongSpans.{bar_lines}
 use Rattle.snippet_parts.specs.Annotated.{long_spans, made_parts, parts_on, promoted, single_part, span_parts}
 use Rattle.snippet_parts.specs.Annotated.{start_part}
 use Rattle.snippet_parts.specs.Depths.{depth_among}
 use Rattle.snippet_parts.specs.Kept.{has_bar, is_trivial_line}
 use Rattle.snippet_parts.specs.Mark.{is_marking, is_single_line}
-use Rattle.snippet_parts.specs.Marked.{Entry, first_line, last_line}
+use Rattle.snippet_parts.specs.Marked.{first_line, last_line}
 use Rattle.snippet_parts.proofs.EntryFacts.{count-map}
 use Rattle.snippet_parts.proofs.KeptPartLemmas.{lines_ordered}
 use Rattle.snippet_parts.proofs.MarkLemmas.{end-line, start-line}
@@ -113,28 +115,28 @@ rising-bars source first last long =
 
 module _ (s : Source) (n : ℕ) where
   -- whether a part stands on the line of this number
-  abbrev stands : PartEntry → Bool
-  stands p = p.entry.start.line == n
+  abbrev stands : LineAnnotation → Bool
+  stands p = p.start.line == n
 
   -- a span of several lines, in a source that begins with a number
-  abbrev IsSeveral : Entry → Type 0
+  abbrev IsSeveral : LineAnnotation → Type 0
   IsSeveral e = (s.first ≤ e.start.line) × (e.start.line < e.end.line)
 
   -- the lines of bars
-  bars_lines : (e : Entry) (depth : ℕ) (ks : List ℕ)
-      → map (λ (p : PartEntry). p.entry.start.line) (map (λ k. bar_part e depth (s.first + k)) ks) ≡ map (λ k. s.first + k) ks
+  bars_lines : (e : LineAnnotation) (depth : ℕ) (ks : List ℕ)
+      → map (λ (p : LineAnnotation). p.start.line) (map (λ k. bar_part e depth (s.first + k)) ks) ≡ map (λ k. s.first + k) ks
   bars_lines e depth [] = refl
   bars_lines e depth (k ∷ ks) = ap (λ ns. (s.first + k) ∷ ns) (bars_lines e depth ks)
 
   -- one entry of a span of several lines stands on a line at most
-  span_once : (depth : ℕ) (again : Bool) (e : Entry) → IsSeveral e → count_by stands (span_parts s depth again e) ≤ 1
+  span_once : (depth : ℕ) (again : Bool) (e : LineAnnotation) → IsSeveral e → count_by stands (span_parts s depth again e) ≤ 1
   span_once depth true e several = count_by-le-length stands (end_part e Singleline ∷ [])
   span_once depth false e several =
       let from : ℕ = e.start.line - s.first in
       let to : ℕ = e.end.line - s.first in
       let ks : List ℕ = bar_lines s.text from to in
-      let bars : List PartEntry = map (λ k. bar_part e depth (s.first + k)) ks in
-      let parts : List PartEntry = start_part e depth ∷ (bars ++ end_part e (MultilineEnd depth) ∷ []) in
+      let bars : List LineAnnotation = map (λ k. bar_part e depth (s.first + k)) ks in
+      let parts : List LineAnnotation = start_part e depth ∷ (bars ++ end_part e (MultilineEnd depth) ∷ []) in
       let numbers : List ℕ = map (λ k. s.first + k) ks in
       let long : from < to = omega (arith, several.0, several.1) in
       let at : s.first + (from + 1) ≡ e.start.line + 1 = omega (arith, several.0) in
@@ -147,18 +149,18 @@ module _ (s : Source) (n : ℕ) where
         rising-append (e.start.line + 1) e.end.line numbers
             (e.end.line ∷ []) (omega (arith, several.1)) middle below (omega arith, tt),
       ) in
-      let lines : map (λ (p : PartEntry). p.entry.start.line) parts ≡ e.start.line ∷ (numbers ++ e.end.line ∷ []) = ap (λ ns. e.start.line ∷ ns)
-      (map-append (λ (p : PartEntry). p.entry.start.line) bars (end_part e (MultilineEnd depth) ∷ [])
+      let lines : map (λ (p : LineAnnotation). p.start.line) parts ≡ e.start.line ∷ (numbers ++ e.end.line ∷ []) = ap (λ ns. e.start.line ∷ ns)
+      (map-append (λ (p : LineAnnotation). p.start.line) bars (end_part e (MultilineEnd depth) ∷ [])
       ∙ ap (λ ns. ns ++ e.end.line ∷ []) (bars_lines e depth ks)) in
       omega (
         arith,
-        sym (count-map (λ m. m == n) (λ (p : PartEntry). p.entry.start.line) parts),
+        sym (count-map (λ m. m == n) (λ (p : LineAnnotation). p.start.line) parts),
         ap (count_by (λ m. m == n)) lines,
         rising-once n e.start.line (e.start.line ∷ (numbers ++ e.end.line ∷ [])) rising,
       )
 
   -- nor of one as it is drawn
-  drawn_once : (depth : ℕ) (again : Bool) (before : List Entry) (e : Entry) → IsSeveral e
+  drawn_once : (depth : ℕ) (again : Bool) (before : List LineAnnotation) (e : LineAnnotation) → IsSeveral e
       → count_by stands (span_parts s depth again (promoted before e)) ≤ 1
   drawn_once depth again before e several =
       elim (is_promoted before e) as (λ b. count_by stands (span_parts s depth again (cond b (record e { kind = Primary }) e)) ≤ 1) [
@@ -166,10 +168,10 @@ module _ (s : Source) (n : ℕ) where
         | false ↦ span_once depth again e several
       ]
 
-  longs_few : (places : List LongExtent) (before es : List Entry) → All IsSeveral es → count_by stands (long_parts s places before es) ≤ length es
+  longs_few : (places : List LongExtent) (before es : List LineAnnotation) → All IsSeveral es → count_by stands (long_parts s places before es) ≤ length es
   longs_few places before [] all = omega arith
   longs_few places before (e ∷ later) all =
-      let own : List PartEntry = span_parts s (depth_among places (long_place e)) (stands_among e later) (promoted before e) in
+      let own : List LineAnnotation = span_parts s (depth_among places (long_place e)) (stands_among e later) (promoted before e) in
       omega (
         arith,
         sum_by-append (λ p. cond (stands p) 1 0) own (long_parts s places (before ++ e ∷ []) later),
@@ -232,10 +234,10 @@ pub parts_on-few : (s : Source) (marks : List Annotation) (k : ℕ) → All (λ 
     → length (parts_on s marks k) ≤ length marks
 parts_on-few s marks k spans =
     let n : ℕ = s.first + k in
-    let on = λ (p : PartEntry). p.entry.start.line == n in
-    let singles : List PartEntry = map (single_part s) (filter (is_short s.text) marks) in
-    let given : List Entry = map (long_entry s) (filter (is_long s.text) marks) in
-    let longs : List Entry = long_spans s marks in
+    let on = λ (p : LineAnnotation). p.start.line == n in
+    let singles : List LineAnnotation = map (single_part s) (filter (is_short s.text) marks) in
+    let given : List LineAnnotation = map (long_entry s) (filter (is_long s.text) marks) in
+    let longs : List LineAnnotation = long_spans s marks in
     let several : All (IsSeveral s n) longs = All-order stands_before (IsSeveral s n) given (All-map (IsSeveral s n) (long_entry s)
     (filter (is_long s.text) marks) (All-filtered (is_long s.text) (λ a. IsSeveral s n (long_entry s a)) marks
     (All-weaker (λ a. IsSpan s.text a.span.start a.span.end) (λ a. is_long s.text a ≡ true → IsSeveral s n (long_entry s a))

@@ -1,5 +1,5 @@
 -- Spans with their places: what is known of the annotations that they are.
-use Rattle.std.proofs.Common.{◌≡◌, ℕ, ◌<◌, ◌≤◌, ◌^◌, Bool, true, false, ◌&&◌, not, cond, eqb, List, [], ◌∷◌, map, refl, sym, ap, ◌∙◌, subst, arith}
+use Rattle.std.proofs.Common.{◌+◌, ◌≡◌, ℕ, ◌<◌, ◌≤◌, ◌^◌, Bool, true, false, ◌&&◌, not, cond, eqb, List, [], ◌∷◌, map, refl, sym, ap, ◌∙◌, subst, arith, max}
 use Rattle.std.specs.List.{All, filter}
 use Rattle.std.specs.Option.{option_map}
 use Rattle.std.specs.Cow.{cow_str_bytes}
@@ -10,10 +10,11 @@ use Rattle.snippet_lines.proofs.PlaceLemmas.{line_of-mono, line_of-within}
 use Rattle.snippet_lines.specs.OrderedBy.{ordered_by}
 use Rattle.snippet_lines.specs.declared.place.Loc.{Loc}
 use Rattle.snippet_model.specs.declared.snippet.Annotation.{Annotation}
+use Rattle.snippet_parts.specs.declared.entries.LineAnnotation.{LineAnnotation}
 use Rattle.snippet_parts.specs.declared.entries.LineAnnotationType.TheVariants.{Singleline}
-use Rattle.snippet_parts.specs.Annotated.{PartEntry, single_part, long_entry, is_long, long_spans}
+use Rattle.snippet_parts.specs.Annotated.{single_part, long_entry, is_long, long_spans}
 use Rattle.snippet_parts.specs.Mark.{is_marking}
-use Rattle.snippet_parts.specs.Marked.{Entry, first_line, last_line, widened}
+use Rattle.snippet_parts.specs.Marked.{first_line, last_line}
 use Rattle.snippet_parts.specs.declared.located.LocatedSpan.{LocatedSpan}
 use Rattle.snippet_parts.specs.declared.long_spans.LongSpan.{LongSpan}
 use Rattle.snippet_parts.specs.Located.{AreBars, IsLocated, annotations_of, is_short_span, is_long_span, span_entry, short_part}
@@ -48,11 +49,18 @@ located-ordered s l at =
     )
 
 -- an annotation as it is seen at two locations
-abbrev seen_at : Annotation → Loc × Loc → Entry
-seen_at a at = record { start = at.0; end = at.1; kind = a.kind; label = option_map cow_str_bytes a.label; highlight_source = a.highlight_source }
+abbrev seen_at : Annotation → Loc × Loc → LineAnnotation
+seen_at a at = record {
+  start = at.0;
+  end = at.1;
+  kind = a.kind;
+  label = option_map cow_str_bytes a.label;
+  annotation_type = Singleline;
+  highlight_source = a.highlight_source;
+}
 
-abbrev part_at : Annotation → Loc × Loc → PartEntry
-part_at a at = record { entry = record (seen_at a at) { end = widened at.0 at.1 }; part = Singleline }
+abbrev part_at : Annotation → Loc × Loc → LineAnnotation
+part_at a at = record (seen_at a at) { end = record at.1 { display = max at.1.display (at.0.display + 1) } }
 
 entry_is : (s : Source) (l : LocatedSpan) → IsLocated s l → span_entry l ≡ long_entry s l.annotation.now
 entry_is s l at = ap (seen_at l.annotation.now) at.locations
@@ -92,9 +100,9 @@ pub located-fit : (s : Source) (x : LocatedSpan) (l : LongSpan) → seen_long l 
     → HasFit s l
 located-fit s x l seen bars at long =
     fit-long s x.annotation.now l at.span.ordered (seen ∙ entry_is s x at)
-    (subst (λ (n : ℕ). n < 2 ^ 58) (sym (ap (λ (e : Entry). e.start.display) seen)) at.start_display)
-    (omega (arith, ap (λ (e : Entry). e.end.display) seen, at.end_display))
-    (omega (arith, ap (λ (e : Entry). e.start.char) seen, at.start_char)) (sym (long-is s x at) ∙ long)
+    (subst (λ (n : ℕ). n < 2 ^ 58) (sym (ap (λ (e : LineAnnotation). e.start.display) seen)) at.start_display)
+    (omega (arith, ap (λ (e : LineAnnotation). e.end.display) seen, at.end_display))
+    (omega (arith, ap (λ (e : LineAnnotation). e.start.char) seen, at.start_char)) (sym (long-is s x at) ∙ long)
     (subst (λ b. AreBars s.text (first_line s.text x.annotation.now) (last_line s.text x.annotation.now) b) (sym bars)
     (subst (λ n. AreBars s.text (first_line s.text x.annotation.now) n x.bars) at.last
     (subst (λ n. AreBars s.text n x.last x.bars) at.first (at.bars long))))

@@ -12,8 +12,9 @@ use Rattle.snippet_model.specs.declared.snippet.AnnotationKind.TheVariants.{Prim
 use Rattle.snippet_lines.specs.Lines.{Source}
 use Rattle.snippet_lines.specs.Place.{locations_of}
 use Rattle.snippet_lines.specs.Span.{IsSpan}
+use Rattle.snippet_parts.specs.declared.entries.LineAnnotation.{LineAnnotation}
 use Rattle.snippet_parts.specs.declared.location.Location.{Location}
-use Rattle.snippet_parts.specs.Annotated.{PartEntry, KeptLine, annotated_lines, is_long, kept_line, parts_on, single_part}
+use Rattle.snippet_parts.specs.Annotated.{KeptLine, annotated_lines, is_long, kept_line, parts_on, single_part}
 use Rattle.snippet_model.specs.AnnotationKind.{is_primary}
 use Rattle.snippet_parts.specs.Entries.{Ascends, is_untouched}
 use Rattle.snippet_parts.specs.Kept.{kept_lines}
@@ -173,7 +174,7 @@ starting : (Annotation → Bool) → Source → List Annotation → ℕ → List
 starting test s marks k = filter (λ a. test a && eqb (first_line s.text a) k) marks
 
 -- the entries of a choice are on each line those of such spans
-record Chooses (choice : List PartEntry → List PartEntry) (test : Annotation → Bool) (s : Source) (marks : List Annotation) : Type 0 where
+record Chooses (choice : List LineAnnotation → List LineAnnotation) (test : Annotation → Bool) (s : Source) (marks : List Annotation) : Type 0 where
   pub parts : (k : ℕ) → choice (parts_on s marks k) ≡ map (single_part s) (starting test s marks k)
 
 starts-there : (test : Annotation → Bool) (s : Source) (marks : List Annotation) (k : ℕ) (a : Annotation) → Contains marks a → test a ≡ true
@@ -185,10 +186,10 @@ starts-there test s marks k a among passes on =
 
 start_at-single : (s : Source) (spans : List Annotation) → start_columns (map (single_part s) spans) ≡ map (start_at s) spans
 unfolding locations_of
-start_at-single s spans = map-map (λ (p : PartEntry). p.entry.start.char + 1) (single_part s) spans
+start_at-single s spans = map-map (λ (p : LineAnnotation). p.start.char + 1) (single_part s) spans
 
 -- the place on a line is that of the least column at which such a span starts there
-least_place-on : (choice : List PartEntry → List PartEntry) (test : Annotation → Bool) (s : Source) (marks : List Annotation) (k : ℕ)
+least_place-on : (choice : List LineAnnotation → List LineAnnotation) (test : Annotation → Bool) (s : Source) (marks : List Annotation) (k : ℕ)
     → Chooses choice test s marks → choice_place choice (kept_line s marks k)
     ≡ option_map (λ column. record { line = s.first + k; column = Some column }) (least (map (start_at s) (starting test s marks k)))
 least_place-on choice test s marks k chooses =
@@ -213,7 +214,7 @@ at-column : Source → ℕ → ℕ → Location
 at-column s k column = record { line = s.first + k; column = Some column }
 
 -- a line on which such a span starts has a place
-has-place : (choice : List PartEntry → List PartEntry) (test : Annotation → Bool) (s : Source) (marks : List Annotation) (k : ℕ) (a : Annotation)
+has-place : (choice : List LineAnnotation → List LineAnnotation) (test : Annotation → Bool) (s : Source) (marks : List Annotation) (k : ℕ) (a : Annotation)
     → Chooses choice test s marks → Contains (starting test s marks k) a → is_some (choice_place choice (kept_line s marks k)) ≡ true
 unfolding at-column
 has-place choice test s marks k a chooses there =
@@ -221,7 +222,7 @@ has-place choice test s marks k a chooses there =
     ap is_some (least_place-on choice test s marks k chooses) ∙ ap (λ o. is_some (option_map (at-column s k) o)) lowest.1.is
 
 -- and the place of a line is that of a span of least column
-place_found : (choice : List PartEntry → List PartEntry) (test : Annotation → Bool) (s : Source) (marks : List Annotation) (k : ℕ) (place : Location)
+place_found : (choice : List LineAnnotation → List LineAnnotation) (test : Annotation → Bool) (s : Source) (marks : List Annotation) (k : ℕ) (place : Location)
     → Chooses choice test s marks → choice_place choice (kept_line s marks k) ≡ Some place
     → (a : Annotation) × IsLeast (start_at s) (starting test s marks k) a × (place ≡ at-column s k (start_at s a))
 unfolding at-column
@@ -238,7 +239,7 @@ place_found choice test s marks k place chooses has =
         let same : Some place ≡ Some (at-column s k (start_at s lowest.0)) = known ∙ ap (option_map (at-column s k)) lowest.1.is in (lowest.0, lowest.1, cc)
 
 -- the first line on which such a span starts is named, at the least column of one there
-named-by : (choice : List PartEntry → List PartEntry) (test : Annotation → Bool) (fold : Bool) (s : Source) (marks : List Annotation) (a : Annotation)
+named-by : (choice : List LineAnnotation → List LineAnnotation) (test : Annotation → Bool) (fold : Bool) (s : Source) (marks : List Annotation) (a : Annotation)
     → All (λ a. IsSpan s.text a.span.start a.span.end) marks → Chooses choice test s marks → Contains marks a → test a ≡ true
     → (place : Location) × (first_place (choice_place choice) (annotated_lines fold s marks) ≡ Some place) × IsPlaceBy test s marks place
 unfolding at-column starting
@@ -331,7 +332,7 @@ chooses-primary s marks spans none = record { parts = on }
     on : (k : ℕ) → primary_parts (parts_on s marks k) ≡ map (single_part s) (starting (λ a. is_primary a.kind) s marks k)
     on k =
         ap primary_parts (parts-marked s marks k spans none)
-        ∙ filter-map (λ (p : PartEntry). is_primary p.entry.kind) (single_part s) (starting (λ a. is_marking a.kind) s marks k)
+        ∙ filter-map (λ (p : LineAnnotation). is_primary p.kind) (single_part s) (starting (λ a. is_marking a.kind) s marks k)
         ∙ ap (map (single_part s))
         (filter-filter (λ (a : Annotation). is_primary a.kind) (λ (a : Annotation). is_marking a.kind && eqb (first_line s.text a)
         k) marks ∙ filter-agree (λ (a : Annotation). is_marking a.kind && eqb (first_line s.text a) k && is_primary a.kind)

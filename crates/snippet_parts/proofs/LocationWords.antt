@@ -4,26 +4,31 @@ use Rattle.std.specs.List.{cons_option, filter, filter_map, slice_get}
 use Rattle.std.specs.Option.{option_map, option_or}
 use Rattle.std.proofs.lemmas.List.{append-nil}
 use Rattle.snippet_model.specs.AnnotationKind.{is_primary}
+use Rattle.snippet_parts.specs.declared.entries.LineAnnotation.{LineAnnotation}
 use Rattle.snippet_parts.specs.declared.location.Location.{Location}
-use Rattle.snippet_parts.specs.Annotated.{PartEntry, KeptLine}
+use Rattle.snippet_parts.specs.Annotated.{KeptLine}
 use Rattle.snippet_parts.specs.Least.{least}
-use Rattle.snippet_parts.specs.Location.{entry_place, least_place, primary_place, secondary_place}
+use Rattle.snippet_parts.specs.Location.{least_place, primary_place, secondary_place}
 
 -- the columns at which some entries start: characters, counted from 1
-abbrev pub start_columns : List PartEntry → List ℕ
-start_columns parts = map (λ p. p.entry.start.char + 1) parts
+abbrev pub start_columns : List LineAnnotation → List ℕ
+start_columns parts = map (λ p. p.start.char + 1) parts
 
 -- two choices among entries: the primary ones, and all
-abbrev pub primary_parts : List PartEntry → List PartEntry
-primary_parts parts = filter (λ p. is_primary p.entry.kind) parts
+abbrev pub primary_parts : List LineAnnotation → List LineAnnotation
+primary_parts parts = filter (λ p. is_primary p.kind) parts
 
-abbrev pub all_parts : List PartEntry → List PartEntry
+abbrev pub all_parts : List LineAnnotation → List LineAnnotation
 all_parts parts = filter (λ p. true) parts
 
 -- the least column on a line at which an entry of a choice starts, if there is one
-abbrev pub choice_place : (List PartEntry → List PartEntry) → KeptLine → Option Location
+abbrev pub choice_place : (List LineAnnotation → List LineAnnotation) → KeptLine → Option Location
 choice_place choice line =
     option_map (λ column. record { line = line.number; column = Some column }) (least (start_columns (choice line.parts)))
+
+-- the column on a line at which its first entry starts, if there is one
+abbrev pub entry_place : KeptLine → Option Location
+entry_place line = option_map (λ p. record { line = line.number; column = Some (p.start.char + 1) }) (slice_get line.parts 0)
 
 -- a line alone
 abbrev pub bare_place : KeptLine → Option Location

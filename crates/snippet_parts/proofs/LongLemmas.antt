@@ -4,6 +4,7 @@ use Rattle.std.specs.Cmp.{IsStrictWeakOrder}
 use Rattle.std.specs.List.Sorted.{IsNonDecreasingBy, IsSortedBy}
 use Rattle.std.specs.Ordering.{is_lt, ordering_then, nat_cmp}
 use Rattle.std.proofs.lemmas.Bool.Decides.{nat_tests}
+use Rattle.snippet_parts.specs.declared.entries.LineAnnotation.{LineAnnotation}
 use Rattle.snippet_parts.specs.declared.long_spans.LongSpan.{LongSpan}
 use Rattle.snippet_parts.specs.Annotated.{long_entry, is_long}
 use Rattle.snippet_lines.specs.OrderedBy.{ordered_by}
@@ -11,7 +12,7 @@ use Rattle.snippet_parts.specs.Located.{AreBars}
 use Rattle.snippet_parts.specs.LongSpans.{seen_long, HasFit}
 use Rattle.snippet_lines.specs.Lines.{Source, source_lines}
 use Rattle.snippet_parts.specs.Mark.{is_marking}
-use Rattle.snippet_parts.specs.Marked.{Entry, first_line, last_line}
+use Rattle.snippet_parts.specs.Marked.{first_line, last_line}
 use Rattle.snippet_model.specs.declared.snippet.Annotation.{Annotation}
 use Rattle.std.proofs.lemmas.Bool.{cases_eq, cases_lt, eqb-false, ltb-false, not-true, and_parts, or_parts}
 use Rattle.snippet_parts.proofs.MarkLemmas.{start-line, end-line}
@@ -65,24 +66,24 @@ pub fit-long : (s : Source) (a : Annotation) (l : LongSpan) → a.span.start ≤
     → HasFit s l
 fit-long s a l ordered seen display end char long bars =
     let first : first_line s.text a ≡ l.start.line - s.first =
-    omega (arith, ap (λ (e : Entry). e.start.line) seen, start-line s a.span.start a.span.end) in
+    omega (arith, ap (λ (e : LineAnnotation). e.start.line) seen, start-line s a.span.start a.span.end) in
     let last : last_line s.text a ≡ l.end.line - s.first =
-    omega (arith, ap (λ (e : Entry). e.end.line) seen, end-line s a.span.start a.span.end) in
+    omega (arith, ap (λ (e : LineAnnotation). e.end.line) seen, end-line s a.span.start a.span.end) in
     record {
       display = display;
       end_display = end;
       char = omega arith;
       lines =
-          omega (arith, ap (λ (e : Entry). e.start.line) seen, ap (λ (e : Entry). e.end.line) seen, long-lines s a ordered long);
+          omega (arith, ap (λ (e : LineAnnotation). e.start.line) seen, ap (λ (e : LineAnnotation). e.end.line) seen, long-lines s a ordered long);
       from =
-          omega (arith, ap (λ (e : Entry). e.start.line) seen, start-line s a.span.start a.span.end);
+          omega (arith, ap (λ (e : LineAnnotation). e.start.line) seen, start-line s a.span.start a.span.end);
       within =
-          omega (arith, ap (λ (e : Entry). e.end.line) seen, end-line s a.span.start a.span.end, line_of-within s.text a.span.end);
+          omega (arith, ap (λ (e : LineAnnotation). e.end.line) seen, end-line s a.span.start a.span.end, line_of-within s.text a.span.end);
       bars = subst (λ n. AreBars s.text (l.start.line - s.first) n l.bars) last (subst (λ n. AreBars s.text n (last_line s.text a) l.bars) first bars);
     }
 
 -- the order of the code's spans is that of what is seen of them
-pub long_spans-is : (given sorted : List LongSpan) (es : List Entry) → sorted ≡ ordered_by long_before given → map seen_long given ≡ es
+pub long_spans-is : (given sorted : List LongSpan) (es : List LineAnnotation) → sorted ≡ ordered_by long_before given → map seen_long given ≡ es
     → map seen_long sorted ≡ ordered_by stands_before es
 long_spans-is given sorted es is seen = ap (map seen_long) is ∙ map-ordered_by seen_long stands_before given ∙ ap (ordered_by stands_before) seen
 

@@ -9,12 +9,12 @@ use Rattle.snippet_model.specs.declared.snippet.AnnotationKind.TheVariants.{Prim
 use Rattle.snippet_lines.specs.declared.place.Loc.{Loc}
 use Rattle.snippet_lines.specs.Lines.{Source}
 use Rattle.snippet_lines.specs.Place.{start_location}
+use Rattle.snippet_parts.specs.declared.entries.LineAnnotation.{LineAnnotation}
 use Rattle.snippet_parts.specs.declared.depths.LongExtent.{LongExtent}
 use Rattle.snippet_parts.specs.declared.entries.LineAnnotationType.TheVariants.{Singleline, MultilineEnd}
-use Rattle.snippet_parts.specs.Annotated.{PartEntry, long_place, long_parts, promoted, span_parts, start_part, bar_part, end_part}
-use Rattle.snippet_parts.specs.Annotated.{bar_lines}
+use Rattle.snippet_parts.specs.Annotated.{long_place, long_parts, promoted, span_parts, start_part, bar_part, end_part}
+use Rattle.snippet_parts.specs.LongSpans.{bar_lines}
 use Rattle.snippet_parts.specs.Depths.{depth_among, same_place}
-use Rattle.snippet_parts.specs.Marked.{Entry}
 use Rattle.snippet_parts.proofs.AmongLemmas.{Among, among_left, among_right, any_among, any_cases, append_cases}
 use Rattle.snippet_parts.proofs.PartLemmas.{HoldsOfSpan, IsBarLine, bar_lines-stand, span-all}
 use Rattle.snippet_parts.proofs.RawDepthLemmas.{same-refl, same-true}
@@ -44,67 +44,70 @@ primary-passes t choice Context is = cc
 primary-passes t choice Visible is = cc
 
 -- what is known of a span of several lines as it is seen
-pub record IsSeen (s : Source) (e : Entry) : Type 0 where
+pub record IsSeen (s : Source) (e : LineAnnotation) : Type 0 where
   pub start : e.start ≡ start_location s e.start.byte
   pub later : e.start.line < e.end.line
 
 -- spans at the same place start at the same location
-pub same_start : (s : Source) (d e : Entry) → IsSeen s d → IsSeen s e → long_place d ≡ long_place e → d.start ≡ e.start
+pub same_start : (s : Source) (d e : LineAnnotation) → IsSeen s d → IsSeen s e → long_place d ≡ long_place e → d.start ≡ e.start
 same_start s d e seen other same = seen.start ∙ ap (λ (p : LongExtent). start_location s p.from) same ∙ sym other.start
 
 -- ---- a span as it is drawn
 
 -- a primary one of some spans has this place
-pub record HasPrimary (es : List Entry) (place : LongExtent) : Type 0 where
-  pub span : Entry
+pub record HasPrimary (es : List LineAnnotation) (place : LongExtent) : Type 0 where
+  pub span : LineAnnotation
   pub among : Among es span
   pub primary : is_primary span.kind ≡ true
   pub same : long_place span ≡ place
 
-more-primary : (es : List Entry) (e : Entry) (place : LongExtent) → HasPrimary es place → HasPrimary (es ++ e ∷ []) place
+more-primary : (es : List LineAnnotation) (e : LineAnnotation) (place : LongExtent) → HasPrimary es place → HasPrimary (es ++ e ∷ []) place
 more-primary es e place has = record { span = has.span; among = among_left es (e ∷ []) has.span has.among; primary = has.primary; same = has.same }
 
-promoted-primary : (before : List Entry) (e : Entry) (place : LongExtent) → HasPrimary before place → long_place e ≡ place → is_promoted before e ≡ true
+promoted-primary : (before : List LineAnnotation) (e : LineAnnotation) (place : LongExtent) → HasPrimary before place → long_place e ≡ place
+    → is_promoted before e ≡ true
 promoted-primary before e place has at =
     let same : same_place (long_place e) (long_place has.span) ≡ true = ap (same_place (long_place e)) (has.same ∙ sym at) ∙ same-refl (long_place e) in
-    or_right (is_primary e.kind) (list_any (λ (d : Entry). is_primary d.kind && same_place (long_place e) (long_place d)) before)
-    (any_among (λ (d : Entry). is_primary d.kind && same_place (long_place e)
+    or_right (is_primary e.kind) (list_any (λ (d : LineAnnotation). is_primary d.kind && same_place (long_place e) (long_place d)) before)
+    (any_among (λ (d : LineAnnotation). is_primary d.kind && same_place (long_place e)
     (long_place d)) before has.span has.among
     (and_from (is_primary has.span.kind) (same_place (long_place e) (long_place has.span)) has.primary same))
 
-promoted-kind : (t : AnnotationKind → Bool) → IsChoice t → (before : List Entry) (e : Entry) (place : LongExtent) → (t e.kind ≡ true) ⊎ HasPrimary before place
+promoted-kind : (t : AnnotationKind → Bool) → IsChoice t → (before : List LineAnnotation) (e : LineAnnotation) (place : LongExtent)
+    → (t e.kind ≡ true) ⊎ HasPrimary before place
     → long_place e ≡ place → t (promoted before e).kind ≡ true
 promoted-kind t choice before e place why at =
-    cond_both (is_promoted before e) (record e { kind = Primary }) e (λ (d : Entry). t d.kind ≡ true) (λ _. choice.primary) (λ no. elim why [
+    cond_both (is_promoted before e) (record e { kind = Primary }) e (λ (d : LineAnnotation). t d.kind ≡ true) (λ _. choice.primary) (λ no. elim why [
       | inl own ↦ own
       | inr other ↦ absurd (both_ways (is_promoted before e) no (promoted-primary before e place other at))
     ])
 
 -- a span that is promoted starts where it did
-pub promoted-start : (before : List Entry) (e : Entry) → (promoted before e).start ≡ e.start
-promoted-start before e = cond_both (is_promoted before e) (record e { kind = Primary }) e (λ (d : Entry). d.start ≡ e.start) (λ _. refl) (λ _. refl)
+pub promoted-start : (before : List LineAnnotation) (e : LineAnnotation) → (promoted before e).start ≡ e.start
+promoted-start before e = cond_both (is_promoted before e) (record e { kind = Primary }) e (λ (d : LineAnnotation). d.start ≡ e.start) (λ _. refl) (λ _. refl)
 
 -- a span that is promoted ends where it did
-pub promoted-end : (before : List Entry) (e : Entry) → (promoted before e).end ≡ e.end
-promoted-end before e = cond_both (is_promoted before e) (record e { kind = Primary }) e (λ (d : Entry). d.end ≡ e.end) (λ _. refl) (λ _. refl)
+pub promoted-end : (before : List LineAnnotation) (e : LineAnnotation) → (promoted before e).end ≡ e.end
+promoted-end before e = cond_both (is_promoted before e) (record e { kind = Primary }) e (λ (d : LineAnnotation). d.end ≡ e.end) (λ _. refl) (λ _. refl)
 
 -- ---- where a span starts an entry stands
 
 -- an entry of a chosen kind stands at a place
-pub record StandsAt (t : AnnotationKind → Bool) (parts : List PartEntry) (at : Loc) : Type 0 where
-  pub part : PartEntry
+pub record StandsAt (t : AnnotationKind → Bool) (parts : List LineAnnotation) (at : Loc) : Type 0 where
+  pub part : LineAnnotation
   pub among : Among parts part
-  pub passes : t part.entry.kind ≡ true
-  pub at_is : part.entry.start ≡ at
+  pub passes : t part.kind ≡ true
+  pub at_is : part.start ≡ at
 
 -- one stands where a span of this place starts, one of those to come
-pub record IsStarted (t : AnnotationKind → Bool) (parts : List PartEntry) (later : List Entry) (place : LongExtent) : Type 0 where
-  pub span : Entry
+pub record IsStarted (t : AnnotationKind → Bool) (parts : List LineAnnotation) (later : List LineAnnotation) (place : LongExtent) : Type 0 where
+  pub span : LineAnnotation
   pub among : Among later span
   pub same : long_place span ≡ place
   pub stands : StandsAt t parts span.start
 
-later-started : (t : AnnotationKind → Bool) (first parts : List PartEntry) (e : Entry) (later : List Entry) (place : LongExtent) → IsStarted t parts later place
+later-started : (t : AnnotationKind → Bool) (first parts : List LineAnnotation) (e : LineAnnotation) (later : List LineAnnotation)
+    (place : LongExtent) → IsStarted t parts later place
     → IsStarted t (first ++ parts) (e ∷ later) place
 later-started t first parts e later place rest =
     record {
@@ -122,11 +125,12 @@ later-started t first parts e later place rest =
 
 -- the last span of its place has an entry where it starts
 last-started : (t : AnnotationKind → Bool) → IsChoice t
-    → (s : Source) (depth : ℕ) (before : List Entry) (e : Entry) (later : List Entry) (others : List PartEntry) (place : LongExtent)
+    → (s : Source) (depth : ℕ) (before : List LineAnnotation) (e : LineAnnotation) (later : List LineAnnotation) (others : List LineAnnotation)
+    (place : LongExtent)
     → stands_among e later ≡ false → (t e.kind ≡ true) ⊎ HasPrimary before place → long_place e ≡ place
     → IsStarted t (span_parts s depth (stands_among e later) (promoted before e) ++ others) (e ∷ later) place
 last-started t choice s depth before e later others place last why at =
-    let drawn : Entry = promoted before e in
+    let drawn : LineAnnotation = promoted before e in
     record {
       span = e;
       among = inl refl;
@@ -142,7 +146,8 @@ last-started t choice s depth before e later others place last why at =
 
 -- where a span of the chosen kind stands at a place, a part that starts it does
 pub started : (t : AnnotationKind → Bool) → IsChoice t
-    → (s : Source) (places : List LongExtent) (before later : List Entry) (place : LongExtent) (e : Entry) → Among later e → long_place e ≡ place
+    → (s : Source) (places : List LongExtent) (before later : List LineAnnotation) (place : LongExtent) (e : LineAnnotation) → Among later e
+    → long_place e ≡ place
     → (t e.kind ≡ true) ⊎ HasPrimary before place → IsStarted t (long_parts s places before later) later place
 started t choice s places before [] place e here at why = absurd here
 started t choice s places before (f ∷ later) place e (inr among) at why =
@@ -154,7 +159,7 @@ started t choice s places before (f ∷ later) place e (inr among) at why =
 started t choice s places before (f ∷ later) place e (inl same) at why =
     elim (cases_Bool (stands_among f later)) [
       | inl again ↦
-          let g = any_cases (λ (d : Entry). same_place (long_place f) (long_place d)) later again in
+          let g = any_cases (λ (d : LineAnnotation). same_place (long_place f) (long_place d)) later again in
           later-started t (span_parts s (depth_among places (long_place f)) (stands_among f later) (promoted before f))
           (long_parts s places (before ++ f ∷ []) later)
           f later place (started t choice s places (before ++ f ∷ [])
@@ -166,9 +171,9 @@ started t choice s places before (f ∷ later) place e (inl same) at why =
     here = ap long_place same ∙ at
 
     own : (t f.kind ≡ true) ⊎ HasPrimary before place
-    own = elim why [ inl passes ↦ inl (ap (λ (d : Entry). t d.kind) same ∙ passes) | inr other ↦ inr other ]
+    own = elim why [ inl passes ↦ inl (ap (λ (d : LineAnnotation). t d.kind) same ∙ passes) | inr other ↦ inr other ]
 
-    next : (g : Entry) → (t g.kind ≡ true) ⊎ HasPrimary (before ++ f ∷ []) place
+    next : (g : LineAnnotation) → (t g.kind ≡ true) ⊎ HasPrimary (before ++ f ∷ []) place
     next g =
         elim own [
           | inl passes ↦ elim (choice.others f.kind passes) [
@@ -181,28 +186,28 @@ started t choice s places before (f ∷ later) place e (inl same) at why =
 -- ---- and none before
 
 -- an entry stands at the start of a span of a chosen kind or after it
-pub record IsReached (t : AnnotationKind → Bool) (before later : List Entry) (part : PartEntry) : Type 0 where
-  pub span : Entry
+pub record IsReached (t : AnnotationKind → Bool) (before later : List LineAnnotation) (part : LineAnnotation) : Type 0 where
+  pub span : LineAnnotation
   pub among : Among before span ⊎ Among later span
   pub passes : t span.kind ≡ true
-  pub by : IsBy span.start part.entry.start
+  pub by : IsBy span.start part.start
 
 -- a span that is drawn in a chosen kind has it, or another one of its place
-record IsDrawnAs (t : AnnotationKind → Bool) (before later : List Entry) (e : Entry) : Type 0 where
-  pub span : Entry
+record IsDrawnAs (t : AnnotationKind → Bool) (before later : List LineAnnotation) (e : LineAnnotation) : Type 0 where
+  pub span : LineAnnotation
   pub among : Among before span ⊎ Among later span
   pub passes : t span.kind ≡ true
   pub start : span.start ≡ e.start
 
-drawn-as : (t : AnnotationKind → Bool) → IsChoice t → (s : Source) (before : List Entry) (e : Entry) (later : List Entry)
-    → ((d : Entry) → Among before d → IsSeen s d) → IsSeen s e → t (promoted before e).kind ≡ true → IsDrawnAs t before (e ∷ later) e
+drawn-as : (t : AnnotationKind → Bool) → IsChoice t → (s : Source) (before : List LineAnnotation) (e : LineAnnotation) (later : List LineAnnotation)
+    → ((d : LineAnnotation) → Among before d → IsSeen s d) → IsSeen s e → t (promoted before e).kind ≡ true → IsDrawnAs t before (e ∷ later) e
 drawn-as t choice s before e later seen here passes =
     elim (cases_Bool (is_primary e.kind)) [
       | inl primary ↦ record { span = e; among = inr (inl refl); passes = primary-passes t choice e.kind primary; start = refl }
       | inr other ↦ elim (cases_Bool (is_promoted before e)) [
         | inl so ↦
-            let d = any_cases (λ (d : Entry). is_primary d.kind && same_place (long_place e) (long_place d)) before
-            (ap (λ b. b || list_any (λ (d : Entry). is_primary d.kind && same_place (long_place e) (long_place d)) before) (sym other) ∙ so) in
+            let d = any_cases (λ (d : LineAnnotation). is_primary d.kind && same_place (long_place e) (long_place d)) before
+            (ap (λ b. b || list_any (λ (d : LineAnnotation). is_primary d.kind && same_place (long_place e) (long_place d)) before) (sym other) ∙ so) in
             let parts = and_parts (is_primary d.0.kind) (same_place (long_place e) (long_place d.0)) d.2 in
             record {
               span = d.0;
@@ -214,16 +219,17 @@ drawn-as t choice s before e later seen here passes =
         | inr own ↦ record {
           span = e;
           among = inr (inl refl);
-          passes = ap (λ (d : Entry). t d.kind)
+          passes = ap (λ (d : LineAnnotation). t d.kind)
               (sym (cond-false (is_promoted before e) (record e { kind = Primary }) e own)) ∙ passes;
           start = refl;
         }
       ]
     ]
 
-span-reached : (t : AnnotationKind → Bool) → IsChoice t → (s : Source) (depth : ℕ) (before : List Entry) (e : Entry) (later : List Entry)
-    → ((d : Entry) → Among before d → IsSeen s d) → IsSeen s e
-    → HoldsOfSpan (λ p. t p.entry.kind ≡ true → IsReached t before (e ∷ later) p) s depth (promoted before e)
+span-reached : (t : AnnotationKind → Bool) → IsChoice t
+    → (s : Source) (depth : ℕ) (before : List LineAnnotation) (e : LineAnnotation) (later : List LineAnnotation)
+    → ((d : LineAnnotation) → Among before d → IsSeen s d) → IsSeen s e
+    → HoldsOfSpan (λ p. t p.kind ≡ true → IsReached t before (e ∷ later) p) s depth (promoted before e)
 span-reached t choice s depth before e later seen here =
     record {
       start = λ passes. reach passes (start_part (promoted before e) depth) (λ from.
@@ -231,13 +237,13 @@ span-reached t choice s depth before e later seen here =
       bars = All-weaker (IsBarLine s.text ((promoted before e).start.line - s.first) ((promoted before e).end.line - s.first))
           (λ k. t (promoted before e).kind ≡ true → IsReached t before (e ∷ later) (bar_part (promoted before e) depth (s.first + k)))
           (λ k bar passes. reach passes (bar_part (promoted before e) depth (s.first + k))
-          (λ from. by-above from.span.start (bar_part (promoted before e) depth (s.first + k)).entry.start (omega (arith, bar.from, line from))))
+          (λ from. by-above from.span.start (bar_part (promoted before e) depth (s.first + k)).start (omega (arith, bar.from, line from))))
           (bar_lines s.text ((promoted before e).start.line - s.first) ((promoted before e).end.line - s.first))
           (bar_lines-stand s.text ((promoted before e).start.line - s.first) ((promoted before e).end.line - s.first));
       end = λ passes. reach passes (end_part (promoted before e) (MultilineEnd depth)) (λ from.
-          by-above from.span.start (end_part (promoted before e) (MultilineEnd depth)).entry.start (omega (arith, line from, below)));
+          by-above from.span.start (end_part (promoted before e) (MultilineEnd depth)).start (omega (arith, line from, below)));
       again = λ passes. reach passes (end_part (promoted before e) Singleline) (λ from.
-          by-above from.span.start (end_part (promoted before e) Singleline).entry.start (omega (arith, line from, below)));
+          by-above from.span.start (end_part (promoted before e) Singleline).start (omega (arith, line from, below)));
     }
   where
     below : (promoted before e).start.line < (promoted before e).end.line
@@ -246,28 +252,28 @@ span-reached t choice s depth before e later seen here =
     line : (from : IsDrawnAs t before (e ∷ later) e) → from.span.start.line ≡ (promoted before e).start.line
     line from = ap (λ (l : Loc). l.line) (from.start ∙ sym (promoted-start before e))
 
-    reach : t (promoted before e).kind ≡ true → (p : PartEntry) → ((from : IsDrawnAs t before (e ∷ later) e) → IsBy from.span.start p.entry.start)
+    reach : t (promoted before e).kind ≡ true → (p : LineAnnotation) → ((from : IsDrawnAs t before (e ∷ later) e) → IsBy from.span.start p.start)
         → IsReached t before (e ∷ later) p
     reach passes p by =
         let from = drawn-as t choice s before e later seen here passes in
         record { span = from.span; among = from.among; passes = from.passes; by = by from }
 
 -- a part of the chosen kind is reached from a span of that kind
-pub reached : (t : AnnotationKind → Bool) → IsChoice t → (s : Source) (places : List LongExtent) (before later : List Entry)
-    → ((d : Entry) → Among before d → IsSeen s d) → ((d : Entry) → Among later d → IsSeen s d)
-    → All (λ p. t p.entry.kind ≡ true → IsReached t before later p) (long_parts s places before later)
-reached t choice s places before [] seen to-come = All-nil (λ p. t p.entry.kind ≡ true → IsReached t before [] p)
+pub reached : (t : AnnotationKind → Bool) → IsChoice t → (s : Source) (places : List LongExtent) (before later : List LineAnnotation)
+    → ((d : LineAnnotation) → Among before d → IsSeen s d) → ((d : LineAnnotation) → Among later d → IsSeen s d)
+    → All (λ p. t p.kind ≡ true → IsReached t before later p) (long_parts s places before later)
+reached t choice s places before [] seen to-come = All-nil (λ p. t p.kind ≡ true → IsReached t before [] p)
 reached t choice s places before (e ∷ later) seen to-come =
-    let P = λ (p : PartEntry). t p.entry.kind ≡ true → IsReached t before (e ∷ later) p in
-    let first : List PartEntry = span_parts s (depth_among places (long_place e)) (stands_among e later) (promoted before e) in
-    let others : List PartEntry = long_parts s places (before ++ e ∷ []) later in
+    let P = λ (p : LineAnnotation). t p.kind ≡ true → IsReached t before (e ∷ later) p in
+    let first : List LineAnnotation = span_parts s (depth_among places (long_place e)) (stands_among e later) (promoted before e) in
+    let others : List LineAnnotation = long_parts s places (before ++ e ∷ []) later in
     All-append P first others
     (span-all P s (depth_among places (long_place e)) (stands_among e later) (promoted before e)
     (span-reached t choice s (depth_among places (long_place e)) before e later seen (to-come e (inl refl))))
-    (All-weaker (λ p. t p.entry.kind ≡ true → IsReached t (before ++ e ∷ []) later p) P (λ p given passes.
+    (All-weaker (λ p. t p.kind ≡ true → IsReached t (before ++ e ∷ []) later p) P (λ p given passes.
     moved p (given passes)) others (reached t choice s places (before ++ e ∷ []) later seen-more (λ d among. to-come d (inr among))))
   where
-    seen-more : (d : Entry) → Among (before ++ e ∷ []) d → IsSeen s d
+    seen-more : (d : LineAnnotation) → Among (before ++ e ∷ []) d → IsSeen s d
     seen-more d among =
         elim (append_cases before (e ∷ []) d among) [
           | inl early ↦ seen d early
@@ -275,7 +281,7 @@ reached t choice s places before (e ∷ later) seen to-come =
           | inr (inr none) ↦ absurd none
         ]
 
-    where-now : (d : Entry) → Among (before ++ e ∷ []) d ⊎ Among later d → Among before d ⊎ Among (e ∷ later) d
+    where-now : (d : LineAnnotation) → Among (before ++ e ∷ []) d ⊎ Among later d → Among before d ⊎ Among (e ∷ later) d
     where-now d (inl early) =
         elim (append_cases before (e ∷ []) d early) [
           | inl there ↦ inl there
@@ -284,5 +290,5 @@ reached t choice s places before (e ∷ later) seen to-come =
         ]
     where-now d (inr late) = inr (inr late)
 
-    moved : (p : PartEntry) → IsReached t (before ++ e ∷ []) later p → IsReached t before (e ∷ later) p
+    moved : (p : LineAnnotation) → IsReached t (before ++ e ∷ []) later p → IsReached t before (e ∷ later) p
     moved p rest = record { span = rest.span; among = where-now rest.span rest.among; passes = rest.passes; by = rest.by }

@@ -18,14 +18,15 @@ use Rattle.snippet_lines.specs.Place.{line_of, location_of, place_of, prefix_at,
 use Rattle.snippet_lines.specs.Span.{IsSpan, IsSpanBorder}
 use Rattle.snippet_lines.proofs.LinesLemmas.{IsUtf8-text_at}
 use Rattle.snippet_lines.proofs.PlaceLemmas.{IsCharBoundary-prefix, line_of-mono, line_of-within, locations_of-start, place_of-character, start_location-line}
+use Rattle.snippet_parts.specs.declared.entries.LineAnnotation.{LineAnnotation}
 use Rattle.snippet_parts.specs.declared.location.Location.{Location}
-use Rattle.snippet_parts.specs.Annotated.{PartEntry, KeptLine, annotated_lines, is_long, kept_line, long_entry, long_parts, long_place}
+use Rattle.snippet_parts.specs.Annotated.{KeptLine, annotated_lines, is_long, kept_line, long_entry, long_parts, long_place}
 use Rattle.snippet_parts.specs.Annotated.{long_spans, made_parts, parts_on, single_part}
 use Rattle.snippet_parts.specs.Kept.{kept_lines}
 use Rattle.snippet_parts.specs.Entries.{Ascends}
 use Rattle.snippet_parts.specs.Location.{marked_starts, naming_start, place_at, primary_place, primary_starts}
 use Rattle.snippet_parts.specs.Mark.{is_marking, is_single_line}
-use Rattle.snippet_parts.specs.Marked.{Entry, first_line, last_line}
+use Rattle.snippet_parts.specs.Marked.{first_line, last_line}
 use Rattle.snippet_parts.specs.Least.{least}
 use Rattle.snippet_parts.proofs.AmongLemmas.{Among, all_among, among_filter, among_in_order, among_left, among_map, among_right, append_cases, filter_cases}
 use Rattle.snippet_parts.proofs.AmongLemmas.{in_order_cases, least-among, least_le, map_cases}
@@ -179,20 +180,20 @@ long-seen s a span long =
     ]
 
 -- the span of which an entry of several lines is
-record IsOfSpan (s : Source) (marks : List Annotation) (e : Entry) : Type 0 where
+record IsOfSpan (s : Source) (marks : List Annotation) (e : LineAnnotation) : Type 0 where
   pub span : Annotation
   pub among : Among marks span
   pub long : is_long s.text span ≡ true
   pub is : long_entry s span ≡ e
 
-of-span : (s : Source) (marks : List Annotation) (e : Entry) → Among (long_spans s marks) e → IsOfSpan s marks e
+of-span : (s : Source) (marks : List Annotation) (e : LineAnnotation) → Among (long_spans s marks) e → IsOfSpan s marks e
 of-span s marks e among =
     let given = map_cases (long_entry s) (filter (is_long s.text) marks) e
     (in_order_cases stands_before (map (long_entry s) (filter (is_long s.text) marks)) e among) in
     let span = filter_cases (is_long s.text) marks given.0 given.1 in
     record { span = given.0; among = span.0; long = span.1; is = given.2 }
 
-all_seen : (s : Source) (marks : List Annotation) → ((a : Annotation) → Among marks a → IsSpan s.text a.span.start a.span.end) → (e : Entry)
+all_seen : (s : Source) (marks : List Annotation) → ((a : Annotation) → Among marks a → IsSpan s.text a.span.start a.span.end) → (e : LineAnnotation)
     → Among (long_spans s marks) e → IsSeen s e
 all_seen s marks spans e among =
     let of = of-span s marks e among in
@@ -213,7 +214,7 @@ marked-started t choice s marks spans a among marked passes =
       }
       | inr several ↦
           let long : is_long s.text a ≡ true = and_from (is_marking a.kind) (not (is_single_line s.text a)) marked (ap not several) in
-          let e : Entry = long_entry s a in
+          let e : LineAnnotation = long_entry s a in
           let there : Among (long_spans s marks) e = among_in_order stands_before (map (long_entry s) (filter (is_long s.text) marks)) e
           (among_map (long_entry s) (filter (is_long s.text) marks) a (among_filter (is_long s.text) marks a among long)) in
           let one = started t choice s (long_places s marks) [] (long_spans s marks) (long_place e) e there refl (inl passes) in
@@ -226,22 +227,22 @@ marked-started t choice s marks spans a among marked passes =
           }
     ]
   where
-    singles : List PartEntry
+    singles : List LineAnnotation
     singles = map (single_part s) (filter (is_short s.text) marks)
 
-    longs : List PartEntry
+    longs : List LineAnnotation
     longs = long_parts s (long_places s marks) [] (long_spans s marks)
 
 -- and each entry of a kind stands at the start of such a span or after it
-record IsAfterStart (t : AnnotationKind → Bool) (s : Source) (marks : List Annotation) (p : PartEntry) : Type 0 where
+record IsAfterStart (t : AnnotationKind → Bool) (s : Source) (marks : List Annotation) (p : LineAnnotation) : Type 0 where
   pub span : Annotation
   pub among : Among marks span
   pub marked : is_marking span.kind ≡ true
   pub passes : t span.kind ≡ true
-  pub by : IsBy (start_location s span.span.start) p.entry.start
+  pub by : IsBy (start_location s span.span.start) p.start
 
 part-after : (t : AnnotationKind → Bool) → IsChoice t → (s : Source) (marks : List Annotation)
-    → ((a : Annotation) → Among marks a → IsSpan s.text a.span.start a.span.end) → (p : PartEntry) → Among (made_parts s marks) p → t p.entry.kind ≡ true
+    → ((a : Annotation) → Among marks a → IsSpan s.text a.span.start a.span.end) → (p : LineAnnotation) → Among (made_parts s marks) p → t p.kind ≡ true
     → IsAfterStart t s marks p
 part-after t choice s marks spans p among passes =
     elim (append_cases (map (single_part s) (filter (is_short s.text) marks)) (long_parts s (long_places s marks) [] (long_spans s marks)) p among) [
@@ -252,23 +253,23 @@ part-after t choice s marks spans p among passes =
             span = a.0;
             among = given.0;
             marked = (and_parts (is_marking a.0.kind) (is_single_line s.text a.0) given.1).0;
-            passes = ap (λ (q : PartEntry). t q.entry.kind) a.2 ∙ passes;
-            by = by-same (start_location s a.0.span.start) p.entry.start (sym (start-of-span s a.0) ∙ ap (λ (q : PartEntry). q.entry.start) a.2);
+            passes = ap (λ (q : LineAnnotation). t q.kind) a.2 ∙ passes;
+            by = by-same (start_location s a.0.span.start) p.start (sym (start-of-span s a.0) ∙ ap (λ (q : LineAnnotation). q.start) a.2);
           }
-      | inr several ↦ long (all_among (λ p. t p.entry.kind ≡ true → IsReached t [] (long_spans s marks) p)
+      | inr several ↦ long (all_among (λ p. t p.kind ≡ true → IsReached t [] (long_spans s marks) p)
           (long_parts s (long_places s marks) [] (long_spans s marks))
           p (reached t choice s (long_places s marks) [] (long_spans s marks) (λ d none. absurd none) (all_seen s marks spans)) several passes)
     ]
   where
-    from : (e : Entry) → Among (long_spans s marks) e → t e.kind ≡ true → IsBy e.start p.entry.start → IsAfterStart t s marks p
+    from : (e : LineAnnotation) → Among (long_spans s marks) e → t e.kind ≡ true → IsBy e.start p.start → IsAfterStart t s marks p
     from e here own by =
         let of = of-span s marks e here in
         record {
           span = of.span;
           among = of.among;
           marked = (and_parts (is_marking of.span.kind) (not (is_single_line s.text of.span)) of.long).0;
-          passes = ap (λ (d : Entry). t d.kind) of.is ∙ own;
-          by = subst (λ (l : Loc). IsBy l p.entry.start) (sym (sym (start-of-span s of.span) ∙ ap (λ (d : Entry). d.start) of.is)) by;
+          passes = ap (λ (d : LineAnnotation). t d.kind) of.is ∙ own;
+          by = subst (λ (l : Loc). IsBy l p.start) (sym (sym (start-of-span s of.span) ∙ ap (λ (d : LineAnnotation). d.start) of.is)) by;
         }
 
     long : IsReached t [] (long_spans s marks) p → IsAfterStart t s marks p
@@ -277,8 +278,8 @@ part-after t choice s marks spans p among passes =
 -- ---- the place of the first of these spans
 
 -- the entries of a choice
-abbrev chosen : (AnnotationKind → Bool) → List PartEntry → List PartEntry
-chosen t parts = filter (λ p. t p.entry.kind) parts
+abbrev chosen : (AnnotationKind → Bool) → List LineAnnotation → List LineAnnotation
+chosen t parts = filter (λ p. t p.kind) parts
 
 -- a marked span of a choice starts at a place, or after it, where no such span starts before
 record IsFirstStart (t : AnnotationKind → Bool) (s : Source) (marks : List Annotation) (a : Annotation) : Type 0 where
@@ -289,12 +290,12 @@ record IsFirstStart (t : AnnotationKind → Bool) (s : Source) (marks : List Ann
       → IsBy (start_location s a.span.start) (start_location s b.span.start)
 
 -- the entries of a choice on a line, one by one
-on_line : (t : AnnotationKind → Bool) (s : Source) (marks : List Annotation) (k : ℕ) (p : PartEntry) → Among (chosen t (parts_on s marks k)) p
-    → Among (made_parts s marks) p × (p.entry.start.line ≡ s.first + k) × (t p.entry.kind ≡ true)
+on_line : (t : AnnotationKind → Bool) (s : Source) (marks : List Annotation) (k : ℕ) (p : LineAnnotation) → Among (chosen t (parts_on s marks k)) p
+    → Among (made_parts s marks) p × (p.start.line ≡ s.first + k) × (t p.kind ≡ true)
 on_line t s marks k p among =
-    let outer = filter_cases (λ (q : PartEntry). t q.entry.kind) (parts_on s marks k) p among in
-    let inner = filter_cases (λ (q : PartEntry). eqb q.entry.start.line (s.first + k)) (made_parts s marks) p outer.0 in
-    (inner.0, eqb-true p.entry.start.line (s.first + k) inner.1, outer.1)
+    let outer = filter_cases (λ (q : LineAnnotation). t q.kind) (parts_on s marks k) p among in
+    let inner = filter_cases (λ (q : LineAnnotation). eqb q.start.line (s.first + k)) (made_parts s marks) p outer.0 in
+    (inner.0, eqb-true p.start.line (s.first + k) inner.1, outer.1)
 
 -- above the line of the first span there is no entry of the choice
 none-above : (t : AnnotationKind → Bool) → IsChoice t → (s : Source) (marks : List Annotation)
@@ -316,30 +317,30 @@ least-there t choice s marks spans a least-start =
     k : ℕ
     k = first_line s.text a
 
-    column : PartEntry → ℕ
-    column p = p.entry.start.char + 1
+    column : LineAnnotation → ℕ
+    column p = p.start.char + 1
 
     there : Among (start_columns (chosen t (parts_on s marks (first_line s.text a)))) ((start_location s a.span.start).char + 1)
     there =
         let one = marked-started t choice s marks spans a least-start.among least-start.marked least-start.passes in
-        let on : eqb one.part.entry.start.line (s.first + first_line s.text a)
-        ≡ true = eq-eqb one.part.entry.start.line (s.first + first_line s.text a)
+        let on : eqb one.part.start.line (s.first + first_line s.text a)
+        ≡ true = eq-eqb one.part.start.line (s.first + first_line s.text a)
         (ap (λ (l : Loc). l.line) one.at_is ∙ start_location-line s a.span.start) in
         let part : Among (chosen t (parts_on s marks (first_line s.text a))) one.part =
-        among_filter (λ (q : PartEntry). t q.entry.kind) (parts_on s marks (first_line s.text a))
-        one.part (among_filter (λ (q : PartEntry). eqb q.entry.start.line (s.first + first_line s.text a)) (made_parts s
+        among_filter (λ (q : LineAnnotation). t q.kind) (parts_on s marks (first_line s.text a))
+        one.part (among_filter (λ (q : LineAnnotation). eqb q.start.line (s.first + first_line s.text a)) (made_parts s
         marks) one.part one.among on) one.passes in
         subst (Among (start_columns (chosen t (parts_on s marks (first_line s.text a))))) (ap (λ (l : Loc). l.char + 1) one.at_is)
-        (among_map (λ (q : PartEntry). q.entry.start.char + 1) (chosen t (parts_on s marks (first_line s.text a))) one.part part)
+        (among_map (λ (q : LineAnnotation). q.start.char + 1) (chosen t (parts_on s marks (first_line s.text a))) one.part part)
 
     low : (m : ℕ) → Among (start_columns (chosen t (parts_on s marks (first_line s.text a)))) m → (start_location s a.span.start).char + 1 ≤ m
     low m among =
-        let p = map_cases (λ (q : PartEntry). q.entry.start.char + 1) (chosen t (parts_on s marks (first_line s.text a))) m among in
+        let p = map_cases (λ (q : LineAnnotation). q.start.char + 1) (chosen t (parts_on s marks (first_line s.text a))) m among in
         let on = on_line t s marks (first_line s.text a) p.0 p.1 in
         let after = part-after t choice s marks spans p.0 on.0 on.2 in
         let before = least-start.first after.span after.among after.marked after.passes in
         let line : (start_location s a.span.start).line ≡ s.first + first_line s.text a = start_location-line s a.span.start in
-        let beside : (start_location s after.span.span.start).line ≡ p.0.entry.start.line = omega (arith, line, on.1, after.by.0, before.0) in
+        let beside : (start_location s after.span.span.start).line ≡ p.0.start.line = omega (arith, line, on.1, after.by.0, before.0) in
         let level : (start_location s a.span.start).line ≡ (start_location s after.span.span.start).line = omega (arith, line, on.1, beside) in
         omega (arith, p.2, after.by.1 beside, before.1 level)
 

@@ -8,11 +8,12 @@ use Rattle.std.proofs.lemmas.Simd.{map-map}
 use Rattle.std.proofs.lemmas.List.Elements.{All-head, All-tail, All-map, All-contains, Contains-append_left, Contains-append_right, filter-append}
 use Rattle.snippet_model.specs.declared.snippet.Annotation.{Annotation}
 use Rattle.snippet_model.specs.declared.snippet.AnnotationKind.TheVariants.{Primary}
+use Rattle.snippet_parts.specs.declared.entries.LineAnnotation.{LineAnnotation}
 use Rattle.snippet_parts.specs.declared.depths.LongExtent.{LongExtent}
 use Rattle.snippet_parts.specs.declared.entries.AnnotatedLineInfo.{AnnotatedLineInfo}
 use Rattle.snippet_parts.specs.declared.entries.LineAnnotationType.TheVariants.{Singleline, MultilineStart, MultilineEnd}
 use Rattle.snippet_lines.specs.declared.place.Loc.{Loc}
-use Rattle.snippet_parts.specs.Annotated.{PartEntry, seen_part, KeptLine, seen_kept, kept_line, annotated_lines, is_long, long_entry, long_place}
+use Rattle.snippet_parts.specs.Annotated.{KeptLine, seen_kept, kept_line, annotated_lines, is_long, long_entry, long_place}
 use Rattle.snippet_parts.specs.Annotated.{long_spans}
 use Rattle.snippet_parts.specs.Annotated.{long_parts, depth_of, single_part, start_part, end_part, span_parts}
 use Rattle.snippet_parts.specs.Annotated.{parts_on, promoted}
@@ -22,13 +23,13 @@ use Rattle.snippet_parts.specs.Entries.{Ascends}
 use Rattle.snippet_parts.specs.Kept.{kept_lines}
 use Rattle.snippet_lines.specs.Lines.{Source}
 use Rattle.snippet_parts.specs.Mark.{is_marking, touches}
-use Rattle.snippet_parts.specs.Marked.{Entry, first_line, last_line}
+use Rattle.snippet_parts.specs.Marked.{first_line, last_line}
 use Rattle.snippet_parts.specs.OnLine.{numbers_of_lines, AreEntriesOn}
 use Rattle.snippet_lines.specs.Place.{locations_of, start_location, end_location, location_of}
 use Rattle.snippet_lines.specs.Span.{IsSpan}
 use Rattle.snippet_parts.specs.LineStretches.{is_seen}
 use Rattle.snippet_parts.proofs.RawDepthLemmas.{same-true, same-refl}
-use Rattle.snippet_parts.proofs.EntryFacts.{each-line, seen_part-parts_on, longs-off, singles-on}
+use Rattle.snippet_parts.proofs.EntryFacts.{each-line, entries-parts_on, longs-off, singles-on}
 use Rattle.snippet_parts.proofs.KeptPartLemmas.{any-member, keeps-unmarked}
 use Rattle.snippet_parts.proofs.MarkLemmas.{start-line, end-line}
 use Rattle.snippet_parts.proofs.PartLemmas.{All-order}
@@ -82,7 +83,7 @@ long_among s marks a among long =
 -- ---- places
 
 -- an entry stands where the span of its bytes does
-record IsPlaced (s : Source) (e : Entry) : Type 0 where
+record IsPlaced (s : Source) (e : LineAnnotation) : Type 0 where
   pub start : e.start ≡ (locations_of s e.start.byte e.end.byte).0
   pub end : e.end ≡ (locations_of s e.start.byte e.end.byte).1
 
@@ -99,42 +100,42 @@ long-placed s a = record {
 }
 
 -- spans of one place start and end at the same locations
-same_start : (s : Source) (d e : Entry) → IsPlaced s d → IsPlaced s e → long_place d ≡ long_place e → d.start ≡ e.start
+same_start : (s : Source) (d e : LineAnnotation) → IsPlaced s d → IsPlaced s e → long_place d ≡ long_place e → d.start ≡ e.start
 same_start s d e dp ep same = dp.start ∙ ap (λ (p : LongExtent). (locations_of s p.from p.to).0) same ∙ sym ep.start
 
-same_end : (s : Source) (d e : Entry) → IsPlaced s d → IsPlaced s e → long_place d ≡ long_place e → d.end ≡ e.end
+same_end : (s : Source) (d e : LineAnnotation) → IsPlaced s d → IsPlaced s e → long_place d ≡ long_place e → d.end ≡ e.end
 same_end s d e dp ep same = dp.end ∙ ap (λ (p : LongExtent). (locations_of s p.from p.to).1) same ∙ sym ep.end
 
 -- ---- the entries of one span
 
-drawn-label : (before : List Entry) (e : Entry) → (promoted before e).label ≡ e.label
+drawn-label : (before : List LineAnnotation) (e : LineAnnotation) → (promoted before e).label ≡ e.label
 drawn-label before e =
-    cond_both (is_promoted before e) (record e { kind = Primary }) e (λ (d : Entry). d.label ≡ e.label) (λ _. refl) (λ _. refl)
+    cond_both (is_promoted before e) (record e { kind = Primary }) e (λ (d : LineAnnotation). d.label ≡ e.label) (λ _. refl) (λ _. refl)
 
 -- an entry starts, on its line, where a span does, at a depth
-record StartsAt (start : Loc) (depth : ℕ) (p : PartEntry) : Type 0 where
-  pub start_is : p.entry.start ≡ start
-  pub part : p.part ≡ MultilineStart depth
+record StartsAt (start : Loc) (depth : ℕ) (p : LineAnnotation) : Type 0 where
+  pub start_is : p.start ≡ start
+  pub part : p.annotation_type ≡ MultilineStart depth
 
 -- an entry stands on the last line of a span, ends where it ends, and closes it at a depth
-record EndsAt (end : Loc) (depth : ℕ) (p : PartEntry) : Type 0 where
-  pub line : p.entry.start.line ≡ end.line
-  pub end_is : p.entry.end ≡ end
-  pub part : p.part ≡ MultilineEnd depth
+record EndsAt (end : Loc) (depth : ℕ) (p : LineAnnotation) : Type 0 where
+  pub line : p.start.line ≡ end.line
+  pub end_is : p.end ≡ end
+  pub part : p.annotation_type ≡ MultilineEnd depth
 
 -- an entry stands on the last line of a span, ends where it ends, and has its label
-record SaysOf (e : Entry) (depth : ℕ) (p : PartEntry) : Type 0 where
-  pub line : p.entry.start.line ≡ e.end.line
-  pub end_is : p.entry.end ≡ e.end
-  pub label : p.entry.label ≡ e.label
-  pub part : (p.part ≡ MultilineEnd depth) ⊎ (p.part ≡ Singleline)
+record SaysOf (e : LineAnnotation) (depth : ℕ) (p : LineAnnotation) : Type 0 where
+  pub line : p.start.line ≡ e.end.line
+  pub end_is : p.end ≡ e.end
+  pub label : p.label ≡ e.label
+  pub part : (p.annotation_type ≡ MultilineEnd depth) ⊎ (p.annotation_type ≡ Singleline)
 
 -- some entries have one that starts at a place, and one that closes there
-record HasBounds (start end : Loc) (depth : ℕ) (parts : List PartEntry) : Type 0 where
-  pub begun : (p : PartEntry) × Contains parts p × StartsAt start depth p
-  pub closed : (p : PartEntry) × Contains parts p × EndsAt end depth p
+record HasBounds (start end : Loc) (depth : ℕ) (parts : List LineAnnotation) : Type 0 where
+  pub begun : (p : LineAnnotation) × Contains parts p × StartsAt start depth p
+  pub closed : (p : LineAnnotation) × Contains parts p × EndsAt end depth p
 
-span-bounds : (s : Source) (depth : ℕ) (again : Bool) (e : Entry) → again ≡ false → HasBounds e.start e.end depth (span_parts s depth again e)
+span-bounds : (s : Source) (depth : ℕ) (again : Bool) (e : LineAnnotation) → again ≡ false → HasBounds e.start e.end depth (span_parts s depth again e)
 span-bounds s depth true e last = cc
 span-bounds s depth false e last = record {
   begun = (start_part e depth, contains-here (start_part e depth) (start_part e depth) _ refl, record { start_is = refl; part = refl });
@@ -147,7 +148,7 @@ span-bounds s depth false e last = record {
   );
 }
 
-span-says : (s : Source) (depth : ℕ) (again : Bool) (e : Entry) → (p : PartEntry) × Contains (span_parts s depth again e) p × SaysOf e depth p
+span-says : (s : Source) (depth : ℕ) (again : Bool) (e : LineAnnotation) → (p : LineAnnotation) × Contains (span_parts s depth again e) p × SaysOf e depth p
 span-says s depth true e = (
   end_part e Singleline,
   contains-here (end_part e Singleline) (end_part e Singleline) [] refl,
@@ -165,15 +166,15 @@ span-says s depth false e = (
 -- ---- the entries of all spans of several lines
 
 -- the last span of a place begins it and closes it
-bounds-among : (s : Source) (places : List LongExtent) (before es : List Entry) (e : Entry) → All (IsPlaced s) es → IsPlaced s e
+bounds-among : (s : Source) (places : List LongExtent) (before es : List LineAnnotation) (e : LineAnnotation) → All (IsPlaced s) es → IsPlaced s e
     → list_any (λ d. same_place (long_place e) (long_place d)) es ≡ true
     → HasBounds e.start e.end (depth_among places (long_place e)) (long_parts s places before es)
 bounds-among s places before [] e all placed among = cc
 bounds-among s places before (d ∷ later) e all placed among =
     let depth : ℕ = depth_among places (long_place d) in
     let again : Bool = stands_among d later in
-    let own : List PartEntry = span_parts s depth again (promoted before d) in
-    let rest : List PartEntry = long_parts s places (before ++ d ∷ []) later in
+    let own : List LineAnnotation = span_parts s depth again (promoted before d) in
+    let rest : List LineAnnotation = long_parts s places (before ++ d ∷ []) later in
     elim (cases_Bool (stands_among e later)) [
       | inl t ↦
           let bounds : HasBounds e.start e.end (depth_among places (long_place e)) rest = bounds-among s places (before ++ d ∷ []) later e
@@ -216,15 +217,15 @@ bounds-among s places before (d ∷ later) e all placed among =
     or_not false b t f = cc
 
 -- each span has an entry with its label
-says-among : (s : Source) (places : List LongExtent) (before es : List Entry) (e : Entry) → Contains es e
-    → (p : PartEntry) × Contains (long_parts s places before es) p × SaysOf e (depth_among places (long_place e)) p
+says-among : (s : Source) (places : List LongExtent) (before es : List LineAnnotation) (e : LineAnnotation) → Contains es e
+    → (p : LineAnnotation) × Contains (long_parts s places before es) p × SaysOf e (depth_among places (long_place e)) p
 says-among s places before [] e among = absurd (omega (arith, among.1))
 says-among s places before (d ∷ later) e among =
-    let own : List PartEntry = span_parts s (depth_among places (long_place d)) (stands_among d later) (promoted before d) in
-    let rest : List PartEntry = long_parts s places (before ++ d ∷ []) later in
+    let own : List LineAnnotation = span_parts s (depth_among places (long_place d)) (stands_among d later) (promoted before d) in
+    let rest : List LineAnnotation = long_parts s places (before ++ d ∷ []) later in
     elim (contains-cases e d later among) [
       | inl same ↦
-          let here : (p : PartEntry) × Contains own p × SaysOf (promoted before d) (depth_among places (long_place d)) p = span-says s
+          let here : (p : LineAnnotation) × Contains own p × SaysOf (promoted before d) (depth_among places (long_place d)) p = span-says s
           (depth_among places (long_place d)) (stands_among d later) (promoted before d) in
           let says : SaysOf d (depth_among places (long_place d)) here.0 = record {
             line = here.2.line ∙ ap (λ (l : Loc). l.line) (promoted-end before d);
@@ -233,27 +234,27 @@ says-among s places before (d ∷ later) e among =
                 ∙ drawn-label before d;
             part = here.2.part;
           } in
-          (here.0, Contains-append_left own rest here.0 here.1, subst (λ (c : Entry). SaysOf c (depth_among places (long_place c)) here.0) same says)
+          (here.0, Contains-append_left own rest here.0 here.1, subst (λ (c : LineAnnotation). SaysOf c (depth_among places (long_place c)) here.0) same says)
       | inr further ↦
-          let found : (p : PartEntry) × Contains rest p × SaysOf e (depth_among places (long_place e)) p = says-among s places
+          let found : (p : LineAnnotation) × Contains rest p × SaysOf e (depth_among places (long_place e)) p = says-among s places
           (before ++ d ∷ []) later e further in
           (found.0, Contains-append_right own rest found.0 found.1, found.2)
     ]
 
 -- ---- the entries of a line
 
-on_line : Source → ℕ → PartEntry → Bool
-on_line s k p = eqb p.entry.start.line (s.first + k)
+on_line : Source → ℕ → LineAnnotation → Bool
+on_line s k p = eqb p.start.line (s.first + k)
 
-all-longs : Source → List Annotation → List PartEntry
+all-longs : Source → List Annotation → List LineAnnotation
 all-longs s marks = long_parts s (long_places s marks) [] (long_spans s marks)
 
 -- an entry of these that stands on line k is among the line's others
-others-among : (s : Source) (marks : List Annotation) (k n : ℕ) (p : PartEntry) → Contains (all-longs s marks) p → p.entry.start.line ≡ s.first + n → n ≡ k
+others-among : (s : Source) (marks : List Annotation) (k n : ℕ) (p : LineAnnotation) → Contains (all-longs s marks) p → p.start.line ≡ s.first + n → n ≡ k
     → Contains (filter (on_line s k) (all-longs s marks)) p
 unfolding on_line
 others-among s marks k n p among line here =
-    contains-filter (on_line s k) p (all-longs s marks) (eq-eqb p.entry.start.line (s.first + k) (line ∙ ap (λ m. s.first + m) here)) among
+    contains-filter (on_line s k) p (all-longs s marks) (eq-eqb p.start.line (s.first + k) (line ∙ ap (λ m. s.first + m) here)) among
 
 -- the entries that are made for line k
 pub parts-on-line : (s : Source) (marks : List Annotation) (k : ℕ) → All (λ a. IsSpan s.text a.span.start a.span.end) marks
@@ -280,7 +281,7 @@ parts-on-line s marks k spans = record {
         record { end = found.closed.2.end_is; part = found.closed.2.part },
       );
   labelled = λ a among long here.
-      let found : (p : PartEntry) × Contains (all-longs s marks) p × SaysOf (long_entry s a) (depth_of s marks a) p = says-among s (long_places s marks) []
+      let found : (p : LineAnnotation) × Contains (all-longs s marks) p × SaysOf (long_entry s a) (depth_of s marks a) p = says-among s (long_places s marks) []
       (long_spans s marks) (long_entry s a) (long_among s marks a among long) in (
         found.0,
         others-among s marks k (last_line s.text a) found.0 found.1 (found.2.line ∙ end-line s a.span.start a.span.end) here,
@@ -297,7 +298,7 @@ parts-on-line s marks k spans = record {
     bounds : (a : Annotation) → Contains marks a → is_long s.text a ≡ true
         → HasBounds (long_entry s a).start (long_entry s a).end (depth_of s marks a) (all-longs s marks)
     bounds a among long =
-        let e : Entry = long_entry s a in
+        let e : LineAnnotation = long_entry s a in
         bounds-among s (long_places s marks) [] (long_spans s marks) e all-placed (long-placed s a)
         (any-member (λ d. same_place (long_place e) (long_place d)) (long_spans s marks) e (long_among s marks a among long) (same-refl (long_place e)))
 
@@ -356,15 +357,15 @@ module _ (fold : Bool) (s : Source) (marks : List Annotation) (infos : List Anno
         (keeps-unmarked s.text a k parts.0 parts.1))
 
     -- the entries of each kept line are those of the spans on it
-    pub lines-entries : All (λ info. AreEntriesOn s marks (info.line_index - s.first) (map seen_part info.annotations.items)) infos
+    pub lines-entries : All (λ info. AreEntriesOn s marks (info.line_index - s.first) info.annotations.items) infos
     lines-entries =
-        each-line (λ info. AreEntriesOn s marks (info.line_index - s.first) (map seen_part info.annotations.items)) s marks
+        each-line (λ info. AreEntriesOn s marks (info.line_index - s.first) info.annotations.items) s marks
         (kept_lines fold s.text marks) infos lines (λ i d within info seen. on (get_or (kept_lines fold s.text marks) i d) info seen)
       where
         on : (k : ℕ) (info : AnnotatedLineInfo) → seen_kept info ≡ kept_line s marks k
-            → AreEntriesOn s marks (info.line_index - s.first) (map seen_part info.annotations.items)
+            → AreEntriesOn s marks (info.line_index - s.first) info.annotations.items
         on k info seen =
             let at : info.line_index ≡ s.first + k = ap (λ (l : KeptLine). l.number) seen in
             let is : k ≡ info.line_index - s.first = omega arith in
-            subst (λ n. AreEntriesOn s marks n (map seen_part info.annotations.items)) is
-            (subst (AreEntriesOn s marks k) (sym (seen_part-parts_on s marks k info seen)) (parts-on-line s marks k spans))
+            subst (λ n. AreEntriesOn s marks n info.annotations.items) is
+            (subst (AreEntriesOn s marks k) (sym (entries-parts_on s marks k info seen)) (parts-on-line s marks k spans))

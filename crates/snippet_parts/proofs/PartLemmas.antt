@@ -8,15 +8,16 @@ use Rattle.std.proofs.lemmas.List.FromFn.{length-range_with_len, get_or-range_wi
 use Rattle.snippet_model.specs.declared.snippet.Annotation.{Annotation}
 use Rattle.snippet_model.specs.declared.snippet.AnnotationKind.{AnnotationKind}
 use Rattle.snippet_model.specs.declared.snippet.AnnotationKind.TheVariants.{Primary}
+use Rattle.snippet_parts.specs.declared.entries.LineAnnotation.{LineAnnotation}
 use Rattle.snippet_parts.specs.declared.depths.LongExtent.{LongExtent}
 use Rattle.snippet_parts.specs.declared.entries.LineAnnotationType.TheVariants.{Singleline, MultilineEnd}
-use Rattle.snippet_parts.specs.Annotated.{PartEntry, is_long, long_entry, long_place, long_spans, depth_of, single_part}
-use Rattle.snippet_parts.specs.Annotated.{start_part, bar_part, end_part, bar_lines, span_parts, long_parts, made_parts, promoted}
+use Rattle.snippet_parts.specs.Annotated.{is_long, long_entry, long_place, long_spans, depth_of, single_part}
+use Rattle.snippet_parts.specs.Annotated.{start_part, bar_part, end_part, span_parts, long_parts, made_parts, promoted}
+use Rattle.snippet_parts.specs.LongSpans.{bar_lines}
 use Rattle.snippet_lines.specs.OrderedBy.{ordered_by}
 use Rattle.snippet_parts.specs.Depths.{depth_among, same_place}
 use Rattle.snippet_parts.specs.Kept.{has_bar, is_trivial_line}
 use Rattle.snippet_lines.specs.Lines.{Source}
-use Rattle.snippet_parts.specs.Marked.{Entry}
 use Rattle.snippet_lines.proofs.OrderLemmas.{All-put_in}
 pub use Rattle.snippet_lines.proofs.OrderLemmas.{filter-none}
 use Rattle.snippet_parts.proofs.PartWords.{is_promoted, is_short, long_places, stands_before}
@@ -80,34 +81,35 @@ bar_lines-stand source first last =
 -- ---- entries
 
 -- what holds of each entry that a span of several lines may have
-pub record HoldsOfSpan (P : PartEntry → Type 0) (s : Source) (depth : ℕ) (e : Entry) : Type 0 where
+pub record HoldsOfSpan (P : LineAnnotation → Type 0) (s : Source) (depth : ℕ) (e : LineAnnotation) : Type 0 where
   pub start : P (start_part e depth)
   pub bars : All (λ k. P (bar_part e depth (s.first + k))) (bar_lines s.text (e.start.line - s.first) (e.end.line - s.first))
   pub end : P (end_part e (MultilineEnd depth))
   pub again : P (end_part e Singleline)
 
 -- what holds of what a span's parts are made of holds of each part
-pub span-all : (P : PartEntry → Type 0) (s : Source) (depth : ℕ) (again : Bool) (e : Entry) → HoldsOfSpan P s depth e → All P (span_parts s depth again e)
+pub span-all : (P : LineAnnotation → Type 0) (s : Source) (depth : ℕ) (again : Bool) (e : LineAnnotation) → HoldsOfSpan P s depth e
+    → All P (span_parts s depth again e)
 span-all P s depth true e holds = All-cons P (end_part e Singleline) [] holds.again (All-nil P)
 span-all P s depth false e holds =
-    let bars : List PartEntry = map (λ k. bar_part e depth (s.first + k)) (bar_lines s.text (e.start.line - s.first) (e.end.line - s.first)) in
+    let bars : List LineAnnotation = map (λ k. bar_part e depth (s.first + k)) (bar_lines s.text (e.start.line - s.first) (e.end.line - s.first)) in
     All-cons P (start_part e depth) (bars ++ end_part e (MultilineEnd depth) ∷ [])
     holds.start (All-append P bars (end_part e (MultilineEnd depth) ∷ [])
     (All-map P (λ k. bar_part e depth (s.first + k)) (bar_lines s.text (e.start.line - s.first) (e.end.line - s.first)) holds.bars)
     (All-cons P (end_part e (MultilineEnd depth)) [] holds.end (All-nil P)))
 
 -- a span as it is drawn has another kind at most
-drawn_all : (P : PartEntry → Type 0) (s : Source) (depth : ℕ) (before : List Entry) (e : Entry)
+drawn_all : (P : LineAnnotation → Type 0) (s : Source) (depth : ℕ) (before : List LineAnnotation) (e : LineAnnotation)
     → ((kind : AnnotationKind) → HoldsOfSpan P s depth (record e { kind = kind })) → HoldsOfSpan P s depth (promoted before e)
 drawn_all P s depth before e holds =
     cond_both (is_promoted before e) (record e { kind = Primary }) e (HoldsOfSpan P s depth) (λ _. holds Primary) (λ _. holds e.kind)
 
-long-all : (P : PartEntry → Type 0) (s : Source) (places : List LongExtent) (before es : List Entry)
+long-all : (P : LineAnnotation → Type 0) (s : Source) (places : List LongExtent) (before es : List LineAnnotation)
     → All (λ e. (kind : AnnotationKind) → HoldsOfSpan P s (depth_among places (long_place e)) (record e { kind = kind })) es
     → All P (long_parts s places before es)
 long-all P s places before [] all = All-nil P
 long-all P s places before (e ∷ later) all =
-    let Q = λ (e : Entry). (kind : AnnotationKind) → HoldsOfSpan P s (depth_among places (long_place e)) (record e { kind = kind }) in
+    let Q = λ (e : LineAnnotation). (kind : AnnotationKind) → HoldsOfSpan P s (depth_among places (long_place e)) (record e { kind = kind }) in
     All-append P (span_parts s (depth_among places (long_place e)) (list_any (λ d. same_place (long_place e) (long_place d)) later)
     (promoted before e)) (long_parts s places (before ++ e ∷ []) later)
     (span-all P s (depth_among places (long_place e)) (list_any (λ d. same_place (long_place e) (long_place d)) later) (promoted before e)
@@ -115,11 +117,11 @@ long-all P s places before (e ∷ later) all =
     (long-all P s places (before ++ e ∷ []) later (All-tail Q e later all))
 
 -- what holds of the entries of each span of several lines holds of those of all of them
-pub longs-all : (P : PartEntry → Type 0) (s : Source) (marks : List Annotation)
+pub longs-all : (P : LineAnnotation → Type 0) (s : Source) (marks : List Annotation)
     → ((a : Annotation) → Contains marks a → is_long s.text a ≡ true → (kind : AnnotationKind) → HoldsOfSpan P s (depth_of s marks a) (record
     (long_entry s a) { kind = kind })) → All P (long_parts s (long_places s marks) [] (long_spans s marks))
 longs-all P s marks long =
-    let Q = λ (e : Entry). (kind : AnnotationKind) → HoldsOfSpan P s (depth_among (long_places s marks) (long_place e)) (record e { kind = kind }) in
+    let Q = λ (e : LineAnnotation). (kind : AnnotationKind) → HoldsOfSpan P s (depth_among (long_places s marks) (long_place e)) (record e { kind = kind }) in
     let given : All Q (map (long_entry s) (filter (is_long s.text) marks)) =
     All-map Q (long_entry s) (filter (is_long s.text) marks)
     (All-filtered (is_long s.text) (λ a. Q (long_entry s a))
@@ -127,7 +129,7 @@ longs-all P s marks long =
     long-all P s (long_places s marks) [] (long_spans s marks) (All-order stands_before Q (map (long_entry s) (filter (is_long s.text) marks)) given)
 
 -- what holds of the entries of each span holds of all entries
-pub made-all : (P : PartEntry → Type 0) (s : Source) (marks : List Annotation)
+pub made-all : (P : LineAnnotation → Type 0) (s : Source) (marks : List Annotation)
     → ((a : Annotation) → Contains marks a → is_short s.text a ≡ true → P (single_part s a))
     → ((a : Annotation) → Contains marks a → is_long s.text a ≡ true → (kind : AnnotationKind) → HoldsOfSpan P s (depth_of s marks a) (record
     (long_entry s a) { kind = kind })) → All P (made_parts s marks)

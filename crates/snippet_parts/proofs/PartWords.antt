@@ -4,22 +4,22 @@ use Rattle.std.specs.List.{list_any}
 use Rattle.snippet_model.specs.AnnotationKind.{is_primary}
 use Rattle.snippet_model.specs.declared.snippet.Annotation.{Annotation}
 use Rattle.snippet_lines.specs.Lines.{Source}
+use Rattle.snippet_parts.specs.declared.entries.LineAnnotation.{LineAnnotation}
 use Rattle.snippet_parts.specs.declared.depths.LongExtent.{LongExtent}
 use Rattle.snippet_parts.specs.Annotated.{long_place, long_spans, single_part}
 use Rattle.snippet_parts.specs.Depths.{same_place}
 use Rattle.snippet_parts.specs.Mark.{is_marking, is_single_line}
-use Rattle.snippet_parts.specs.Marked.{Entry}
 
 -- the entry of an annotation that stands on one line
-abbrev pub entry_of : Source → Annotation → Entry
-entry_of s a = (single_part s a).entry
+abbrev pub entry_of : Source → Annotation → LineAnnotation
+entry_of s a = single_part s a
 
 -- whether an annotation is a span on one line of a kind that is marked
 abbrev pub is_short : List ℕ → Annotation → Bool
 is_short source a = is_marking a.kind && is_single_line source a
 
 -- whether a span of several lines comes before another
-abbrev pub stands_before : Entry → Entry → Bool
+abbrev pub stands_before : LineAnnotation → LineAnnotation → Bool
 stands_before d e = ltb d.start.line e.start.line || eqb d.start.line e.start.line && ltb e.end.line d.end.line
 
 -- the places of the spans of several lines, in their order
@@ -27,10 +27,10 @@ abbrev pub long_places : Source → List Annotation → List LongExtent
 long_places s marks = map long_place (long_spans s marks)
 
 -- whether a span has the place of one of some others
-abbrev pub stands_among : Entry → List Entry → Bool
+abbrev pub stands_among : LineAnnotation → List LineAnnotation → Bool
 stands_among e ds = list_any (λ d. same_place (long_place e) (long_place d)) ds
 
 -- whether a span is drawn as primary: it is, or one before it that has its place
-abbrev pub is_promoted : List Entry → Entry → Bool
+abbrev pub is_promoted : List LineAnnotation → LineAnnotation → Bool
 is_promoted before e =
     is_primary e.kind || list_any (λ d. is_primary d.kind && same_place (long_place e) (long_place d)) before

@@ -7,7 +7,8 @@ use Rattle.std.proofs.lemmas.Bool.{cases_Bool, cases_lt, or_left, or_right, cond
 use Rattle.std.proofs.lemmas.List.{map-id}
 use Rattle.std.proofs.lemmas.List.FromFn.{map-range_with_len_more}
 use Rattle.snippet_model.specs.declared.snippet.Annotation.{Annotation}
-use Rattle.snippet_parts.specs.Annotated.{is_long, long_entry, long_place, long_spans, depth_of, PartEntry, KeptLine}
+use Rattle.snippet_parts.specs.declared.entries.LineAnnotation.{LineAnnotation}
+use Rattle.snippet_parts.specs.Annotated.{is_long, long_entry, long_place, long_spans, depth_of, KeptLine}
 use Rattle.snippet_lines.specs.OrderedBy.{put_in, ordered_by}
 use Rattle.snippet_lines.specs.Lines.{Source}
 use Rattle.snippet_parts.specs.Depths.{same_place, share_line}
@@ -66,7 +67,7 @@ range-more i = sym (map-id (range_with_len 0 (i + 1))) ∙ map-range_with_len_mo
     ∙ ap (λ ks. ks ++ i ∷ []) (map-id (range_with_len 0 i))
 
 -- two lines that are seen alike
-pub same-kept : (number number' : ℕ) (text text' : List ℕ) (parts parts' : List PartEntry) (keep keep' : Bool) → number ≡ number' → text ≡ text'
+pub same-kept : (number number' : ℕ) (text text' : List ℕ) (parts parts' : List LineAnnotation) (keep keep' : Bool) → number ≡ number' → text ≡ text'
     → parts ≡ parts' → keep ≡ keep' → ◌≡◌ {A = KeptLine} (record { number = number; text = text; parts = parts; keep = keep })
     (record { number = number'; text = text'; parts = parts'; keep = keep' })
 same-kept number number' text text' parts parts' keep keep' a b c d = cc

@@ -1,5 +1,5 @@
 -- The entries of annotations on the lines that they touch, spans of several lines among them.
-use Rattle.std.specs.Prelude.{ℕ, ◌+◌, ◌-◌, ◌==◌, ◌&&◌, ◌||◌, nat_lt, Bool, not, List, [], ◌∷◌, ◌++◌, None, map, filter, if◌then◌else◌}
+use Rattle.std.specs.Prelude.{ℕ, ◌+◌, ◌-◌, ◌==◌, ◌&&◌, ◌||◌, nat_lt, max, Bool, not, List, [], ◌∷◌, ◌++◌, None, map, filter, if◌then◌else◌}
 use Rattle.std.specs.List.{list_any, range_with_len}
 use Rattle.std.specs.Option.{option_map}
 use Rattle.std.specs.Cow.{cow_str_bytes}
@@ -17,27 +17,19 @@ use Rattle.snippet_parts.specs.Kept.{has_bar, kept_lines}
 use Rattle.snippet_lines.specs.Lines.{source_lines, text_at, Source}
 use Rattle.snippet_lines.specs.OrderedBy.{ordered_by}
 use Rattle.snippet_parts.specs.Mark.{is_marking, is_single_line, touches}
-use Rattle.snippet_parts.specs.Marked.{Entry, seen_entry, widened}
 use Rattle.snippet_lines.specs.Place.{locations_of}
-
--- an entry, and the part of a span that it stands for
-pub record PartEntry : Type 0 where
-  pub entry : Entry
-  pub part : LineAnnotationType
-
-abbrev pub seen_part : LineAnnotation → PartEntry
-seen_part e = record { entry = seen_entry e; part = e.annotation_type }
 
 -- ---- spans of several lines, in order
 
--- a span as it is seen, from its start to its end
-abbrev pub long_entry : Source → Annotation → Entry
+-- a span as an entry that stands for the whole of it, from its start to its end
+abbrev pub long_entry : Source → Annotation → LineAnnotation
 long_entry s a =
     let at = locations_of s a.span.start a.span.end in
-    record { start = at.0; end = at.1; kind = a.kind; label = option_map cow_str_bytes a.label; highlight_source = a.highlight_source }
+    let label = option_map cow_str_bytes a.label in
+    record { start = at.0; end = at.1; kind = a.kind; label = label; annotation_type = Singleline; highlight_source = a.highlight_source }
 
 -- its place: its bytes, and the numbers of its first and its last line
-abbrev pub long_place : Entry → LongExtent
+abbrev pub long_place : LineAnnotation → LongExtent
 long_place e = record { from = e.start.byte; to = e.end.byte; first = e.start.line; last = e.end.line }
 
 -- whether an annotation is a span of several lines of a kind that is marked
@@ -45,7 +37,7 @@ abbrev pub is_long : List ℕ → Annotation → Bool
 is_long source a = is_marking a.kind && not (is_single_line source a)
 
 -- the spans of several lines of a source, in their order: by first line, then the one with the later last line, else as given
-abbrev pub long_spans : Source → List Annotation → List Entry
+abbrev pub long_spans : Source → List Annotation → List LineAnnotation
 long_spans s marks =
     ordered_by (λ d e. nat_lt d.start.line e.start.line || d.start.line == e.start.line && nat_lt e.end.line d.end.line)
     (map (long_entry s) (filter (is_long s.text) marks))
@@ -59,52 +51,51 @@ deepest s marks = greatest_depth (map long_place (long_spans s marks))
 
 -- ---- entries
 
--- the lines between the first and the last of a span of several lines beside which it has bars, from 0
-abbrev pub bar_lines : List ℕ → ℕ → ℕ → List ℕ
-bar_lines source first last = filter (has_bar source first last) (range_with_len (first + 1) (last - (first + 1)))
-
 -- the entry of a span on one line: at least one column wide
-abbrev pub single_part : Source → Annotation → PartEntry
+abbrev pub single_part : Source → Annotation → LineAnnotation
 single_part s a =
     let e = long_entry s a in
-    record { entry = record e { end = widened e.start e.end }; part = Singleline }
+    record e { end = record e.end { display = max e.end.display (e.start.display + 1) } }
 
 -- the entry on the first line of a span of several lines: one column and one character wide, without the label
-abbrev pub start_part : Entry → ℕ → PartEntry
+abbrev pub start_part : LineAnnotation → ℕ → LineAnnotation
 start_part e depth =
-    record { entry = record e { end = record e.start { char = e.start.char + 1; display = e.start.display + 1 }; label = None }; part = MultilineStart depth }
+    record e { end = record e.start { char = e.start.char + 1; display = e.start.display + 1 }; label = None; annotation_type = MultilineStart depth }
 
 -- a bar beside the line of a number: no columns, and no label
-abbrev pub bar_part : Entry → ℕ → ℕ → PartEntry
+abbrev pub bar_part : LineAnnotation → ℕ → ℕ → LineAnnotation
 bar_part e depth number =
     let at : Loc = record { line = number; char = 0; display = 0; byte = 0 } in
-    record { entry = record e { start = at; end = at; label = None }; part = MultilineLine depth }
+    record e { start = at; end = at; label = None; annotation_type = MultilineLine depth }
 
 -- the entry on the last line: the column and the character before the end, if there are any
-abbrev pub end_part : Entry → LineAnnotationType → PartEntry
-end_part e part = record { entry = record e { start = record e.end { char = e.end.char - 1; display = e.end.display - 1 } }; part = part }
+abbrev pub end_part : LineAnnotation → LineAnnotationType → LineAnnotation
+end_part e part = record e { start = record e.end { char = e.end.char - 1; display = e.end.display - 1 }; annotation_type = part }
 
--- the entries of a span of several lines: where a later one has its place it has a single-line entry at its end alone
-abbrev pub span_parts : Source → ℕ → Bool → Entry → List PartEntry
+-- the entries of a span of several lines: its start, its bars beside lines between its first and its last, and its end; where a later
+-- one has its place it has a single-line entry at its end alone
+abbrev pub span_parts : Source → ℕ → Bool → LineAnnotation → List LineAnnotation
 span_parts s depth again e =
+    let first = e.start.line - s.first in
+    let last = e.end.line - s.first in
+    let bar_lines = filter (has_bar s.text first last) (range_with_len (first + 1) (last - (first + 1))) in
     if again then end_part e Singleline ∷ []
-    else start_part e depth ∷ (map (λ k. bar_part e depth (s.first + k)) (bar_lines s.text (e.start.line - s.first) (e.end.line - s.first))
-    ++ end_part e (MultilineEnd depth) ∷ [])
+    else start_part e depth ∷ (map (λ k. bar_part e depth (s.first + k)) bar_lines ++ end_part e (MultilineEnd depth) ∷ [])
 
 -- a span as it is drawn: primary where it is, or one before it that has its place
-abbrev pub promoted : List Entry → Entry → Entry
+abbrev pub promoted : List LineAnnotation → LineAnnotation → LineAnnotation
 promoted before e =
     if is_primary e.kind || list_any (λ d. is_primary d.kind && same_place (long_place e) (long_place d)) before then record e { kind = Primary } else e
 
 -- the entries of spans of several lines in their order, all of which have these places
-abbrev pub long_parts : Source → List LongExtent → List Entry → List Entry → List PartEntry
+abbrev pub long_parts : Source → List LongExtent → List LineAnnotation → List LineAnnotation → List LineAnnotation
 long_parts s places before [] = []
 long_parts s places before (e ∷ later) =
     span_parts s (depth_among places (long_place e)) (list_any (λ d. same_place (long_place e) (long_place d)) later) (promoted before e)
     ++ long_parts s places (before ++ e ∷ []) later
 
 -- all entries in the order made: those of marked spans on one line as given, then those of spans of several lines
-abbrev pub made_parts : Source → List Annotation → List PartEntry
+abbrev pub made_parts : Source → List Annotation → List LineAnnotation
 made_parts s marks =
     let longs = long_spans s marks in
     map (single_part s) (filter (λ a. is_marking a.kind && is_single_line s.text a) marks) ++ long_parts s (map long_place longs) [] longs
@@ -112,18 +103,18 @@ made_parts s marks =
 -- ---- lines
 
 -- the entries that stand on line k, in the order made
-abbrev pub parts_on : Source → List Annotation → ℕ → List PartEntry
-parts_on s marks k = filter (λ p. p.entry.start.line == s.first + k) (made_parts s marks)
+abbrev pub parts_on : Source → List Annotation → ℕ → List LineAnnotation
+parts_on s marks k = filter (λ p. p.start.line == s.first + k) (made_parts s marks)
 
 -- a kept line as it is seen: its number, its text's bytes, its entries, and whether a span keeps it without marking it
 pub record KeptLine : Type 0 where
   pub number : ℕ
   pub text : List ℕ
-  pub parts : List PartEntry
+  pub parts : List LineAnnotation
   pub keep : Bool
 
 abbrev pub seen_kept : AnnotatedLineInfo → KeptLine
-seen_kept info = record { number = info.line_index; text = info.line.now; parts = map seen_part info.annotations.items; keep = info.keep }
+seen_kept info = record { number = info.line_index; text = info.line.now; parts = info.annotations.items; keep = info.keep }
 
 abbrev pub kept_line : Source → List Annotation → ℕ → KeptLine
 kept_line s marks k =

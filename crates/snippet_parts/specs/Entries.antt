@@ -25,7 +25,7 @@ HasCharacterRoom e = IsColumn e.start.char
 
 -- an entry's label is one of fewer than 2^56 bytes, if it has one
 abbrev pub HasShortLabel : LineAnnotation → Type 0
-HasShortLabel e = IfSome e.label (λ t. TextFits t.now)
+HasShortLabel e = IfSome e.label TextFits
 
 -- the depth of an entry of a span of several lines counts from 1 to the greatest one
 abbrev pub HasDepthWithin : ℕ → LineAnnotationType → Type 0

@@ -1,10 +1,11 @@
 -- Spans, each with its place in a source.
-use Rattle.std.specs.Prelude.{◌≡◌, ℕ, ◌+◌, ◌-◌, ◌<◌, ◌≤◌, ◌==◌, ◌&&◌, nat_le, nat_lt, min, Bool, IfSome, true, not, List, map}
+use Rattle.std.specs.Prelude.{◌≡◌, ℕ, ◌+◌, ◌-◌, ◌<◌, ◌≤◌, ◌==◌, ◌&&◌, nat_le, nat_lt, max, min, Bool, IfSome, true, not, List, map}
 use Rattle.std.specs.List.{list_any, range_with_len}
 use Rattle.std.specs.Option.{option_map}
 use Rattle.std.specs.Cow.{cow_str_bytes}
 use Rattle.std.specs.Str.{IsUtf8}
 use Rattle.snippet_model.specs.declared.snippet.Annotation.{Annotation}
+use Rattle.snippet_parts.specs.declared.entries.LineAnnotation.{LineAnnotation}
 use Rattle.snippet_parts.specs.declared.bars.Bars.{Bars}
 use Rattle.snippet_parts.specs.declared.located.LocatedSpan.{LocatedSpan}
 use Rattle.snippet_parts.specs.Kept.{is_trivial_line}
@@ -12,9 +13,8 @@ use Rattle.snippet_lines.specs.Lines.{Source}
 use Rattle.snippet_lines.specs.Place.{locations_of}
 use Rattle.snippet_lines.specs.Span.{IsSpan}
 use Rattle.snippet_parts.specs.declared.entries.LineAnnotationType.TheVariants.{Singleline}
-use Rattle.snippet_parts.specs.Annotated.{PartEntry}
 use Rattle.snippet_parts.specs.Mark.{is_marking}
-use Rattle.snippet_parts.specs.Marked.{Entry, first_line, last_line, widened}
+use Rattle.snippet_parts.specs.Marked.{first_line, last_line}
 use Rattle.snippet_text.specs.TextBounds.{IsOffset}
 use Rattle.snippet_style.specs.Bounds.{IsSourceColumn, IsSourceEnd}
 
@@ -56,17 +56,18 @@ abbrev pub annotations_of : List LocatedSpan → List Annotation
 annotations_of located = map (λ l. l.annotation.now) located
 
 -- such a span as it is seen: from its start to its end
-abbrev pub span_entry : LocatedSpan → Entry
+abbrev pub span_entry : LocatedSpan → LineAnnotation
 span_entry l =
     record {
       start = l.start;
       end = l.end;
       kind = l.annotation.now.kind;
       label = option_map cow_str_bytes l.annotation.now.label;
+      annotation_type = Singleline;
       highlight_source =
           l.annotation.now.highlight_source;
     }
 
 -- the entry of one that stands on one line
-abbrev pub short_part : LocatedSpan → PartEntry
-short_part l = record { entry = record (span_entry l) { end = widened l.start l.end }; part = Singleline }
+abbrev pub short_part : LocatedSpan → LineAnnotation
+short_part l = record (span_entry l) { end = record l.end { display = max l.end.display (l.start.display + 1) } }

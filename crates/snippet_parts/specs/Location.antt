@@ -20,21 +20,19 @@ use Rattle.snippet_parts.specs.Least.{least}
 abbrev pub least_place : (AnnotationKind → Bool) → KeptLine → Option Location
 least_place chosen line =
     option_map (λ column. record { line = line.number; column = Some column })
-    (least (map (λ p. p.entry.start.char + 1) (filter (λ p. chosen p.entry.kind) line.parts)))
+    (least (map (λ p. p.start.char + 1) (filter (λ p. chosen p.kind) line.parts)))
 
 -- what the head of a primary snippet names: the first line with a primary entry, and the least column of a primary one
 -- there; else the first line with an entry, and the least column there
 abbrev pub primary_place : List KeptLine → Option Location
 primary_place lines = slice_get (filter_map (least_place is_primary) lines ++ filter_map (least_place (λ kind. true)) lines) 0
 
--- the column on a line at which its first entry starts, if there is one
-abbrev pub entry_place : KeptLine → Option Location
-entry_place line = option_map (λ p. record { line = line.number; column = Some (p.entry.start.char + 1) }) (slice_get line.parts 0)
-
 -- what the head of another snippet names: the first line with an entry, and the column of the first one there; else the
 -- first line alone
 abbrev pub secondary_place : List KeptLine → Option Location
-secondary_place lines = slice_get (filter_map entry_place lines ++ map (λ line. record { line = line.number; column = None }) lines) 0
+secondary_place lines =
+    let starts = λ (line : KeptLine). option_map (λ p. record { line = line.number; column = Some (p.start.char + 1) }) (slice_get line.parts 0) in
+    slice_get (filter_map starts lines ++ map (λ line. record { line = line.number; column = None }) lines) 0
 
 -- ---- by the bytes at which spans start
 

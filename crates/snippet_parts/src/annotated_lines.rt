@@ -4,7 +4,8 @@ ghost use Rattle.std.specs.List.{AllPairs, slice_index_or};
 ghost use Rattle.std.specs.List.Sorted.{IsNonDecreasingBy};
 ghost use Rattle.std.specs.Option.{IfNone};
 ghost use Rattle.snippet_parts.specs.Annotated as spec;
-ghost use Rattle.snippet_parts.specs.Annotated.{PartEntry, seen_part, seen_kept};
+ghost use Rattle.snippet_parts.specs.Annotated.{seen_kept};
+ghost use Rattle.snippet_parts.specs.declared.entries.LineAnnotation.{LineAnnotation};
 ghost use Rattle.snippet_parts.specs.KeptEntries.{line_with};
 ghost use Rattle.snippet_lines.specs.Lines.{source_lines, text_at};
 ghost use Rattle.snippet_lines.specs.Span.{IsSpan};
@@ -110,7 +111,7 @@ fn add_entries<'a>(
     requires count { length lines.old ≡ length kept.now }
     ensures count { length lines.new ≡ length lines.old }
     ensures added { OnOk result ((seen : List ℕ) → map seen_kept lines.old ≡ map (line_with source.now seen []) kept.now
-        → map seen_kept lines.new ≡ map (line_with source.now seen (map seen_part entries.now)) kept.now) }
+        → map seen_kept lines.new ≡ map (line_with source.now seen entries.now) kept.now) }
 {
     for entry in entries {
         add_entry(lines, source, kept, entry)?;
@@ -128,9 +129,9 @@ fn add_entry<'a>(
     requires ascending { AllPairs (λ a b. a < b) kept.now }
     requires count { length lines.old ≡ length kept.now }
     ensures count { length lines.new ≡ length lines.old }
-    ensures added { OnOk result ((seen : List ℕ) (parts : List PartEntry)
+    ensures added { OnOk result ((seen : List ℕ) (parts : List LineAnnotation)
         → map seen_kept lines.old ≡ map (line_with source.now seen parts) kept.now
-        → map seen_kept lines.new ≡ map (line_with source.now seen (parts ++ seen_part entry.now ∷ [])) kept.now) }
+        → map seen_kept lines.new ≡ map (line_with source.now seen (parts ++ entry.now ∷ [])) kept.now) }
 {
     if let Some(at) = place_of(kept, source.line_start(), entry.start.line) {
         push_entry(&mut lines[at], entry)?;
@@ -178,9 +179,9 @@ fn push_entry<'a>(
     entry: &LineAnnotation<'a>,
 ) -> Result<(), AllocError>
     ensures added { OnOk result (seen_kept line.new ≡ record (seen_kept line.old) {
-      parts = (seen_kept line.old).parts ++ seen_part entry.now ∷ [];
+      parts = (seen_kept line.old).parts ++ entry.now ∷ [];
     }) }
 {
-    line.annotations.push(*entry)?;
+    line.annotations.push(entry.copied())?;
     Ok(())
 }

@@ -1,10 +1,12 @@
 //! What is drawn below a line: an entry for each span that begins, ends or stands on it.
+ghost use Rattle.std.specs.Prelude.{◌≡◌};
 
+use crate::label::Label;
 use snippet_lines::place::Loc;
 use snippet_model::snippet::AnnotationKind;
 
 /// One entry of a line: the columns from `start.display` to before `end.display`.
-#[derive(Clone, Copy, Debug)]
+#[derive(Debug, Drop)]
 pub struct LineAnnotation<'a> {
     /// Where it starts.
     pub start: Loc,
@@ -13,11 +15,27 @@ pub struct LineAnnotation<'a> {
     /// How it is marked.
     pub kind: AnnotationKind,
     /// What is said of it.
-    pub label: Option<&'a str>,
+    pub label: Option<Label<'a>>,
     /// Which part of a span it stands for.
     pub annotation_type: LineAnnotationType,
     /// Whether the source itself is coloured as the mark is.
     pub highlight_source: bool,
+}
+
+impl<'a> LineAnnotation<'a> {
+    /// The same entry once more.
+    pub fn copied(&self) -> LineAnnotation<'a>
+        ensures value { result ≡ self.now }
+    {
+        LineAnnotation {
+            start: self.start,
+            end: self.end,
+            kind: self.kind,
+            label: self.label.as_ref().map(|label| label.copied()),
+            annotation_type: self.annotation_type,
+            highlight_source: self.highlight_source,
+        }
+    }
 }
 
 /// Which part of a span an entry stands for. The numbers are depths: how far right a bar stands, from 1.

@@ -4,7 +4,6 @@ ghost use Rattle.std.specs.List.{list_any};
 ghost use Rattle.std.specs.List.Sorted.{IsNonDecreasingBy};
 ghost use Rattle.snippet_model.specs.AnnotationKind as kinds;
 ghost use Rattle.snippet_parts.specs.Annotated as spec;
-ghost use Rattle.snippet_parts.specs.Annotated.{seen_part};
 ghost use Rattle.snippet_parts.specs.Depths.{depth_among, same_place};
 ghost use Rattle.snippet_parts.specs.LongSpans.{seen_long, HasFit};
 ghost use Rattle.snippet_parts.specs.Located.{IsLocated, annotations_of};
@@ -32,7 +31,7 @@ pub(crate) fn made_entries<'a>(
 ) -> Result<(usize, Vec<LineAnnotation<'a>>), AllocError>
     requires located { All (IsLocated source.now) located.now }
     ensures deepest { IfOk result (λ made. made.0 ≡ spec.deepest source.now (annotations_of located.now)) }
-    ensures value { IfOk result (λ made. map seen_part made.1.items
+    ensures value { IfOk result (λ made. made.1.items
         ≡ spec.made_parts source.now (annotations_of located.now)) }
 {
     let mut entries = single_entries(alloc, located)?;
@@ -55,7 +54,7 @@ fn push_long_entries<'a>(
     requires ordered { IsNonDecreasingBy (λ l. l.start.line) spans.now }
     requires depths { depths.now ≡ map (λ span. depth_among (map spec.long_place (map seen_long spans.now))
         (spec.long_place (seen_long span))) spans.now }
-    ensures value { OnOk result (map seen_part entries.new.items ≡ map seen_part entries.old.items
+    ensures value { OnOk result (entries.new.items ≡ entries.old.items
         ++ spec.long_parts source.now (map spec.long_place (map seen_long spans.now)) [] (map seen_long spans.now)) }
 {
     for i in 0..spans.len() {

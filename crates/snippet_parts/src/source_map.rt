@@ -11,7 +11,7 @@ ghost use Rattle.snippet_parts.specs.LineTable.{table_entry, entry_at, touched_e
 ghost use Rattle.snippet_lines.specs.Place.{line_of, location_of, steps_after_text, locations_of};
 ghost use Rattle.snippet_lines.specs.Span.{IsSpan, IsSpanBorder};
 ghost use Rattle.snippet_parts.specs.Annotated as spec;
-ghost use Rattle.snippet_parts.specs.Annotated.{seen_kept, seen_part};
+ghost use Rattle.snippet_parts.specs.Annotated.{seen_kept};
 ghost use Rattle.snippet_parts.specs.Depths.{places_of, share_line, IsLongestChain};
 ghost use Rattle.snippet_parts.specs.Entries.{Ascends};
 ghost use Rattle.snippet_parts.specs.Marked.{first_line, last_line};
@@ -251,7 +251,7 @@ impl<'a> SourceMap<'a> {
             ≡ list_any (is_seen self.now.text (info.line_index - self.now.first)) annotations.now) drawn.1.items) }
         // The entries of each line.
         ensures entries { IfOk result (λ drawn. All (λ info. AreEntriesOn self.now annotations.now
-            (info.line_index - self.now.first) (map seen_part info.annotations.items)) drawn.1.items) }
+            (info.line_index - self.now.first) info.annotations.items) drawn.1.items) }
         ensures deepest { IfOk result (λ drawn. drawn.0 ≡ spec.deepest self.now annotations.now) }
         // Each label is a text.
         ensures labels { IfOk result (λ drawn. All HasTextLabel annotations.now) }

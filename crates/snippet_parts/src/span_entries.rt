@@ -1,12 +1,12 @@
 //! The entries of annotations, in the order in which they are made.
 ghost use Rattle.std.specs.Prelude.{◌≡◌, ◌+◌, ◌-◌, ◌++◌, All, map, filter, IfOk, OnOk};
 ghost use Rattle.snippet_parts.specs.Annotated as spec;
-ghost use Rattle.snippet_parts.specs.Annotated.{seen_part};
-ghost use Rattle.snippet_parts.specs.LongSpans.{seen_long, HasFit};
+ghost use Rattle.snippet_parts.specs.LongSpans.{bar_lines, seen_long, HasFit};
 ghost use Rattle.snippet_parts.specs.Located.{is_short_span, short_part};
 ghost use Rattle.snippet_style.specs.Bounds.{IsColumn, IsSourceColumn};
 
 use crate::entries::{LineAnnotation, LineAnnotationType};
+use crate::label::Label;
 use crate::located::LocatedSpan;
 use crate::location::is_marking;
 use crate::long_spans::LongSpan;
@@ -20,7 +20,7 @@ pub(crate) fn single_entries<'a>(
     located: &[LocatedSpan<'a>],
 ) -> Result<Vec<LineAnnotation<'a>>, AllocError>
     requires display { All (λ l. IsSourceColumn l.start.display) located.now }
-    ensures value { IfOk result (λ entries. map seen_part entries.items
+    ensures value { IfOk result (λ entries. entries.items
         ≡ map short_part (filter is_short_span located.now)) }
 {
     let mut entries = Vec::with_capacity(alloc, located.len())?;
@@ -35,7 +35,7 @@ pub(crate) fn single_entries<'a>(
 /// The entry of a span that stands on one line: at least one column wide.
 fn entry<'a>(span: &LocatedSpan<'a>) -> LineAnnotation<'a>
     requires display { IsSourceColumn span.now.start.display }
-    ensures value { seen_part result ≡ short_part span.now }
+    ensures value { result ≡ short_part span.now }
 {
     let mut end = span.end;
     end.display = end.display.max(span.start.display + 1);
@@ -43,7 +43,11 @@ fn entry<'a>(span: &LocatedSpan<'a>) -> LineAnnotation<'a>
         start: span.start,
         end,
         kind: span.annotation.kind,
-        label: span.annotation.label.as_ref().map(|label| label.as_str()),
+        label: span
+            .annotation
+            .label
+            .as_ref()
+            .map(|label| Label::new(label.as_str())),
         annotation_type: LineAnnotationType::Singleline,
         highlight_source: span.annotation.highlight_source,
     }
@@ -65,8 +69,8 @@ pub(crate) fn push_span_entries<'a>(
     again: bool,
 ) -> Result<(), AllocError>
     requires fit { HasFit source.now span }
-    ensures value { OnOk result (map seen_part entries.new.items
-        ≡ map seen_part entries.old.items ++ spec.span_parts source.now depth again (seen_long span.entry)) }
+    ensures value { OnOk result (entries.new.items
+        ≡ entries.old.items ++ spec.span_parts source.now depth again (seen_long span.entry)) }
 {
     if again {
         entries.push(end_entry(span, LineAnnotationType::Singleline))?;
@@ -86,9 +90,9 @@ fn push_bars<'a>(
     depth: usize,
 ) -> Result<(), AllocError>
     requires fit { HasFit source.now span }
-    ensures value { OnOk result (map seen_part entries.new.items ≡ map seen_part entries.old.items
+    ensures value { OnOk result (entries.new.items ≡ entries.old.items
         ++ map (λ k. spec.bar_part (seen_long span.entry) depth (source.now.first + k))
-        (spec.bar_lines source.now.text (span.entry.start.line - source.now.first)
+        (bar_lines source.now.text (span.entry.start.line - source.now.first)
         (span.entry.end.line - source.now.first))) }
 {
     let first = span.start.line - source.line_start();
@@ -105,7 +109,7 @@ fn push_bars<'a>(
 fn start_entry(span: LongSpan<'_>, depth: usize) -> LineAnnotation<'_>
     requires display { IsSourceColumn span.start.display }
     requires char { IsColumn span.start.char }
-    ensures value { seen_part result ≡ spec.start_part (seen_long span.entry) depth }
+    ensures value { result ≡ spec.start_part (seen_long span.entry) depth }
 {
     let end = Loc {
         line: span.start.line,
@@ -125,7 +129,7 @@ fn start_entry(span: LongSpan<'_>, depth: usize) -> LineAnnotation<'_>
 
 /// The entry of a bar beside the line of a number.
 fn bar_entry(span: LongSpan<'_>, number: usize, depth: usize) -> LineAnnotation<'_>
-    ensures value { seen_part result ≡ spec.bar_part (seen_long span.entry) depth number }
+    ensures value { result ≡ spec.bar_part (seen_long span.entry) depth number }
 {
     let at = Loc {
         line: number,
@@ -145,7 +149,7 @@ fn bar_entry(span: LongSpan<'_>, number: usize, depth: usize) -> LineAnnotation<
 
 /// The entry on the last line of a span: the one column before its end, if there is one.
 fn end_entry(span: LongSpan<'_>, annotation_type: LineAnnotationType) -> LineAnnotation<'_>
-    ensures value { seen_part result ≡ spec.end_part (seen_long span.entry) annotation_type }
+    ensures value { result ≡ spec.end_part (seen_long span.entry) annotation_type }
 {
     let start = Loc {
         line: span.end.line,
@@ -157,7 +161,7 @@ fn end_entry(span: LongSpan<'_>, annotation_type: LineAnnotationType) -> LineAnn
         start,
         end: span.end,
         kind: span.kind,
-        label: span.label,
+        label: span.label.map(|text| Label::new(text)),
         annotation_type,
         highlight_source: span.highlight_source,
     }

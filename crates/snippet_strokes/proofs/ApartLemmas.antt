@@ -2,7 +2,6 @@
 -- one list of strokes after another.
 use Rattle.std.proofs.Common.{◌≡◌, ℕ, ◌+◌, ◌-◌, ◌<◌, ◌≤◌, ◌==◌, ◌&&◌, ◌||◌, nat_lt, cond, Bool, true, false, List, [], ◌∷◌, ◌++◌, length, map, replicate}
 use Rattle.std.proofs.Common.{inl, inr, refl, sym, ap, subst, ◌∙◌, arith, All}
-use Rattle.std.specs.Cow.{cow_str_bytes}
 use Rattle.std.specs.List.{range_with_len}
 use Rattle.std.proofs.lemmas.Bool.{cases_Bool, eq-eqb, eqb-true}
 use Rattle.std.proofs.lemmas.Bool.Decides.{nat_tests}
@@ -57,13 +56,13 @@ mark_end_plain e at plain =
     none true n = refl
     none false n = refl
 
-reach_labelled : (e : PlacedEntry) → has_label e ≡ true → reach e ≡ e.entry.end.display + (2 + length (cow_str_bytes e.label))
+reach_labelled : (e : PlacedEntry) → has_label e ≡ true → reach e ≡ e.entry.end.display + (2 + length e.label)
 reach_labelled e has =
-    ap (λ b. cond b (e.entry.end.display + (2 + length (cow_str_bytes e.label))) (cond (takes_space e) (e.entry.end.display + 1) e.entry.end.display)) has
+    ap (λ b. cond b (e.entry.end.display + (2 + length e.label)) (cond (takes_space e) (e.entry.end.display + 1) e.entry.end.display)) has
 
 reach_bare : (e : PlacedEntry) → has_label e ≡ false → reach e ≡ cond (takes_space e) (e.entry.end.display + 1) e.entry.end.display
 reach_bare e none =
-    ap (λ b. cond b (e.entry.end.display + (2 + length (cow_str_bytes e.label))) (cond (takes_space e) (e.entry.end.display + 1) e.entry.end.display)) none
+    ap (λ b. cond b (e.entry.end.display + (2 + length e.label)) (cond (takes_space e) (e.entry.end.display + 1) e.entry.end.display)) none
 
 mark_end_reach : (e : PlacedEntry) → e.position ≡ 0 → mark_end e ≤ reach e
 mark_end_reach e at = elim (cases_Bool (has_label e)) [
@@ -125,7 +124,7 @@ module _ (layout : Layout) (row count : ℕ) where
   label_within e free fits its =
       let place = label_first e fits.position in
       All-label_of (Within (layout.code + e.entry.end.display + 1) (layout.code + free)) layout row e (λ has.
-      (omega (arith, place.0), omega (arith, place.1, fits.ends, reach_labelled e has, ap length its, length-chars_le (cow_str_bytes e.label))))
+      (omega (arith, place.0), omega (arith, place.1, fits.ends, reach_labelled e has, ap length its, length-chars_le e.label)))
 
   -- the bar of an entry ends where the line to it begins
   abbrev edge : LineAnnotationType → ℕ

@@ -1,8 +1,6 @@
 -- The definitions, computed on small inputs.
-use Rattle.std.proofs.Common.{◌≡◌, ℕ, ◌==◌, true, false, None, [], ◌∷◌, ◌++◌, codes, refl}
+use Rattle.std.proofs.Common.{◌≡◌, ℕ, ◌==◌, true, false, None, List, [], ◌∷◌, ◌++◌, codes, refl}
 use Rattle.std.specs.List.{list_any}
-use Rattle.std.specs.declared.alloc.Global.{Global}
-use Rattle.std.specs.declared.borrow.CowStr.{CowStr}
 use Rattle.snippet_lines.specs.OrderedBy.{ordered_by}
 use Rattle.snippet_model.specs.declared.snippet.AnnotationKind.{AnnotationKind}
 use Rattle.snippet_model.specs.declared.snippet.AnnotationKind.TheVariants.{Primary, Context}
@@ -42,11 +40,11 @@ ties_as_given : ordered_by is_placed_before (entry Context 1 2 ∷ entry Primary
     ≡ entry Context 1 2 ∷ entry Primary 1 5 ∷ entry Context 1 9 ∷ []
 ties_as_given = refl
 
-abbrev placed : CowStr Global → AnnotationKind → ℕ → ℕ → PlacedEntry
+abbrev placed : List ℕ → AnnotationKind → ℕ → ℕ → PlacedEntry
 placed label kind from to = record { entry = entry kind from to; label = label; position = 0; looked = 0 }
 
 -- the widest mark is painted first, and of one width those for context before a primary one; all others as they are placed
-widest_first : (label : CowStr Global)
+widest_first : (label : List ℕ)
     → painting_order (placed label Primary 4 6 ∷ placed label Context 2 4 ∷ placed label Context 0 2 ∷ placed label Primary 0 9 ∷ [])
     ≡ placed label Primary 0 9 ∷ placed label Context 2 4 ∷ placed label Context 0 2 ∷ placed label Primary 4 6 ∷ []
 widest_first label = refl
@@ -62,24 +60,24 @@ letter_of_none : list_any (λ g. char_of (codes "x") == g) (stroke_glyphs Ascii)
 letter_of_none = refl
 
 -- an entry of these columns, for the place of whose label so many of those after it are looked at
-abbrev looking : CowStr Global → ℕ → ℕ → ℕ → PlacedEntry
+abbrev looking : List ℕ → ℕ → ℕ → ℕ → PlacedEntry
 looking label looked from to = record { entry = entry Primary from to; label = label; position = 0; looked = looked }
 
 -- of three marks, from right to left, where all are looked at for each: the two farthest right count for no one, and the third overlaps itself
 -- `          ^^^^^`
 -- `        -----`
 -- `  ^^^`
-two_do_not_count : (label : CowStr Global)
+two_do_not_count : (label : List ℕ)
     → overlapped (looking label 2 10 15 ∷ looking label 1 8 13 ∷ looking label 0 2 5 ∷ []) ≡ false ∷ false ∷ true ∷ []
 two_do_not_count label = refl
 
 -- where the third reaches below both, they are overlapped
-third_counts : (label : CowStr Global)
+third_counts : (label : List ℕ)
     → overlapped (looking label 2 10 15 ∷ looking label 1 8 13 ∷ looking label 0 2 12 ∷ []) ≡ true ∷ true ∷ true ∷ []
 third_counts label = refl
 
 -- but where the place of no label is sought beyond the mark before it, the third isn't looked at
-looked_at_no_more : (label : CowStr Global)
+looked_at_no_more : (label : List ℕ)
     → overlapped (looking label 0 10 15 ∷ looking label 0 8 13 ∷ looking label 0 2 12 ∷ []) ≡ false ∷ false ∷ true ∷ []
 looked_at_no_more label = refl
 
@@ -87,14 +85,14 @@ looked_at_no_more label = refl
 abbrev layout : Layout
 layout = record { decor = Ascii; gutter = 1; code = 6 }
 
-third_stays : (label : CowStr Global) → cut_of layout 24 (looking label 0 0 60, false) ≡ record { from = 14; to = 58 } ∷ []
+third_stays : (label : List ℕ) → cut_of layout 24 (looking label 0 0 60, false) ≡ record { from = 14; to = 58 } ∷ []
 third_stays label = refl
 
-five_stay : (label : CowStr Global) → cut_of layout 9 (looking label 0 0 30, false) ≡ record { from = 11; to = 31 } ∷ []
+five_stay : (label : List ℕ) → cut_of layout 9 (looking label 0 0 30, false) ≡ record { from = 11; to = 31 } ∷ []
 five_stay label = refl
 
 -- nothing is cut of an entry that is overlapped
-overlapped_stays : (label : CowStr Global) → cut_of layout 24 (looking label 0 0 60, true) ≡ []
+overlapped_stays : (label : List ℕ) → cut_of layout 24 (looking label 0 0 60, true) ≡ []
 overlapped_stays label = refl
 
 -- the placeholder stands in place of the cells that are cut: `ab...gh` for `abcdefgh`

@@ -210,46 +210,43 @@ module _ (code dropped row : ℕ) (old : List (List Cell)) (es : List LineAnnota
       let is = highlighted_row_is code dropped [] cells in
       ext_get_or SPACE (highlighted_row code dropped [] cells) cells is.width (λ c within. is.cells c (omega (arith, within, is.width)))))
 
-  asking_more : (i : ℕ) (d : LineAnnotation) → i < length es → asking (take (i + 1) es) ≡ asking (take i es) ++ asking (get_or es i d ∷ [])
-  asking_more i d within =
-      ap asking (take_more es i d within)
-      ∙ filter-append (λ (x : LineAnnotation). not (is_end_part x.annotation_type)) (take i es) (get_or es i d ∷ [])
+  asking_more : (i : ℕ) (e : LineAnnotation) → e ≡ get_or es i e → i < length es → asking (take (i + 1) es) ≡ asking (take i es) ++ asking (e ∷ [])
+  asking_more i e is within =
+      ap asking (take_more es i e within ∙ ap (λ x. take i es ++ x ∷ []) (sym is))
+      ∙ filter-append (λ (x : LineAnnotation). not (is_end_part x.annotation_type)) (take i es) (e ∷ [])
 
   abbrev ends_part : LineAnnotation → Bool
   ends_part e = is_end_part e.annotation_type
 
   -- one more asks
-  pub lit_by-asked : (i : ℕ) (d : LineAnnotation) → i < length es → is_end_part (get_or es i d).annotation_type ≡ false
-      → (get_or es i d).highlight_source ≡ true → (let e = get_or es i d in cells_restyled (lit_by i) row (max code (code + e.start.char - dropped))
-      (code + e.end.char - dropped) (underline_role (is_primary e.kind)) (is_primary e.kind)) ≡ lit_by (i + 1)
-  lit_by-asked i d within other asks =
-      let e : LineAnnotation = get_or es i d in
+  pub lit_by-asked : (i : ℕ) (e : LineAnnotation) → e ≡ get_or es i e → i < length es → is_end_part e.annotation_type ≡ false
+      → e.highlight_source ≡ true → cells_restyled (lit_by i) row (max code (code + e.start.char - dropped))
+      (code + e.end.char - dropped) (underline_role (is_primary e.kind)) (is_primary e.kind) ≡ lit_by (i + 1)
+  lit_by-asked i e is within other asks =
       let so_far : List LineAnnotation = asking (take i es) in
       let one : asking (e ∷ []) ≡ e ∷ [] = cond-true (not (ends_part e)) (e ∷ []) [] (ap not other) in
       changed_again row old (highlighted_row code dropped so_far) (restyle code dropped so_far e) (highlighted_row code dropped (so_far ++ e ∷ []))
       (restyled_next code dropped so_far e asks)
-      ∙ ap (λ xs. changed_within (highlighted_row code dropped xs) row (row + 1) old) (sym (asking_more i d within ∙ ap (λ xs. so_far ++ xs) one))
+      ∙ ap (λ xs. changed_within (highlighted_row code dropped xs) row (row + 1) old) (sym (asking_more i e is within ∙ ap (λ xs. so_far ++ xs) one))
 
   -- or doesn't
-  pub lit_by-end : (i : ℕ) (d : LineAnnotation) → i < length es → is_end_part (get_or es i d).annotation_type ≡ true → lit_by i ≡ lit_by (i + 1)
-  lit_by-end i d within end =
-      let e : LineAnnotation = get_or es i d in
+  pub lit_by-end : (i : ℕ) (e : LineAnnotation) → e ≡ get_or es i e → i < length es → is_end_part e.annotation_type ≡ true → lit_by i ≡ lit_by (i + 1)
+  lit_by-end i e is within end =
       let so_far : List LineAnnotation = asking (take i es) in
       let none : asking (e ∷ []) ≡ [] = cond-false (not (ends_part e)) (e ∷ []) [] (ap not end) in
       ap (λ xs. changed_within (highlighted_row code dropped xs) row (row + 1) old)
-      (sym (asking_more i d within ∙ ap (λ xs. so_far ++ xs) none ∙ append-nil so_far))
+      (sym (asking_more i e is within ∙ ap (λ xs. so_far ++ xs) none ∙ append-nil so_far))
 
-  pub lit_by-unasked : (i : ℕ) (d : LineAnnotation) → i < length es → (get_or es i d).highlight_source ≡ false → lit_by i ≡ lit_by (i + 1)
-  lit_by-unasked i d within none =
-      let e : LineAnnotation = get_or es i d in
+  pub lit_by-unasked : (i : ℕ) (e : LineAnnotation) → e ≡ get_or es i e → i < length es → e.highlight_source ≡ false → lit_by i ≡ lit_by (i + 1)
+  lit_by-unasked i e is within none =
       let so_far : List LineAnnotation = asking (take i es) in
       elim (cases_Bool (ends_part e)) [
-        | inl end ↦ lit_by-end i d within end
+        | inl end ↦ lit_by-end i e is within end
         | inr other ↦
             let one : asking (e ∷ []) ≡ e ∷ [] = cond-true (not (ends_part e)) (e ∷ []) [] (ap not other) in
             changed_alike row old (highlighted_row code dropped so_far) (highlighted_row code dropped (so_far ++ e ∷ []))
             (unlit_next code dropped so_far e none (row_at old row))
-            ∙ ap (λ xs. changed_within (highlighted_row code dropped xs) row (row + 1) old) (sym (asking_more i d within ∙ ap (λ xs. so_far ++ xs) one))
+            ∙ ap (λ xs. changed_within (highlighted_row code dropped xs) row (row + 1) old) (sym (asking_more i e is within ∙ ap (λ xs. so_far ++ xs) one))
       ]
 
   -- the row stays as long

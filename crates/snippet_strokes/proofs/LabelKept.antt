@@ -2,7 +2,6 @@
 use Rattle.std.proofs.Common.{◌≡◌, ℕ, zero, suc, ◌+◌, ◌<◌, ◌≤◌, ◌==◌, ◌&&◌, ◌||◌, nat_le, nat_lt, cond, Bool, true, false, List, [], ◌∷◌, length, map, get_or}
 use Rattle.std.proofs.Common.{refl, sym, ap, ◌∙◌, subst, arith, inl, inr, ◌⊎◌, All, not}
 use Rattle.std.specs.List.{list_any}
-use Rattle.std.specs.Cow.{cow_str_bytes}
 use Rattle.std.proofs.lemmas.Bool.{cases_lt, cases_eq, eq-eqb}
 use Rattle.std.proofs.lemmas.Bool.Decides.{nat_tests}
 use Rattle.std.proofs.lemmas.List.Elements.{All-cons, All-nil, All-weaker}
@@ -10,7 +9,7 @@ use Rattle.snippet_style.proofs.CellLemmas.{length-chars_le}
 use Rattle.snippet_parts.specs.declared.entries.LineAnnotation.{LineAnnotation}
 use Rattle.snippet_grid.specs.Layout.{Layout}
 use Rattle.snippet_labels.specs.declared.positions.PlacedEntry.{PlacedEntry}
-use Rattle.snippet_labels.specs.PlacedEntries.{HasPlace, label_text}
+use Rattle.snippet_labels.specs.PlacedEntries.{HasPlace}
 use Rattle.snippet_labels.specs.Positions.{HasItsLabel, has_label, do_overlap, ends_no_later, blocks, crosses, position_at, position_after, positions}
 use Rattle.snippet_labels.specs.Positions.{label_place, ArePlaced, has_stem, is_same_place, is_start_part, takes_space}
 use Rattle.std.proofs.lemmas.List.{get_or-map, length-map}
@@ -21,7 +20,7 @@ use Rattle.snippet_grid.specs.Grid.{cell_at}
 use Rattle.snippet_strokes.specs.Painting.{mark_end}
 use Rattle.snippet_strokes.proofs.PaintedMarks.{AreMarked, IsPaintedAt, StandsWhole}
 use Rattle.snippet_labels.proofs.PlacedLemmas.{length-positions}
-use Rattle.snippet_labels.proofs.LabelWords.{crowds, flipped, is_start}
+use Rattle.snippet_labels.proofs.LabelWords.{crowds, flipped, is_start, label_text}
 
 -- a position is no lower than the one reached, and so no lower than those before it
 at_least : (p : ℕ) (e : PlacedEntry) (others : List PlacedEntry) → p ≤ position_at p e others
@@ -159,8 +158,8 @@ pub apart : (fs fe es ee more : ℕ) → ((nat_le es fs && nat_lt fs ee) || (nat
 apart fs fe es ee more is left = grind (arith, nat_tests, is, left)
 
 -- a label has no more characters than bytes
-pub label_chars_le : (e : PlacedEntry) → HasItsLabel e → length (label_text e.entry) ≤ length (cow_str_bytes e.label)
-label_chars_le e has = omega (arith, ap length has, length-chars_le (cow_str_bytes e.label))
+pub label_chars_le : (e : PlacedEntry) → HasItsLabel e → length (label_text e.entry) ≤ length e.label
+label_chars_le e has = omega (arith, ap length has, length-chars_le e.label)
 
 -- where an entry has a label the positions aren't flipped
 pub labelled_positions : (given : List LineAnnotation) (es : List PlacedEntry) (k : ℕ) (d : PlacedEntry) → ArePlaced given es → k < length es
@@ -193,7 +192,7 @@ stands_left given es i j d d2 placed before within =
 -- no mark covers a label in the row of the marks: an entry whose mark may stand there ends no farther right, or starts
 -- after the label
 pub record IsClear (e f : PlacedEntry) : Type 0 where
-  pub clear : (f.entry.end.display ≤ e.entry.end.display) ⊎ (e.entry.end.display + (length (cow_str_bytes e.label) + 2) ≤ f.entry.start.display)
+  pub clear : (f.entry.end.display ≤ e.entry.end.display) ⊎ (e.entry.end.display + (length e.label + 2) ≤ f.entry.start.display)
 
 clear_left : (e f : PlacedEntry) → crosses e f ≡ false → HasPlace e.entry → f.entry.start.display ≤ e.entry.start.display → IsClear e f
 clear_left e f uncrossed place left =
@@ -229,10 +228,10 @@ clear_left e f uncrossed place left =
 
 clear_right : (e f : PlacedEntry) → crowds 0 f e ≡ false → has_label e ≡ true → e.entry.start.display ≤ f.entry.start.display → IsClear e f
 clear_right e f uncrowded has left =
-    elim (unreached (blocks f e) (has_label e) (do_overlap e (length (cow_str_bytes e.label) + 2) f) (has_label f) (ends_no_later e f) uncrowded has) [
+    elim (unreached (blocks f e) (has_label e) (do_overlap e (length e.label + 2) f) (has_label f) (ends_no_later e f) uncrowded has) [
       | inl off ↦ record {
         clear = inr (apart e.entry.start.display e.entry.end.display f.entry.start.display f.entry.end.display
-            (length (cow_str_bytes e.label) + 2) off left);
+            (length e.label + 2) off left);
       }
       | inr longer ↦ record {
         clear = inl (ends e.entry.end.display f.entry.end.display
@@ -261,7 +260,7 @@ mark_end_le f = by_test (f.entry.start.display == f.entry.end.display && (takes_
 pub unpainted : (e f : PlacedEntry) (n : ℕ) → StandsAfter e → HasItsLabel e → IsClear e f → n < length (label_text e.entry)
     → IsPaintedAt f ((label_place e).1 + n) → ⊥
 unpainted e f n at has clear inside there =
-    let short : length (label_text e.entry) ≤ length (cow_str_bytes e.label) = label_chars_le e has in
+    let short : length (label_text e.entry) ≤ length e.label = label_chars_le e has in
     elim clear.clear [
       | inl ends ↦ omega (arith, ends, at.from, mark_end_le f, there.1)
       | inr starts ↦ omega (arith, starts, at.to, short, inside, there.0)

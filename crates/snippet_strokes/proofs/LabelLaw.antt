@@ -2,11 +2,10 @@
 use Rattle.std.proofs.Common.{◌≡◌, ℕ, ◌+◌, ◌<◌, ◌≤◌, ◌==◌, ◌&&◌, ◌||◌, cond, Bool, true, false, List, [], ◌∷◌, ◌++◌, length, get_or, take, drop, refl, sym, ap}
 use Rattle.std.proofs.Common.{◌∙◌, subst, arith, inl, inr, All}
 use Rattle.std.specs.List.{flat_map}
-use Rattle.std.specs.Cow.{cow_str_bytes}
 use Rattle.snippet_parts.specs.declared.entries.LineAnnotation.{LineAnnotation}
 use Rattle.snippet_grid.specs.Layout.{Layout}
 use Rattle.snippet_labels.specs.declared.positions.PlacedEntry.{PlacedEntry}
-use Rattle.snippet_labels.specs.PlacedEntries.{HasPlace, label_text, label_role}
+use Rattle.snippet_labels.specs.PlacedEntries.{HasPlace, label_role}
 use Rattle.snippet_labels.specs.Positions.{HasItsLabel, has_label, do_overlap, ends_no_later, blocks, reaches, label_place, ArePlaced}
 use Rattle.snippet_strokes.proofs.Reach.{Reaches}
 use Rattle.snippet_strokes.specs.Strokes.{label_of, labels_of}
@@ -20,12 +19,12 @@ use Rattle.snippet_strokes.proofs.PaintedMarks.{StandsWhole}
 use Rattle.snippet_strokes.proofs.LabelWrites.{All-label_of}
 use Rattle.snippet_strokes.proofs.WriteLaws.{All-flat_map, painted-last}
 use Rattle.snippet_strokes.proofs.LabelKept.{apart, label_chars_le, label_parts, labelled_positions, position_of, stands_left, uncrowded}
-use Rattle.snippet_labels.proofs.LabelWords.{crowds}
+use Rattle.snippet_labels.proofs.LabelWords.{crowds, label_text}
 
 pub uncrowded_apart : (p : ℕ) (e f : PlacedEntry) → crowds p e f ≡ false → has_label e ≡ true → has_label f ≡ true
-    → f.entry.start.display ≤ e.entry.start.display → f.entry.end.display + (length (cow_str_bytes f.label) + 2) ≤ e.entry.start.display
+    → f.entry.start.display ≤ e.entry.start.display → f.entry.end.display + (length f.label + 2) ≤ e.entry.start.display
 uncrowded_apart p e f crowded has_e has_f left =
-    let more = length (cow_str_bytes f.label) + 2 in
+    let more = length f.label + 2 in
     let clear : reaches p e f ≡ false = right (blocks e f) (reaches p e f) crowded in
     apart f.entry.start.display f.entry.end.display e.entry.start.display e.entry.end.display more
     (unreached (has_label f) (do_overlap f more e) (has_label e) ((p == 0) && ends_no_later f e) clear has_f has_e) left
@@ -45,8 +44,8 @@ pub labels_apart : (layout : Layout) (row : ℕ) (e f : PlacedEntry) → HasPlac
     → has_label f ≡ true → f.entry.start.display ≤ e.entry.start.display → (e.position ≡ f.position → crowds e.position e f ≡ false) → (r c : ℕ)
     → Reaches r c (label_write layout row e) → Reaches r c (label_write layout row f) → ⊥
 labels_apart layout row e f place_e place_f label has_e has_f left clear r c there_e there_f =
-    let short : length (label_text f.entry) ≤ length (cow_str_bytes f.label) = label_chars_le f label in
-    let gap : e.position ≡ f.position → f.entry.end.display + (length (cow_str_bytes f.label) + 2) ≤ e.entry.start.display = λ same.
+    let short : length (label_text f.entry) ≤ length f.label = label_chars_le f label in
+    let gap : e.position ≡ f.position → f.entry.end.display + (length f.label + 2) ≤ e.entry.start.display = λ same.
     uncrowded_apart e.position e f (clear same) has_e has_f left in
     elim (label_parts e) [
       | inl at_e ↦ elim (label_parts f) [

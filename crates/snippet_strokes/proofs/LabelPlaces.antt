@@ -3,7 +3,6 @@ use Rattle.std.proofs.Common.{◌≡◌, ℕ, suc, ◌+◌, ◌<◌, ◌≤◌, 
 use Rattle.std.proofs.Common.{set, refl, sym, ap, subst, ◌∙◌, arith, inl, inr, ◌⊎◌, All, chars, count_by}
 use Rattle.std.specs.List.{swap}
 use Rattle.std.specs.List.Sorted.{IsPermutation}
-use Rattle.std.specs.Cow.{cow_str_bytes}
 use Rattle.std.proofs.lemmas.Bool.{and_parts, cases_Bool, eq-eqb, false≢true}
 use Rattle.std.proofs.lemmas.Bool.Decides.{nat_tests}
 use Rattle.std.proofs.lemmas.List.{get_or-map, map-set}
@@ -16,7 +15,8 @@ use Rattle.snippet_style.specs.Cell.{Cell, SPACE}
 use Rattle.snippet_parts.specs.declared.entries.LineAnnotation.{LineAnnotation}
 use Rattle.snippet_grid.specs.Layout.{Layout}
 use Rattle.snippet_labels.specs.declared.positions.PlacedEntry.{PlacedEntry}
-use Rattle.snippet_labels.specs.PlacedEntries.{HasPlace, label_text}
+use Rattle.snippet_labels.specs.PlacedEntries.{HasPlace}
+use Rattle.snippet_labels.proofs.LabelWords.{label_text}
 use Rattle.snippet_strokes.specs.Labels.{IsStemCell, IsStrokeCell}
 use Rattle.snippet_strokes.proofs.SeenLabels.{IsLedTo, LabelsStand, PlacedLabel, StandsIn, is_cell_of}
 use Rattle.snippet_strokes.proofs.PaintedMarks.{StandsWhole}
@@ -115,7 +115,7 @@ placed_label layout e =
 
 -- a label that shows anything is one
 pub shows_label : (e : PlacedEntry) → HasItsLabel e → 0 < length (label_text e.entry) → has_label e ≡ true
-shows_label e has some = by_length (length (chars (cow_str_bytes e.label))) (omega (arith, ap length has, some))
+shows_label e has some = by_length (length (chars e.label)) (omega (arith, ap length has, some))
   where
     by_length : (n : ℕ) → 0 < n → not (n == 0) ≡ true
     by_length n is = grind (arith, nat_tests, is)

@@ -8,7 +8,8 @@ use Rattle.snippet_style.specs.Cell.{Cell, text_cells, unlinked_cell}
 use Rattle.snippet_grid.specs.Grid.{cells_written}
 use Rattle.snippet_grid.specs.Layout.{Layout}
 use Rattle.snippet_labels.specs.declared.positions.PlacedEntry.{PlacedEntry}
-use Rattle.snippet_labels.specs.PlacedEntries.{HasPlace, label_role, label_text}
+use Rattle.snippet_labels.specs.PlacedEntries.{HasPlace, label_role}
+use Rattle.snippet_labels.proofs.LabelWords.{label_text}
 use Rattle.snippet_strokes.specs.EntryMarks.{is_mark_role}
 use Rattle.snippet_strokes.specs.Drawing.{HasRows}
 use Rattle.snippet_strokes.proofs.DrawnCells.{DrawsFrom, MarksStarts, StandsFrom}

@@ -20,8 +20,7 @@ pub mod EntryBarLaws
 pub mod EveryStem
 pub mod Examples
 pub mod HangingLemmas
-pub mod HeldLemmas
-pub mod HeldStrokes
+pub mod PlacedAre
 pub mod HighlightLaws
 pub mod LabelKept
 pub mod LabelLaw

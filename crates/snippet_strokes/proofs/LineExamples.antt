@@ -1,5 +1,5 @@
 -- The rows of lines, computed on small inputs. Each row is written out by hand from the rules of drawing.
-use Rattle.std.proofs.Common.{◌≡◌, ℕ, true, false, Bor, Option, None, Some, List, [], ◌∷◌, ◌++◌, codes, refl}
+use Rattle.std.proofs.Common.{◌≡◌, ℕ, true, false, Option, None, Some, List, [], ◌∷◌, ◌++◌, codes, refl}
 use Rattle.std.specs.Str.{chars}
 use Rattle.snippet_model.specs.declared.snippet.AnnotationKind.{AnnotationKind}
 use Rattle.snippet_model.specs.declared.snippet.AnnotationKind.TheVariants.{Primary, Context}
@@ -17,7 +17,7 @@ use Rattle.snippet_strokes.specs.LineRows.{line_rows}
 use Rattle.snippet_strokes.specs.StrokeRows.{highlighted_row}
 
 -- an entry of these columns, each of one character
-abbrev entry : AnnotationKind → ℕ → ℕ → Option (Bor (List ℕ)) → LineAnnotationType → LineAnnotation
+abbrev entry : AnnotationKind → ℕ → ℕ → Option (List ℕ) → LineAnnotationType → LineAnnotation
 entry kind from to label part = record {
   start = record { line = 1; char = from; display = from; byte = from };
   end = record
@@ -27,9 +27,6 @@ entry kind from to label part = record {
   annotation_type = part;
   highlight_source = true;
 }
-
-abbrev lent : List ℕ → Option (Bor (List ℕ))
-lent text = Some (record { ref_ptr = (0, 0); now = text })
 
 -- numbers of one digit, and the code in this cell
 abbrev layout_to : ℕ → Layout
@@ -56,8 +53,8 @@ source_is = refl
 -- `  | -- ^^ y`
 -- `  | |`
 -- `  | x`
-two_labels : line_rows (layout_to 4) 140 false text 0 [] (entry Context 0 2 (lent (codes "x")) Singleline ∷ entry Primary 3 5
-    (lent (codes "y")) Singleline ∷ []) (source 4) ≡
+two_labels : line_rows (layout_to 4) 140 false text 0 [] (entry Context 0 2 (Some (codes "x")) Singleline ∷ entry Primary 3 5
+    (Some (codes "y")) Singleline ∷ []) (source 4) ≡
     source 4
     ∷ (separated ++ text_cells UnderlineSecondary (codes "--") ++ text_cells NoStyle (codes " ") ++ text_cells UnderlinePrimary (codes "^^")
     ++ text_cells NoStyle (codes " ") ++ text_cells LabelPrimary (codes "y"))

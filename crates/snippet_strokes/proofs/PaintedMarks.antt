@@ -8,7 +8,8 @@ use Rattle.snippet_style.specs.Cell.{Cell, unlinked_cell}
 use Rattle.snippet_grid.specs.Layout.{Layout, code_cell}
 use Rattle.snippet_model.specs.FreeRows.{IsFreeCell}
 use Rattle.snippet_labels.specs.declared.positions.PlacedEntry.{PlacedEntry}
-use Rattle.snippet_labels.specs.PlacedEntries.{entry_width, label_role, label_text}
+use Rattle.snippet_labels.specs.PlacedEntries.{entry_width, label_role}
+use Rattle.snippet_labels.proofs.LabelWords.{label_text}
 use Rattle.snippet_model.specs.AnnotationKind.{is_primary}
 use Rattle.snippet_labels.specs.Positions.{has_label, label_place}
 use Rattle.snippet_strokes.specs.Painting.{first_glyph, mark_end}

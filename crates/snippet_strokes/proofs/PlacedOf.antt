@@ -13,17 +13,17 @@ use Rattle.snippet_lines.specs.OrderedBy.{ordered_by, put_in}
 use Rattle.snippet_lines.proofs.OrderLemmas.{All-put_in}
 use Rattle.snippet_parts.specs.declared.entries.LineAnnotation.{LineAnnotation}
 use Rattle.snippet_text.specs.Normalized.{norm, shown}
-use Rattle.snippet_labels.specs.PlacedEntries.{label_text, shifted}
+use Rattle.snippet_labels.specs.PlacedEntries.{shifted}
 use Rattle.snippet_labels.specs.Positions.{ArePlaced, HasItsBytes, HasItsLabel, IsFromRight, StandsLeft, is_placed_before, line_positions}
-use Rattle.snippet_labels.specs.Positions.{look_counts, placed_at, placed_of, position_after, position_at, unplaced}
+use Rattle.snippet_labels.specs.Positions.{look_counts, placed_of, position_after, position_at, unplaced}
 use Rattle.snippet_labels.specs.declared.positions.PlacedEntry.{PlacedEntry}
-use Rattle.snippet_labels.proofs.LabelWords.{label_chars, labelled}
-use Rattle.snippet_labels.proofs.PlacedLemmas.{ArePlaced-from, length-line_positions}
+use Rattle.snippet_labels.proofs.LabelWords.{label_chars, labelled, label_text, placed_at}
+use Rattle.snippet_labels.proofs.PlacedLemmas.{ArePlaced-from, length-line_positions, placed_of-at}
 use Rattle.snippet_strokes.proofs.PaintOrder.{IsPermutation-ordered_by}
 
 -- the label of an entry, if it has one, is a text
 abbrev pub HasTextLabel : LineAnnotation → Type 0
-HasTextLabel e = IfSome e.label (λ (t : Bor (List ℕ)). IsUtf8 t.now)
+HasTextLabel e = IfSome e.label IsUtf8
 
 -- ---- labels
 
@@ -47,10 +47,10 @@ scalars-norm (c ∷ cs) are =
 label_spelled : (e : LineAnnotation) → HasTextLabel e → chars (encode_utf8_all (label_text e)) ≡ label_text e
 label_spelled e = by_label e.label
   where
-    by_label : (label : Option (Bor (List ℕ))) → IfSome label (λ (t : Bor (List ℕ)). IsUtf8 t.now)
+    by_label : (label : Option (List ℕ)) → IfSome label IsUtf8
         → chars (encode_utf8_all (label_chars label)) ≡ label_chars label
     by_label None text = chars-nil
-    by_label (Some t) text = chars-encodes (norm (chars t.now)) (scalars-norm (chars t.now) (scalars-chars t.now text))
+    by_label (Some t) text = chars-encodes (norm (chars t)) (scalars-norm (chars t) (scalars-chars t text))
 
 -- ---- the order from right to left
 
@@ -176,12 +176,13 @@ placed_of_are es texts =
     let all : length sorted ≡ length ordered = length-map ordered (λ e. placed_at (e, (0, 0))) in
     let long_ps : length ps ≡ length ordered = length-line_positions sorted ∙ all in
     let long_ns : length ns ≡ length ordered = length-look_counts 0 sorted ∙ all in
-    ArePlaced-from es (labelled es) sorted (placed_of es) ps ns (entries-labelled es) (labels-labelled es texts) (bytes-labelled es)
+    subst (ArePlaced es) (sym (placed_of-at es))
+    (ArePlaced-from es (labelled es) sorted (at_places ordered ps ns) ps ns (entries-labelled es) (labels-labelled es texts) (bytes-labelled es)
     (IsPermutation-map (λ e. placed_at (e, (0, 0))) es ordered (IsPermutation-ordered_by is_placed_before es))
     (entries-labelled ordered ∙ ap (ordered_by is_placed_before) (sym (entries-labelled es)))
     (subst IsFromRight (sym (entries-labelled ordered)) (from_right ordered (Falls-ordered_by es)))
     refl (positions-at_places ordered ps ns long_ps long_ns) refl (counts-at_places ordered ps ns long_ps long_ns)
-    (unplaced-at_places ordered ps ns long_ps long_ns)
+    (unplaced-at_places ordered ps ns long_ps long_ns))
 
 -- columns that are dropped are none of a label's
 pub texts-shifted : (dropped : ℕ) (es : List LineAnnotation) → All HasTextLabel es → All HasTextLabel (map (shifted dropped) es)

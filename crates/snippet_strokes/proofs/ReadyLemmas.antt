@@ -4,7 +4,8 @@ use Rattle.snippet_grid.specs.Layout.{Layout}
 use Rattle.snippet_parts.specs.declared.entries.LineAnnotation.{LineAnnotation}
 use Rattle.snippet_style.specs.Bounds.{FitsRow}
 use Rattle.snippet_labels.specs.declared.positions.PlacedEntry.{PlacedEntry}
-use Rattle.snippet_labels.specs.PlacedEntries.{HasPlace, label_text, shifted}
+use Rattle.snippet_labels.specs.PlacedEntries.{HasPlace, shifted}
+use Rattle.snippet_labels.proofs.LabelWords.{label_text}
 use Rattle.snippet_labels.specs.Positions.{ArePlaced, HasItsLabel}
 use Rattle.snippet_labels.proofs.PlacedLemmas.{entries_all}
 use Rattle.snippet_strokes.specs.Drawable.{AreDrawable, IsReady}

@@ -7,7 +7,8 @@ use Rattle.snippet_grid.specs.Grid.{cell_at}
 use Rattle.snippet_parts.specs.Entries.{is_bar}
 use Rattle.snippet_parts.specs.declared.entries.LineAnnotation.{LineAnnotation}
 use Rattle.snippet_grid.specs.Layout.{Layout, code_cell}
-use Rattle.snippet_labels.specs.PlacedEntries.{label_role, label_text}
+use Rattle.snippet_labels.specs.PlacedEntries.{label_role}
+use Rattle.snippet_labels.proofs.LabelWords.{label_text}
 use Rattle.snippet_labels.specs.Positions.{is_start_part}
 use Rattle.snippet_strokes.specs.Labels.{IsStrokeCell, IsStemCell}
 

@@ -12,7 +12,8 @@ use Rattle.snippet_style.specs.Cell.{Cell, SPACE, text_cells}
 use Rattle.snippet_grid.specs.Layout.{Layout, inner_cell, space_cell}
 use Rattle.snippet_strokes.specs.EntryMarks.{IsMarkCell, IsBarCell, is_mark_role}
 use Rattle.snippet_strokes.proofs.PlainEntries.{EntryCovers, IsEntryMark, are_plain, wide_entries}
-use Rattle.snippet_labels.specs.PlacedEntries.{label_text, label_role}
+use Rattle.snippet_labels.specs.PlacedEntries.{label_role}
+use Rattle.snippet_labels.proofs.LabelWords.{label_text}
 use Rattle.snippet_model.specs.FreeRows.{IsFree}
 use Rattle.snippet_strokes.proofs.SeenLabels.{IsLabelledAtEnd, LabelsStand}
 use Rattle.snippet_strokes.proofs.DrawnCells.{StandsFrom}

@@ -9,7 +9,8 @@ use Rattle.snippet_model.specs.declared.snippet.AnnotationKind.TheVariants.{Prim
 use Rattle.snippet_style.specs.Cell.{Cell, SPACE, gives_way}
 use Rattle.snippet_parts.specs.declared.entries.LineAnnotation.{LineAnnotation}
 use Rattle.snippet_grid.specs.Layout.{Layout}
-use Rattle.snippet_labels.specs.PlacedEntries.{label_role, label_text}
+use Rattle.snippet_labels.specs.PlacedEntries.{label_role}
+use Rattle.snippet_labels.proofs.LabelWords.{label_text}
 use Rattle.snippet_strokes.specs.EntryMarks.{is_mark_role}
 use Rattle.snippet_strokes.proofs.SeenLabels.{LabelsStand, PlacedLabel, StandsIn, is_cell_of}
 use Rattle.snippet_strokes.proofs.LabelPlaces.{none_pass}

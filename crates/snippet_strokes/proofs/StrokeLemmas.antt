@@ -3,7 +3,6 @@ use Rattle.std.proofs.Common.{◌≡◌, ◌≢◌, ℕ, zero, suc, ◌+◌, ◌
 use Rattle.std.proofs.Common.{replicate, get_or, refl, sym, ap, ◌∙◌, subst, arith, inl, inr, All, chars}
 use Rattle.std.specs.List.{slice_index_or}
 use Rattle.std.specs.List.Sorted.{IsPermutation}
-use Rattle.std.specs.Cow.{cow_str_bytes}
 use Rattle.std.proofs.lemmas.Bool.{cases_lt}
 use Rattle.std.proofs.lemmas.Bool.Decides.{nat_tests}
 use Rattle.std.proofs.lemmas.List.{length-append, length-replicate, length-drop, get_or_append_left, get_or_past, get_or_push, length_push}
@@ -19,7 +18,8 @@ use Rattle.snippet_grid.specs.Layout.{Layout}
 use Rattle.snippet_labels.specs.declared.positions.PlacedEntry.{PlacedEntry}
 use Rattle.snippet_strokes.specs.EntryMarks.{HasBarCell, IsBarCell, is_mark_role}
 use Rattle.snippet_strokes.proofs.PlainEntries.{EntryCovers, are_plain, is_single, wide_entries}
-use Rattle.snippet_labels.specs.PlacedEntries.{HasPlace, label_text, label_role}
+use Rattle.snippet_labels.specs.PlacedEntries.{HasPlace, label_role}
+use Rattle.snippet_labels.proofs.LabelWords.{label_text}
 use Rattle.snippet_model.specs.FreeRows.{IsFreeCell}
 use Rattle.snippet_strokes.specs.Painting.{mark_end, marks_of, painting_order}
 use Rattle.snippet_strokes.proofs.PaintedMarks.{IsPaintedAt, AreMarked, StandsWhole}
@@ -318,8 +318,8 @@ module _ (layout : Layout) (room : ℕ) (closes : Bool) (es : List LineAnnotatio
       let entry : q.entry ≡ e = found.2 in
       let at : ℕ = layout.code + e.end.display in
       let cells : List Cell = text_cells (label_role e.kind) (label_text e) in
-      let text : chars (cow_str_bytes q.label) ≡ label_text e = subst (All HasItsLabel) found.1 is.labels 0 q (omega arith) ∙ ap label_text entry in
-      let labels_here : has_label q ≡ true = has (chars (cow_str_bytes q.label)) (omega (arith, ap length text, shown)) in
+      let text : chars q.label ≡ label_text e = subst (All HasItsLabel) found.1 is.labels 0 q (omega arith) ∙ ap label_text entry in
+      let labels_here : has_label q ≡ true = has (chars q.label) (omega (arith, ap length text, shown)) in
       let bare_stems : stemmed ≡ begun = no_stems (subst (All (λ x. has_stem x ≡ false)) (sym found.1)
       (All-cons (λ x. has_stem x ≡ false) q [] (stemless_beside q found.3) (All-nil (λ x. has_stem x ≡ false)))) ∙ barless flat in
       let write : LineAnnotation → List (List Cell) = λ x. cells_written begun row (layout.code + x.end.display + 1)

@@ -3,7 +3,7 @@ use Rattle.std.proofs.Common.{ℕ, ◌+◌, ◌-◌, ◌==◌, ◌++◌, Bool, L
 use Rattle.std.specs.Prelude.{if◌then◌else◌, replicate}
 use Rattle.std.specs.Option.{option_map_or}
 use Rattle.snippet_grid.specs.Layout.{Layout, bar_cell, code_cell, inner_cell}
-use Rattle.snippet_labels.specs.PlacedEntries.{label_role, label_text}
+use Rattle.snippet_labels.specs.PlacedEntries.{label_role}
 use Rattle.snippet_labels.specs.Positions.{is_start_part, label_place}
 use Rattle.snippet_labels.specs.declared.positions.PlacedEntry.{PlacedEntry}
 use Rattle.snippet_model.specs.AnnotationKind.{is_primary}

@@ -1,9 +1,9 @@
 -- The characters of labels, stems and their feet: they are few, and none is listed.
-use Rattle.std.proofs.Common.{◌≡◌, ◌==◌, true, false, not, ap, ◌∙◌, ℕ, ◌<◌, ◌^◌, List, [], length, map, get_or, arith, All, IfSome, Option, Some, None, Bor}
+use Rattle.std.proofs.Common.{◌≡◌, ◌==◌, true, false, not, ap, ◌∙◌, ℕ, ◌<◌, ◌^◌, List, [], length, map, get_or, arith, All, IfSome, Option, Some, None}
 use Rattle.std.proofs.Common.{IsUtf8}
 use Rattle.snippet_parts.specs.declared.entries.LineAnnotation.{LineAnnotation}
 use Rattle.snippet_text.proofs.NormLemmas.{list_any-norm}
-use Rattle.snippet_labels.specs.PlacedEntries.{label_text, shifted}
+use Rattle.snippet_labels.specs.PlacedEntries.{shifted}
 use Rattle.std.specs.Str.{chars}
 use Rattle.std.proofs.lemmas.Bool.Decides.{nat_tests}
 use Rattle.std.proofs.lemmas.List.{nil_from_length}
@@ -11,15 +11,15 @@ use Rattle.std.proofs.lemmas.List.Elements.{All-nil, All-map}
 use Rattle.snippet_text.specs.Normalized.{is_listed, norm}
 use Rattle.snippet_model.proofs.RowLemmas.{each_fails}
 use Rattle.snippet_labels.proofs.CharLemmas.{is_empty-chars, norm_short}
-use Rattle.snippet_labels.proofs.LabelWords.{label_chars}
+use Rattle.snippet_labels.proofs.LabelWords.{label_chars, label_text}
 
 -- a label's characters aren't listed
 pub free_label_text : (e : LineAnnotation) → All (λ c. is_listed c ≡ false) (label_text e)
 free_label_text e = text_free e.label
   where
-    text_free : (label : Option (Bor (List ℕ))) → All (λ c. is_listed c ≡ false) (label_chars label)
+    text_free : (label : Option (List ℕ)) → All (λ c. is_listed c ≡ false) (label_chars label)
     text_free None = All-nil (λ c. is_listed c ≡ false)
-    text_free (Some label) = each_fails is_listed (norm (chars label.now)) (list_any-norm (chars label.now))
+    text_free (Some label) = each_fails is_listed (norm (chars label)) (list_any-norm (chars label))
 
 -- a text that has a character has a byte, and one that has none has none
 pub bytes_some : (bytes : List ℕ) → IsUtf8 bytes → not (length (chars bytes) == 0) ≡ true → 0 < length bytes
@@ -36,15 +36,15 @@ bytes_none bytes utf8 none = nil_from_length bytes (zero_there (length bytes) (a
     zero_there n none = grind (arith, nat_tests)
 
 -- a label that fits is short as it is shown, wherever its entry stands
-pub label_short : (e : LineAnnotation) → IfSome e.label (λ t. length t.now < 2 ^ 56) → length (label_text e) < 2 ^ 60
+pub label_short : (e : LineAnnotation) → IfSome e.label (λ t. length t < 2 ^ 56) → length (label_text e) < 2 ^ 60
 label_short e fits = of_label e.label fits
   where
-    of_label : (label : Option (Bor (List ℕ))) → IfSome label (λ t. length t.now < 2 ^ 56) → length (label_chars label) < 2 ^ 60
+    of_label : (label : Option (List ℕ)) → IfSome label (λ t. length t < 2 ^ 56) → length (label_chars label) < 2 ^ 60
     of_label None fits = omega arith
-    of_label (Some label) fits = norm_short label.now fits
+    of_label (Some label) fits = norm_short label fits
 
 -- the labels of entries are short also where these are shifted
-pub labels_short : (dropped : ℕ) (es : List LineAnnotation) → All (λ e. IfSome e.label (λ t. length t.now < 2 ^ 56)) es
+pub labels_short : (dropped : ℕ) (es : List LineAnnotation) → All (λ e. IfSome e.label (λ t. length t < 2 ^ 56)) es
     → All (λ e. length (label_text e) < 2 ^ 60) (map (shifted dropped) es)
 labels_short dropped es fit =
     All-map (λ (e : LineAnnotation). length (label_text e) < 2 ^ 60) (shifted dropped) es (λ k d within. label_short (get_or es k d) (fit k d within))

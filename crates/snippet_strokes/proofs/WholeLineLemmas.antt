@@ -13,7 +13,8 @@ use Rattle.snippet_style.specs.Glyphs.{placeholder_of}
 use Rattle.snippet_style.specs.Cell.{Cell}
 use Rattle.snippet_grid.specs.Layout.{Layout}
 use Rattle.snippet_strokes.proofs.PlainEntries.{are_plain, is_single, wide_entries}
-use Rattle.snippet_labels.specs.PlacedEntries.{label_text, shifted}
+use Rattle.snippet_labels.specs.PlacedEntries.{shifted}
+use Rattle.snippet_labels.proofs.LabelWords.{label_text}
 use Rattle.snippet_strokes.proofs.SeenLabels.{IsLabelledAtEnd}
 use Rattle.snippet_strokes.proofs.LabelPlaces.{LabelsStand-none}
 use Rattle.std.proofs.lemmas.List.Elements.{All-cons, All-head, All-nil, All-tail}

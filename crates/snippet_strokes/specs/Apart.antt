@@ -1,6 +1,5 @@
 -- Strokes that stand side by side in the row of the marks.
 use Rattle.std.specs.Prelude.{◌≡◌, ◌+◌, ◌<◌, ◌≤◌, ◌==◌, ◌++◌, ℕ, true, List, [], ◌∷◌, if◌then◌else◌, length}
-use Rattle.std.specs.Cow.{cow_str_bytes}
 use Rattle.snippet_grid.specs.Layout.{Layout}
 use Rattle.snippet_labels.specs.declared.positions.PlacedEntry.{PlacedEntry}
 use Rattle.snippet_labels.specs.Positions.{has_label, takes_space}
@@ -12,7 +11,7 @@ use Rattle.snippet_strokes.specs.Writes.{Write}
 -- has bytes, and two
 abbrev pub reach : PlacedEntry → ℕ
 reach e =
-    if has_label e then e.entry.end.display + (2 + length (cow_str_bytes e.label))
+    if has_label e then e.entry.end.display + (2 + length e.label)
     else (if takes_space e then e.entry.end.display + 1 else e.entry.end.display)
 
 -- where nothing stands in the row of the marks before a column, how far that is so with the strokes of an entry left of it

@@ -10,7 +10,8 @@ use Rattle.snippet_window.specs.Measures.{StandsClear}
 use Rattle.snippet_window.specs.declared.margin.Margin.{Margin}
 use Rattle.snippet_grid.specs.Layout.{Layout, separator_cell}
 use Rattle.snippet_labels.specs.declared.positions.PlacedEntry.{PlacedEntry}
-use Rattle.snippet_labels.specs.PlacedEntries.{HasPlace, label_text}
+use Rattle.snippet_labels.specs.PlacedEntries.{HasPlace}
+use Rattle.snippet_text.specs.Normalized.{normalized_chars}
 use Rattle.snippet_labels.specs.Positions.{HasItsLabel}
 use Rattle.snippet_strokes.specs.EntryMarks.{HasBarCell}
 
@@ -18,7 +19,7 @@ use Rattle.snippet_strokes.specs.EntryMarks.{HasBarCell}
 pub record AreDrawable (layout : Layout) (es : List LineAnnotation) : Type 0 where
   pub columns : All HasPlace es
   pub bar_cells : All (HasBarCell layout) es
-  pub labels : All (λ e. IfSome e.label (λ t. TextFits t.now)) es
+  pub labels : All (λ e. IfSome e.label TextFits) es
 
 -- a line can be drawn: what the gutter shows beside it has room up to the separator, its text fits, its entries can be drawn, and
 -- none of them stands left of the padding of the margin's left bound
@@ -33,4 +34,4 @@ pub record IsReady (layout : Layout) (e : PlacedEntry) : Type 0 where
   pub columns : HasPlace e.entry
   pub bar_cell : HasBarCell layout e.entry
   pub label : HasItsLabel e
-  pub short : FitsRow (label_text e.entry)
+  pub short : FitsRow (normalized_chars e.entry.label)

@@ -8,7 +8,8 @@ use Rattle.snippet_style.specs.Glyphs.{strokes_of}
 use Rattle.snippet_model.specs.AnnotationKind.{is_primary}
 use Rattle.snippet_grid.specs.Layout.{Layout, bar_cell, code_cell}
 use Rattle.snippet_labels.specs.declared.positions.PlacedEntry.{PlacedEntry}
-use Rattle.snippet_labels.specs.PlacedEntries.{label_role, label_text}
+use Rattle.snippet_labels.specs.PlacedEntries.{label_role}
+use Rattle.snippet_text.specs.Normalized.{normalized_chars}
 use Rattle.snippet_parts.specs.declared.entries.LineAnnotation.{LineAnnotation}
 use Rattle.snippet_style.specs.Cell.{Cell}
 use Rattle.snippet_style.specs.Separators.{separator_row}
@@ -27,7 +28,7 @@ abbrev pub label_of : Layout → ℕ → PlacedEntry → List Write
 label_of layout row e =
     let place = label_place e in
     if has_label e
-    then record { row = row + place.0; cell = code_cell layout place.1; text = label_text e.entry; role = label_role e.entry.kind } ∷ [] else []
+    then record { row = row + place.0; cell = code_cell layout place.1; text = normalized_chars e.entry.label; role = label_role e.entry.kind } ∷ [] else []
 
 -- ---- stems
 

@@ -1,6 +1,7 @@
 //! The labels of marks.
 ghost use Rattle.std.specs.Prelude.{◌≡◌, All, OnOk, length};
-ghost use Rattle.snippet_labels.specs.PlacedEntries.{HasPlace, label_text};
+ghost use Rattle.snippet_labels.specs.PlacedEntries.{HasPlace};
+ghost use Rattle.snippet_text.specs.Normalized.{normalized_chars};
 ghost use Rattle.snippet_strokes.specs.Drawing.{HasPlaceAmong};
 ghost use Rattle.snippet_labels.specs.Positions as spec;
 ghost use Rattle.snippet_labels.specs.Positions.{HasItsLabel};
@@ -32,7 +33,7 @@ pub(crate) fn draw_labels(
 ) -> Result<(), AllocError>
     requires places { All (HasPlaceAmong row (length buffer.old)) placed.now }
     requires labels { All HasItsLabel placed.now }
-    requires short { All (λ e. FitsRow (label_text e.entry)) placed.now }
+    requires short { All (λ e. FitsRow (normalized_chars e.entry.label)) placed.now }
     ensures painted { OnOk result (buffer.new ≡ painted (labels_of layout row placed.now) buffer.old) }
 {
     for entry in placed {
@@ -50,7 +51,7 @@ pub(crate) fn draw_label(
 ) -> Result<(), AllocError>
     requires place { HasPlaceAmong row (length buffer.old) placed.now }
     requires label { HasItsLabel placed.now }
-    requires short { FitsRow (label_text placed.now.entry) }
+    requires short { FitsRow (normalized_chars placed.now.entry.label) }
     ensures painted { OnOk result (buffer.new ≡ painted (label_of layout row placed.now) buffer.old) }
 {
     let (below, column) = label_place(placed);

@@ -2,7 +2,7 @@
 use Rattle.std.proofs.Common.{◌≡◌, ℕ, min, max, Bool, true, false, not, List, [], ◌∷◌, ◌++◌, Option, Some, None, All, map, chars, refl, sym, ap}
 use Rattle.std.proofs.Common.{subst, cond, ◌∙◌, inl, inr}
 use Rattle.std.specs.List.{flat_map, filter_map}
-use Rattle.std.specs.Option.{option_copied, option_map_or, option_to_list}
+use Rattle.std.specs.Option.{option_map_or, option_to_list}
 use Rattle.std.proofs.lemmas.List.{map-append, map_push, append-nil}
 use Rattle.std.proofs.lemmas.List.Elements.{filter-append, filter_map-append, All-nil, All-cons, All-head, All-tail}
 use Rattle.std.proofs.lemmas.Grind.{flat_map-append}
@@ -32,10 +32,10 @@ columns_of-push es e not_bar =
     ∙ flat_map-append (λ (x : LineAnnotation). x.start.display ∷ x.end.display ∷ []) (with_columns es) (e ∷ [])
 
 ends_of-push : (es : List LineAnnotation) (e : LineAnnotation) → is_bar e.annotation_type ≡ false
-    → ends_of (es ++ e ∷ []) ≡ ends_of es ++ end_with e.end.display (option_copied e.label) ∷ []
+    → ends_of (es ++ e ∷ []) ≡ ends_of es ++ end_with e.end.display e.label ∷ []
 ends_of-push es e not_bar =
-    ap (map (λ (x : LineAnnotation). end_with x.end.display (option_copied x.label))) (with_columns-push es e false not_bar)
-    ∙ map-append (λ (x : LineAnnotation). end_with x.end.display (option_copied x.label)) (with_columns es) (e ∷ [])
+    ap (map (λ (x : LineAnnotation). end_with x.end.display x.label)) (with_columns-push es e false not_bar)
+    ∙ map-append (λ (x : LineAnnotation). end_with x.end.display x.label) (with_columns es) (e ∷ [])
 
 -- a bar takes no part
 with_columns-push_bar : (es : List LineAnnotation) (e : LineAnnotation) → is_bar e.annotation_type ≡ true → with_columns (es ++ e ∷ []) ≡ with_columns es
@@ -50,14 +50,14 @@ bar_added es e x bar reaches =
       first = reaches.first ∙ ap (λ (ys : List LineAnnotation). least (flat_map (λ (y : LineAnnotation). y.start.display ∷ y.end.display ∷ []) ys)) same;
       last = reaches.last ∙ ap (λ (ys : List LineAnnotation). greatest (flat_map (λ (y : LineAnnotation). y.start.display ∷ y.end.display ∷ []) ys)) same;
       label_end = reaches.label_end ∙ ap (λ (ys : List LineAnnotation). greatest
-          (map (λ (y : LineAnnotation). end_with y.end.display (option_copied y.label)) ys)) same;
+          (map (λ (y : LineAnnotation). end_with y.end.display y.label) ys)) same;
     }
 
 -- another entry is taken in
 pub entry_added : (es : List LineAnnotation) (e : LineAnnotation) (x y : Extent) (once : Option ℕ) → is_bar e.annotation_type ≡ false
     → ReachesEntries es x → once ≡ Some (option_map_or (λ n. min n e.start.display) x.first e.start.display)
     → y.first ≡ Some (option_map_or (λ n. min n e.end.display) once e.end.display) → y.last ≡ max (max x.last e.start.display) e.end.display
-    → y.label_end ≡ max x.label_end (end_with e.end.display (option_copied e.label)) → ReachesEntries (es ++ e ∷ []) y
+    → y.label_end ≡ max x.label_end (end_with e.end.display e.label) → ReachesEntries (es ++ e ∷ []) y
 entry_added es e x y once not_bar reaches first twice last end =
     let columns = columns_of-push es e not_bar in
     record {
@@ -66,8 +66,8 @@ entry_added es e x y once not_bar reaches first twice last end =
           ∙ sym (least-push_two (columns_of es) e.start.display e.end.display) ∙ ap least (sym columns);
       last = last ∙ ap (λ n. max (max n e.start.display) e.end.display) reaches.last ∙ sym (greatest-push_two (columns_of es) e.start.display e.end.display)
           ∙ ap greatest (sym columns);
-      label_end = end ∙ ap (λ n. max n (end_with e.end.display (option_copied e.label))) reaches.label_end
-          ∙ sym (greatest-push (ends_of es) (end_with e.end.display (option_copied e.label))) ∙ ap greatest (sym (ends_of-push es e not_bar));
+      label_end = end ∙ ap (λ n. max n (end_with e.end.display e.label)) reaches.label_end
+          ∙ sym (greatest-push (ends_of es) (end_with e.end.display e.label)) ∙ ap greatest (sym (ends_of-push es e not_bar));
     }
 
 -- the entries of one more line

@@ -4,6 +4,7 @@ use Rattle.std.proofs.Common.{map, chars, unwrap_or, refl, sym, ap, subst, inl, 
 use Rattle.std.specs.List.{filter, flat_map, list_any, range_with_len}
 use Rattle.std.specs.Option.{option_copied}
 use Rattle.std.proofs.lemmas.Bool.{cases_Bool, or_right, and_parts, and_from, eq-eqb, eqb-true}
+use Rattle.std.proofs.lemmas.Bool.{not-true}
 use Rattle.std.proofs.lemmas.Bool.Decides.{nat_tests}
 use Rattle.snippet_model.specs.declared.snippet.Annotation.{Annotation}
 use Rattle.snippet_model.specs.declared.snippet.AnnotationKind.TheVariants.{Primary}
@@ -12,7 +13,8 @@ use Rattle.snippet_parts.specs.declared.entries.AnnotatedLineInfo.{AnnotatedLine
 use Rattle.snippet_parts.specs.declared.entries.LineAnnotation.{LineAnnotation}
 use Rattle.snippet_parts.specs.declared.entries.LineAnnotationType.TheVariants.{Singleline, MultilineEnd}
 use Rattle.snippet_lines.specs.declared.place.Loc.{Loc}
-use Rattle.snippet_parts.specs.Annotated.{PartEntry, long_entry, long_place, is_long, long_spans, bar_lines}
+use Rattle.snippet_parts.specs.Annotated.{long_entry, long_place, is_long, long_spans}
+use Rattle.snippet_parts.specs.LongSpans.{bar_lines}
 use Rattle.snippet_parts.specs.Annotated.{bar_part, single_part}
 use Rattle.snippet_parts.specs.Annotated.{start_part, end_part, span_parts, promoted, long_parts, made_parts, parts_on, KeptLine}
 use Rattle.snippet_parts.specs.Annotated.{seen_kept, kept_line, annotated_lines}
@@ -21,8 +23,9 @@ use Rattle.snippet_parts.specs.Kept.{keeps, kept_lines}
 use Rattle.snippet_lines.specs.Lines.{Source, source_lines}
 use Rattle.snippet_window.specs.Margin.{margin_bounds}
 use Rattle.snippet_parts.specs.Mark.{is_marking, is_single_line}
-use Rattle.snippet_parts.specs.Marked.{Entry, first_line, last_line}
+use Rattle.snippet_parts.specs.Marked.{first_line, last_line}
 use Rattle.snippet_window.specs.Extent.{ReachesLines, columns_of, ends_of, entries_of, with_columns}
+use Rattle.snippet_window.specs.Extent.{line_texts}
 use Rattle.snippet_window.specs.Measures.{end_with, margin_of}
 use Rattle.snippet_parts.specs.Least.{greatest, least}
 use Rattle.snippet_window.specs.declared.extent.Extent.{Extent}
@@ -38,26 +41,26 @@ use Rattle.snippet_lines.proofs.PlaceLemmas.{line_of-mono, line_of-within, locat
 use Rattle.snippet_parts.proofs.StartByte.{start_byte}
 use Rattle.snippet_parts.proofs.PartWords.{is_promoted, is_short, long_places, stands_among, stands_before}
 use Rattle.snippet_window.proofs.SpanMeasures.{Measure, columns, drawn_end, drawn_start, ends, has_columns, kept_parts, kept_texts, long_among, long_span}
-use Rattle.snippet_window.proofs.SpanMeasures.{measured, measured_entries, measured_long, measured_parts, measured_span, parts_there, seen_entries}
+use Rattle.snippet_window.proofs.SpanMeasures.{measured, measured_long, measured_parts, measured_span, parts_there, seen_entries}
 use Rattle.snippet_window.proofs.SpanMeasures.{seen_texts, short_span, single_list, span_columns, span_ends}
 
 -- ---- what is measured of the spans is measured of the parts
 
-drawn_start_line : (before : List Entry) (e : Entry) → (promoted before e).start.line ≡ e.start.line
+drawn_start_line : (before : List LineAnnotation) (e : LineAnnotation) → (promoted before e).start.line ≡ e.start.line
 drawn_start_line before e =
     elim (is_promoted before e) as (λ b. (cond b (record e { kind = Primary }) e).start.line ≡ e.start.line) [ true ↦ refl | false ↦ refl ]
 
-drawn_end_line : (before : List Entry) (e : Entry) → (promoted before e).end.line ≡ e.end.line
+drawn_end_line : (before : List LineAnnotation) (e : LineAnnotation) → (promoted before e).end.line ≡ e.end.line
 drawn_end_line before e =
     elim (is_promoted before e) as (λ b. (cond b (record e { kind = Primary }) e).end.line ≡ e.end.line) [ true ↦ refl | false ↦ refl ]
 
 -- a part with columns on this line, of which these numbers are measured
-abbrev Stands : Measure → List PartEntry → ℕ → List ℕ → Type 0
+abbrev Stands : Measure → List LineAnnotation → ℕ → List ℕ → Type 0
 Stands g ps line ns =
-    (p : PartEntry) × Among ps p × (has_columns p ≡ true) × (p.entry.start.line ≡ line) × (measured g p ≡ ns)
+    (p : LineAnnotation) × Among ps p × (has_columns p ≡ true) × (p.start.line ≡ line) × (measured g p ≡ ns)
 
 -- the end of a span has a part
-span_end : (g : Measure) (s : Source) (before : List Entry) (depth : ℕ) (again : Bool) (e : Entry)
+span_end : (g : Measure) (s : Source) (before : List LineAnnotation) (depth : ℕ) (again : Bool) (e : LineAnnotation)
     → Stands g (span_parts s depth again (promoted before e)) e.end.line (measured g (end_part e Singleline))
 span_end g s before depth true e =
     (end_part (promoted before e) Singleline, inl refl, refl, drawn_end_line before e, drawn_end g before e Singleline)
@@ -67,7 +70,7 @@ span_end g s before depth false e =
     let p = end_part x (MultilineEnd depth) in
     (p, inr (among_right bars (p ∷ []) p (inl refl)), refl, drawn_end_line before e, drawn_end g before e (MultilineEnd depth))
 
-end_there : (g : Measure) (s : Source) (places : List LongExtent) (before es : List Entry) (e : Entry) → Among es e
+end_there : (g : Measure) (s : Source) (places : List LongExtent) (before es : List LineAnnotation) (e : LineAnnotation) → Among es e
     → Stands g (long_parts s places before es) e.end.line (measured g (end_part e Singleline))
 end_there g s places before [] e here = absurd here
 end_there g s places before (d ∷ later) e (inl same) =
@@ -78,8 +81,8 @@ end_there g s places before (d ∷ later) e (inl same) =
       among_left (span_parts s depth again (promoted before d)) (long_parts s places (before ++ d ∷ []) later) found.0 found.1,
       found.2,
       found.3
-          ∙ ap (λ (x : Entry). x.end.line) same,
-      found.4 ∙ ap (λ (x : Entry). measured g (end_part x Singleline)) same,
+          ∙ ap (λ (x : LineAnnotation). x.end.line) same,
+      found.4 ∙ ap (λ (x : LineAnnotation). measured g (end_part x Singleline)) same,
     )
 end_there g s places before (d ∷ later) e (inr more) =
     let depth = depth_among places (long_place d) in
@@ -94,18 +97,19 @@ end_there g s places before (d ∷ later) e (inr more) =
     )
 
 -- of the spans of one place the last has a part at its start
-abbrev StandsSomewhere : Measure → Source → List LongExtent → List Entry → List Entry → Entry → Type 0
+abbrev StandsSomewhere : Measure → Source → List LongExtent → List LineAnnotation → List LineAnnotation → LineAnnotation → Type 0
 StandsSomewhere g s places before es e =
-    (d : Entry) × Among es d × (d.start.byte ≡ e.start.byte) × Stands g (long_parts s places before es) d.start.line (measured g (start_part d 0))
+    (d : LineAnnotation) × Among es d × (d.start.byte ≡ e.start.byte) × Stands g (long_parts s places before es) d.start.line (measured g (start_part d 0))
 
-later_stands : (g : Measure) (s : Source) (places : List LongExtent) (before later : List Entry) (d e : Entry)
+later_stands : (g : Measure) (s : Source) (places : List LongExtent) (before later : List LineAnnotation) (d e : LineAnnotation)
     → StandsSomewhere g s places (before ++ d ∷ []) later e → StandsSomewhere g s places before (d ∷ later) e
 later_stands g s places before later d e found =
     let first = span_parts s (depth_among places (long_place d)) (stands_among d later) (promoted before d) in
     let part = found.3 in
     (found.0, inr found.1, found.2, (part.0, among_right first (long_parts s places (before ++ d ∷ []) later) part.0 part.1, part.2, part.3, part.4))
 
-start_there : (g : Measure) (s : Source) (places : List LongExtent) (before es : List Entry) (e : Entry) → Among es e → StandsSomewhere g s places before es e
+start_there : (g : Measure) (s : Source) (places : List LongExtent) (before es : List LineAnnotation) (e : LineAnnotation) → Among es e
+    → StandsSomewhere g s places before es e
 start_there g s places before [] e here = absurd here
 start_there g s places before (d ∷ later) e (inr more) =
     later_stands g s places before later d e (start_there g s places (before ++ d ∷ []) later e more)
@@ -119,14 +123,14 @@ start_there g s places before (d ∷ later) e (inl same) =
           && (eqb d.start.line next.0.start.line && eqb d.end.line next.0.end.line)) next.2 in
           let byte : d.start.byte ≡ next.0.start.byte = eqb-true d.start.byte next.0.start.byte place.0 in
           let found = start_there g s places (before ++ d ∷ []) later next.0 next.1 in
-          later_stands g s places before later d e (found.0, found.1, found.2 ∙ sym byte ∙ ap (λ (x : Entry). x.start.byte) same, found.3)
+          later_stands g s places before later d e (found.0, found.1, found.2 ∙ sym byte ∙ ap (λ (x : LineAnnotation). x.start.byte) same, found.3)
       | inr last ↦
           let p = start_part (promoted before d) depth in
           let here : Among (span_parts s depth (stands_among d later) (promoted before d)) p = subst (λ b.
           Among (span_parts s depth b (promoted before d)) p) (sym last) (inl refl) in (
             d,
             inl refl,
-            ap (λ (x : Entry). x.start.byte) same,
+            ap (λ (x : LineAnnotation). x.start.byte) same,
             (
               p,
               among_left
@@ -171,8 +175,8 @@ part_measured : (g : Measure) (fold : Bool) (s : Source) (marks : List Annotatio
     → Stands g (made_parts s marks) (s.first + k) ns → Among ns c → Among (measured_parts g (kept_parts fold s marks)) c
 part_measured g fold s marks k c ns kept found inside =
     let p = found.0 in
-    let on : Among (parts_on s marks k) p = among_filter (λ (q : PartEntry). eqb q.entry.start.line (s.first + k)) (made_parts s marks) p found.1
-    (eq-eqb p.entry.start.line (s.first + k) found.3) in
+    let on : Among (parts_on s marks k) p = among_filter (λ (q : LineAnnotation). eqb q.start.line (s.first + k)) (made_parts s marks) p found.1
+    (eq-eqb p.start.line (s.first + k) found.3) in
     let here : Among (kept_parts fold s marks) p = among_flat_map (λ (l : KeptLine). l.parts) (annotated_lines fold s marks) (kept_line s marks k) p
     (among_map (kept_line s marks) (kept_lines fold s.text marks) k kept) on in
     among_flat_map (measured g) (filter has_columns (kept_parts fold s marks)) p c (among_filter has_columns (kept_parts fold s marks) p here found.2)
@@ -216,9 +220,10 @@ start_back g fold s marks a c spans here long inside =
     let found = long_among s marks there.0 there.1 in
     let b = found.0 in
     let span = all_among (λ (x : Annotation). IsSpan s.text x.span.start x.span.end) marks b spans found.1 in
-    let byte : b.span.start ≡ a.span.start = sym (start_byte s b) ∙ ap (λ (x : Entry). x.start.byte) found.3 ∙ there.2 ∙ start_byte s a in
-    let start : there.0.start ≡ (long_entry s a).start = ap (λ (x : Entry). x.start) (sym found.3) ∙ same_start s b a byte in
-    let line : there.0.start.line ≡ s.first + first_line s.text b = ap (λ (x : Entry). x.start.line) (sym found.3) ∙ start-line s b.span.start b.span.end in
+    let byte : b.span.start ≡ a.span.start = sym (start_byte s b) ∙ ap (λ (x : LineAnnotation). x.start.byte) found.3 ∙ there.2 ∙ start_byte s a in
+    let start : there.0.start ≡ (long_entry s a).start = ap (λ (x : LineAnnotation). x.start) (sym found.3) ∙ same_start s b a byte in
+    let line : there.0.start.line
+    ≡ s.first + first_line s.text b = ap (λ (x : LineAnnotation). x.start.line) (sym found.3) ∙ start-line s b.span.start b.span.end in
     let part = there.3 in
     let read : Loc → List ℕ = λ l. g l (record { line = l.line; char = l.char + 1; display = l.display + 1; byte = l.byte }) None in
     part_measured g fold s marks (first_line s.text b) c (measured g (start_part (long_entry s a) 0))
@@ -269,10 +274,10 @@ bounds_reached room infos x reaches =
     let es = entries_of infos in
     let texts = map (λ (l : KeptLine). chars l.text) lines in
     let parts = filter has_columns (flat_map (λ (l : KeptLine). l.parts) lines) in
-    let end_of : PartEntry → ℕ = λ p. end_with p.entry.end.display p.entry.label in
-    let all_columns : columns_of es ≡ flat_map (measured columns) parts = measured_entries columns es ∙ ap (measured_parts columns) (seen_entries infos) in
-    let all_ends : ends_of es ≡ map end_of parts = single_list (λ (e : LineAnnotation). end_with e.end.display (option_copied e.label)) (with_columns es)
-    ∙ measured_entries ends es ∙ ap (measured_parts ends) (seen_entries infos) ∙ sym (single_list end_of parts) in
+    let end_of : LineAnnotation → ℕ = λ p. end_with p.end.display p.label in
+    let all_columns : columns_of es ≡ flat_map (measured columns) parts = ap (measured_parts columns) (seen_entries infos) in
+    let all_ends : ends_of es ≡ map end_of parts = single_list end_of (with_columns es) ∙ ap (measured_parts ends) (seen_entries infos)
+    ∙ sym (single_list end_of parts) in
     let blank : unwrap_or x.whitespace 0 ≡ unwrap_or (least (whitespaces_of texts)) 0 = ap (λ (o : Option ℕ). unwrap_or o 0) reaches.whitespace
     ∙ ap (λ ts. unwrap_or (least (whitespaces_of ts)) 0) (seen_texts infos) in
     let low : unwrap_or x.first 0 ≡ unwrap_or (least (flat_map (measured columns) parts)) 0 = ap (λ (o : Option ℕ). unwrap_or o 0) reaches.entries.first
@@ -295,7 +300,7 @@ pub margin_of_spans : (room : ℕ) (fold : Bool) (s : Source) (marks : List Anno
     (greatest (widths_of (map (chars_at s.text) (kept_lines fold s.text marks))))
 margin_of_spans room fold s marks spans =
     let parts = filter has_columns (kept_parts fold s marks) in
-    let end_of : PartEntry → ℕ = λ p. end_with p.entry.end.display p.entry.label in
+    let end_of : LineAnnotation → ℕ = λ p. end_with p.end.display p.label in
     let texts = map (chars_at s.text) (kept_lines fold s.text marks) in
     let low : unwrap_or (least (flat_map (measured columns) parts)) 0 ≡ unwrap_or (least (flat_map (span_columns s) marks)) 0 =
     least_same (measured_parts columns (kept_parts fold s marks)) (flat_map (span_columns s) marks) (parts_there columns fold s marks)

@@ -13,7 +13,7 @@ use Rattle.snippet_parts.specs.declared.entries.LineAnnotation.{LineAnnotation}
 use Rattle.snippet_parts.specs.declared.entries.LineAnnotationType.{LineAnnotationType}
 use Rattle.snippet_parts.specs.declared.entries.LineAnnotationType.TheVariants.{Singleline, MultilineEnd}
 use Rattle.snippet_lines.specs.declared.place.Loc.{Loc}
-use Rattle.snippet_parts.specs.Annotated.{PartEntry, seen_part, long_entry, long_place, is_long, long_spans, bar_lines}
+use Rattle.snippet_parts.specs.Annotated.{long_entry, long_place, is_long, long_spans}
 use Rattle.snippet_parts.specs.Annotated.{bar_part, single_part}
 use Rattle.snippet_parts.specs.Annotated.{start_part, end_part, span_parts, promoted, long_parts, made_parts, parts_on, KeptLine}
 use Rattle.snippet_parts.specs.Annotated.{seen_kept, kept_line, annotated_lines}
@@ -21,7 +21,6 @@ use Rattle.snippet_parts.specs.Depths.{depth_among}
 use Rattle.snippet_parts.specs.Kept.{kept_lines}
 use Rattle.snippet_lines.specs.Lines.{Source}
 use Rattle.snippet_parts.specs.Mark.{is_marking, is_single_line}
-use Rattle.snippet_parts.specs.Marked.{Entry}
 use Rattle.snippet_window.specs.Extent.{entries_of, line_texts, with_columns}
 use Rattle.snippet_window.specs.Measures.{end_with}
 use Rattle.snippet_parts.specs.Entries.{is_bar}
@@ -42,45 +41,26 @@ abbrev pub ends : Measure
 ends start end label = end_with end.display label ∷ []
 
 -- what is measured of a part
-abbrev pub measured : Measure → PartEntry → List ℕ
-measured g p = g p.entry.start p.entry.end p.entry.label
+abbrev pub measured : Measure → LineAnnotation → List ℕ
+measured g p = g p.start p.end p.label
 
 -- whether a part has columns
-abbrev pub has_columns : PartEntry → Bool
-has_columns p = not (is_bar p.part)
+abbrev pub has_columns : LineAnnotation → Bool
+has_columns p = not (is_bar p.annotation_type)
 
-abbrev pub measured_parts : Measure → List PartEntry → List ℕ
+abbrev pub measured_parts : Measure → List LineAnnotation → List ℕ
 measured_parts g ps = flat_map (measured g) (filter has_columns ps)
 
 -- ---- entries as they are seen
-
-pub measured_entries : (g : Measure) (es : List LineAnnotation)
-    → flat_map (λ (e : LineAnnotation). g e.start e.end (option_copied e.label)) (with_columns es) ≡ measured_parts g (map seen_part es)
-measured_entries g [] = refl
-measured_entries g (e ∷ es) =
-    let here : List ℕ = g e.start e.end (option_copied e.label) in
-    let read : LineAnnotation → List ℕ = λ x. g x.start x.end (option_copied x.label) in
-    elim (cases_Bool (not (is_bar e.annotation_type))) [
-      | inl some ↦ ap (flat_map read) (cond-true (not (is_bar e.annotation_type)) (e ∷ with_columns es) (with_columns es) some)
-          ∙ ap (λ ns. here ++ ns) (measured_entries g es)
-          ∙ sym (ap (flat_map (measured g))
-          (cond-true (not (is_bar e.annotation_type)) (seen_part e ∷ filter has_columns (map seen_part es)) (filter has_columns (map seen_part es))
-          some))
-      | inr none ↦ ap (flat_map read) (cond-false (not (is_bar e.annotation_type)) (e ∷ with_columns es) (with_columns es) none)
-          ∙ measured_entries g es ∙ sym
-          (ap (flat_map (measured g))
-          (cond-false (not (is_bar e.annotation_type)) (seen_part e ∷ filter has_columns (map seen_part es)) (filter has_columns (map seen_part es))
-          none))
-    ]
 
 pub single_list : {X : Type 0} (f : X → ℕ) (xs : List X) → map f xs ≡ flat_map (λ x. f x ∷ []) xs
 single_list f [] = refl
 single_list f (x ∷ xs) = ap (λ ns. f x ∷ ns) (single_list f xs)
 
-pub seen_entries : (infos : List AnnotatedLineInfo) → map seen_part (entries_of infos) ≡ flat_map (λ (l : KeptLine). l.parts) (map seen_kept infos)
+pub seen_entries : (infos : List AnnotatedLineInfo) → entries_of infos ≡ flat_map (λ (l : KeptLine). l.parts) (map seen_kept infos)
 seen_entries [] = refl
 seen_entries (info ∷ infos) =
-    map-append seen_part info.annotations.items (entries_of infos) ∙ ap (λ ps. map seen_part info.annotations.items ++ ps) (seen_entries infos)
+    ap (λ ps. info.annotations.items ++ ps) (seen_entries infos)
 
 pub seen_texts : (infos : List AnnotatedLineInfo) → line_texts infos ≡ map (λ (l : KeptLine). chars l.text) (map seen_kept infos)
 seen_texts [] = refl
@@ -94,7 +74,7 @@ kept_texts s marks (k ∷ ks) = ap (λ ts. chars_at s.text k ∷ ts) (kept_texts
 -- ---- what is measured of a span
 
 -- what is measured of a span of several lines: its start, and its end
-abbrev pub measured_long : Measure → Entry → List ℕ
+abbrev pub measured_long : Measure → LineAnnotation → List ℕ
 measured_long g e = measured g (start_part e 0) ++ measured g (end_part e Singleline)
 
 abbrev pub measured_span : Measure → Source → Annotation → List ℕ
@@ -123,12 +103,13 @@ long_span g s a long =
     ∙ ap (λ b. cond b (measured g (single_part s a)) (measured_long g (long_entry s a))) (not-true (is_single_line s.text a) both.1)
 
 -- the kind with which a span is drawn isn't measured
-pub drawn_start : (g : Measure) (before : List Entry) (e : Entry) (depth : ℕ) → measured g (start_part (promoted before e) depth) ≡ measured g (start_part e 0)
+pub drawn_start : (g : Measure) (before : List LineAnnotation) (e : LineAnnotation) (depth : ℕ)
+    → measured g (start_part (promoted before e) depth) ≡ measured g (start_part e 0)
 drawn_start g before e depth =
     elim (is_promoted before e) as (λ b. measured g (start_part (cond b (record e { kind = Primary }) e) depth)
     ≡ measured g (start_part e 0)) [ true ↦ refl | false ↦ refl ]
 
-pub drawn_end : (g : Measure) (before : List Entry) (e : Entry) (part : LineAnnotationType)
+pub drawn_end : (g : Measure) (before : List LineAnnotation) (e : LineAnnotation) (part : LineAnnotationType)
     → measured g (end_part (promoted before e) part) ≡ measured g (end_part e Singleline)
 drawn_end g before e part =
     elim (is_promoted before e) as (λ b. measured g (end_part (cond b (record e { kind = Primary }) e) part)
@@ -137,13 +118,14 @@ drawn_end g before e part =
 -- ---- what is measured of the parts is measured of the spans
 
 -- each bar has no columns
-bars_none : (e : Entry) (depth first : ℕ) (ks : List ℕ) (p : PartEntry) → Among (map (λ k. bar_part e depth (first + k)) ks) p → has_columns p ≡ true → ⊥
+bars_none : (e : LineAnnotation) (depth first : ℕ) (ks : List ℕ) (p : LineAnnotation) → Among (map (λ k. bar_part e depth (first + k)) ks) p
+    → has_columns p ≡ true → ⊥
 bars_none e depth first ks p here some =
     let bar = map_cases (λ k. bar_part e depth (first + k)) ks p here in
     let none : has_columns p ≡ false = ap has_columns (sym bar.2) in
     absurd cc
 
-span_part : (g : Measure) (s : Source) (before : List Entry) (depth : ℕ) (again : Bool) (e : Entry) (p : PartEntry) (c : ℕ)
+span_part : (g : Measure) (s : Source) (before : List LineAnnotation) (depth : ℕ) (again : Bool) (e : LineAnnotation) (p : LineAnnotation) (c : ℕ)
     → Among (span_parts s depth again (promoted before e)) p → has_columns p ≡ true → Among (measured g p) c → Among (measured_long g e) c
 span_part g s before depth true e p c (inl same) some inside =
     among_right (measured g (start_part e 0)) (measured g (end_part e Singleline)) c
@@ -165,8 +147,9 @@ span_part g s before depth false e p c (inr later) some inside =
         (subst (λ ns. Among ns c) (ap (measured g) (sym same) ∙ drawn_end g before e (MultilineEnd depth)) inside)
     closing (inr none) = absurd none
 
-long_part : (g : Measure) (s : Source) (places : List LongExtent) (before es : List Entry) (p : PartEntry) (c : ℕ) → Among (long_parts s places before es) p
-    → has_columns p ≡ true → Among (measured g p) c → (e : Entry) × Among es e × Among (measured_long g e) c
+long_part : (g : Measure) (s : Source) (places : List LongExtent) (before es : List LineAnnotation) (p : LineAnnotation) (c : ℕ)
+    → Among (long_parts s places before es) p
+    → has_columns p ≡ true → Among (measured g p) c → (e : LineAnnotation) × Among es e × Among (measured_long g e) c
 long_part g s places before [] p c here some inside = absurd here
 long_part g s places before (e ∷ later) p c here some inside =
     elim (append_cases (span_parts s (depth_among places (long_place e)) (stands_among e later) (promoted before e))
@@ -176,7 +159,7 @@ long_part g s places before (e ∷ later) p c here some inside =
     ]
 
 -- an entry among the spans of several lines stands for one of them
-pub long_among : (s : Source) (marks : List Annotation) (e : Entry) → Among (long_spans s marks) e
+pub long_among : (s : Source) (marks : List Annotation) (e : LineAnnotation) → Among (long_spans s marks) e
     → (a : Annotation) × Among marks a × (is_long s.text a ≡ true) × (long_entry s a ≡ e)
 long_among s marks e here =
     let found = map_cases (long_entry s) (filter (is_long s.text) marks) e
@@ -184,7 +167,7 @@ long_among s marks e here =
     let taken = filter_cases (is_long s.text) marks found.0 found.1 in
     (found.0, taken.0, taken.1, found.2)
 
-made_part : (g : Measure) (s : Source) (marks : List Annotation) (p : PartEntry) (c : ℕ) → Among (made_parts s marks) p → has_columns p ≡ true
+made_part : (g : Measure) (s : Source) (marks : List Annotation) (p : LineAnnotation) (c : ℕ) → Among (made_parts s marks) p → has_columns p ≡ true
     → Among (measured g p) c → Among (flat_map (measured_span g s) marks) c
 made_part g s marks p c here some inside =
     elim (append_cases (map (single_part s) (filter (is_short s.text) marks)) (long_parts s (long_places s marks) [] (long_spans s marks)) p here) [
@@ -201,15 +184,15 @@ made_part g s marks p c here some inside =
     ]
 
 -- the parts of the kept lines
-abbrev pub kept_parts : Bool → Source → List Annotation → List PartEntry
+abbrev pub kept_parts : Bool → Source → List Annotation → List LineAnnotation
 kept_parts fold s marks = flat_map (λ (l : KeptLine). l.parts) (annotated_lines fold s marks)
 
-kept_part : (fold : Bool) (s : Source) (marks : List Annotation) (p : PartEntry) → Among (kept_parts fold s marks) p → Among (made_parts s marks) p
+kept_part : (fold : Bool) (s : Source) (marks : List Annotation) (p : LineAnnotation) → Among (kept_parts fold s marks) p → Among (made_parts s marks) p
 kept_part fold s marks p here =
     let line = flat_map_cases (λ (l : KeptLine). l.parts) (annotated_lines fold s marks) p here in
     let number = map_cases (kept_line s marks) (kept_lines fold s.text marks) line.0 line.1 in
     let on : Among (parts_on s marks number.0) p = subst (λ (l : KeptLine). Among l.parts p) (sym number.2) line.2 in
-    (filter_cases (λ (q : PartEntry). eqb q.entry.start.line (s.first + number.0)) (made_parts s marks) p on).0
+    (filter_cases (λ (q : LineAnnotation). eqb q.start.line (s.first + number.0)) (made_parts s marks) p on).0
 
 pub parts_there : (g : Measure) (fold : Bool) (s : Source) (marks : List Annotation) (c : ℕ) → Among (measured_parts g (kept_parts fold s marks)) c
     → Among (flat_map (measured_span g s) marks) c

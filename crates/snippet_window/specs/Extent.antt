@@ -1,7 +1,6 @@
 -- How far lines reach so far.
 use Rattle.std.specs.Prelude.{◌≡◌, ℕ, not, List, [], ◌∷◌, map, filter, chars}
 use Rattle.std.specs.List.{flat_map, filter_map}
-use Rattle.std.specs.Option.{option_copied}
 use Rattle.snippet_text.specs.Width.{width_of}
 use Rattle.snippet_parts.specs.Entries.{is_bar}
 use Rattle.snippet_parts.specs.declared.entries.LineAnnotation.{LineAnnotation}
@@ -24,7 +23,7 @@ abbrev pub columns_of : List LineAnnotation → List ℕ
 columns_of es = flat_map (λ e. e.start.display ∷ e.end.display ∷ []) (with_columns es)
 
 abbrev pub ends_of : List LineAnnotation → List ℕ
-ends_of es = map (λ e. end_with e.end.display (option_copied e.label)) (with_columns es)
+ends_of es = map (λ e. end_with e.end.display e.label) (with_columns es)
 
 -- the characters of each line
 abbrev pub line_texts : List AnnotatedLineInfo → List (List ℕ)

@@ -21,9 +21,9 @@ end_with end label = option_map_or (λ text. capped_sum end (width_of (chars tex
 abbrev pub margin_of : ℕ → List KeptLine → Margin
 margin_of room lines =
     let texts = map (λ line. chars line.text) lines in
-    let parts = filter (λ p. not (is_bar p.part)) (flat_map (λ line. line.parts) lines) in
-    let columns = flat_map (λ p. p.entry.start.display ∷ p.entry.end.display ∷ []) parts in
-    let ends = map (λ p. end_with p.entry.end.display p.entry.label) parts in
+    let parts = filter (λ p. not (is_bar p.annotation_type)) (flat_map (λ line. line.parts) lines) in
+    let columns = flat_map (λ p. p.start.display ∷ p.end.display ∷ []) parts in
+    let ends = map (λ p. end_with p.end.display p.label) parts in
     margin_bounds (unwrap_or (least (filter_map leading_whitespace texts)) 0) (unwrap_or (least columns) 0) (greatest columns) (greatest ends) room
     (greatest (map width_of texts))
 

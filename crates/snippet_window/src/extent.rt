@@ -1,6 +1,7 @@
 //! How far the lines of a snippet reach, with their spans and labels, and the margin for them.
 ghost use Rattle.std.specs.Prelude.{◌≡◌, ◌≤◌, ◌++◌, ◌∷◌, [], All, List, IfSome, Some, map, max};
 ghost use Rattle.std.specs.Option.{option_copied};
+ghost use Rattle.std.specs.Prelude.{◌-◌};
 ghost use Rattle.snippet_parts.specs.declared.entries.AnnotatedLineInfo.{AnnotatedLineInfo};
 ghost use Rattle.snippet_parts.specs.declared.entries.LineAnnotation.{LineAnnotation};
 ghost use Rattle.snippet_parts.specs.Annotated.{seen_kept};
@@ -22,7 +23,7 @@ use snippet_text::str_width;
 /// part.
 pub fn margin_for(lines: &[ShownLine], room: usize) -> Margin
     requires texts { All (λ line. TextFits line.info.line.now) lines.now }
-    requires labels { All (λ line. All (λ e. IfSome e.label (λ t. TextFits t.now)) line.info.annotations.items)
+    requires labels { All (λ line. All (λ e. IfSome e.label TextFits) line.info.annotations.items)
         lines.now }
     ensures bounds { result ≡ margin_of room (map seen_kept (kept_of lines.now)) }
     ensures room { result.term_width ≡ room }
@@ -73,7 +74,7 @@ impl Extent {
     /// Takes in a line, with its entries.
     fn add_line(&mut self, line: &ShownLine)
         requires text { TextFits line.now.info.line.now }
-        requires labels { All (λ e. IfSome e.label (λ t. TextFits t.now)) line.now.info.annotations.items }
+        requires labels { All (λ e. IfSome e.label TextFits) line.now.info.annotations.items }
         ensures adds { (before : List AnnotatedLineInfo) → ReachesLines before self.old
             → ReachesLines (before ++ line.now.info ∷ []) self.new }
     {
@@ -86,7 +87,7 @@ impl Extent {
 
     /// Takes in an entry.
     fn add_entry(&mut self, entry: &LineAnnotation)
-        requires label { IfSome entry.now.label (λ t. TextFits t.now) }
+        requires label { IfSome entry.now.label TextFits }
         ensures adds { (before : List LineAnnotation) → ReachesEntries before self.old
             → ReachesEntries (before ++ entry.now ∷ []) self.new }
         ensures lines { self.new ≡ record self.old {
@@ -114,11 +115,14 @@ fn is_bar(part: LineAnnotationType) -> bool
 
 /// The column after an entry's label, or after its mark where it has none.
 fn label_end(entry: &LineAnnotation) -> usize
-    requires label { IfSome entry.now.label (λ t. TextFits t.now) }
-    ensures value { result ≡ end_with entry.now.end.display (option_copied entry.now.label) }
+    requires label { IfSome entry.now.label TextFits }
+    ensures value { result ≡ end_with entry.now.end.display entry.now.label }
 {
-    match entry.label {
-        Some(label) => entry.end.display.saturating_add(str_width(label) + 1),
+    match &entry.label {
+        Some(label) => entry
+            .end
+            .display
+            .saturating_add(str_width(label.as_str()) + 1),
         None => entry.end.display,
     }
 }

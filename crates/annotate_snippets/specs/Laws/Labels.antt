@@ -8,8 +8,8 @@ use Rattle.snippet_text.specs.Normalized.{normalized_chars}
 use Rattle.snippet_model.specs.declared.snippet.Snippet.{Snippet}
 use Rattle.snippet_model.specs.declared.snippet.Annotation.{Annotation}
 use Rattle.snippet_model.specs.declared.snippet.AnnotationKind.{AnnotationKind}
+use Rattle.snippet_parts.specs.declared.entries.LineAnnotation.{LineAnnotation}
 use Rattle.snippet_parts.specs.Annotated.{promoted, long_spans}
-use Rattle.snippet_parts.specs.Marked.{Entry}
 use Rattle.snippet_parts.specs.Mark.{is_marked_on, start_column, end_column}
 use Rattle.snippet_labels.specs.PlacedEntries.{label_role}
 use Rattle.snippet_strokes.specs.Labels.{IsStemCell, IsStrokeCell}
@@ -26,7 +26,7 @@ pub record SpanLabel : Type 0 where
   pub to : ℕ
 
 -- spans of several lines as they are drawn, each after those before it: one that has the place of a primary one is primary
-abbrev pub promoted_spans : List Entry → List Entry → List Entry
+abbrev pub promoted_spans : List LineAnnotation → List LineAnnotation → List LineAnnotation
 promoted_spans before [] = []
 promoted_spans before (e ∷ later) = promoted before e ∷ promoted_spans (before ++ e ∷ []) later
 
@@ -37,8 +37,8 @@ labels_ending_on s k =
     let source = numbered_source s in
     map (λ (a : Annotation). record { text = shown_label a; kind = a.kind; from = start_column source.text a; to = end_column source.text a })
     (filter (is_marked_on source.text k) s.markers.items)
-    ++ map (λ (e : Entry). record { text = normalized_chars e.label; kind = e.kind; from = e.end.display - 1; to = e.end.display })
-    (filter (λ (e : Entry). e.end.line == source.first + k) (promoted_spans [] (long_spans source s.markers.items)))
+    ++ map (λ (e : LineAnnotation). record { text = normalized_chars e.label; kind = e.kind; from = e.end.display - 1; to = e.end.display })
+    (filter (λ (e : LineAnnotation). e.end.line == source.first + k) (promoted_spans [] (long_spans source s.markers.items)))
 
 -- where a label stands: in which of the rows below its line, from 0, and from which cell of it on
 pub record ShownLabel : Type 0 where

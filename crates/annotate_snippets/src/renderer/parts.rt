@@ -3,7 +3,7 @@
 pub use snippet_grid::{SheetCodes, StyledBuffer};
 pub use snippet_lines::{CursorLines, EndLine, Loc, SpanFault, check_span, newline_count};
 pub use snippet_parts::{
-    AnnotatedLineInfo, LineAnnotation, LineAnnotationType, LineInfo, SourceMap,
+    AnnotatedLineInfo, Label, LineAnnotation, LineAnnotationType, LineInfo, SourceMap,
 };
 pub use snippet_places::{ColumnUnit, Position, SpanAt, span_at};
 pub use snippet_splice::{

@@ -3,7 +3,8 @@ use Rattle.std.proofs.lemmas.List.{map_push}
 use Rattle.std.proofs.lemmas.List.Elements.{All-append, All-cons, All-nil}
 use Rattle.snippet_parts.specs.declared.entries.LineAnnotation.{LineAnnotation}
 use Rattle.snippet_labels.specs.declared.positions.PlacedEntry.{PlacedEntry}
-use Rattle.snippet_labels.specs.PlacedEntries.{label_text, shifted}
+use Rattle.snippet_labels.specs.PlacedEntries.{shifted}
+use Rattle.snippet_labels.proofs.LabelWords.{label_text}
 use Rattle.snippet_labels.specs.Positions.{HasItsBytes, HasItsLabel}
 use Rattle.snippet_labels.proofs.CharLemmas.{bytes_of_chars}
 use Rattle.snippet_labels.proofs.RowLemmas.{counts_more, labelled_more}
@@ -23,7 +24,8 @@ loop-i-preserved c =
     subst (All P) (sym c.in_ok-push.ensures.items) (All-append P done (e ∷ []) have (All-cons P e [] own (All-nil P))) in
     record {
       entries = ap (map entry) c.in_ok-push.ensures.items ∙ map_push entry done e ∙ ap (λ l. l ++ e.entry ∷ []) c.loop-i.invariant.entries
-          ∙ labelled_more sh es i e.entry _ (omega (arith, c.loop-i-test.true)) (omega (arith, c.loop-i.auto.i)) c.shifted.ensures.value;
+          ∙ labelled_more sh es i e.entry _ (omega (arith, c.loop-i-test.true)) (omega (arith, c.loop-i.auto.i))
+          (c.shifted.ensures.value ∙ ap sh c.index-entries-i.is);
       labels = all HasItsLabel c.loop-i.invariant.labels (c.in_ok-label.ensures.shows ∙ ap label_text (sym c.shifted.ensures.value));
       bytes = all HasItsBytes c.loop-i.invariant.bytes (bytes_of_chars _ c.as_str-text.result.now _ c.as_str-text.utf8 c.as_str-text.ensures.value
           (c.in_ok-label.ensures.shows ∙ ap label_text (sym c.shifted.ensures.value)));

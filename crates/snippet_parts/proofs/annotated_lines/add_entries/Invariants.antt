@@ -1,5 +1,5 @@
 use Rattle.std.proofs.Common.{◌≡◌, ℕ, List, [], length, map, take}
-use Rattle.snippet_parts.specs.Annotated.{seen_kept, seen_part}
+use Rattle.snippet_parts.specs.Annotated.{seen_kept}
 use Rattle.snippet_parts.specs.KeptEntries.{line_with}
 use Rattle.snippet_parts.proofs.annotated_lines.add_entries.Given as goal
 
@@ -8,5 +8,5 @@ abbrev pub invariant-loop-entry : goal.invariant-loop-entry
 invariant-loop-entry l = record {
   count : length l.lines ≡ length l.initial.lines;
   added : (seen : List ℕ) → map seen_kept l.initial.lines ≡ map (line_with l.source seen []) l.kept
-      → map seen_kept l.lines ≡ map (line_with l.source seen (map seen_part (take l.entry-index l.entries))) l.kept;
+      → map seen_kept l.lines ≡ map (line_with l.source seen ((take l.entry-index l.entries))) l.kept;
 }

@@ -1,18 +1,19 @@
 use Rattle.std.proofs.Common.{◌+◌, ◌<◌, ◌++◌, ◌∷◌, [], ℕ, ap, sym, ◌∙◌, arith, get_or, length, map}
 use Rattle.std.proofs.lemmas.List.{get_or-map, map-set}
-use Rattle.snippet_parts.specs.Annotated.{KeptLine, PartEntry, seen_kept, seen_part}
+use Rattle.snippet_parts.specs.declared.entries.LineAnnotation.{LineAnnotation}
+use Rattle.snippet_parts.specs.Annotated.{KeptLine, seen_kept}
 use Rattle.snippet_parts.proofs.KeptEntryLemmas.{entry_stands_at, stands_nowhere}
 use Rattle.snippet_parts.proofs.annotated_lines.add_entry.Goals as goal
 
 pub returns-in_default-clause-added : goal.returns-in_default-clause-added
 returns-in_default-clause-added c seen parts are =
-    are ∙ stands_nowhere c.args.source.now seen parts (seen_part c.args.entry.now) c.args.kept.now (λ k within same.
+    are ∙ stands_nowhere c.args.source.now seen parts (c.args.entry.now) c.args.kept.now (λ k within same.
     c.in_default.ensures.none k within (ap (λ n. n + get_or c.args.kept.now k 0) c.line_start.ensures.value ∙ same))
 
 pub returns-in_ok-push_entry-clause-added : goal.returns-in_ok-push_entry-clause-added
 returns-in_ok-push_entry-clause-added c seen parts are =
     let at : ℕ = c.in-Some.at in
-    let p : PartEntry = seen_part c.args.entry.now in
+    let p : LineAnnotation = c.args.entry.now in
     let new : KeptLine = seen_kept c.push_entry.new.line in
     let there : at < length c.args.lines.now = omega (arith, c.in-Some.ensures.found, c.requires.count) in
     map-set seen_kept c.args.lines.now at c.push_entry.new.line

@@ -3,7 +3,8 @@ use Rattle.std.specs.List.{All, AllPairs, filter, list_any}
 use Rattle.std.specs.List.Sorted.{IsNonDecreasingBy}
 use Rattle.std.proofs.lemmas.List.{length-map}
 use Rattle.snippet_lines.specs.Lines.{source_lines}
-use Rattle.snippet_parts.specs.Annotated.{PartEntry, kept_line, seen_kept, seen_part}
+use Rattle.snippet_parts.specs.declared.entries.LineAnnotation.{LineAnnotation}
+use Rattle.snippet_parts.specs.Annotated.{kept_line, seen_kept}
 use Rattle.snippet_parts.specs.Kept.{keeps}
 use Rattle.snippet_parts.specs.KeptEntries.{line_with}
 use Rattle.snippet_parts.specs.LineStretches.{is_seen}
@@ -46,7 +47,7 @@ returns-clause-lines c =
     let marks = annotations_of c.args.located.now in
     let seen = c.deref-2.result.now in
     let n : ℕ = length (source_lines s.text) in
-    let made = map seen_part c.deref-4.result.now in
+    let made = c.deref-4.result.now in
     let bare : map seen_kept c.deref_mut.result.now ≡ map (line_with s seen []) c.deref-3.result.now =
     ap (map seen_kept) c.deref_mut.ensures.value ∙ c.in_ok-lines.ensures.value
     ∙ ap (map (line_with s seen [])) (c.deref.ensures.value ∙ sym c.deref-3.ensures.value) in
@@ -56,8 +57,8 @@ returns-clause-lines c =
     ∙ ap (map (line_with s seen made)) c.deref-3.ensures.value
     ∙ lines_same (line_with s seen made) (kept_line s marks) n c.in_ok-kept.kept.items c.in_ok-kept.ensures.within (λ k within.
     same-kept _ _ _ _ _ _ _ _ refl refl
-    (ap (λ es. filter (λ (p : PartEntry). eqb p.entry.start.line (s.first + k)) (map seen_part es)) c.deref-4.ensures.value
-    ∙ ap (filter (λ (p : PartEntry). eqb p.entry.start.line (s.first + k))) c.in_ok-greatest.ensures.value)
+    (ap (λ es. filter (λ (p : LineAnnotation). eqb p.start.line (s.first + k)) (es)) c.deref-4.ensures.value
+    ∙ ap (filter (λ (p : LineAnnotation). eqb p.start.line (s.first + k))) c.in_ok-greatest.ensures.value)
     (ap (list_any (λ j. eqb j k)) (c.deref-2.ensures.value ∙ c.in_ok-seen.ensures.value)
     ∙ among-kept (λ j. list_any (λ (x : LocatedSpan). is_seen s.text j x.annotation.now) c.args.located.now) n k within
     ∙ sym (list_any-map (is_seen s.text k) (λ (x : LocatedSpan). x.annotation.now) c.args.located.now)))

@@ -1,9 +1,9 @@
 use Rattle.std.proofs.Common.{◌≡◌, map}
 use Rattle.std.specs.Option.{option_or}
 use Rattle.snippet_parts.specs.Annotated.{seen_kept}
-use Rattle.snippet_parts.specs.Location.{entry_place, secondary_place}
+use Rattle.snippet_parts.specs.Location.{secondary_place}
 use Rattle.snippet_parts.proofs.LocationLemmas.{place_from}
-use Rattle.snippet_parts.proofs.LocationWords.{bare_place, first_place}
+use Rattle.snippet_parts.proofs.LocationWords.{bare_place, entry_place, first_place}
 use Rattle.snippet_parts.proofs.location.secondary_place.Given as goal
 
 -- what is asked for is the place of an entry on the lines that are left, else the first line

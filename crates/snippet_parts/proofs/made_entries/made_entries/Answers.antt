@@ -1,6 +1,6 @@
 use Rattle.std.proofs.Common.{◌≡◌, ◌++◌, [], filter, map, ap, sym, ◌∙◌}
 use Rattle.snippet_parts.specs.declared.long_spans.LongSpan.{LongSpan}
-use Rattle.snippet_parts.specs.Annotated.{long_parts, long_place, long_spans, seen_part, single_part}
+use Rattle.snippet_parts.specs.Annotated.{long_parts, long_place, long_spans, single_part}
 use Rattle.snippet_parts.specs.Located.{annotations_of}
 use Rattle.snippet_parts.specs.Depths.{greatest_depth}
 use Rattle.snippet_parts.specs.declared.depths.LongExtent.{LongExtent}
@@ -50,5 +50,5 @@ returns-clause-value c =
     ∙ c.in_ok-spans.ensures.value ∙ long-are s ls c.requires.located in
     c.in_ok-push_long_entries.ensures.value
     ∙ ap (λ ps. ps ++ long_parts s (map long_place (map seen_long c.deref-3.result.now)) [] (map seen_long c.deref-3.result.now))
-    (ap (map seen_part) c.reserve.ensures.items ∙ c.in_ok-entries.ensures.value ∙ short-parts s ls c.requires.located)
+    (c.reserve.ensures.items ∙ c.in_ok-entries.ensures.value ∙ short-parts s ls c.requires.located)
     ∙ ap (λ es. map (single_part s) (filter (is_short s.text) (annotations_of ls)) ++ long_parts s (map long_place es) [] es) spans

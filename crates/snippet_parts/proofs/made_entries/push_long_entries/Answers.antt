@@ -2,7 +2,7 @@ use Rattle.std.proofs.Common.{◌+◌, ℕ, get_or, map, ap, ◌∙◌}
 use Rattle.std.specs.List.{list_any}
 use Rattle.std.proofs.lemmas.List.{take_rest, get_or_default, get_or-map}
 use Rattle.snippet_parts.specs.declared.long_spans.LongSpan.{LongSpan}
-use Rattle.snippet_parts.specs.Annotated.{seen_part, long_place}
+use Rattle.snippet_parts.specs.Annotated.{long_place}
 use Rattle.snippet_parts.specs.Depths.{depth_among, same_place}
 use Rattle.snippet_parts.specs.LongSpans.{seen_long}
 use Rattle.snippet_parts.proofs.EntryLemmas.{parts-more, no_span}
@@ -13,8 +13,8 @@ loop-i-preserved c =
     let spans = c.args.spans.now in
     let i : ℕ = c.loop-i.i in
     let x : LongSpan = get_or spans i no_span in
-    parts-more c.args.source.now (map long_place (map seen_long spans)) spans i x (map seen_part c.loop-i.entries.items)
-    (map seen_part c.push_span_entries.new.entries.items) _ (get_or c.args.depths.now i 0)
+    parts-more c.args.source.now (map long_place (map seen_long spans)) spans i x (c.loop-i.entries.items)
+    (c.push_span_entries.new.entries.items) _ (get_or c.args.depths.now i 0)
     c.stands_among-again.result (seen_long c.promoted-span.result) c.loop-i-test.true (get_or_default spans i no_span x c.loop-i-test.true)
     c.in_ok-push_span_entries.ensures.value
     (ap (λ ds. get_or ds i 0) c.requires.depths ∙ get_or-map (λ (l : LongSpan). depth_among (map long_place (map seen_long spans))

@@ -1,9 +1,8 @@
 use Rattle.std.proofs.Common.{◌≡◌, map, take}
 use Rattle.std.specs.List.{filter}
-use Rattle.snippet_parts.specs.Annotated.{seen_part}
 use Rattle.snippet_parts.specs.Located.{is_short_span, short_part}
 use Rattle.snippet_parts.proofs.span_entries.single_entries.Given as goal
 
 -- the entries so far
 abbrev pub invariant-loop-span : goal.invariant-loop-span
-invariant-loop-span l = map seen_part l.entries.items ≡ map short_part (filter is_short_span (take l.span-index l.located))
+invariant-loop-span l = l.entries.items ≡ map short_part (filter is_short_span (take l.span-index l.located))

@@ -2,6 +2,7 @@ use Rattle.std.proofs.Common.{◌≡◌, ◌∙◌, ◌++◌, List, Option, ap, 
 use Rattle.std.proofs.lemmas.List.{append-nil}
 use Rattle.std.specs.Option.{option_to_list}
 use Rattle.snippet_strokes.specs.declared.bars.OpenBar.{OpenBar}
+use Rattle.snippet_strokes.specs.Bars.{bar_of}
 use Rattle.snippet_strokes.proofs.OpenLemmas.{ends_more}
 use Rattle.snippet_strokes.proofs.bars.ends_on.Goals as goal
 use Rattle.snippet_strokes.proofs.bars.ends_on.Goals.{in-Some+in_ok-push, in_default}
@@ -15,5 +16,5 @@ loop-entry-preserved c =
       | in_default w ↦ ap (λ bars. bars.items) w.bars-is ∙ sym (append-nil before)
           ∙ ap (λ (o : Option OpenBar). before ++ option_to_list o) (sym w.in_default.is)
     ] in
-    ends_more c.args.entries.now c.loop-entry.entry-index _ before c.match-bar_of.bars.items c.bar_of.result c.loop-entry-test.true c.loop-entry.invariant
-    c.bar_of.ensures.value pushed
+    ends_more c.args.entries.now c.loop-entry.entry-index c.entry-item.result before c.match-bar_of.bars.items c.bar_of.result c.loop-entry-test.true
+    c.loop-entry.invariant (c.bar_of.ensures.value ∙ ap bar_of c.entry-item.is) pushed

@@ -29,14 +29,16 @@ loop-entry-preserved c =
     let dropped = c.args.dropped in
     let i = c.loop-entry.entry-index in
     let within = c.loop-entry-test.true in
+    let item = c.entry-item.result in
+    let is = c.entry-item.is in
     elim c.if-entry.branch [
       | then-entry+then-not-is_end_part+in_ok-highlight_entry w ↦
           w.buffer-is ∙ w.in_ok-highlight_entry.ensures.value ∙ (rw c.loop-entry.invariant
-          (lit_by-asked code dropped row old es i _ within (sym w.is_end_part.ensures.value ∙ grind (arith, w.if-not-is_end_part.true)) w.if-entry.true))
+          (lit_by-asked code dropped row old es i item is within (sym w.is_end_part.ensures.value ∙ grind (arith, w.if-not-is_end_part.true)) w.if-entry.true))
       | else-entry w ↦ w.buffer-is ∙ c.loop-entry.invariant ∙ elim w.else-entry.branch [
         | else-entry-via-then-entry+else-not-is_end_part v ↦
-            lit_by-end code dropped row old es i _ within (sym v.is_end_part.ensures.value ∙ grind (arith, v.if-not-is_end_part.false))
-        | else-entry-via-else-entry v ↦ lit_by-unasked code dropped row old es i _ within v.if-entry.false
+            lit_by-end code dropped row old es i item is within (sym v.is_end_part.ensures.value ∙ grind (arith, v.if-not-is_end_part.false))
+        | else-entry-via-else-entry v ↦ lit_by-unasked code dropped row old es i item is within v.if-entry.false
       ]
     ]
 

@@ -1,7 +1,8 @@
 use Rattle.std.proofs.Common.{◌≡◌, ◌∙◌, ◌+◌, ◌^◌, ◌<◌, List, ℕ, All, ap, sym, subst, arith, length}
 use Rattle.snippet_grid.specs.Layout.{Layout}
 use Rattle.snippet_labels.specs.declared.positions.PlacedEntry.{PlacedEntry}
-use Rattle.snippet_labels.specs.PlacedEntries.{HasPlace, label_text}
+use Rattle.snippet_labels.specs.PlacedEntries.{HasPlace}
+use Rattle.snippet_labels.proofs.LabelWords.{label_text}
 use Rattle.snippet_labels.specs.Positions.{HasItsLabel}
 use Rattle.snippet_style.specs.Cell.{Cell}
 use Rattle.snippet_style.specs.Separators.{separator_row}

@@ -1,5 +1,7 @@
-use Rattle.std.proofs.Common.{◌∙◌, chars}
+use Rattle.std.proofs.Common.{◌∙◌, ap, chars, nat_cmp, sym}
+use Rattle.std.specs.Ordering.{ord_max}
 use Rattle.snippet_text.specs.Normalized.{norm}
+use Rattle.snippet_parts.specs.declared.entries.LineAnnotation.{LineAnnotation}
 use Rattle.snippet_strokes.proofs.BlankLemmas.{bar_passed, start_passed}
 use Rattle.snippet_strokes.proofs.whole_line.is_whole_line.Goals as goal
 use Rattle.snippet_strokes.proofs.whole_line.is_whole_line.Goals.{in-MultilineLine, in-MultilineStart}
@@ -7,9 +9,12 @@ use Rattle.snippet_strokes.proofs.whole_line.is_whole_line.Goals.{in-MultilineLi
 pub loop-entry-preserved : goal.loop-entry-preserved
 loop-entry-preserved c =
     let text = norm (chars c.args.line.now) in
+    let part = ap (λ (e : LineAnnotation). e.annotation_type) (sym c.entry-item.is) in
     elim c.match-entry.branch [
-      | in-MultilineLine w ↦ bar_passed text c.args.entries.now _ c.loop-entry.last_start _ _ _ c.loop-entry-test.true w.in-MultilineLine.is w.last_start-is
+      | in-MultilineLine w ↦ bar_passed text c.args.entries.now _ c.loop-entry.last_start _ _ _ c.loop-entry-test.true (part ∙ w.in-MultilineLine.is)
+          w.last_start-is c.loop-entry.invariant
+      | in-MultilineStart w ↦ start_passed text c.args.entries.now _ c.loop-entry.last_start _ _ _ c.loop-entry-test.true (part ∙ w.in-MultilineStart.is)
+          (w.last_start-is ∙ w.max-last_start.ensures
+          ∙ ap (λ (e : LineAnnotation). ord_max nat_cmp c.loop-entry.last_start e.start.display) c.entry-item.is)
           c.loop-entry.invariant
-      | in-MultilineStart w ↦ start_passed text c.args.entries.now _ c.loop-entry.last_start _ _ _ c.loop-entry-test.true w.in-MultilineStart.is
-          (w.last_start-is ∙ w.max-last_start.ensures) c.loop-entry.invariant
     ]

@@ -64,7 +64,7 @@ abbrev TextFits : AnnotatedLineInfo → Type 0
 TextFits info = length info.line.now < 2 ^ 56
 
 abbrev LabelsFit : AnnotatedLineInfo → Type 0
-LabelsFit info = All (λ (e : LineAnnotation). IfSome e.label (λ t. length t.now < 2 ^ 56)) info.annotations.items
+LabelsFit info = All (λ (e : LineAnnotation). IfSome e.label (λ t. length t < 2 ^ 56)) info.annotations.items
 
 pub with_lines_between-requires-clause-texts : goal.with_lines_between-requires-clause-texts
 with_lines_between-requires-clause-texts c =

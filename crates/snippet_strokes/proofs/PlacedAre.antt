@@ -1,0 +1,56 @@
+-- The entries of a line that are placed are those of the value.
+use Rattle.std.proofs.Common.{◌≡◌, ℕ, List, [], ◌∷◌, map, All, refl, sym, ap, ◌∙◌}
+use Rattle.std.specs.List.{zip}
+use Rattle.std.proofs.lemmas.List.Elements.{All-head, All-tail}
+use Rattle.snippet_lines.specs.OrderedBy.{ordered_by}
+use Rattle.snippet_parts.specs.declared.entries.LineAnnotation.{LineAnnotation}
+use Rattle.snippet_labels.specs.declared.positions.PlacedEntry.{PlacedEntry}
+use Rattle.snippet_labels.specs.Positions.{ArePlaced, HasItsBytes, is_placed_before, line_positions, look_counts, placed_of}
+use Rattle.snippet_labels.specs.Positions.{unplaced}
+use Rattle.snippet_labels.proofs.PlacedLemmas.{line_positions-changed, look_counts-changed, placed_of-at}
+use Rattle.snippet_labels.proofs.LabelWords.{labelled, placed_at}
+
+line_positions-unplaced : (es : List PlacedEntry) → line_positions (map unplaced es) ≡ line_positions es
+line_positions-unplaced = line_positions-changed unplaced (λ e. refl) (λ e. refl) (λ p e. refl) refl
+
+look_counts-unplaced : (es : List PlacedEntry) → look_counts 0 (map unplaced es) ≡ look_counts 0 es
+look_counts-unplaced = look_counts-changed unplaced (λ e. refl) (λ e. refl) (λ p e. refl) refl 0
+
+-- an entry with its label is the entry that is placed where it is
+its_label : (e : PlacedEntry) → HasItsBytes e → e ≡ placed_at (e.entry, (e.position, e.looked))
+its_label e has = ap (λ bytes. record e { label = bytes }) has
+
+all_unplaced : (es : List PlacedEntry) → All HasItsBytes es → map unplaced es ≡ map unplaced (labelled (map (λ (e : PlacedEntry). e.entry) es))
+all_unplaced [] has = refl
+all_unplaced (e ∷ es) has =
+    let rest = map unplaced (labelled (map (λ (x : PlacedEntry). x.entry) es)) in
+    ap (λ xs. unplaced e ∷ xs) (all_unplaced es (All-tail HasItsBytes e es has))
+    ∙ ap (λ x. unplaced x ∷ rest) (its_label e (All-head HasItsBytes e es has))
+
+-- the positions of entries, each with its count
+abbrev places : List PlacedEntry → List (ℕ × ℕ)
+places es = zip (map (λ (e : PlacedEntry). e.position) es) (map (λ (e : PlacedEntry). e.looked) es)
+
+all_placed : (es : List PlacedEntry) → All HasItsBytes es → es ≡ map placed_at (zip (map (λ (e : PlacedEntry). e.entry) es) (places es))
+all_placed [] has = refl
+all_placed (e ∷ es) has =
+    let rest = map placed_at (zip (map (λ (x : PlacedEntry). x.entry) es) (places es)) in
+    ap (λ xs. e ∷ xs) (all_placed es (All-tail HasItsBytes e es has)) ∙ ap (λ x. x ∷ rest) (its_label e (All-head HasItsBytes e es has))
+
+-- entries that are placed are the placed entries of the line
+pub placed_are : (es : List LineAnnotation) (placed : List PlacedEntry) → ArePlaced es placed → placed ≡ placed_of es
+placed_are es placed are =
+    let entry : PlacedEntry → LineAnnotation = λ e. e.entry in
+    let position : PlacedEntry → ℕ = λ e. e.position in
+    let count : PlacedEntry → ℕ = λ e. e.looked in
+    let ordered = ordered_by is_placed_before es in
+    let bytes = all_unplaced placed are.bytes in
+    let alike : line_positions placed ≡ line_positions (labelled (map entry placed)) = sym (line_positions-unplaced placed)
+    ∙ ap line_positions bytes ∙ line_positions-unplaced (labelled (map entry placed)) in
+    let counted : look_counts 0 placed ≡ look_counts 0 (labelled (map entry placed)) = sym (look_counts-unplaced placed)
+    ∙ ap (look_counts 0) bytes ∙ look_counts-unplaced (labelled (map entry placed)) in
+    let at : map position placed ≡ line_positions (labelled ordered) = are.positions_are ∙ alike ∙ ap (λ xs. line_positions (labelled xs)) are.order in
+    let counts : map count placed ≡ look_counts 0 (labelled ordered) = are.looked_are ∙ counted ∙ ap (λ xs. look_counts 0 (labelled xs)) are.order in
+    all_placed placed are.bytes ∙ ap (λ xs. map placed_at (zip xs (places placed))) are.order
+    ∙ ap (λ ps. map placed_at (zip ordered (zip ps (map count placed)))) at
+    ∙ ap (λ ns. map placed_at (zip ordered (zip (line_positions (labelled ordered)) ns))) counts ∙ sym (placed_of-at es)
