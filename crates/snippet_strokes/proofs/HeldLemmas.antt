@@ -15,7 +15,7 @@ use Rattle.snippet_parts.specs.declared.entries.LineAnnotation.{LineAnnotation}
 use Rattle.snippet_grid.specs.Layout.{Layout}
 use Rattle.snippet_labels.specs.declared.positions.PlacedEntry.{PlacedEntry}
 use Rattle.snippet_labels.specs.PlacedEntries.{label_text, plain_entry}
-use Rattle.snippet_strokes.specs.Painting.{is_painted_before, mark_of, marks_of, painting_order}
+use Rattle.snippet_strokes.specs.Painting.{is_painted_before, drawn_mark, marks_of, painting_order}
 use Rattle.snippet_labels.specs.Positions.{ArePlaced, HasItsBytes, are_starts, is_placed_before, line_positions, look_counts, placed_at, placed_of}
 use Rattle.snippet_labels.specs.Positions.{unplaced}
 use Rattle.snippet_labels.proofs.PlacedLemmas.{are_starts-changed, line_positions-changed, look_counts-changed}
@@ -57,7 +57,7 @@ painting_order-held es = sym (map-ordered_by held (λ e f. is_painted_before e.e
 
 -- and so are the marks
 pub marks_of-held : (layout : Layout) (row : ℕ) (es : List PlacedEntry) → marks_of layout row (map held es) ≡ marks_of layout row es
-marks_of-held layout row es = flat_map-map (mark_of layout row) held es
+marks_of-held layout row es = flat_map-map (drawn_mark layout row) held es
 
 -- ---- placed entries are those of the value
 
