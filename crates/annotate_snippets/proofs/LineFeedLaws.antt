@@ -44,7 +44,7 @@ use Rattle.snippet_strokes.specs.LookedCuts.{cuts_of}
 use Rattle.snippet_labels.specs.PlacedEntries.{shifted}
 use Rattle.snippet_labels.proofs.LabelWords.{label_text}
 use Rattle.snippet_strokes.proofs.LineFacts.{AreLineRows, AreOwnRows, StrokesPainted}
-use Rattle.snippet_strokes.specs.Painting.{first_glyph, mark_end, painting_order, mark_of, marks_of, stroke_role}
+use Rattle.snippet_strokes.specs.Painting.{first_glyph, mark_end, painting_order, drawn_mark, marks_of, stroke_role}
 use Rattle.snippet_strokes.specs.Drawing.{row_count}
 use Rattle.snippet_labels.specs.Positions.{has_label}
 use Rattle.snippet_strokes.specs.SourceRows.{bare_row}
@@ -181,9 +181,9 @@ module _ (layout : Layout) where
 
   marks_plain : (row : ℕ) (es : _) → All IsPlainWrite (marks_of layout row es)
   marks_plain row es =
-      All-flat_map IsPlainWrite (mark_of layout row) es (λ k d within. of_entry (get_or es k d))
+      All-flat_map IsPlainWrite (drawn_mark layout row) es (λ k d within. of_entry (get_or es k d))
     where
-      of_entry : (e : _) → All IsPlainWrite (mark_of layout row e)
+      of_entry : (e : _) → All IsPlainWrite (drawn_mark layout row e)
       of_entry e =
           let from : ℕ = layout.code + e.entry.start.display in
           let to : ℕ = layout.code + mark_end e in

@@ -20,7 +20,7 @@ use Rattle.snippet_labels.specs.declared.positions.PlacedEntry.{PlacedEntry}
 use Rattle.snippet_labels.specs.PlacedEntries.{HasPlace, is_end_part}
 use Rattle.snippet_labels.specs.Positions.{HasItsLabel, has_label, has_stem, label_place, takes_space}
 use Rattle.snippet_strokes.specs.Apart.{FitsBefore, StandApart, free_before, reach, strokes_apart, strokes_of_part}
-use Rattle.snippet_strokes.specs.Painting.{is_painted_before, mark_end, mark_of, marks_of, painting_order, first_glyph, stroke_role}
+use Rattle.snippet_strokes.specs.Painting.{is_painted_before, mark_end, drawn_mark, marks_of, painting_order, first_glyph, stroke_role}
 use Rattle.snippet_strokes.specs.Strokes.{connector_of, connectors_of, corner_of, corners_of, label_of, labels_of}
 use Rattle.snippet_strokes.proofs.StrokeWords.{connector_by, corner_by, label_write}
 use Rattle.snippet_strokes.specs.Strokes.{is_stem_covered, drawn_strokes, stem_of, stems_of}
@@ -31,7 +31,7 @@ use Rattle.snippet_strokes.proofs.LabelWrites.{All-label_of}
 use Rattle.snippet_strokes.proofs.PaintOrder.{IsPermutation-painting_order}
 use Rattle.snippet_strokes.proofs.SwapLemmas.{BeginsFrom, EndsBy, move_all}
 use Rattle.snippet_strokes.proofs.StrokeWrites.{marks_painted, under_painted}
-use Rattle.snippet_strokes.proofs.WriteLemmas.{mark_of-none, painted-append}
+use Rattle.snippet_strokes.proofs.WriteLemmas.{drawn_mark-none, painted-append}
 
 -- ---- where the strokes of an entry stand
 
@@ -107,7 +107,7 @@ All-cond P true ws holds = holds refl
 All-cond P false ws holds = All-nil P
 
 module _ (layout : Layout) (row count : ℕ) where
-  mark_within : (e : PlacedEntry) → All (Within (layout.code + e.entry.start.display) (layout.code + mark_end e)) (mark_of layout row e)
+  mark_within : (e : PlacedEntry) → All (Within (layout.code + e.entry.start.display) (layout.code + mark_end e)) (drawn_mark layout row e)
   mark_within e =
       let from : ℕ = layout.code + e.entry.start.display in
       let to : ℕ = layout.code + mark_end e in
@@ -186,7 +186,8 @@ free_le e free fits place = elim (cases_Bool (takes_space e)) [
 
 module _ (layout : Layout) (row count : ℕ) where
   begins_free : (e : PlacedEntry) (free : ℕ) → FitsBefore free e → HasPlace e.entry → HasItsLabel e
-      → All (BeginsFrom (layout.code + free_before e free)) (mark_of layout row e) × All (BeginsFrom (layout.code + free_before e free)) (label_of layout row e)
+      → All (BeginsFrom (layout.code + free_before e free)) (drawn_mark layout row e)
+      × All (BeginsFrom (layout.code + free_before e free)) (label_of layout row e)
   begins_free e free fits place its =
       let code : ℕ = layout.code in
       let start : ℕ = e.entry.start.display in
@@ -196,27 +197,27 @@ module _ (layout : Layout) (row count : ℕ) where
       elim (cases_Bool (takes_space e)) [
         | inl spaced ↦
             let low : code + free_before e free ≤ code = omega (arith, free_space e free spaced) in (
-              begins (code + start) (code + mark_end e) (code + free_before e free) (mark_of layout row e) (omega (arith, low)) marks,
+              begins (code + start) (code + mark_end e) (code + free_before e free) (drawn_mark layout row e) (omega (arith, low)) marks,
               begins (code + end + 1) (code + free) (code + free_before e free) (label_of layout row e) (omega (arith, low)) labels,
             )
         | inr plain ↦ elim (cases_Bool (reach e == 0)) [
           | inl empty ↦
               let bare : reach e ≡ 0 = eqb-true (reach e) 0 empty in
-              let none : mark_of layout row e ≡ [] = mark_of-none layout row e (omega (arith, bare, mark_end_reach e fits.position)) in (
+              let none : drawn_mark layout row e ≡ [] = drawn_mark-none layout row e (omega (arith, bare, mark_end_reach e fits.position)) in (
                 subst (All (BeginsFrom (code + free_before e free))) (sym none) (All-nil (BeginsFrom (code + free_before e free))),
                 All-label_of (BeginsFrom (code + free_before e free)) layout row e (λ has. absurd (omega (arith, bare, reach_labelled e has))),
               )
           | inr some ↦
               let at : free_before e free ≡ start = free_plain e free plain ∙ ap (λ b. cond b free start) some in (
-                begins (code + start) (code + mark_end e) (code + free_before e free) (mark_of layout row e) (omega (arith, at)) marks,
+                begins (code + start) (code + mark_end e) (code + free_before e free) (drawn_mark layout row e) (omega (arith, at)) marks,
                 begins (code + end + 1) (code + free) (code + free_before e free) (label_of layout row e) (omega (arith, at, place.ordered)) labels,
               )
         ]
       ]
 
-  mark_ends : (e : PlacedEntry) (free : ℕ) → FitsBefore free e → All (EndsBy (layout.code + free)) (mark_of layout row e)
+  mark_ends : (e : PlacedEntry) (free : ℕ) → FitsBefore free e → All (EndsBy (layout.code + free)) (drawn_mark layout row e)
   mark_ends e free fits =
-      ends (layout.code + e.entry.start.display) (layout.code + mark_end e) (layout.code + free) (mark_of layout row e)
+      ends (layout.code + e.entry.start.display) (layout.code + mark_end e) (layout.code + free) (drawn_mark layout row e)
       (omega (arith, mark_end_reach e fits.position, fits.ends)) (mark_within layout row count e)
 
   label_ends : (e : PlacedEntry) (free : ℕ) → FitsBefore free e → HasItsLabel e → All (EndsBy (layout.code + free)) (label_of layout row e)
@@ -229,20 +230,20 @@ module _ (layout : Layout) (row count : ℕ) where
       All-weaker (EndsBy (layout.code + low)) (EndsBy (layout.code + high)) (λ w by. omega (arith, le, by)) ws
 
   marks_end : (placed : List PlacedEntry) (free : ℕ) → StandApart free placed → All (λ e. HasPlace e.entry) placed
-      → All (λ f. All (EndsBy (layout.code + free)) (mark_of layout row f)) placed
-  marks_end [] free apart places = All-nil (λ f. All (EndsBy (layout.code + free)) (mark_of layout row f))
+      → All (λ f. All (EndsBy (layout.code + free)) (drawn_mark layout row f)) placed
+  marks_end [] free apart places = All-nil (λ f. All (EndsBy (layout.code + free)) (drawn_mark layout row f))
   marks_end (e ∷ left) free apart places =
-      let P : ℕ → PlacedEntry → Type 0 = λ n f. All (EndsBy (layout.code + n)) (mark_of layout row f) in
+      let P : ℕ → PlacedEntry → Type 0 = λ n f. All (EndsBy (layout.code + n)) (drawn_mark layout row f) in
       let le : free_before e free ≤ free = free_le e free apart.0 (All-head (λ e. HasPlace e.entry) e left places) in
       All-cons (P free) e left (mark_ends e free apart.0)
-      (All-weaker (P (free_before e free)) (P free) (λ f by. farther (free_before e free) free (mark_of layout row f) le by) left
+      (All-weaker (P (free_before e free)) (P free) (λ f by. farther (free_before e free) free (drawn_mark layout row f) le by) left
       (marks_end left (free_before e free) apart.1 (All-tail (λ e. HasPlace e.entry) e left places)))
 
-  all_marks : (n : ℕ) (es : List PlacedEntry) → All (λ f. All (EndsBy n) (mark_of layout row f)) es → All (EndsBy n) (marks_of layout row es)
+  all_marks : (n : ℕ) (es : List PlacedEntry) → All (λ f. All (EndsBy n) (drawn_mark layout row f)) es → All (EndsBy n) (marks_of layout row es)
   all_marks n [] each = All-nil (EndsBy n)
   all_marks n (e ∷ es) each =
-      All-append (EndsBy n) (mark_of layout row e) (marks_of layout row es) (All-head (λ f. All (EndsBy n) (mark_of layout row f)) e es each)
-      (all_marks n es (All-tail (λ f. All (EndsBy n) (mark_of layout row f)) e es each))
+      All-append (EndsBy n) (drawn_mark layout row e) (marks_of layout row es) (All-head (λ f. All (EndsBy n) (drawn_mark layout row f)) e es each)
+      (all_marks n es (All-tail (λ f. All (EndsBy n) (drawn_mark layout row f)) e es each))
 
   labels_end : (placed : List PlacedEntry) (free : ℕ) → StandApart free placed → All (λ e. HasPlace e.entry) placed → All HasItsLabel placed
       → All (EndsBy (layout.code + free)) (labels_of layout row placed)
@@ -258,14 +259,14 @@ module _ (layout : Layout) (row count : ℕ) where
 
   -- a mark right of others may be painted first, wherever its entry is put among theirs
   marks_put : (n : ℕ) (before : PlacedEntry → PlacedEntry → Bool) (e : PlacedEntry) (fs : List PlacedEntry) (rows : List (List Cell))
-      → All (BeginsFrom n) (mark_of layout row e) → All (λ f. All (EndsBy n) (mark_of layout row f)) fs
-      → painted (marks_of layout row (put_in before e fs)) rows ≡ painted (marks_of layout row fs) (painted (mark_of layout row e) rows)
-  marks_put n before e [] rows begin each = ap (λ ws. painted ws rows) (append-nil (mark_of layout row e))
+      → All (BeginsFrom n) (drawn_mark layout row e) → All (λ f. All (EndsBy n) (drawn_mark layout row f)) fs
+      → painted (marks_of layout row (put_in before e fs)) rows ≡ painted (marks_of layout row fs) (painted (drawn_mark layout row e) rows)
+  marks_put n before e [] rows begin each = ap (λ ws. painted ws rows) (append-nil (drawn_mark layout row e))
   marks_put n before e (f ∷ fs) rows begin each =
-      let one : List Write = mark_of layout row e in
-      let two : List Write = mark_of layout row f in
+      let one : List Write = drawn_mark layout row e in
+      let two : List Write = drawn_mark layout row f in
       let rest : List Write = marks_of layout row fs in
-      let P : PlacedEntry → Type 0 = λ f. All (EndsBy n) (mark_of layout row f) in
+      let P : PlacedEntry → Type 0 = λ f. All (EndsBy n) (drawn_mark layout row f) in
       let here : painted rest (painted two (painted one rows)) ≡ painted (two ++ rest) (painted one rows) = sym (painted-append two rest (painted one rows)) in
       elim (cases_Bool (before f e)) [
         | inl over ↦
@@ -284,12 +285,12 @@ module _ (layout : Layout) (row count : ℕ) where
   marks_any (e ∷ left) free apart places its rows =
       let place = All-head (λ e. HasPlace e.entry) e left places in
       let n : ℕ = layout.code + free_before e free in
-      let P : PlacedEntry → Type 0 = λ f. All (EndsBy n) (mark_of layout row f) in
+      let P : PlacedEntry → Type 0 = λ f. All (EndsBy n) (drawn_mark layout row f) in
       let those = All-tail (λ e. HasPlace e.entry) e left places in
       marks_put n (λ e f. is_painted_before e.entry f.entry) e (painting_order left) rows (begins_free e free apart.0 place (All-head HasItsLabel e left its)).0
       (All-permutation P left (painting_order left) (IsPermutation-painting_order left) (marks_end left (free_before e free) apart.1 those))
-      ∙ marks_any left (free_before e free) apart.1 those (All-tail HasItsLabel e left its) (painted (mark_of layout row e) rows)
-      ∙ sym (painted-append (mark_of layout row e) (marks_of layout row left) rows)
+      ∙ marks_any left (free_before e free) apart.1 those (All-tail HasItsLabel e left its) (painted (drawn_mark layout row e) rows)
+      ∙ sym (painted-append (drawn_mark layout row e) (marks_of layout row left) rows)
 
   stems_none : (placed : List PlacedEntry) (free : ℕ) → StandApart free placed → stems_of layout row placed ≡ []
   stems_none [] free apart = refl
@@ -318,8 +319,8 @@ module _ (layout : Layout) (row count : ℕ) where
           | inl has ↦ absurd (omega (arith, bare, reach_labelled e has))
           | inr none ↦ ap (λ b. cond b (label_write layout (row + 1) e ∷ []) []) none
         ] in
-        let unmarked : mark_of layout (row + 1) e ≡ [] =
-        mark_of-none layout (row + 1) e (omega (arith, bare, mark_end_reach e apart.0.position)) in (
+        let unmarked : drawn_mark layout (row + 1) e ≡ [] =
+        drawn_mark-none layout (row + 1) e (omega (arith, bare, mark_end_reach e apart.0.position)) in (
           ap (λ ws. ws ++ connectors_of layout (row + 1) left) (no_connector layout (row + 1) count e e.entry.annotation_type plain) ∙ rest.0,
           ap (λ ws. ws ++ corners_of layout row count left) (no_corner layout row count e e.entry.annotation_type plain) ∙ rest.1,
           ap (λ ws. ws ++ labels_of layout (row + 1) left) unlabelled ∙ rest.2,
@@ -329,12 +330,12 @@ module _ (layout : Layout) (row count : ℕ) where
 
   -- the strokes of one entry, one list after another
   part_painted : (e : PlacedEntry) (rows : List (List Cell)) → painted (strokes_of_part layout row count (e ∷ [])) rows
-      ≡ painted (label_of layout (row + 1) e) (painted (mark_of layout (row + 1) e)
+      ≡ painted (label_of layout (row + 1) e) (painted (drawn_mark layout (row + 1) e)
       (painted (connector_of layout (row + 1) e) (painted (corner_of layout row count e) rows)))
   part_painted e rows =
       let bars : List Write = corner_of layout row count e in
       let line : List Write = connector_of layout (row + 1) e in
-      let marks : List Write = mark_of layout (row + 1) e in
+      let marks : List Write = drawn_mark layout (row + 1) e in
       let labels : List Write = label_of layout (row + 1) e in
       ap (λ ws. painted (ws ++ (line ++ []) ++ (marks ++ []) ++ (labels ++ [])) rows) (append-nil bars)
       ∙ ap (λ ws. painted (bars ++ ws ++ (marks ++ []) ++ (labels ++ [])) rows) (append-nil line)
@@ -352,7 +353,7 @@ module _ (layout : Layout) (row count : ℕ) where
   together (e ∷ left) free apart places its rows =
       let bars : List Write = corner_of layout row count e in
       let line : List Write = connector_of layout (row + 1) e in
-      let mark : List Write = mark_of layout (row + 1) e in
+      let mark : List Write = drawn_mark layout (row + 1) e in
       let label : List Write = label_of layout (row + 1) e in
       let lines : List Write = connectors_of layout (row + 1) left in
       let corners : List Write = corners_of layout row count left in

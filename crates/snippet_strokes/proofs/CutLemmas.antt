@@ -35,7 +35,7 @@ use Rattle.snippet_labels.specs.Positions.{placed_of}
 use Rattle.snippet_strokes.specs.Strokes.{drawn_strokes, stroke_rows}
 use Rattle.snippet_strokes.specs.Writes.{painted}
 use Rattle.snippet_strokes.proofs.StrokeWords.{begun_rows}
-use Rattle.snippet_strokes.proofs.EveryStem.{strokes_painted}
+use Rattle.snippet_strokes.proofs.EveryStroke.{strokes_painted}
 
 -- the cells of the middle of an entry
 abbrev middle_of : Layout → ℕ → LineAnnotation → Stretch

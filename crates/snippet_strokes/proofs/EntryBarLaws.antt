@@ -16,7 +16,7 @@ use Rattle.snippet_parts.specs.declared.entries.LineAnnotationType.TheVariants.{
 use Rattle.snippet_parts.proofs.ShownFacts.{contains-here, contains-there}
 use Rattle.snippet_grid.specs.Layout.{Layout}
 use Rattle.snippet_labels.specs.declared.positions.PlacedEntry.{PlacedEntry}
-use Rattle.snippet_strokes.specs.Painting.{first_glyph, mark_end, mark_of, marks_of, stroke_role}
+use Rattle.snippet_strokes.specs.Painting.{first_glyph, mark_end, drawn_mark, marks_of, stroke_role}
 use Rattle.snippet_strokes.specs.Writes.{Write, glyph_at, painted, stretch_of}
 use Rattle.snippet_strokes.proofs.OneStep.{written_by}
 use Rattle.snippet_strokes.proofs.WriteLemmas.{painted-append}
@@ -147,9 +147,9 @@ module _ (layout : Layout) (bar : Bar) (room : layout.gutter + 2 + bar.depth < l
   -- and marks
   pub marks_right : (r : ℕ) → All (Leaves r) (marks_of layout 1 order)
   marks_right r =
-      All-flat_map (Leaves r) (mark_of layout 1) order (λ k d within. mark (get_or order k d))
+      All-flat_map (Leaves r) (drawn_mark layout 1) order (λ k d within. mark (get_or order k d))
     where
-      mark : (e : PlacedEntry) → All (Leaves r) (mark_of layout 1 e)
+      mark : (e : PlacedEntry) → All (Leaves r) (drawn_mark layout 1 e)
       mark e =
           let from : ℕ = layout.code + e.entry.start.display in
           let to : ℕ = layout.code + mark_end e in

@@ -12,9 +12,8 @@ use Rattle.snippet_labels.specs.declared.positions.PlacedEntry.{PlacedEntry}
 use Rattle.snippet_labels.specs.Positions.{has_stem}
 use Rattle.snippet_style.specs.Cell.{Cell, SPACE, text_cells, written}
 use Rattle.snippet_strokes.specs.declared.stem_rows.Stem.{Stem}
-use Rattle.snippet_strokes.specs.Painting.{mark_of}
 use Rattle.snippet_strokes.specs.StemRows.{cell_of_stem, stem_down, stem_from}
-use Rattle.snippet_strokes.specs.Strokes.{connector_of, corner_of, drawn_strokes, is_stem_covered, label_of, line_strokes, stem_of, stems_of}
+use Rattle.snippet_strokes.specs.Strokes.{is_stem_covered, stem_of, stems_of}
 use Rattle.snippet_strokes.specs.Writes.{Write, painted}
 use Rattle.snippet_strokes.proofs.OneStep.{written_by}
 use Rattle.snippet_strokes.proofs.StemRowLemmas.{down_rows, move_rows}
@@ -24,7 +23,7 @@ use Rattle.snippet_strokes.proofs.WriteLemmas.{painted-append}
 -- ---- one write over another
 
 -- what was written at a place is gone where something else is
-rewritten : {X : Type 0} (pad : X) (xs : List X) (at : ℕ) (x y : X) → written pad (written pad xs at (x ∷ [])) at (y ∷ []) ≡ written pad xs at (y ∷ [])
+pub rewritten : {X : Type 0} (pad : X) (xs : List X) (at : ℕ) (x y : X) → written pad (written pad xs at (x ∷ [])) at (y ∷ []) ≡ written pad xs at (y ∷ [])
 rewritten pad xs at x y =
     same_lists _ _ (unfold written in grind (arith, places)) (λ i d h. unfold written in grind (arith, places))
 
@@ -99,7 +98,7 @@ hidden layout row e (next ∷ later) rows covered =
     far = leb-true e.position next.position places_too.1
 
 -- the stems that none covers are drawn as all are
-stems_painted : (layout : Layout) (row : ℕ) (es : List PlacedEntry) (rows : List (List Cell))
+pub stems_painted : (layout : Layout) (row : ℕ) (es : List PlacedEntry) (rows : List (List Cell))
     → painted (flat_map (stem_of layout row) es) rows ≡ painted (stems_of layout row es) rows
 stems_painted layout row [] rows = refl
 stems_painted layout row (e ∷ later) rows =
@@ -112,17 +111,3 @@ stems_painted layout row (e ∷ later) rows =
       | inr seen ↦ stems_painted layout row later (painted own rows) ∙ sym (painted-append own drawn rows)
           ∙ ap (λ b. painted (cond b [] own ++ drawn) rows) (sym seen)
     ]
-
--- so all strokes of a line are drawn
-pub strokes_painted : (layout : Layout) (row count : ℕ) (placed order : List PlacedEntry) (rows : List (List Cell))
-    → painted (line_strokes layout row count placed order) rows ≡ painted (drawn_strokes layout row count placed order) rows
-strokes_painted layout row count placed order rows =
-    let bars : List Write = flat_map (connector_of layout (row + 1)) placed ++ flat_map (corner_of layout row count) placed in
-    let all : List Write = flat_map (stem_of layout (row + 1)) placed in
-    let drawn : List Write = stems_of layout (row + 1) placed in
-    let labels : List Write = flat_map (label_of layout (row + 1)) placed in
-    let marks : List Write = flat_map (mark_of layout (row + 1)) order in
-    painted-append (bars ++ all ++ labels) marks rows
-    ∙ ap (painted marks) (painted-append (bars ++ all) labels rows ∙ ap (painted labels) (painted-append bars all rows
-    ∙ stems_painted layout (row + 1) placed (painted bars rows) ∙ sym (painted-append bars drawn rows)) ∙ sym (painted-append (bars ++ drawn) labels rows))
-    ∙ sym (painted-append (bars ++ drawn ++ labels) marks rows)

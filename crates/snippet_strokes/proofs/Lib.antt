@@ -17,7 +17,9 @@ pub mod DrawnCells
 pub mod ElisionLemmas
 pub mod EndBarLaws
 pub mod EntryBarLaws
+pub mod EveryMark
 pub mod EveryStem
+pub mod EveryStroke
 pub mod Examples
 pub mod HangingLemmas
 pub mod PlacedAre

@@ -13,7 +13,7 @@ use Rattle.snippet_parts.specs.declared.entries.LineAnnotationType.{LineAnnotati
 use Rattle.snippet_parts.specs.declared.entries.LineAnnotationType.TheVariants.{Singleline, MultilineStart, MultilineEnd, MultilineLine}
 use Rattle.snippet_grid.specs.Layout.{Layout}
 use Rattle.snippet_labels.specs.declared.positions.PlacedEntry.{PlacedEntry}
-use Rattle.snippet_strokes.specs.Painting.{first_glyph, mark_end, mark_of, marks_of, stroke_role}
+use Rattle.snippet_strokes.specs.Painting.{first_glyph, mark_end, drawn_mark, marks_of, stroke_role}
 use Rattle.snippet_strokes.specs.Drawing.{foot_glyph}
 use Rattle.snippet_labels.specs.Positions.{has_label, has_stem, label_place}
 use Rattle.snippet_strokes.specs.Strokes.{connector_of, connectors_of, corner_of, corners_of, is_stem_covered}
@@ -206,7 +206,7 @@ module _ (layout : Layout) (n : ℕ) where
 
   marks-lowered : (row : ℕ) (es : List PlacedEntry) → marks_of layout (n + row) es ≡ map (lowered n) (marks_of layout row es)
   marks-lowered row es =
-      flat_map-lowered n (mark_of layout (n + row)) (mark_of layout row) (λ e.
+      flat_map-lowered n (drawn_mark layout (n + row)) (drawn_mark layout row) (λ e.
       either e (nat_lt (layout.code + e.entry.start.display) (layout.code + mark_end e))) es
     where
       from : PlacedEntry → ℕ

@@ -11,17 +11,17 @@ use Rattle.snippet_style.specs.Glyphs.{strokes_of}
 use Rattle.snippet_style.specs.declared.role.ElementStyle.{ElementStyle}
 use Rattle.snippet_grid.specs.Layout.{Layout}
 use Rattle.snippet_labels.specs.declared.positions.PlacedEntry.{PlacedEntry}
-use Rattle.snippet_strokes.specs.Painting.{first_glyph, mark_end, mark_of, marks_of, painting_order, stroke_role}
+use Rattle.snippet_strokes.specs.Painting.{first_glyph, mark_end, drawn_mark, marks_of, painting_order, stroke_role}
 use Rattle.snippet_strokes.proofs.PaintedMarks.{AreMarked, Painted, Paints, mark_cell}
 use Rattle.snippet_strokes.specs.Writes.{Write, glyph_at, painted, stretch_of}
 use Rattle.snippet_strokes.proofs.LineLemmas.{text_cells-replicate}
 use Rattle.snippet_strokes.proofs.PaintOrder.{IsPaintingOrder-painting_order, IsPermutation-painting_order}
 use Rattle.snippet_strokes.proofs.PaintLemmas.{Painted-next, Painted-none, Paints-more, Paints-none, Paints-past, Paints-rest, first_cell_is, other_cell_is}
-use Rattle.snippet_strokes.proofs.WriteLemmas.{flat_map-take_more, less, mark_of-none, painted-append, stretch_of-none}
+use Rattle.snippet_strokes.proofs.WriteLemmas.{flat_map-take_more, less, drawn_mark-none, painted-append, stretch_of-none}
 
 -- a mark that takes some cells paints the first, and then the rest
 paints_some : (layout : Layout) (row : ℕ) (e : PlacedEntry) (old : List (List Cell)) → e.entry.start.display < mark_end e
-    → Paints old (painted (mark_of layout row e) old) row (layout.code + e.entry.start.display) (layout.code + mark_end e) (mark_cell layout e)
+    → Paints old (painted (drawn_mark layout row e) old) row (layout.code + e.entry.start.display) (layout.code + mark_end e) (mark_cell layout e)
 paints_some layout row e old some =
     let from = layout.code + e.entry.start.display in
     let to = layout.code + mark_end e in
@@ -39,7 +39,7 @@ paints_some layout row e old some =
     let begun : Paints old mid row from (from + 1) marks = Paints-more old old mid row from from (from + 1) marks (Paints-none old row from marks) one
     (omega arith) refl in
     let is_line = other_cell_is layout e glyph (is_primary e.entry.kind) role refl refl refl in
-    let is : painted (mark_of layout row e) old ≡ new = ap (λ b. painted
+    let is : painted (drawn_mark layout row e) old ≡ new = ap (λ b. painted
     (cond b (glyph_at row from first role ∷ stretch_of row (from + 1) to glyph role) []) old) (less from to (omega (arith, some))) in
     subst (λ (rows : List (List Cell)). Paints old rows row from to marks) (sym is) (elim (cases_lt (from + 1) to) [
       | inl more ↦
@@ -56,14 +56,14 @@ paints_some layout row e old some =
     ])
 
 pub Paints-mark : (layout : Layout) (row : ℕ) (e : PlacedEntry) (old : List (List Cell))
-    → Paints old (painted (mark_of layout row e) old) row (layout.code + e.entry.start.display) (layout.code + mark_end e) (mark_cell layout e)
+    → Paints old (painted (drawn_mark layout row e) old) row (layout.code + e.entry.start.display) (layout.code + mark_end e) (mark_cell layout e)
 Paints-mark layout row e old =
     let from = layout.code + e.entry.start.display in
     let to = layout.code + mark_end e in
     elim (cases_lt e.entry.start.display (mark_end e)) [
       | inl some ↦ paints_some layout row e old some
       | inr none ↦ subst (λ (rows : List (List Cell)). Paints old rows row from to (mark_cell layout e))
-          (sym (ap (λ ws. painted ws old) (mark_of-none layout row e none))) (Paints-past old row from to (mark_cell layout e) (omega (arith, none)))
+          (sym (ap (λ ws. painted ws old) (drawn_mark-none layout row e none))) (Paints-past old row from to (mark_cell layout e) (omega (arith, none)))
     ]
 
 -- so the marks of entries are painted, up to each and in all
@@ -71,7 +71,7 @@ painted_upto : (layout : Layout) (row : ℕ) (es : List PlacedEntry) (d : Placed
     → Painted layout (take i es) row old (painted (marks_of layout row (take i es)) old)
 painted_upto layout row es d old zero within = Painted-none layout row old
 painted_upto layout row es d old (suc i) within =
-    let f : PlacedEntry → List Write = mark_of layout row in
+    let f : PlacedEntry → List Write = drawn_mark layout row in
     let inside : i < length es = omega (arith, within) in
     let e : PlacedEntry = get_or es i d in
     let mid : List (List Cell) = painted (marks_of layout row (take i es)) old in

@@ -14,7 +14,7 @@ use Rattle.snippet_style.specs.declared.glyphs.DecorStyle.{DecorStyle}
 use Rattle.snippet_strokes.proofs.StrokeGlyphs.{of_foot, stems_among}
 use Rattle.snippet_grid.specs.Layout.{Layout}
 use Rattle.snippet_labels.specs.declared.positions.PlacedEntry.{PlacedEntry}
-use Rattle.snippet_strokes.specs.Painting.{first_glyph, mark_end, mark_of, marks_of, stroke_role}
+use Rattle.snippet_strokes.specs.Painting.{first_glyph, mark_end, drawn_mark, marks_of, stroke_role}
 use Rattle.snippet_labels.specs.Positions.{has_label, has_stem, takes_space}
 use Rattle.snippet_strokes.specs.Writes.{Write, glyph_at, painted, stretch_of}
 use Rattle.snippet_strokes.proofs.OneStep.{written_by}
@@ -144,9 +144,9 @@ module _ (layout : Layout) (r c : ℕ) where
   -- marks stand in their own row alone
   marks_beside : (row : ℕ) (order : List PlacedEntry) → row < r → All Q (marks_of layout row order)
   marks_beside row order below =
-      All-flat_map Q (mark_of layout row) order (λ k d within. mark (get_or order k d))
+      All-flat_map Q (drawn_mark layout row) order (λ k d within. mark (get_or order k d))
     where
-      mark : (e : PlacedEntry) → All Q (mark_of layout row e)
+      mark : (e : PlacedEntry) → All Q (drawn_mark layout row e)
       mark e =
           let from : ℕ = layout.code + e.entry.start.display in
           let to : ℕ = layout.code + mark_end e in

@@ -15,7 +15,7 @@ use Rattle.snippet_grid.specs.Layout.{Layout}
 use Rattle.snippet_labels.specs.declared.positions.PlacedEntry.{PlacedEntry}
 use Rattle.snippet_strokes.specs.EntryMarks.{HasBarCell, HasBarCellAt}
 use Rattle.snippet_strokes.specs.Labels.{IsStrokeCell, stroke_glyphs}
-use Rattle.snippet_strokes.specs.Painting.{first_glyph, mark_end, mark_of, marks_of, stroke_role}
+use Rattle.snippet_strokes.specs.Painting.{first_glyph, mark_end, drawn_mark, marks_of, stroke_role}
 use Rattle.snippet_strokes.specs.Drawing.{foot_glyph}
 use Rattle.snippet_labels.specs.Positions.{has_label}
 use Rattle.snippet_strokes.proofs.Reach.{Reaches, cell_of_write}
@@ -130,9 +130,9 @@ module _ (layout : Layout) (r c : ℕ) (right : layout.code ≤ c) where
 
   marks : (row : ℕ) (es : List PlacedEntry) → All Q (marks_of layout row es)
   marks row es =
-      All-flat_map Q (mark_of layout row) es (λ k d within. mark (get_or es k d))
+      All-flat_map Q (drawn_mark layout row) es (λ k d within. mark (get_or es k d))
     where
-      mark : (e : PlacedEntry) → All Q (mark_of layout row e)
+      mark : (e : PlacedEntry) → All Q (drawn_mark layout row e)
       mark e =
           let from : ℕ = layout.code + e.entry.start.display in
           let to : ℕ = layout.code + mark_end e in

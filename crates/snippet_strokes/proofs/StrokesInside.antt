@@ -21,7 +21,7 @@ use Rattle.snippet_strokes.specs.Cuts.{overlapped}
 use Rattle.snippet_strokes.specs.LookedCuts.{cut_row}
 use Rattle.snippet_strokes.specs.LookedCuts.{cuts_of}
 use Rattle.snippet_strokes.specs.Drawing.{HasRows, row_count}
-use Rattle.snippet_strokes.specs.Painting.{first_glyph, mark_end, mark_of, marks_of, painting_order, stroke_role}
+use Rattle.snippet_strokes.specs.Painting.{first_glyph, mark_end, drawn_mark, marks_of, painting_order, stroke_role}
 use Rattle.snippet_strokes.specs.SourceRows.{bare_row}
 use Rattle.snippet_strokes.specs.Strokes.{column_of, connector_of, connectors_of, corner_of, corners_of, label_of}
 use Rattle.snippet_strokes.proofs.StrokeWords.{bar_writes, begun_rows, corner_by}
@@ -73,7 +73,7 @@ module _ (layout : Layout) (count : ℕ) where
             rw (above_zero e.position hung) (omega (arith, rows.label hung has))
       ]
 
-  mark_inside : (e : PlacedEntry) → 1 < count → All Inside (mark_of layout 1 e)
+  mark_inside : (e : PlacedEntry) → 1 < count → All Inside (drawn_mark layout 1 e)
   mark_inside e some =
       let from : ℕ = code_cell layout e.entry.start.display in
       let to : ℕ = code_cell layout (mark_end e) in
@@ -97,7 +97,7 @@ module _ (layout : Layout) (count : ℕ) where
       All-stem_of Inside layout 1 (get_or placed k d) (λ b low. omega (arith, (rows k d within).mark, low))) in
       let labels : All Inside (labels_of layout 1 placed) = All-flat_map Inside (label_of layout 1) placed (λ k d within.
       All-label_of Inside layout 1 (get_or placed k d) (label_inside (get_or placed k d) (rows k d within))) in
-      let marks : All Inside (marks_of layout 1 order) = All-flat_map Inside (mark_of layout 1) order (λ k d within.
+      let marks : All Inside (marks_of layout 1 order) = All-flat_map Inside (drawn_mark layout 1) order (λ k d within.
       mark_inside (get_or order k d) some) in
       All-append Inside (connectors_of layout 1 placed ++ corners_of layout 0 count placed ++ stems_of layout 1 placed ++ labels_of layout 1 placed)
       (marks_of layout 1 order)

@@ -12,7 +12,7 @@ use Rattle.snippet_style.proofs.CellLemmas.{slice_index_or-written_inside}
 use Rattle.snippet_style.specs.Cell.{Cell, SPACE, text_cells, unlinked_cell, written}
 use Rattle.snippet_style.specs.Glyphs.{strokes_of}
 use Rattle.snippet_style.specs.declared.role.ElementStyle.{ElementStyle}
-use Rattle.snippet_strokes.specs.Painting.{first_glyph, mark_end, mark_of, stroke_role}
+use Rattle.snippet_strokes.specs.Painting.{first_glyph, mark_end, drawn_mark, stroke_role}
 use Rattle.snippet_strokes.specs.Writes.{Write, glyph_at, painted, stretch_of}
 use Rattle.snippet_strokes.proofs.WriteLemmas.{less, stretch_of-none}
 
@@ -112,7 +112,7 @@ stretch_whole row from to glyph role rows some =
 pub mark_whole : (layout : Layout) (row : ℕ) (e : PlacedEntry) (first underline : ℕ) (role : ElementStyle) (end : ℕ) (old new : List (List Cell))
     → e.entry.start.display < mark_end e → end ≡ mark_end e → first ≡ first_glyph layout.decor e
     → underline ≡ (strokes_of layout.decor (is_primary e.entry.kind)).underline → role ≡ stroke_role e → first ≡ underline
-    → new ≡ painted (stretch_of row (layout.code + e.entry.start.display) (layout.code + end) first role) old → new ≡ painted (mark_of layout row e) old
+    → new ≡ painted (stretch_of row (layout.code + e.entry.start.display) (layout.code + end) first role) old → new ≡ painted (drawn_mark layout row e) old
 mark_whole layout row e first underline role end old new some is_end is_first is_underline is_role same drawn =
     let from = layout.code + e.entry.start.display in
     let to = layout.code + mark_end e in

@@ -12,7 +12,7 @@ use Rattle.snippet_grid.specs.Layout.{Layout}
 use Rattle.snippet_labels.specs.declared.positions.PlacedEntry.{PlacedEntry}
 use Rattle.snippet_style.specs.Glyphs.{strokes_of}
 use Rattle.snippet_model.specs.AnnotationKind.{is_primary}
-use Rattle.snippet_strokes.specs.Painting.{first_glyph, mark_end, mark_of, stroke_role}
+use Rattle.snippet_strokes.specs.Painting.{first_glyph, mark_end, drawn_mark, stroke_role}
 use Rattle.snippet_strokes.specs.Writes.{Write, glyph_at, painted, stretch_of}
 use Rattle.snippet_strokes.proofs.OneStep.{written_by}
 
@@ -57,8 +57,8 @@ stretch_painted row from to glyph role cs old new some is writes =
     writes ∙ ap (λ xs. cells_written old row from (text_cells role xs)) is ∙ sym (ap (λ b. painted (cond b (w ∷ []) []) old) (less from to some))
 
 -- an entry whose mark has no cell
-pub mark_of-none : (layout : Layout) (row : ℕ) (e : PlacedEntry) → mark_end e ≤ e.entry.start.display → mark_of layout row e ≡ []
-mark_of-none layout row e past =
+pub drawn_mark-none : (layout : Layout) (row : ℕ) (e : PlacedEntry) → mark_end e ≤ e.entry.start.display → drawn_mark layout row e ≡ []
+drawn_mark-none layout row e past =
     let from = layout.code + e.entry.start.display in
     let to = layout.code + mark_end e in
     let ws : List Write = glyph_at row from (first_glyph layout.decor e) (stroke_role e) ∷ stretch_of row (from + 1) to
@@ -71,7 +71,7 @@ pub mark_painted : (layout : Layout) (row : ℕ) (e : PlacedEntry) (first underl
     → underline ≡ (strokes_of layout.decor (is_primary e.entry.kind)).underline → role ≡ stroke_role e
     → mid ≡ cells_written old row (layout.code + e.entry.start.display) (text_cells role (first ∷ []))
     → new ≡ painted (stretch_of row (layout.code + e.entry.start.display + 1) (layout.code + end) underline role) mid
-    → new ≡ painted (mark_of layout row e) old
+    → new ≡ painted (drawn_mark layout row e) old
 mark_painted layout row e first underline role end old mid new some is_end is_first is_underline is_role begins continues =
     let from = layout.code + e.entry.start.display in
     let to = layout.code + mark_end e in

@@ -1,5 +1,5 @@
 -- How the marks of a line are painted, one over another.
-use Rattle.std.specs.Prelude.{ℕ, ◌+◌, ◌==◌, ◌&&◌, ◌||◌, nat_lt, not, Bool, List, [], ◌∷◌}
+use Rattle.std.specs.Prelude.{ℕ, ◌+◌, ◌==◌, ◌&&◌, ◌||◌, nat_lt, not, Bool, List, [], ◌∷◌, nat_le, ◌++◌}
 use Rattle.std.specs.Prelude.{if◌then◌else◌}
 use Rattle.snippet_lines.specs.OrderedBy.{ordered_by}
 use Rattle.snippet_parts.specs.declared.entries.LineAnnotation.{LineAnnotation}
@@ -24,6 +24,25 @@ is_painted_before e f =
 abbrev pub painting_order : List PlacedEntry → List PlacedEntry
 painting_order placed = ordered_by (λ e f. is_painted_before e.entry f.entry) placed
 
+-- the role of an entry's strokes
+abbrev pub stroke_role : PlacedEntry → ElementStyle
+stroke_role e = underline_role (is_primary e.entry.kind)
+
+-- ---- marks
+
+-- the mark of an entry: underlines below the columns that it covers, and at its first column, even where it covers none, a glyph of its own,
+-- unless it ends left of that. The glyph of a start or an end is the corner where the line to its bar meets the mark, or where a stem leads down to that line the stem's top;
+-- that of another entry the top of the stem that its label hangs from, if it has one
+abbrev pub mark_of : Layout → ℕ → PlacedEntry → List Write
+mark_of layout row e =
+    let strokes = strokes_of layout.decor (is_primary e.entry.kind) in
+    let from = code_cell layout e.entry.start.display in
+    let own = if takes_space e then (if has_stem e then strokes.end_down else strokes.end_flat) else strokes.label_start in
+    stretch_of row from (code_cell layout e.entry.end.display) strokes.underline (stroke_role e)
+    ++ (if nat_le e.entry.start.display e.entry.end.display && (takes_space e || has_stem e) then glyph_at row from own (stroke_role e) ∷ [] else [])
+
+-- ---- marks, as they are drawn cell by cell
+
 -- the glyph at the first column of an entry's mark: of a start or an end the corner where the line to its bar meets the mark,
 -- or where a stem leads down to that line the stem's top; of another entry the top of the stem that its label hangs from,
 -- or where it has none the underline
@@ -39,15 +58,9 @@ abbrev pub mark_end : PlacedEntry → ℕ
 mark_end e =
     if e.entry.start.display == e.entry.end.display && (takes_space e || has_stem e) then e.entry.end.display + 1 else e.entry.end.display
 
--- the role of an entry's strokes
-abbrev pub stroke_role : PlacedEntry → ElementStyle
-stroke_role e = underline_role (is_primary e.entry.kind)
-
--- ---- marks
-
 -- the mark of an entry, if it takes any cell: its first glyph, and the underline after it
-abbrev pub mark_of : Layout → ℕ → PlacedEntry → List Write
-mark_of layout row e =
+abbrev pub drawn_mark : Layout → ℕ → PlacedEntry → List Write
+drawn_mark layout row e =
     let from = code_cell layout e.entry.start.display in
     let to = code_cell layout (mark_end e) in
     if nat_lt from to then glyph_at row from (first_glyph layout.decor e) (stroke_role e) ∷ stretch_of row (from + 1) to
@@ -55,4 +68,4 @@ mark_of layout row e =
 
 -- the marks of some entries, in the order in which they are painted, as their painter promises them
 abbrev pub marks_of : Layout → ℕ → List PlacedEntry → List Write
-marks_of layout row order = flat_map (mark_of layout row) order
+marks_of layout row order = flat_map (drawn_mark layout row) order

@@ -14,7 +14,7 @@ use Rattle.snippet_parts.specs.declared.entries.LineAnnotation.{LineAnnotation}
 use Rattle.snippet_style.specs.Cell.{Cell}
 use Rattle.snippet_style.specs.Separators.{separator_row}
 use Rattle.snippet_strokes.specs.Drawing.{foot_glyph, row_count}
-use Rattle.snippet_strokes.specs.Painting.{mark_of, painting_order, stroke_role}
+use Rattle.snippet_strokes.specs.Painting.{drawn_mark, mark_of, painting_order, stroke_role}
 use Rattle.snippet_labels.specs.Positions.{has_label, has_stem, label_place, placed_of, is_start_part}
 use Rattle.snippet_strokes.specs.Cuts.{cut_middle, overlapped}
 use Rattle.snippet_strokes.specs.SourceRows.{bare_row}
@@ -120,8 +120,8 @@ abbrev pub strokes_under_marks : Layout → ℕ → ℕ → List PlacedEntry →
 strokes_under_marks layout row count placed =
     connectors_of layout (row + 1) placed ++ corners_of layout row count placed ++ stems_of layout (row + 1) placed ++ labels_of layout (row + 1) placed
 
--- all of them, as they are drawn: the same as all strokes of a line, but the stems that the next one's covers
+-- all of them, as they are drawn: the strokes of a line, but no stem that the next one's covers, and marks cell by cell
 abbrev pub drawn_strokes : Layout → ℕ → ℕ → List PlacedEntry → List PlacedEntry → List Write
 drawn_strokes layout row count placed order =
     flat_map (connector_of layout (row + 1)) placed ++ flat_map (corner_of layout row count) placed ++ stems_of layout (row + 1) placed
-    ++ flat_map (label_of layout (row + 1)) placed ++ flat_map (mark_of layout (row + 1)) order
+    ++ flat_map (label_of layout (row + 1)) placed ++ flat_map (drawn_mark layout (row + 1)) order

@@ -1,7 +1,7 @@
 //! The marks below a line of the source.
 ghost use Rattle.std.specs.Prelude.{◌≡◌, ◌==◌, ◌&&◌, All, OnOk};
 ghost use Rattle.snippet_labels.specs.PlacedEntries as spec;
-ghost use Rattle.snippet_strokes.specs.Painting.{first_glyph, mark_end, painting_order, mark_of, marks_of};
+ghost use Rattle.snippet_strokes.specs.Painting.{first_glyph, mark_end, painting_order, drawn_mark, marks_of};
 ghost use Rattle.snippet_strokes.specs.Writes.{painted};
 ghost use Rattle.snippet_style.specs.Bounds.{HasNext, IsColumn};
 
@@ -87,7 +87,7 @@ pub(crate) fn paint_entry(
 ) -> Result<(), AllocError>
     requires row { HasNext row }
     requires columns { IsColumn placed.now.entry.end.display }
-    ensures painted { OnOk result (buffer.new ≡ painted (mark_of layout row placed.now) buffer.old) }
+    ensures painted { OnOk result (buffer.new ≡ painted (drawn_mark layout row placed.now) buffer.old) }
 {
     let strokes = layout.decor.underline(is_primary(placed.entry.kind));
     let (start, end) = (placed.entry.start.display, mark_end(placed));

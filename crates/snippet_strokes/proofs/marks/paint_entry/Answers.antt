@@ -7,7 +7,7 @@ use Rattle.snippet_strokes.specs.Painting.{mark_end}
 use Rattle.snippet_strokes.specs.Writes.{painted}
 use Rattle.snippet_style.specs.declared.glyphs.Strokes.{Strokes}
 use Rattle.snippet_strokes.proofs.WholeMarks.{mark_whole}
-use Rattle.snippet_strokes.proofs.WriteLemmas.{mark_of-none, mark_painted}
+use Rattle.snippet_strokes.proofs.WriteLemmas.{drawn_mark-none, mark_painted}
 use Rattle.snippet_strokes.proofs.marks.paint_entry.Goals as goal
 
 pub returns-then-end-start : goal.returns-then-end-start
@@ -15,7 +15,7 @@ returns-then-end-start c =
     let placed = c.args.placed.now in
     let is_end : c.mark_end-end.result ≡ mark_end placed = c.mark_end-end.ensures.value in
     record {
-      painted = sym (ap (λ ws. painted ws c.args.buffer.now) (mark_of-none c.args.layout c.args.row placed (omega (arith, c.if-end-start.true, is_end))));
+      painted = sym (ap (λ ws. painted ws c.args.buffer.now) (drawn_mark-none c.args.layout c.args.row placed (omega (arith, c.if-end-start.true, is_end))));
     }
 
 pub returns-then-first-strokes : goal.returns-then-first-strokes

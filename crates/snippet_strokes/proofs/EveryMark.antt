@@ -1,0 +1,211 @@
+-- A mark that is drawn from its first glyph on is its underline, and over it the glyph of its own.
+use Rattle.std.proofs.Common.{◌≡◌, ℕ, suc, ◌+◌, ◌-◌, ◌<◌, ◌≤◌, ◌==◌, ◌&&◌, ◌||◌, nat_le, cond, Bool, true, false, List, [], ◌∷◌, ◌++◌, replicate}
+use Rattle.std.proofs.Common.{inl, inr, refl, sym, ap, ◌∙◌, arith}
+use Rattle.std.specs.List.{flat_map}
+use Rattle.std.proofs.lemmas.Bool.{cases_Bool, cases_lt, or_parts}
+use Rattle.std.proofs.lemmas.Bool.Decides.{nat_tests}
+use Rattle.std.proofs.lemmas.List.{places, same_lists}
+use Rattle.snippet_grid.proofs.GridLemmas.{row_at-cells_written_same}
+use Rattle.snippet_grid.specs.Grid.{cells_written, row_at}
+use Rattle.snippet_grid.specs.Layout.{Layout}
+use Rattle.snippet_labels.specs.declared.positions.PlacedEntry.{PlacedEntry}
+use Rattle.snippet_labels.specs.Positions.{has_stem, takes_space}
+use Rattle.snippet_model.specs.AnnotationKind.{is_primary}
+use Rattle.snippet_style.specs.Cell.{Cell, SPACE, text_cells, written}
+use Rattle.snippet_style.specs.Glyphs.{strokes_of}
+use Rattle.snippet_style.specs.declared.glyphs.Strokes.{Strokes}
+use Rattle.snippet_style.specs.declared.role.ElementStyle.{ElementStyle}
+use Rattle.snippet_strokes.specs.Painting.{drawn_mark, first_glyph, mark_end, mark_of, stroke_role}
+use Rattle.snippet_strokes.specs.Writes.{Write, glyph_at, painted, stretch_of}
+use Rattle.snippet_strokes.proofs.EveryStem.{rewritten}
+use Rattle.snippet_strokes.proofs.WriteLemmas.{drawn_mark-none, less, not_less, painted-append, stretch_of-none}
+
+-- ---- cells of one row, written one after another
+
+first_after : (row : List Cell) (at : ℕ) (x : Cell) (xs : List Cell)
+    → written SPACE (written SPACE row at (x ∷ [])) (at + 1) xs ≡ written SPACE row at (x ∷ xs)
+first_after row at x xs =
+    same_lists _ _ (unfold written in grind (arith, places)) (λ i d h. unfold written in grind (arith, places))
+
+first_over : (row : List Cell) (at : ℕ) (x y : Cell) (xs : List Cell)
+    → written SPACE (written SPACE row at (x ∷ xs)) at (y ∷ []) ≡ written SPACE row at (y ∷ xs)
+first_over row at x y xs =
+    same_lists _ _ (unfold written in grind (arith, places)) (λ i d h. unfold written in grind (arith, places))
+
+same_row : (rows : List (List Cell)) (r at from n : ℕ) (xs ys zs : List Cell)
+    → written SPACE (written SPACE (row_at rows r) at xs) from ys ≡ written SPACE (row_at rows r) n zs
+    → cells_written (cells_written rows r at xs) r from ys ≡ cells_written rows r n zs
+same_row rows r at from n xs ys zs same =
+    let row : List Cell = row_at rows r in
+    let low : List (List Cell) = cells_written rows r at xs in
+    ap (λ cells. written [] low r (written SPACE cells from ys ∷ [])) (row_at-cells_written_same rows r at xs)
+    ∙ ap (λ cells. written [] low r (cells ∷ [])) same
+    ∙ rewritten [] rows r (written SPACE row at xs) (written SPACE row n zs)
+
+-- ---- a stretch, with another glyph first
+
+more_cells : (from to : ℕ) → from < to → to - from ≡ suc (to - (from + 1))
+more_cells from to some = omega (arith, some)
+
+-- a stretch is its first glyph and as many after it
+stretch_whole : (row from to glyph : ℕ) (role : ElementStyle) (rows : List (List Cell)) → from < to
+    → painted (stretch_of row from to glyph role) rows ≡ cells_written rows row from (text_cells role (glyph ∷ replicate (to - (from + 1)) glyph))
+stretch_whole row from to glyph role rows some =
+    let w : List ℕ → Write = λ text. record { row = row; cell = from; text = text; role = role } in
+    ap (λ b. painted (cond b (w (replicate (to - from) glyph) ∷ []) []) rows) (less from to some)
+    ∙ ap (λ n. cells_written rows row from (text_cells role (replicate n glyph))) (more_cells from to some)
+
+-- a glyph, and a stretch after it
+glyph_and_stretch : (row from to first glyph : ℕ) (role : ElementStyle) (rows : List (List Cell)) → from < to
+    → painted (glyph_at row from first role ∷ stretch_of row (from + 1) to glyph role) rows
+    ≡ cells_written rows row from (text_cells role (first ∷ replicate (to - (from + 1)) glyph))
+glyph_and_stretch row from to first glyph role rows some =
+    let one : List (List Cell) = cells_written rows row from (text_cells role (first ∷ [])) in
+    let w : Write = record { row = row; cell = from + 1; text = replicate (to - (from + 1)) glyph; role = role } in
+    elim (cases_lt (from + 1) to) [
+      | inl more ↦ ap (λ b. painted (cond b (w ∷ []) []) one) (less (from + 1) to more)
+          ∙ same_row rows row from (from + 1) from _ _ _ (first_after (row_at rows row) from _ (text_cells role (replicate (to - (from + 1)) glyph)))
+      | inr alone ↦
+          let none : to - (from + 1) ≡ 0 = omega (arith, alone) in
+          ap (λ ws. painted ws one) (stretch_of-none row (from + 1) to glyph role alone)
+          ∙ sym (ap (λ n. cells_written rows row from (text_cells role (first ∷ replicate n glyph))) none)
+    ]
+
+-- a stretch, and a glyph over its first
+stretch_and_glyph : (row from to first glyph : ℕ) (role : ElementStyle) (rows : List (List Cell)) → from < to
+    → painted (stretch_of row from to glyph role ++ glyph_at row from first role ∷ []) rows
+    ≡ cells_written rows row from (text_cells role (first ∷ replicate (to - (from + 1)) glyph))
+stretch_and_glyph row from to first glyph role rows some =
+    painted-append (stretch_of row from to glyph role) (glyph_at row from first role ∷ []) rows
+    ∙ ap (λ x. cells_written x row from (text_cells role (first ∷ []))) (stretch_whole row from to glyph role rows some)
+    ∙ same_row rows row from from from _ _ _ (first_over (row_at rows row) from _ _ (text_cells role (replicate (to - (from + 1)) glyph)))
+
+-- ---- the mark of an entry
+
+module _ (layout : Layout) (row : ℕ) (e : PlacedEntry) (rows : List (List Cell)) where
+  abbrev strokes : Strokes
+  strokes = strokes_of layout.decor (is_primary e.entry.kind)
+
+  abbrev start : ℕ
+  start = e.entry.start.display
+
+  abbrev end : ℕ
+  end = e.entry.end.display
+
+  abbrev from : ℕ
+  from = layout.code + start
+
+  abbrev has_own : Bool
+  has_own = takes_space e || has_stem e
+
+  abbrev own : ℕ
+  own = cond (takes_space e) (cond (has_stem e) strokes.end_down strokes.end_flat) strokes.label_start
+
+  abbrev line : List Write
+  line = stretch_of row from (layout.code + end) strokes.underline (stroke_role e)
+
+  -- where it has a glyph of its own that glyph is the first, and else the underline is
+  first_own : has_own ≡ true → first_glyph layout.decor e ≡ own
+  first_own some = by (takes_space e) (has_stem e) some
+    where
+      by : (space stem : Bool) → (space || stem) ≡ true
+          → cond space (cond stem strokes.end_down strokes.end_flat) (cond stem strokes.label_start strokes.underline)
+          ≡ cond space (cond stem strokes.end_down strokes.end_flat) strokes.label_start
+      by true stem is = refl
+      by false true is = refl
+      by false false is = cc
+
+  first_plain : has_own ≡ false → first_glyph layout.decor e ≡ strokes.underline
+  first_plain none =
+      let parts = or_parts (takes_space e) (has_stem e) none in
+      ap (λ b. cond b (cond (has_stem e) strokes.end_down strokes.end_flat) (cond (has_stem e) strokes.label_start strokes.underline)) parts.0
+      ∙ ap (λ b. cond b strokes.label_start strokes.underline) parts.1
+
+  -- the end of the mark
+  end_apart : (start == end) ≡ false → mark_end e ≡ end
+  end_apart apart = ap (λ b. cond (b && has_own) (end + 1) end) apart
+
+  end_plain : has_own ≡ false → mark_end e ≡ end
+  end_plain none = ap (λ b. cond ((start == end) && b) (end + 1) end) none ∙ either (start == end)
+    where
+      either : (b : Bool) → cond (b && false) (end + 1) end ≡ end
+      either true = refl
+      either false = refl
+
+  end_own : start ≡ end → has_own ≡ true → mark_end e ≡ end + 1
+  end_own same some =
+      let here : (start == end) ≡ true = grind (arith, nat_tests, same) in
+      ap (λ b. cond (b && has_own) (end + 1) end) here ∙ ap (λ b. cond b (end + 1) end) some
+
+  -- what is drawn, up to this column
+  drawn : (to : ℕ) → mark_end e ≡ to → start < to → painted (drawn_mark layout row e) rows
+      ≡ painted (glyph_at row from (first_glyph layout.decor e) (stroke_role e)
+      ∷ stretch_of row (from + 1) (layout.code + to) strokes.underline (stroke_role e)) rows
+  drawn to is some =
+      let all : ℕ → List Write = λ n. glyph_at row from (first_glyph layout.decor e) (stroke_role e)
+      ∷ stretch_of row (from + 1) (layout.code + n) strokes.underline (stroke_role e) in
+      ap (λ b. painted (cond b (all (mark_end e)) []) rows) (less from (layout.code + mark_end e) (omega (arith, is, some)))
+      ∙ ap (λ n. painted (all n) rows) is
+
+  -- what the rule says, by its test
+  ruled : (test : Bool) → (nat_le start end && has_own) ≡ test
+      → painted (mark_of layout row e) rows ≡ painted (line ++ cond test (glyph_at row from own (stroke_role e) ∷ []) []) rows
+  ruled test is = ap (λ b. painted (line ++ cond b (glyph_at row from own (stroke_role e) ∷ []) []) rows) is
+
+  le_test : (b : Bool) → start ≤ end → (nat_le start end && b) ≡ b
+  le_test b up =
+      let yes : nat_le start end ≡ true = grind (arith, nat_tests, up) in
+      ap (λ t. t && b) yes
+
+  no_line : end ≤ start → line ≡ []
+  no_line past = stretch_of-none row from (layout.code + end) strokes.underline (stroke_role e) (omega (arith, past))
+
+  nothing : (ws : List Write) → painted (ws ++ []) rows ≡ painted ws rows
+  nothing ws = painted-append ws [] rows
+
+  mark_same : painted (mark_of layout row e) rows ≡ painted (drawn_mark layout row e) rows
+  mark_same =
+      elim (cases_lt end start) [
+        | inl turned ↦
+            let out : (nat_le start end) ≡ false = grind (arith, nat_tests, turned) in
+            let apart : (start == end) ≡ false = grind (arith, nat_tests, turned) in
+            ruled false (ap (λ b. b && has_own) out) ∙ nothing line ∙ ap (λ ws. painted ws rows) (no_line (omega (arith, turned)))
+            ∙ sym (ap (λ ws. painted ws rows) (drawn_mark-none layout row e (omega (arith, end_apart apart, turned))))
+        | inr up ↦ elim (cases_Bool has_own) [
+          | inr none ↦ ruled false (le_test has_own up ∙ none) ∙ nothing line ∙ elim (cases_lt start end) [
+            | inl some ↦ stretch_whole row from (layout.code + end) strokes.underline (stroke_role e) rows (omega (arith, some))
+                ∙ sym (drawn end (end_plain none) some
+                ∙ glyph_and_stretch row from (layout.code + end) (first_glyph layout.decor e) strokes.underline (stroke_role e) rows (omega (arith, some))
+                ∙ ap (λ g. cells_written rows row from
+                (text_cells (stroke_role e) (g ∷ replicate (layout.code + end - (from + 1)) strokes.underline))) (first_plain none))
+            | inr empty ↦ ap (λ ws. painted ws rows) (no_line (omega (arith, empty)))
+                ∙ sym (ap (λ ws. painted ws rows) (drawn_mark-none layout row e (omega (arith, end_plain none, empty))))
+          ]
+          | inl some_own ↦ ruled true (le_test has_own up ∙ some_own) ∙ elim (cases_lt start end) [
+            | inl some ↦
+                let apart : (start == end) ≡ false = grind (arith, nat_tests, some) in
+                stretch_and_glyph row from (layout.code + end) own strokes.underline (stroke_role e) rows (omega (arith, some))
+                ∙ sym (drawn end (end_apart apart) some
+                ∙ glyph_and_stretch row from (layout.code + end) (first_glyph layout.decor e) strokes.underline (stroke_role e) rows (omega (arith, some))
+                ∙ ap (λ g. cells_written rows row from
+                (text_cells (stroke_role e) (g ∷ replicate (layout.code + end - (from + 1)) strokes.underline))) (first_own some_own))
+            | inr empty ↦
+                let same : start ≡ end = omega (arith, up, empty) in
+                ap (λ ws. painted (ws ++ glyph_at row from own (stroke_role e) ∷ []) rows) (no_line (omega (arith, empty)))
+                ∙ sym (drawn (end + 1) (end_own same some_own) (omega (arith, same))
+                ∙ ap (λ ws. painted (glyph_at row from (first_glyph layout.decor e) (stroke_role e) ∷ ws) rows)
+                (stretch_of-none row (from + 1) (layout.code + (end + 1)) strokes.underline (stroke_role e) (omega (arith, same)))
+                ∙ ap (λ g. painted (glyph_at row from g (stroke_role e) ∷ []) rows) (first_own some_own))
+          ]
+        ]
+      ]
+
+-- so the marks of a line are drawn
+pub every_mark : (layout : Layout) (row : ℕ) (es : List PlacedEntry) (rows : List (List Cell))
+    → painted (flat_map (mark_of layout row) es) rows ≡ painted (flat_map (drawn_mark layout row) es) rows
+every_mark layout row [] rows = refl
+every_mark layout row (e ∷ es) rows =
+    painted-append (mark_of layout row e) (flat_map (mark_of layout row) es) rows
+    ∙ ap (painted (flat_map (mark_of layout row) es)) (mark_same layout row e rows)
+    ∙ every_mark layout row es (painted (drawn_mark layout row e) rows)
+    ∙ sym (painted-append (drawn_mark layout row e) (flat_map (drawn_mark layout row) es) rows)

@@ -1,0 +1,26 @@
+-- The strokes of a line, as the rule names them, are those that the code draws.
+use Rattle.std.proofs.Common.{◌≡◌, ◌∙◌, ℕ, ◌+◌, ◌++◌, List, ap, sym}
+use Rattle.std.specs.List.{flat_map}
+use Rattle.snippet_grid.specs.Layout.{Layout}
+use Rattle.snippet_labels.specs.declared.positions.PlacedEntry.{PlacedEntry}
+use Rattle.snippet_style.specs.Cell.{Cell}
+use Rattle.snippet_strokes.specs.Painting.{drawn_mark, mark_of}
+use Rattle.snippet_strokes.specs.Strokes.{connector_of, corner_of, drawn_strokes, label_of, line_strokes, stem_of, stems_of}
+use Rattle.snippet_strokes.specs.Writes.{Write, painted}
+use Rattle.snippet_strokes.proofs.EveryMark.{every_mark}
+use Rattle.snippet_strokes.proofs.EveryStem.{stems_painted}
+use Rattle.snippet_strokes.proofs.WriteLemmas.{painted-append}
+
+pub strokes_painted : (layout : Layout) (row count : ℕ) (placed order : List PlacedEntry) (rows : List (List Cell))
+    → painted (line_strokes layout row count placed order) rows ≡ painted (drawn_strokes layout row count placed order) rows
+strokes_painted layout row count placed order rows =
+    let bars : List Write = flat_map (connector_of layout (row + 1)) placed ++ flat_map (corner_of layout row count) placed in
+    let all : List Write = flat_map (stem_of layout (row + 1)) placed in
+    let drawn : List Write = stems_of layout (row + 1) placed in
+    let labels : List Write = flat_map (label_of layout (row + 1)) placed in
+    let marks : List Write = flat_map (mark_of layout (row + 1)) order in
+    painted-append (bars ++ all ++ labels) marks rows
+    ∙ ap (painted marks) (painted-append (bars ++ all) labels rows ∙ ap (painted labels) (painted-append bars all rows
+    ∙ stems_painted layout (row + 1) placed (painted bars rows) ∙ sym (painted-append bars drawn rows)) ∙ sym (painted-append (bars ++ drawn) labels rows))
+    ∙ every_mark layout (row + 1) order (painted (bars ++ drawn ++ labels) rows)
+    ∙ sym (painted-append (bars ++ drawn ++ labels) (flat_map (drawn_mark layout (row + 1)) order) rows)
