@@ -30,7 +30,7 @@ use Rattle.snippet_titles.specs.Origin.{primary_start}
 use Rattle.snippet_titles.proofs.OriginFree.{origin_row-free}
 use Rattle.annotate_snippets.specs.Around.{begins_in_row_above, is_end, path_bytes, suggestion_rows}
 use Rattle.annotate_snippets.specs.DrawnReport.{HasRoomFor, suggestion_layout, suggestion_lines, under_of}
-use Rattle.annotate_snippets.specs.GraphicForm.{name_of_row, named_rows, patch_rows}
+use Rattle.annotate_snippets.specs.GraphicForm.{element_rows, name_of_row, named_rows}
 use Rattle.annotate_snippets.specs.Page.{NamedRow, cells_of, lines_offered, others}
 use Rattle.annotate_snippets.specs.RowsWithoutSource.{origin_layout, patch_place, path_row, suggestion_head, suggestion_head_at}
 use Rattle.annotate_snippets.specs.Laws.Suggestions.{HasStrokes, ShowsSuggestion}
@@ -125,7 +125,7 @@ lines_signed r layout around found s =
 
 -- the cells of a suggestion's rows are those of its head and of its lines
 pub patch_cells : (r : Renderer) (layout : Layout) (around : ElementContext) (found : List Cell) (s : Snippet Patch)
-    → cells_of (patch_rows r layout around found s) ≡ suggestion_head r layout around s ++ suggestion_lines r layout around found s
+    → cells_of (element_rows r layout around found (Suggestion s)) ≡ suggestion_head r layout around s ++ suggestion_lines r layout around found s
 patch_cells r layout around found s =
     let shown : List SuggestionRow = suggestion_rows around s in
     let head : List (List Cell) = suggestion_head r layout around s in

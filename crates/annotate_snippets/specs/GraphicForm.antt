@@ -82,17 +82,13 @@ named_rows s (shows ∷ shown) (row ∷ rows) =
     record { name = name_of_row s shows; cells = row } ∷ named_rows s shown rows
 named_rows s shown rows = []
 
--- the rows of a suggestion: that of its path, where it names that, and those of its lines, where this stands in the row in which the
--- element before ends
-abbrev pub patch_rows : Renderer → Layout → ElementContext → List Cell → Snippet Patch → List NamedRow
-patch_rows r layout around found s =
-    others (suggestion_head r layout around s) ++ named_rows s (suggestion_rows around s) (suggestion_lines r layout around found s)
-
--- the rows of an element
+-- the rows of an element, where this stands in the row in which the one before ends; those of a suggestion are that of its path, where it
+-- names that, and those of its lines
 abbrev pub element_rows : Renderer → Layout → ElementContext → List Cell → Element → List NamedRow
 element_rows r layout around found (element.Message message) = others (message_rows r layout around message)
 element_rows r layout around found (element.Cause snippet) = snippet_rows r layout around snippet
-element_rows r layout around found (element.Suggestion snippet) = patch_rows r layout around found snippet
+element_rows r layout around found (element.Suggestion s) =
+    others (suggestion_head r layout around s) ++ named_rows s (suggestion_rows around s) (suggestion_lines r layout around found s)
 element_rows r layout around found (element.Origin origin) = others (origin_rows r layout around origin)
 element_rows r layout around found (element.Padding padding) =
     others (bare_row layout.decor layout.gutter (is_end around.next) ∷ [])
