@@ -16,7 +16,7 @@ use Rattle.snippet_strokes.specs.Writes.{Write, painted}
 use Rattle.snippet_strokes.proofs.HeldLemmas.{held, held_are, painting_order-held, placed_of-plain}
 use Rattle.snippet_strokes.specs.declared.bars.BarStroke.TheVariants.{Top, Solid}
 use Rattle.snippet_strokes.specs.declared.bars.OpenBar.{OpenBar}
-use Rattle.snippet_strokes.specs.Bars.{bar_of, bars_apart, ends_of_bars, is_beside, is_whole_line, with_bars}
+use Rattle.snippet_strokes.specs.Bars.{bar_of, bars_apart, ends_of_bars, is_beside, is_whole_line, with_parts}
 use Rattle.snippet_strokes.specs.Cuts.{overlapped}
 use Rattle.snippet_strokes.specs.LookedCuts.{Stretch, cut_row}
 use Rattle.snippet_strokes.specs.LookedCuts.{cuts_of}
@@ -99,7 +99,7 @@ own_rows-plain layout room closes text dropped [] source = refl
 own_rows-plain layout room closes text dropped (e ∷ es) source =
     let all : List LineAnnotation = e ∷ es in
     let others : List LineAnnotation = map plain_entry all in
-    let whole : List OpenBar → List (List Cell) = λ bars. with_bars layout Top bars source ∷ [] in
+    let whole : List OpenBar → List (List Cell) = λ bars. with_parts layout Top bars source ∷ [] in
     let strokes : List LineAnnotation → List (List Cell) = λ xs. stroke_rows layout room closes xs source in
     ap (λ b. cond b (whole (ends_of_bars others)) (strokes (map (shifted dropped) others))) (list_all-map (is_beside text) plain_entry all)
     ∙ ap (λ bars. cond (is_whole_line text all) (whole bars) (strokes (map (shifted dropped) others))) (ends_of_bars-plain all)
@@ -111,9 +111,9 @@ pub line_rows-plain : (layout : Layout) (room : ℕ) (closes : Bool) (text : Lis
     (source : List Cell)
     → line_rows layout room closes text dropped open_bars (map plain_entry es) source ≡ line_rows layout room closes text dropped open_bars es source
 line_rows-plain layout room closes text dropped open_bars es source =
-    ap (λ bars. map (with_bars layout Solid (bars_apart open_bars bars)) (own_rows layout room closes text dropped (map plain_entry es) source))
+    ap (λ bars. map (with_parts layout Solid (bars_apart open_bars bars)) (own_rows layout room closes text dropped (map plain_entry es) source))
     (ends_of_bars-plain es)
-    ∙ ap (map (with_bars layout Solid (bars_apart open_bars (ends_of_bars es)))) (own_rows-plain layout room closes text dropped es source)
+    ∙ ap (map (with_parts layout Solid (bars_apart open_bars (ends_of_bars es)))) (own_rows-plain layout room closes text dropped es source)
 
 map_alike : {X Y : Type 0} (f g : X → Y) (xs : List X) → ((x : X) → f x ≡ g x) → map f xs ≡ map g xs
 map_alike f g [] same = refl
