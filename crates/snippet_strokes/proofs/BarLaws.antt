@@ -11,7 +11,7 @@ use Rattle.snippet_strokes.specs.declared.bars.BarStroke.{BarStroke}
 use Rattle.snippet_strokes.specs.declared.bars.BarStroke.TheVariants.{Solid}
 use Rattle.snippet_strokes.specs.declared.bars.OpenBar.{OpenBar}
 use Rattle.snippet_grid.specs.Layout.{Layout}
-use Rattle.snippet_strokes.specs.Bars.{HasOwnDepth, bar_cell_part, bars_apart, ends_of_bars, with_bars}
+use Rattle.snippet_strokes.specs.Bars.{HasOwnDepth, bar_cell_part, bars_apart, ends_of_bars, with_parts}
 use Rattle.snippet_strokes.proofs.OneStep.{with_bar}
 use Rattle.snippet_strokes.proofs.LineFacts.{AreLineRows}
 
@@ -43,7 +43,7 @@ module _ (layout : Layout) (stroke : BarStroke) (bar : OpenBar) where
       ]
 
   -- so it stays below bars of other depths
-  stays : (bars : List OpenBar) (row : List Cell) → HasOwnDepth bar bars → there row ≡ part bar → there (with_bars layout stroke bars row) ≡ part bar
+  stays : (bars : List OpenBar) (row : List Cell) → HasOwnDepth bar bars → there row ≡ part bar → there (with_parts layout stroke bars row) ≡ part bar
   stays [] row alone before = before
   stays (b ∷ bars) row alone before =
       let Q : OpenBar → Type 0 = λ x. x.depth ≡ bar.depth → x ≡ bar in
@@ -53,7 +53,7 @@ module _ (layout : Layout) (stroke : BarStroke) (bar : OpenBar) where
       ])
 
   -- one of some bars stands in the cell of its depth, in a row over which they are drawn, where no other has that depth
-  pub bar_stands : (bars : List OpenBar) (row : List Cell) → HasOwnDepth bar bars → Contains bars bar → there (with_bars layout stroke bars row) ≡ part bar
+  pub bar_stands : (bars : List OpenBar) (row : List Cell) → HasOwnDepth bar bars → Contains bars bar → there (with_parts layout stroke bars row) ≡ part bar
   bar_stands [] row alone (k, within, same) = absurd (omega arith)
   bar_stands (b ∷ bars) row alone (zero, within, same) =
       stays bars (with_bar layout stroke row b) (All-tail (λ x. x.depth ≡ bar.depth → x ≡ bar) b bars alone)
@@ -71,7 +71,7 @@ module _ (layout : Layout) (room : ℕ) (closes : Bool) (text : List ℕ) (dropp
   pub bar_past : AreLineRows layout room closes text dropped open_bars es source rows → (bar : OpenBar) → Contains past bar → HasOwnDepth bar past → (i : ℕ)
       → i < length rows → cell_at rows i (layout.gutter + 2 + bar.depth) ≡ bar_cell_part layout Solid bar
   bar_past drawn bar among alone i within =
-      let rule : List Cell → List Cell = with_bars layout Solid past in
+      let rule : List Cell → List Cell = with_parts layout Solid past in
       let inside : i < length drawn.own = omega (arith, within, ap length drawn.rows_are, length-map drawn.own rule) in
       let row : row_at rows i ≡ rule (row_at drawn.own i) = ap (λ rs. row_at rs i) drawn.rows_are ∙ get_or-map rule drawn.own i [] [] inside in
       ap (λ cells. get_or cells (layout.gutter + 2 + bar.depth) SPACE) row ∙ bar_stands layout Solid bar past (row_at drawn.own i) alone among

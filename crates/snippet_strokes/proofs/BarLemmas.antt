@@ -24,7 +24,7 @@ use Rattle.snippet_strokes.proofs.PlainEntries.{are_plain, wide_entries}
 use Rattle.snippet_model.specs.FreeRows.{IsFreeCell}
 use Rattle.snippet_style.proofs.StrokeLemmas.{bars_among}
 use Rattle.snippet_strokes.proofs.StrokeGlyphs.{free_bars}
-use Rattle.snippet_strokes.specs.Bars.{HasBarRoom, StandsBeside, bar_glyph, bar_cell_part, with_bars}
+use Rattle.snippet_strokes.specs.Bars.{HasBarRoom, StandsBeside, bar_glyph, bar_cell_part, with_parts}
 use Rattle.snippet_strokes.proofs.OneStep.{with_bar}
 use Rattle.snippet_strokes.proofs.DrawnCells.{BarsDrawn}
 use Rattle.snippet_strokes.specs.declared.bars.OpenBar.{OpenBar}
@@ -146,14 +146,14 @@ BarsDrawn-with_bar layout stroke bar row room =
     (omega (arith, room.1)) (All-cons (IsBarCell layout.decor) part [] is (All-nil (IsBarCell layout.decor)))
     (All-cons IsFreeCell part [] free (All-nil IsFreeCell)))
 
-pub BarsDrawn-with_bars : (layout : Layout) (stroke : BarStroke) (bars : List OpenBar) (row : List Cell) → All (HasBarRoom layout) bars
-    → BarsDrawn layout row (with_bars layout stroke bars row)
-BarsDrawn-with_bars layout stroke [] row room = BarsDrawn-none layout row
-BarsDrawn-with_bars layout stroke (bar ∷ bars) row room =
+pub BarsDrawn-with_parts : (layout : Layout) (stroke : BarStroke) (bars : List OpenBar) (row : List Cell) → All (HasBarRoom layout) bars
+    → BarsDrawn layout row (with_parts layout stroke bars row)
+BarsDrawn-with_parts layout stroke [] row room = BarsDrawn-none layout row
+BarsDrawn-with_parts layout stroke (bar ∷ bars) row room =
     let mid : List Cell = with_bar layout stroke row bar in
-    BarsDrawn-more layout row mid (with_bars layout stroke bars mid)
+    BarsDrawn-more layout row mid (with_parts layout stroke bars mid)
     (BarsDrawn-with_bar layout stroke bar row (All-head (HasBarRoom layout) bar bars room))
-    (BarsDrawn-with_bars layout stroke bars mid (All-tail (HasBarRoom layout) bar bars room))
+    (BarsDrawn-with_parts layout stroke bars mid (All-tail (HasBarRoom layout) bar bars room))
 
 -- the cells from the code on are as they were
 drawn_right : (layout : Layout) (old new : List Cell) → BarsDrawn layout old new → (c : ℕ) → layout.code ≤ c

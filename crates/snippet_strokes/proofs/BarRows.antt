@@ -13,7 +13,7 @@ use Rattle.snippet_style.proofs.CellLemmas.{length-written, slice_index_or-writt
 use Rattle.snippet_grid.specs.Layout.{Layout}
 use Rattle.snippet_strokes.specs.declared.bars.BarStroke.{BarStroke}
 use Rattle.snippet_strokes.specs.declared.bars.OpenBar.{OpenBar}
-use Rattle.snippet_strokes.specs.Bars.{StandsBeside, bar_glyph, bar_cell_part, barred, changed_from, with_bars}
+use Rattle.snippet_strokes.specs.Bars.{StandsBeside, bar_glyph, bar_cell_part, barred, changed_from, with_parts}
 use Rattle.snippet_strokes.proofs.OneStep.{with_bar}
 
 -- ---- rows that were changed by a rule
@@ -114,7 +114,7 @@ changed-more first second both (suc row) (x ∷ rows) same = ap (λ rs. x ∷ rs
 
 -- bars beside the rows that stand below others
 pub barred-below : (layout : Layout) (stroke : BarStroke) (bars : List OpenBar) (above rows : List (List Cell))
-    → barred layout stroke bars (length above) (above ++ rows) ≡ above ++ map (with_bars layout stroke bars) rows
+    → barred layout stroke bars (length above) (above ++ rows) ≡ above ++ map (with_parts layout stroke bars) rows
 barred-below layout stroke bars [] rows = refl
 barred-below layout stroke bars (x ∷ above) rows = ap (λ rs. x ∷ rs) (barred-below layout stroke bars above rows)
 
@@ -175,49 +175,49 @@ module _ (layout : Layout) (stroke : BarStroke) where
 
   -- one bar more
   bars_more : (bars : List OpenBar) (i : ℕ) (d : OpenBar) (row : List Cell) → i < length bars
-      → with_bars layout stroke (take (i + 1) bars) row ≡ with_bar layout stroke (with_bars layout stroke (take i bars) row) (get_or bars i d)
+      → with_parts layout stroke (take (i + 1) bars) row ≡ with_bar layout stroke (with_parts layout stroke (take i bars) row) (get_or bars i d)
   bars_more bars i d row within =
-      ap (λ bs. with_bars layout stroke bs row) (take_more bars i d within) ∙ fold-append (with_bar layout stroke) row (take i bars) (get_or bars i d ∷ [])
+      ap (λ bs. with_parts layout stroke bs row) (take_more bars i d within) ∙ fold-append (with_bar layout stroke) row (take i bars) (get_or bars i d ∷ [])
 
   -- bars that stand side by side are one text
   side_more : (bars : List OpenBar) (from n : ℕ) (first : OpenBar) (row : List Cell) → from + (n + 1) ≤ length bars
       → ((k : ℕ) (d : OpenBar) → k < n + 1 → StandsBeside first k (get_or bars (from + k) d))
-      → written SPACE (with_bars layout stroke (take from bars) row) (layout.gutter + 2 + first.depth)
-      (replicate (n + 1) (bar_cell_part layout stroke first)) ≡ with_bars layout stroke (take (from + (n + 1)) bars) row
+      → written SPACE (with_parts layout stroke (take from bars) row) (layout.gutter + 2 + first.depth)
+      (replicate (n + 1) (bar_cell_part layout stroke first)) ≡ with_parts layout stroke (take (from + (n + 1)) bars) row
   side_more bars from zero first row within beside =
       let here : from + 0 ≡ from = omega arith in
       let at : ℕ = layout.gutter + 2 + first.depth in
       let none : at + 0 ≡ at = omega arith in
       let cells : List Cell = bar_cell_part layout stroke first ∷ [] in
-      let before : List Cell = with_bars layout stroke (take from bars) row in
+      let before : List Cell = with_parts layout stroke (take from bars) row in
       let own : StandsBeside first 0 (get_or bars from first) = subst (λ i. StandsBeside first 0 (get_or bars i first)) here (beside 0 first (omega arith)) in
       sym (bars_more bars from first row (omega (arith, within)) ∙ beside_part first (get_or bars from first) 0 before own
       ∙ ap (λ n. written SPACE before n cells) none)
   side_more bars from (suc m) first row within beside =
       let at : ℕ = layout.gutter + 2 + first.depth in
       let cell : Cell = bar_cell_part layout stroke first in
-      let before : List Cell = with_bars layout stroke (take from bars) row in
+      let before : List Cell = with_parts layout stroke (take from bars) row in
       let j : ℕ = suc m in
       let one : m + 1 ≡ j = omega arith in
       let further : from + j + 1 ≡ from + (j + 1) = omega arith in
-      let so_far : written SPACE before at (replicate j cell) ≡ with_bars layout stroke (take (from + j) bars) row =
-      subst (λ i. written SPACE before at (replicate i cell) ≡ with_bars layout stroke (take (from + i) bars) row)
+      let so_far : written SPACE before at (replicate j cell) ≡ with_parts layout stroke (take (from + j) bars) row =
+      subst (λ i. written SPACE before at (replicate i cell) ≡ with_parts layout stroke (take (from + i) bars) row)
       one (side_more bars from m first row (omega (arith, within)) (λ k d low. beside k d (omega (arith, low)))) in
       let next = bars_more bars (from + j) first row (omega (arith, within))
-      ∙ beside_part first (get_or bars (from + j) first) j (with_bars layout stroke (take (from + j) bars) row) (beside j first (omega arith))
+      ∙ beside_part first (get_or bars (from + j) first) j (with_parts layout stroke (take (from + j) bars) row) (beside j first (omega arith))
       ∙ ap (λ cells. written SPACE cells (at + j) (cell ∷ [])) (sym so_far) ∙ written-next before at j cell in
-      sym next ∙ ap (λ i. with_bars layout stroke (take i bars) row) further
+      sym next ∙ ap (λ i. with_parts layout stroke (take i bars) row) further
 
   -- the bars from one place to before another
   pub side_drawn : (bars : List OpenBar) (from to : ℕ) (first : OpenBar) (row : List Cell) → from < to → to ≤ length bars
       → ((k : ℕ) (d : OpenBar) → k < to - from → StandsBeside first k (get_or bars (from + k) d))
-      → written SPACE (with_bars layout stroke (take from bars) row) (layout.gutter + 2 + first.depth)
-      (replicate (to - from) (bar_cell_part layout stroke first)) ≡ with_bars layout stroke (take to bars) row
+      → written SPACE (with_parts layout stroke (take from bars) row) (layout.gutter + 2 + first.depth)
+      (replicate (to - from) (bar_cell_part layout stroke first)) ≡ with_parts layout stroke (take to bars) row
   side_drawn bars from to first row some within beside =
       let n : ℕ = to - from - 1 in
       let many : n + 1 ≡ to - from = omega (arith, some) in
       let end : from + (n + 1) ≡ to = omega (arith, some) in
-      ap (λ k. written SPACE (with_bars layout stroke (take from bars) row) (layout.gutter + 2 + first.depth)
+      ap (λ k. written SPACE (with_parts layout stroke (take from bars) row) (layout.gutter + 2 + first.depth)
       (replicate k (bar_cell_part layout stroke first))) (sym many)
       ∙ side_more bars from n first row (omega (arith, within, end)) (λ k d low. beside k d (omega (arith, low, many)))
-      ∙ ap (λ k. with_bars layout stroke (take k bars) row) end
+      ∙ ap (λ k. with_parts layout stroke (take k bars) row) end

@@ -20,10 +20,10 @@ use Rattle.snippet_strokes.specs.declared.bars.BarStroke.TheVariants.{Top, Solid
 use Rattle.snippet_strokes.specs.declared.bars.OpenBar.{OpenBar}
 use Rattle.snippet_strokes.specs.Bars.{HasBarRoom, bar_cell_part, barred, bars_apart, has_depth}
 use Rattle.snippet_strokes.proofs.OneStep.{with_bar}
-use Rattle.snippet_strokes.specs.Bars.{with_bars}
+use Rattle.snippet_strokes.specs.Bars.{with_parts}
 use Rattle.snippet_strokes.specs.SourceRows.{with_cells}
 use Rattle.snippet_strokes.specs.StrokeRows.{highlighted_row, role_in_source}
-use Rattle.snippet_strokes.proofs.BarLemmas.{BarsDrawn-with_bars}
+use Rattle.snippet_strokes.proofs.BarLemmas.{BarsDrawn-with_parts}
 use Rattle.snippet_strokes.proofs.BarRows.{barred-below}
 use Rattle.snippet_strokes.proofs.LineFromValue.{highlighted_row_is}
 use Rattle.snippet_strokes.proofs.SnippetLemmas.{highlighted_left}
@@ -33,12 +33,12 @@ use Rattle.snippet_strokes.proofs.SwapLemmas.{cells-swap, written-swap}
 -- a change of a row that may come before each of some bars or after it may come before all of them
 pub bars_pass : (change : List Cell → List Cell) (layout : Layout) (stroke : BarStroke) (bars : List OpenBar) (row : List Cell)
     → All (λ bar. (cells : List Cell) → change (with_bar layout stroke cells bar) ≡ with_bar layout stroke (change cells) bar) bars
-    → change (with_bars layout stroke bars row) ≡ with_bars layout stroke bars (change row)
+    → change (with_parts layout stroke bars row) ≡ with_parts layout stroke bars (change row)
 bars_pass change layout stroke [] row pass = refl
 bars_pass change layout stroke (bar ∷ bars) row pass =
     let P : OpenBar → Type 0 = λ b. (cells : List Cell) → change (with_bar layout stroke cells b) ≡ with_bar layout stroke (change cells) b in
     bars_pass change layout stroke bars (with_bar layout stroke row bar) (All-tail P bar bars pass)
-    ∙ ap (with_bars layout stroke bars) (All-head P bar bars pass row)
+    ∙ ap (with_parts layout stroke bars) (All-head P bar bars pass row)
 
 -- highlighting, which changes no cell left of the code, may come after a bar or before it
 module _ (layout : Layout) (dropped : ℕ) (es : List LineAnnotation) where
@@ -88,7 +88,7 @@ module _ (layout : Layout) (dropped : ℕ) (es : List LineAnnotation) where
       ])
 
   pub lit_bars : (stroke : BarStroke) (bars : List OpenBar) (row : List Cell) → All (HasBarRoom layout) bars
-      → lit (with_bars layout stroke bars row) ≡ with_bars layout stroke bars (lit row)
+      → lit (with_parts layout stroke bars row) ≡ with_parts layout stroke bars (lit row)
   lit_bars stroke bars row room =
       bars_pass lit layout stroke bars row (λ k d within. lit_bar stroke (get_or bars k d) (room k d within))
 
@@ -119,9 +119,9 @@ other_depths tops depth none k d within same =
 
 -- tops and bars of other depths
 tops_pass : (layout : Layout) (tops past : List OpenBar) (row : List Cell) → All (λ bar. has_depth tops bar.depth ≡ false) past
-    → with_bars layout Top tops (with_bars layout Solid past row) ≡ with_bars layout Solid past (with_bars layout Top tops row)
+    → with_parts layout Top tops (with_parts layout Solid past row) ≡ with_parts layout Solid past (with_parts layout Top tops row)
 tops_pass layout tops past row apart =
-    bars_pass (with_bars layout Top tops) layout Solid past row (λ k d within cells.
+    bars_pass (with_parts layout Top tops) layout Solid past row (λ k d within cells.
     let bar : OpenBar = get_or past k d in
     let others = other_depths tops bar.depth (apart k d within) in
     sym (bars_pass (λ cs. with_bar layout Solid cs bar) layout Top tops cells (λ i e inside. bar_bar layout (get_or tops i e) bar (others i e inside))))
@@ -129,18 +129,18 @@ tops_pass layout tops past row apart =
 -- a row that is drawn from left to right, bars and then the code, is the one that gets its bars last
 pub bars_first : (layout : Layout) (tops past : List OpenBar) (cells row : List Cell) → All (HasBarRoom layout) tops → All (HasBarRoom layout) past
     → All (λ bar. has_depth tops bar.depth ≡ false) past
-    → with_cells layout.code cells (with_bars layout Top tops (with_bars layout Solid past row))
-    ≡ with_bars layout Solid past (with_bars layout Top tops (with_cells layout.code cells row))
+    → with_cells layout.code cells (with_parts layout Top tops (with_parts layout Solid past row))
+    ≡ with_parts layout Solid past (with_parts layout Top tops (with_cells layout.code cells row))
 bars_first layout tops past cells row tops_room past_room apart =
     ap (with_cells layout.code cells) (tops_pass layout tops past row apart)
-    ∙ bars_pass (with_cells layout.code cells) layout Solid past (with_bars layout Top tops row)
+    ∙ bars_pass (with_cells layout.code cells) layout Solid past (with_parts layout Top tops row)
     (λ k d within. code_bar layout Solid (get_or past k d) cells (past_room k d within))
-    ∙ ap (with_bars layout Solid past) (bars_pass (with_cells layout.code cells) layout Top tops row
+    ∙ ap (with_parts layout Solid past) (bars_pass (with_cells layout.code cells) layout Top tops row
     (λ k d within. code_bar layout Top (get_or tops k d) cells (tops_room k d within)))
 
 -- bars beside the last row
 pub barred_last : (layout : Layout) (stroke : BarStroke) (bars : List OpenBar) (above new : List (List Cell)) (row : List Cell)
-    → new ≡ above ++ row ∷ [] → barred layout stroke bars (length above) new ≡ above ++ with_bars layout stroke bars row ∷ []
+    → new ≡ above ++ row ∷ [] → barred layout stroke bars (length above) new ≡ above ++ with_parts layout stroke bars row ∷ []
 barred_last layout stroke bars above new row is =
     ap (barred layout stroke bars (length above)) is ∙ barred-below layout stroke bars above (row ∷ [])
 
@@ -151,8 +151,8 @@ apart_depths bars others k d within =
 
 -- bars don't reach to the code
 pub bars_left : (layout : Layout) (stroke : BarStroke) (bars : List OpenBar) (row : List Cell) → All (HasBarRoom layout) bars → length row ≤ layout.code
-    → length (with_bars layout stroke bars row) ≤ layout.code
-bars_left layout stroke bars row room short = omega (arith, (BarsDrawn-with_bars layout stroke bars row room).short, short)
+    → length (with_parts layout stroke bars row) ≤ layout.code
+bars_left layout stroke bars row room short = omega (arith, (BarsDrawn-with_parts layout stroke bars row room).short, short)
 
 -- a row that begins with its number, after which comes the separator, is the one whose number is written over the separator's row
 pub number_first : (layout : Layout) (number : List ℕ) (old mid new : List (List Cell)) (row stroke : ℕ) → row ≡ length old

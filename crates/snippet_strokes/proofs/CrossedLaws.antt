@@ -19,7 +19,7 @@ use Rattle.snippet_strokes.specs.SourceRows.{bare_row}
 use Rattle.snippet_strokes.specs.Writes.{Write, painted}
 use Rattle.snippet_labels.proofs.PlacedLemmas.{entries_all}
 use Rattle.snippet_strokes.specs.declared.bars.BarStroke.TheVariants.{Solid, Top}
-use Rattle.snippet_strokes.specs.Bars.{Bar, bars_apart, ends_of_bars, has_depth, is_whole_line, with_bars}
+use Rattle.snippet_strokes.specs.Bars.{Bar, bars_apart, ends_of_bars, has_depth, is_whole_line, with_parts}
 use Rattle.snippet_strokes.specs.Drawing.{row_count}
 use Rattle.snippet_strokes.specs.EndBars.{IsNoBar}
 use Rattle.snippet_strokes.proofs.LineFacts.{AreLineRows, AreOwnRows, StrokesPainted}
@@ -140,7 +140,7 @@ module _ (layout : Layout) (depth : ℕ) (some : 0 < depth) (room : layout.gutte
     own_clear rows are r =
         elim (cases_Bool (is_whole_line text es)) [
           | inl whole ↦
-              let topped : List Cell = with_bars layout Top (ends_of_bars es) source in
+              let topped : List Cell = with_parts layout Top (ends_of_bars es) source in
               let all : All HasSpace (topped ∷ []) = All-cons HasSpace topped [] (passed_by layout bar room Top (ends_of_bars es) source others ∙ blank)
               (All-nil HasSpace) in
               spaces_in rows (subst (All HasSpace) (sym (are.whole whole)) all) r
@@ -162,7 +162,7 @@ module _ (layout : Layout) (depth : ℕ) (some : 0 < depth) (room : layout.gutte
         → All (λ b. b.depth ≢ depth) open_bars → (i : ℕ) → i < length rows → IsNoBar layout.decor (cell_at rows i (layout.gutter + 2 + depth))
     line_clear open_bars rows drawn open_others i within =
         let past : List Bar = bars_apart open_bars (ends_of_bars es) in
-        let rule : List Cell → List Cell = with_bars layout Solid past in
+        let rule : List Cell → List Cell = with_parts layout Solid past in
         let as_many : length rows ≡ length drawn.own = ap length drawn.rows_are ∙ length-map drawn.own rule in
         let row : row_at rows i ≡ rule (row_at drawn.own i) = ap (λ rs. row_at rs i) drawn.rows_are
         ∙ get_or-map rule drawn.own i [] [] (omega (arith, within, as_many)) in

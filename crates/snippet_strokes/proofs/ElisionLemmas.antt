@@ -17,7 +17,7 @@ use Rattle.snippet_strokes.specs.Snippet.{gap_row}
 use Rattle.snippet_strokes.proofs.BarRows.{barred-below}
 use Rattle.snippet_model.specs.FreeRows.{IsFree}
 use Rattle.snippet_strokes.specs.StrokeRows.{IsElisionRow, bare_elision_row}
-use Rattle.snippet_strokes.proofs.BarLemmas.{BarsDrawn-with_bars, bar_space}
+use Rattle.snippet_strokes.proofs.BarLemmas.{BarsDrawn-with_parts, bar_space}
 use Rattle.snippet_strokes.proofs.RowLemmas.{free_led, length-led}
 use Rattle.snippet_model.proofs.RowLemmas.{free_drawn}
 
@@ -52,7 +52,7 @@ pub gap_drawn : (layout : Layout) (open_bars : List OpenBar) → layout.gutter +
     → IsElisionRow layout (gap_row layout open_bars)
 gap_drawn layout open_bars place room =
     let bare = bare_elision_row layout.decor layout.gutter in
-    let drawn = BarsDrawn-with_bars layout Dotted open_bars bare room in
+    let drawn = BarsDrawn-with_parts layout Dotted open_bars bare room in
     let few = bare_elision_short layout.decor layout.gutter in
     record {
       left = drawn.left;

@@ -28,7 +28,7 @@ use Rattle.snippet_strokes.specs.declared.bars.BarStroke.{BarStroke}
 use Rattle.snippet_strokes.specs.declared.bars.BarStroke.TheVariants.{Dotted, Solid, Top}
 use Rattle.snippet_strokes.specs.Bars.{Bar, HasOwnDepth, bar_at, bar_of, bars_apart, ends_of_bars, has_depth, is_beside, is_whole_line}
 use Rattle.snippet_strokes.proofs.OneStep.{with_bar}
-use Rattle.snippet_strokes.specs.Bars.{bar_cell_part, with_bars}
+use Rattle.snippet_strokes.specs.Bars.{bar_cell_part, with_parts}
 use Rattle.snippet_strokes.specs.Drawing.{HasRows, row_count}
 use Rattle.snippet_strokes.specs.EndBars.{BarEnds}
 use Rattle.snippet_strokes.proofs.BarFacts.{BarBegins, BeginsBelow}
@@ -146,7 +146,7 @@ module _ (layout : Layout) (bar : Bar) (room : layout.gutter + 2 + bar.depth < l
 
   -- bars of other depths that run past leave the bar's cell
   pub passed_by : (stroke : BarStroke) (bars : List Bar) (row : List Cell) → All (λ b. b.depth ≢ bar.depth) bars
-      → get_or (with_bars layout stroke bars row) (layout.gutter + 2 + bar.depth) SPACE ≡ get_or row (layout.gutter + 2 + bar.depth) SPACE
+      → get_or (with_parts layout stroke bars row) (layout.gutter + 2 + bar.depth) SPACE ≡ get_or row (layout.gutter + 2 + bar.depth) SPACE
   passed_by stroke [] row others = refl
   passed_by stroke (b ∷ bars) row others =
       passed_by stroke bars (with_bar layout stroke row b) (All-tail (λ x. x.depth ≢ bar.depth) b bars others)
@@ -226,12 +226,12 @@ module _ (layout : Layout) (bar : Bar) (room : layout.gutter + 2 + bar.depth < l
       past = bars_apart open_bars (ends_of_bars es)
 
       as_many : length rows ≡ length drawn.own
-      as_many = ap length drawn.rows_are ∙ length-map drawn.own (with_bars layout Solid past)
+      as_many = ap length drawn.rows_are ∙ length-map drawn.own (with_parts layout Solid past)
 
       -- so its cell is as the line's own entries leave it
       own_cell : (i : ℕ) → i < length rows → cell_at rows i (layout.gutter + 2 + bar.depth) ≡ cell_at drawn.own i (layout.gutter + 2 + bar.depth)
       own_cell i within =
-          let rule : List Cell → List Cell = with_bars layout Solid past in
+          let rule : List Cell → List Cell = with_parts layout Solid past in
           let row : row_at rows i ≡ rule (row_at drawn.own i) = ap (λ rs. row_at rs i) drawn.rows_are
           ∙ get_or-map rule drawn.own i [] [] (omega (arith, within, as_many)) in
           ap (λ cells. get_or cells (layout.gutter + 2 + bar.depth) SPACE) row ∙ passed_by Solid past (row_at drawn.own i) (past_apart open_bars)
@@ -298,5 +298,5 @@ module _ (layout : Layout) (bar : Bar) (room : layout.gutter + 2 + bar.depth < l
 
 -- in the row in place of lines that are left out each bar that is open there stands, where no other has its depth
 pub elision_stands : (layout : Layout) (bar : Bar) (open_bars : List Bar) (row : List Cell) → HasOwnDepth bar open_bars → Contains open_bars bar
-    → get_or (with_bars layout Dotted open_bars row) (layout.gutter + 2 + bar.depth) SPACE ≡ bar_cell_part layout Dotted bar
+    → get_or (with_parts layout Dotted open_bars row) (layout.gutter + 2 + bar.depth) SPACE ≡ bar_cell_part layout Dotted bar
 elision_stands layout bar open_bars row alone among = bar_stands layout Dotted bar open_bars row alone among

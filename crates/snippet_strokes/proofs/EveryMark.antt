@@ -18,7 +18,7 @@ use Rattle.snippet_style.specs.declared.role.ElementStyle.{ElementStyle}
 use Rattle.snippet_strokes.specs.Painting.{drawn_mark, first_glyph, mark_end, mark_of, stroke_role}
 use Rattle.snippet_strokes.specs.Writes.{Write, glyph_at, painted, stretch_of}
 use Rattle.snippet_strokes.proofs.EveryStem.{rewritten}
-use Rattle.snippet_strokes.proofs.WriteLemmas.{drawn_mark-none, less, not_less, painted-append, stretch_of-none}
+use Rattle.snippet_strokes.proofs.WriteLemmas.{drawn_mark-none, less, painted-append, stretch_of-none}
 
 -- ---- cells of one row, written one after another
 

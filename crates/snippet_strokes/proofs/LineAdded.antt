@@ -15,7 +15,7 @@ use Rattle.snippet_grid.specs.Layout.{Layout}
 use Rattle.snippet_strokes.specs.declared.bars.BarStroke.TheVariants.{Solid, Top}
 use Rattle.snippet_strokes.specs.declared.bars.OpenBar.{OpenBar}
 use Rattle.snippet_strokes.specs.declared.snippet.LineView.{LineView}
-use Rattle.snippet_strokes.specs.Bars.{HasBarRoom, barred, bars_apart, ends_of_bars, is_whole_line, open_below, with_bars}
+use Rattle.snippet_strokes.specs.Bars.{HasBarRoom, barred, bars_apart, ends_of_bars, is_whole_line, open_below, with_parts}
 use Rattle.snippet_strokes.specs.LineRows.{own_rows}
 use Rattle.snippet_strokes.specs.Snippet.{gap_rows, info_rows, infos_rows}
 use Rattle.snippet_strokes.specs.SourceRows.{source_row, window_cells}
@@ -76,18 +76,18 @@ module _ (layout : Layout) (view : LineView) (open_bars : List OpenBar) (info : 
 
   -- a line that is: its source row with the bars beside it is highlighted
   pub whole_added : (tops past : List OpenBar) (mid new : List (List Cell)) → tops ≡ ends_of_bars es → past ≡ past_bars → is_whole_line text es ≡ true
-      → All (HasBarRoom layout) tops → All (HasBarRoom layout) past → mid ≡ old ++ with_bars layout Solid past (with_bars layout Top tops plain) ∷ []
+      → All (HasBarRoom layout) tops → All (HasBarRoom layout) past → mid ≡ old ++ with_parts layout Solid past (with_parts layout Top tops plain) ∷ []
       → new ≡ changed_within (highlighted_row layout.code dropped (asking es)) row (row + 1) mid → new ≡ old ++ info_rows layout view open_bars info
   whole_added tops past mid new tops_are past_are whole tops_room past_room mid_is is =
-      let topped : List Cell = with_bars layout Top tops plain in
+      let topped : List Cell = with_parts layout Top tops plain in
       let bright : List Cell = lit plain in
-      let swapped : lit (with_bars layout Solid past topped) ≡ with_bars layout Solid past (with_bars layout Top tops bright) =
+      let swapped : lit (with_parts layout Solid past topped) ≡ with_parts layout Solid past (with_parts layout Top tops bright) =
       lit_bars layout drop_count (asking es) Solid past topped past_room
-      ∙ ap (with_bars layout Solid past) (lit_bars layout drop_count (asking es) Top tops plain tops_room) in
-      lit_last (with_bars layout Solid past topped) mid new mid_is is ∙ ap (λ cells. old ++ cells ∷ []) swapped
-      ∙ ap (λ bars. old ++ with_bars layout Solid bars (with_bars layout Top tops bright) ∷ []) past_are
-      ∙ ap (λ bars. old ++ with_bars layout Solid past_bars (with_bars layout Top bars bright) ∷ []) tops_are
-      ∙ ap (λ rows. old ++ map (with_bars layout Solid past_bars) rows)
+      ∙ ap (with_parts layout Solid past) (lit_bars layout drop_count (asking es) Top tops plain tops_room) in
+      lit_last (with_parts layout Solid past topped) mid new mid_is is ∙ ap (λ cells. old ++ cells ∷ []) swapped
+      ∙ ap (λ bars. old ++ with_parts layout Solid bars (with_parts layout Top tops bright) ∷ []) past_are
+      ∙ ap (λ bars. old ++ with_parts layout Solid past_bars (with_parts layout Top bars bright) ∷ []) tops_are
+      ∙ ap (λ rows. old ++ map (with_parts layout Solid past_bars) rows)
       (sym (own_whole layout view.margin.term_width view.closes text drop_count es bright whole))
 
 -- ---- all lines

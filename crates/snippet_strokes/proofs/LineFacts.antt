@@ -23,7 +23,7 @@ use Rattle.snippet_labels.specs.Positions.{ArePlaced}
 use Rattle.snippet_labels.specs.declared.positions.PlacedEntry.{PlacedEntry}
 use Rattle.snippet_strokes.specs.declared.bars.BarStroke.TheVariants.{Solid, Top}
 use Rattle.snippet_strokes.specs.declared.bars.OpenBar.{OpenBar}
-use Rattle.snippet_strokes.specs.Bars.{bars_apart, ends_of_bars, is_whole_line, with_bars}
+use Rattle.snippet_strokes.specs.Bars.{bars_apart, ends_of_bars, is_whole_line, with_parts}
 use Rattle.snippet_strokes.specs.Cuts.{overlapped}
 use Rattle.snippet_strokes.specs.LookedCuts.{cut_row}
 use Rattle.snippet_strokes.specs.LookedCuts.{cuts_of}
@@ -80,7 +80,7 @@ pub record StrokesPainted (layout : Layout) (room : ℕ) (closes : Bool) (es : L
 -- else the rows of its strokes
 pub record AreOwnRows (layout : Layout) (room : ℕ) (closes : Bool) (text : List ℕ) (dropped : ℕ) (es : List LineAnnotation) (source : List Cell)
     (rows : List (List Cell)) : Type 0 where
-  pub whole : is_whole_line text es ≡ true → rows ≡ with_bars layout Top (ends_of_bars es) source ∷ []
+  pub whole : is_whole_line text es ≡ true → rows ≡ with_parts layout Top (ends_of_bars es) source ∷ []
   pub none : es ≡ [] → rows ≡ source ∷ (if closes then closing_row layout.decor layout.gutter ∷ [] else [])
   pub strokes : is_whole_line text es ≡ false → 0 < length es → StrokesPainted layout room closes (map (shifted dropped) es) source rows
 
@@ -89,7 +89,7 @@ pub record AreLineRows (layout : Layout) (room : ℕ) (closes : Bool) (text : Li
     (source : List Cell) (rows : List (List Cell)) : Type 0 where
   pub own : List (List Cell)
   pub are : AreOwnRows layout room closes text dropped es source own
-  pub rows_are : rows ≡ map (with_bars layout Solid (bars_apart open_bars (ends_of_bars es))) own
+  pub rows_are : rows ≡ map (with_parts layout Solid (bars_apart open_bars (ends_of_bars es))) own
 
 -- ---- all of them
 

@@ -29,7 +29,7 @@ use Rattle.snippet_labels.specs.declared.positions.PlacedEntry.{PlacedEntry}
 use Rattle.snippet_strokes.specs.declared.bars.BarStroke.TheVariants.{Top}
 use Rattle.snippet_strokes.specs.declared.bars.OpenBar.{OpenBar}
 use Rattle.snippet_strokes.specs.declared.snippet.LineView.{LineView}
-use Rattle.snippet_strokes.specs.Bars.{ends_of_bars, is_whole_line, with_bars}
+use Rattle.snippet_strokes.specs.Bars.{ends_of_bars, is_whole_line, with_parts}
 use Rattle.snippet_strokes.specs.Cuts.{overlapped}
 use Rattle.snippet_strokes.specs.LookedCuts.{cut_row}
 use Rattle.snippet_strokes.specs.LookedCuts.{cuts_of}
@@ -130,7 +130,7 @@ module _ (layout : Layout) (room : ℕ) (closes : Bool) (text : List ℕ) (dropp
       }
   own_rows_are_rows (e ∷ es) source texts =
       let all : List LineAnnotation = e ∷ es in
-      let tops : List (List Cell) = with_bars layout Top (ends_of_bars all) source ∷ [] in
+      let tops : List (List Cell) = with_parts layout Top (ends_of_bars all) source ∷ [] in
       let strokes : List (List Cell) = stroke_rows layout room closes (map (shifted dropped) all) source in
       record {
         whole = λ is. cond-true (is_whole_line text all) tops strokes is;

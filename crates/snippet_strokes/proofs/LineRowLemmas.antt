@@ -12,7 +12,7 @@ use Rattle.snippet_parts.specs.declared.entries.LineAnnotation.{LineAnnotation}
 use Rattle.snippet_strokes.specs.declared.bars.BarStroke.TheVariants.{Top}
 use Rattle.snippet_grid.specs.Layout.{Layout}
 use Rattle.snippet_labels.specs.declared.positions.PlacedEntry.{PlacedEntry}
-use Rattle.snippet_strokes.specs.Bars.{ends_of_bars, is_whole_line, with_bars}
+use Rattle.snippet_strokes.specs.Bars.{ends_of_bars, is_whole_line, with_parts}
 use Rattle.snippet_labels.specs.PlacedEntries.{shifted}
 use Rattle.snippet_strokes.proofs.PlainEntries.{wide_entries}
 use Rattle.snippet_strokes.proofs.LineFacts.{StrokesPainted}
@@ -149,6 +149,6 @@ own_none layout room closes text dropped (e ∷ es) source none = absurd (omega 
 
 -- of a line that is marked as a whole
 pub own_whole : (layout : Layout) (room : ℕ) (closes : Bool) (text : List ℕ) (dropped : ℕ) (es : List LineAnnotation) (source : List Cell)
-    → is_whole_line text es ≡ true → own_rows layout room closes text dropped es source ≡ with_bars layout Top (ends_of_bars es) source ∷ []
+    → is_whole_line text es ≡ true → own_rows layout room closes text dropped es source ≡ with_parts layout Top (ends_of_bars es) source ∷ []
 own_whole layout room closes text dropped [] source whole = absurd (false≢true whole)
 own_whole layout room closes text dropped (e ∷ es) source whole = cond-true (is_whole_line text (e ∷ es)) _ _ whole

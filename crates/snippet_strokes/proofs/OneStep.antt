@@ -1,4 +1,4 @@
--- One bar that is drawn into a row, and one write into rows: what `with_bars` and `painted` do at each step.
+-- One bar that is drawn into a row, and one write into rows: what `with_parts` and `painted` do at each step.
 use Rattle.std.proofs.Common.{[], ◌∷◌, List}
 use Rattle.snippet_style.specs.Cell.{Cell, SPACE, text_cells, written}
 use Rattle.snippet_grid.specs.Grid.{cells_written}

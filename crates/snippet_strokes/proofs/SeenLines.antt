@@ -20,13 +20,13 @@ use Rattle.snippet_window.specs.declared.margin.Margin.{Margin}
 use Rattle.snippet_labels.specs.PlacedEntries.{shifted}
 use Rattle.snippet_strokes.specs.declared.bars.OpenBar.{OpenBar}
 use Rattle.snippet_strokes.specs.declared.bars.BarStroke.TheVariants.{Solid, Top}
-use Rattle.snippet_strokes.specs.Bars.{HasBarRoom, bars_apart, ends_of_bars, is_whole_line, open_below, with_bars}
+use Rattle.snippet_strokes.specs.Bars.{HasBarRoom, bars_apart, ends_of_bars, is_whole_line, open_below, with_parts}
 use Rattle.snippet_strokes.specs.Drawable.{AreDrawable}
 use Rattle.snippet_strokes.proofs.LineFacts.{AreLineRows, AreOwnRows, CanBeShown, IsHighlighted, IsSourceRow, ShowsLine}
 use Rattle.snippet_strokes.specs.declared.snippet.LineView.{LineView}
 use Rattle.snippet_strokes.specs.Snippet.{gap_row, gap_rows, info_rows, infos_rows}
 use Rattle.snippet_strokes.specs.SourceRows.{window_cells}
-use Rattle.snippet_strokes.proofs.BarLemmas.{AreSeen-drawn, BarsDrawn-with_bars, bar_space}
+use Rattle.snippet_strokes.proofs.BarLemmas.{AreSeen-drawn, BarsDrawn-with_parts, bar_space}
 use Rattle.snippet_strokes.proofs.ElisionLemmas.{gap_drawn}
 use Rattle.snippet_strokes.proofs.LineFromValue.{info_rows_show}
 use Rattle.snippet_strokes.proofs.NoStrokes.{none_seen}
@@ -96,8 +96,8 @@ module _ (layout : Layout) (room : ℕ) (closes : Bool) (text : List ℕ) (dropp
       elim (cases_Bool (is_whole_line text all)) [
         | inl whole ↦
             subst (Seen all) (sym (are.whole whole)) (AreSeen-drawn layout room (map (shifted dropped) all) closes source (source ∷ [])
-            (with_bars layout Top (ends_of_bars all)) bare.0
-            (λ cells. BarsDrawn-with_bars layout Top (ends_of_bars all) cells (room_ends layout all drawable.bar_cells))
+            (with_parts layout Top (ends_of_bars all)) bare.0
+            (λ cells. BarsDrawn-with_parts layout Top (ends_of_bars all) cells (room_ends layout all drawable.bar_cells))
             (whole_seen layout text room dropped closes all source whole bare))
         | inr other ↦
             painted_seen layout room closes (map (shifted dropped) all) source rows place (shifted_places dropped all drawable.columns)
@@ -109,8 +109,8 @@ module _ (layout : Layout) (room : ℕ) (closes : Bool) (text : List ℕ) (dropp
       → AreLineRows layout room closes text dropped open_bars es source rows → Seen es rows
   rows_seen open_bars es rows fit drawable are =
       let past : List OpenBar = bars_apart open_bars (ends_of_bars es) in
-      subst (Seen es) (sym are.rows_are) (AreSeen-drawn layout room (map (shifted dropped) es) closes source are.own (with_bars layout Solid past) bare.0
-      (λ cells. BarsDrawn-with_bars layout Solid past cells (room_apart layout open_bars (ends_of_bars es) fit))
+      subst (Seen es) (sym are.rows_are) (AreSeen-drawn layout room (map (shifted dropped) es) closes source are.own (with_parts layout Solid past) bare.0
+      (λ cells. BarsDrawn-with_parts layout Solid past cells (room_apart layout open_bars (ends_of_bars es) fit))
       (own_seen es are.own drawable are.are))
 
 -- no row of them holds a listed character

@@ -19,7 +19,7 @@ use Rattle.snippet_strokes.specs.Painting.{marks_of, painting_order, stroke_role
 use Rattle.snippet_strokes.specs.Writes.{Write, glyph_at, painted}
 use Rattle.snippet_labels.proofs.PlacedLemmas.{entries_all}
 use Rattle.snippet_strokes.specs.declared.bars.BarStroke.TheVariants.{Dotted, Solid, Top}
-use Rattle.snippet_strokes.specs.Bars.{Bar, HasOwnDepth, bar_at, bar_of, bars_apart, ends_of_bars, has_depth, is_whole_line, with_bars}
+use Rattle.snippet_strokes.specs.Bars.{Bar, HasOwnDepth, bar_at, bar_of, bars_apart, ends_of_bars, has_depth, is_whole_line, with_parts}
 use Rattle.snippet_strokes.specs.Drawing.{row_count}
 use Rattle.snippet_strokes.proofs.BarFacts.{BarBegins}
 use Rattle.snippet_strokes.proofs.LineFacts.{AreLineRows, AreOwnRows, StrokesPainted}
@@ -152,7 +152,7 @@ module _ (layout : Layout) (depth : ℕ) (room : layout.gutter + 2 + depth < lay
         → All (λ b. b.depth ≢ depth) open_bars → 0 < length rows → cell_at rows 0 cell ≡ get_or source cell SPACE
     line_source open_bars rows drawn open_others some =
         let past : List Bar = bars_apart open_bars (ends_of_bars es) in
-        let rule : List Cell → List Cell = with_bars layout Solid past in
+        let rule : List Cell → List Cell = with_parts layout Solid past in
         let as_many : length rows ≡ length drawn.own = ap length drawn.rows_are ∙ length-map drawn.own rule in
         let row : row_at rows 0 ≡ rule (row_at drawn.own 0) = ap (λ rs. row_at rs 0) drawn.rows_are
         ∙ get_or-map rule drawn.own 0 [] [] (omega (arith, some, as_many)) in
@@ -175,7 +175,7 @@ module _ (layout : Layout) (bar : Bar) (room : layout.gutter + 2 + bar.depth < l
   begins width closes text dropped open_bars source rows drawn none blank =
       bar_begins layout bar room es among alone width closes text dropped open_bars source rows drawn none (λ other.
       let past : List Bar = bars_apart open_bars (ends_of_bars es) in
-      let rule : List Cell → List Cell = with_bars layout Solid past in
+      let rule : List Cell → List Cell = with_parts layout Solid past in
       let as_many : length rows ≡ length drawn.own = ap length drawn.rows_are ∙ length-map drawn.own rule in
       let strokes = drawn.are.strokes other (some_entries layout bar room es among alone width closes text dropped open_bars source rows drawn) in
       let row : row_at rows 0 ≡ rule (row_at drawn.own 0) = ap (λ rs. row_at rs 0) drawn.rows_are

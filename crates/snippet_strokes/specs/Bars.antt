@@ -16,6 +16,7 @@ use Rattle.snippet_strokes.specs.declared.bars.BarStroke.{BarStroke}
 use Rattle.snippet_strokes.specs.declared.bars.BarStroke.TheVariants.{Top, Solid, Dotted}
 use Rattle.snippet_model.specs.AnnotationKind.{is_primary}
 use Rattle.snippet_labels.specs.Positions.{is_start_part}
+use Rattle.snippet_style.specs.declared.glyphs.Strokes.{Strokes}
 
 -- a bar, under a name that other crates can use
 abbrev pub Bar : Type 0
@@ -77,22 +78,32 @@ pub record StandsBeside (first : OpenBar) (cells : ℕ) (bar : OpenBar) : Type 0
   pub depth : bar.depth ≡ first.depth + cells
   pub primary : bar.primary ≡ first.primary
 
+-- a row with a glyph for each of some bars in the cell of its depth, this one of its strokes, in their role: of two bars of one depth the
+-- later one stands
+abbrev pub with_bars : Layout → (Strokes → ℕ) → List OpenBar → List Cell → List Cell
+with_bars layout glyph bars row =
+    fold (λ cells bar. written SPACE cells (bar_cell layout bar.depth)
+    (unlinked_cell (underline_role bar.primary) (glyph (strokes_of layout.decor bar.primary)) ∷ [])) row bars
+
+-- ---- parts of bars, as the code draws them
+
 -- the glyph of a part of a bar: its top beside a whole line, a part of it beside a line, or beside lines that aren't shown
+abbrev pub part_glyph : BarStroke → Strokes → ℕ
+part_glyph Top strokes = strokes.whole_line
+part_glyph Solid strokes = strokes.bar
+part_glyph Dotted strokes = strokes.elided_bar
+
 abbrev pub bar_glyph : BarStroke → DecorStyle → Bool → ℕ
-bar_glyph Top decor primary = (strokes_of decor primary).whole_line
-bar_glyph Solid decor primary = (strokes_of decor primary).bar
-bar_glyph Dotted decor primary = (strokes_of decor primary).elided_bar
+bar_glyph stroke decor primary = part_glyph stroke (strokes_of decor primary)
 
 -- the cell of a part of a bar: its glyph, in the role of its strokes
 abbrev pub bar_cell_part : Layout → BarStroke → OpenBar → Cell
 bar_cell_part layout stroke bar =
     unlinked_cell (underline_role bar.primary) (bar_glyph stroke layout.decor bar.primary)
 
--- a row with a part of each of some bars in the cell of its depth, in the role of its strokes: of two of one depth the later one stands
-abbrev pub with_bars : Layout → BarStroke → List OpenBar → List Cell → List Cell
-with_bars layout stroke bars row =
-    fold (λ cells bar. written SPACE cells (bar_cell layout bar.depth)
-    (unlinked_cell (underline_role bar.primary) (bar_glyph stroke layout.decor bar.primary) ∷ [])) row bars
+-- a row with a part of each of some bars
+abbrev pub with_parts : Layout → BarStroke → List OpenBar → List Cell → List Cell
+with_parts layout stroke bars row = with_bars layout (part_glyph stroke) bars row
 
 -- rows of which each from `row` on is changed by a rule
 abbrev pub changed_from : (List Cell → List Cell) → ℕ → List (List Cell) → List (List Cell)
@@ -100,7 +111,7 @@ changed_from rule row rows = take row rows ++ map rule (drop row rows)
 
 -- rows with parts of these bars in each from `row` on
 abbrev pub barred : Layout → BarStroke → List OpenBar → ℕ → List (List Cell) → List (List Cell)
-barred layout stroke bars row rows = changed_from (with_bars layout stroke bars) row rows
+barred layout stroke bars row rows = changed_from (with_parts layout stroke bars) row rows
 
 -- whether an entry of this line is drawn by bars alone: it is a bar, or a start with nothing but whitespace before it
 abbrev pub is_beside : List ℕ → LineAnnotation → Bool

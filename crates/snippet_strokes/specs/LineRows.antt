@@ -4,7 +4,6 @@ use Rattle.snippet_style.specs.Cell.{Cell}
 use Rattle.snippet_style.specs.Separators.{closing_row}
 use Rattle.snippet_parts.specs.declared.entries.LineAnnotation.{LineAnnotation}
 use Rattle.snippet_strokes.specs.declared.bars.OpenBar.{OpenBar}
-use Rattle.snippet_strokes.specs.declared.bars.BarStroke.TheVariants.{Top, Solid}
 use Rattle.snippet_grid.specs.Layout.{Layout}
 use Rattle.snippet_strokes.specs.Bars.{bars_apart, ends_of_bars, is_beside, with_bars}
 use Rattle.snippet_labels.specs.PlacedEntries.{shifted}
@@ -18,10 +17,10 @@ abbrev pub own_rows : Layout → ℕ → Bool → List ℕ → ℕ → List Line
 own_rows layout room closes text dropped [] source =
     source ∷ (if closes then closing_row layout.decor layout.gutter ∷ [] else [])
 own_rows layout room closes text dropped (e ∷ es) source =
-    if list_all (is_beside text) (e ∷ es) then with_bars layout Top (ends_of_bars (e ∷ es)) source ∷ [] else stroke_rows layout room closes
-    (map (shifted dropped) (e ∷ es)) source
+    if list_all (is_beside text) (e ∷ es) then with_bars layout (λ strokes. strokes.whole_line) (ends_of_bars (e ∷ es)) source ∷ []
+    else stroke_rows layout room closes (map (shifted dropped) (e ∷ es)) source
 
 -- the rows of a line, where these bars are open above it: its own, and over each of them the bars that run past, which are drawn last
 abbrev pub line_rows : Layout → ℕ → Bool → List ℕ → ℕ → List OpenBar → List LineAnnotation → List Cell → List (List Cell)
 line_rows layout room closes text dropped open_bars es source =
-    map (with_bars layout Solid (bars_apart open_bars (ends_of_bars es))) (own_rows layout room closes text dropped es source)
+    map (with_bars layout (λ strokes. strokes.bar) (bars_apart open_bars (ends_of_bars es))) (own_rows layout room closes text dropped es source)

@@ -31,8 +31,8 @@ stroke_role e = underline_role (is_primary e.entry.kind)
 -- ---- marks
 
 -- the mark of an entry: underlines below the columns that it covers, and at its first column, even where it covers none, a glyph of its own,
--- unless it ends left of that. The glyph of a start or an end is the corner where the line to its bar meets the mark, or where a stem leads down to that line the stem's top;
--- that of another entry the top of the stem that its label hangs from, if it has one
+-- unless it ends left of that. The glyph of a start or an end is the corner where the line to its bar meets the mark, or where a stem leads
+-- down to that line the stem's top; that of another entry the top of the stem that its label hangs from, if it has one
 abbrev pub mark_of : Layout → ℕ → PlacedEntry → List Write
 mark_of layout row e =
     let strokes = strokes_of layout.decor (is_primary e.entry.kind) in

@@ -10,7 +10,6 @@ use Rattle.snippet_text.specs.Normalized.{norm}
 use Rattle.snippet_text.specs.Width.{width_of}
 use Rattle.snippet_labels.specs.PlacedEntries.{is_end_part}
 use Rattle.snippet_strokes.specs.declared.bars.OpenBar.{OpenBar}
-use Rattle.snippet_strokes.specs.declared.bars.BarStroke.TheVariants.{Dotted}
 use Rattle.snippet_strokes.specs.declared.snippet.LineView.{LineView}
 use Rattle.snippet_strokes.specs.Bars.{open_below, with_bars}
 use Rattle.snippet_strokes.specs.LineRows.{line_rows}
@@ -36,7 +35,7 @@ info_rows layout view open_bars info =
 
 -- the row that stands for lines that are left out, where these bars run past them
 abbrev pub gap_row : Layout → List OpenBar → List Cell
-gap_row layout open_bars = with_bars layout Dotted open_bars (bare_elision_row layout.decor layout.gutter)
+gap_row layout open_bars = with_bars layout (λ strokes. strokes.elided_bar) open_bars (bare_elision_row layout.decor layout.gutter)
 
 -- what stands between the rows of a line of this number and those of the next of these lines: the row for the lines that are left
 -- out, if there are any, with the bars that are open there

@@ -13,9 +13,9 @@ use Rattle.snippet_text.specs.Normalized.{normalized_chars}
 use Rattle.snippet_parts.specs.declared.entries.LineAnnotation.{LineAnnotation}
 use Rattle.snippet_style.specs.Cell.{Cell}
 use Rattle.snippet_style.specs.Separators.{separator_row}
-use Rattle.snippet_strokes.specs.Drawing.{foot_glyph, row_count}
+use Rattle.snippet_strokes.specs.Drawing.{row_count}
 use Rattle.snippet_strokes.specs.Painting.{drawn_mark, mark_of, painting_order, stroke_role}
-use Rattle.snippet_labels.specs.Positions.{has_label, has_stem, label_place, placed_of, is_start_part}
+use Rattle.snippet_labels.specs.Positions.{has_label, has_stem, label_place, placed_of, is_start_part, takes_space}
 use Rattle.snippet_strokes.specs.Cuts.{cut_middle, overlapped}
 use Rattle.snippet_strokes.specs.SourceRows.{bare_row}
 use Rattle.std.specs.Option.{option_map_or}
@@ -32,13 +32,16 @@ label_of layout row e =
 
 -- ---- stems
 
--- the stem of an entry, if it has one, from the row of the marks down: at its foot another glyph
+-- the stem of an entry, if it has one, from the row of the marks down. At its foot stands another glyph: of a start the corner at which the
+-- line to its bar begins, of an end with a label the branch there, else the stem's own
 abbrev pub stem_of : Layout → ℕ → PlacedEntry → List Write
 stem_of layout row e =
-    let stem = (strokes_of layout.decor (is_primary e.entry.kind)).stem in
+    let strokes = strokes_of layout.decor (is_primary e.entry.kind) in
+    let end_foot = if takes_space e && has_label e then strokes.corner_with_label else strokes.stem in
+    let foot = if is_start_part e.entry.annotation_type then strokes.corner else end_foot in
     if has_stem e
-    then map (λ below. glyph_at (row + below) (code_cell layout e.entry.start.display) (if below == e.position then foot_glyph layout.decor e else stem)
-    (stroke_role e)) (range_with_len 0 (e.position + 1)) else []
+    then map (λ below. glyph_at (row + below) (code_cell layout e.entry.start.display) (if below == e.position then foot else strokes.stem) (stroke_role e))
+    (range_with_len 0 (e.position + 1)) else []
 
 -- ---- lines to bars
 

@@ -101,9 +101,9 @@ margin_bounds-room whitespace first last label_end room widest =
 pub margin_of-room : (room : ℕ) (lines : List KeptLine) → (margin_of room lines).term_width ≡ room
 margin_of-room room lines =
     let texts : List (List ℕ) = map (λ (l : KeptLine). chars l.text) lines in
-    let parts : List PartEntry = filter (λ (p : PartEntry). not (is_bar p.part)) (flat_map (λ (l : KeptLine). l.parts) lines) in
-    let columns : List ℕ = flat_map (λ (p : PartEntry). p.entry.start.display ∷ p.entry.end.display ∷ []) parts in
-    let ends : List ℕ = map (λ (p : PartEntry). end_with p.entry.end.display p.entry.label) parts in
+    let parts : List LineAnnotation = filter (λ (p : LineAnnotation). not (is_bar p.annotation_type)) (flat_map (λ (l : KeptLine). l.parts) lines) in
+    let columns : List ℕ = flat_map (λ (p : LineAnnotation). p.start.display ∷ p.end.display ∷ []) parts in
+    let ends : List ℕ = map (λ (p : LineAnnotation). end_with p.end.display p.label) parts in
     margin_bounds-room (unwrap_or (least (whitespaces_of texts)) 0) (unwrap_or (least columns) 0) (greatest columns) (greatest ends) room
     (greatest (widths_of texts))
 

@@ -18,6 +18,7 @@ use Rattle.snippet_parts.specs.Annotated.{bar_part, single_part}
 use Rattle.snippet_parts.specs.Annotated.{start_part, end_part, span_parts, promoted, long_parts, made_parts, parts_on, KeptLine}
 use Rattle.snippet_parts.specs.Annotated.{seen_kept, kept_line, annotated_lines}
 use Rattle.snippet_parts.specs.Depths.{depth_among}
+use Rattle.snippet_parts.specs.LongSpans.{bar_lines}
 use Rattle.snippet_parts.specs.Kept.{kept_lines}
 use Rattle.snippet_lines.specs.Lines.{Source}
 use Rattle.snippet_parts.specs.Mark.{is_marking, is_single_line}

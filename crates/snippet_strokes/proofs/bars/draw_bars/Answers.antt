@@ -1,7 +1,7 @@
 use Rattle.std.proofs.Common.{◌≡◌, ◌==◌, ◌∙◌, [], ap, arith, length, refl, sym, true, ℕ}
 use Rattle.std.proofs.lemmas.Bool.Decides.{nat_tests}
 use Rattle.std.proofs.lemmas.List.{nil_from_length}
-use Rattle.snippet_strokes.specs.Bars.{barred, with_bars}
+use Rattle.snippet_strokes.specs.Bars.{barred, with_parts}
 use Rattle.snippet_strokes.proofs.BarRows.{changed_same}
 use Rattle.snippet_strokes.proofs.bars.draw_bars.Goals as goal
 
@@ -17,5 +17,5 @@ returns-then-is_empty c =
     let none = nil_from_length bars (zero_told (length bars) (sym c.if-is_empty.true ∙ c.is_empty.ensures)) in
     record {
       value = sym (ap (λ bs. barred layout stroke bs c.args.row c.args.buffer.now) none
-          ∙ changed_same (with_bars layout stroke []) c.args.row c.args.buffer.now (λ cells. refl));
+          ∙ changed_same (with_parts layout stroke []) c.args.row c.args.buffer.now (λ cells. refl));
     }

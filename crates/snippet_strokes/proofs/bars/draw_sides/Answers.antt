@@ -2,7 +2,7 @@ use Rattle.std.proofs.Common.{◌≡◌, ◌∙◌, ◌-◌, ◌+◌, ◌<◌, �
 use Rattle.std.proofs.lemmas.List.{get_or_default, take_all}
 use Rattle.snippet_strokes.specs.declared.bars.OpenBar.{OpenBar}
 use Rattle.snippet_style.specs.Cell.{Cell, SPACE, written}
-use Rattle.snippet_strokes.specs.Bars.{StandsBeside, bar_cell_part, barred, changed_from, with_bars}
+use Rattle.snippet_strokes.specs.Bars.{StandsBeside, bar_cell_part, barred, changed_from, with_parts}
 use Rattle.snippet_strokes.proofs.BarRows.{changed-more, changed_same, side_drawn}
 use Rattle.snippet_strokes.proofs.BarLemmas.{no_bar}
 use Rattle.snippet_strokes.proofs.bars.draw_sides.Goals as goal
@@ -10,7 +10,7 @@ use Rattle.snippet_strokes.proofs.bars.draw_sides.Goals as goal
 pub loop-from-init : goal.loop-from-init
 loop-from-init c = (
   omega arith,
-  sym (changed_same (with_bars c.args.layout c.args.stroke []) c.args.row c.args.buffer.now (λ cells. refl)),
+  sym (changed_same (with_parts c.args.layout c.args.stroke []) c.args.row c.args.buffer.now (λ cells. refl)),
 )
 
 pub side_end-to-requires-clause-right : goal.side_end-to-requires-clause-right
@@ -48,8 +48,8 @@ loop-from-preserved c =
       to.ensures.within,
       c.in_ok-draw_side.ensures.value
           ∙ ap (changed_from side c.args.row) c.loop-from.invariant.1
-          ∙ changed-more (with_bars layout c.args.stroke (take from bars)) side
-          (with_bars layout c.args.stroke (take to.result bars)) c.args.row c.args.buffer.now
+          ∙ changed-more (with_parts layout c.args.stroke (take from bars)) side
+          (with_parts layout c.args.stroke (take to.result bars)) c.args.row c.args.buffer.now
           (λ cells. side_drawn layout c.args.stroke bars from to.result first cells to.ensures.more to.ensures.within beside),
     )
 

@@ -5,10 +5,10 @@ use Rattle.snippet_style.specs.Cell.{Cell}
 use Rattle.snippet_text.specs.Normalized.{norm}
 use Rattle.snippet_grid.specs.Grid.{changed_within}
 use Rattle.snippet_strokes.specs.declared.bars.BarStroke.TheVariants.{Solid, Top}
-use Rattle.snippet_strokes.specs.Bars.{with_bars}
+use Rattle.snippet_strokes.specs.Bars.{with_parts}
 use Rattle.snippet_strokes.specs.SourceRows.{source_row, window_cells}
 use Rattle.snippet_strokes.specs.StrokeRows.{highlighted_row}
-use Rattle.snippet_strokes.proofs.BarLemmas.{BarsDrawn-with_bars}
+use Rattle.snippet_strokes.proofs.BarLemmas.{BarsDrawn-with_parts}
 use Rattle.snippet_strokes.proofs.HighlightLaws.{asking}
 use Rattle.snippet_strokes.proofs.LineAdded.{row_added, whole_added}
 use Rattle.snippet_strokes.proofs.SourceRowLemmas.{source_row_short}
@@ -21,13 +21,13 @@ highlight_source-requires-clause-short c =
     let shown = shown_number c.args.view.numbers layout.gutter info.line_index in
     let cells : List Cell = window_cells layout.decor c.args.view.margin (norm (chars info.line.now)) in
     let plain : List Cell = source_row layout shown cells in
-    let topped : List Cell = with_bars layout Top c.args.beside.tops.now plain in
+    let topped : List Cell = with_parts layout Top c.args.beside.tops.now plain in
     let drawn = c.in_ok-row.ensures in
     omega (
       arith,
       ap length (row_added c.args.buffer.now c.draw_source_row.new.buffer _ c.in_ok-row.row drawn.row drawn.added),
-      (BarsDrawn-with_bars layout Solid c.args.beside.past.now topped c.requires.beside.past_room).short,
-      (BarsDrawn-with_bars layout Top c.args.beside.tops.now plain c.requires.beside.tops_room).short,
+      (BarsDrawn-with_parts layout Solid c.args.beside.past.now topped c.requires.beside.past_room).short,
+      (BarsDrawn-with_parts layout Top c.args.beside.tops.now plain c.requires.beside.tops_room).short,
       source_row_short layout shown cells c.requires.drawable.number,
       drawn.short,
     )

@@ -4,7 +4,7 @@ use Rattle.snippet_grid.specs.LayoutOf.{layout_of}
 use Rattle.snippet_strokes.specs.SourceRows.{begun_cells, ended_cells, source_row}
 use Rattle.snippet_style.specs.Cell.{Cell}
 use Rattle.snippet_style.specs.declared.glyphs.DecorStyle.{DecorStyle}
-use Rattle.snippet_strokes.specs.Bars.{with_bars}
+use Rattle.snippet_strokes.specs.Bars.{with_parts}
 use Rattle.snippet_strokes.specs.declared.bars.BarStroke.TheVariants.{Solid, Top}
 use Rattle.snippet_window.proofs.NearLemmas.{part_of_norm}
 use Rattle.snippet_text.specs.Normalized.{norm}
@@ -74,7 +74,7 @@ returns-clause-added c =
     (window.ensures.end (norm line) part) in
     let old = args.buffer.now in
     let sides : Layout → List Cell → List (List Cell) = λ l cs.
-    old ++ with_bars l Solid args.beside.past.now (with_bars l Top args.beside.tops.now cs) ∷ [] in
+    old ++ with_parts l Solid args.beside.past.now (with_parts l Top args.beside.tops.now cs) ∷ [] in
     let text_cells : DecorStyle → List Cell = λ decor.
     ended_cells decor window.result.end (begun_cells decor window.result.start (chars window.result.text.now)) in
     let given = subst (λ (l : Layout). c.write_source_row.new.buffer ≡ sides l (source_row l (chars c.as_str-2.result.now) (text_cells l.decor)))

@@ -2,7 +2,7 @@ use Rattle.std.proofs.Common.{◌≡◌, ◌∙◌, ◌++◌, ◌∷◌, [], Lis
 use Rattle.std.specs.Str.{chars}
 use Rattle.snippet_style.specs.Cell.{Cell}
 use Rattle.snippet_strokes.specs.declared.bars.BarStroke.TheVariants.{Top, Solid}
-use Rattle.snippet_strokes.specs.Bars.{barred, with_bars}
+use Rattle.snippet_strokes.specs.Bars.{barred, with_parts}
 use Rattle.snippet_strokes.specs.SourceRows.{begun_cells, ended_cells}
 use Rattle.snippet_strokes.proofs.BesideLemmas.{barred_last, bars_first, bars_left}
 use Rattle.snippet_strokes.proofs.CellLemmas.{shown_short}
@@ -21,8 +21,8 @@ returns-clause-added c =
     let past = c.args.beside.past.now in
     let place = c.in_ok-row.ensures.place in
     let start : List Cell = front layout shown in
-    let sides : List Cell = with_bars layout Solid past start in
-    let full : List Cell = with_bars layout Top tops sides in
+    let sides : List Cell = with_parts layout Solid past start in
+    let full : List Cell = with_parts layout Top tops sides in
     let ends = bars_left layout Top tops sides c.requires.beside.tops_room
     (bars_left layout Solid past start c.requires.beside.past_room (front_short layout shown place c.requires.number)) in
     let begun : c.begin_source_row.new.buffer ≡ old ++ start ∷ [] = c.in_ok-row.ensures.added in
