@@ -197,16 +197,16 @@ module _ (r : Renderer) (layout : Layout) (s : Snippet Annotation)
             ]
 
     -- the text of the line before it is cut where spans are wide
-    window_text : row_text (drop layout.code shows.highlighted) ≡ window (placeholder_of layout.decor) (room_of r layout) (margin_in r layout s).computed_left
-        (margin_in r layout s).computed_right text
+    window_text : row_text (drop layout.code shows.highlighted) ≡ window (placeholder_of layout.decor) (margin_in r layout s).term_width
+        (margin_in r layout s).computed_left (margin_in r layout s).computed_right text
     window_text =
         sym (drop-map (λ (cell : Cell). cell.ch) layout.code shows.highlighted)
         ∙ ap (drop layout.code) (highlighted_text layout.code shows.dropped _ shows.plain shows.highlighted shows.highlights)
         ∙ drop-map (λ (cell : Cell). cell.ch) layout.code shows.plain
         ∙ ap row_text shows.shows.shows.code ∙ row_text-window_cells layout.decor margin (norm (chars info.line.now))
-        ∙ ap (λ n. window (placeholder_of layout.decor) n margin.computed_left margin.computed_right (norm (chars info.line.now))) room
-        ∙ ap (λ (m : Margin). window (placeholder_of layout.decor) (room_of r layout) m.computed_left m.computed_right (norm (chars info.line.now))) margin_is
-        ∙ ap (window (placeholder_of layout.decor) (room_of r layout) (margin_in r layout s).computed_left (margin_in r layout s).computed_right) line_text
+        ∙ ap (λ (m : Margin). window (placeholder_of layout.decor) m.term_width m.computed_left m.computed_right (norm (chars info.line.now))) margin_is
+        ∙ ap (window (placeholder_of layout.decor) (margin_in r layout s).term_width (margin_in r layout s).computed_left
+        (margin_in r layout s).computed_right) line_text
 
     dropped_here : shows.dropped ≡ width_of (dropped_part (margin_in r layout s).computed_left text)
     dropped_here =
@@ -257,7 +257,8 @@ module _ (r : Renderer) (layout : Layout) (s : Snippet Annotation)
             ordered = omega (arith, ordered, ap (λ (m : Margin). m.computed_left) margin_is, ap (λ (m : Margin). m.computed_right) margin_is);
             dropped_is = dropped_here;
             shown_is = subst (λ n. AreReplaced (placeholder_of layout.decor)
-                n (window (placeholder_of layout.decor) (room_of r layout) (margin_in r layout s).computed_left (margin_in r layout s).computed_right text)
+                n (window (placeholder_of layout.decor) (margin_in r layout s).term_width (margin_in r layout s).computed_left
+                (margin_in r layout s).computed_right text)
                 (row_text (drop layout.code rows_show.source)))
                 wide_is (subst (λ before. AreReplaced (placeholder_of layout.decor)
                 (wide_entries margin.term_width layout.decor (map (shifted shows.dropped) es)) before (row_text (drop layout.code rows_show.source)))

@@ -153,11 +153,11 @@ source_one_line r layout s k dropped row shows plain =
     let line : List ℕ = norm (chars_at (cow_str_bytes s.source) k) in
     let shown : List ℕ = row_text (drop layout.code row) in
     let own : All IsNoFeed placeholder = placeholder_plain layout.decor in
-    let windowed : All IsNoFeed (window placeholder room margin.computed_left margin.computed_right line) =
-    window_plain placeholder room margin.computed_left margin.computed_right line own
+    let windowed : All IsNoFeed (window placeholder margin.term_width margin.computed_left margin.computed_right line) =
+    window_plain placeholder margin.term_width margin.computed_left margin.computed_right line own
     (norm-plain (chars_at (cow_str_bytes s.source) k) plain) in
     let text : All IsNoFeed shown = replaced_plain placeholder (wide_spans room (length placeholder) s k)
-    (window placeholder room margin.computed_left margin.computed_right line) shown own shows.window.shown_is windowed in
+    (window placeholder margin.term_width margin.computed_left margin.computed_right line) shown own shows.window.shown_is windowed in
     let number : List ℕ = number_text r s.line_numbering layout.gutter (s.line_start + k) in
     let left : HasNoFeed (cells_left layout.decor layout.gutter number) = left_plain layout.decor layout.gutter number
     (number_plain (line_numbers r s.line_numbering) layout.gutter (s.line_start + k)) in

@@ -8,7 +8,7 @@ use Rattle.snippet_style.specs.declared.role.ElementStyle.{ElementStyle}
 use Rattle.snippet_style.specs.declared.role.ElementStyle.TheVariants.{LineNumber, UnderlinePrimary, UnderlineSecondary}
 use Rattle.snippet_style.specs.Glyphs.{elision_of}
 use Rattle.snippet_style.specs.Cell.{Cell, SPACE, text_cells, gives_way}
-use Rattle.snippet_grid.specs.Layout.{Layout, inner_cell}
+use Rattle.snippet_grid.specs.Layout.{Layout}
 use Rattle.snippet_strokes.specs.EntryMarks.{IsBarCell}
 use Rattle.snippet_model.specs.AnnotationKind.{is_primary}
 use Rattle.snippet_model.specs.FreeRows.{IsFree}
@@ -20,8 +20,8 @@ bare_elision_row Unicode gutter = replicate (gutter + 1) SPACE ++ text_cells Lin
 
 -- the row that stands for lines that are left out, with the bars that run past them; it ends left of the code
 pub record IsElisionRow (layout : Layout) (row : List Cell) : Type 0 where
-  pub left : (c : ℕ) → c < inner_cell layout → slice_index_or row c SPACE ≡ slice_index_or (bare_elision_row layout.decor layout.gutter) c SPACE
-  pub bar_cells : (c : ℕ) → inner_cell layout ≤ c → c < layout.code → IsBarCell layout.decor (slice_index_or row c SPACE)
+  pub left : (c : ℕ) → c < layout.gutter + 3 → slice_index_or row c SPACE ≡ slice_index_or (bare_elision_row layout.decor layout.gutter) c SPACE
+  pub bar_cells : (c : ℕ) → layout.gutter + 3 ≤ c → c < layout.code → IsBarCell layout.decor (slice_index_or row c SPACE)
   pub ends : length row ≤ layout.code
   pub free : IsFree row
 

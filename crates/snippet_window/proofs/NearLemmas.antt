@@ -305,6 +305,8 @@ holds_norm room left right skipped line part holds =
 pub part_of_norm : (margin : Margin) (width skipped : ℕ) (line near part : List ℕ) → width ≡ width_of line → part ≡ norm near
     → HoldsWindow margin.term_width margin.computed_left margin.computed_right line skipped near → IsPartOf margin (norm line) width skipped part
 part_of_norm margin width skipped line near part is_width is_part holds =
-    let all = holds_norm margin.term_width margin.computed_left margin.computed_right skipped line near holds in
-    (is_width ∙ sym (width_of-norm line), subst (HoldsWindow margin.term_width margin.computed_left
-    margin.computed_right (norm line) skipped) (sym is_part) all)
+    let all = holds_norm margin.term_width margin.computed_left margin.computed_right skipped line near holds in (
+      is_width ∙ sym (width_of-norm line),
+      subst (HoldsWindow margin.term_width margin.computed_left
+          margin.computed_right (norm line) skipped) (sym is_part) all,
+    )

@@ -11,6 +11,7 @@ use Rattle.snippet_lines.specs.Lines.{source_lines, text_at}
 use Rattle.snippet_lines.specs.Place.{end_location}
 use Rattle.snippet_parts.specs.Mark.{is_marking, is_single_line, is_marked_on, is_wide, start_column}
 use Rattle.snippet_parts.specs.Kept.{kept_lines}
+use Rattle.snippet_window.specs.declared.margin.Margin.{Margin}
 
 -- the width of the whitespace that a line begins with, four columns of a tab, one of any other; none of a blank line, which is
 -- nothing else
@@ -77,12 +78,12 @@ AreReplaced placeholder zero before after = after ≡ before
 AreReplaced placeholder (suc n) before after =
     (after ≡ before) ⊎ ((front stretch back : List ℕ) × (before ≡ front ++ stretch ++ back) × AreReplaced placeholder n (front ++ placeholder ++ back) after)
 
--- `shown` is the window of a text between these bounds, left of which so many columns are dropped; where the line has wide
+-- `shown` is the window of a text between the bounds of a margin, left of which so many columns are dropped; where the line has wide
 -- spans, one stretch for each may then be replaced by the placeholder
-pub record IsWindowOf (placeholder : List ℕ) (room wide left right : ℕ) (text : List ℕ) (dropped : ℕ) (shown : List ℕ) : Type 0 where
-  pub ordered : left ≤ right
-  pub dropped_is : dropped ≡ width_of (dropped_part left text)
-  pub shown_is : AreReplaced placeholder wide (window placeholder room left right text) shown
+pub record IsWindowOf (placeholder : List ℕ) (margin : Margin) (wide : ℕ) (text : List ℕ) (dropped : ℕ) (shown : List ℕ) : Type 0 where
+  pub ordered : margin.computed_left ≤ margin.computed_right
+  pub dropped_is : dropped ≡ width_of (dropped_part margin.computed_left text)
+  pub shown_is : AreReplaced placeholder wide (window placeholder margin.term_width margin.computed_left margin.computed_right text) shown
 
 -- the characters of line k of a source
 abbrev pub chars_at : List ℕ → ℕ → List ℕ

@@ -9,7 +9,7 @@ use Rattle.snippet_model.specs.declared.snippet.Snippet.{Snippet}
 use Rattle.snippet_style.specs.Cell.{Cell, SPACE, unlinked_cell}
 use Rattle.snippet_style.specs.Glyphs.{strokes_of, underline_role}
 use Rattle.snippet_grid.specs.Grid.{cell_at}
-use Rattle.snippet_grid.specs.Layout.{Layout, bar_cell, inner_cell}
+use Rattle.snippet_grid.specs.Layout.{Layout, bar_cell}
 use Rattle.snippet_parts.specs.Annotated.{depth_of, is_long}
 use Rattle.snippet_parts.specs.Mark.{touches}
 use Rattle.snippet_parts.specs.Marked.{first_line, last_line}
@@ -68,13 +68,13 @@ pub record ShowsBars (layout : Layout) (s : Snippet Annotation) (rows : List Nam
   pub each : (a : Annotation) → Contains s.markers.items a → is_long (cow_str_bytes s.source) a ≡ true
       → (above : List NamedRow) (row : NamedRow) (below : List NamedRow) → rows ≡ above ++ row ∷ below → HasBar layout s a above row below
   pub within : (a : Annotation) → Contains s.markers.items a → is_long (cow_str_bytes s.source) a ≡ true
-      → (inner_cell layout ≤ bar_cell layout (bar_of_span s a).depth) × (bar_cell layout (bar_of_span s a).depth + 1 < layout.code)
+      → (layout.gutter + 3 ≤ bar_cell layout (bar_of_span s a).depth) × (bar_cell layout (bar_of_span s a).depth + 1 < layout.code)
   pub apart : (a b : Annotation) → Contains s.markers.items a → Contains s.markers.items b → is_long (cow_str_bytes s.source) a ≡ true
       → is_long (cow_str_bytes s.source) b ≡ true → first_line (cow_str_bytes s.source) a ≤ last_line (cow_str_bytes s.source) b
       → first_line (cow_str_bytes s.source) b ≤ last_line (cow_str_bytes s.source) a
       → bar_cell layout (bar_of_span s a).depth ≡ bar_cell layout (bar_of_span s b).depth
       → (a.span.start ≡ b.span.start) × (a.span.end ≡ b.span.end)
-  pub others : (above : List NamedRow) (row : NamedRow) (below : List NamedRow) → rows ≡ above ++ row ∷ below → (c : ℕ) → inner_cell layout ≤ c
+  pub others : (above : List NamedRow) (row : NamedRow) (below : List NamedRow) → rows ≡ above ++ row ∷ below → (c : ℕ) → layout.gutter + 3 ≤ c
       → c < layout.code → All (λ a. is_long (cow_str_bytes s.source) a ≡ true → touches (cow_str_bytes s.source) a (line_beside above row.name) ≡ true
       → bar_cell layout (bar_of_span s a).depth ≢ c) s.markers.items → (slice_index_or row.cells c SPACE ≡ SPACE)
       ⊎ ((shows_lines row.name ≡ false) × IsNoBar layout.decor (slice_index_or row.cells c SPACE))

@@ -16,7 +16,7 @@ use Rattle.snippet_style.specs.Glyphs.{separator_of, placeholder_of}
 use Rattle.snippet_strokes.specs.EntryMarks.{IsBarCell}
 use Rattle.snippet_strokes.specs.SourceRows.{bare_row}
 use Rattle.annotate_snippets.specs.declared.renderer.Renderer.{Renderer}
-use Rattle.snippet_grid.specs.Layout.{Layout, inner_cell}
+use Rattle.snippet_grid.specs.Layout.{Layout}
 use Rattle.annotate_snippets.specs.GraphicForm.{margin_in}
 use Rattle.annotate_snippets.specs.Gutter.{number_text}
 
@@ -28,7 +28,7 @@ wide_spans room placeholder_width s k =
 -- after the separator and the space after it, the cells of a row left of the code hold nothing but bars and their corners
 abbrev pub HasBarsAlone : DecorStyle → Layout → List Cell → Type 0
 HasBarsAlone decor layout row =
-    (c : ℕ) → inner_cell layout ≤ c → c < layout.code → IsBarCell decor (slice_index_or row c SPACE)
+    (c : ℕ) → layout.gutter + 3 ≤ c → c < layout.code → IsBarCell decor (slice_index_or row c SPACE)
 
 -- what stands left of the bars beside a line: what the gutter shows there, spaces up to the separator, and the separator
 abbrev pub cells_left : DecorStyle → ℕ → List ℕ → List Cell
@@ -44,14 +44,14 @@ pub record ShowsSourceLine (r : Renderer) (layout : Layout) (s : Snippet Annotat
   pub left : take (layout.gutter + 2) row ≡ cells_left layout.decor layout.gutter (number_text r s.line_numbering layout.gutter (s.line_start + k))
   pub space : slice_index_or row (layout.gutter + 2) SPACE ≡ SPACE
   pub bars : HasBarsAlone layout.decor layout row
-  pub window : IsWindowOf (placeholder_of layout.decor) (r.term_width - layout.code)
-      (wide_spans (r.term_width - layout.code) (length (placeholder_of layout.decor)) s k) (margin_in r layout s).computed_left
-      (margin_in r layout s).computed_right (norm (chars_at (cow_str_bytes s.source) k)) dropped (row_text (drop layout.code row))
+  pub window : IsWindowOf (placeholder_of layout.decor) (margin_in r layout s)
+      (wide_spans (r.term_width - layout.code) (length (placeholder_of layout.decor)) s k) (norm (chars_at (cow_str_bytes s.source) k)) dropped
+      (row_text (drop layout.code row))
   pub whole : stands_whole (r.term_width - layout.code) (length (placeholder_of layout.decor)) s.fold (cow_str_bytes s.source) s.markers.items k ≡ true
       → (dropped ≡ 0) × (row_text (drop layout.code row) ≡ norm (chars_at (cow_str_bytes s.source) k))
 
 -- a row below that of a line: up to the bars it has just the cells of a separator row, or where the group's window closes with it
 -- those of a closing row, so that it can't be taken for the row of a line; and between these and the code nothing but bars
 pub record IsRowBelow (decor : DecorStyle) (layout : Layout) (closes : Bool) (row : List Cell) : Type 0 where
-  pub left : (c : ℕ) → c < inner_cell layout → slice_index_or row c SPACE ≡ slice_index_or (bare_row decor layout.gutter closes) c SPACE
+  pub left : (c : ℕ) → c < layout.gutter + 3 → slice_index_or row c SPACE ≡ slice_index_or (bare_row decor layout.gutter closes) c SPACE
   pub bars : HasBarsAlone decor layout row
