@@ -15,6 +15,7 @@ pub mod LastLemmas
 pub mod OutcomeLemmas
 pub mod PieceLemmas
 pub mod PrintsOnce
+pub mod PrintsPieces
 pub mod PutLemmas
 pub mod ReplaceLemmas
 pub mod ReplacedRow

@@ -1,6 +1,7 @@
 -- A grid has one printed text under a sheet.
 use Rattle.std.proofs.Common.{◌≡◌, ℕ, List, [], ◌∷◌, ◌++◌, Option, None, Some, refl, sym, ap, ◌∙◌, inl, inr, subst}
 use Rattle.std.specs.List.{flat_map}
+use Rattle.snippet_grid.proofs.PrintsPieces.{PrintsPieces-from_prints}
 use Rattle.snippet_grid.proofs.WeaveLemmas.{Url, none≢some, some_same}
 use Rattle.snippet_grid.proofs.WovenLemmas.{nil≢cons}
 use Rattle.snippet_style.specs.Cell.{Cell}
@@ -123,5 +124,7 @@ pieces_once sheet level ps qs (row ∷ rows) (first, others, a_is, a, a_below) (
 -- rows are printed as one text only
 pub Prints-unique : (sheet : Stylesheet) (level : LevelInner) (rows : List (List Cell)) (text other : List ℕ) → Prints sheet level rows text
     → Prints sheet level rows other → other ≡ text
-Prints-unique sheet level rows text other a b =
+Prints-unique sheet level rows text other one two =
+    let a = PrintsPieces-from_prints sheet level rows text one in
+    let b = PrintsPieces-from_prints sheet level rows other two in
     b.text_is ∙ ap (flat_map piece_text) (pieces_once sheet level b.pieces a.pieces rows b.prints a.prints) ∙ sym a.text_is

@@ -10,6 +10,7 @@ use Rattle.std.specs.Cmp.Lexicographic.{same_text}
 use Rattle.std.specs.List.{flat_map, slice_index_or}
 use lib.Pointwise.{pointwise}
 use Rattle.snippet_style.proofs.StyleLemmas.{plain_is_plain}
+use Rattle.snippet_grid.proofs.PrintsPieces.{Prints-from_pieces, PrintsPieces-from_prints}
 use Rattle.snippet_grid.proofs.WeaveLemmas.{Url, none≢some, some_same, is_there}
 use Rattle.snippet_style.specs.Codes.{opening, reset}
 use Rattle.snippet_grid.specs.Grid.{EachCell}
@@ -213,7 +214,8 @@ rows_woven sheet level ps (row ∷ rows) (first, others, split, prints, below) =
 -- a printed grid is a woven text, whose plain text and links are the rows' own
 pub IsWoven-from_prints : (sheet : Stylesheet) (level : LevelInner) (rows : List (List Cell)) (text : List ℕ) → Prints sheet level rows text
     → IsWoven sheet text (plain_text rows) (links_of rows)
-IsWoven-from_prints sheet level rows text prints =
+IsWoven-from_prints sheet level rows text given =
+    let prints = PrintsPieces-from_prints sheet level rows text given in
     let woven = rows_woven sheet level prints.pieces rows prints.prints in
     record {
       pieces = prints.pieces;
@@ -234,7 +236,7 @@ AddsRows-same sheet level rows added old start text same begun adds =
 pub Prints-from_adds : (sheet : Stylesheet) (level : LevelInner) (rows added : List (List Cell)) (old text : List ℕ) → added ≡ rows → old ≡ []
     → WeavesRows sheet level added old text → Prints sheet level rows text
 Prints-from_adds sheet level rows added old text same none adds =
-    record {
+    Prints-from_pieces sheet level rows text record {
       pieces = adds.pieces;
       text_is = adds.text_is ∙ ap (λ (t : List ℕ). t ++ flat_map piece_text adds.pieces) none;
       prints = subst (λ (rs : List (List Cell)). PrintsRows sheet level adds.pieces rs) same adds.are;

@@ -1,7 +1,7 @@
 -- Woven texts: plain characters, with the codes of styles and links between them.
 use Rattle.std.specs.Prelude.{◌≡◌, ◌≢◌, ◌⊎◌, ℕ, Bool, true, false, if◌then◌else◌, nat_eq, List, [], ◌∷◌, ◌++◌, Option, None, Some, All, encode_utf8}
-use Rattle.std.specs.Prelude.{encode_utf8_all}
-use Rattle.std.specs.List.{flat_map}
+use Rattle.std.specs.Prelude.{encode_utf8_all, map}
+use Rattle.std.specs.List.{AllZip, flat_map, join_with_byte}
 use lib.Pointwise.{pointwise}
 use Rattle.snippet_style.specs.Codes.{opening, reset}
 use Rattle.snippet_style.specs.Cell.{Cell}
@@ -82,24 +82,11 @@ PrintsCells sheet level style link (LinkEnd ∷ ps) cells =
 abbrev pub PrintsRow : Stylesheet → LevelInner → List Piece → List Cell → Type 0
 PrintsRow sheet level pieces row = PrintsCells sheet level (Some sheet.none) None pieces row
 
--- these pieces print some rows, each of them after a line feed
-abbrev pub PrintsFurther : Stylesheet → LevelInner → List Piece → List (List Cell) → Type 0
-PrintsFurther sheet level pieces [] = pieces ≡ []
-PrintsFurther sheet level pieces (row ∷ rows) =
-    (first : List Piece) × (others : List Piece) × (pieces ≡ Char 10 ∷ first ++ others) × PrintsRow sheet level first row
-    × PrintsFurther sheet level others rows
-
--- these pieces print some rows, joined by line feeds
-abbrev pub PrintsRows : Stylesheet → LevelInner → List Piece → List (List Cell) → Type 0
-PrintsRows sheet level pieces [] = pieces ≡ []
-PrintsRows sheet level pieces (row ∷ rows) =
-    (first : List Piece) × (others : List Piece) × (pieces ≡ first ++ others) × PrintsRow sheet level first row × PrintsFurther sheet level others rows
-
--- the text is a grid's rows, printed under a sheet in a group of this level
+-- the text is a grid's rows, joined by line feeds, each of which such pieces print under a sheet in a group of this level
 pub record Prints (sheet : Stylesheet) (level : LevelInner) (rows : List (List Cell)) (text : List ℕ) : Type 0 where
-  pub pieces : List Piece
-  pub text_is : text ≡ flat_map piece_text pieces
-  pub prints : PrintsRows sheet level pieces rows
+  pub lines : List (List Piece)
+  pub text_is : text ≡ join_with_byte 10 (map (flat_map piece_text) lines)
+  pub prints : AllZip (PrintsRow sheet level) lines rows
 
 -- the style is one that the sheet gives to some role
 pub record IsStyleOf (sheet : Stylesheet) (style : Style) : Type 0 where
@@ -145,6 +132,19 @@ links_after last (cell ∷ cells) = link_begun last cell.link ++ links_after cel
 -- the URLs of the linked runs of a grid, row by row
 abbrev pub links_of : List (List Cell) → List (List ℕ)
 links_of rows = flat_map (λ row. links_after None row) rows
+
+-- these pieces print some rows, each of them after a line feed
+abbrev pub PrintsFurther : Stylesheet → LevelInner → List Piece → List (List Cell) → Type 0
+PrintsFurther sheet level pieces [] = pieces ≡ []
+PrintsFurther sheet level pieces (row ∷ rows) =
+    (first : List Piece) × (others : List Piece) × (pieces ≡ Char 10 ∷ first ++ others) × PrintsRow sheet level first row
+    × PrintsFurther sheet level others rows
+
+-- these pieces print some rows, joined by line feeds
+abbrev pub PrintsRows : Stylesheet → LevelInner → List Piece → List (List Cell) → Type 0
+PrintsRows sheet level pieces [] = pieces ≡ []
+PrintsRows sheet level pieces (row ∷ rows) =
+    (first : List Piece) × (others : List Piece) × (pieces ≡ first ++ others) × PrintsRow sheet level first row × PrintsFurther sheet level others rows
 
 -- a text grew by pieces of this kind
 pub record AddsPieces (P : List Piece → Type 0) (old new : List ℕ) : Type 0 where
