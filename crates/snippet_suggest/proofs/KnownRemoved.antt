@@ -16,7 +16,8 @@ use Rattle.snippet_splice.specs.ShownText.{first_start}
 use Rattle.snippet_suggest.specs.declared.prepared.PreparedSuggestion.{PreparedSuggestion}
 use Rattle.snippet_suggest.specs.declared.kind.DisplaySuggestion.TheVariants.{Diff}
 use Rattle.snippet_suggest.specs.Given.{edits_of, emptied_lines, first_end, first_original, first_original_end, first_given, given_lines, last_reached}
-use Rattle.snippet_suggest.specs.Given.{last_removed, lines_touched, removed_lines, removed_of, replaced_lines, shown_kind, texts_at, texts_of_source}
+use Rattle.snippet_suggest.specs.Given.{last_removed, lines_touched, removed_lines, replaced_lines, shown_kind, texts_at, texts_of_source}
+use Rattle.snippet_suggest.proofs.ByKind.{removed_of}
 use Rattle.snippet_suggest.specs.Given.{trimmed_of}
 use Rattle.snippet_suggest.specs.Cells.{unless_stays}
 use Rattle.snippet_suggest.specs.RowOrder.{Removes, SuggestionRow, counted_from, numbered_at, removed_from}

@@ -1,6 +1,7 @@
 pub mod AscendLemmas
 pub mod BareLemmas
 pub mod BodyLaws
+pub mod ByKind
 pub mod CellExamples
 pub mod Examples
 pub mod GlyphLemmas

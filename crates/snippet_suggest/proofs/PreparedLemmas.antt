@@ -16,7 +16,8 @@ use Rattle.snippet_splice.specs.ShownText.{first_start}
 use Rattle.snippet_splice.specs.Spliced.{texts_of}
 use Rattle.snippet_splice.proofs.ShownLemmas.{none_given}
 use Rattle.snippet_suggest.specs.declared.kind.DisplaySuggestion.{DisplaySuggestion}
-use Rattle.snippet_suggest.specs.Given.{counted_folded, counted_line, edits_of, first_end, first_given, first_original, given_text, shown_kind, trimmed_of}
+use Rattle.snippet_suggest.specs.Given.{counted_line, edits_of, first_end, first_given, first_original, given_text, shown_kind, trimmed_of}
+use Rattle.snippet_suggest.proofs.ByKind.{counted_folded}
 use Rattle.snippet_parts.specs.Numbered.{numbered_source}
 use Rattle.snippet_suggest.specs.PreparedSuggestion.{IsSuggestible}
 

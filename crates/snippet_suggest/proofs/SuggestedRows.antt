@@ -29,7 +29,8 @@ use Rattle.snippet_suggest.specs.Given.{edits_of, first_given, given_lines, give
 use Rattle.snippet_suggest.specs.Cells.{unless_stays}
 use Rattle.snippet_parts.specs.Numbered.{numbered_source}
 use Rattle.snippet_suggest.specs.RowOrder.{Begins, Empty, Ends, Offers, Removes, SuggestionRow, counted_from, numbered_at}
-use Rattle.snippet_suggest.specs.RowOrder.{removed_from, row_of_shown, rows_of_suggestion}
+use Rattle.snippet_suggest.specs.RowOrder.{removed_from, rows_of_suggestion}
+use Rattle.snippet_suggest.proofs.ByKind.{row_of_shown}
 use Rattle.snippet_suggest.specs.SuggestionRows.{rows_shared}
 use Rattle.snippet_suggest.specs.SuggestedLines.{is_touched}
 use Rattle.snippet_suggest.specs.Suggested.{body_cells, suggested_cells, cells_over, marked_edits, new_on, removed_in, suggested_stretches, suggestion_cells}

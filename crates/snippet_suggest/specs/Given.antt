@@ -12,7 +12,7 @@ use Rattle.snippet_lines.specs.Place.{line_of}
 use Rattle.snippet_splice.specs.declared.patches.TrimmedPatch.{TrimmedPatch}
 use Rattle.snippet_splice.specs.declared.splice.LineRange.{LineRange}
 use Rattle.snippet_splice.specs.Copied.{end_from, written_ranges}
-use Rattle.snippet_splice.specs.Edits.{Edit, edit_of, in_order, trimmed_edits}
+use Rattle.snippet_splice.specs.Edits.{Edit, edit_of, in_order, trimmed_edit}
 use Rattle.snippet_splice.specs.ShownText.{first_start, shown_line, shown_start, shown_text}
 use Rattle.snippet_splice.specs.Spliced.{HasNoCr, IsBeforeFinalLf, last_line_reached, spliced_text, texts_of}
 use Rattle.snippet_suggest.specs.declared.kind.DisplaySuggestion.{DisplaySuggestion}
@@ -29,7 +29,7 @@ abbrev pub edits_of : Snippet Patch → List Edit
 edits_of s = map edit_of s.markers.items
 
 abbrev pub trimmed_of : Snippet Patch → List Edit
-trimmed_of s = trimmed_edits (cow_str_bytes s.source) (edits_of s)
+trimmed_of s = map (trimmed_edit (cow_str_bytes s.source)) (in_order (edits_of s))
 
 -- the text that is shown of the patched source, and its lines
 abbrev pub given_text : Snippet Patch → List ℕ
@@ -108,15 +108,14 @@ replaced_lines s =
     let stays = bytes_eq (slice_index_or (given_lines s) 0 []) (last_reached s) in
     if is_touched s.fold (given_ranges s) 0 then (if stays then take (length lines - 1) lines else lines) else []
 
--- those that are removed, by the lines that are given and how they are shown: lines are removed if none is given, or in a diff
-abbrev pub removed_of : List (List ℕ) → DisplaySuggestion → List ℕ → List ℕ → List ℕ
-removed_of [] kind emptied replaced = emptied
-removed_of lines Diff emptied replaced = replaced
-removed_of lines kind emptied replaced = []
-
--- which lines of the source a suggestion shows as removed
+-- which lines of the source a suggestion shows as removed: where none is given in their place, those of the first span, or all; in a diff
+-- those in whose place one line stands; and else none
 abbrev pub removed_lines : Snippet Patch → List ℕ
-removed_lines s = removed_of (given_lines s) (shown_kind s) (emptied_lines s) (replaced_lines s)
+removed_lines s =
+    elim (given_lines s) [
+      | [] ↦ emptied_lines s
+      | line ∷ lines ↦ elim (shown_kind s) [ Diff ↦ replaced_lines s | kind ↦ [] ]
+    ]
 
 -- the texts of some lines of the source
 abbrev pub texts_of_source : Snippet Patch → List ℕ → List (List ℕ)
@@ -143,17 +142,11 @@ abbrev pub first_original_end : List TrimmedPatch → ℕ
 first_original_end [] = 0
 first_original_end (p ∷ ps) = p.original_span.end
 
--- the number that is counted where lines are folded, by the kind: where there is one line, its own, or that of the last of the
--- lines that the first patch takes away; else that of the last line
-abbrev pub counted_folded : DisplaySuggestion → ℕ → ℕ → ℕ → ℕ
-counted_folded Underline first removed last = first
-counted_folded Diff first removed last = removed
-counted_folded kind first removed last = last
-
--- the line number that a suggestion counts for the gutter's width
+-- the line number that a suggestion counts for the gutter's width: that of the last line; but where lines are folded, of one line its own,
+-- and in a diff that of the last line that the first patch takes away
 abbrev pub counted_line : Snippet Patch → ℕ
 counted_line s =
     let first = s.line_start + first_given s in
+    let removed = s.line_start + line_of (source_lines (cow_str_bytes s.source)) (first_end (trimmed_of s)) in
     let last = first + newline_count (given_text s) in
-    if s.fold then counted_folded (shown_kind s) first (s.line_start + line_of (source_lines (cow_str_bytes s.source))
-    (first_end (trimmed_of s))) last else last
+    if s.fold then elim (shown_kind s) [ Underline ↦ first | Diff ↦ removed | kind ↦ last ] else last

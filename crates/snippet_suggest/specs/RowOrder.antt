@@ -9,10 +9,8 @@ use Rattle.snippet_parts.specs.declared.source_map.LineInfo.{LineInfo}
 use Rattle.snippet_lines.specs.Lines.{source_lines, text_at}
 use Rattle.snippet_lines.specs.Place.{line_of}
 use Rattle.snippet_splice.specs.ShownText.{first_start}
-use Rattle.snippet_suggest.specs.declared.kind.DisplaySuggestion.{DisplaySuggestion}
 use Rattle.snippet_suggest.specs.declared.kind.DisplaySuggestion.TheVariants.{Diff}
 use Rattle.snippet_suggest.specs.declared.layout.SuggestionStart.{SuggestionStart}
-use Rattle.snippet_suggest.specs.declared.shown.SuggestionLine.{SuggestionLine}
 use Rattle.snippet_suggest.specs.declared.shown.SuggestionLine.TheVariants.{Line, Gap}
 use Rattle.snippet_suggest.specs.Given.{first_given, given_lines, given_ranges, is_left_out, last_reached, removed_lines, shown_kind, trimmed_of}
 use Rattle.snippet_suggest.specs.SuggestedLines.{is_touched, shown_from}
@@ -52,30 +50,21 @@ removed_number s i =
     let begin = line_of (source_lines (cow_str_bytes s.source)) (first_start (trimmed_of s)) in
     if length (given_lines s) == 0 then s.line_start + i else capped_sum (s.line_start + first_given s) (i - begin)
 
--- the row of a line that is shown, and one between two lines in place of those that are left out
-abbrev pub row_of_shown : SuggestionLine → SuggestionRow
-row_of_shown (Line k) = Offers k
-row_of_shown Gap = Skips
-
--- which of these rows stand there, by the lines that are given, and how they are shown. Where no line is given, those of removed
--- lines, in a diff below the row that it begins with, and else from that row on; where lines are given, after this row those
--- of a diff, or those of the lines that are shown
-abbrev pub rows_where : List (List ℕ) → DisplaySuggestion → SuggestionRow → List SuggestionRow → List SuggestionRow → List SuggestionRow → List SuggestionRow
-rows_where [] Diff begin removed changed shown = begin ∷ removed
-rows_where [] kind begin removed changed shown = removed
-rows_where lines Diff begin removed changed shown = begin ∷ changed
-rows_where lines kind begin removed changed shown = begin ∷ shown
-
 -- what the rows of a suggestion show, but the last one, which is what it ends with. A line of the source that is removed has a row with
--- the number beside it and its text. Below the row with which a diff begins stand the lines that are removed, and then the line in
--- their place, unless that is left out; where no patch touches that, one empty row
+-- the number beside it and its text. Where no line is given, these are all, in a diff below the row that the suggestion begins with. Where
+-- lines are given, below that row stand in a diff the lines that are removed, and then the line in their place, unless that is left out;
+-- or, where no patch touches that, one empty row; and else those of the lines that are shown
 abbrev pub rows_of_suggestion : SuggestionStart → Snippet Patch → List SuggestionRow
 rows_of_suggestion start s =
     let touched = is_touched s.fold (given_ranges s) in
     let removed = map (λ i. Removes i (removed_number s i) (text_at (source_lines (cow_str_bytes s.source)) i)) (removed_lines s) in
     let left_out = is_left_out (shown_kind s) (given_lines s) (last_reached s) in
     let changed = if touched 0 then removed ++ (if left_out then [] else Offers 0 ∷ []) else Empty ∷ [] in
-    rows_where (given_lines s) (shown_kind s) (Begins start) removed changed (map row_of_shown (shown_from touched 0 0 (length (given_lines s))))
+    let shown = map (λ line. elim line [ Line k ↦ Offers k | Gap ↦ Skips ]) (shown_from touched 0 0 (length (given_lines s))) in
+    elim (given_lines s) [
+      | [] ↦ elim (shown_kind s) [ Diff ↦ Begins start ∷ removed | kind ↦ removed ]
+      | line ∷ lines ↦ elim (shown_kind s) [ Diff ↦ Begins start ∷ changed | kind ↦ Begins start ∷ shown ]
+    ]
 
 -- some lines that are removed, with the numbers beside them: their own
 abbrev pub numbered_at : List LineInfo → List (ℕ × List ℕ)

@@ -5,7 +5,8 @@ ghost use Rattle.snippet_lines.specs.Lines.{newline_count, source_lines};
 ghost use Rattle.snippet_lines.specs.Place.{line_of};
 ghost use Rattle.snippet_lines.specs.Span.{IsSpan};
 ghost use Rattle.snippet_splice.specs.Edits.{trimmed_edit_of};
-ghost use Rattle.snippet_suggest.specs.Given.{counted_folded, first_end, first_original};
+ghost use Rattle.snippet_suggest.specs.Given.{first_end, first_original};
+ghost use Rattle.snippet_suggest.specs.declared.kind.DisplaySuggestion.TheVariants.{Diff, Underline};
 ghost use Rattle.snippet_suggest.specs.PreparedSuggestion.{IsPrepared, IsSuggestible};
 ghost use Rattle.snippet_style.specs.Bounds.{IsUsize};
 
@@ -76,7 +77,8 @@ fn counted_line(
         let first = source.now.first + (if fold then line_of ls (first_original splice.now.patches.items) else 0) in
         let removed = source.now.first + line_of ls (first_end (map trimmed_edit_of splice.now.patches.items)) in
         let last = first + newline_count (string_bytes splice.now.complete) in
-        IsUsize last → result ≡ (if fold then counted_folded kind first removed last else last) }
+        IsUsize last → result
+            ≡ (if fold then elim kind [ Underline ↦ first | Diff ↦ removed | other ↦ last ] else last) }
 {
     let first = first_number(source, &splice.patches, fold);
     match kind {
