@@ -18,12 +18,14 @@ use Rattle.snippet_lines.specs.Lines.{newline_count, source_lines}
 use Rattle.snippet_lines.specs.Place.{line_of}
 use Rattle.snippet_lines.proofs.PlaceLemmas.{line_of-within}
 use Rattle.snippet_parts.specs.Counted.{counted_number}
-use Rattle.snippet_suggest.specs.Given.{counted_folded, counted_line, first_end, first_given, given_text, shown_kind, trimmed_of}
+use Rattle.snippet_suggest.specs.Given.{counted_line, first_end, first_given, given_text, shown_kind, trimmed_of}
+use Rattle.snippet_suggest.proofs.ByKind.{counted_folded}
 use Rattle.snippet_suggest.specs.PreparedSuggestion.{IsSuggestible}
 use Rattle.snippet_suggest.proofs.PreparedLemmas.{last-fits}
 use Rattle.annotate_snippets.specs.Around.{drawn_elements, is_drawn}
-use Rattle.annotate_snippets.specs.DrawnReport.{HasRoomFor}
-use Rattle.annotate_snippets.specs.Gutter.{code_after, depth_of_element, depth_of_group, layout_of_group, gutter_of_report, width_wanted}
+use Rattle.annotate_snippets.specs.DrawnReport.{HasRoomFor, code_after}
+use Rattle.annotate_snippets.specs.Gutter.{depth_of_element, layout_of_group, gutter_of_report, width_wanted}
+use Rattle.annotate_snippets.proofs.PageWords.{depth_of_group}
 use Rattle.annotate_snippets.specs.PreparedReport.{IsElementDrawable, IsGroupDrawable}
 use Rattle.annotate_snippets.specs.declared.renderer.Renderer.{Renderer}
 use Rattle.annotate_snippets.proofs.GutterLemmas.{counted-small}
