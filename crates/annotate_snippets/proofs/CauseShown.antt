@@ -33,12 +33,14 @@ use Rattle.annotate_snippets.specs.declared.renderer.Renderer.{Renderer}
 use Rattle.snippet_grid.specs.Layout.{Layout}
 use Rattle.annotate_snippets.specs.declared.renderer.element_context.ElementContext.{ElementContext}
 use Rattle.annotate_snippets.specs.Around.{closes_after, closes_with, is_before_message, is_first_group, path_bytes}
-use Rattle.annotate_snippets.specs.DrawnReport.{HasRoomFor}
-use Rattle.annotate_snippets.specs.GraphicForm.{margin_in, rows_of_lines, snippet_rows}
-use Rattle.annotate_snippets.specs.Gutter.{code_after, depth_of_element, line_numbers, numbered_source}
+use Rattle.annotate_snippets.specs.DrawnReport.{HasRoomFor, code_after}
+use Rattle.annotate_snippets.specs.GraphicForm.{margin_in, rows_of_lines}
+use Rattle.annotate_snippets.proofs.PageWords.{snippet_rows}
+use Rattle.annotate_snippets.specs.Gutter.{depth_of_element, line_numbers, numbered_source}
 use Rattle.annotate_snippets.specs.Page.{NamedRow, cells_of, lines_named, others}
 use Rattle.annotate_snippets.specs.PreparedReport.{IsDrawable}
-use Rattle.annotate_snippets.specs.RowsWithoutSource.{cause_head, origin_layout, place_found, place_named, rows_after_cause}
+use Rattle.annotate_snippets.specs.RowsWithoutSource.{cause_head, origin_layout, place_found, rows_after_cause}
+use Rattle.annotate_snippets.specs.ShortForm.{place_named}
 use Rattle.annotate_snippets.specs.Laws.Paths.{NamesLocation}
 use Rattle.annotate_snippets.specs.Laws.Feeds.{HasNoFeed}
 use Rattle.annotate_snippets.proofs.AreTexts.{IsTextCause}

@@ -28,7 +28,8 @@ use Rattle.annotate_snippets.specs.AsSet.{AreWithContext, AreWrapped, IsAsSet, I
 use Rattle.annotate_snippets.specs.Gutter.{gutter_of_report}
 use Rattle.annotate_snippets.specs.Laws.Context.{ShowsLinesAround, lines_with_context}
 use Rattle.annotate_snippets.specs.Gutter.{layout_of_group}
-use Rattle.annotate_snippets.specs.Page.{GroupPage, NamedRow, Page, line_named, lines_named, others}
+use Rattle.annotate_snippets.specs.Page.{GroupPage, NamedRow, line_named, lines_named, others}
+use Rattle.annotate_snippets.proofs.PageWords.{Page}
 use Rattle.annotate_snippets.specs.Laws.Page.{PageLaws}
 use Rattle.annotate_snippets.specs.RowsWithoutSource.{cause_head, rows_after_cause}
 use Rattle.annotate_snippets.specs.Laws.Snippets.{ShowsSnippet}

@@ -9,15 +9,21 @@ use Rattle.std.proofs.lemmas.List.FromFn.{get_or-enumerate_from, length-enumerat
 use Rattle.std.proofs.lemmas.Option.{get_or_from_slice_get, slice_get-get_or, slice_get_within}
 use Rattle.snippet_style.specs.Cell.{Cell}
 use Rattle.snippet_model.specs.declared.snippet.Element.{Element}
-use Rattle.annotate_snippets.specs.Around.{CanStandIn, begins_in_row_above, context_at, first_two_share, is_end, next_of}
-use Rattle.annotate_snippets.specs.DrawnReport.{found_at, last_row, shared_row}
-use Rattle.annotate_snippets.specs.GraphicForm.{drawn_rows, element_rows, rows_of_elements}
-use Rattle.annotate_snippets.specs.Page.{NamedRow, cells_of}
+use Rattle.annotate_snippets.specs.Around.{CanStandIn, begins_in_row_above, context_at, drawn_elements, first_two_share, is_end, next_of}
+use Rattle.annotate_snippets.specs.DrawnReport.{last_row, shared_row}
+use Rattle.annotate_snippets.proofs.PageWords.{found_at}
+use Rattle.annotate_snippets.specs.GraphicForm.{drawn_rows, element_rows, group_page}
+use Rattle.annotate_snippets.specs.RowsWithoutSource.{title_part}
+use Rattle.snippet_model.specs.declared.snippet.Group.{Group}
+use Rattle.snippet_model.specs.declared.snippet.Title.{Title}
+use Rattle.annotate_snippets.specs.Printing.{rows_of_elements}
+use Rattle.annotate_snippets.specs.Page.{NamedRow, cells_of, group_rows}
 use Rattle.annotate_snippets.specs.declared.renderer.Renderer.{Renderer}
 use Rattle.snippet_grid.specs.Layout.{Layout}
 use Rattle.annotate_snippets.specs.PreparedReport.{AreAround, element_of}
 use Rattle.annotate_snippets.specs.declared.renderer.preprocess.PreparedElement.{PreparedElement}
 use Rattle.annotate_snippets.specs.declared.renderer.element_context.GroupPosition.{GroupPosition}
+use Rattle.annotate_snippets.specs.declared.renderer.element_context.Next.{Next}
 use Rattle.annotate_snippets.specs.declared.renderer.element_context.ElementContext.{ElementContext}
 use Rattle.annotate_snippets.proofs.AroundLaws.{begins_is, can_stand, shared_goes_on, shares_after, shares_before, shares_end}
 
@@ -156,3 +162,19 @@ pub turns_all : (r : Renderer) (layout : Layout) (place : GroupPosition) (file :
     → new ≡ old ++ flat_map cells_of (rows_of_elements r layout place file (map element_of ps))
 turns_all r layout place file ps n old new all drawn =
     drawn_all r layout place file (map element_of ps) n old new (omega (arith, all, length-enumerate_from 0 ps, length-map ps element_of)) drawn
+
+-- the rows of a title that is drawn in an empty grid
+pub title_drawn : (r : Renderer) (layout : Layout) (place : GroupPosition) (next after : Next) (title : Title) (given : Option Title)
+    (empty mid : List (List Cell)) → empty ≡ [] → next ≡ after → given ≡ Some title → mid ≡ empty ++ title_part r layout place next (Some title)
+    → mid ≡ title_part r layout place after given
+title_drawn r layout place next after title given empty mid none follows some is =
+    is ∙ ap (λ (rows : List (List Cell)). rows ++ title_part r layout place next (Some title)) none
+    ∙ ap (λ n. title_part r layout place n (Some title)) follows ∙ ap (title_part r layout place after) (sym some)
+
+-- so the rows of a group's title and of its elements that are drawn are those of its page
+pub group_drawn : (r : Renderer) (layout : Layout) (place : GroupPosition) (file : Option (List ℕ)) (g : Group) (es : List Element)
+    (title new : List (List Cell)) → es ≡ drawn_elements g → title ≡ title_part r layout place (next_of es) g.title
+    → new ≡ title ++ flat_map cells_of (rows_of_elements r layout place file es) → new ≡ group_rows (group_page r layout place file g)
+group_drawn r layout place file g es title new are titled is =
+    is ∙ ap (λ (rows : List (List Cell)). rows ++ flat_map cells_of (rows_of_elements r layout place file es)) titled
+    ∙ ap (λ (xs : List Element). title_part r layout place (next_of xs) g.title ++ flat_map cells_of (rows_of_elements r layout place file xs)) are

@@ -23,12 +23,15 @@ use Rattle.annotate_snippets.specs.Fault.{first_refusal, form_of, missing_title}
 use Rattle.annotate_snippets.specs.Laws.Forms.{FormLaws, IsTextUnder, LawsIn}
 use Rattle.annotate_snippets.specs.Forms.{AreFree, ShortShown, ShowsForm, links_in, plain_in}
 use Rattle.annotate_snippets.specs.GraphicForm.{graphic_form}
-use Rattle.annotate_snippets.specs.Page.{Page, PrintsPage, page_text}
+use Rattle.annotate_snippets.specs.Page.{PrintsPage, page_text}
+use Rattle.annotate_snippets.proofs.PageWords.{Page}
 use Rattle.annotate_snippets.specs.Laws.Page.{PageLaws}
 use Rattle.annotate_snippets.specs.Laws.Free.{IsFreeBut}
-use Rattle.annotate_snippets.specs.ShownPage.{levels_of, report_links}
+use Rattle.annotate_snippets.specs.ShownPage.{report_links}
+use Rattle.annotate_snippets.specs.Html.{levels_of}
 use Rattle.annotate_snippets.proofs.FaultLemmas.{first-there, title-there}
 use Rattle.snippet_model.proofs.ZipLemmas.{AllZip-weaker}
+use Rattle.annotate_snippets.proofs.GridRows.{in_levels}
 use Rattle.annotate_snippets.proofs.ReportLemmas.{page_woven, titled-from_ok}
 use Rattle.annotate_snippets.proofs.ShortShown.{page_is}
 
@@ -46,12 +49,13 @@ short-none r (g ∷ groups) given = titled-none r g groups g.title given refl
 module _ (r : Renderer) (groups : List Group) where
   -- a text that prints the report's page has its laws
   pub page-law : PageLaws r groups (graphic_form r groups) → (sheet : Stylesheet) (text : List ℕ)
-      → PrintsPage sheet (levels_of groups) (graphic_form r groups) text
+      → PrintsPage sheet (graphic_form r groups) text
       → LawsIn Graphic r groups sheet text
   page-law laws sheet text prints =
       let page : Page = graphic_form r groups in
       let links : List (List ℕ) = report_links r groups in
-      let woven : IsWoven sheet text (page_text page) links = page_woven sheet (levels_of groups) page links text laws.links prints in
+      let woven : IsWoven sheet text (page_text page) links = page_woven sheet (levels_of groups) page links text laws.links
+      (in_levels r groups sheet text prints) in
       record {
         form_laws = laws;
         woven = woven;
@@ -69,7 +73,7 @@ pub page-shown : (r : Renderer) (groups : List Group) (sheets : List Stylesheet)
     → ShowsForm Graphic r groups sheets texts
 page-shown r groups sheets texts are =
     record {
-      printed = AllZip-weaker (IsTextUnder Graphic r groups) (λ sheet text. PrintsPage sheet (levels_of groups) (graphic_form r groups) text)
+      printed = AllZip-weaker (IsTextUnder Graphic r groups) (λ sheet text. PrintsPage sheet (graphic_form r groups) text)
           (λ sheet text is. is.shows.printed.0) sheets texts are;
     }
 

@@ -11,12 +11,14 @@ use Rattle.snippet_model.specs.declared.snippet.Group.{Group}
 use Rattle.snippet_parts.proofs.PartLemmas.{All-unmapped}
 use Rattle.snippet_style.specs.declared.role.LevelInner.{LevelInner}
 use Rattle.snippet_style.specs.declared.glyphs.DecorStyle.{DecorStyle}
+use Rattle.snippet_style.specs.declared.stylesheet.Stylesheet.{Stylesheet}
 use Rattle.annotate_snippets.specs.Around.{drawn_elements, file_of_group, position_of_group}
-use Rattle.annotate_snippets.specs.DrawnReport.{HasRoomFor}
-use Rattle.annotate_snippets.specs.GraphicForm.{graphic_form, group_page, page_at}
-use Rattle.annotate_snippets.specs.Gutter.{code_after, depth_of_group, layout_of_group, gutter_of_report}
-use Rattle.annotate_snippets.specs.Page.{GroupPage, group_rows}
-use Rattle.annotate_snippets.specs.ShownPage.{levels_of}
+use Rattle.annotate_snippets.specs.DrawnReport.{HasRoomFor, code_after}
+use Rattle.annotate_snippets.specs.GraphicForm.{graphic_form, group_page}
+use Rattle.annotate_snippets.proofs.PageWords.{PrintsIn, PrintsIn-from_page, PrintsPage-from_levels, depth_of_group, page_at}
+use Rattle.annotate_snippets.specs.Gutter.{layout_of_group, gutter_of_report}
+use Rattle.annotate_snippets.specs.Page.{GroupPage, PrintsPage, group_rows}
+use Rattle.annotate_snippets.specs.Html.{levels_of}
 use Rattle.annotate_snippets.specs.PreparedReport.{IsGroupDrawable, IsGroupPrepared, element_of}
 use Rattle.annotate_snippets.specs.declared.renderer.Renderer.{Renderer}
 use Rattle.snippet_grid.specs.Layout.{Layout}
@@ -31,6 +33,21 @@ use Rattle.annotate_snippets.proofs.RoomLemmas.{room_in_report}
 pub page_count : (r : Renderer) (groups : List Group) → length (graphic_form r groups) ≡ length groups
 page_count r groups =
     length-map (enumerate_from 0 groups) (λ (pair : ℕ × Group). page_at r groups pair.0 pair.1) ∙ length-enumerate_from 0 groups
+
+-- its levels are those of the groups
+levels_from : (r : Renderer) (groups : List Group) (n : ℕ) (gs : List Group) → levels_of gs
+    ≡ map (λ (part : GroupPage). part.level) (map (λ (pair : ℕ × Group). page_at r groups pair.0 pair.1) (enumerate_from n gs))
+levels_from r groups n [] = refl
+levels_from r groups n (g ∷ gs) = ap (λ levels. g.level ∷ levels) (levels_from r groups (n + 1) gs)
+
+-- so a text that prints the page prints it in these levels, and the other way round
+pub in_levels : (r : Renderer) (groups : List Group) (sheet : Stylesheet) (text : List ℕ) → PrintsPage sheet (graphic_form r groups) text
+    → PrintsIn sheet (levels_of groups) (graphic_form r groups) text
+in_levels r groups sheet text = PrintsIn-from_page sheet (levels_of groups) (graphic_form r groups) text (levels_from r groups 0 groups)
+
+pub from_levels : (r : Renderer) (groups : List Group) (sheet : Stylesheet) (text : List ℕ)
+    → PrintsIn sheet (levels_of groups) (graphic_form r groups) text → PrintsPage sheet (graphic_form r groups) text
+from_levels r groups sheet text = PrintsPage-from_levels sheet (levels_of groups) (graphic_form r groups) text (levels_from r groups 0 groups)
 
 page_of : (r : Renderer) (groups : List Group) (n : ℕ) (g : Group) (d : GroupPage) → slice_get groups n ≡ Some g
     → get_or (graphic_form r groups) n d ≡ page_at r groups n g

@@ -33,7 +33,8 @@ use Rattle.snippet_lines.specs.declared.number.LineNumbers.TheVariants.{Shown, A
 use Rattle.snippet_lines.proofs.NumberLemmas.{length-decimal_monotone, length-decimal_more, length-decimal_last}
 use Rattle.annotate_snippets.specs.DrawnReport.{HasRoomFor}
 use Rattle.annotate_snippets.specs.PreparedReport.{IsDrawable}
-use Rattle.annotate_snippets.specs.Gutter.{gutter_of, line_numbers, numbered_source}
+use Rattle.annotate_snippets.specs.Gutter.{line_numbers, numbered_source}
+use Rattle.annotate_snippets.proofs.PageWords.{gutter_of}
 use Rattle.annotate_snippets.specs.declared.renderer.Renderer.{Renderer}
 use Rattle.snippet_grid.specs.Layout.{Layout}
 use Rattle.snippet_model.specs.declared.snippet.Element.TheVariants.{Cause}

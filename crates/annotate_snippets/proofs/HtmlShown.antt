@@ -15,8 +15,9 @@ use Rattle.snippet_model.specs.declared.snippet.Group.{Group}
 use Rattle.snippet_style.specs.declared.role.LevelInner.{LevelInner}
 use Rattle.annotate_snippets.specs.GraphicForm.{graphic_form}
 use Rattle.annotate_snippets.specs.Html.{AddsGridHtml, HtmlLaws, further_chars, further_grids, further_groups, grids_html, page_chars, page_html, report_html}
-use Rattle.annotate_snippets.specs.Page.{GroupPage, Page, group_rows, page_text}
-use Rattle.annotate_snippets.specs.ShownPage.{levels_of}
+use Rattle.annotate_snippets.specs.Page.{GroupPage, group_rows, page_text}
+use Rattle.annotate_snippets.proofs.PageWords.{Page}
+use Rattle.annotate_snippets.specs.Html.{levels_of}
 use Rattle.annotate_snippets.specs.declared.renderer.Renderer.{Renderer}
 use Rattle.annotate_snippets.specs.declared.renderer.graphic.GroupGrid.{GroupGrid}
 use Rattle.annotate_snippets.proofs.GridRows.{GridsSoFar, grids_none, page_count}

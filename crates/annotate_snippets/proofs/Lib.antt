@@ -63,6 +63,7 @@ pub mod NotWrapped
 pub mod NumberLaws
 pub mod OneLineTexts
 pub mod PageLemmas
+pub mod PageWords
 pub mod PartsFacts
 pub mod PatchRows
 pub mod PathFeedLaws

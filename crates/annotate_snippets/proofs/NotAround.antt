@@ -19,7 +19,8 @@ use Rattle.annotate_snippets.specs.Laws.Context.{ShowsLinesAround, lines_with_co
 use Rattle.annotate_snippets.specs.Fault.{form_of}
 use Rattle.annotate_snippets.specs.Laws.Forms.{HasLaws}
 use Rattle.annotate_snippets.specs.GraphicForm.{graphic_form}
-use Rattle.annotate_snippets.specs.Page.{GroupPage, Page, lines_named}
+use Rattle.annotate_snippets.specs.Page.{GroupPage, lines_named}
+use Rattle.annotate_snippets.proofs.PageWords.{Page}
 use Rattle.annotate_snippets.specs.declared.renderer.Renderer.{Renderer}
 use Rattle.annotate_snippets.proofs.SmallReports.{group, snippet}
 

@@ -24,7 +24,8 @@ use Rattle.annotate_snippets.specs.declared.renderer.form.Form.{Form}
 use Rattle.annotate_snippets.specs.declared.renderer.form.Form.TheVariants.{Graphic}
 use Rattle.annotate_snippets.specs.Gutter.{layout_of_group}
 use Rattle.annotate_snippets.proofs.NumberLaws.{IsNumberedAsLine}
-use Rattle.annotate_snippets.specs.Page.{GroupPage, NamedRow, Other, Page, group_rows}
+use Rattle.annotate_snippets.specs.Page.{GroupPage, NamedRow, Other, group_rows}
+use Rattle.annotate_snippets.proofs.PageWords.{Page}
 use Rattle.annotate_snippets.specs.Laws.Page.{PageLaws}
 use Rattle.annotate_snippets.proofs.OneLineTexts.{HasOneLineRows}
 

@@ -2,7 +2,7 @@
 -- form.
 use Rattle.std.proofs.Common.{◌≡◌, ℕ, Bool, true, false, None, Some, Option, Vec, List, [], ◌∷◌, ◌++◌, codes, encode_utf8_all, refl, ap, subst, ◌∙◌, arith, inl}
 use Rattle.std.specs.Fmt.{digits}
-use Rattle.std.specs.List.{join_with_byte, slice_index_or}
+use Rattle.std.specs.List.{AllZip, join_with_byte, slice_index_or}
 use Rattle.std.specs.Str.{chars}
 use Rattle.std.specs.declared.alloc.Global.{Global}
 use Rattle.snippet_grid.specs.Woven.{Char, Opening, Piece, Prints, Reset, next_style}
@@ -18,11 +18,13 @@ use Rattle.snippet_text.specs.Normalized.{norm}
 use Rattle.snippet_titles.specs.HeadingRows.{heading_rows, label_cells}
 use Rattle.annotate_snippets.specs.Forms.{ShowsReport}
 use Rattle.annotate_snippets.specs.GraphicForm.{graphic_form}
-use Rattle.annotate_snippets.specs.Page.{ArePrinted, Page, PrintsPage, page_text}
+use Rattle.annotate_snippets.specs.Page.{GroupPage, PrintsPage, group_rows, page_text}
+use Rattle.annotate_snippets.proofs.PageWords.{Page}
 use Rattle.annotate_snippets.specs.Settings.{plain_settings}
-use Rattle.annotate_snippets.specs.ShownPage.{levels_of}
+use Rattle.annotate_snippets.specs.Html.{levels_of}
 use Rattle.annotate_snippets.specs.declared.renderer.Renderer.{Renderer}
 use Rattle.annotate_snippets.proofs.AsSetLemmas.{unset-shows}
+use Rattle.annotate_snippets.proofs.GridRows.{in_levels}
 use Rattle.annotate_snippets.proofs.ReportLemmas.{plain_printed}
 use Rattle.annotate_snippets.proofs.SmallReports.{nameless, title_alone}
 use Rattle.annotate_snippets.proofs.WovenLemmas.{page_links}
@@ -43,7 +45,7 @@ unfolding lib.Utf8.encode
 empty_text v shown =
     let page : Page = graphic_form plain_settings (title_alone v) in
     let right : [] ≡ encode_utf8_all (codes "error: e") = plain_printed plain_sheet (levels_of (title_alone v)) page [] (no_links_are v) refl
-    (unset-shows _ _ _ _ shown refl).printed.0
+    (in_levels plain_settings (title_alone v) plain_sheet [] (unset-shows _ _ _ _ shown refl).printed.0)
     ∙ ap encode_utf8_all (plain_text_is v) in
     cc
 
@@ -57,7 +59,7 @@ coloured = record plain_settings { stylesheet = default_sheet }
 abbrev bold_row : List Cell
 bold_row = text_cells MainHeaderMsg (codes "e")
 
-page_is : (v : Vec Element Global) → graphic_form coloured (nameless v) ≡ record { title = bold_row ∷ []; elements = [] } ∷ []
+page_is : (v : Vec Element Global) → graphic_form coloured (nameless v) ≡ record { level = Error; title = bold_row ∷ []; elements = [] } ∷ []
 unfolding chars norm heading_rows label_cells
 page_is v = refl
 
@@ -76,12 +78,9 @@ printed =
     let bold : Style = emboldened plain_style in
     let pieces : List Piece = Reset plain_style ∷ Opening bold ∷ Char 101 ∷ Reset bold ∷ [] in
     record {
-      pieces = pieces;
+      lines = pieces ∷ [];
       text_is = refl;
       prints = (
-        pieces,
-        [],
-        refl,
         (
           refl,
           differs,
@@ -92,7 +91,7 @@ printed =
             (unlinked_cell MainHeaderMsg 101, [], refl, refl, refl, refl, (refl, ends, inl refl, (refl, refl, refl))),
           ),
         ),
-        refl,
+        tt,
       );
     }
   where
@@ -105,11 +104,12 @@ printed =
 -- so it is the one text under that sheet
 only_text : (v : Vec Element Global) (text : List ℕ) → ShowsReport coloured (nameless v) default_sheet text → text ≡ bold_text
 only_text v text shown =
-    let page : PrintsPage default_sheet (Error ∷ []) (record { title = bold_row ∷ []; elements = [] } ∷ []) text = subst (λ page.
-    PrintsPage default_sheet (Error ∷ []) page text) (page_is v) (unset-shows _ _ _ _ shown refl).printed.0 in
+    let page : PrintsPage default_sheet (record { level = Error; title = bold_row ∷ []; elements = [] } ∷ []) text = subst (λ page.
+    PrintsPage default_sheet page text) (page_is v) (unset-shows _ _ _ _ shown refl).printed.0 in
     page.joined ∙ joined page.parts page.printed
   where
-    joined : (parts : List (List ℕ)) → ArePrinted default_sheet (Error ∷ []) (record { title = bold_row ∷ []; elements = [] } ∷ []) parts
+    joined : (parts : List (List ℕ)) → AllZip (λ (g : GroupPage) part. Prints default_sheet g.level (group_rows g) part)
+        (record { level = Error; title = bold_row ∷ []; elements = [] } ∷ []) parts
         → join_with_byte 10 parts ≡ bold_text
     joined [] none = absurd none
     joined (part ∷ []) one = Prints-unique default_sheet Error (bold_row ∷ []) bold_text part printed one.0

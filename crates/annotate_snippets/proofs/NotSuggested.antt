@@ -19,7 +19,8 @@ use Rattle.snippet_suggest.proofs.CellExamples.{ascii, put_in_cells, stroke, unf
 use Rattle.snippet_suggest.proofs.Examples.{text_put_in, third_unfolded}
 use Rattle.annotate_snippets.specs.Around.{is_end}
 use Rattle.annotate_snippets.specs.Gutter.{line_numbers}
-use Rattle.annotate_snippets.specs.DrawnReport.{suggestion_layout, suggestion_lines, under_of}
+use Rattle.annotate_snippets.specs.DrawnReport.{suggestion_layout, suggestion_lines}
+use Rattle.annotate_snippets.proofs.PageWords.{under_of}
 use Rattle.annotate_snippets.specs.Page.{NamedRow, cells_of}
 use Rattle.annotate_snippets.specs.Settings.{plain_settings}
 use Rattle.annotate_snippets.specs.Laws.Suggestions.{ShowsSuggestion}

@@ -19,7 +19,8 @@ use Rattle.snippet_text.specs.Normalized.{norm}
 use Rattle.snippet_titles.specs.HeadingRows.{sign_cells}
 use Rattle.snippet_titles.specs.Origin.{line_text, origin_text}
 use Rattle.annotate_snippets.specs.Page.{NamedRow, cells_of}
-use Rattle.annotate_snippets.specs.RowsWithoutSource.{message_style, rows_after_title}
+use Rattle.annotate_snippets.specs.RowsWithoutSource.{rows_after_title}
+use Rattle.annotate_snippets.proofs.PageWords.{message_style}
 use Rattle.annotate_snippets.specs.Settings.{plain_settings}
 use Rattle.annotate_snippets.specs.Laws.Paths.{NamesLocation, ShowsOrigin}
 use Rattle.annotate_snippets.specs.Laws.Titles.{ShowsMessage, ShowsTitle}

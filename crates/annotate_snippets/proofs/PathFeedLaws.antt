@@ -28,7 +28,9 @@ use Rattle.annotate_snippets.specs.declared.renderer.element_context.ElementCont
 use Rattle.snippet_grid.specs.Layout.{Layout}
 use Rattle.annotate_snippets.specs.Around.{closes_after, is_before_message, is_first_group, path_bytes}
 use Rattle.annotate_snippets.specs.Gutter.{numbered_source}
-use Rattle.annotate_snippets.specs.RowsWithoutSource.{cause_head, origin_layout, origin_rows, origin_start, place_given, place_named}
+use Rattle.annotate_snippets.specs.RowsWithoutSource.{cause_head, origin_layout, origin_rows}
+use Rattle.annotate_snippets.proofs.PageWords.{origin_start, place_given}
+use Rattle.annotate_snippets.specs.ShortForm.{place_named}
 use Rattle.annotate_snippets.specs.RowsWithoutSource.{rows_after_cause}
 use Rattle.annotate_snippets.specs.Laws.Feeds.{HasNoFeed}
 use Rattle.annotate_snippets.proofs.OneLineTexts.{HoldsNoFeed, IsNoFeed, IsOneLineText}

@@ -17,7 +17,7 @@ use Rattle.snippet_suggest.specs.PreparedSuggestion.{IsPrepared}
 use Rattle.snippet_suggest.proofs.PreparedLemmas.{some_left}
 use Rattle.snippet_suggest.proofs.SpanLemmas.{trimmed_spans}
 use Rattle.snippet_titles.specs.declared.origin.OriginLocation.{OriginLocation}
-use Rattle.annotate_snippets.specs.RowsWithoutSource.{patch_place}
+use Rattle.annotate_snippets.proofs.PageWords.{patch_place}
 use Rattle.snippet_lines.proofs.PlaceLemmas.{locations_of-start}
 
 -- the first of some patches starts where the first edit does

@@ -12,8 +12,10 @@ use Rattle.snippet_style.specs.declared.role.LevelInner.{LevelInner}
 use Rattle.snippet_style.specs.declared.style.Style.{Style}
 use Rattle.snippet_style.specs.declared.stylesheet.Stylesheet.{Stylesheet}
 use Rattle.snippet_grid.specs.Woven.{Char, LinkEnd, LinkTo, Opening, Piece, Prints, PrintsCells, PrintsFurther, PrintsRows, Reset, next_link, piece_text}
+use Rattle.snippet_grid.proofs.PrintsPieces.{Prints-from_pieces}
 use Rattle.snippet_grid.proofs.WeaveLemmas.{Url, none≢some, some_same}
-use Rattle.annotate_snippets.specs.Page.{ArePrinted, Page, group_rows}
+use Rattle.annotate_snippets.specs.Page.{group_rows}
+use Rattle.annotate_snippets.proofs.PageWords.{ArePrinted, Page}
 
 -- two links are the same or not
 cases_link : (a b : Option Url) → (a ≡ b) ⊎ (a ≢ b)
@@ -99,7 +101,8 @@ module _ (sheet : Stylesheet) (level : LevelInner) where
   pub text_of_rows : (rows : List (List Cell)) → (text : List ℕ) × Prints sheet level rows text
   text_of_rows rows =
       let pieces = pieces_of_rows rows in
-      (flat_map piece_text pieces.0, record { pieces = pieces.0; text_is = refl; prints = pieces.1 })
+      let text : List ℕ = flat_map piece_text pieces.0 in
+      (text, Prints-from_pieces sheet level rows text (record { pieces = pieces.0; text_is = refl; prints = pieces.1 }))
 
 -- texts that print the groups of a page
 pub texts_of_page : (sheet : Stylesheet) (levels : List LevelInner) (page : Page) → length levels ≡ length page

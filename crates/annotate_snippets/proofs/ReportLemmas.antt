@@ -23,14 +23,15 @@ use Rattle.annotate_snippets.specs.declared.renderer.Renderer.{Renderer}
 use Rattle.annotate_snippets.specs.declared.renderer.graphic.GroupGrid.{GroupGrid}
 use Rattle.annotate_snippets.specs.Around.{drawn_elements, file_of_group, next_of, position_of_group}
 use Rattle.annotate_snippets.specs.Fault.{IsWithinBounds, first_fault, first_refusal, form_of, missing_title}
-use Rattle.annotate_snippets.specs.GraphicForm.{graphic_form, page_at}
+use Rattle.annotate_snippets.specs.GraphicForm.{graphic_form}
+use Rattle.annotate_snippets.proofs.PageWords.{ArePrinted, Page, PrintsIn, page_at}
 use Rattle.annotate_snippets.specs.Gutter.{layout_of_group}
-use Rattle.annotate_snippets.specs.Page.{ArePrinted, GroupPage, Page, PrintsGrids, PrintsPage, group_rows, page_text}
+use Rattle.annotate_snippets.specs.Page.{GroupPage, PrintsGrids, group_rows, page_text}
 use Rattle.annotate_snippets.specs.Laws.Page.{PageLaws}
 use Rattle.annotate_snippets.specs.PreparedReport.{IsGroupDrawable}
 use Rattle.annotate_snippets.specs.Laws.Groups.{AreGroupsShown, ShowsGroup}
 use Rattle.annotate_snippets.specs.Laws.Free.{IsFreeBut}
-use Rattle.annotate_snippets.specs.ShownPage.{levels_of}
+use Rattle.annotate_snippets.specs.Html.{levels_of}
 use Rattle.annotate_snippets.specs.declared.renderer.error.RenderError.{RenderError}
 use Rattle.annotate_snippets.proofs.OneLineTexts.{HasOneLineRows, IsOneLineGroup, one_line_groups}
 use Rattle.annotate_snippets.proofs.AreTexts.{AreTexts, IsTextGroup}
@@ -193,7 +194,7 @@ printed_grids sheet (grid ∷ grids) (level ∷ levels) (g ∷ page) (part ∷ p
 -- a text that prints the grids of the first so many groups prints as much of the page
 pub page_so_far : (r : Renderer) (groups : List Group) (n : ℕ) (grids : List GroupGrid) → GridsSoFar r groups n grids
     → (sheet : Stylesheet) (text : List ℕ) → PrintsGrids sheet grids text
-    → PrintsPage sheet (take n (levels_of groups)) (take n (graphic_form r groups)) text
+    → PrintsIn sheet (take n (levels_of groups)) (take n (graphic_form r groups)) text
 page_so_far r groups n grids so_far sheet text prints =
     record {
       parts = prints.parts;
@@ -203,24 +204,24 @@ page_so_far r groups n grids so_far sheet text prints =
 
 -- and one that prints all of them prints the page
 pub page_whole : (r : Renderer) (groups : List Group) (n : ℕ) (grids : List GroupGrid) → n ≡ length groups → GridsSoFar r groups n grids
-    → (sheet : Stylesheet) (text : List ℕ) → PrintsGrids sheet grids text → PrintsPage sheet (levels_of groups) (graphic_form r groups) text
+    → (sheet : Stylesheet) (text : List ℕ) → PrintsGrids sheet grids text → PrintsIn sheet (levels_of groups) (graphic_form r groups) text
 page_whole r groups n grids all so_far sheet text prints =
-    subst (λ ls. PrintsPage sheet ls (graphic_form r groups) text) (take_all n (levels_of groups) (omega (
+    subst (λ ls. PrintsIn sheet ls (graphic_form r groups) text) (take_all n (levels_of groups) (omega (
       arith,
       all,
       length-map groups (λ (g : Group). g.level),
-    ))) (subst (λ (page : Page). PrintsPage sheet (take n (levels_of groups)) page text)
+    ))) (subst (λ (page : Page). PrintsIn sheet (take n (levels_of groups)) page text)
     (take_all n (graphic_form r groups) (omega (arith, all, page_count r groups))) (page_so_far r groups n grids so_far sheet text prints))
 
 -- a text that prints a page is woven of its characters, with what it links to
 pub page_woven : (sheet : Stylesheet) (levels : List LevelInner) (page : Page) (links : List (List ℕ)) (text : List ℕ) → page_links page ≡ links
-    → PrintsPage sheet levels page text → IsWoven sheet text (page_text page) links
+    → PrintsIn sheet levels page text → IsWoven sheet text (page_text page) links
 page_woven sheet levels page links text linked prints =
     subst (IsWoven sheet text (page_text page)) linked (IsWoven-from_page sheet levels page text prints)
 
 -- so under a plain sheet, where nothing links, it is these characters and nothing else
 pub plain_printed : (sheet : Stylesheet) (levels : List LevelInner) (page : Page) (text : List ℕ) → page_links page ≡ []
-    → is_plain_sheet sheet ≡ true → PrintsPage sheet levels page text → text ≡ encode_utf8_all (page_text page)
+    → is_plain_sheet sheet ≡ true → PrintsIn sheet levels page text → text ≡ encode_utf8_all (page_text page)
 plain_printed sheet levels page text none plain prints =
     plain_woven sheet text (page_text page) [] plain refl (page_woven sheet levels page [] text none prints)
 

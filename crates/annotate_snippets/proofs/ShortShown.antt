@@ -46,7 +46,8 @@ use Rattle.annotate_snippets.specs.Laws.Forms.{BeginsWithPlace, IsTextUnder, Law
 use Rattle.annotate_snippets.specs.Forms.{ShortShown, short_links}
 use Rattle.annotate_snippets.specs.Gutter.{numbered_source}
 use Rattle.annotate_snippets.specs.PreparedReport.{IsDrawable, IsGroupDrawable}
-use Rattle.annotate_snippets.specs.RowsWithoutSource.{place_found, place_named}
+use Rattle.annotate_snippets.specs.RowsWithoutSource.{place_found}
+use Rattle.annotate_snippets.specs.ShortForm.{place_named}
 use Rattle.annotate_snippets.specs.ShortForm.{before_title, after_title, first_cause, joined_labels, short_label, labels_of_cause, place_of_cause}
 use Rattle.annotate_snippets.specs.ShortForm.{place_of_path}
 use Rattle.annotate_snippets.specs.ShortForm.{primary_labels, short_form, short_page, titled_rows}

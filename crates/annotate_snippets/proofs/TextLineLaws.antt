@@ -7,8 +7,10 @@ use Rattle.std.proofs.lemmas.List.Splits.{length-slice_split, slice_split-cons_n
 use Rattle.snippet_grid.specs.Print.{further_text, plain_text, row_text}
 use Rattle.snippet_style.specs.Cell.{Cell, text_cells}
 use Rattle.snippet_style.specs.declared.role.ElementStyle.TheVariants.{LineNumber}
+use Rattle.snippet_style.specs.declared.role.LevelInner.TheVariants.{Error}
 use Rattle.annotate_snippets.specs.Laws.Feeds.{HasNoFeed, or_empty_line, page_lines, text_lines}
-use Rattle.annotate_snippets.specs.Page.{GroupPage, Page, group_rows, page_text}
+use Rattle.annotate_snippets.specs.Page.{GroupPage, group_rows, page_text}
+use Rattle.annotate_snippets.proofs.PageWords.{Page}
 use Rattle.annotate_snippets.proofs.OneLineTexts.{HasOneLineRows, IsNoFeed}
 
 -- the lines that a group's rows are
@@ -74,10 +76,10 @@ lines_of_page (g ∷ h ∷ page) all =
 
 -- two groups of one row each, and between them one without rows, are three lines, the second of which is empty
 abbrev one_row : GroupPage
-one_row = record { title = text_cells LineNumber (codes "ab") ∷ []; elements = [] }
+one_row = record { level = Error; title = text_cells LineNumber (codes "ab") ∷ []; elements = [] }
 
 abbrev small_page : Page
-small_page = one_row ∷ record { title = []; elements = [] } ∷ one_row ∷ []
+small_page = one_row ∷ record { level = Error; title = []; elements = [] } ∷ one_row ∷ []
 
 small_lines : page_lines small_page ≡ codes "ab" ∷ [] ∷ codes "ab" ∷ []
 small_lines = refl

@@ -13,7 +13,11 @@ use Rattle.snippet_model.specs.FreeRows.{HasNoNumber}
 use Rattle.snippet_model.specs.declared.snippet.Title.{Title}
 use Rattle.snippet_style.specs.Cell.{Cell, SPACE}
 use Rattle.snippet_text.specs.Normalized.{norm}
-use Rattle.snippet_titles.specs.HeadingRows.{colon_of, heading_lines, id_text, heading_label_text, label_width}
+use Rattle.snippet_titles.specs.HeadingRows.{colon_of, heading_lines, id_text, heading_label_text, label_width, roles_of}
+use Rattle.snippet_titles.proofs.TextLemmas.{row_text-label}
+use Rattle.snippet_titles.specs.declared.style.HeadingRoles.{HeadingRoles}
+use Rattle.snippet_titles.specs.declared.style.TitleStyle.TheVariants as style
+use Rattle.snippet_text.specs.Width.{width_of}
 use Rattle.snippet_titles.specs.ShownHeading.{texts_below}
 use Rattle.snippet_titles.proofs.OriginNumbers.{closing_row-unnumbered, separator_row-unnumbered}
 use Rattle.annotate_snippets.specs.Laws.Numbers.{IsTitleOfWords, begins_with_number, begins_with_word}
@@ -102,6 +106,7 @@ pub title_unnumbered : (r : Renderer) (layout : Layout) (place : GroupPosition) 
 title_unnumbered r layout place follows title rows shown words =
     let heading : Heading = heading_of_title title in
     let hidden : Bool = is_hidden title.level.name in
+    let roles : HeadingRoles = roles_of style.Title title.level.kind title.allows_styling in
     let after_name : List ℕ = id_text hidden title.id ++ colon_of hidden title.id in
     let label : heading_label_text heading ≡ norm (chars (name_of title.level))
     ++ after_name = append_assoc (norm (chars (name_of title.level))) (id_text hidden title.id) (colon_of hidden title.id) in
@@ -109,7 +114,8 @@ title_unnumbered r layout place follows title rows shown words =
     (heading_lines heading)) i [] in
     let each : (i : ℕ) → i < length shown.own → IsUnnumbered layout.gutter (get_or shown.own i []) =
     λ i within. ap (λ text. begins_with_number (take (layout.gutter + 1) text)) (texts_of shown.shows i ∙ ap (λ first. text_at first i) label)
-    ∙ text_of_row (layout.gutter + 1) (norm (chars (name_of title.level))) after_name (label_width heading) words.word (omega (arith, words.wide))
+    ∙ text_of_row (layout.gutter + 1) (norm (chars (name_of title.level))) after_name (label_width heading) words.word
+    (omega (arith, words.wide roles, ap width_of (row_text-label false roles heading)))
     (heading_lines heading) i in
     subst (All (IsUnnumbered layout.gutter)) (sym shown.rows_are) (All-append (IsUnnumbered layout.gutter) shown.own
     (rows_after_title r layout place follows title.allows_styling) (All-from_get_or (IsUnnumbered layout.gutter) shown.own [] each)

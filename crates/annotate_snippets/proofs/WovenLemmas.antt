@@ -10,7 +10,8 @@ use Rattle.snippet_grid.specs.Woven.{Piece, Char, piece_text, plain_piece, piece
 use Rattle.snippet_style.specs.declared.role.LevelInner.{LevelInner}
 use Rattle.snippet_style.specs.declared.stylesheet.Stylesheet.{Stylesheet}
 use Rattle.snippet_grid.proofs.WovenLemmas.{IsWoven-from_prints}
-use Rattle.annotate_snippets.specs.Page.{ArePrinted, Page, PrintsPage, group_rows, page_text}
+use Rattle.annotate_snippets.specs.Page.{group_rows, page_text}
+use Rattle.annotate_snippets.proofs.PageWords.{PrintsIn, ArePrinted, Page}
 use Rattle.snippet_grid.proofs.WovenLemmas.{ended-append}
 
 -- no text is woven
@@ -63,7 +64,7 @@ IsWoven-from_groups sheet (level ∷ more ∷ levels) (g ∷ other ∷ gs) (part
     (IsWoven-from_groups sheet (more ∷ levels) (other ∷ gs) (next ∷ parts) printed.1)
 
 -- what prints a page is woven of its text with its links
-pub IsWoven-from_page : (sheet : Stylesheet) (levels : List LevelInner) (page : Page) (text : List ℕ) → PrintsPage sheet levels page text
+pub IsWoven-from_page : (sheet : Stylesheet) (levels : List LevelInner) (page : Page) (text : List ℕ) → PrintsIn sheet levels page text
     → IsWoven sheet text (page_text page) (page_links page)
 IsWoven-from_page sheet levels page text prints =
     subst (λ t. IsWoven sheet t (page_text page) (page_links page)) (sym prints.joined) (IsWoven-from_groups sheet levels page prints.parts prints.printed)

@@ -15,14 +15,16 @@ use Rattle.snippet_style.specs.declared.stylesheet.Stylesheet.{Stylesheet}
 use Rattle.annotate_snippets.specs.Laws.Forms.{IsTextUnder}
 use Rattle.annotate_snippets.specs.Laws.Page.{PageLaws}
 use Rattle.annotate_snippets.specs.GraphicForm.{graphic_form}
-use Rattle.annotate_snippets.specs.Page.{ArePrinted, Page, PrintsGrids, PrintsPage}
-use Rattle.annotate_snippets.specs.ShownPage.{levels_of}
+use Rattle.annotate_snippets.specs.Page.{PrintsGrids, PrintsPage}
+use Rattle.annotate_snippets.proofs.PageWords.{ArePrinted, Page, PrintsIn}
+use Rattle.snippet_grid.proofs.PrintsPieces.{Prints-from_pieces}
+use Rattle.annotate_snippets.specs.Html.{levels_of}
 use Rattle.annotate_snippets.specs.Written.{AddsGrid, IsTextIn, PrintsGrid, ShowsIn, WritesPart, WritesText}
 use Rattle.annotate_snippets.specs.declared.renderer.Renderer.{Renderer}
 use Rattle.annotate_snippets.specs.declared.renderer.form.Form.TheVariants.{Graphic}
 use Rattle.annotate_snippets.specs.declared.renderer.graphic.GroupGrid.{GroupGrid}
 use Rattle.annotate_snippets.proofs.FormsShown.{page-law}
-use Rattle.annotate_snippets.proofs.GridRows.{GridsSoFar, grids_none, page_count}
+use Rattle.annotate_snippets.proofs.GridRows.{GridsSoFar, from_levels, grids_none, page_count}
 use Rattle.snippet_model.proofs.ZipLemmas.{AllZip-last}
 use Rattle.annotate_snippets.proofs.PrintedText.{texts_of_page}
 use Rattle.annotate_snippets.proofs.ReportLemmas.{page_so_far, page_whole}
@@ -80,14 +82,14 @@ module _ (sheet : Stylesheet) where
   -- a text that prints the page, and begins with this one; it is longer where groups follow some
   record GoesOn (levels : List LevelInner) (page : Page) (n : ℕ) (text : List ℕ) : Type 0 where
     pub whole : List ℕ
-    pub prints : PrintsPage sheet levels page whole
+    pub prints : PrintsIn sheet levels page whole
     pub rest : List ℕ
     pub is : whole ≡ text ++ rest
     pub more : 0 < n → n < length page → 0 < length rest
 
   -- a text that prints the first groups of a page goes on to one that prints all of them
   goes_on : (levels : List LevelInner) (page : Page) (n : ℕ) (text : List ℕ) → length levels ≡ length page
-      → PrintsPage sheet (take n levels) (take n page) text → GoesOn levels page n text
+      → PrintsIn sheet (take n levels) (take n page) text → GoesOn levels page n text
   goes_on levels page n text same before =
       let below = texts_of_page sheet (drop n levels) (drop n page) (length-drop n levels ∙ ap (λ k. k - n) same ∙ sym (length-drop n page)) in
       let all = printed-append (take n levels) (drop n levels) (take n page) (drop n page) before.parts below.0 before.printed below.1 in
@@ -148,13 +150,13 @@ pub grid_printed : (sheet : Stylesheet) (grid : GroupGrid) (first : Bool) (befor
 grid_printed sheet grid true before text lead adds =
     record {
       part = flat_map piece_text adds.pieces;
-      prints = record { pieces = adds.pieces; text_is = refl; prints = adds.are };
+      prints = Prints-from_pieces sheet grid.level grid.buffer _ (record { pieces = adds.pieces; text_is = refl; prints = adds.are });
       text_is = adds.text_is ∙ ap (λ t. t ++ flat_map piece_text adds.pieces) lead;
     }
 grid_printed sheet grid false before text lead adds =
     record {
       part = flat_map piece_text adds.pieces;
-      prints = record { pieces = adds.pieces; text_is = refl; prints = adds.are };
+      prints = Prints-from_pieces sheet grid.level grid.buffer _ (record { pieces = adds.pieces; text_is = refl; prints = adds.are });
       text_is = adds.text_is ∙ ap (λ t. t ++ flat_map piece_text adds.pieces) lead;
     }
 
@@ -166,7 +168,7 @@ grid_added sheet grid true before lead text is adds =
       text = flat_map piece_text adds.pieces;
       prints = record {
         part = flat_map piece_text adds.pieces;
-        prints = record { pieces = adds.pieces; text_is = refl; prints = adds.are };
+        prints = Prints-from_pieces sheet grid.level grid.buffer _ (record { pieces = adds.pieces; text_is = refl; prints = adds.are });
         text_is = refl;
       };
       added = adds.text_is ∙ ap (λ t. t ++ flat_map piece_text adds.pieces) is;
@@ -176,7 +178,7 @@ grid_added sheet grid false before lead text is adds =
       text = 10 ∷ flat_map piece_text adds.pieces;
       prints = record {
         part = flat_map piece_text adds.pieces;
-        prints = record { pieces = adds.pieces; text_is = refl; prints = adds.are };
+        prints = Prints-from_pieces sheet grid.level grid.buffer _ (record { pieces = adds.pieces; text_is = refl; prints = adds.are });
         text_is = refl;
       };
       added = adds.text_is ∙ ap (λ t. t ++ flat_map piece_text adds.pieces) is ∙ append_assoc before (10 ∷ []) (flat_map piece_text adds.pieces);
@@ -211,7 +213,7 @@ printed_more r groups n m grid first sheet old new before is adds so_far =
 
 -- a text that prints the page of a report, where this has its laws, is the report's
 page_text_is : (r : Renderer) (groups : List Group) (sheet : Stylesheet) (text : List ℕ) → PageLaws r groups (graphic_form r groups)
-    → PrintsPage sheet (levels_of groups) (graphic_form r groups) text → IsTextUnder Graphic r groups sheet text
+    → PrintsPage sheet (graphic_form r groups) text → IsTextUnder Graphic r groups sheet text
 page_text_is r groups sheet text laws prints =
     record { shows = record { printed = (prints, tt) }; laws = page-law r groups laws sheet text prints }
 
@@ -219,7 +221,7 @@ page_text_is r groups sheet text laws prints =
 pub printed_all : (r : Renderer) (groups : List Group) (n : ℕ) (sheet : Stylesheet) (text : List ℕ) → PageLaws r groups (graphic_form r groups)
     → n ≡ length groups → PrintedSoFar r groups n sheet text → IsTextUnder Graphic r groups sheet text
 printed_all r groups n sheet text laws all before =
-    page_text_is r groups sheet text laws (page_whole r groups n before.grids all before.so_far sheet text before.prints)
+    page_text_is r groups sheet text laws (from_levels r groups sheet text (page_whole r groups n before.grids all before.so_far sheet text before.prints))
 
 -- what a writer holds after the first n groups of a report: the text that prints their grids is added
 pub record WrittenSoFar (r : Renderer) (groups : List Group) (n : ℕ) (old new : Option (List ℕ)) : Type 0 where
@@ -266,7 +268,7 @@ module _ (r : Renderer) (groups : List Group) where
       (page_so_far r groups n before.grids before.so_far r.stylesheet text before.written.is) in
       record {
         text = goes.whole;
-        is = record { printed = (goes.prints, tt) };
+        is = record { printed = (from_levels r groups r.stylesheet goes.whole goes.prints, tt) };
         part = record {
           count = length text;
           short = omega (arith, ap length goes.is, length-append text goes.rest, goes.more some (omega (arith, within, page_count r groups)));
@@ -287,7 +289,7 @@ module _ (r : Renderer) (groups : List Group) where
       let count = adds.part.count in
       record {
         text = goes.whole;
-        is = record { printed = (goes.prints, tt) };
+        is = record { printed = (from_levels r groups r.stylesheet goes.whole goes.prints, tt) };
         part = record {
           count = length text + count;
           short = omega (arith, ap length goes.is, length-append (text ++ adds.text) goes.rest, length-append text adds.text, adds.part.short);
@@ -325,6 +327,7 @@ module _ (r : Renderer) (groups : List Group) where
       let text = before.written.text in
       record {
         text = text;
-        is = page_text_is r groups r.stylesheet text laws (page_whole r groups n before.grids all before.so_far r.stylesheet text before.written.is);
+        is = page_text_is r groups r.stylesheet text laws
+            (from_levels r groups r.stylesheet text (page_whole r groups n before.grids all before.so_far r.stylesheet text before.written.is));
         appended = before.written.appended;
       }

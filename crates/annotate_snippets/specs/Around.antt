@@ -3,13 +3,13 @@ use Rattle.std.specs.Prelude.{◌≡◌, ℕ, ◌+◌, ◌-◌, ◌==◌, ◌&&�
 use Rattle.std.specs.Prelude.{if◌then◌else◌}
 use Rattle.std.specs.Cow.{cow_str_bytes}
 use Rattle.std.specs.List.{filter_map, list_any, slice_get}
-use Rattle.std.specs.Option.{is_some, option_flatten, option_map, option_or}
+use Rattle.std.specs.Option.{is_some, option_eq, option_flatten, option_map, option_or}
 use Rattle.std.specs.Str.{bytes_eq}
 use Rattle.std.specs.declared.alloc.Global.{Global}
 use Rattle.std.specs.declared.borrow.CowStr.{CowStr}
 use Rattle.snippet_model.specs.declared.snippet.Group.{Group}
 use Rattle.snippet_model.specs.declared.snippet.Element.{Element}
-use Rattle.snippet_model.specs.declared.snippet.Element.TheVariants.{Message, Cause, Suggestion, Origin, Padding}
+use Rattle.snippet_model.specs.declared.snippet.Element.TheVariants.{Message, Cause, Suggestion, Origin}
 use Rattle.snippet_model.specs.declared.snippet.Patch.{Patch}
 use Rattle.snippet_model.specs.declared.snippet.Snippet.{Snippet}
 use Rattle.snippet_suggest.specs.declared.SuggestionStart.{SuggestionStart}
@@ -30,20 +30,14 @@ is_drawn other = true
 abbrev pub drawn_elements : Group → List Element
 drawn_elements g = filter is_drawn g.elements.items
 
--- the bytes of a path, if there is one
-abbrev pub path_bytes : Option (CowStr Global) → Option (List ℕ)
-path_bytes path = option_map cow_str_bytes path
-
 -- whether two paths are the same, as they are given; so are two that are missing
 abbrev pub is_same_file : Option (List ℕ) → Option (List ℕ) → Bool
-is_same_file (Some path) (Some other) = bytes_eq path other
-is_same_file None None = true
-is_same_file path other = false
+is_same_file path other = option_eq bytes_eq path other
 
 -- the file that an element is of: that of an annotated snippet, which may have no path, or of an origin; other elements are of
 -- none
 abbrev pub file_of_element : Element → Option (Option (List ℕ))
-file_of_element (Cause snippet) = Some (path_bytes snippet.path)
+file_of_element (Cause snippet) = Some (option_map cow_str_bytes snippet.path)
 file_of_element (Origin origin) = Some (Some (cow_str_bytes origin.path))
 file_of_element other = None
 
@@ -58,7 +52,7 @@ file_of_group groups g = option_or (primary_path g) (slice_get (filter_map prima
 
 -- whether two elements are suggestions for one file
 abbrev pub share_file : Element → Element → Bool
-share_file (Suggestion s) (Suggestion t) = is_same_file (path_bytes s.path) (path_bytes t.path)
+share_file (Suggestion s) (Suggestion t) = is_same_file (option_map cow_str_bytes s.path) (option_map cow_str_bytes t.path)
 share_file e other = false
 
 -- whether the first two of some elements are such
@@ -66,15 +60,12 @@ abbrev pub first_two_share : List Element → Bool
 first_two_share (e ∷ d ∷ es) = share_file e d
 first_two_share es = false
 
--- whether a path is there and is another than this file's
-abbrev pub is_other_file : Option (List ℕ) → Option (List ℕ) → Bool
-is_other_file file path = is_some path && not (is_same_file file path)
-
--- how a suggestion begins: in the last row of a suggestion for the same file right before it, or below its path where that is
+-- how a suggestion begins: in the last row of a suggestion for the same file right before it, or below its path where it has one that is
 -- another than the group's file, or else in a row of its own, as any other element
 abbrev pub suggestion_start : Option (List ℕ) → Bool → Element → SuggestionStart
 suggestion_start file shares (Suggestion s) =
-    if shares then start.Next else (if is_other_file file (path_bytes s.path) then start.Path else start.Opening)
+    let path = option_map cow_str_bytes s.path in
+    if shares then start.Next else (if is_some path && not (is_same_file file path) then start.Path else start.Opening)
 suggestion_start file shares other = start.Opening
 
 -- what follows, given the elements after it: nothing, a message, or another element
@@ -99,11 +90,7 @@ context_at place file es i e =
 abbrev pub position_of_group : ℕ → ℕ → GroupPosition
 position_of_group count i = if count == 1 then place.Only else (if i == 0 then place.First else place.Later)
 
--- whether a group is its report's first, and whether it is the first of several
-abbrev pub is_first_group : GroupPosition → Bool
-is_first_group place.Later = false
-is_first_group position = true
-
+-- whether a group is the first of several
 abbrev pub is_first_of_several : GroupPosition → Bool
 is_first_of_several place.First = true
 is_first_of_several position = false
@@ -139,6 +126,15 @@ is_next_start begin = false
 -- the same, of what stands around it
 abbrev pub begins_in_row_above : ElementContext → Bool
 begins_in_row_above around = is_next_start around.start
+
+-- whether a group is its report's first
+abbrev pub is_first_group : GroupPosition → Bool
+is_first_group place.Later = false
+is_first_group position = true
+
+-- the bytes of a path, if there is one
+abbrev pub path_bytes : Option (CowStr Global) → Option (List ℕ)
+path_bytes path = option_map cow_str_bytes path
 
 -- a suggestion that begins below its path has one
 abbrev pub HasPathFor : SuggestionStart → Snippet Patch → Type 0

@@ -2,6 +2,10 @@
 use Rattle.std.specs.Prelude.{ℕ, ◌+◌, ◌-◌, ◌==◌, ◌&&◌, nat_lt, not, List, [], ◌∷◌, ◌++◌, Bool, Option, Some, length, map, if◌then◌else◌}
 use Rattle.std.specs.Cow.{cow_str_bytes}
 use Rattle.std.specs.List.{enumerate_from, zip}
+use Rattle.std.specs.Prelude.{true}
+use Rattle.std.specs.Borrow.{Bor}
+use Rattle.std.specs.List.{filter_map, slice_get}
+use Rattle.std.specs.Option.{option_map}
 use Rattle.snippet_style.specs.Cell.{Cell}
 use Rattle.snippet_model.specs.declared.snippet.Annotation.{Annotation}
 use Rattle.snippet_model.specs.declared.snippet.Element.{Element}
@@ -20,14 +24,15 @@ use Rattle.snippet_strokes.specs.Snippet.{gap_row, shown_rows}
 use Rattle.snippet_suggest.specs.Given.{first_given}
 use Rattle.snippet_suggest.specs.RowOrder.{Offers, Removes, SuggestionRow}
 use Rattle.snippet_strokes.specs.SourceRows.{bare_row}
+use Rattle.snippet_titles.specs.Origin.{padding_row}
 use Rattle.annotate_snippets.specs.declared.renderer.Renderer.{Renderer}
 use Rattle.snippet_grid.specs.Layout.{Layout}
 use Rattle.annotate_snippets.specs.declared.renderer.element_context.GroupPosition.{GroupPosition}
 use Rattle.annotate_snippets.specs.declared.renderer.element_context.ElementContext.{ElementContext}
 use Rattle.annotate_snippets.specs.Around.{closes_with, context_at, drawn_elements, file_of_group, is_end, next_of, position_of_group, suggestion_rows}
-use Rattle.annotate_snippets.specs.DrawnReport.{found_at, last_row, shared_row, suggestion_lines}
+use Rattle.annotate_snippets.specs.DrawnReport.{last_row, shared_row, suggestion_lines}
 use Rattle.annotate_snippets.specs.Gutter.{layout_of_group, number_text, numbered_source}
-use Rattle.annotate_snippets.specs.Page.{Elision, GroupPage, NamedRow, OfferedLine, Other, Page, RemovedLine, RowName, SourceRow, cells_of, others}
+use Rattle.annotate_snippets.specs.Page.{Elision, GroupPage, NamedRow, OfferedLine, Other, RemovedLine, RowName, SourceRow, cells_of, others}
 use Rattle.annotate_snippets.specs.RowsWithoutSource.{cause_head, message_rows, origin_rows, rows_after_cause, suggestion_head, title_part}
 
 -- ---- lines
@@ -64,23 +69,20 @@ rows_of_lines r layout closes s open_bars (k ∷ ks) =
 
 -- ---- elements
 
--- the rows of an annotated snippet: those that it begins with, those of the lines that are shown, and what stands below
-abbrev pub snippet_rows : Renderer → Layout → ElementContext → Snippet Annotation → List NamedRow
-snippet_rows r layout around s =
-    others (cause_head r layout around s) ++ (rows_of_lines r layout (closes_with around) s [] (shown_lines s.fold (cow_str_bytes s.source) s.markers.items)
-    ++ others (rows_after_cause r layout around))
-
 -- what the row of a suggestion is named by
 abbrev pub name_of_row : Snippet Patch → SuggestionRow → RowName
 name_of_row s (Offers k) = OfferedLine (first_given s + k)
 name_of_row s (Removes i number text) = RemovedLine i
 name_of_row s other = Other
 
--- the rows of an element, where this stands in the row in which the one before ends; those of a suggestion are that of its path, where it
--- names that, and those of its lines, named by what they show
+-- the rows of an element, where this stands in the row in which the one before it ends. Those of an annotated snippet are those that it
+-- begins with, those of the lines that are shown, and what stands below; and those of a suggestion that of its path, where it names that, and
+-- those of its lines, named by what they show
 abbrev pub element_rows : Renderer → Layout → ElementContext → List Cell → Element → List NamedRow
 element_rows r layout around found (element.Message message) = others (message_rows r layout around message)
-element_rows r layout around found (element.Cause snippet) = snippet_rows r layout around snippet
+element_rows r layout around found (element.Cause s) =
+    others (cause_head r layout around s) ++ (rows_of_lines r layout (closes_with around) s [] (shown_lines s.fold (cow_str_bytes s.source) s.markers.items)
+    ++ others (rows_after_cause r layout around))
 element_rows r layout around found (element.Suggestion s) =
     others (suggestion_head r layout around s)
     ++ map (λ pair. record { name = name_of_row s pair.0; cells = pair.1 }) (zip (suggestion_rows around s) (suggestion_lines r layout around found s))
@@ -95,22 +97,20 @@ drawn_rows r layout around found e =
 
 -- ---- groups
 
--- the rows of each of these elements of a group, which are all that it draws
-abbrev pub rows_of_elements : Renderer → Layout → GroupPosition → Option (List ℕ) → List Element → List (List NamedRow)
-rows_of_elements r layout place file es =
-    map (λ pair. element_rows r layout (context_at place file es pair.0 pair.1) (found_at r layout es pair.0) pair.1) (enumerate_from 0 es)
-
--- the page of a group that stands at this place: the rows of its title, and those of each element that is drawn
+-- the page of a group that stands at this place: the rows of its title, and those of each element that is drawn, which may begin in the row
+-- that the one before it ends with
 abbrev pub group_page : Renderer → Layout → GroupPosition → Option (List ℕ) → Group → GroupPage
 group_page r layout place file g =
     let es = drawn_elements g in
-    record { title = title_part r layout place (next_of es) g.title; elements = rows_of_elements r layout place file es }
-
--- the page of the report's group of this number, from 0
-abbrev pub page_at : Renderer → List Group → ℕ → Group → GroupPage
-page_at r groups i g =
-    group_page r (layout_of_group r groups g) (position_of_group (length groups) i) (file_of_group groups g) g
+    let rows : ℕ → Element → List NamedRow = λ i e. element_rows r layout (context_at place file es i e) (last_row r layout true (slice_get es (i - 1))) e in
+    record {
+      level = g.level;
+      title = title_part r layout place (next_of es) g.title;
+      elements = map (λ pair. rows pair.0 pair.1) (enumerate_from 0 es);
+    }
 
 -- the page of a report
-abbrev pub graphic_form : Renderer → List Group → Page
-graphic_form r groups = map (λ pair. page_at r groups pair.0 pair.1) (enumerate_from 0 groups)
+abbrev pub graphic_form : Renderer → List Group → List GroupPage
+graphic_form r groups =
+    map (λ pair. group_page r (layout_of_group r groups pair.1) (position_of_group (length groups) pair.0) (file_of_group groups pair.1) pair.1)
+    (enumerate_from 0 groups)

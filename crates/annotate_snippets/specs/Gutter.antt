@@ -4,11 +4,8 @@ use Rattle.std.specs.List.{flat_map}
 use Rattle.std.specs.Fmt.{decimal}
 pub use Rattle.snippet_parts.specs.Numbered.{numbered_source}
 use Rattle.snippet_model.specs.declared.snippet.Group.{Group}
-use Rattle.snippet_model.specs.declared.snippet.Snippet.{Snippet}
-use Rattle.snippet_model.specs.declared.snippet.Annotation.{Annotation}
-use Rattle.snippet_model.specs.declared.snippet.Patch.{Patch}
 use Rattle.snippet_model.specs.declared.snippet.Element.{Element}
-use Rattle.snippet_model.specs.declared.snippet.Element.TheVariants.{Message, Cause, Suggestion, Origin, Padding}
+use Rattle.snippet_model.specs.declared.snippet.Element.TheVariants.{Cause, Suggestion}
 use Rattle.snippet_parts.specs.Annotated.{deepest}
 use Rattle.snippet_parts.specs.Counted.{counted_number}
 use Rattle.snippet_lines.specs.Number.{shown_number}
@@ -18,13 +15,10 @@ use Rattle.snippet_suggest.specs.Given.{counted_line}
 use Rattle.snippet_grid.specs.Layout.{Layout}
 use Rattle.annotate_snippets.specs.declared.renderer.Renderer.{Renderer}
 
--- the width that an annotated snippet wants: that of the greatest line number counted, or 0 where lines aren't numbered
-abbrev pub gutter_of : Snippet Annotation → ℕ
-gutter_of s = if s.line_numbering then length (decimal (counted_number s)) else 0
-
--- the width that an element wants: a suggestion that of the number that it counts; one without patches isn't there
+-- the width that an element wants: an annotated snippet that of the greatest line number counted, and a suggestion that of the number that it
+-- counts, or 0 where lines aren't numbered; a suggestion without patches isn't there
 abbrev pub width_wanted : Element → ℕ
-width_wanted (Cause s) = gutter_of s
+width_wanted (Cause s) = if s.line_numbering then length (decimal (counted_number s)) else 0
 width_wanted (Suggestion s) = if s.line_numbering && not (length s.markers.items == 0) then length (decimal (counted_line s)) else 0
 width_wanted other = 0
 
@@ -47,15 +41,10 @@ abbrev pub depth_of_element : Element → ℕ
 depth_of_element (Cause snippet) = deepest (numbered_source snippet) snippet.markers.items
 depth_of_element other = 0
 
--- the greatest number of those of a group's elements
-abbrev pub depth_of_group : Group → ℕ
-depth_of_group g = fold (λ depth e. max (depth_of_element e) depth) 0 g.elements.items
-
--- the cell at which code begins: three after the gutter, and where bars stand between, as many more, and one
-abbrev pub code_after : ℕ → ℕ → ℕ
-code_after gutter depth = if depth == 0 then gutter + 3 else gutter + 3 + depth + 1
-
--- the layout of a group: the gutter is the report's, and the glyphs are those of the settings
+-- the layout of a group: the gutter is the report's, and the glyphs are those of the settings. Its code begins three cells after the gutter,
+-- and where bars stand between, as many more as the greatest number of those of an element, and one
 abbrev pub layout_of_group : Renderer → List Group → Group → Layout
 layout_of_group r groups g =
-    record { gutter = gutter_of_report r groups; code = code_after (gutter_of_report r groups) (depth_of_group g); decor = r.decor_style }
+    let gutter = gutter_of_report r groups in
+    let depth = fold (λ depth e. max (depth_of_element e) depth) 0 g.elements.items in
+    record { gutter = gutter; code = if depth == 0 then gutter + 3 else gutter + 3 + depth + 1; decor = r.decor_style }

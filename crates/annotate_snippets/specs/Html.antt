@@ -1,5 +1,5 @@
 -- A report as HTML: the page of its graphic form, characters and tags; and what follows of it for who reads it.
-use Rattle.std.specs.Prelude.{◌≡◌, ℕ, List, [], ◌∷◌, ◌++◌, None, encode_utf8_all, Bool, if◌then◌else◌}
+use Rattle.std.specs.Prelude.{◌≡◌, ℕ, List, [], ◌∷◌, ◌++◌, None, encode_utf8_all, Bool, map, if◌then◌else◌}
 use Rattle.std.specs.List.{flat_map}
 use Rattle.snippet_grid.specs.Html.{AddsHtml, HtmlPiece, Text, html_bytes, plain_look, rows_html}
 use Rattle.snippet_grid.specs.HtmlRead.{ReadChar, chars_of_rows, chars_read, feed_read, html_says, piece_tag, tags_of}
@@ -7,35 +7,38 @@ use Rattle.snippet_model.specs.declared.snippet.Group.{Group}
 use Rattle.snippet_style.specs.declared.role.LevelInner.{LevelInner}
 use Rattle.annotate_snippets.specs.AsSet.{IsAsSet}
 use Rattle.annotate_snippets.specs.GraphicForm.{graphic_form}
-use Rattle.annotate_snippets.specs.Page.{Page, group_rows, page_text}
-use Rattle.annotate_snippets.specs.ShownPage.{levels_of}
+use Rattle.annotate_snippets.specs.Page.{GroupPage, group_rows, page_text}
 use Rattle.annotate_snippets.specs.declared.renderer.Renderer.{Renderer}
 use Rattle.annotate_snippets.specs.declared.renderer.form.Form.TheVariants.{Graphic}
 use Rattle.annotate_snippets.specs.declared.renderer.graphic.GroupGrid.{GroupGrid}
 
 -- the groups of a page, each in its level and after a line feed
-abbrev pub further_groups : List LevelInner → Page → List HtmlPiece
+abbrev pub further_groups : List LevelInner → List GroupPage → List HtmlPiece
 further_groups [] page = []
 further_groups (level ∷ levels) [] = []
 further_groups (level ∷ levels) (g ∷ gs) = (Text 10 ∷ rows_html level (group_rows g)) ++ further_groups levels gs
 
 -- a page, whose groups have these levels: its groups, joined by line feeds
-abbrev pub page_html : List LevelInner → Page → List HtmlPiece
+abbrev pub page_html : List LevelInner → List GroupPage → List HtmlPiece
 page_html [] page = []
 page_html (level ∷ levels) [] = []
 page_html (level ∷ levels) (g ∷ gs) = rows_html level (group_rows g) ++ further_groups levels gs
+
+-- the levels of a report's groups, in which they are printed
+abbrev pub levels_of : List Group → List LevelInner
+levels_of groups = map (λ g. g.level) groups
 
 -- a report
 abbrev pub report_html : Renderer → List Group → List HtmlPiece
 report_html r groups = page_html (levels_of groups) (graphic_form r groups)
 
 -- the characters of a page, each with the class and the address that it stands in: those of its cell. A line feed stands in neither
-abbrev pub further_chars : List LevelInner → Page → List ReadChar
+abbrev pub further_chars : List LevelInner → List GroupPage → List ReadChar
 further_chars [] page = []
 further_chars (level ∷ levels) [] = []
 further_chars (level ∷ levels) (g ∷ gs) = (feed_read ∷ chars_of_rows level (group_rows g)) ++ further_chars levels gs
 
-abbrev pub page_chars : List LevelInner → Page → List ReadChar
+abbrev pub page_chars : List LevelInner → List GroupPage → List ReadChar
 page_chars [] page = []
 page_chars (level ∷ levels) [] = []
 page_chars (level ∷ levels) (g ∷ gs) = chars_of_rows level (group_rows g) ++ further_chars levels gs

@@ -54,34 +54,24 @@ abbrev pub rows_below : List NamedRow → List (List Cell)
 rows_below [] = []
 rows_below (row ∷ rows) = if shows_lines row.name then [] else row.cells ∷ rows_below rows
 
--- the rows of a group: those of its title, of which there are none without a title, and those of each element
+-- a group of a page: its level, the rows of its title, of which there are none without a title, and those of each element
 pub record GroupPage : Type 0 where
+  pub level : LevelInner
   pub title : List (List Cell)
   pub elements : List (List NamedRow)
-
--- a page: the rows of each group
-abbrev pub Page : Type 0
-Page = List GroupPage
 
 -- the rows of a group, from top to bottom
 abbrev pub group_rows : GroupPage → List (List Cell)
 group_rows g = g.title ++ flat_map cells_of g.elements
 
 -- the plain characters of a page: the groups' rows, joined by line feeds
-abbrev pub page_text : Page → List ℕ
+abbrev pub page_text : List GroupPage → List ℕ
 page_text page = join_with_byte 10 (map (λ g. plain_text (group_rows g)) page)
 
--- each part prints the rows of one group under a sheet, in the level of the group
-abbrev pub ArePrinted : Stylesheet → List LevelInner → Page → List (List ℕ) → Type 0
-ArePrinted sheet [] [] [] = Unit {0}
-ArePrinted sheet (level ∷ levels) (g ∷ gs) (part ∷ parts) =
-    Prints sheet level (group_rows g) part × ArePrinted sheet levels gs parts
-ArePrinted sheet levels gs parts = ⊥
-
--- the text prints a page under a sheet, in groups of these levels: each group in its own, joined by line feeds
-pub record PrintsPage (sheet : Stylesheet) (levels : List LevelInner) (page : Page) (text : List ℕ) : Type 0 where
+-- the text prints a page, which are the groups of a report, under a sheet: each group in its level, joined by line feeds
+pub record PrintsPage (sheet : Stylesheet) (page : List GroupPage) (text : List ℕ) : Type 0 where
   pub parts : List (List ℕ)
-  pub printed : ArePrinted sheet levels page parts
+  pub printed : AllZip (λ g part. Prints sheet g.level (group_rows g) part) page parts
   pub joined : text ≡ join_with_byte 10 parts
 
 -- the text prints grids under a sheet, each in its level, joined by line feeds

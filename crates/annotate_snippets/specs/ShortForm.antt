@@ -1,5 +1,5 @@
 -- The short form of a report: what stands before the title of its first group, and after that title's first row.
-use Rattle.std.specs.Prelude.{ℕ, not, true, List, [], ◌∷◌, ◌++◌, Option, None, Some, chars, codes, filter}
+use Rattle.std.specs.Prelude.{ℕ, Bool, not, true, if◌then◌else◌, List, [], ◌∷◌, ◌++◌, Option, None, Some, chars, codes, filter}
 use Rattle.std.specs.Char.{is_whitespace}
 use Rattle.std.specs.Cow.{cow_str_bytes}
 use Rattle.std.specs.List.{filter_map, flat_map, list_all}
@@ -12,14 +12,16 @@ use Rattle.snippet_model.specs.declared.snippet.Element.TheVariants as element
 use Rattle.snippet_model.specs.declared.snippet.Group.{Group}
 use Rattle.snippet_model.specs.declared.snippet.Snippet.{Snippet}
 use Rattle.snippet_model.specs.declared.snippet.Title.{Title}
-use Rattle.snippet_parts.specs.Annotated.{annotated_lines}
+use Rattle.snippet_parts.specs.Annotated.{KeptLine, annotated_lines}
+use Rattle.snippet_parts.specs.Location.{primary_place, secondary_place}
+use Rattle.snippet_titles.specs.declared.origin.OriginLocation.{OriginLocation}
 use Rattle.snippet_style.specs.Cell.{Cell}
 use Rattle.snippet_text.specs.Normalized.{norm}
 use Rattle.snippet_titles.specs.Origin.{origin_text}
 use Rattle.snippet_titles.specs.ShortRows.{short_rows}
 use Rattle.annotate_snippets.specs.Around.{path_bytes}
 use Rattle.annotate_snippets.specs.Gutter.{numbered_source}
-use Rattle.annotate_snippets.specs.RowsWithoutSource.{place_named}
+use Rattle.annotate_snippets.specs.RowsWithoutSource.{place_found}
 use Rattle.annotate_snippets.specs.declared.renderer.Renderer.{Renderer}
 
 -- the first annotated snippet of some elements
@@ -30,6 +32,10 @@ first_cause (element.Message message ∷ es) = first_cause es
 first_cause (element.Suggestion snippet ∷ es) = first_cause es
 first_cause (element.Origin origin ∷ es) = first_cause es
 first_cause (element.Padding padding ∷ es) = first_cause es
+
+-- the place that the head of an annotated snippet names, given its lines that are kept, and whether it is primary
+abbrev pub place_named : Bool → List KeptLine → OriginLocation
+place_named primary lines = place_found (if primary then primary_place lines else secondary_place lines)
 
 -- the place of a snippet's spans in its file, after its path: that which the head of the group's primary snippet names
 abbrev pub place_of_path : Renderer → Snippet Annotation → Option (List ℕ) → List ℕ

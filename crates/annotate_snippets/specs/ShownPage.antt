@@ -1,8 +1,7 @@
 -- What the page of a report shows.
-use Rattle.std.specs.Prelude.{ℕ, true, List, [], map, if◌then◌else◌}
+use Rattle.std.specs.Prelude.{ℕ, true, List, [], if◌then◌else◌}
 use Rattle.std.specs.List.{AllZip, flat_map}
 use Rattle.std.specs.Option.{option_to_list}
-use Rattle.snippet_style.specs.declared.role.LevelInner.{LevelInner}
 use Rattle.snippet_style.specs.declared.stylesheet.Stylesheet.{Stylesheet}
 use Rattle.snippet_model.specs.declared.snippet.Title.{Title}
 use Rattle.snippet_model.specs.declared.snippet.Group.{Group}
@@ -10,10 +9,6 @@ use Rattle.snippet_titles.specs.Title.{id_links}
 use Rattle.annotate_snippets.specs.declared.renderer.Renderer.{Renderer}
 use Rattle.annotate_snippets.specs.GraphicForm.{graphic_form}
 use Rattle.annotate_snippets.specs.Page.{PrintsPage}
-
--- the levels of a report's groups, in which they are printed
-abbrev pub levels_of : List Group → List LevelInner
-levels_of groups = map (λ g. g.level) groups
 
 -- the addresses that a report links to, in order: with hyperlinks, that of each title's id that has one and that shows
 -- anything
@@ -24,4 +19,4 @@ report_links r groups =
 -- the texts show a report under these sheets, one text under each: all print one page, which is the report's, cell by cell. What follows of
 -- that page for who reads it are its laws, PageLaws
 pub record SheetsShown (r : Renderer) (groups : List Group) (sheets : List Stylesheet) (texts : List (List ℕ)) : Type 0 where
-  pub printed : AllZip (λ sheet text. PrintsPage sheet (levels_of groups) (graphic_form r groups) text) sheets texts
+  pub printed : AllZip (λ sheet text. PrintsPage sheet (graphic_form r groups) text) sheets texts

@@ -1,7 +1,7 @@
 -- The text form of a report: what it is made of, and which texts stand in it.
-use Rattle.std.specs.Prelude.{ℕ, ◌+◌, ◌==◌, ◌||◌, not, Bool, false, List, [], ◌∷◌, ◌++◌, Option, None, Some, map, if◌then◌else◌}
+use Rattle.std.specs.Prelude.{ℕ, ◌+◌, ◌==◌, ◌&&◌, ◌||◌, not, Bool, false, List, [], ◌∷◌, ◌++◌, Option, None, Some, map, if◌then◌else◌}
 use Rattle.std.specs.List.{flat_map, list_any}
-use Rattle.std.specs.Option.{option_copied, option_map, option_to_list}
+use Rattle.std.specs.Option.{is_some, option_copied, option_map, option_to_list}
 use Rattle.snippet_model.specs.Heading.{Heading, heading_of_message, heading_of_title}
 use Rattle.snippet_model.specs.declared.snippet.Element.{Element}
 use Rattle.snippet_model.specs.declared.snippet.Element.TheVariants as element
@@ -15,7 +15,7 @@ use Rattle.snippet_text_form.specs.Suggestion.{origin_form, suggestion_form}
 use Rattle.snippet_text_form.specs.declared.heading.HeadingKind.TheVariants.{Title, Message}
 use Rattle.snippet_text_form.specs.declared.suggestion.SuggestionContext.{SuggestionContext}
 use Rattle.snippet_titles.specs.HeadingRows.{shown_text}
-use Rattle.annotate_snippets.specs.Around.{drawn_elements, file_of_group, first_two_share, is_other_file, is_same_file, path_bytes}
+use Rattle.annotate_snippets.specs.Around.{drawn_elements, file_of_group, first_two_share, is_same_file, path_bytes}
 use Rattle.annotate_snippets.specs.declared.renderer.Renderer.{Renderer}
 use Rattle.annotate_snippets.specs.declared.renderer.text_form.PreviousSuggestion as code
 
@@ -42,6 +42,10 @@ option_number (Some before) path = if is_same_file before.path path then before.
 abbrev pub known_file : Option (List ℕ) → Option PreviousSuggestion → Option (List ℕ)
 known_file file None = file
 known_file file (Some before) = before.path
+
+-- whether a path is there and is another than this file's
+abbrev pub is_other_file : Option (List ℕ) → Option (List ℕ) → Bool
+is_other_file file path = is_some path && not (is_same_file file path)
 
 -- where a suggestion stands among others, given whether one for its file follows right after it
 abbrev pub suggestion_place : Option (List ℕ) → Option PreviousSuggestion → Bool → Snippet Patch → SuggestionContext

@@ -1,5 +1,5 @@
 -- How a suggestion is shown: as a value, by what its patches do.
-use Rattle.std.specs.Prelude.{ℕ, nat_lt, nat_le, ◌==◌, ◌&&◌, ◌||◌, not, Bool, true, Option, Some, None, is_none, List, length, chars}
+use Rattle.std.specs.Prelude.{ℕ, nat_lt, nat_le, ◌==◌, ◌&&◌, ◌||◌, not, Bool, Option, Some, None, is_none, List, length, chars}
 use Rattle.std.specs.Prelude.{if◌then◌else◌}
 use Rattle.std.specs.Char.{is_whitespace}
 use Rattle.std.specs.List.{list_all, list_any, slice_range}
@@ -19,17 +19,17 @@ is_blank_text text = list_all is_whitespace (chars text)
 abbrev pub text_under : List ℕ → Edit → Option (List ℕ)
 text_under source e = if nat_le e.end (length source) then Some (slice_range source e.start e.end) else None
 
--- whether it stands over text that isn't blank. A span that isn't inside the source counts as such text, unless it is empty
+-- whether a trimmed edit deletes or destroys text that isn't blank: its text is blank, or keeps less than all of that text, whitespace around
+-- both apart. A span that isn't inside the source counts as such text, unless it is empty
+abbrev pub takes_away : List ℕ → Edit → Bool
+takes_away source e =
+    let destroys : List ℕ → Bool = λ text. not (is_blank_text text) && (is_blank_text e.text || is_none (sandwich (trim text) (trim e.text))) in
+    option_map_or destroys (text_under source e) (not (e.start == e.end))
+
+-- whether an edit stands over text that isn't blank, or over a span that isn't inside the source and isn't empty
 abbrev pub is_under_text : Edit → Option (List ℕ) → Bool
 is_under_text e None = not (e.start == e.end)
 is_under_text e (Some text) = not (is_blank_text text)
-
--- whether a trimmed edit deletes or destroys text that isn't blank: its text is blank, or keeps less than all of that text, whitespace around
--- both apart
-abbrev pub takes_away : List ℕ → Edit → Bool
-takes_away source e =
-    is_under_text e (text_under source e)
-    && (is_blank_text e.text || option_map_or (λ text. is_none (sandwich (trim text) (trim e.text))) (text_under source e) true)
 
 -- whether a trimmed edit adds text, and stands over nothing but whitespace
 abbrev pub adds_text : List ℕ → Edit → Bool

@@ -10,6 +10,7 @@ use Rattle.std.specs.Str.{chars}
 use Rattle.snippet_grid.proofs.StretchPrinted.{stretch_printed}
 use Rattle.snippet_grid.proofs.WeaveLemmas.{Url, Goes}
 use Rattle.snippet_grid.specs.Stretch.{PrintsStretch}
+use Rattle.snippet_grid.specs.Woven.{Prints, WeavesRow, piece_text}
 use Rattle.snippet_titles.specs.StretchCells.{cells_alike, stretch_cells}
 use Rattle.snippet_titles.specs.declared.stretch.RowStretch.{RowStretch}
 use Rattle.snippet_style.specs.Cell.{Cell}
@@ -27,6 +28,12 @@ pub none_printed : (sheet : Stylesheet) (level : LevelInner) (stretches : List R
     → Goes sheet level (Some sheet.none) None (cells_before stretches 0) old old
 none_printed sheet level stretches old =
     λ rest more prints. record { pieces = rest; text_is = refl; prints = prints }
+
+-- what adds a row to no text prints that row
+pub row_printed : (sheet : Stylesheet) (level : LevelInner) (row : List Cell) (old new : List ℕ) → old ≡ [] → WeavesRow sheet level row old new
+    → Prints sheet level (row ∷ []) new
+row_printed sheet level row old new none adds =
+    record { lines = adds.pieces ∷ []; text_is = adds.text_is ∙ ap (λ (t : List ℕ). t ++ flat_map piece_text adds.pieces) none; prints = (adds.are, tt) }
 
 -- the cells before the next stretch are those before this one, and its own
 cells_next : (stretches : List RowStretch) (n : ℕ) (d : RowStretch) → n < length stretches

@@ -10,7 +10,7 @@ use Rattle.snippet_model.specs.declared.snippet.Group.{Group}
 use Rattle.snippet_model.specs.declared.snippet.Snippet.{Snippet}
 use Rattle.snippet_parts.specs.Kept.{kept_lines, with_between}
 use Rattle.annotate_snippets.specs.Around.{drawn_elements}
-use Rattle.annotate_snippets.specs.Page.{GroupPage, Page, lines_named}
+use Rattle.annotate_snippets.specs.Page.{GroupPage, lines_named}
 
 -- the lines of a snippet that are shown with so many before and after each that it keeps: the lines near one of these, each once and in
 -- order, and each single line between two of them
@@ -20,6 +20,6 @@ lines_with_context before after s =
     with_between (lines_around before after (length (source_lines source)) (kept_lines s.fold source s.markers.items))
 
 -- the source rows that a page has for each annotated snippet of a report show just these lines, in order
-pub record ShowsLinesAround (before after : ℕ) (groups : List Group) (page : Page) : Type 0 where
+pub record ShowsLinesAround (before after : ℕ) (groups : List Group) (page : List GroupPage) : Type 0 where
   pub lines : (i n : ℕ) (g : Group) (part : GroupPage) (s : Snippet Annotation) → slice_get groups i ≡ Some g → slice_get page i ≡ Some part
       → slice_get (drawn_elements g) n ≡ Some (Cause s) → lines_named (slice_index_or part.elements n []) ≡ lines_with_context before after s

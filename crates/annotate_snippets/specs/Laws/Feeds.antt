@@ -11,8 +11,7 @@ use Rattle.snippet_model.specs.declared.snippet.Element.TheVariants as element
 use Rattle.snippet_model.specs.declared.snippet.Group.{Group}
 use Rattle.snippet_model.specs.declared.snippet.Id.{Id}
 use Rattle.snippet_model.specs.declared.snippet.Title.{Title}
-use Rattle.annotate_snippets.specs.Around.{path_bytes}
-use Rattle.annotate_snippets.specs.Page.{Page, group_rows}
+use Rattle.annotate_snippets.specs.Page.{GroupPage, group_rows}
 
 -- ---- rows
 
@@ -32,7 +31,7 @@ or_empty_line [] = [] ∷ []
 or_empty_line (line ∷ lines) = line ∷ lines
 
 -- the lines that the rows of a page are: each is one. A group without rows is one empty line, and so is a page without groups
-abbrev pub page_lines : Page → List (List ℕ)
+abbrev pub page_lines : List GroupPage → List (List ℕ)
 page_lines page = or_empty_line (flat_map (λ g. or_empty_line (map row_text (group_rows g))) page)
 
 -- ---- texts
@@ -47,8 +46,8 @@ row_texts_of_title title =
 abbrev pub row_texts_of_element : Element → List (List ℕ)
 row_texts_of_element (element.Message message) = name_of message.level ∷ []
 row_texts_of_element (element.Cause snippet) =
-    option_to_list (path_bytes snippet.path) ++ filter_map (λ a. option_map cow_str_bytes a.label) snippet.markers.items
-row_texts_of_element (element.Suggestion snippet) = option_to_list (path_bytes snippet.path)
+    option_to_list (option_map cow_str_bytes snippet.path) ++ filter_map (λ a. option_map cow_str_bytes a.label) snippet.markers.items
+row_texts_of_element (element.Suggestion snippet) = option_to_list (option_map cow_str_bytes snippet.path)
 row_texts_of_element (element.Origin origin) = cow_str_bytes origin.path ∷ []
 row_texts_of_element (element.Padding padding) = []
 

@@ -1,5 +1,5 @@
 -- What the rows of a group show, and of each of its elements.
-use Rattle.std.specs.Prelude.{◌≡◌, ℕ, List, [], ◌∷◌, Option, Some, length}
+use Rattle.std.specs.Prelude.{◌≡◌, ℕ, ◌-◌, true, List, [], ◌∷◌, Option, Some, length}
 use Rattle.std.specs.List.{slice_get, slice_index_or}
 use Rattle.snippet_style.specs.Cell.{Cell}
 use Rattle.snippet_model.specs.declared.snippet.Group.{Group}
@@ -10,9 +10,9 @@ use Rattle.snippet_grid.specs.Layout.{Layout}
 use Rattle.annotate_snippets.specs.declared.renderer.element_context.GroupPosition.{GroupPosition}
 use Rattle.annotate_snippets.specs.declared.renderer.element_context.ElementContext.{ElementContext}
 use Rattle.annotate_snippets.specs.Around.{drawn_elements, file_of_group, is_end, next_of, position_of_group, context_at}
-use Rattle.annotate_snippets.specs.DrawnReport.{found_at}
+use Rattle.annotate_snippets.specs.DrawnReport.{last_row}
 use Rattle.annotate_snippets.specs.Gutter.{layout_of_group}
-use Rattle.annotate_snippets.specs.Page.{NamedRow, others, GroupPage, Page}
+use Rattle.annotate_snippets.specs.Page.{NamedRow, others, GroupPage}
 use Rattle.annotate_snippets.specs.Laws.Titles.{ShowsTitlePart, ShowsMessage}
 use Rattle.annotate_snippets.specs.Laws.Paths.{ShowsOrigin}
 use Rattle.annotate_snippets.specs.Laws.Snippets.{ShowsSnippet}
@@ -34,7 +34,7 @@ pub record AreElementsShown (r : Renderer) (layout : Layout) (place : GroupPosit
     (parts : List (List NamedRow)) : Type 0 where
   pub count : length parts ≡ length es
   pub each : (i : ℕ) (e : Element) → slice_get es i ≡ Some e
-      → ShowsElement r layout (context_at place file es i e) (found_at r layout es i) e (slice_index_or parts i [])
+      → ShowsElement r layout (context_at place file es i e) (last_row r layout true (slice_get es (i - 1))) e (slice_index_or parts i [])
   pub free : (i : ℕ) (e : Element) → slice_get es i ≡ Some e → IsFreeElement e (slice_index_or parts i [])
 
 -- the rows show a group: its title, and each element that is drawn, in order. Where a suggestion begins in the row with which
@@ -44,7 +44,7 @@ pub record ShowsGroup (r : Renderer) (layout : Layout) (place : GroupPosition) (
   pub elements : AreElementsShown r layout place file (drawn_elements g) page.elements
 
 -- a page shows each group of a report, in order, in the layout that the report gives it
-pub record AreGroupsShown (r : Renderer) (groups : List Group) (page : Page) : Type 0 where
+pub record AreGroupsShown (r : Renderer) (groups : List Group) (page : List GroupPage) : Type 0 where
   pub count : length page ≡ length groups
   pub each : (i : ℕ) (g : Group) (part : GroupPage) → slice_get groups i ≡ Some g → slice_get page i ≡ Some part
       → ShowsGroup r (layout_of_group r groups g) (position_of_group (length groups) i) (file_of_group groups g) g part

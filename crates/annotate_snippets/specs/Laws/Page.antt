@@ -10,7 +10,7 @@ use Rattle.snippet_model.specs.declared.snippet.Title.{Title}
 use Rattle.annotate_snippets.specs.Laws.Feeds.{HasNoFeed, HasOneLineTexts, page_lines, text_lines}
 use Rattle.annotate_snippets.specs.Gutter.{layout_of_group}
 use Rattle.annotate_snippets.specs.Laws.Numbers.{IsTitleOfWords, begins_with_number, shows_a_line}
-use Rattle.annotate_snippets.specs.Page.{GroupPage, NamedRow, Page, group_rows, page_text}
+use Rattle.annotate_snippets.specs.Page.{GroupPage, NamedRow, group_rows, page_text}
 use Rattle.annotate_snippets.specs.Laws.Groups.{AreGroupsShown}
 use Rattle.annotate_snippets.specs.Laws.Free.{IsFreeBut}
 use Rattle.annotate_snippets.specs.ShownPage.{report_links}
@@ -22,7 +22,7 @@ use Rattle.annotate_snippets.specs.declared.renderer.Renderer.{Renderer}
 -- up to the one before the separator a row of an element holds a letter or digit only where it shows a line, so that no other can be taken
 -- for one; and no row of a title that begins with a word begins with a number there (`lines` follows from `one_line`, `numbers` and `titles`
 -- from `shows`)
-pub record PageLaws (r : Renderer) (groups : List Group) (page : Page) : Type 0 where
+pub record PageLaws (r : Renderer) (groups : List Group) (page : List GroupPage) : Type 0 where
   pub shows : AreGroupsShown r groups page
   pub free : IsFreeBut (trusted_texts groups) (page_text page)
   pub links : flat_map (λ g. links_of (group_rows g)) page ≡ report_links r groups

@@ -14,7 +14,7 @@ use Rattle.snippet_grid.specs.Layout.{Layout}
 use Rattle.annotate_snippets.specs.declared.renderer.element_context.ElementContext.{ElementContext}
 use Rattle.annotate_snippets.specs.Gutter.{numbered_source}
 use Rattle.annotate_snippets.specs.Page.{NamedRow, cells_of, others}
-use Rattle.annotate_snippets.specs.RowsWithoutSource.{origin_rows, place_found, place_given}
+use Rattle.annotate_snippets.specs.RowsWithoutSource.{origin_rows, place_found}
 use Rattle.snippet_model.specs.declared.snippet.Origin as origin
 
 -- the rows show an origin: they are its rows, cell by cell; so the first of them holds, four cells after the gutter, its path,
@@ -22,7 +22,7 @@ use Rattle.snippet_model.specs.declared.snippet.Origin as origin
 pub record ShowsOrigin (r : Renderer) (layout : Layout) (around : ElementContext) (o : origin.Origin) (rows : List NamedRow) : Type 0 where
   pub rows_are : rows ≡ others (origin_rows r layout around o)
   pub text : row_text (drop (layout.gutter + 4) (row_at (cells_of rows) 0))
-      ≡ origin_text r.anonymized_origin_line_numbers (cow_str_bytes o.path) (place_given o)
+      ≡ origin_text r.anonymized_origin_line_numbers (cow_str_bytes o.path) (record { line = o.line; column = o.char_column })
 
 -- a row names the place of a snippet's spans after its path: the first line on which a span of the kind that names it starts,
 -- and the least column there, counted in characters from 1

@@ -2,6 +2,7 @@
 use Rattle.std.specs.Prelude.{◌≡◌, ℕ, ◌==◌, ◌&&◌, Bool, true, false, List, [], ◌∷◌, ◌++◌, All, Contains, Some, length, ◌-◌}
 use Rattle.std.specs.List.{list_any}
 use Rattle.std.specs.Cow.{cow_str_bytes}
+use Rattle.std.specs.Option.{option_map}
 use Rattle.snippet_grid.specs.Grid.{row_at}
 use Rattle.snippet_style.specs.Cell.{Cell}
 use Rattle.snippet_model.specs.declared.snippet.Snippet.{Snippet}
@@ -61,7 +62,7 @@ AreRowsOf r layout closes s (row ∷ rows) =
 pub record ShowsSnippet (r : Renderer) (layout : Layout) (around : ElementContext) (s : Snippet Annotation) (rows : List NamedRow) : Type 0 where
   pub after : List NamedRow
   pub rows_are : rows ≡ others (cause_head r layout around s) ++ (after ++ others (rows_after_cause r layout around))
-  pub origin : around.primary ≡ true → (path : List ℕ) → path_bytes s.path ≡ Some path → list_any (λ a. is_marking a.kind) s.markers.items ≡ true
+  pub origin : around.primary ≡ true → (path : List ℕ) → option_map cow_str_bytes s.path ≡ Some path → list_any (λ a. is_marking a.kind) s.markers.items ≡ true
       → All (λ a. is_long (cow_str_bytes s.source) a ≡ false) s.markers.items → NamesLocation r layout s path (row_at (cells_of rows) 0)
   pub lines : lines_named after ≡ shown_lines s.fold (cow_str_bytes s.source) s.markers.items
   pub ends : All (λ a. Contains (lines_named after) (first_line (cow_str_bytes s.source) a)

@@ -1,5 +1,5 @@
 -- What the rows of a title or a message show.
-use Rattle.std.specs.Prelude.{◌≡◌, Bool, List, [], ◌++◌, All, Option, Some, None}
+use Rattle.std.specs.Prelude.{◌≡◌, Bool, not, List, [], ◌++◌, All, Option, Some, None}
 use Rattle.snippet_style.specs.Cell.{Cell}
 use Rattle.snippet_model.specs.Heading.{Heading, heading_of_message, heading_of_title}
 use Rattle.snippet_model.specs.declared.snippet.Title.{Title}
@@ -11,8 +11,9 @@ use Rattle.snippet_grid.specs.Layout.{Layout}
 use Rattle.annotate_snippets.specs.declared.renderer.element_context.GroupPosition.{GroupPosition}
 use Rattle.annotate_snippets.specs.declared.renderer.element_context.Next.{Next}
 use Rattle.annotate_snippets.specs.declared.renderer.element_context.ElementContext.{ElementContext}
+use Rattle.annotate_snippets.specs.Around.{is_end}
 use Rattle.annotate_snippets.specs.Page.{NamedRow, cells_of, others}
-use Rattle.annotate_snippets.specs.RowsWithoutSource.{message_style, rows_after_title}
+use Rattle.annotate_snippets.specs.RowsWithoutSource.{rows_after_title}
 use Rattle.snippet_model.specs.declared.snippet.Message as message
 use Rattle.snippet_titles.specs.declared.style.TitleStyle.TheVariants as style
 
@@ -39,4 +40,4 @@ ShowsTitlePart r layout place follows (Some title) rows = ShowsTitle r layout pl
 -- the rows show a message
 pub record ShowsMessage (r : Renderer) (layout : Layout) (around : ElementContext) (m : message.Message) (rows : List NamedRow) : Type 0 where
   pub named : rows ≡ others (cells_of rows)
-  pub shows : ShowsHeading r.hyperlink (message_style r layout around) (heading_of_message m) (cells_of rows)
+  pub shows : ShowsHeading r.hyperlink (style.Message (record { layout = layout; followed = not (is_end around.next) })) (heading_of_message m) (cells_of rows)

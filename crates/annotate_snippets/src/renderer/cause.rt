@@ -12,7 +12,7 @@ ghost use Rattle.std.specs.Cow.{cow_str_bytes};
 ghost use Rattle.snippet_model.specs.declared.snippet.Element.TheVariants.{Cause};
 ghost use Rattle.snippet_parts.specs.Kept.{shown_lines};
 ghost use Rattle.annotate_snippets.specs.DrawnReport.{HasRoomFor};
-ghost use Rattle.annotate_snippets.specs.GraphicForm.{rows_of_lines, snippet_rows};
+ghost use Rattle.annotate_snippets.specs.GraphicForm.{element_rows, rows_of_lines};
 ghost use Rattle.annotate_snippets.specs.Page.{cells_of};
 ghost use Rattle.annotate_snippets.specs.PreparedReport.{IsCausePrepared};
 ghost use Rattle.annotate_snippets.specs.RowsWithoutSource.{cause_head, rows_after_cause};
@@ -48,7 +48,7 @@ pub fn draw_cause(
     requires prepared { IsCausePrepared cause }
     requires room { HasRoomFor renderer.now layout (Cause cause.snippet.now) }
     ensures rows { OnOk result (buffer.new ≡ buffer.old
-        ++ cells_of (snippet_rows renderer.now layout around cause.entry.snippet.now)) }
+        ++ cells_of (element_rows renderer.now layout around [] (Cause cause.entry.snippet.now))) }
 {
     draw_cause_head(buffer, renderer, layout, around, &cause)?;
     draw_cause_lines(buffer, renderer, layout, around.closes(), cause)?;

@@ -1,19 +1,22 @@
 //! The rows of a group's elements, one below the other.
-ghost use Rattle.std.specs.Prelude.{◌≡◌, ◌+◌, ◌<◌, ◌++◌, All, List, OnOk, map};
+ghost use Rattle.std.specs.Prelude.{◌≡◌, ◌+◌, ◌<◌, ◌++◌, ◌&&◌, All, List, OnOk, if◌then◌else◌, map, not};
 ghost use Rattle.std.specs.List.{flat_map};
 ghost use Rattle.std.specs.Option.{option_copied};
 ghost use Rattle.snippet_style.specs.Cell.{Cell};
-ghost use Rattle.annotate_snippets.specs.Around.{CanStandIn, begins_in_row_above};
+ghost use Rattle.annotate_snippets.specs.Around.{CanStandIn, begins_in_row_above, is_end};
 ghost use Rattle.annotate_snippets.specs.DrawnReport.{HasRoomFor, shared_row};
-ghost use Rattle.annotate_snippets.specs.GraphicForm.{drawn_rows, rows_of_elements};
+ghost use Rattle.annotate_snippets.specs.GraphicForm.{drawn_rows};
 ghost use Rattle.annotate_snippets.specs.Page.{cells_of};
 ghost use Rattle.annotate_snippets.specs.PreparedReport.{IsElementPrepared, element_of};
+ghost use Rattle.annotate_snippets.specs.Printing.{rows_of_elements};
 ghost use Rattle.annotate_snippets.specs.RowsWithoutSource as spec;
 ghost use Rattle.annotate_snippets.specs.RowsWithoutSource.{origin_rows};
-ghost use Rattle.annotate_snippets.specs.declared.renderer.Renderer.{Renderer};
 ghost use Rattle.snippet_model.specs.Fits.{MessageFits};
 ghost use Rattle.snippet_model.specs.Heading.{heading_of_message};
 ghost use Rattle.snippet_titles.specs.HeadingRows.{heading_rows};
+ghost use Rattle.snippet_titles.specs.Origin.{primary_start};
+ghost use Rattle.snippet_titles.specs.declared.origin.FileStart.TheVariants.{Alone, Secondary};
+ghost use Rattle.snippet_titles.specs.declared.style.TitleStyle.TheVariants as style;
 
 use crate::renderer::Renderer;
 use crate::renderer::cause::draw_cause;
@@ -106,7 +109,7 @@ pub fn draw_message<'a>(
 
 /// Where a message stands.
 pub fn message_style(layout: Layout, around: ElementContext) -> TitleStyle
-    ensures value { (r : Renderer) → result ≡ spec.message_style r layout around }
+    ensures value { result ≡ style.Message (record { layout = layout; followed = not (is_end around.next) }) }
 {
     let followed = !around.next.is_nothing();
     TitleStyle::Message(MessageContext { layout, followed })
@@ -141,7 +144,8 @@ fn draw_place(
 
 /// What leads to the path of a place without source.
 fn origin_start(around: ElementContext) -> FileStart
-    ensures value { result ≡ spec.origin_start around }
+    ensures value { result ≡ (if around.primary
+        then (if around.first && is_end around.next then Alone else primary_start around.first) else Secondary) }
 {
     if !around.primary {
         FileStart::Secondary

@@ -6,13 +6,13 @@
 //! 1 | let x = 1;
 //!   |     ^
 //! ```
-ghost use Rattle.std.specs.Prelude.{◌≡◌, ◌+◌, ◌<◌, ◌≤◌, ◌^◌, [], All, IfOk, Some, length, slice_get, string_bytes};
+ghost use Rattle.std.specs.Prelude.{◌≡◌, ◌<◌, ◌≤◌, ◌^◌, [], All, IfOk, Some, length, slice_get};
 ghost use Rattle.std.specs.List.{filter_map};
 ghost use Rattle.std.specs.Option.{option_copied};
 ghost use Rattle.annotate_snippets.specs.Around as spec;
 ghost use Rattle.annotate_snippets.specs.Around.{file_of_group, position_of_group};
 ghost use Rattle.annotate_snippets.specs.DrawnReport.{HasRoomFor};
-ghost use Rattle.annotate_snippets.specs.GraphicForm.{group_page, page_at};
+ghost use Rattle.annotate_snippets.specs.GraphicForm.{group_page};
 ghost use Rattle.annotate_snippets.specs.Gutter.{gutter_of_report, layout_of_group};
 ghost use Rattle.annotate_snippets.specs.Page.{group_rows};
 ghost use Rattle.annotate_snippets.specs.PreparedReport.{IsGroupDrawable, IsGroupPrepared, element_of};
@@ -71,8 +71,9 @@ pub fn draw_at<'a>(
     requires file { option_copied report.now.file
         ≡ slice_get (filter_map spec.primary_path report.now.groups.now) 0 }
     ensures level { IfOk result (λ grid. grid.level ≡ group.entry.group.now.level) }
-    ensures rows { IfOk result (λ grid. grid.buffer
-        ≡ group_rows (page_at renderer.now report.now.groups.now number group.entry.group.now)) }
+    ensures rows { let gs = report.now.groups.now in let g = group.entry.group.now in
+        IfOk result (λ grid. grid.buffer ≡ group_rows (group_page renderer.now (layout_of_group renderer.now gs g)
+        (position_of_group (length gs) number) (file_of_group gs g) g)) }
 {
     let around = group_context(renderer, report, number, &group);
     draw_group(renderer, &around, group, empty)

@@ -8,7 +8,7 @@ ghost use Rattle.std.specs.Str.{IsUtf8};
 ghost use Rattle.snippet_lines.specs.Span.{IsSpan};
 ghost use Rattle.snippet_parts.specs.Annotated.{annotated_lines, seen_kept};
 ghost use Rattle.annotate_snippets.specs.PreparedReport.{IsCausePrepared};
-ghost use Rattle.annotate_snippets.specs.RowsWithoutSource.{place_named};
+ghost use Rattle.annotate_snippets.specs.ShortForm.{place_named};
 
 use crate::renderer::preprocess::PreparedCause;
 use snippet_model::snippet::Annotation;

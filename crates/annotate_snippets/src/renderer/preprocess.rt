@@ -1,10 +1,10 @@
 //! What is known of a report before any row is drawn: the lines of each source, the entries on them, the patched texts.
 //! Each is found once, and the gutter's width needs them all.
-ghost use Rattle.std.specs.Prelude.{◌≡◌, ◌∷◌, ◌++◌, [], All, IfOk, OnOk, filter, map};
+ghost use Rattle.std.specs.Prelude.{◌≡◌, ◌∷◌, ◌++◌, [], All, IfOk, OnOk, filter, fold, map, max};
 ghost use Rattle.std.specs.Option.{is_some};
 ghost use Rattle.annotate_snippets.specs.Around as spec;
 ghost use Rattle.annotate_snippets.specs.Around.{is_drawn, share_file};
-ghost use Rattle.annotate_snippets.specs.Gutter.{depth_of_group};
+ghost use Rattle.annotate_snippets.specs.Gutter.{depth_of_element};
 ghost use Rattle.annotate_snippets.specs.Gutter as gutter;
 ghost use Rattle.annotate_snippets.specs.PreparedReport.{IsCausePrepared, IsDrawable, IsElementDrawable};
 ghost use Rattle.annotate_snippets.specs.PreparedReport.{IsElementPrepared};
@@ -93,7 +93,7 @@ impl<'a> PreparedGroup<'a> {
     /// How many bars stand side by side left of the lines of its elements.
     pub fn depth(&self) -> usize
         requires prepared { IsGroupPrepared self.now }
-        ensures value { result ≡ depth_of_group self.now.group.now }
+        ensures value { result ≡ fold (λ depth e. max (depth_of_element e) depth) 0 self.now.group.now.elements.items }
         ensures small { IsCount result }
     {
         let mut depth = 0;

@@ -23,10 +23,10 @@ ghost use Rattle.snippet_titles.specs.Title.{title_rows};
 ghost use Rattle.annotate_snippets.specs.Around as spec;
 ghost use Rattle.annotate_snippets.specs.Around.{drawn_elements};
 ghost use Rattle.annotate_snippets.specs.DrawnReport.{HasRoomFor};
-ghost use Rattle.annotate_snippets.specs.GraphicForm.{group_page, rows_of_elements};
+ghost use Rattle.annotate_snippets.specs.GraphicForm.{group_page};
 ghost use Rattle.annotate_snippets.specs.Page.{cells_of, group_rows};
 ghost use Rattle.annotate_snippets.specs.PreparedReport.{IsElementPrepared, IsGroupPrepared, element_of};
-ghost use Rattle.annotate_snippets.specs.Printing.{IsPrinting};
+ghost use Rattle.annotate_snippets.specs.Printing.{IsPrinting, rows_of_elements};
 ghost use Rattle.annotate_snippets.specs.RowsWithoutSource.{title_part};
 
 use crate::renderer::Renderer;

@@ -6,10 +6,14 @@
 //!  1 | foo(x)             the lines as they will be
 //!    |     +
 //! ```
-ghost use Rattle.std.specs.Prelude.{◌≡◌, ◌++◌, List, OnOk};
+ghost use Rattle.std.specs.Prelude.{◌≡◌, ◌+◌, ◌++◌, List, OnOk, Some};
 ghost use Rattle.snippet_model.specs.declared.snippet.Element.TheVariants.{Suggestion};
 ghost use Rattle.snippet_style.specs.Cell.{Cell};
+ghost use Rattle.snippet_lines.specs.Place.{start_location};
+ghost use Rattle.snippet_splice.specs.ShownText.{first_start};
+ghost use Rattle.snippet_suggest.specs.Given.{trimmed_of};
 ghost use Rattle.snippet_suggest.specs.PreparedSuggestion.{IsPrepared};
+ghost use Rattle.annotate_snippets.specs.Gutter.{numbered_source};
 ghost use Rattle.annotate_snippets.specs.DrawnReport.{shared_row};
 ghost use Rattle.annotate_snippets.specs.GraphicForm.{drawn_rows};
 ghost use Rattle.annotate_snippets.specs.Around.{HasPathFor, begins_in_row_above};
@@ -78,7 +82,9 @@ fn draw_path(
 /// The place at which the first patch starts.
 fn first_place(suggestion: &PreparedSuggestion<'_>) -> OriginLocation
     requires prepared { IsPrepared suggestion.now }
-    ensures value { result ≡ spec.patch_place suggestion.now.snippet.now }
+    ensures value { let s = suggestion.now.snippet.now in
+        let at = start_location (numbered_source s) (first_start (trimmed_of s)) in
+        result ≡ record { line = Some at.line; column = Some (at.char + 1) } }
 {
     let Some(patch) = suggestion.splice.patches.first() else {
         return OriginLocation {

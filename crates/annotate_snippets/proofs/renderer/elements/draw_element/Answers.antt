@@ -17,7 +17,7 @@ returns-in-Message c = record {
       (λ drawn. plain_added c.args.renderer.now c.args.layout c.args.around found c.args.element (Message c.in-Message.message.now)
       above c.args.buffer.now c.draw_message.new.buffer _ (ap element_of c.in-Message.is) c.requires.around (λ alone. alone)
       is drawn (ap (λ s. heading_rows c.args.renderer.now.hyperlink s (heading_of_message c.in-Message.message.now))
-      (c.message_style-style.ensures.value c.args.renderer.now)
+      c.message_style-style.ensures.value
       ∙ sym (cells_of-others (message_rows c.args.renderer.now c.args.layout c.args.around c.in-Message.message.now)))) c.draw_message.ensures.rows;
 }
 

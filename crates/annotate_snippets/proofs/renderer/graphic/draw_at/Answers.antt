@@ -1,7 +1,8 @@
 use Rattle.std.proofs.Common.{◌≡◌, ◌∙◌, ap}
 use Rattle.std.specs.Option.{option_copied}
 use Rattle.std.proofs.lemmas.Result.{IfOk-weaker}
-use Rattle.annotate_snippets.specs.GraphicForm.{group_page, page_at}
+use Rattle.annotate_snippets.specs.GraphicForm.{group_page}
+use Rattle.annotate_snippets.proofs.PageWords.{page_at}
 use Rattle.annotate_snippets.specs.Page.{group_rows}
 use Rattle.annotate_snippets.proofs.GridRows.{page_here, room_at}
 use Rattle.annotate_snippets.proofs.renderer.graphic.draw_at.Goals as goal

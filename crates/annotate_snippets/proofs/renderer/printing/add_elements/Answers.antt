@@ -43,7 +43,7 @@ loop-i-preserved-in-Continue-branch-2 c =
           c.args.group.now.layout c.args.group.now.place (option_copied c.args.group.now.file) c.args.elements.items c.in_ok-around.around.items
           (length c.loop-i.yielded) _ c.in-Some.i c.in-Some.element c.index-place.result.now message c.message_style-style.result above old c.loop-i.page
           c.add_message.new.page are turn c.index-place.ensures (length_push c.loop-i.yielded (c.in-Some.i, c.in-Some.element))
-          (ap element_of c.in-Message.is) (c.message_style-style.ensures.value c.args.renderer.now) c.loop-i.invariant.sheet c.loop-i.invariant.level
+          (ap element_of c.in-Message.is) c.message_style-style.ensures.value c.loop-i.invariant.sheet c.loop-i.invariant.level
           (λ rows. c.in_ok-add_message.ensures.printed old rows)
           (c.loop-i.invariant.printed old above printing);
     }

@@ -10,7 +10,7 @@ use Rattle.snippet_titles.specs.Origin.{origin_text}
 use Rattle.snippet_titles.specs.declared.origin.OriginLocation.{OriginLocation}
 use Rattle.annotate_snippets.specs.Around.{path_bytes}
 use Rattle.annotate_snippets.specs.Gutter.{numbered_source}
-use Rattle.annotate_snippets.specs.RowsWithoutSource.{place_named}
+use Rattle.annotate_snippets.specs.ShortForm.{place_named}
 use Rattle.annotate_snippets.proofs.ShortLemmas.{PlaceFits, place-added, place-of_none, origin_text-place_of_cause, place-short}
 use Rattle.annotate_snippets.proofs.renderer.short.place_of.Goals as goal
 

@@ -1,0 +1,137 @@
+-- Words of proofs for parts of a report's page.
+use Rattle.std.proofs.Common.{◌≡◌, ℕ, ◌-◌, true, not, List, [], ◌∷◌, length, map, max, fold, if◌then◌else◌, Bool, subst, sym, ◌+◌, ◌&&◌, Some}
+use Rattle.std.specs.Fmt.{decimal}
+use Rattle.std.specs.List.{AllZip, join_with_byte, slice_get}
+use Rattle.std.specs.Cow.{cow_str_bytes}
+use Rattle.std.specs.Option.{option_map}
+use Rattle.snippet_grid.specs.Layout.{Layout}
+use Rattle.snippet_grid.specs.Woven.{Prints}
+use Rattle.snippet_model.specs.declared.snippet.Annotation.{Annotation}
+use Rattle.snippet_model.specs.declared.snippet.Element.{Element}
+use Rattle.snippet_model.specs.declared.snippet.Element.TheVariants as element
+use Rattle.snippet_model.specs.declared.snippet.Group.{Group}
+use Rattle.snippet_model.specs.declared.snippet.Origin.{Origin}
+use Rattle.snippet_model.specs.declared.snippet.Patch.{Patch}
+use Rattle.snippet_model.specs.declared.snippet.Snippet.{Snippet}
+use Rattle.snippet_lines.specs.Place.{start_location}
+use Rattle.snippet_parts.specs.Counted.{counted_number}
+use Rattle.snippet_parts.specs.Numbered.{numbered_source}
+use Rattle.snippet_splice.specs.ShownText.{first_start}
+use Rattle.snippet_style.specs.Cell.{Cell}
+use Rattle.snippet_style.specs.Separators.{separator_row}
+use Rattle.snippet_style.specs.declared.role.LevelInner.{LevelInner}
+use Rattle.snippet_style.specs.declared.stylesheet.Stylesheet.{Stylesheet}
+use Rattle.snippet_suggest.specs.declared.SuggestionStart.{SuggestionStart}
+use Rattle.snippet_suggest.specs.declared.SuggestionStart.TheVariants as start
+use Rattle.snippet_suggest.specs.Given.{trimmed_of}
+use Rattle.snippet_titles.specs.Origin.{primary_start}
+use Rattle.snippet_titles.specs.declared.origin.FileStart.{FileStart}
+use Rattle.snippet_titles.specs.declared.origin.FileStart.TheVariants.{Alone, Secondary}
+use Rattle.snippet_titles.specs.declared.origin.OriginLocation.{OriginLocation}
+use Rattle.snippet_titles.specs.declared.style.TitleStyle.{TitleStyle}
+use Rattle.snippet_titles.specs.declared.style.TitleStyle.TheVariants as style
+use Rattle.annotate_snippets.specs.Around.{file_of_group, is_end, position_of_group}
+use Rattle.annotate_snippets.specs.DrawnReport.{last_row}
+use Rattle.annotate_snippets.specs.GraphicForm.{element_rows, group_page}
+use Rattle.annotate_snippets.specs.Gutter.{depth_of_element, layout_of_group}
+use Rattle.annotate_snippets.specs.Page.{GroupPage, NamedRow, PrintsPage, group_rows}
+use Rattle.annotate_snippets.specs.RowsWithoutSource.{path_row}
+use Rattle.annotate_snippets.specs.declared.renderer.Renderer.{Renderer}
+use Rattle.annotate_snippets.specs.declared.renderer.element_context.ElementContext.{ElementContext}
+
+-- the width that an annotated snippet wants
+abbrev pub gutter_of : Snippet Annotation → ℕ
+gutter_of s = if s.line_numbering then length (decimal (counted_number s)) else 0
+
+-- the greatest number of bars of a group's elements
+abbrev pub depth_of_group : Group → ℕ
+depth_of_group g = fold (λ depth e. max (depth_of_element e) depth) 0 g.elements.items
+
+-- where a message stands
+abbrev pub message_style : Renderer → Layout → ElementContext → TitleStyle
+message_style r layout around =
+    style.Message (record { layout = layout; followed = not (is_end around.next) })
+
+-- what leads to the path of an origin, and the place that it gives
+abbrev pub origin_start : ElementContext → FileStart
+origin_start around =
+    if around.primary then (if around.first && is_end around.next then Alone else primary_start around.first) else Secondary
+
+abbrev pub place_given : Origin → OriginLocation
+place_given origin = record { line = origin.line; column = origin.char_column }
+
+-- the place at which the first patch of a snippet starts, trimmed as it is
+abbrev pub patch_place : Snippet Patch → OriginLocation
+patch_place s =
+    let at = start_location (numbered_source s) (first_start (trimmed_of s)) in
+    record { line = Some at.line; column = Some (at.char + 1) }
+
+-- what a suggestion begins with that begins so
+abbrev pub suggestion_head_at : SuggestionStart → Renderer → Layout → Bool → Snippet Patch → List (List Cell)
+suggestion_head_at at r layout first s =
+    elim at [ start.Path ↦ path_row r layout first s (option_map cow_str_bytes s.path) | begin ↦ [] ]
+
+-- the rows of an annotated snippet, and those of a suggestion
+abbrev pub snippet_rows : Renderer → Layout → ElementContext → Snippet Annotation → List NamedRow
+snippet_rows r layout around s = element_rows r layout around [] (element.Cause s)
+
+abbrev pub patch_rows : Renderer → Layout → ElementContext → List Cell → Snippet Patch → List NamedRow
+patch_rows r layout around found s = element_rows r layout around found (element.Suggestion s)
+
+-- what a suggestion finds in the row that it begins with
+abbrev pub under_of : Renderer → Layout → SuggestionStart → List Cell → List Cell
+under_of r layout at found =
+    elim at [ start.Opening ↦ [] | start.Next ↦ found | start.Path ↦ separator_row layout.decor layout.gutter ]
+
+-- what element i of a group finds in the row that the one before it ends with, if it begins there
+abbrev pub found_at : Renderer → Layout → List Element → ℕ → List Cell
+found_at r layout es i = last_row r layout true (slice_get es (i - 1))
+
+-- the page of the report's group of this number, from 0
+abbrev pub page_at : Renderer → List Group → ℕ → Group → GroupPage
+page_at r groups i g =
+    group_page r (layout_of_group r groups g) (position_of_group (length groups) i) (file_of_group groups g) g
+
+-- a page: its groups
+abbrev pub Page : Type 0
+Page = List GroupPage
+
+-- each part prints the rows of one group under a sheet, in a level that is given beside it
+abbrev pub ArePrinted : Stylesheet → List LevelInner → Page → List (List ℕ) → Type 0
+ArePrinted sheet [] [] [] = Unit {0}
+ArePrinted sheet (level ∷ levels) (g ∷ gs) (part ∷ parts) =
+    Prints sheet level (group_rows g) part × ArePrinted sheet levels gs parts
+ArePrinted sheet levels gs parts = ⊥
+
+-- the text prints a page under a sheet, in groups of these levels
+pub record PrintsIn (sheet : Stylesheet) (levels : List LevelInner) (page : Page) (text : List ℕ) : Type 0 where
+  pub parts : List (List ℕ)
+  pub printed : ArePrinted sheet levels page parts
+  pub joined : text ≡ join_with_byte 10 parts
+
+parts_in_levels : (sheet : Stylesheet) (page : Page) (parts : List (List ℕ))
+    → AllZip (λ (g : GroupPage) part. Prints sheet g.level (group_rows g) part) page parts → ArePrinted sheet (map (λ (g : GroupPage). g.level) page) page parts
+parts_in_levels sheet [] [] printed = tt
+parts_in_levels sheet [] (part ∷ parts) printed = absurd printed
+parts_in_levels sheet (g ∷ gs) [] printed = absurd printed
+parts_in_levels sheet (g ∷ gs) (part ∷ parts) (printed, below) = (printed, parts_in_levels sheet gs parts below)
+
+parts_of_levels : (sheet : Stylesheet) (page : Page) (parts : List (List ℕ)) → ArePrinted sheet (map (λ (g : GroupPage). g.level) page) page parts
+    → AllZip (λ (g : GroupPage) part. Prints sheet g.level (group_rows g) part) page parts
+parts_of_levels sheet [] [] printed = tt
+parts_of_levels sheet [] (part ∷ parts) printed = absurd printed
+parts_of_levels sheet (g ∷ gs) [] printed = absurd printed
+parts_of_levels sheet (g ∷ gs) (part ∷ parts) (printed, below) = (printed, parts_of_levels sheet gs parts below)
+
+-- a page is printed in the levels of its groups, and so in levels that are these
+pub PrintsIn-from_page : (sheet : Stylesheet) (levels : List LevelInner) (page : Page) (text : List ℕ) → levels ≡ map (λ (g : GroupPage). g.level) page
+    → PrintsPage sheet page text → PrintsIn sheet levels page text
+PrintsIn-from_page sheet levels page text are given =
+    subst (λ ls. PrintsIn sheet ls page text) (sym are)
+    record { parts = given.parts; printed = parts_in_levels sheet page given.parts given.printed; joined = given.joined }
+
+pub PrintsPage-from_levels : (sheet : Stylesheet) (levels : List LevelInner) (page : Page) (text : List ℕ) → levels ≡ map (λ (g : GroupPage). g.level) page
+    → PrintsIn sheet levels page text → PrintsPage sheet page text
+PrintsPage-from_levels sheet levels page text are given =
+    let own : PrintsIn sheet (map (λ (g : GroupPage). g.level) page) page text = subst (λ ls. PrintsIn sheet ls page text) are given in
+    record { parts = own.parts; printed = parts_of_levels sheet page own.parts own.printed; joined = own.joined }

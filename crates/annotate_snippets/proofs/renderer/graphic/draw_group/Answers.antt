@@ -1,0 +1,23 @@
+use Rattle.std.proofs.Common.{◌≡◌, ◌∙◌, List, ap, map, sym}
+use Rattle.std.specs.Option.{option_copied}
+use Rattle.snippet_model.specs.declared.snippet.Element.{Element}
+use Rattle.annotate_snippets.specs.Around.{next_of}
+use Rattle.annotate_snippets.specs.PreparedReport.{element_of}
+use Rattle.annotate_snippets.specs.RowsWithoutSource.{title_part}
+use Rattle.annotate_snippets.proofs.ElementRows.{group_drawn, title_drawn}
+use Rattle.annotate_snippets.proofs.renderer.graphic.draw_group.Goals.{in-Some+in_ok-draw_title, in_default}
+use Rattle.annotate_snippets.proofs.renderer.graphic.draw_group.Goals as goal
+
+pub returns-clause-rows : goal.returns-clause-rows
+returns-clause-rows c =
+    let r = c.args.renderer.now in
+    let around = c.args.around.now in
+    let g = c.args.group.group.now in
+    let es : List Element = map element_of c.args.group.elements.items in
+    let titled : c.match-group.buffer ≡ title_part r around.layout around.place (next_of es) g.title = elim c.match-group.branch [
+      | in-Some+in_ok-draw_title w ↦
+          w.buffer-is ∙ title_drawn r around.layout around.place _ (next_of es) w.in-Some.title g.title c.args.empty _ c.requires.empty
+          (w.next_of-next.ensures.value ∙ ap (λ ps. next_of (map element_of ps)) w.deref.ensures.value) w.in-Some.is w.in_ok-draw_title.ensures.rows
+      | in_default w ↦ w.buffer-is ∙ c.requires.empty ∙ ap (title_part r around.layout around.place (next_of es)) (sym w.in_default.is)
+    ] in
+    group_drawn r around.layout around.place (option_copied around.file) g es _ _ c.requires.prepared.elements_are titled c.in_ok-draw_elements.ensures.rows
