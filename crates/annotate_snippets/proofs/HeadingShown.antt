@@ -16,7 +16,8 @@ use Rattle.snippet_model.specs.declared.snippet.Title.{Title}
 use Rattle.snippet_model.specs.FreeRows.{IsFree}
 use Rattle.snippet_parts.proofs.PartLemmas.{All-unmapped}
 use Rattle.snippet_titles.specs.HeadingRows.{heading_rows}
-use Rattle.snippet_titles.specs.Origin.{origin_row, padding_row}
+use Rattle.snippet_titles.specs.Origin.{origin_row}
+use Rattle.snippet_titles.proofs.PaddingWords.{padding_row}
 use Rattle.snippet_titles.specs.ShownHeading.{IsFreeButText, LinksId, heading_texts}
 use Rattle.snippet_titles.specs.Title.{title_rows}
 use Rattle.snippet_titles.specs.declared.style.TitleStyle.{TitleStyle}

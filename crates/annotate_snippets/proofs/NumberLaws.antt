@@ -23,7 +23,8 @@ use Rattle.snippet_suggest.specs.SuggestionRows.{is_stroke}
 use Rattle.snippet_style.specs.declared.glyphs.SuggestionGlyph.TheVariants as sign
 use Rattle.snippet_suggest.specs.declared.SuggestionStart.{SuggestionStart}
 use Rattle.snippet_suggest.specs.declared.SuggestionStart.TheVariants as start
-use Rattle.snippet_titles.specs.Origin.{padding_row, primary_start}
+use Rattle.snippet_titles.specs.Origin.{primary_start}
+use Rattle.snippet_titles.proofs.PaddingWords.{padding_row}
 use Rattle.snippet_titles.specs.declared.style.MessageContext.{MessageContext}
 use Rattle.snippet_titles.proofs.HeadFacts.{message_rows-unnumbered, snippet_head-unnumbered}
 use Rattle.snippet_titles.proofs.OriginNumbers.{closing_row-unnumbered, origin_row-unnumbered, padding_row-unnumbered, separator_row-unnumbered}

@@ -13,7 +13,8 @@ use Rattle.snippet_text.specs.Normalized.{has_control_picture, is_bidirectional_
 use Rattle.snippet_model.specs.declared.snippet.Annotation.{Annotation}
 use Rattle.snippet_model.specs.declared.snippet.Origin as origin
 use Rattle.snippet_model.specs.declared.snippet.Snippet.{Snippet}
-use Rattle.snippet_titles.specs.Origin.{file_glyph, file_row, line_text, origin_row, origin_text, padding_row, snippet_head}
+use Rattle.snippet_titles.specs.Origin.{file_glyph, file_row, line_text, origin_row, origin_text, snippet_head}
+use Rattle.snippet_titles.proofs.PaddingWords.{padding_row}
 use Rattle.snippet_titles.specs.declared.origin.FileStart.{FileStart}
 use Rattle.snippet_titles.specs.declared.origin.FileStart.TheVariants.{Alone, First, Later, Secondary}
 use Rattle.snippet_titles.specs.declared.origin.OriginLayout.{OriginLayout}

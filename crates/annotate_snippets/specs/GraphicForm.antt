@@ -24,7 +24,6 @@ use Rattle.snippet_strokes.specs.Snippet.{gap_row, shown_rows}
 use Rattle.snippet_suggest.specs.Given.{first_given}
 use Rattle.snippet_suggest.specs.RowOrder.{Offers, Removes, SuggestionRow}
 use Rattle.snippet_strokes.specs.SourceRows.{bare_row}
-use Rattle.snippet_titles.specs.Origin.{padding_row}
 use Rattle.annotate_snippets.specs.declared.renderer.Renderer.{Renderer}
 use Rattle.snippet_grid.specs.Layout.{Layout}
 use Rattle.annotate_snippets.specs.declared.renderer.element_context.GroupPosition.{GroupPosition}

@@ -17,6 +17,7 @@ pub mod OriginFree
 pub mod OriginNumbers
 pub mod OriginRowText
 pub mod OriginText
+pub mod PaddingWords
 pub mod PlaceLemmas
 pub mod PrintedLemmas
 pub mod RowLemmas

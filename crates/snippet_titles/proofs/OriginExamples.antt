@@ -6,7 +6,8 @@ use Rattle.snippet_style.specs.declared.glyphs.DecorStyle.TheVariants.{Ascii, Un
 use Rattle.snippet_grid.specs.Print.{plain_text, row_text}
 use Rattle.snippet_text.specs.Normalized.{norm}
 use Rattle.snippet_titles.specs.declared.origin.FileStart.TheVariants.{Alone, First}
-use Rattle.snippet_titles.specs.Origin.{file_row, origin_row, origin_text, padding_row, snippet_head}
+use Rattle.snippet_titles.specs.Origin.{file_row, origin_row, origin_text, snippet_head}
+use Rattle.snippet_titles.proofs.PaddingWords.{padding_row}
 
 -- the first element's path, in both styles, and with its line anonymized
 primary : row_text (origin_row (record { base = record { gutter = 1; code = 4; decor = Ascii }; anonymized = false }) First (codes "a.rs")

@@ -16,7 +16,8 @@ use Rattle.snippet_titles.specs.declared.origin.FileStart.{FileStart}
 use Rattle.snippet_titles.specs.declared.origin.FileStart.TheVariants.{Alone, First, Later, Secondary}
 use Rattle.snippet_titles.specs.declared.origin.OriginLocation.{OriginLocation}
 use Rattle.snippet_titles.specs.declared.origin.OriginLayout.{OriginLayout}
-use Rattle.snippet_titles.specs.Origin.{file_glyph, file_row, line_text, origin_row, origin_text, padding_row}
+use Rattle.snippet_titles.specs.Origin.{file_glyph, file_row, line_text, origin_row, origin_text}
+use Rattle.snippet_titles.proofs.PaddingWords.{padding_row}
 use Rattle.snippet_style.specs.Separators.{closing_row}
 use Rattle.snippet_titles.proofs.DigitLemmas.{IsDigit}
 use Rattle.snippet_titles.proofs.OriginText.{place-each}

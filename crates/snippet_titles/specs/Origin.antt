@@ -50,10 +50,6 @@ unfoldable pub origin_row : OriginLayout → FileStart → List ℕ → OriginLo
 origin_row layout start path place =
     file_row layout start ++ text_cells LineAndColumn (origin_text layout.anonymized path place)
 
--- the row of a padding: the separator row, or the closing row where nothing follows
-abbrev pub padding_row : DecorStyle → ℕ → Bool → List Cell
-padding_row decor gutter last = if last then closing_row decor gutter else separator_row decor gutter
-
 -- what leads to the group's primary file, from its first element or from a later one
 abbrev pub primary_start : Bool → FileStart
 primary_start first = if first then First else Later

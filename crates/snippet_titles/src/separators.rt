@@ -1,6 +1,5 @@
 //! The rows that set others off: of a separator alone, or of the closing glyph alone.
-ghost use Rattle.std.specs.Prelude.{◌≡◌, ◌+◌, ◌^◌, ◌<◌, ◌∷◌, ◌++◌, [], OnOk};
-ghost use Rattle.snippet_titles.specs.Origin.{padding_row};
+ghost use Rattle.std.specs.Prelude.{◌≡◌, ◌+◌, ◌^◌, ◌<◌, ◌∷◌, ◌++◌, [], OnOk, if◌then◌else◌};
 ghost use Rattle.snippet_style.specs.Separators.{closing_row, separator_row};
 
 use snippet_grid::{Layout, StyledBuffer};
@@ -14,7 +13,8 @@ use std::alloc::AllocError;
 ///
 /// There is no memory for the row.
 pub fn draw_padding(buffer: &mut StyledBuffer, layout: Layout, last: bool) -> Result<(), AllocError>
-    ensures row { OnOk result (buffer.new ≡ buffer.old ++ padding_row layout.decor layout.gutter last ∷ []) }
+    ensures row { OnOk result (buffer.new ≡ buffer.old ++ (if last then closing_row layout.decor layout.gutter
+        else separator_row layout.decor layout.gutter) ∷ []) }
 {
     if last {
         draw_closing(buffer, layout)

@@ -3,7 +3,7 @@ use Rattle.std.proofs.lemmas.Result.{on_ok_weaker}
 use Rattle.snippet_model.specs.Heading.{heading_of_message}
 use Rattle.snippet_model.specs.declared.snippet.Element.TheVariants.{Cause, Message, Origin, Padding}
 use Rattle.snippet_titles.specs.HeadingRows.{heading_rows}
-use Rattle.snippet_titles.specs.Origin.{padding_row}
+use Rattle.snippet_titles.proofs.PaddingWords.{padding_row}
 use Rattle.annotate_snippets.specs.PreparedReport.{element_of}
 use Rattle.annotate_snippets.specs.RowsWithoutSource.{message_rows, origin_rows}
 use Rattle.annotate_snippets.proofs.NamedRows.{cells_of-others}
