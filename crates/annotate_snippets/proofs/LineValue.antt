@@ -26,7 +26,6 @@ use Rattle.annotate_snippets.proofs.DrawnLines.{bars_seen}
 use Rattle.annotate_snippets.proofs.LabelLemmas.{head_same, tail_same}
 use Rattle.annotate_snippets.proofs.NamedRows.{cells_of-append, cells_of-line}
 
-
 module _ (r : Renderer) (layout : Layout) (s : Snippet Annotation) where
   -- the rows of a line that is seen as line k are the form's
   line_value : (closes : Bool) (open_bars : List Bar) (k : ℕ) (info : AnnotatedLineInfo) → seen_kept info ≡ kept_line (numbered_source s) s.markers.items k

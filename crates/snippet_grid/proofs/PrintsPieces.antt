@@ -28,11 +28,10 @@ lines_further : (sheet : Stylesheet) (level : LevelInner) (ps : List Piece) (row
 unfolding lib.Utf8.encode
 lines_further sheet level ps [] none = ([], ap (flat_map piece_text) none, tt)
 lines_further sheet level ps (row ∷ rows) (first, others, is, prints, below) =
-    let rest = lines_further sheet level others rows below in
-    (
+    let rest = lines_further sheet level others rows below in (
       first ∷ rest.0,
       ap (flat_map piece_text) is ∙ ap (λ (t : List ℕ). 10 ∷ t) (flat_map-append piece_text first others
-      ∙ ap (λ (t : List ℕ). flat_map piece_text first ++ t) rest.1),
+          ∙ ap (λ (t : List ℕ). flat_map piece_text first ++ t) rest.1),
       (prints, rest.2),
     )
 
@@ -43,8 +42,7 @@ further_lines sheet level [] [] prints = ([], refl, refl)
 further_lines sheet level [] (row ∷ rows) prints = absurd prints
 further_lines sheet level (line ∷ lines) [] prints = absurd prints
 further_lines sheet level (line ∷ lines) (row ∷ rows) (prints, below) =
-    let rest = further_lines sheet level lines rows below in
-    (
+    let rest = further_lines sheet level lines rows below in (
       Char 10 ∷ line ++ rest.0,
       ap (λ (t : List ℕ). 10 ∷ t) (ap (λ (t : List ℕ). flat_map piece_text line ++ t) rest.1 ∙ sym (flat_map-append piece_text line rest.0)),
       (line, rest.0, refl, prints, rest.2),

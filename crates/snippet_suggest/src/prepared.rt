@@ -78,7 +78,7 @@ fn counted_line(
         let removed = source.now.first + line_of ls (first_end (map trimmed_edit_of splice.now.patches.items)) in
         let last = first + newline_count (string_bytes splice.now.complete) in
         IsUsize last → result
-            ≡ (if fold then elim kind [ Underline ↦ first | Diff ↦ removed | other ↦ last ] else last) }
+        ≡ (if fold then elim kind [ Underline ↦ first | Diff ↦ removed | other ↦ last ] else last) }
 {
     let first = first_number(source, &splice.patches, fold);
     match kind {
