@@ -18,7 +18,8 @@ use Rattle.snippet_strokes.specs.declared.bars.BarStroke.TheVariants.{Top, Solid
 use Rattle.snippet_strokes.specs.declared.bars.OpenBar.{OpenBar}
 use Rattle.snippet_strokes.specs.Bars.{bar_of, bars_apart, ends_of_bars, is_beside, is_whole_line, with_parts}
 use Rattle.snippet_strokes.specs.Cuts.{overlapped}
-use Rattle.snippet_strokes.specs.LookedCuts.{Stretch, cut_row}
+use Rattle.snippet_strokes.specs.LookedCuts.{Stretch}
+use Rattle.snippet_strokes.proofs.StrokeWords.{cut_row}
 use Rattle.snippet_strokes.specs.LookedCuts.{cuts_of}
 use Rattle.snippet_strokes.specs.Drawing.{row_count}
 use Rattle.snippet_strokes.proofs.LineFacts.{StrokesPainted}
