@@ -22,7 +22,8 @@ use Rattle.snippet_strokes.specs.Bars.{HasBarRoom, bar_cell_part, barred, bars_a
 use Rattle.snippet_strokes.proofs.OneStep.{with_bar}
 use Rattle.snippet_strokes.specs.Bars.{with_parts}
 use Rattle.snippet_strokes.specs.SourceRows.{with_cells}
-use Rattle.snippet_strokes.specs.StrokeRows.{highlighted_row, role_in_source}
+use Rattle.snippet_strokes.specs.StrokeRows.{highlighted_row}
+use Rattle.snippet_strokes.proofs.StrokeWords.{role_in_source}
 use Rattle.snippet_strokes.proofs.BarLemmas.{BarsDrawn-with_parts}
 use Rattle.snippet_strokes.proofs.BarRows.{barred-below}
 use Rattle.snippet_strokes.proofs.LineFromValue.{highlighted_row_is}

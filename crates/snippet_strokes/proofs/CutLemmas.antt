@@ -22,7 +22,8 @@ use Rattle.snippet_grid.proofs.ReplaceLemmas.{replaced_there, replaced_empty, re
 use Rattle.snippet_grid.specs.Layout.{Layout, code_cell}
 use Rattle.snippet_labels.specs.declared.positions.PlacedEntry.{PlacedEntry}
 use Rattle.snippet_model.specs.FreeRows.{IsFreeCell}
-use Rattle.snippet_strokes.specs.LookedCuts.{Stretch, cut_of, cut_row}
+use Rattle.snippet_strokes.specs.LookedCuts.{Stretch, cut_of}
+use Rattle.snippet_strokes.proofs.StrokeWords.{cut_row}
 use Rattle.snippet_strokes.specs.LookedCuts.{cut_rows, cuts_of, is_wide_at}
 use Rattle.snippet_strokes.proofs.PlainEntries.{wide_entries}
 use Rattle.snippet_strokes.proofs.SeenRows.{IsCut}

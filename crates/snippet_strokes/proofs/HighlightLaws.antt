@@ -16,7 +16,8 @@ use Rattle.snippet_parts.specs.declared.entries.LineAnnotation.{LineAnnotation}
 use Rattle.snippet_style.specs.Cell.{Cell, SPACE, gives_way}
 use Rattle.snippet_style.specs.Glyphs.{underline_role}
 use Rattle.snippet_style.specs.declared.role.ElementStyle.TheVariants.{UnderlinePrimary, UnderlineSecondary}
-use Rattle.snippet_strokes.specs.StrokeRows.{highlighted_row, highlights, role_in_source}
+use Rattle.snippet_strokes.specs.StrokeRows.{highlighted_row, highlights}
+use Rattle.snippet_strokes.proofs.StrokeWords.{role_in_source}
 use Rattle.snippet_strokes.proofs.LineFromValue.{highlighted_row_is}
 
 -- ---- lists of which a stretch is changed

@@ -31,14 +31,15 @@ use Rattle.snippet_strokes.specs.declared.bars.OpenBar.{OpenBar}
 use Rattle.snippet_strokes.specs.declared.snippet.LineView.{LineView}
 use Rattle.snippet_strokes.specs.Bars.{ends_of_bars, is_whole_line, with_parts}
 use Rattle.snippet_strokes.specs.Cuts.{overlapped}
-use Rattle.snippet_strokes.specs.LookedCuts.{cut_row}
+use Rattle.snippet_strokes.proofs.StrokeWords.{cut_row}
 use Rattle.snippet_strokes.specs.LookedCuts.{cuts_of}
 use Rattle.snippet_strokes.specs.Drawing.{row_count}
 use Rattle.snippet_strokes.specs.LineRows.{line_rows, own_rows}
 use Rattle.snippet_strokes.specs.Painting.{painting_order}
 use Rattle.snippet_strokes.specs.Snippet.{info_rows}
 use Rattle.snippet_strokes.specs.SourceRows.{source_row, window_cells}
-use Rattle.snippet_strokes.specs.StrokeRows.{highlighted_row, role_in_source}
+use Rattle.snippet_strokes.specs.StrokeRows.{highlighted_row}
+use Rattle.snippet_strokes.proofs.StrokeWords.{role_in_source}
 use Rattle.snippet_strokes.specs.Strokes.{drawn_strokes, stroke_rows}
 use Rattle.snippet_strokes.proofs.StrokeWords.{begun_rows}
 use Rattle.snippet_strokes.specs.Writes.{painted}

@@ -13,7 +13,8 @@ use Rattle.snippet_style.specs.Cell.{Cell, SPACE}
 use Rattle.snippet_grid.specs.Print.{row_text}
 use Rattle.snippet_model.specs.AnnotationKind.{is_primary}
 use Rattle.snippet_strokes.proofs.LineFacts.{IsHighlighted}
-use Rattle.snippet_strokes.specs.StrokeRows.{highlights, role_in_source}
+use Rattle.snippet_strokes.specs.StrokeRows.{highlights}
+use Rattle.snippet_strokes.proofs.StrokeWords.{role_in_source}
 
 -- highlighting leaves the row's text as it was
 pub highlighted_text : (code dropped : ℕ) (es : List LineAnnotation) (plain row : List Cell) → IsHighlighted code dropped es plain row

@@ -1,15 +1,16 @@
 -- Words for the parts of the strokes of a line, which proofs cite.
-use Rattle.std.proofs.Common.{ℕ, ◌+◌, ◌-◌, ◌==◌, ◌++◌, Bool, List, [], ◌∷◌}
-use Rattle.std.specs.Prelude.{if◌then◌else◌, replicate}
+use Rattle.std.proofs.Common.{ℕ, ◌+◌, ◌-◌, ◌==◌, ◌++◌, Bool, List, [], ◌∷◌, ◌&&◌}
+use Rattle.std.specs.Prelude.{if◌then◌else◌, replicate, fold}
 use Rattle.std.specs.Option.{option_map_or}
 use Rattle.snippet_grid.specs.Layout.{Layout, bar_cell, code_cell, inner_cell}
 use Rattle.snippet_labels.specs.PlacedEntries.{label_role}
+use Rattle.snippet_labels.proofs.LabelWords.{label_text}
 use Rattle.snippet_labels.specs.Positions.{is_start_part, label_place}
 use Rattle.snippet_labels.specs.declared.positions.PlacedEntry.{PlacedEntry}
 use Rattle.snippet_model.specs.AnnotationKind.{is_primary}
 use Rattle.snippet_parts.specs.declared.entries.LineAnnotationType.{LineAnnotationType}
-use Rattle.snippet_style.specs.Cell.{Cell}
-use Rattle.snippet_style.specs.Glyphs.{strokes_of}
+use Rattle.snippet_style.specs.Cell.{Cell, gives_way, text_cells}
+use Rattle.snippet_style.specs.Glyphs.{strokes_of, placeholder_of}
 use Rattle.snippet_style.specs.Separators.{separator_row}
 use Rattle.snippet_strokes.specs.Bars.{bar_at}
 use Rattle.snippet_strokes.specs.Drawing.{foot_glyph}
@@ -17,6 +18,14 @@ use Rattle.snippet_strokes.specs.Painting.{stroke_role}
 use Rattle.snippet_strokes.specs.SourceRows.{bare_row}
 use Rattle.snippet_strokes.specs.Strokes.{column_of}
 use Rattle.snippet_strokes.specs.Writes.{Write, glyph_at, stretch_of}
+use Rattle.std.specs.List.{list_any}
+use Rattle.snippet_parts.specs.declared.entries.LineAnnotation.{LineAnnotation}
+use Rattle.snippet_style.specs.declared.role.ElementStyle.{ElementStyle}
+use Rattle.snippet_style.specs.declared.role.ElementStyle.TheVariants.{UnderlinePrimary, UnderlineSecondary, LineNumber}
+use Rattle.snippet_strokes.specs.StrokeRows.{highlights}
+use Rattle.snippet_grid.specs.Grid.{replaced_within}
+use Rattle.snippet_style.specs.declared.glyphs.DecorStyle.{DecorStyle}
+use Rattle.snippet_strokes.specs.LookedCuts.{Stretch}
 
 -- the label of an entry
 abbrev pub label_write : Layout → ℕ → PlacedEntry → Write
@@ -58,3 +67,14 @@ corner_by layout row count e part =
 abbrev pub begun_rows : Layout → Bool → ℕ → List Cell → List (List Cell)
 begun_rows layout closes count source =
     source ∷ (replicate (count - 1) (separator_row layout.decor layout.gutter) ++ bare_row layout.decor layout.gutter closes ∷ [])
+
+-- the role of a cell of a source row, one which has this role, with what entries highlight: that of primary marks where a
+-- primary entry asks for it, else that of marks for context where an entry asks and the cell's role gives way
+abbrev pub role_in_source : ℕ → ℕ → List LineAnnotation → ℕ → ElementStyle → ElementStyle
+role_in_source code dropped es c role =
+    if list_any (λ e. is_primary e.kind && highlights code dropped c e) es then UnderlinePrimary else
+    (if list_any (highlights code dropped c) es && gives_way role then UnderlineSecondary else role)
+
+-- a row with the placeholder in place of these stretches; one that the row doesn't hold stays
+abbrev pub cut_row : DecorStyle → List Stretch → List Cell → List Cell
+cut_row decor cuts row = fold (λ cells cut. replaced_within cut.from cut.to (text_cells LineNumber (placeholder_of decor)) cells) row cuts

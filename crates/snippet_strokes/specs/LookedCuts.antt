@@ -1,11 +1,11 @@
 -- What the code of the cuts finds, step by step, as its contracts say it: the same as the rules in `Cuts`.
-use Rattle.std.specs.Prelude.{ℕ, ◌+◌, ◌&&◌, ◌||◌, nat_le, nat_lt, Bool, List, [], ◌∷◌, drop, take, length, ◌-◌, ◌/◌, max, not, fold, if◌then◌else◌}
+use Rattle.std.specs.Prelude.{ℕ, ◌+◌, ◌&&◌, ◌||◌, nat_le, nat_lt, Bool, List, [], ◌∷◌, drop, take, length, ◌-◌, ◌/◌, max, not, if◌then◌else◌}
 use Rattle.std.specs.List.{flat_map, list_any, slice_index_or, zip}
 use Rattle.snippet_style.specs.Cell.{Cell, text_cells}
 use Rattle.snippet_style.specs.Glyphs.{placeholder_of}
 use Rattle.snippet_style.specs.declared.glyphs.DecorStyle.{DecorStyle}
 use Rattle.snippet_style.specs.declared.role.ElementStyle.TheVariants.{LineNumber}
-use Rattle.snippet_grid.specs.Grid.{cells_replaced, replaced_within}
+use Rattle.snippet_grid.specs.Grid.{cells_replaced}
 use Rattle.snippet_parts.specs.Entries.{is_wide_entry}
 use Rattle.snippet_grid.specs.Layout.{Layout, code_cell}
 use Rattle.snippet_labels.specs.declared.positions.PlacedEntry.{PlacedEntry}
@@ -64,7 +64,3 @@ cut_rows decor row [] rows = rows
 cut_rows decor row (cut ∷ cuts) rows =
     let placeholder = text_cells LineNumber (placeholder_of decor) in
     cut_rows decor row cuts (cells_replaced (cells_replaced rows row cut.from cut.to placeholder) (row + 1) cut.from cut.to placeholder)
-
--- the same of one row; a stretch that it doesn't hold stays
-abbrev pub cut_row : DecorStyle → List Stretch → List Cell → List Cell
-cut_row decor cuts row = fold (λ cells cut. replaced_within cut.from cut.to (text_cells LineNumber (placeholder_of decor)) cells) row cuts

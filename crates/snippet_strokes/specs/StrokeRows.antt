@@ -31,14 +31,10 @@ abbrev pub highlights : ℕ → ℕ → ℕ → LineAnnotation → Bool
 highlights code dropped c e =
     e.highlight_source && (nat_le (max code (code + e.start.char - dropped)) c && nat_lt c (code + e.end.char - dropped))
 
--- the role of a cell of a source row, one which has this role, with what entries highlight: that of primary marks where a
--- primary entry asks for it, else that of marks for context where an entry asks and the cell's role gives way
-abbrev pub role_in_source : ℕ → ℕ → List LineAnnotation → ℕ → ElementStyle → ElementStyle
-role_in_source code dropped es c role =
-    if list_any (λ e. is_primary e.kind && highlights code dropped c e) es then UnderlinePrimary else
-    (if list_any (highlights code dropped c) es && gives_way role then UnderlineSecondary else role)
-
--- a source row with the characters highlighted that entries ask for
+-- a source row with the characters highlighted that entries ask for: a cell has the role of primary marks where a primary entry asks for it,
+-- else that of marks for context where an entry asks and the cell's role gives way
 abbrev pub highlighted_row : ℕ → ℕ → List LineAnnotation → List Cell → List Cell
 highlighted_row code dropped es plain =
-    map (λ c. let cell = slice_index_or plain c SPACE in record cell { role = role_in_source code dropped es c cell.role }) (range_with_len 0 (length plain))
+    let role_at : ℕ → ElementStyle → ElementStyle = λ c role. if list_any (λ e. is_primary e.kind && highlights code dropped c e) es then UnderlinePrimary
+    else (if list_any (highlights code dropped c) es && gives_way role then UnderlineSecondary else role) in
+    map (λ c. let cell = slice_index_or plain c SPACE in record cell { role = role_at c cell.role }) (range_with_len 0 (length plain))
