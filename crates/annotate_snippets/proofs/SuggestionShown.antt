@@ -30,13 +30,10 @@ use Rattle.snippet_titles.specs.Origin.{primary_start}
 use Rattle.snippet_titles.proofs.OriginFree.{origin_row-free}
 use Rattle.annotate_snippets.specs.Around.{begins_in_row_above, is_end, path_bytes, suggestion_rows}
 use Rattle.annotate_snippets.specs.DrawnReport.{HasRoomFor, suggestion_layout, suggestion_lines}
-use Rattle.annotate_snippets.proofs.PageWords.{under_of}
+use Rattle.annotate_snippets.proofs.PageWords.{patch_place, patch_rows, suggestion_head_at, under_of}
 use Rattle.annotate_snippets.specs.GraphicForm.{name_of_row, named_rows}
-use Rattle.annotate_snippets.proofs.PageWords.{patch_rows}
 use Rattle.annotate_snippets.specs.Page.{NamedRow, cells_of, lines_offered, others}
 use Rattle.annotate_snippets.specs.RowsWithoutSource.{origin_layout, path_row, suggestion_head}
-use Rattle.annotate_snippets.proofs.PageWords.{patch_place}
-use Rattle.annotate_snippets.proofs.PageWords.{suggestion_head_at}
 use Rattle.annotate_snippets.specs.Laws.Suggestions.{HasStrokes, ShowsSuggestion}
 use Rattle.annotate_snippets.specs.Laws.Feeds.{HasNoFeed}
 use Rattle.annotate_snippets.specs.declared.renderer.Renderer.{Renderer}
