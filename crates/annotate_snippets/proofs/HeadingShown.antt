@@ -29,9 +29,8 @@ use Rattle.snippet_titles.proofs.PlaceLemmas.{heading_rows-places}
 use Rattle.snippet_titles.proofs.TextLemmas.{heading_rows-texts}
 use Rattle.annotate_snippets.specs.Around.{closes_after, is_end}
 use Rattle.annotate_snippets.specs.Page.{NamedRow, cells_of, others}
-use Rattle.annotate_snippets.specs.RowsWithoutSource.{message_rows, origin_layout, origin_rows}
-use Rattle.annotate_snippets.proofs.PageWords.{origin_start, place_given}
-use Rattle.annotate_snippets.proofs.PageWords.{message_style}
+use Rattle.annotate_snippets.specs.RowsWithoutSource.{origin_layout, origin_rows}
+use Rattle.annotate_snippets.proofs.PageWords.{message_rows, message_style, origin_start, place_given}
 use Rattle.annotate_snippets.specs.RowsWithoutSource.{title_part}
 use Rattle.annotate_snippets.specs.Laws.Titles.{ShowsHeading, ShowsTitlePart}
 use Rattle.annotate_snippets.specs.declared.renderer.Renderer.{Renderer}

@@ -10,6 +10,8 @@ use Rattle.snippet_model.specs.declared.snippet.Annotation.{Annotation}
 use Rattle.snippet_model.specs.declared.snippet.Element.{Element}
 use Rattle.snippet_model.specs.declared.snippet.Element.TheVariants as element
 use Rattle.snippet_model.specs.declared.snippet.Group.{Group}
+use Rattle.snippet_model.specs.Heading.{heading_of_message}
+use Rattle.snippet_model.specs.declared.snippet.Message.{Message}
 use Rattle.snippet_model.specs.declared.snippet.Origin.{Origin}
 use Rattle.snippet_model.specs.declared.snippet.Patch.{Patch}
 use Rattle.snippet_model.specs.declared.snippet.Snippet.{Snippet}
@@ -24,6 +26,7 @@ use Rattle.snippet_style.specs.declared.stylesheet.Stylesheet.{Stylesheet}
 use Rattle.snippet_suggest.specs.declared.SuggestionStart.{SuggestionStart}
 use Rattle.snippet_suggest.specs.declared.SuggestionStart.TheVariants as start
 use Rattle.snippet_suggest.specs.Given.{trimmed_of}
+use Rattle.snippet_titles.specs.HeadingRows.{heading_rows}
 use Rattle.snippet_titles.specs.Origin.{primary_start}
 use Rattle.snippet_titles.specs.declared.origin.FileStart.{FileStart}
 use Rattle.snippet_titles.specs.declared.origin.FileStart.TheVariants.{Alone, Secondary}
@@ -51,6 +54,11 @@ depth_of_group g = fold (λ depth e. max (depth_of_element e) depth) 0 g.element
 abbrev pub message_style : Renderer → Layout → ElementContext → TitleStyle
 message_style r layout around =
     style.Message (record { layout = layout; followed = not (is_end around.next) })
+
+-- the rows of a message
+abbrev pub message_rows : Renderer → Layout → ElementContext → Message → List (List Cell)
+message_rows r layout around message =
+    heading_rows r.hyperlink (message_style r layout around) (heading_of_message message)
 
 -- what leads to the path of an origin, and the place that it gives
 abbrev pub origin_start : ElementContext → FileStart

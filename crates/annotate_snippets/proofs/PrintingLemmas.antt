@@ -26,7 +26,7 @@ use Rattle.snippet_titles.specs.PrintedHeading.{IsPlainHeading}
 use Rattle.snippet_titles.specs.declared.style.TitleStyle.{TitleStyle}
 use Rattle.annotate_snippets.specs.Around.{CanStandIn, begins_in_row_above, context_at, drawn_elements, is_end, next_of}
 use Rattle.annotate_snippets.specs.DrawnReport.{last_row, shared_row}
-use Rattle.annotate_snippets.proofs.PageWords.{found_at, message_style}
+use Rattle.annotate_snippets.proofs.PageWords.{found_at, message_rows, message_style}
 use Rattle.annotate_snippets.specs.GraphicForm.{drawn_rows, element_rows, group_page}
 use Rattle.annotate_snippets.specs.Printing.{rows_of_elements}
 use Rattle.annotate_snippets.specs.Page.{cells_of, group_rows}
@@ -37,7 +37,7 @@ use Rattle.annotate_snippets.specs.declared.renderer.element_context.ElementCont
 use Rattle.annotate_snippets.specs.declared.renderer.element_context.GroupPosition.{GroupPosition}
 use Rattle.annotate_snippets.specs.declared.renderer.element_context.Next.{Next}
 use Rattle.annotate_snippets.specs.declared.renderer.printing.Printing.{Printing}
-use Rattle.annotate_snippets.specs.RowsWithoutSource.{message_rows, rows_after_title, title_part}
+use Rattle.annotate_snippets.specs.RowsWithoutSource.{rows_after_title, title_part}
 use Rattle.annotate_snippets.specs.declared.renderer.preprocess.PreparedElement.{PreparedElement}
 use Rattle.annotate_snippets.proofs.AroundLaws.{begins_is, shares_after, shares_before}
 use Rattle.annotate_snippets.proofs.ElementRows.{DrawnSoFar, drawn_none, get-mapped, turn_around, turn_drawn, turn_item, turn_stands, turns_all}

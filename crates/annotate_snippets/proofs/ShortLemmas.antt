@@ -31,8 +31,7 @@ use Rattle.snippet_titles.specs.declared.origin.OriginLocation.{OriginLocation}
 use Rattle.annotate_snippets.specs.Around.{path_bytes}
 use Rattle.annotate_snippets.specs.Gutter.{numbered_source}
 use Rattle.annotate_snippets.specs.PreparedReport.{IsDrawable, IsElementDrawable, IsGroupDrawable}
-use Rattle.annotate_snippets.specs.ShortForm.{place_named}
-use Rattle.annotate_snippets.specs.ShortForm.{first_cause, joined_labels, short_label, place_of_cause, place_of_path, primary_labels}
+use Rattle.annotate_snippets.specs.ShortForm.{first_cause, joined_labels, place_named, place_of_cause, place_of_path, primary_labels, short_label}
 use Rattle.snippet_model.specs.AnnotationKind.{is_primary}
 use Rattle.annotate_snippets.specs.declared.renderer.Renderer.{Renderer}
 use Rattle.annotate_snippets.proofs.RoomLemmas.{digits}

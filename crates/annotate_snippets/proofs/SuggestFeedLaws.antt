@@ -46,11 +46,9 @@ use Rattle.snippet_grid.specs.Layout.{Layout}
 use Rattle.annotate_snippets.specs.Around.{path_bytes, suggestion_rows}
 use Rattle.annotate_snippets.proofs.AreTexts.{IsTextSuggestion}
 use Rattle.annotate_snippets.specs.DrawnReport.{suggestion_layout, suggestion_lines}
-use Rattle.annotate_snippets.proofs.PageWords.{under_of}
+use Rattle.annotate_snippets.proofs.PageWords.{patch_place, suggestion_head_at, under_of}
 use Rattle.annotate_snippets.specs.Laws.Feeds.{HasNoFeed}
 use Rattle.annotate_snippets.specs.RowsWithoutSource.{origin_layout, path_row, suggestion_head}
-use Rattle.annotate_snippets.proofs.PageWords.{patch_place}
-use Rattle.annotate_snippets.proofs.PageWords.{suggestion_head_at}
 use Rattle.annotate_snippets.proofs.OneLineTexts.{HoldsNoFeed, IsNoFeed, IsOneLineText}
 use Rattle.annotate_snippets.proofs.FeedLaws.{at_any}
 use Rattle.annotate_snippets.proofs.LineFeedLaws.{line_plain, row_written}

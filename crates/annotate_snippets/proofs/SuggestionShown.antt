@@ -33,10 +33,9 @@ use Rattle.annotate_snippets.specs.DrawnReport.{HasRoomFor, suggestion_layout, s
 use Rattle.annotate_snippets.specs.GraphicForm.{element_rows, name_of_row}
 use Rattle.annotate_snippets.proofs.PageWords.{under_of}
 use Rattle.annotate_snippets.proofs.PageWords.{patch_rows}
+use Rattle.annotate_snippets.proofs.PageWords.{patch_place, suggestion_head_at}
 use Rattle.annotate_snippets.specs.Page.{NamedRow, cells_of, lines_offered, others}
 use Rattle.annotate_snippets.specs.RowsWithoutSource.{origin_layout, path_row, suggestion_head}
-use Rattle.annotate_snippets.proofs.PageWords.{patch_place}
-use Rattle.annotate_snippets.proofs.PageWords.{suggestion_head_at}
 use Rattle.annotate_snippets.specs.Laws.Suggestions.{HasStrokes, ShowsSuggestion}
 use Rattle.annotate_snippets.specs.Laws.Feeds.{HasNoFeed}
 use Rattle.annotate_snippets.specs.declared.renderer.Renderer.{Renderer}

@@ -21,14 +21,9 @@ use Rattle.annotate_snippets.specs.declared.renderer.element_context.Next.{Next}
 use Rattle.annotate_snippets.specs.declared.renderer.element_context.Next.TheVariants as next
 use Rattle.annotate_snippets.specs.declared.renderer.element_context.ElementContext.{ElementContext}
 
--- whether an element is drawn: a snippet of patches without patches is left out, as if it weren't there
-abbrev pub is_drawn : Element → Bool
-is_drawn (Suggestion snippet) = not (length snippet.markers.items == 0)
-is_drawn other = true
-
--- the elements of a group that are drawn, in order
+-- the elements of a group that are drawn, in order: a snippet of patches without patches is left out, as if it weren't there
 abbrev pub drawn_elements : Group → List Element
-drawn_elements g = filter is_drawn g.elements.items
+drawn_elements g = filter (λ e. elim e [ Suggestion s ↦ not (length s.markers.items == 0) | other ↦ true ]) g.elements.items
 
 -- whether two paths are the same, as they are given; so are two that are missing
 abbrev pub is_same_file : Option (List ℕ) → Option (List ℕ) → Bool
@@ -126,6 +121,11 @@ is_next_start begin = false
 -- the same, of what stands around it
 abbrev pub begins_in_row_above : ElementContext → Bool
 begins_in_row_above around = is_next_start around.start
+
+-- whether an element is drawn
+abbrev pub is_drawn : Element → Bool
+is_drawn (Suggestion snippet) = not (length snippet.markers.items == 0)
+is_drawn other = true
 
 -- whether a group is its report's first
 abbrev pub is_first_group : GroupPosition → Bool

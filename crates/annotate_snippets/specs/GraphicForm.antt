@@ -24,6 +24,9 @@ use Rattle.snippet_strokes.specs.Snippet.{gap_row, shown_rows}
 use Rattle.snippet_suggest.specs.Given.{first_given}
 use Rattle.snippet_suggest.specs.RowOrder.{Offers, Removes, SuggestionRow}
 use Rattle.snippet_strokes.specs.SourceRows.{bare_row}
+use Rattle.snippet_titles.specs.HeadingRows.{heading_rows}
+use Rattle.snippet_titles.specs.declared.style.TitleStyle.TheVariants as style
+use Rattle.snippet_model.specs.Heading.{heading_of_message}
 use Rattle.annotate_snippets.specs.declared.renderer.Renderer.{Renderer}
 use Rattle.snippet_grid.specs.Layout.{Layout}
 use Rattle.annotate_snippets.specs.declared.renderer.element_context.GroupPosition.{GroupPosition}
@@ -32,7 +35,7 @@ use Rattle.annotate_snippets.specs.Around.{closes_with, context_at, drawn_elemen
 use Rattle.annotate_snippets.specs.DrawnReport.{last_row, shared_row, suggestion_lines}
 use Rattle.annotate_snippets.specs.Gutter.{layout_of_group, number_text, numbered_source}
 use Rattle.annotate_snippets.specs.Page.{Elision, GroupPage, NamedRow, OfferedLine, Other, RemovedLine, RowName, SourceRow, cells_of, others}
-use Rattle.annotate_snippets.specs.RowsWithoutSource.{cause_head, message_rows, origin_rows, rows_after_cause, suggestion_head, title_part}
+use Rattle.annotate_snippets.specs.RowsWithoutSource.{cause_head, origin_rows, rows_after_cause, suggestion_head, title_part}
 
 -- ---- lines
 
@@ -78,7 +81,8 @@ name_of_row s other = Other
 -- begins with, those of the lines that are shown, and what stands below; and those of a suggestion that of its path, where it names that, and
 -- those of its lines, named by what they show
 abbrev pub element_rows : Renderer → Layout → ElementContext → List Cell → Element → List NamedRow
-element_rows r layout around found (element.Message message) = others (message_rows r layout around message)
+element_rows r layout around found (element.Message message) =
+    others (heading_rows r.hyperlink (style.Message (record { layout = layout; followed = not (is_end around.next) })) (heading_of_message message))
 element_rows r layout around found (element.Cause s) =
     others (cause_head r layout around s) ++ (rows_of_lines r layout (closes_with around) s [] (shown_lines s.fold (cow_str_bytes s.source) s.markers.items)
     ++ others (rows_after_cause r layout around))

@@ -4,12 +4,11 @@ use Rattle.std.specs.Cow.{cow_str_bytes}
 use Rattle.std.specs.Option.{option_map, option_to_list}
 use Rattle.std.specs.List.{flat_map}
 use Rattle.snippet_model.specs.declared.snippet.Annotation.{Annotation}
-use Rattle.snippet_model.specs.declared.snippet.Message.{Message}
 use Rattle.snippet_model.specs.declared.snippet.Origin.{Origin}
 use Rattle.snippet_model.specs.declared.snippet.Patch.{Patch}
 use Rattle.snippet_model.specs.declared.snippet.Snippet.{Snippet}
 use Rattle.snippet_model.specs.declared.snippet.Title.{Title}
-use Rattle.snippet_model.specs.Heading.{heading_of_message, heading_of_title}
+use Rattle.snippet_model.specs.Heading.{heading_of_title}
 use Rattle.snippet_style.specs.Cell.{Cell}
 use Rattle.snippet_lines.specs.Place.{start_location}
 use Rattle.snippet_parts.specs.Annotated.{annotated_lines}
@@ -48,11 +47,6 @@ rows_after_cause r layout around =
     let first : Bool = elim around.place [ place.Later ↦ false | position ↦ true ] in
     if first && is_before_message around.next then separator_row layout.decor layout.gutter ∷ []
     else (if closes_after around then closing_row layout.decor layout.gutter ∷ [] else [])
-
--- the rows of a message
-abbrev pub message_rows : Renderer → Layout → ElementContext → Message → List (List Cell)
-message_rows r layout around message =
-    heading_rows r.hyperlink (style.Message (record { layout = layout; followed = not (is_end around.next) })) (heading_of_message message)
 
 -- where the rows of paths stand
 abbrev pub origin_layout : Renderer → Layout → OriginLayout

@@ -12,7 +12,8 @@ use Rattle.snippet_lines.specs.Place.{line_of}
 use Rattle.snippet_lines.proofs.BoundsLemmas.{IsLine-at}
 use Rattle.snippet_lines.proofs.LinesLemmas.{length-lines_of, length-source_lines, start_of-zero}
 use Rattle.snippet_lines.proofs.PlaceLemmas.{line_of-within, start_of-inside}
-use Rattle.snippet_splice.specs.Copied.{copied, end_from, in_text, is_inside_line_end, written_from}
+use Rattle.snippet_splice.specs.Copied.{copied, end_from, in_text, written_from}
+use Rattle.snippet_splice.proofs.LineEnds.{is_inside_line_end}
 use Rattle.snippet_splice.specs.Edits.{Edit, AreApart, in_order, precedes, trimmed_edit, trimmed_edits}
 use Rattle.snippet_splice.specs.ShownText.{closes_line, first_start, shown_line, shown_rest, shown_start, shown_text, without_final_line_feeds}
 use Rattle.snippet_splice.proofs.EditLemmas.{IsShrunk, trimmed_edit-shrunk}

@@ -1,6 +1,7 @@
 pub mod EditLemmas
 pub mod Examples
 pub mod FeedLemmas
+pub mod LineEnds
 pub mod LineLemmas
 pub mod OrderLemmas
 pub mod OverlapLemmas

@@ -1,21 +1,16 @@
 -- How source is copied beside patches: by the text of its lines, and with an LF for each line end.
-use Rattle.std.specs.Prelude.{ℕ, ◌+◌, ◌-◌, nat_lt, min, ◌==◌, ◌&&◌, Bool, List, [], ◌∷◌, ◌++◌, length, slice_index, count_by, fold, if◌then◌else◌}
+use Rattle.std.specs.Prelude.{ℕ, ◌+◌, ◌-◌, nat_lt, min, ◌==◌, ◌&&◌, List, [], ◌∷◌, ◌++◌, length, slice_index, count_by, fold, if◌then◌else◌}
 use Rattle.std.specs.List.{slice_range}
-use Rattle.snippet_lines.specs.Lines.{last_byte, is_lf}
+use Rattle.snippet_lines.specs.Lines.{last_byte}
 use Rattle.snippet_splice.specs.declared.splice.LineRange.{LineRange}
 use Rattle.snippet_splice.specs.Edits.{Edit}
 
--- whether a byte stands between the CR and the LF of a line end
-abbrev pub is_inside_line_end : List ℕ → ℕ → Bool
-is_inside_line_end source b =
-    nat_lt 0 b && nat_lt b (length source) && slice_index source b == 10 && slice_index source (b - 1) == 13
-
--- a byte moved out of the line end that it stands in or after, where that isn't followed by a line: to before the CR of
--- CR LF, and from after a final line end to before it
+-- a byte moved out of the line end that it stands in or after, where that isn't followed by a line: from between CR and LF to before the CR,
+-- and from after a final line end to before it
 abbrev pub in_text : List ℕ → ℕ → ℕ
 in_text source b =
     let at = min b (if last_byte source == 10 then length source - 1 else length source) in
-    if is_inside_line_end source at then at - 1 else at
+    if nat_lt 0 at && nat_lt at (length source) && slice_index source at == 10 && slice_index source (at - 1) == 13 then at - 1 else at
 
 -- a text with an LF in place of each CR LF
 abbrev pub with_line_feeds : List ℕ → List ℕ
@@ -37,8 +32,8 @@ written_from source at (e ∷ es) = copied source at e.start ++ (e.text ++ writt
 abbrev pub written_ranges : List ℕ → ℕ → ℕ → List Edit → List LineRange
 written_ranges source feeds at [] = []
 written_ranges source feeds at (e ∷ es) =
-    let first = feeds + count_by is_lf (copied source at e.start) in
-    let last = first + count_by is_lf e.text in
+    let first = feeds + count_by (λ b. b == 10) (copied source at e.start) in
+    let last = first + count_by (λ b. b == 10) e.text in
     record { first = first; last = last } ∷ written_ranges source last e.end es
 
 -- the byte of the source after the last of some edits, from a byte on

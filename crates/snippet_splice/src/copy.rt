@@ -1,10 +1,11 @@
 //! How source is copied beside patches: by the text of its lines, with a line feed for each line end.
-ghost use Rattle.std.specs.Prelude.{◌≡◌, ◌==◌, ◌-◌, ◌<◌, ◌≤◌, ◌++◌, IfOk, count_by, length, true, if◌then◌else◌};
+ghost use Rattle.std.specs.Prelude.{◌≡◌, ◌==◌, ◌&&◌, ◌-◌, ◌<◌, ◌≤◌, ◌++◌, IfOk, count_by, length, nat_lt};
+ghost use Rattle.std.specs.Prelude.{slice_index, true, if◌then◌else◌};
 ghost use Rattle.std.specs.String.{string_bytes};
 ghost use Rattle.std.specs.Str.{IsCharBoundary};
 ghost use Rattle.snippet_lines.specs.Lines.{is_lf, last_byte};
 ghost use Rattle.snippet_lines.specs.Span.{IsSpanBorder};
-ghost use Rattle.snippet_splice.specs.Copied.{is_inside_line_end, in_text, with_line_feeds, copied};
+ghost use Rattle.snippet_splice.specs.Copied.{in_text, with_line_feeds, copied};
 
 use memchr::memchr;
 use snippet_lines::line_feed_count;
@@ -57,7 +58,8 @@ fn text_end(bytes: &[u8]) -> usize
 
 /// Whether a byte stands between the carriage return and the line feed of a line end.
 fn is_inside_line_end(bytes: &[u8], at: usize) -> bool
-    ensures value { result ≡ is_inside_line_end bytes.now at }
+    ensures value { let source = bytes.now in result ≡ (nat_lt 0 at && nat_lt at (length source)
+        && slice_index source at == 10 && slice_index source (at - 1) == 13) }
     ensures after { result ≡ true → 0 < at }
 {
     0 < at && at < bytes.len() && bytes[at] == b'\n' && bytes[at - 1] == b'\r'

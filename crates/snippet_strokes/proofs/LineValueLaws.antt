@@ -7,11 +7,11 @@ use Rattle.snippet_labels.specs.declared.positions.PlacedEntry.{PlacedEntry}
 use Rattle.snippet_strokes.specs.Painting.{painting_order}
 use Rattle.snippet_strokes.specs.Writes.{painted}
 use Rattle.snippet_strokes.specs.Cuts.{overlapped}
-use Rattle.snippet_strokes.specs.LookedCuts.{cut_row, cuts_of}
+use Rattle.snippet_strokes.specs.LookedCuts.{cuts_of}
 use Rattle.snippet_strokes.specs.Drawing.{row_count}
 use Rattle.snippet_strokes.specs.Strokes.{stroke_rows, drawn_strokes}
 use Rattle.snippet_strokes.proofs.LineFacts.{StrokesPainted}
-use Rattle.snippet_strokes.proofs.StrokeWords.{begun_rows}
+use Rattle.snippet_strokes.proofs.StrokeWords.{begun_rows, cut_row}
 use Rattle.snippet_strokes.proofs.CutLemmas.{stroke_rows-cut}
 use Rattle.snippet_strokes.proofs.PlacedAre.{placed_are}
 

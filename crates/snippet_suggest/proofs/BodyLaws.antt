@@ -28,12 +28,10 @@ use Rattle.snippet_suggest.specs.declared.shown.SuggestionLine.TheVariants.{Gap,
 use Rattle.snippet_suggest.specs.Cells.{end_cells, left_out_cells, on_last}
 use Rattle.snippet_suggest.specs.Given.{edits_of, emptied_lines, first_end, first_given, given_lines, given_ranges, is_left_out, last_reached, lines_touched}
 use Rattle.snippet_suggest.specs.Given.{removed_lines, replaced_lines, shown_kind, trimmed_of}
-use Rattle.snippet_suggest.proofs.ByKind.{removed_of}
+use Rattle.snippet_suggest.proofs.ByKind.{removed_of, row_of_shown, rows_where}
 use Rattle.snippet_suggest.specs.PreparedSuggestion.{IsSuggestible}
 use Rattle.snippet_suggest.specs.RowOrder.{Begins, Empty, Ends, Offers, Removes, Skips, SuggestionRow}
 use Rattle.snippet_suggest.specs.RowOrder.{removed_number, rows_of_suggestion}
-use Rattle.snippet_suggest.proofs.ByKind.{row_of_shown}
-use Rattle.snippet_suggest.proofs.ByKind.{rows_where}
 use Rattle.snippet_suggest.specs.Suggested.{body_cells, suggested_cells, cells_over, marked_edits, new_on, removed_in, suggested_stretches, with_left_out}
 use Rattle.snippet_suggest.specs.SuggestedLines.{is_touched, shown_from}
 use Rattle.snippet_suggest.specs.SuggestionRows.{HasGutter, IsBareRow, IsRowOfRemoved, IsUnder, NumberFits, Shows}

@@ -1,19 +1,19 @@
 -- What a snippet of patches gives: the lines that are shown of the patched source, which of them a suggestion offers, and the
 -- number that it counts for the gutter's width.
-use Rattle.std.specs.Prelude.{◌≡◌, ℕ, ◌+◌, ◌-◌, ◌==◌, ◌||◌, Bool, false, List, [], ◌∷◌, All, count_by, length, map, sum_by, take, if◌then◌else◌}
+use Rattle.std.specs.Prelude.{◌≡◌, ℕ, ◌+◌, ◌-◌, ◌==◌, ◌||◌, Bool, false, List, [], ◌∷◌, All, count_by, fold, length, map, sum_by, take, if◌then◌else◌}
 use Rattle.std.specs.Cow.{cow_str_bytes}
 use Rattle.std.specs.List.{range_with_len, slice_index_or}
 use Rattle.std.specs.Str.{bytes_eq}
 use Rattle.snippet_model.specs.declared.snippet.Snippet.{Snippet}
 use Rattle.snippet_model.specs.declared.snippet.Patch.{Patch}
 use Rattle.snippet_parts.specs.declared.source_map.LineInfo.{LineInfo}
-use Rattle.snippet_lines.specs.Lines.{lines_of, source_lines, text_at, newline_count}
+use Rattle.snippet_lines.specs.Lines.{lines_of, source_lines, start_of, text_at, newline_count}
 use Rattle.snippet_lines.specs.Place.{line_of}
 use Rattle.snippet_splice.specs.declared.patches.TrimmedPatch.{TrimmedPatch}
 use Rattle.snippet_splice.specs.declared.splice.LineRange.{LineRange}
-use Rattle.snippet_splice.specs.Copied.{end_from, written_ranges}
-use Rattle.snippet_splice.specs.Edits.{Edit, edit_of, in_order, trimmed_edit}
-use Rattle.snippet_splice.specs.ShownText.{first_start, shown_line, shown_start, shown_text}
+use Rattle.snippet_splice.specs.Copied.{written_ranges}
+use Rattle.snippet_splice.specs.Edits.{Edit, in_order, trimmed_edit}
+use Rattle.snippet_splice.specs.ShownText.{first_start, shown_text}
 use Rattle.snippet_splice.specs.Spliced.{HasNoCr, IsBeforeFinalLf, last_line_reached, spliced_text, texts_of}
 use Rattle.snippet_suggest.specs.declared.kind.DisplaySuggestion.{DisplaySuggestion}
 use Rattle.snippet_suggest.specs.declared.kind.DisplaySuggestion.TheVariants.{Underline, Diff}
@@ -26,7 +26,7 @@ added_lines patches = sum_by (λ p. count_by (λ b. b == 10) (cow_str_bytes p.re
 
 -- the edits that its patches stand for, as they are given, and trimmed
 abbrev pub edits_of : Snippet Patch → List Edit
-edits_of s = map edit_of s.markers.items
+edits_of s = map (λ (p : Patch). record { start = p.span.start; end = p.span.end; text = cow_str_bytes p.replacement }) s.markers.items
 
 abbrev pub trimmed_of : Snippet Patch → List Edit
 trimmed_of s = map (trimmed_edit (cow_str_bytes s.source)) (in_order (edits_of s))
@@ -38,14 +38,16 @@ given_text s = shown_text s.fold (cow_str_bytes s.source) (edits_of s)
 abbrev pub given_lines : Snippet Patch → List (List ℕ)
 given_lines s = map (λ l. l.0) (lines_of (given_text s))
 
--- which line of the patched source the first of them is
+-- which line of the patched source the first of them is: where lines are folded that on which the first edit starts
 abbrev pub first_given : Snippet Patch → ℕ
-first_given s = shown_line s.fold (cow_str_bytes s.source) (edits_of s)
+first_given s = if s.fold then line_of (source_lines (cow_str_bytes s.source)) (first_start (in_order (edits_of s))) else 0
 
--- for each trimmed patch the lines among them on which its text stands
+-- for each trimmed patch the lines among them on which its text stands; they begin where the first of them does
 abbrev pub given_ranges : Snippet Patch → List LineRange
 given_ranges s =
-    written_ranges (cow_str_bytes s.source) 0 (shown_start s.fold (cow_str_bytes s.source) (first_start (in_order (edits_of s)))) (trimmed_of s)
+    let lines = source_lines (cow_str_bytes s.source) in
+    let start = if s.fold then start_of lines (line_of lines (first_start (in_order (edits_of s)))) else 0 in
+    written_ranges (cow_str_bytes s.source) 0 start (trimmed_of s)
 
 -- how they are shown
 abbrev pub shown_kind : Snippet Patch → DisplaySuggestion
@@ -104,7 +106,7 @@ emptied_lines s =
 -- which the last ends, without this if it is the same as the line in their place; but none if no patch touches that
 abbrev pub replaced_lines : Snippet Patch → List ℕ
 replaced_lines s =
-    let lines = lines_touched (cow_str_bytes s.source) (first_start (trimmed_of s)) (end_from 0 (trimmed_of s)) in
+    let lines = lines_touched (cow_str_bytes s.source) (first_start (trimmed_of s)) (fold (λ before e. e.end) 0 (trimmed_of s)) in
     let stays = bytes_eq (slice_index_or (given_lines s) 0 []) (last_reached s) in
     if is_touched s.fold (given_ranges s) 0 then (if stays then take (length lines - 1) lines else lines) else []
 

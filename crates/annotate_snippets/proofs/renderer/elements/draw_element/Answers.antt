@@ -5,7 +5,8 @@ use Rattle.snippet_model.specs.declared.snippet.Element.TheVariants.{Cause, Mess
 use Rattle.snippet_titles.specs.HeadingRows.{heading_rows}
 use Rattle.snippet_titles.proofs.PaddingWords.{padding_row}
 use Rattle.annotate_snippets.specs.PreparedReport.{element_of}
-use Rattle.annotate_snippets.specs.RowsWithoutSource.{message_rows, origin_rows}
+use Rattle.annotate_snippets.specs.RowsWithoutSource.{origin_rows}
+use Rattle.annotate_snippets.proofs.PageWords.{message_rows}
 use Rattle.annotate_snippets.proofs.NamedRows.{cells_of-others}
 use Rattle.annotate_snippets.proofs.PlainRows.{plain_added}
 use Rattle.annotate_snippets.proofs.renderer.elements.draw_element.Goals as goal
