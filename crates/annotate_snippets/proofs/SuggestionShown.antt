@@ -47,8 +47,8 @@ use Rattle.annotate_snippets.proofs.ElementShown.{ElementShown}
 use Rattle.annotate_snippets.proofs.NamedRows.{cells_of-append, cells_of-others}
 use Rattle.annotate_snippets.proofs.SuggestFeedLaws.{suggestion_one_line}
 use Rattle.annotate_snippets.proofs.SuggestionLines.{IsEnding, lines_each, lines_show}
-use Rattle.annotate_snippets.proofs.SuggestionLemmas.{cells_of-named, lines_free, lines_offered-order, lines_removed, lines_removed-order, names_of-named, named_rows}
-use Rattle.annotate_snippets.proofs.SuggestionLemmas.{rising_ascends, rows_named, strokes_shown}
+use Rattle.annotate_snippets.proofs.SuggestionLemmas.{cells_of-named, lines_free, lines_offered-order, lines_removed, lines_removed-order}
+use Rattle.annotate_snippets.proofs.SuggestionLemmas.{names_of-named, named_rows, rising_ascends, rows_named, strokes_shown}
 
 -- the row of its path holds no listed character and no link
 path_row-free : (r : Renderer) (layout : Layout) (first : Bool) (s : Snippet Patch) (path : Option (List ℕ)) → All IsFree (path_row r layout first s path)
