@@ -114,10 +114,7 @@ replaced_lines s =
 -- those in whose place one line stands; and else none
 abbrev pub removed_lines : Snippet Patch → List ℕ
 removed_lines s =
-    elim (given_lines s) [
-      | [] ↦ emptied_lines s
-      | line ∷ lines ↦ elim (shown_kind s) [ Diff ↦ replaced_lines s | kind ↦ [] ]
-    ]
+    elim (given_lines s) [ [] ↦ emptied_lines s | line ∷ lines ↦ elim (shown_kind s) [ Diff ↦ replaced_lines s | kind ↦ [] ] ]
 
 -- the texts of some lines of the source
 abbrev pub texts_of_source : Snippet Patch → List ℕ → List (List ℕ)

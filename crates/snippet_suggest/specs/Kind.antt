@@ -3,7 +3,6 @@ use Rattle.std.specs.Prelude.{ℕ, nat_lt, nat_le, ◌==◌, ◌&&◌, ◌||◌,
 use Rattle.std.specs.Prelude.{if◌then◌else◌}
 use Rattle.std.specs.Char.{is_whitespace}
 use Rattle.std.specs.List.{list_all, list_any, slice_range}
-use Rattle.std.specs.Option.{option_map_or}
 use Rattle.std.specs.Str.{bytes_eq, trim}
 use Rattle.snippet_lines.specs.Lines.{last_byte, lines_of}
 use Rattle.snippet_splice.specs.Edits.{Edit}
@@ -15,16 +14,16 @@ use Rattle.snippet_suggest.specs.declared.kind.DisplaySuggestion.TheVariants.{Un
 abbrev pub is_blank_text : List ℕ → Bool
 is_blank_text text = list_all is_whitespace (chars text)
 
--- the text of the source that an edit stands over, if its span is inside the source
-abbrev pub text_under : List ℕ → Edit → Option (List ℕ)
-text_under source e = if nat_le e.end (length source) then Some (slice_range source e.start e.end) else None
-
 -- whether a trimmed edit deletes or destroys text that isn't blank: its text is blank, or keeps less than all of that text, whitespace around
 -- both apart. A span that isn't inside the source counts as such text, unless it is empty
 abbrev pub takes_away : List ℕ → Edit → Bool
 takes_away source e =
     let destroys : List ℕ → Bool = λ text. not (is_blank_text text) && (is_blank_text e.text || is_none (sandwich (trim text) (trim e.text))) in
-    option_map_or destroys (text_under source e) (not (e.start == e.end))
+    if nat_le e.end (length source) then destroys (slice_range source e.start e.end) else not (e.start == e.end)
+
+-- the text of the source that an edit stands over, if its span is inside the source
+abbrev pub text_under : List ℕ → Edit → Option (List ℕ)
+text_under source e = if nat_le e.end (length source) then Some (slice_range source e.start e.end) else None
 
 -- whether an edit stands over text that isn't blank, or over a span that isn't inside the source and isn't empty
 abbrev pub is_under_text : Edit → Option (List ℕ) → Bool

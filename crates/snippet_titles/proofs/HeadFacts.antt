@@ -25,7 +25,7 @@ use Rattle.snippet_titles.specs.declared.style.TitleStyle.TheVariants.{Message}
 use Rattle.snippet_titles.specs.HeadingRows.{colon_of, heading_lines, heading_rows, id_cells, indent_cells, label_cells, label_width, lines_below, note_bar_of}
 use Rattle.snippet_titles.specs.HeadingRows.{roles_of, sign_cells}
 use Rattle.snippet_style.specs.Glyphs.{note_sign_of}
-use Rattle.snippet_titles.specs.Origin.{file_glyph, file_row, opening_rows, origin_row, origin_text, snippet_head}
+use Rattle.snippet_titles.specs.Origin.{file_glyph, file_row, origin_row, origin_text, primary_start, snippet_head}
 use Rattle.snippet_style.specs.Separators.{separator_row}
 use Rattle.snippet_titles.proofs.FreeLemmas.{All-trimmed}
 use Rattle.snippet_titles.proofs.HeadLemmas.{nameless_head-each, primary_head-each, secondary_head-each}
@@ -35,6 +35,11 @@ use Rattle.snippet_titles.proofs.OriginFree.{file_row-free, origin_row-free, sep
 use Rattle.snippet_titles.proofs.OriginNumbers.{IsPlain, file_row-unnumbered, origin_row-unnumbered, separator_row-unnumbered}
 use Rattle.snippet_titles.proofs.OriginRowText.{origin_row-after}
 use Rattle.snippet_grid.proofs.RowLemmas.{row_text-text_cells}
+
+-- what a primary snippet without a path begins with
+abbrev pub opening_rows : DecorStyle → OriginLayout → Bool → List (List Cell)
+opening_rows decor layout first =
+    elim decor [ Ascii ↦ separator_row layout.base.decor layout.base.gutter ∷ [] | Unicode ↦ file_row layout (primary_start first) ∷ [] ]
 
 -- what holds of separator rows, of those that lead to a file, and of those of paths
 module _ (P : List Cell → Type 0) (layout : OriginLayout) (separator : P (separator_row layout.base.decor layout.base.gutter))

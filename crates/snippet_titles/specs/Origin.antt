@@ -54,16 +54,12 @@ origin_row layout start path place =
 abbrev pub primary_start : Bool → FileStart
 primary_start first = if first then First else Later
 
--- what a snippet without a path begins with where it is the group's primary one: in ASCII a separator row, in Unicode the start
--- of a file
-abbrev pub opening_rows : DecorStyle → OriginLayout → Bool → List (List Cell)
-opening_rows Ascii layout first = separator_row layout.base.decor layout.base.gutter ∷ []
-opening_rows Unicode layout first = file_row layout (primary_start first) ∷ []
-
 -- what a snippet begins with: whether it is the group's primary one, and the first element, with its path, if it has one, and the place
--- that is named after that. The row of its path stands above a separator row, and where the snippet isn't primary below another one
+-- that is named after that. The row of its path stands above a separator row, and where the snippet isn't primary below another one. A primary
+-- one without a path begins in ASCII with a separator row, and in Unicode with the start of a file
 abbrev pub snippet_head : OriginLayout → Bool → Bool → Option (List ℕ) → OriginLocation → List (List Cell)
-snippet_head layout true first None place = opening_rows layout.base.decor layout first
+snippet_head layout true first None place =
+    elim layout.base.decor [ Ascii ↦ separator_row layout.base.decor layout.base.gutter ∷ [] | Unicode ↦ file_row layout (primary_start first) ∷ [] ]
 snippet_head layout true first (Some path) place =
     origin_row layout (primary_start first) path place ∷ separator_row layout.base.decor layout.base.gutter ∷ []
 snippet_head layout false first None place = separator_row layout.base.decor layout.base.gutter ∷ file_row layout Secondary ∷ []

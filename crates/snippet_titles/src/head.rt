@@ -1,8 +1,9 @@
 //! The rows that a snippet begins with.
 ghost use Rattle.std.specs.Prelude.{◌≡◌, ◌+◌, ◌^◌, ◌<◌, [], ◌∷◌, ◌++◌, false, true, OnOk, Some};
 ghost use Rattle.snippet_style.specs.Separators.{separator_row};
+ghost use Rattle.snippet_style.specs.declared.glyphs.DecorStyle.TheVariants.{Ascii, Unicode};
 ghost use Rattle.snippet_titles.specs.declared.origin.FileStart.TheVariants.{Secondary};
-ghost use Rattle.snippet_titles.specs.Origin.{file_row, opening_rows, snippet_head};
+ghost use Rattle.snippet_titles.specs.Origin.{file_row, snippet_head};
 ghost use Rattle.snippet_titles.specs.Origin as spec;
 
 use crate::origin::{FileStart, OriginLayout, OriginLocation, begin_file_row, draw_origin};
@@ -28,7 +29,10 @@ pub fn draw_opening_head(
     layout: OriginLayout,
     first: bool,
 ) -> Result<(), AllocError>
-    ensures rows { OnOk result (buffer.new ≡ buffer.old ++ opening_rows layout.base.decor layout first) }
+    ensures rows { let base = layout.base in OnOk result (buffer.new ≡ buffer.old ++ elim base.decor [
+        | Ascii ↦ separator_row base.decor base.gutter ∷ []
+        | Unicode ↦ file_row layout (spec.primary_start first) ∷ []
+        ]) }
 {
     let base = layout.base;
     match base.decor {
