@@ -106,7 +106,7 @@ abbrev pub group_page : Renderer → Layout → GroupPosition → Option (List �
 group_page r layout place file g =
     let es = drawn_elements g in
     let rows : ℕ → Element → List NamedRow =
-        λ i e. element_rows r layout (context_at place file es i e) (last_row r layout true (slice_get es (i - 1))) e in
+    λ i e. element_rows r layout (context_at place file es i e) (last_row r layout true (slice_get es (i - 1))) e in
     record { level = g.level; title = title_part r layout place (next_of es) g.title; elements = map (λ pair. rows pair.0 pair.1) (enumerate_from 0 es) }
 
 -- the page of a report

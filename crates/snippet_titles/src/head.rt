@@ -30,9 +30,9 @@ pub fn draw_opening_head(
     first: bool,
 ) -> Result<(), AllocError>
     ensures rows { let base = layout.base in OnOk result (buffer.new ≡ buffer.old ++ elim base.decor [
-        | Ascii ↦ separator_row base.decor base.gutter ∷ []
-        | Unicode ↦ file_row layout (spec.primary_start first) ∷ []
-        ]) }
+      | Ascii ↦ separator_row base.decor base.gutter ∷ []
+      | Unicode ↦ file_row layout (spec.primary_start first) ∷ []
+    ]) }
 {
     let base = layout.base;
     match base.decor {
