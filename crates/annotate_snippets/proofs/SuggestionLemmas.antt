@@ -1,7 +1,7 @@
 -- The rows of a suggestion's lines, with their names.
 use Rattle.std.proofs.Common.{◌≡◌, ◌≢◌, ℕ, ◌+◌, ◌-◌, ◌<◌, ◌≤◌, Option, None, Some, List, [], ◌∷◌, map, length, take, chars, get_or, refl}
 use Rattle.std.proofs.Common.{sym, ap, subst, ◌∙◌, arith}
-use Rattle.std.specs.List.{All, AllZip, cons_option, filter_map}
+use Rattle.std.specs.List.{All, AllZip, cons_option, filter_map, zip}
 use Rattle.std.proofs.lemmas.List.Elements.{All-nil, All-cons, All-head, All-tail}
 use Rattle.snippet_model.specs.declared.snippet.Patch.{Patch}
 use Rattle.snippet_model.specs.declared.snippet.Snippet.{Snippet}
@@ -22,7 +22,6 @@ use Rattle.snippet_suggest.specs.SuggestedLines.{AreRising}
 use Rattle.snippet_suggest.proofs.OfferLaws.{given-is-patched}
 use Rattle.snippet_suggest.proofs.OrderLaws.{IsRowOf}
 use Rattle.annotate_snippets.specs.DrawnReport.{suggestion_layout}
-use Rattle.annotate_snippets.specs.GraphicForm.{named_rows}
 use Rattle.annotate_snippets.specs.Gutter.{line_numbers, number_text}
 use Rattle.annotate_snippets.specs.Page.{Elision, NamedRow, OfferedLine, Other, RemovedLine, RowName, SourceRow}
 use Rattle.annotate_snippets.specs.Page.{cells_of, line_offered, lines_offered}
@@ -40,6 +39,10 @@ rising_ascends from to [] rising = tt
 rising_ascends from to (j ∷ []) rising = tt
 rising_ascends from to (j ∷ k ∷ ks) rising =
     (omega (arith, rising.1.0), rising_ascends (j + 1) to (k ∷ ks) rising.1)
+
+-- rows of a suggestion with their names
+abbrev pub named_rows : Snippet Patch → List SuggestionRow → List (List Cell) → List NamedRow
+named_rows s shown rows = map (λ pair. record { name = name_of_row s pair.0; cells = pair.1 }) (zip shown rows)
 
 -- with a row for each, they hold the rows, and have their names
 pub cells_of-named : (P : SuggestionRow → List Cell → Type 0) (s : Snippet Patch) (shown : List SuggestionRow) (part : List (List Cell)) → AllZip P shown part

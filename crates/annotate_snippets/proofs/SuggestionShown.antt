@@ -30,7 +30,7 @@ use Rattle.snippet_titles.specs.Origin.{primary_start}
 use Rattle.snippet_titles.proofs.OriginFree.{origin_row-free}
 use Rattle.annotate_snippets.specs.Around.{begins_in_row_above, is_end, path_bytes, suggestion_rows}
 use Rattle.annotate_snippets.specs.DrawnReport.{HasRoomFor, suggestion_layout, suggestion_lines, under_of}
-use Rattle.annotate_snippets.specs.GraphicForm.{element_rows, name_of_row, named_rows}
+use Rattle.annotate_snippets.specs.GraphicForm.{element_rows, name_of_row}
 use Rattle.annotate_snippets.specs.Page.{NamedRow, cells_of, lines_offered, others}
 use Rattle.annotate_snippets.specs.RowsWithoutSource.{origin_layout, patch_place, path_row, suggestion_head, suggestion_head_at}
 use Rattle.annotate_snippets.specs.Laws.Suggestions.{HasStrokes, ShowsSuggestion}
@@ -45,6 +45,7 @@ use Rattle.annotate_snippets.proofs.NamedRows.{cells_of-append, cells_of-others}
 use Rattle.annotate_snippets.proofs.SuggestFeedLaws.{suggestion_one_line}
 use Rattle.annotate_snippets.proofs.SuggestionLines.{IsEnding, lines_each, lines_show}
 use Rattle.annotate_snippets.proofs.SuggestionLemmas.{cells_of-named, lines_free, lines_offered-order, lines_removed, lines_removed-order, names_of-named}
+use Rattle.annotate_snippets.proofs.SuggestionLemmas.{named_rows}
 use Rattle.annotate_snippets.proofs.SuggestionLemmas.{rising_ascends, rows_named, strokes_shown}
 
 -- the row of its path holds no listed character and no link

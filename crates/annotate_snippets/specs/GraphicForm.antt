@@ -1,7 +1,7 @@
 -- The graphic form of a report, as a value: a page, each row of which is made from the report by the rule of its part.
 use Rattle.std.specs.Prelude.{ℕ, ◌+◌, ◌-◌, ◌==◌, ◌&&◌, nat_lt, not, List, [], ◌∷◌, ◌++◌, Bool, Option, Some, length, map, if◌then◌else◌}
 use Rattle.std.specs.Cow.{cow_str_bytes}
-use Rattle.std.specs.List.{enumerate_from}
+use Rattle.std.specs.List.{enumerate_from, zip}
 use Rattle.snippet_style.specs.Cell.{Cell}
 use Rattle.snippet_model.specs.declared.snippet.Annotation.{Annotation}
 use Rattle.snippet_model.specs.declared.snippet.Element.{Element}
@@ -87,19 +87,14 @@ name_of_row s (Offers k) = OfferedLine (first_given s + k)
 name_of_row s (Removes i number text) = RemovedLine i
 name_of_row s other = Other
 
--- rows of a suggestion with their names
-abbrev pub named_rows : Snippet Patch → List SuggestionRow → List (List Cell) → List NamedRow
-named_rows s (shows ∷ shown) (row ∷ rows) =
-    record { name = name_of_row s shows; cells = row } ∷ named_rows s shown rows
-named_rows s shown rows = []
-
 -- the rows of an element, where this stands in the row in which the one before ends; those of a suggestion are that of its path, where it
--- names that, and those of its lines
+-- names that, and those of its lines, named by what they show
 abbrev pub element_rows : Renderer → Layout → ElementContext → List Cell → Element → List NamedRow
 element_rows r layout around found (element.Message message) = others (message_rows r layout around message)
 element_rows r layout around found (element.Cause snippet) = snippet_rows r layout around snippet
 element_rows r layout around found (element.Suggestion s) =
-    others (suggestion_head r layout around s) ++ named_rows s (suggestion_rows around s) (suggestion_lines r layout around found s)
+    others (suggestion_head r layout around s)
+    ++ map (λ pair. record { name = name_of_row s pair.0; cells = pair.1 }) (zip (suggestion_rows around s) (suggestion_lines r layout around found s))
 element_rows r layout around found (element.Origin origin) = others (origin_rows r layout around origin)
 element_rows r layout around found (element.Padding padding) =
     others (padding_row layout.decor layout.gutter (is_end around.next) ∷ [])
