@@ -1,9 +1,15 @@
 -- What the rows, the removed lines and the counted number of a suggestion are, by the lines that are given and how these are shown.
-use Rattle.std.proofs.Common.{ℕ, List, [], ◌∷◌}
+use Rattle.std.proofs.Common.{◌≡◌, ℕ, ◌==◌, ◌&&◌, ◌||◌, not, nat_le, Bool, true, false, Some, None, is_none, if◌then◌else◌, List, [], ◌∷◌, length, refl}
+use Rattle.std.specs.List.{slice_range}
+use Rattle.std.specs.Option.{option_map_or}
+use Rattle.std.specs.Str.{trim}
+use Rattle.snippet_splice.specs.Edits.{Edit}
+use Rattle.snippet_splice.specs.Trim.{sandwich}
 use Rattle.snippet_suggest.specs.declared.kind.DisplaySuggestion.{DisplaySuggestion}
 use Rattle.snippet_suggest.specs.declared.kind.DisplaySuggestion.TheVariants.{Underline, Diff}
 use Rattle.snippet_suggest.specs.declared.shown.SuggestionLine.{SuggestionLine}
 use Rattle.snippet_suggest.specs.declared.shown.SuggestionLine.TheVariants.{Line, Gap}
+use Rattle.snippet_suggest.specs.Kind.{is_blank_text, is_under_text, takes_away, text_under}
 use Rattle.snippet_suggest.specs.RowOrder.{Offers, Skips, SuggestionRow}
 
 -- the number that is counted where lines are folded
@@ -29,3 +35,29 @@ rows_where given kind_shown begin removed changed shown =
       | [] ↦ elim kind_shown [ Diff ↦ begin ∷ removed | kind ↦ removed ]
       | line ∷ lines ↦ elim kind_shown [ Diff ↦ begin ∷ changed | kind ↦ begin ∷ shown ]
     ]
+
+-- ---- what takes text away, by whether an edit stands over text
+
+-- whether an edit's text is blank, or keeps less than all of the text that it stands over
+abbrev keeps_less : List ℕ → Edit → Bool
+keeps_less source e =
+    is_blank_text e.text || option_map_or (λ text. is_none (sandwich (trim text) (trim e.text))) (text_under source e) true
+
+or_all : (under blank : Bool) → under ≡ (under && (blank || true))
+or_all true true = refl
+or_all true false = refl
+or_all false blank = refl
+
+pub takes_away-is : (source : List ℕ) (e : Edit) → takes_away source e ≡ (is_under_text e (text_under source e) && keeps_less source e)
+takes_away-is source e = by (nat_le e.end (length source))
+  where
+    own : List ℕ
+    own = slice_range source e.start e.end
+
+    less : List ℕ → Bool
+    less text = is_none (sandwich (trim text) (trim e.text))
+
+    by : (inside : Bool) → (if inside then not (is_blank_text own) && (is_blank_text e.text || less own) else not (e.start == e.end))
+        ≡ (is_under_text e (if inside then Some own else None) && (is_blank_text e.text || option_map_or less (if inside then Some own else None) true))
+    by true = refl
+    by false = or_all (not (e.start == e.end)) (is_blank_text e.text)
