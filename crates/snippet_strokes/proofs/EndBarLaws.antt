@@ -34,7 +34,7 @@ use Rattle.snippet_strokes.specs.EndBars.{BarEnds}
 use Rattle.snippet_strokes.proofs.BarFacts.{BarBegins, BeginsBelow}
 use Rattle.snippet_strokes.proofs.LineFacts.{AreLineRows, StrokesPainted}
 use Rattle.snippet_strokes.proofs.StrokeWords.{begun_rows, corner_by}
-use Rattle.snippet_strokes.specs.Strokes.{drawn_strokes}
+use Rattle.snippet_strokes.proofs.Drawn.{drawn_strokes}
 use Rattle.snippet_strokes.proofs.LineRowLemmas.{rows_cut}
 use Rattle.snippet_strokes.proofs.AmongLaws.{all_from_among, among_contains, contains_among, filter_map_cases}
 use Rattle.snippet_strokes.proofs.BarLaws.{bar_stands, drawn_beside}

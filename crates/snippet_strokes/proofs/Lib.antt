@@ -13,6 +13,7 @@ pub mod CellLemmas
 pub mod CrossedLaws
 pub mod CutLemmas
 pub mod DrawLemmas
+pub mod Drawn
 pub mod DrawnCells
 pub mod ElisionLemmas
 pub mod EndBarLaws

@@ -32,7 +32,7 @@ use Rattle.snippet_strokes.specs.Drawing.{row_count}
 use Rattle.snippet_strokes.specs.Painting.{painting_order}
 use Rattle.snippet_strokes.specs.SourceRows.{source_row, window_cells}
 use Rattle.snippet_strokes.proofs.StrokeWords.{role_in_source}
-use Rattle.snippet_strokes.specs.Strokes.{drawn_strokes}
+use Rattle.snippet_strokes.proofs.Drawn.{drawn_strokes}
 use Rattle.snippet_strokes.proofs.StrokeWords.{begun_rows}
 use Rattle.snippet_strokes.specs.Writes.{painted}
 use Rattle.snippet_strokes.proofs.PlacedOf.{HasTextLabel}

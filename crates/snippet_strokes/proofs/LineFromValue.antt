@@ -40,7 +40,8 @@ use Rattle.snippet_strokes.specs.Snippet.{info_rows}
 use Rattle.snippet_strokes.specs.SourceRows.{source_row, window_cells}
 use Rattle.snippet_strokes.specs.StrokeRows.{highlighted_row}
 use Rattle.snippet_strokes.proofs.StrokeWords.{role_in_source}
-use Rattle.snippet_strokes.specs.Strokes.{drawn_strokes, stroke_rows}
+use Rattle.snippet_strokes.specs.Strokes.{stroke_rows}
+use Rattle.snippet_strokes.proofs.Drawn.{drawn_strokes}
 use Rattle.snippet_strokes.proofs.StrokeWords.{begun_rows}
 use Rattle.snippet_strokes.specs.Writes.{painted}
 use Rattle.snippet_strokes.proofs.CellLemmas.{free_shown, unlisted_part}
