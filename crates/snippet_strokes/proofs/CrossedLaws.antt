@@ -19,7 +19,8 @@ use Rattle.snippet_strokes.specs.SourceRows.{bare_row}
 use Rattle.snippet_strokes.specs.Writes.{Write, painted}
 use Rattle.snippet_labels.proofs.PlacedLemmas.{entries_all}
 use Rattle.snippet_strokes.specs.declared.bars.BarStroke.TheVariants.{Solid, Top}
-use Rattle.snippet_strokes.specs.Bars.{Bar, bars_apart, ends_of_bars, has_depth, is_whole_line, with_parts}
+use Rattle.snippet_strokes.specs.Bars.{Bar, bars_apart, ends_of_bars, has_depth, is_whole_line}
+use Rattle.snippet_strokes.proofs.BarParts.{with_parts}
 use Rattle.snippet_strokes.specs.Drawing.{row_count}
 use Rattle.snippet_strokes.specs.EndBars.{IsNoBar}
 use Rattle.snippet_strokes.proofs.LineFacts.{AreLineRows, AreOwnRows, StrokesPainted}

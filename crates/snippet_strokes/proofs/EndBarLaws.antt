@@ -28,7 +28,8 @@ use Rattle.snippet_strokes.specs.declared.bars.BarStroke.{BarStroke}
 use Rattle.snippet_strokes.specs.declared.bars.BarStroke.TheVariants.{Dotted, Solid, Top}
 use Rattle.snippet_strokes.specs.Bars.{Bar, HasOwnDepth, bar_at, bar_of, bars_apart, ends_of_bars, has_depth, is_beside, is_whole_line}
 use Rattle.snippet_strokes.proofs.OneStep.{with_bar}
-use Rattle.snippet_strokes.specs.Bars.{bar_cell_part, with_parts}
+use Rattle.snippet_strokes.specs.Bars.{bar_cell_part}
+use Rattle.snippet_strokes.proofs.BarParts.{with_parts}
 use Rattle.snippet_strokes.specs.Drawing.{HasRows, row_count}
 use Rattle.snippet_strokes.specs.EndBars.{BarEnds}
 use Rattle.snippet_strokes.proofs.BarFacts.{BarBegins, BeginsBelow}

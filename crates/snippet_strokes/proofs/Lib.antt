@@ -4,6 +4,7 @@ pub mod SwapLemmas
 pub mod BarFacts
 pub mod BarLaws
 pub mod BarLemmas
+pub mod BarParts
 pub mod BarRows
 pub mod BarWrites
 pub mod BegunLemmas
