@@ -45,13 +45,15 @@ use Rattle.snippet_strokes.specs.LookedCuts.{cuts_of}
 use Rattle.snippet_labels.specs.PlacedEntries.{shifted}
 use Rattle.snippet_labels.proofs.LabelWords.{label_text}
 use Rattle.snippet_strokes.proofs.LineFacts.{AreLineRows, AreOwnRows, StrokesPainted}
-use Rattle.snippet_strokes.specs.Painting.{first_glyph, mark_end, painting_order, drawn_mark, marks_of, stroke_role}
+use Rattle.snippet_strokes.specs.Painting.{first_glyph, mark_end, painting_order, stroke_role}
 use Rattle.snippet_strokes.specs.Drawing.{row_count}
 use Rattle.snippet_labels.specs.Positions.{has_label}
 use Rattle.snippet_strokes.specs.SourceRows.{bare_row}
 use Rattle.snippet_strokes.specs.Strokes.{connector_of, connectors_of, corner_of}
 use Rattle.snippet_strokes.proofs.StrokeWords.{bar_writes, begun_rows, corner_by}
-use Rattle.snippet_strokes.specs.Strokes.{corners_of, label_of, labels_of, stems_of, drawn_strokes, column_of}
+use Rattle.snippet_strokes.specs.Strokes.{corners_of, label_of, labels_of, column_of}
+use Rattle.snippet_strokes.proofs.Drawn.{drawn_mark, drawn_strokes, marks_of}
+use Rattle.snippet_strokes.specs.StemRows.{stems_of}
 use Rattle.snippet_strokes.proofs.StrokeWords.{label_write, stem_write}
 use Rattle.snippet_strokes.specs.Writes.{Write, glyph_at, painted, stretch_of}
 use Rattle.snippet_grid.specs.Layout.{Layout, bar_cell as bar_column}

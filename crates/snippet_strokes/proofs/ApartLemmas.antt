@@ -19,11 +19,13 @@ use Rattle.snippet_model.specs.AnnotationKind.{is_primary}
 use Rattle.snippet_labels.specs.declared.positions.PlacedEntry.{PlacedEntry}
 use Rattle.snippet_labels.specs.PlacedEntries.{HasPlace, is_end_part}
 use Rattle.snippet_labels.specs.Positions.{HasItsLabel, has_label, has_stem, label_place, takes_space}
-use Rattle.snippet_strokes.specs.Apart.{FitsBefore, StandApart, free_before, reach, strokes_apart, strokes_of_part}
-use Rattle.snippet_strokes.specs.Painting.{is_painted_before, mark_end, drawn_mark, marks_of, painting_order, first_glyph, stroke_role}
+use Rattle.snippet_strokes.specs.Apart.{FitsBefore, StandApart, free_before, reach}
+use Rattle.snippet_strokes.specs.Painting.{is_painted_before, mark_end, painting_order, first_glyph, stroke_role}
 use Rattle.snippet_strokes.specs.Strokes.{connector_of, connectors_of, corner_of, corners_of, label_of, labels_of}
 use Rattle.snippet_strokes.proofs.StrokeWords.{connector_by, corner_by, label_write}
-use Rattle.snippet_strokes.specs.Strokes.{is_stem_covered, drawn_strokes, stem_of, stems_of}
+use Rattle.snippet_strokes.specs.Strokes.{stem_of}
+use Rattle.snippet_strokes.proofs.Drawn.{drawn_apart, drawn_mark, drawn_part, drawn_strokes, marks_of}
+use Rattle.snippet_strokes.specs.StemRows.{is_stem_covered, stems_of}
 use Rattle.snippet_strokes.proofs.StrokeWords.{stem_write}
 use Rattle.snippet_strokes.specs.Writes.{Write, glyph_at, painted, stretch_of}
 use Rattle.snippet_strokes.proofs.BarWrites.{All-column_of, All-stretch_of}
@@ -329,7 +331,7 @@ module _ (layout : Layout) (row count : ℕ) where
   ]
 
   -- the strokes of one entry, one list after another
-  part_painted : (e : PlacedEntry) (rows : List (List Cell)) → painted (strokes_of_part layout row count (e ∷ [])) rows
+  part_painted : (e : PlacedEntry) (rows : List (List Cell)) → painted (drawn_part layout row count (e ∷ [])) rows
       ≡ painted (label_of layout (row + 1) e) (painted (drawn_mark layout (row + 1) e)
       (painted (connector_of layout (row + 1) e) (painted (corner_of layout row count e) rows)))
   part_painted e rows =
@@ -348,7 +350,7 @@ module _ (layout : Layout) (row count : ℕ) where
   together : (placed : List PlacedEntry) (free : ℕ) → StandApart free placed → All (λ e. HasPlace e.entry) placed → All HasItsLabel placed
       → (rows : List (List Cell)) → painted (marks_of layout (row + 1) placed) (painted (labels_of layout (row + 1) placed)
       (painted (corners_of layout row count placed) (painted (connectors_of layout (row + 1) placed) rows)))
-      ≡ painted (strokes_apart layout row count placed) rows
+      ≡ painted (drawn_apart layout row count placed) rows
   together [] free apart places its rows = refl
   together (e ∷ left) free apart places its rows =
       let bars : List Write = corner_of layout row count e in
@@ -381,10 +383,10 @@ module _ (layout : Layout) (row count : ℕ) where
       ap (painted (mark ++ marks)) (painted-append label labels x ∙ sym (move_all n labels label x labels_by begin.1))
       ∙ painted-append mark marks (painted label y) ∙ sym (move_all n marks mark (painted label y) marks_by begin.0)
       ∙ ap (painted mark) (sym (move_all n marks label y marks_by begin.1)) ∙ sym (move_all to mark label z mark_by label_from) in
-      let lower : (w : List (List Cell)) → w ≡ painted (strokes_apart layout row count left) rows
-      → painted label (painted mark (painted line (painted bars w))) ≡ painted (strokes_apart layout row count (e ∷ left)) rows = λ w is.
-      ap (λ v. painted label (painted mark (painted line (painted bars v)))) is ∙ sym (part_painted e (painted (strokes_apart layout row count left) rows))
-      ∙ sym (painted-append (strokes_apart layout row count left) (strokes_of_part layout row count (e ∷ [])) rows) in
+      let lower : (w : List (List Cell)) → w ≡ painted (drawn_apart layout row count left) rows
+      → painted label (painted mark (painted line (painted bars w))) ≡ painted (drawn_apart layout row count (e ∷ left)) rows = λ w is.
+      ap (λ v. painted label (painted mark (painted line (painted bars v)))) is ∙ sym (part_painted e (painted (drawn_apart layout row count left) rows))
+      ∙ sym (painted-append (drawn_apart layout row count left) (drawn_part layout row count (e ∷ [])) rows) in
       let ih = together left f apart.1 those their_own rows in
       elim (cases_Bool (takes_space e)) [
         | inl spaced ↦
@@ -392,7 +394,7 @@ module _ (layout : Layout) (row count : ℕ) where
             let quiet : (v : List (List Cell)) → painted marks (painted labels v) ≡ v = λ v.
             ap (λ ws. painted ws (painted labels v)) none.3 ∙ ap (λ ws. painted ws v) none.2 in
             let bare : painted corners (painted lines rows) ≡ rows = ap (λ ws. painted ws (painted lines rows)) none.1 ∙ ap (λ ws. painted ws rows) none.0 in
-            let same : rows ≡ painted (strokes_apart layout row count left) rows =
+            let same : rows ≡ painted (drawn_apart layout row count left) rows =
             sym (ap (λ v. painted marks (painted labels v)) bare ∙ quiet rows) ∙ ih in
             let under : x ≡ painted line (painted bars rows) =
             ap (λ ws. painted (bars ++ ws) (painted (line ++ lines) rows)) none.1
@@ -406,7 +408,7 @@ module _ (layout : Layout) (row count : ℕ) where
             let no_line : line ≡ [] = no_connector layout (row + 1) count e e.entry.annotation_type plain in
             let under : x ≡ painted corners (painted lines rows) =
             ap (λ ws. painted (ws ++ corners) (painted (line ++ lines) rows)) no_bars ∙ ap (λ ws. painted corners (painted (ws ++ lines) rows)) no_line in
-            let w : List (List Cell) = painted (strokes_apart layout row count left) rows in
+            let w : List (List Cell) = painted (drawn_apart layout row count left) rows in
             upper ∙ ap (λ v. painted label (painted mark v)) (ap (λ v. painted marks (painted labels v)) under ∙ ih)
             ∙ sym (ap (λ ws. painted label (painted mark (painted line (painted ws w)))) no_bars
             ∙ ap (λ ws. painted label (painted mark (painted ws w))) no_line)
@@ -415,7 +417,7 @@ module _ (layout : Layout) (row count : ℕ) where
 
   -- so all strokes of a line may be painted entry by entry where these stand apart
   pub apart_painted : (placed : List PlacedEntry) (free : ℕ) → StandApart free placed → All (λ e. HasPlace e.entry) placed → All HasItsLabel placed
-      → (rows : List (List Cell)) → painted (strokes_apart layout row count placed) rows
+      → (rows : List (List Cell)) → painted (drawn_apart layout row count placed) rows
       ≡ painted (drawn_strokes layout row count placed (painting_order placed)) rows
   apart_painted placed free apart places its rows =
       let joined : List (List Cell) = painted (connectors_of layout (row + 1) placed) rows in

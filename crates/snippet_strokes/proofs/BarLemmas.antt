@@ -24,7 +24,8 @@ use Rattle.snippet_strokes.proofs.PlainEntries.{are_plain, wide_entries}
 use Rattle.snippet_model.specs.FreeRows.{IsFreeCell}
 use Rattle.snippet_style.proofs.StrokeLemmas.{bars_among}
 use Rattle.snippet_strokes.proofs.StrokeGlyphs.{free_bars}
-use Rattle.snippet_strokes.specs.Bars.{HasBarRoom, StandsBeside, bar_glyph, bar_cell_part, with_parts}
+use Rattle.snippet_strokes.specs.Bars.{HasBarRoom, StandsBeside, bar_glyph, bar_cell_part}
+use Rattle.snippet_strokes.proofs.BarParts.{with_parts}
 use Rattle.snippet_strokes.proofs.OneStep.{with_bar}
 use Rattle.snippet_strokes.proofs.DrawnCells.{BarsDrawn}
 use Rattle.snippet_strokes.specs.declared.bars.OpenBar.{OpenBar}

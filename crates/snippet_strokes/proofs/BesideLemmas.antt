@@ -20,7 +20,7 @@ use Rattle.snippet_strokes.specs.declared.bars.BarStroke.TheVariants.{Top, Solid
 use Rattle.snippet_strokes.specs.declared.bars.OpenBar.{OpenBar}
 use Rattle.snippet_strokes.specs.Bars.{HasBarRoom, bar_cell_part, barred, bars_apart, has_depth}
 use Rattle.snippet_strokes.proofs.OneStep.{with_bar}
-use Rattle.snippet_strokes.specs.Bars.{with_parts}
+use Rattle.snippet_strokes.proofs.BarParts.{with_parts}
 use Rattle.snippet_strokes.specs.SourceRows.{with_cells}
 use Rattle.snippet_strokes.specs.StrokeRows.{highlighted_row}
 use Rattle.snippet_strokes.proofs.StrokeWords.{role_in_source}

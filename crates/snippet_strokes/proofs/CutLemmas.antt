@@ -33,7 +33,8 @@ use Rattle.snippet_strokes.specs.Cuts.{cut_middle, overlapped}
 use Rattle.snippet_strokes.specs.Drawing.{row_count}
 use Rattle.snippet_strokes.specs.Painting.{painting_order}
 use Rattle.snippet_labels.specs.Positions.{placed_of}
-use Rattle.snippet_strokes.specs.Strokes.{drawn_strokes, stroke_rows}
+use Rattle.snippet_strokes.specs.Strokes.{stroke_rows}
+use Rattle.snippet_strokes.proofs.Drawn.{drawn_strokes}
 use Rattle.snippet_strokes.specs.Writes.{painted}
 use Rattle.snippet_strokes.proofs.StrokeWords.{begun_rows}
 use Rattle.snippet_strokes.proofs.EveryStroke.{strokes_painted}

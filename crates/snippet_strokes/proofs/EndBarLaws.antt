@@ -28,13 +28,14 @@ use Rattle.snippet_strokes.specs.declared.bars.BarStroke.{BarStroke}
 use Rattle.snippet_strokes.specs.declared.bars.BarStroke.TheVariants.{Dotted, Solid, Top}
 use Rattle.snippet_strokes.specs.Bars.{Bar, HasOwnDepth, bar_at, bar_of, bars_apart, ends_of_bars, has_depth, is_beside, is_whole_line}
 use Rattle.snippet_strokes.proofs.OneStep.{with_bar}
-use Rattle.snippet_strokes.specs.Bars.{bar_cell_part, with_parts}
+use Rattle.snippet_strokes.specs.Bars.{bar_cell_part}
+use Rattle.snippet_strokes.proofs.BarParts.{with_parts}
 use Rattle.snippet_strokes.specs.Drawing.{HasRows, row_count}
 use Rattle.snippet_strokes.specs.EndBars.{BarEnds}
 use Rattle.snippet_strokes.proofs.BarFacts.{BarBegins, BeginsBelow}
 use Rattle.snippet_strokes.proofs.LineFacts.{AreLineRows, StrokesPainted}
 use Rattle.snippet_strokes.proofs.StrokeWords.{begun_rows, corner_by}
-use Rattle.snippet_strokes.specs.Strokes.{drawn_strokes}
+use Rattle.snippet_strokes.proofs.Drawn.{drawn_strokes}
 use Rattle.snippet_strokes.proofs.LineRowLemmas.{rows_cut}
 use Rattle.snippet_strokes.proofs.AmongLaws.{all_from_among, among_contains, contains_among, filter_map_cases}
 use Rattle.snippet_strokes.proofs.BarLaws.{bar_stands, drawn_beside}

@@ -15,7 +15,8 @@ use Rattle.snippet_style.specs.Cell.{Cell, SPACE, text_cells, written}
 use Rattle.snippet_style.specs.Glyphs.{strokes_of}
 use Rattle.snippet_style.specs.declared.glyphs.Strokes.{Strokes}
 use Rattle.snippet_style.specs.declared.role.ElementStyle.{ElementStyle}
-use Rattle.snippet_strokes.specs.Painting.{drawn_mark, first_glyph, mark_end, mark_of, stroke_role}
+use Rattle.snippet_strokes.specs.Painting.{first_glyph, mark_end, mark_of, stroke_role}
+use Rattle.snippet_strokes.proofs.Drawn.{drawn_mark}
 use Rattle.snippet_strokes.specs.Writes.{Write, glyph_at, painted, stretch_of}
 use Rattle.snippet_strokes.proofs.EveryStem.{rewritten}
 use Rattle.snippet_strokes.proofs.WriteLemmas.{drawn_mark-none, less, painted-append, stretch_of-none}
@@ -163,7 +164,7 @@ module _ (layout : Layout) (row : ℕ) (e : PlacedEntry) (rows : List (List Cell
   nothing : (ws : List Write) → painted (ws ++ []) rows ≡ painted ws rows
   nothing ws = painted-append ws [] rows
 
-  mark_same : painted (mark_of layout row e) rows ≡ painted (drawn_mark layout row e) rows
+  pub mark_same : painted (mark_of layout row e) rows ≡ painted (drawn_mark layout row e) rows
   mark_same =
       elim (cases_lt end start) [
         | inl turned ↦

@@ -12,8 +12,8 @@ use Rattle.snippet_labels.specs.declared.positions.PlacedEntry.{PlacedEntry}
 use Rattle.snippet_labels.specs.Positions.{has_stem}
 use Rattle.snippet_style.specs.Cell.{Cell, SPACE, text_cells, written}
 use Rattle.snippet_strokes.specs.declared.stem_rows.Stem.{Stem}
-use Rattle.snippet_strokes.specs.StemRows.{cell_of_stem, stem_down, stem_from}
-use Rattle.snippet_strokes.specs.Strokes.{is_stem_covered, stem_of, stems_of}
+use Rattle.snippet_strokes.specs.StemRows.{cell_of_stem, is_stem_covered, stem_down, stem_from, stems_of}
+use Rattle.snippet_strokes.specs.Strokes.{stem_of}
 use Rattle.snippet_strokes.specs.Writes.{Write, painted}
 use Rattle.snippet_strokes.proofs.OneStep.{written_by}
 use Rattle.snippet_strokes.proofs.StemRowLemmas.{down_rows, move_rows}

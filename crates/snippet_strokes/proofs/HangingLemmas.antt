@@ -14,8 +14,9 @@ use Rattle.snippet_strokes.specs.Drawing.{AreEnough, HasRows}
 use Rattle.snippet_strokes.specs.Drawable.{IsReady}
 use Rattle.snippet_strokes.proofs.BegunLemmas.{rows_begun}
 use Rattle.snippet_strokes.proofs.StemWrites.{DrawsFrom-stems}
-use Rattle.snippet_strokes.specs.Painting.{marks_of}
-use Rattle.snippet_strokes.specs.Strokes.{connector_of, connectors_of, corner_of, corners_of, labels_of, drawn_strokes, stems_of}
+use Rattle.snippet_strokes.specs.Strokes.{connector_of, connectors_of, corner_of, corners_of, labels_of}
+use Rattle.snippet_strokes.proofs.Drawn.{drawn_strokes, marks_of}
+use Rattle.snippet_strokes.specs.StemRows.{stems_of}
 use Rattle.snippet_strokes.proofs.StrokeWords.{connector_by, corner_by}
 use Rattle.snippet_strokes.specs.Writes.{painted}
 use Rattle.snippet_strokes.proofs.StrokeWrites.{marks_painted, under_painted}

@@ -4,6 +4,7 @@ pub mod SwapLemmas
 pub mod BarFacts
 pub mod BarLaws
 pub mod BarLemmas
+pub mod BarParts
 pub mod BarRows
 pub mod BarWrites
 pub mod BegunLemmas
@@ -13,6 +14,7 @@ pub mod CellLemmas
 pub mod CrossedLaws
 pub mod CutLemmas
 pub mod DrawLemmas
+pub mod Drawn
 pub mod DrawnCells
 pub mod ElisionLemmas
 pub mod EndBarLaws

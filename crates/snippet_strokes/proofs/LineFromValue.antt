@@ -29,7 +29,8 @@ use Rattle.snippet_labels.specs.declared.positions.PlacedEntry.{PlacedEntry}
 use Rattle.snippet_strokes.specs.declared.bars.BarStroke.TheVariants.{Top}
 use Rattle.snippet_strokes.specs.declared.bars.OpenBar.{OpenBar}
 use Rattle.snippet_strokes.specs.declared.snippet.LineView.{LineView}
-use Rattle.snippet_strokes.specs.Bars.{ends_of_bars, is_whole_line, with_parts}
+use Rattle.snippet_strokes.specs.Bars.{ends_of_bars, is_whole_line}
+use Rattle.snippet_strokes.proofs.BarParts.{with_parts}
 use Rattle.snippet_strokes.specs.Cuts.{overlapped}
 use Rattle.snippet_strokes.proofs.StrokeWords.{cut_row}
 use Rattle.snippet_strokes.specs.LookedCuts.{cuts_of}
@@ -40,7 +41,8 @@ use Rattle.snippet_strokes.specs.Snippet.{info_rows}
 use Rattle.snippet_strokes.specs.SourceRows.{source_row, window_cells}
 use Rattle.snippet_strokes.specs.StrokeRows.{highlighted_row}
 use Rattle.snippet_strokes.proofs.StrokeWords.{role_in_source}
-use Rattle.snippet_strokes.specs.Strokes.{drawn_strokes, stroke_rows}
+use Rattle.snippet_strokes.specs.Strokes.{stroke_rows}
+use Rattle.snippet_strokes.proofs.Drawn.{drawn_strokes}
 use Rattle.snippet_strokes.proofs.StrokeWords.{begun_rows}
 use Rattle.snippet_strokes.specs.Writes.{painted}
 use Rattle.snippet_strokes.proofs.CellLemmas.{free_shown, unlisted_part}

@@ -12,7 +12,8 @@ use Rattle.snippet_parts.specs.declared.entries.LineAnnotation.{LineAnnotation}
 use Rattle.snippet_strokes.specs.declared.bars.BarStroke.TheVariants.{Top}
 use Rattle.snippet_grid.specs.Layout.{Layout}
 use Rattle.snippet_labels.specs.declared.positions.PlacedEntry.{PlacedEntry}
-use Rattle.snippet_strokes.specs.Bars.{ends_of_bars, is_whole_line, with_parts}
+use Rattle.snippet_strokes.specs.Bars.{ends_of_bars, is_whole_line}
+use Rattle.snippet_strokes.proofs.BarParts.{with_parts}
 use Rattle.snippet_labels.specs.PlacedEntries.{shifted}
 use Rattle.snippet_strokes.proofs.PlainEntries.{wide_entries}
 use Rattle.snippet_strokes.proofs.LineFacts.{StrokesPainted}
@@ -26,7 +27,8 @@ use Rattle.snippet_strokes.proofs.StrokeWords.{cut_row}
 use Rattle.snippet_strokes.specs.LookedCuts.{cut_rows, cuts_of, is_wide_at}
 use Rattle.snippet_strokes.proofs.SeenRows.{CutsRows, IsCut}
 use Rattle.snippet_strokes.specs.SourceRows.{bare_row}
-use Rattle.snippet_strokes.specs.Strokes.{drawn_strokes, stroke_rows}
+use Rattle.snippet_strokes.specs.Strokes.{stroke_rows}
+use Rattle.snippet_strokes.proofs.Drawn.{drawn_strokes}
 use Rattle.snippet_strokes.proofs.StrokeWords.{begun_rows}
 use Rattle.snippet_strokes.specs.Writes.{Write, painted}
 use Rattle.snippet_strokes.proofs.PaintOrder.{IsPermutation-painting_order}

@@ -9,7 +9,7 @@ use Rattle.snippet_labels.specs.declared.positions.PlacedEntry.{PlacedEntry}
 use Rattle.snippet_labels.specs.PlacedEntries.{HasPlace, shifted}
 use Rattle.snippet_labels.proofs.PlacedLemmas.{entries_all}
 use Rattle.snippet_grid.specs.Grid.{row_at}
-use Rattle.snippet_strokes.specs.Painting.{marks_of, painting_order}
+use Rattle.snippet_strokes.specs.Painting.{painting_order}
 use Rattle.snippet_labels.specs.Positions.{ArePlaced}
 use Rattle.snippet_strokes.specs.EntryMarks.{HasBarCell}
 use Rattle.snippet_strokes.proofs.PlainEntries.{wide_entries}
@@ -20,7 +20,9 @@ use Rattle.snippet_strokes.proofs.MarkWriteLemmas.{Painted-marks}
 use Rattle.snippet_strokes.specs.Drawable.{AreDrawable}
 use Rattle.snippet_strokes.specs.Drawing.{AreEnough, HasPlaceAmong, row_count}
 use Rattle.snippet_strokes.proofs.LineFacts.{StrokesPainted}
-use Rattle.snippet_strokes.specs.Strokes.{connectors_of, corners_of, labels_of, drawn_strokes, stems_of}
+use Rattle.snippet_strokes.specs.Strokes.{connectors_of, corners_of, labels_of}
+use Rattle.snippet_strokes.proofs.Drawn.{drawn_strokes, marks_of}
+use Rattle.snippet_strokes.specs.StemRows.{stems_of}
 use Rattle.snippet_strokes.proofs.StrokeWords.{begun_rows}
 use Rattle.snippet_strokes.proofs.BarWrites.{DrawsBarCells-corners, DrawsFrom-connectors}
 use Rattle.snippet_strokes.proofs.BegunLemmas.{rows_begun, rows_ready}

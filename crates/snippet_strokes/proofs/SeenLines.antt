@@ -20,7 +20,8 @@ use Rattle.snippet_window.specs.declared.margin.Margin.{Margin}
 use Rattle.snippet_labels.specs.PlacedEntries.{shifted}
 use Rattle.snippet_strokes.specs.declared.bars.OpenBar.{OpenBar}
 use Rattle.snippet_strokes.specs.declared.bars.BarStroke.TheVariants.{Solid, Top}
-use Rattle.snippet_strokes.specs.Bars.{HasBarRoom, bars_apart, ends_of_bars, is_whole_line, open_below, with_parts}
+use Rattle.snippet_strokes.specs.Bars.{HasBarRoom, bars_apart, ends_of_bars, is_whole_line, open_below}
+use Rattle.snippet_strokes.proofs.BarParts.{with_parts}
 use Rattle.snippet_strokes.specs.Drawable.{AreDrawable}
 use Rattle.snippet_strokes.proofs.LineFacts.{AreLineRows, AreOwnRows, CanBeShown, IsHighlighted, IsSourceRow, ShowsLine}
 use Rattle.snippet_strokes.specs.declared.snippet.LineView.{LineView}

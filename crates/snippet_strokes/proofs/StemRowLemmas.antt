@@ -14,8 +14,7 @@ use Rattle.snippet_labels.specs.Positions.{has_stem}
 use Rattle.snippet_style.proofs.CellLemmas.{length-written}
 use Rattle.snippet_style.specs.Cell.{Cell, SPACE, text_cells, written}
 use Rattle.snippet_strokes.specs.declared.stem_rows.Stem.{Stem}
-use Rattle.snippet_strokes.specs.StemRows.{cell_across, cell_of_stem, stem_down, stem_from}
-use Rattle.snippet_strokes.specs.Strokes.{is_stem_covered, stems_of}
+use Rattle.snippet_strokes.specs.StemRows.{cell_across, cell_of_stem, is_stem_covered, stem_down, stem_from, stems_of}
 use Rattle.snippet_strokes.proofs.StrokeWords.{stem_write}
 use Rattle.snippet_strokes.specs.Writes.{Write, painted}
 use Rattle.snippet_strokes.proofs.OneStep.{written_by}

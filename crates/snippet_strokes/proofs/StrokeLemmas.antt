@@ -21,7 +21,7 @@ use Rattle.snippet_strokes.proofs.PlainEntries.{EntryCovers, are_plain, is_singl
 use Rattle.snippet_labels.specs.PlacedEntries.{HasPlace, label_role}
 use Rattle.snippet_labels.proofs.LabelWords.{label_text}
 use Rattle.snippet_model.specs.FreeRows.{IsFreeCell}
-use Rattle.snippet_strokes.specs.Painting.{mark_end, marks_of, painting_order}
+use Rattle.snippet_strokes.specs.Painting.{mark_end, painting_order}
 use Rattle.snippet_strokes.proofs.PaintedMarks.{IsPaintedAt, AreMarked, StandsWhole}
 use Rattle.snippet_strokes.specs.Writes.{painted}
 use Rattle.snippet_strokes.specs.Drawing.{HasRows, row_count}
@@ -32,7 +32,9 @@ use Rattle.snippet_strokes.proofs.SeenRows.{AreSeen, CutsRows, HasNoBars, IsCut,
 use Rattle.snippet_style.specs.Separators.{separator_row}
 use Rattle.snippet_strokes.proofs.DrawLemmas.{DrawsFrom-more, bar_space}
 use Rattle.snippet_strokes.specs.Labels.{IsStrokeCell}
-use Rattle.snippet_strokes.specs.Strokes.{connectors_of, corners_of, labels_of, stems_of, drawn_strokes}
+use Rattle.snippet_strokes.specs.Strokes.{connectors_of, corners_of, labels_of}
+use Rattle.snippet_strokes.proofs.Drawn.{drawn_strokes, marks_of}
+use Rattle.snippet_strokes.specs.StemRows.{stems_of}
 use Rattle.snippet_strokes.proofs.LabelPlaces.{HasStrokesBeside, LabelsStand-placed}
 use Rattle.snippet_strokes.proofs.StrokeCells.{cell_of_strokes}
 use Rattle.snippet_strokes.proofs.StemCells.{IsHung, all_hung}

@@ -16,10 +16,10 @@ use Rattle.snippet_strokes.specs.Drawing.{foot_glyph}
 use Rattle.snippet_labels.specs.Positions.{has_label, label_place}
 use Rattle.snippet_strokes.specs.Writes.{Write, glyph_at, painted}
 use Rattle.snippet_strokes.proofs.OneStep.{written_by}
-use Rattle.snippet_strokes.specs.Strokes.{column_of, connectors_of, corners_of, label_of, labels_of, stems_of}
+use Rattle.snippet_strokes.specs.Strokes.{column_of, connectors_of, corners_of, label_of, labels_of}
 use Rattle.snippet_strokes.proofs.StrokeWords.{label_write, stem_write}
-use Rattle.snippet_strokes.specs.Strokes.{drawn_strokes, strokes_under_marks}
-use Rattle.snippet_strokes.specs.Painting.{marks_of}
+use Rattle.snippet_strokes.proofs.Drawn.{drawn_strokes, drawn_under_marks, marks_of}
+use Rattle.snippet_strokes.specs.StemRows.{stems_of}
 use Rattle.snippet_strokes.proofs.WriteLemmas.{painted-append}
 
 -- a label is written where the entry has one
@@ -76,7 +76,7 @@ column_of-none start cell glyph role =
 pub under_painted : (layout : Layout) (row count all : ℕ) (placed : List PlacedEntry) (begun joined barred stemmed labelled : List (List Cell))
     → count ≡ all → joined ≡ painted (connectors_of layout (row + 1) placed) begun → barred ≡ painted (corners_of layout row count placed) joined
     → stemmed ≡ painted (stems_of layout (row + 1) placed) barred → labelled ≡ painted (labels_of layout (row + 1) placed) stemmed
-    → labelled ≡ painted (strokes_under_marks layout row all placed) begun
+    → labelled ≡ painted (drawn_under_marks layout row all placed) begun
 under_painted layout row count all placed begun joined barred stemmed labelled is_all lines bars stems labels =
     let one : List Write = connectors_of layout (row + 1) placed in
     let two : List Write = corners_of layout row all placed in
@@ -90,8 +90,8 @@ under_painted layout row count all placed begun joined barred stemmed labelled i
 
 -- and the marks over them
 pub marks_painted : (layout : Layout) (row all : ℕ) (placed order : List PlacedEntry) (begun labelled new : List (List Cell))
-    → labelled ≡ painted (strokes_under_marks layout row all placed) begun → new ≡ painted (marks_of layout (row + 1) order) labelled
+    → labelled ≡ painted (drawn_under_marks layout row all placed) begun → new ≡ painted (marks_of layout (row + 1) order) labelled
     → new ≡ painted (drawn_strokes layout row all placed order) begun
 marks_painted layout row all placed order begun labelled new under marks =
     marks ∙ ap (painted (marks_of layout (row + 1) order)) under
-    ∙ sym (painted-append (strokes_under_marks layout row all placed) (marks_of layout (row + 1) order) begun)
+    ∙ sym (painted-append (drawn_under_marks layout row all placed) (marks_of layout (row + 1) order) begun)

@@ -21,11 +21,13 @@ use Rattle.snippet_strokes.specs.Cuts.{overlapped}
 use Rattle.snippet_strokes.proofs.StrokeWords.{cut_row}
 use Rattle.snippet_strokes.specs.LookedCuts.{cuts_of}
 use Rattle.snippet_strokes.specs.Drawing.{HasRows, row_count}
-use Rattle.snippet_strokes.specs.Painting.{first_glyph, mark_end, drawn_mark, marks_of, painting_order, stroke_role}
+use Rattle.snippet_strokes.specs.Painting.{first_glyph, mark_end, painting_order, stroke_role}
 use Rattle.snippet_strokes.specs.SourceRows.{bare_row}
 use Rattle.snippet_strokes.specs.Strokes.{column_of, connector_of, connectors_of, corner_of, corners_of, label_of}
 use Rattle.snippet_strokes.proofs.StrokeWords.{bar_writes, begun_rows, corner_by}
-use Rattle.snippet_strokes.specs.Strokes.{labels_of, drawn_strokes, stems_of, stroke_rows}
+use Rattle.snippet_strokes.specs.Strokes.{labels_of, stroke_rows}
+use Rattle.snippet_strokes.proofs.Drawn.{drawn_mark, drawn_strokes, marks_of}
+use Rattle.snippet_strokes.specs.StemRows.{stems_of}
 use Rattle.snippet_strokes.specs.Writes.{Write, glyph_at, painted, stretch_of}
 use Rattle.snippet_strokes.proofs.CellLemmas.{above_zero}
 use Rattle.snippet_strokes.proofs.BarWrites.{All-connector_of, All-stretch_of}

@@ -1,9 +1,10 @@
 -- Strokes that stand side by side in the row of the marks.
 use Rattle.std.specs.Prelude.{◌≡◌, ◌+◌, ◌<◌, ◌≤◌, ◌==◌, ◌++◌, ℕ, true, List, [], ◌∷◌, if◌then◌else◌, length}
+use Rattle.std.specs.List.{flat_map}
 use Rattle.snippet_grid.specs.Layout.{Layout}
 use Rattle.snippet_labels.specs.declared.positions.PlacedEntry.{PlacedEntry}
 use Rattle.snippet_labels.specs.Positions.{has_label, takes_space}
-use Rattle.snippet_strokes.specs.Painting.{marks_of}
+use Rattle.snippet_strokes.specs.Painting.{mark_of}
 use Rattle.snippet_strokes.specs.Strokes.{connectors_of, corners_of, labels_of}
 use Rattle.snippet_strokes.specs.Writes.{Write}
 
@@ -32,7 +33,8 @@ StandApart free (e ∷ left) = FitsBefore free e × StandApart (free_before e fr
 -- the strokes of some entries that have no stem, from left to right
 abbrev pub strokes_of_part : Layout → ℕ → ℕ → List PlacedEntry → List Write
 strokes_of_part layout row count part =
-    corners_of layout row count part ++ connectors_of layout (row + 1) part ++ marks_of layout (row + 1) part ++ labels_of layout (row + 1) part
+    corners_of layout row count part ++ connectors_of layout (row + 1) part ++ flat_map (mark_of layout (row + 1)) part
+    ++ labels_of layout (row + 1) part
 
 -- those of entries that stand apart, one entry after another from left to right
 abbrev pub strokes_apart : Layout → ℕ → ℕ → List PlacedEntry → List Write

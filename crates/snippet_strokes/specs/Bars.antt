@@ -101,17 +101,13 @@ abbrev pub bar_cell_part : Layout → BarStroke → OpenBar → Cell
 bar_cell_part layout stroke bar =
     unlinked_cell (underline_role bar.primary) (bar_glyph stroke layout.decor bar.primary)
 
--- a row with a part of each of some bars
-abbrev pub with_parts : Layout → BarStroke → List OpenBar → List Cell → List Cell
-with_parts layout stroke bars row = with_bars layout (part_glyph stroke) bars row
-
 -- rows of which each from `row` on is changed by a rule
 abbrev pub changed_from : (List Cell → List Cell) → ℕ → List (List Cell) → List (List Cell)
 changed_from rule row rows = take row rows ++ map rule (drop row rows)
 
 -- rows with parts of these bars in each from `row` on
 abbrev pub barred : Layout → BarStroke → List OpenBar → ℕ → List (List Cell) → List (List Cell)
-barred layout stroke bars row rows = changed_from (with_parts layout stroke bars) row rows
+barred layout stroke bars row rows = changed_from (with_bars layout (part_glyph stroke) bars) row rows
 
 -- whether an entry of this line is drawn by bars alone: it is a bar, or a start with nothing but whitespace before it
 abbrev pub is_beside : List ℕ → LineAnnotation → Bool

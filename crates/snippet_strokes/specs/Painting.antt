@@ -41,7 +41,7 @@ mark_of layout row e =
     stretch_of row from (code_cell layout e.entry.end.display) strokes.underline (stroke_role e)
     ++ (if nat_le e.entry.start.display e.entry.end.display && (takes_space e || has_stem e) then glyph_at row from own (stroke_role e) ∷ [] else [])
 
--- ---- marks, as they are drawn cell by cell
+-- ---- what the code finds for a mark
 
 -- the glyph at the first column of an entry's mark: of a start or an end the corner where the line to its bar meets the mark,
 -- or where a stem leads down to that line the stem's top; of another entry the top of the stem that its label hangs from,
@@ -57,15 +57,3 @@ first_glyph decor e =
 abbrev pub mark_end : PlacedEntry → ℕ
 mark_end e =
     if e.entry.start.display == e.entry.end.display && (takes_space e || has_stem e) then e.entry.end.display + 1 else e.entry.end.display
-
--- the mark of an entry, if it takes any cell: its first glyph, and the underline after it
-abbrev pub drawn_mark : Layout → ℕ → PlacedEntry → List Write
-drawn_mark layout row e =
-    let from = code_cell layout e.entry.start.display in
-    let to = code_cell layout (mark_end e) in
-    if nat_lt from to then glyph_at row from (first_glyph layout.decor e) (stroke_role e) ∷ stretch_of row (from + 1) to
-    (strokes_of layout.decor (is_primary e.entry.kind)).underline (stroke_role e) else []
-
--- the marks of some entries, in the order in which they are painted, as their painter promises them
-abbrev pub marks_of : Layout → ℕ → List PlacedEntry → List Write
-marks_of layout row order = flat_map (drawn_mark layout row) order

@@ -1,14 +1,30 @@
--- Stems, row by row.
-use Rattle.std.specs.Prelude.{ℕ, ◌+◌, ◌-◌, ◌==◌, nat_le, List, [], ◌∷◌, map, if◌then◌else◌}
+-- Which stems the code draws, and these row by row.
+use Rattle.std.specs.Prelude.{ℕ, ◌+◌, ◌-◌, ◌==◌, ◌&&◌, nat_le, Bool, false, List, [], ◌∷◌, ◌++◌, map, if◌then◌else◌}
 use Rattle.std.specs.List.{range_with_len}
 use Rattle.snippet_grid.specs.Layout.{Layout, code_cell}
 use Rattle.snippet_labels.specs.declared.positions.PlacedEntry.{PlacedEntry}
+use Rattle.snippet_labels.specs.Positions.{has_stem}
 use Rattle.snippet_model.specs.AnnotationKind.{is_primary}
 use Rattle.snippet_style.specs.Glyphs.{strokes_of}
 use Rattle.snippet_strokes.specs.declared.stem_rows.Stem.{Stem}
 use Rattle.snippet_strokes.specs.Drawing.{foot_glyph}
 use Rattle.snippet_strokes.specs.Painting.{stroke_role}
+use Rattle.snippet_strokes.specs.Strokes.{stem_of}
 use Rattle.snippet_strokes.specs.Writes.{Write, glyph_at}
+
+-- whether the stem of the next of some later entries covers that of an entry: it stands in the same column, and reaches as far down
+abbrev pub is_stem_covered : PlacedEntry → List PlacedEntry → Bool
+is_stem_covered e [] = false
+is_stem_covered e (next ∷ later) =
+    has_stem next && (next.entry.start.display == e.entry.start.display && nat_le e.position next.position)
+
+-- the stems of some entries, but those that the next one's covers
+abbrev pub stems_of : Layout → ℕ → List PlacedEntry → List Write
+stems_of layout row [] = []
+stems_of layout row (e ∷ later) =
+    (if is_stem_covered e later then [] else stem_of layout row e) ++ stems_of layout row later
+
+-- ---- a stem, row by row
 
 -- the stem of an entry
 abbrev pub stem_from : Layout → PlacedEntry → Stem

@@ -1,6 +1,6 @@
 -- What is written for the strokes of a line, as lists of writes: its labels, its stems, the lines that lead to bars, the bars of
 -- the spans that begin or end on it, and all of them, over which its marks are painted.
-use Rattle.std.specs.Prelude.{ℕ, ◌+◌, ◌-◌, List, [], ◌∷◌, map, if◌then◌else◌, ◌==◌, ◌&&◌, nat_le, Bool, false, ◌++◌, replicate, drop, take, fold}
+use Rattle.std.specs.Prelude.{ℕ, ◌+◌, ◌-◌, List, [], ◌∷◌, map, if◌then◌else◌, ◌==◌, ◌&&◌, Bool, ◌++◌, replicate, drop, take, fold}
 use Rattle.std.specs.List.{range_with_len, flat_map, zip}
 use Rattle.snippet_style.specs.declared.role.ElementStyle.{ElementStyle}
 use Rattle.snippet_strokes.specs.Writes.{Write, glyph_at, painted, stretch_of}
@@ -14,7 +14,7 @@ use Rattle.snippet_parts.specs.declared.entries.LineAnnotation.{LineAnnotation}
 use Rattle.snippet_style.specs.Cell.{Cell}
 use Rattle.snippet_style.specs.Separators.{separator_row}
 use Rattle.snippet_strokes.specs.Drawing.{row_count}
-use Rattle.snippet_strokes.specs.Painting.{drawn_mark, mark_of, painting_order, stroke_role}
+use Rattle.snippet_strokes.specs.Painting.{mark_of, painting_order, stroke_role}
 use Rattle.snippet_labels.specs.Positions.{has_label, has_stem, label_place, placed_of, is_start_part, takes_space}
 use Rattle.snippet_strokes.specs.Cuts.{cut_middle, overlapped}
 use Rattle.snippet_strokes.specs.SourceRows.{bare_row}
@@ -106,25 +106,8 @@ corners_of layout row count placed = flat_map (corner_of layout row count) place
 abbrev pub labels_of : Layout → ℕ → List PlacedEntry → List Write
 labels_of layout row placed = flat_map (label_of layout row) placed
 
--- whether the stem of the next of some later entries covers that of an entry: it stands in the same column, and reaches as far down
-abbrev pub is_stem_covered : PlacedEntry → List PlacedEntry → Bool
-is_stem_covered e [] = false
-is_stem_covered e (next ∷ later) =
-    has_stem next && (next.entry.start.display == e.entry.start.display && nat_le e.position next.position)
-
--- the stems of some entries, but those that the next one's covers
-abbrev pub stems_of : Layout → ℕ → List PlacedEntry → List Write
-stems_of layout row [] = []
-stems_of layout row (e ∷ later) =
-    (if is_stem_covered e later then [] else stem_of layout row e) ++ stems_of layout row later
-
 -- the strokes of a line but its marks
 abbrev pub strokes_under_marks : Layout → ℕ → ℕ → List PlacedEntry → List Write
 strokes_under_marks layout row count placed =
-    connectors_of layout (row + 1) placed ++ corners_of layout row count placed ++ stems_of layout (row + 1) placed ++ labels_of layout (row + 1) placed
-
--- all of them, as they are drawn: the strokes of a line, but no stem that the next one's covers, and marks cell by cell
-abbrev pub drawn_strokes : Layout → ℕ → ℕ → List PlacedEntry → List PlacedEntry → List Write
-drawn_strokes layout row count placed order =
-    flat_map (connector_of layout (row + 1)) placed ++ flat_map (corner_of layout row count) placed ++ stems_of layout (row + 1) placed
-    ++ flat_map (label_of layout (row + 1)) placed ++ flat_map (drawn_mark layout (row + 1)) order
+    connectors_of layout (row + 1) placed ++ corners_of layout row count placed ++ flat_map (stem_of layout (row + 1)) placed
+    ++ labels_of layout (row + 1) placed

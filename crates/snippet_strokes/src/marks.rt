@@ -1,7 +1,8 @@
 //! The marks below a line of the source.
 ghost use Rattle.std.specs.Prelude.{◌≡◌, ◌==◌, ◌&&◌, All, OnOk};
+ghost use Rattle.std.specs.List.{flat_map};
 ghost use Rattle.snippet_labels.specs.PlacedEntries as spec;
-ghost use Rattle.snippet_strokes.specs.Painting.{first_glyph, mark_end, painting_order, drawn_mark, marks_of};
+ghost use Rattle.snippet_strokes.specs.Painting.{first_glyph, mark_end, mark_of, painting_order};
 ghost use Rattle.snippet_strokes.specs.Writes.{painted};
 ghost use Rattle.snippet_style.specs.Bounds.{HasNext, IsColumn};
 
@@ -31,7 +32,7 @@ pub fn draw_marks(
 ) -> Result<(), AllocError>
     requires row { HasNext row }
     requires columns { All (λ e. IsColumn e.entry.end.display) placed.old.items }
-    ensures painted { OnOk result (buffer.new ≡ painted (marks_of layout row placed.new.items) buffer.old) }
+    ensures painted { OnOk result (buffer.new ≡ painted (flat_map (mark_of layout row) placed.new.items) buffer.old) }
     ensures order { OnOk result (placed.new.items ≡ painting_order placed.old.items) }
 {
     sort_for_painting(placed)?;
@@ -66,7 +67,7 @@ pub(crate) fn paint_entries(
 ) -> Result<(), AllocError>
     requires row { HasNext row }
     requires columns { All (λ e. IsColumn e.entry.end.display) placed.now }
-    ensures painted { OnOk result (buffer.new ≡ painted (marks_of layout row placed.now) buffer.old) }
+    ensures painted { OnOk result (buffer.new ≡ painted (flat_map (mark_of layout row) placed.now) buffer.old) }
 {
     for entry in placed {
         paint_entry(buffer, layout, row, entry)?;
@@ -87,7 +88,7 @@ pub(crate) fn paint_entry(
 ) -> Result<(), AllocError>
     requires row { HasNext row }
     requires columns { IsColumn placed.now.entry.end.display }
-    ensures painted { OnOk result (buffer.new ≡ painted (drawn_mark layout row placed.now) buffer.old) }
+    ensures painted { OnOk result (buffer.new ≡ painted (mark_of layout row placed.now) buffer.old) }
 {
     let strokes = layout.decor.underline(is_primary(placed.entry.kind));
     let (start, end) = (placed.entry.start.display, mark_end(placed));

@@ -4,8 +4,7 @@ ghost use Rattle.std.specs.Prelude.{length};
 ghost use Rattle.snippet_style.specs.Cell.{Cell, SPACE, text_cells, written};
 ghost use Rattle.snippet_style.specs.Separators.{separator_row};
 ghost use Rattle.snippet_style.specs.declared.role.ElementStyle.TheVariants.{LineNumber};
-ghost use Rattle.snippet_strokes.specs.Bars.{FitBeside, with_parts};
-ghost use Rattle.snippet_strokes.specs.declared.bars.BarStroke.TheVariants.{Solid, Top};
+ghost use Rattle.snippet_strokes.specs.Bars.{FitBeside, with_bars};
 ghost use Rattle.std.specs.Cow.{cow_str_bytes};
 ghost use Rattle.snippet_window.specs.Window.{dropped_part};
 ghost use Rattle.snippet_style.specs.Glyphs.{placeholder_of};
@@ -67,8 +66,9 @@ pub fn draw_source_row(
         separator_cell layout }
     requires text { TextFits line.now.info.line.now }
     requires beside { FitBeside layout beside.tops.now beside.past.now }
-    ensures added { OnOk result (buffer.new ≡ buffer.old ++ with_parts layout Solid beside.entry.past.now
-        (with_parts layout Top beside.entry.tops.now
+    ensures added { OnOk result (buffer.new ≡ buffer.old
+        ++ with_bars layout (λ strokes. strokes.bar) beside.entry.past.now
+        (with_bars layout (λ strokes. strokes.whole_line) beside.entry.tops.now
         (source_row layout (shown_number view.numbers layout.gutter line.now.info.line_index)
         (window_cells layout.decor view.margin (norm (chars line.now.info.line.now))))) ∷ []) }
     ensures short { OnOk result (IsWindowEnd (length (window_cells layout.decor view.margin
@@ -153,8 +153,9 @@ fn write_source_row(
     requires text { FitsRow (chars texts.window.text.now) }
     requires end { IfSome texts.window.end (λ at. IsWindowColumn at) }
     requires beside { FitBeside layout beside.tops.now beside.past.now }
-    ensures added { OnOk result (buffer.new ≡ buffer.old ++ with_parts layout Solid beside.entry.past.now
-        (with_parts layout Top beside.entry.tops.now (source_row layout (chars texts.entry.number.now)
+    ensures added { OnOk result (buffer.new ≡ buffer.old
+        ++ with_bars layout (λ strokes. strokes.bar) beside.entry.past.now
+        (with_bars layout (λ strokes. strokes.whole_line) beside.entry.tops.now (source_row layout (chars texts.entry.number.now)
         (ended_cells layout.decor texts.entry.window.end
         (begun_cells layout.decor texts.entry.window.start (chars texts.entry.window.text.now))))) ∷ []) }
     ensures short { OnOk result (IsWindowEnd (length (ended_cells layout.decor texts.entry.window.end

@@ -5,8 +5,8 @@ ghost use Rattle.std.specs.List.{flat_map};
 ghost use Rattle.snippet_labels.specs.PlacedEntries.{HasPlace};
 ghost use Rattle.snippet_labels.specs.Positions as labels;
 ghost use Rattle.snippet_strokes.specs.SourceRows.{bare_row};
-ghost use Rattle.snippet_strokes.specs.StemRows.{cell_across, stem_down, stem_from};
-ghost use Rattle.snippet_strokes.specs.Strokes.{is_stem_covered, stems_of};
+ghost use Rattle.snippet_strokes.specs.StemRows.{cell_across, is_stem_covered, stem_down, stem_from, stems_of};
+ghost use Rattle.snippet_strokes.specs.Strokes.{stem_of};
 ghost use Rattle.snippet_strokes.specs.Writes.{painted};
 ghost use Rattle.snippet_style.specs.Bounds.{AreRows, HasNext};
 ghost use Rattle.snippet_style.specs.Separators.{separator_row};
@@ -55,7 +55,7 @@ pub(crate) fn begin_stem_rows(
     requires some { 0 < count }
     requires columns { All (λ e. HasPlace e.entry) placed.now }
     requires rows { All (λ e. e.position < count) placed.now }
-    ensures painted { OnOk result (buffer.new ≡ painted (stems_of layout (length buffer.old) placed.now)
+    ensures painted { OnOk result (buffer.new ≡ painted (flat_map (stem_of layout (length buffer.old)) placed.now)
         (buffer.old ++ replicate (count - 1) (separator_row layout.decor layout.gutter)
         ++ bare_row layout.decor layout.gutter closes ∷ [])) }
     ensures small { OnOk result (AreRows (length buffer.new)) }

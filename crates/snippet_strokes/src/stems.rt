@@ -1,8 +1,10 @@
 //! The stems that lead from marks down to their labels, or to the lines to their bars.
 ghost use Rattle.std.specs.Prelude.{◌≡◌, ◌==◌, [], if◌then◌else◌, All, OnOk, length};
+ghost use Rattle.std.specs.List.{flat_map};
 ghost use Rattle.snippet_strokes.specs.Drawing.{HasPlaceAmong, foot_glyph};
 ghost use Rattle.snippet_strokes.specs.Writes.{painted};
-ghost use Rattle.snippet_strokes.specs.Strokes.{is_stem_covered, stem_of, stems_of};
+ghost use Rattle.snippet_strokes.specs.Strokes.{stem_of};
+ghost use Rattle.snippet_strokes.specs.StemRows.{is_stem_covered};
 
 use crate::roles::is_primary;
 use snippet_grid::{Layout, StyledBuffer};
@@ -30,7 +32,7 @@ pub(crate) fn draw_stems(
     placed: &[PlacedEntry],
 ) -> Result<(), AllocError>
     requires places { All (HasPlaceAmong row (length buffer.old)) placed.now }
-    ensures painted { OnOk result (buffer.new ≡ painted (stems_of layout row placed.now) buffer.old) }
+    ensures painted { OnOk result (buffer.new ≡ painted (flat_map (stem_of layout row) placed.now) buffer.old) }
 {
     for i in 0..placed.len() {
         let entry = &placed[i];

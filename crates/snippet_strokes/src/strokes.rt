@@ -10,7 +10,7 @@ ghost use Rattle.snippet_style.specs.Cell.{Cell};
 ghost use Rattle.snippet_strokes.specs.Drawing as spec;
 ghost use Rattle.snippet_strokes.specs.Drawing.{AreEnough, HasRows};
 ghost use Rattle.snippet_strokes.specs.SourceRows.{bare_row};
-ghost use Rattle.snippet_strokes.specs.Strokes.{drawn_strokes, strokes_under_marks};
+ghost use Rattle.snippet_strokes.specs.Strokes.{line_strokes, strokes_under_marks};
 ghost use Rattle.snippet_strokes.specs.Painting.{painting_order};
 ghost use Rattle.snippet_strokes.specs.Writes.{painted};
 ghost use Rattle.snippet_style.specs.Separators.{closing_row, separator_row};
@@ -103,7 +103,7 @@ fn draw_rows(
     requires rows { All (HasRows (place.row + 1) (length buffer.old + count)) placed.old.items }
     requires ready { All (IsReady layout) placed.old.items }
     ensures order { OnOk result (placed.new.items ≡ painting_order placed.old.items) }
-    ensures painted { OnOk result (buffer.new ≡ painted (drawn_strokes layout place.row
+    ensures painted { OnOk result (buffer.new ≡ painted (line_strokes layout place.row
         (length buffer.old + count) placed.old.items (painting_order placed.old.items))
         (buffer.old ++ replicate (count - 1) (separator_row layout.decor layout.gutter)
         ++ bare_row layout.decor layout.gutter place.closes ∷ [])) }
@@ -143,7 +143,7 @@ fn draw_hanging(
     requires ready { All (IsReady layout) placed.old.items }
     requires lines { list_any takes_space placed.old.items ≡ false }
     ensures order { OnOk result (placed.new.items ≡ painting_order placed.old.items) }
-    ensures painted { OnOk result (buffer.new ≡ painted (drawn_strokes layout place.row
+    ensures painted { OnOk result (buffer.new ≡ painted (line_strokes layout place.row
         (length buffer.old + count) placed.old.items (painting_order placed.old.items))
         (buffer.old ++ replicate (count - 1) (separator_row layout.decor layout.gutter)
         ++ bare_row layout.decor layout.gutter place.closes ∷ [])) }
@@ -166,7 +166,7 @@ fn paint_strokes(
 ) -> Result<(), AllocError>
     requires enough { AreEnough layout row (length buffer.old) placed.old.items }
     ensures order { OnOk result (placed.new.items ≡ painting_order placed.old.items) }
-    ensures painted { OnOk result (buffer.new ≡ painted (drawn_strokes layout row
+    ensures painted { OnOk result (buffer.new ≡ painted (line_strokes layout row
         (length buffer.old) placed.old.items (painting_order placed.old.items)) buffer.old) }
     ensures count { OnOk result (length buffer.new ≡ length buffer.old) }
 {

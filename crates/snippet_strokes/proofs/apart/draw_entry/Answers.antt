@@ -4,7 +4,9 @@ use Rattle.std.proofs.lemmas.Result.{on_ok_weaker}
 use Rattle.snippet_grid.specs.declared.layout.Layout.{Layout}
 use Rattle.snippet_labels.specs.declared.positions.PlacedEntry.{PlacedEntry}
 use Rattle.snippet_strokes.specs.Drawing.{AreEnough}
-use Rattle.snippet_strokes.specs.Painting.{drawn_mark}
+use Rattle.snippet_strokes.specs.Painting.{mark_of}
+use Rattle.snippet_strokes.proofs.Drawn.{drawn_mark}
+use Rattle.snippet_strokes.proofs.EveryMark.{mark_same}
 use Rattle.snippet_strokes.specs.Strokes.{connector_of, corner_of, label_of}
 use Rattle.snippet_strokes.specs.Writes.{Write, painted}
 use Rattle.snippet_strokes.proofs.ReadyRows.{places_among, count_connectors, count_corners, count_labels, count_marks, enough_after}
@@ -22,8 +24,9 @@ module _ (layout : Layout) (row : ℕ) (e : PlacedEntry) (old new : List (List C
   count_connector : new ≡ painted (connector_of layout (row + 1) e) old → length new ≡ length old
   count_connector drawn = count_connectors old new enough (of_one (connector_of layout (row + 1) e) old new drawn)
 
-  count_mark : new ≡ painted (drawn_mark layout (row + 1) e) old → length new ≡ length old
-  count_mark drawn = count_marks old new enough (e ∷ []) (of_one (drawn_mark layout (row + 1) e) old new drawn)
+  count_mark : new ≡ painted (mark_of layout (row + 1) e) old → length new ≡ length old
+  count_mark drawn = count_marks old new enough (e ∷ []) (of_one (drawn_mark layout (row + 1) e) old new
+      (drawn ∙ mark_same layout (row + 1) e old))
 
   count_label : new ≡ painted (label_of layout (row + 1) e) old → length new ≡ length old
   count_label drawn = count_labels old new enough (of_one (label_of layout (row + 1) e) old new drawn)
@@ -40,7 +43,7 @@ draw_connector-requires-clause-place c =
 -- there is enough before the label is drawn
 module _ (layout : Layout) (row : ℕ) (e : PlacedEntry) (old cornered lined marked : List (List Cell)) (enough : AreEnough layout row (length old) (e ∷ []))
     (first : cornered ≡ painted (corner_of layout row (length old) e) old) (second : lined ≡ painted (connector_of layout (row + 1) e) cornered)
-    (third : marked ≡ painted (drawn_mark layout (row + 1) e) lined) where
+    (third : marked ≡ painted (mark_of layout (row + 1) e) lined) where
   marked_count : length marked ≡ length old
   marked_count =
       let corners = count_corner layout row e old cornered enough first in

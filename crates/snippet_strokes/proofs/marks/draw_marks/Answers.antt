@@ -1,8 +1,9 @@
 use Rattle.std.proofs.Common.{◌∙◌, ◌<◌, ◌^◌, All, ap, sym, subst}
+use Rattle.std.specs.List.{flat_map}
 use Rattle.std.proofs.lemmas.List.Sorted.{All-permutation}
 use Rattle.std.proofs.lemmas.Result.{on_ok_weaker}
 use Rattle.snippet_labels.specs.declared.positions.PlacedEntry.{PlacedEntry}
-use Rattle.snippet_strokes.specs.Painting.{marks_of, painting_order}
+use Rattle.snippet_strokes.specs.Painting.{mark_of, painting_order}
 use Rattle.snippet_strokes.specs.Writes.{painted}
 use Rattle.snippet_strokes.proofs.PaintOrder.{IsPermutation-painting_order}
 use Rattle.snippet_strokes.proofs.marks.draw_marks.Goals as goal
@@ -18,6 +19,6 @@ pub returns : goal.returns
 returns c =
     record {
       painted = on_ok_weaker c.paint_entries.result (λ drawn_now. drawn_now
-          ∙ ap (λ xs. painted (marks_of c.args.layout c.args.row xs) c.args.buffer.now) c.deref.ensures.value) c.paint_entries.ensures.painted;
+          ∙ ap (λ xs. painted (flat_map (mark_of c.args.layout c.args.row) xs) c.args.buffer.now) c.deref.ensures.value) c.paint_entries.ensures.painted;
       order = on_ok_weaker c.paint_entries.result (λ _. c.in_ok-sort_for_painting.ensures.order) c.paint_entries.ensures.painted;
     }

@@ -1,18 +1,19 @@
 use Rattle.std.proofs.Common.{◌∙◌, ap, arith}
+use Rattle.std.specs.List.{flat_map}
 use Rattle.std.proofs.lemmas.List.{take_all}
-use Rattle.snippet_strokes.specs.Painting.{drawn_mark, marks_of}
+use Rattle.snippet_strokes.specs.Painting.{mark_of}
 use Rattle.snippet_strokes.specs.Writes.{painted}
 use Rattle.snippet_strokes.proofs.WriteLemmas.{painted_more}
 use Rattle.snippet_strokes.proofs.marks.paint_entries.Goals as goal
 
 pub loop-entry-preserved : goal.loop-entry-preserved
 loop-entry-preserved c =
-    c.in_ok-paint_entry.ensures.painted ∙ painted_more (drawn_mark c.args.layout c.args.row) c.args.placed.now c.loop-entry.entry-index c.entry-item.result
+    c.in_ok-paint_entry.ensures.painted ∙ painted_more (mark_of c.args.layout c.args.row) c.args.placed.now c.loop-entry.entry-index c.entry-item.result
     c.args.buffer.now c.loop-entry.buffer c.loop-entry-test.true c.entry-item.is c.loop-entry.invariant
 
 pub returns : goal.returns
 returns c =
     record {
-      painted = c.loop-entry.invariant ∙ ap (λ xs. painted (marks_of c.args.layout c.args.row xs) c.args.buffer.now)
+      painted = c.loop-entry.invariant ∙ ap (λ xs. painted (flat_map (mark_of c.args.layout c.args.row) xs) c.args.buffer.now)
           (take_all c.loop-entry.entry-index c.args.placed.now (omega (arith, c.loop-entry-test.false)));
     }

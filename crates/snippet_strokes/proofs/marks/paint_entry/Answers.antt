@@ -6,6 +6,7 @@ use Rattle.snippet_grid.specs.LayoutOf.{layout_of}
 use Rattle.snippet_strokes.specs.Painting.{mark_end}
 use Rattle.snippet_strokes.specs.Writes.{painted}
 use Rattle.snippet_style.specs.declared.glyphs.Strokes.{Strokes}
+use Rattle.snippet_strokes.proofs.EveryMark.{mark_same}
 use Rattle.snippet_strokes.proofs.WholeMarks.{mark_whole}
 use Rattle.snippet_strokes.proofs.WriteLemmas.{drawn_mark-none, mark_painted}
 use Rattle.snippet_strokes.proofs.marks.paint_entry.Goals as goal
@@ -15,7 +16,8 @@ returns-then-end-start c =
     let placed = c.args.placed.now in
     let is_end : c.mark_end-end.result ≡ mark_end placed = c.mark_end-end.ensures.value in
     record {
-      painted = sym (ap (λ ws. painted ws c.args.buffer.now) (drawn_mark-none c.args.layout c.args.row placed (omega (arith, c.if-end-start.true, is_end))));
+      painted = sym (ap (λ ws. painted ws c.args.buffer.now) (drawn_mark-none c.args.layout c.args.row placed (omega (arith, c.if-end-start.true, is_end))))
+          ∙ sym (mark_same c.args.layout c.args.row placed c.args.buffer.now);
     }
 
 pub returns-then-first-strokes : goal.returns-then-first-strokes
@@ -34,7 +36,7 @@ returns-then-first-strokes c =
       painted = on_ok_weaker c.draw_stretch.result
           (λ drawn_now. mark_whole layout c.args.row placed c.first_glyph-first.result strokes.result.underline strokes.result.style
           c.mark_end-end.result c.args.buffer.now c.draw_stretch.new.buffer some is_end c.first_glyph-first.ensures.value is_line
-          is_role c.if-first-strokes.true drawn_now) drawn;
+          is_role c.if-first-strokes.true drawn_now ∙ sym (mark_same layout c.args.row placed c.args.buffer.now)) drawn;
     })
 
 pub returns : goal.returns
@@ -54,5 +56,5 @@ returns c =
       painted = on_ok_weaker c.draw_stretch-2.result
           (λ drawn_now. mark_painted layout c.args.row placed c.first_glyph-first.result strokes.result.underline strokes.result.style
           c.mark_end-end.result c.args.buffer.now c.putc.new.self c.draw_stretch-2.new.buffer some is_end c.first_glyph-first.ensures.value is_line
-          is_role begun drawn_now) drawn;
+          is_role begun drawn_now ∙ sym (mark_same layout c.args.row placed c.args.buffer.now)) drawn;
     })

@@ -4,7 +4,7 @@ use Rattle.snippet_grid.specs.LayoutOf.{layout_of}
 use Rattle.snippet_strokes.specs.SourceRows.{begun_cells, ended_cells, source_row}
 use Rattle.snippet_style.specs.Cell.{Cell}
 use Rattle.snippet_style.specs.declared.glyphs.DecorStyle.{DecorStyle}
-use Rattle.snippet_strokes.specs.Bars.{with_parts}
+use Rattle.snippet_strokes.proofs.BarParts.{with_parts}
 use Rattle.snippet_strokes.specs.declared.bars.BarStroke.TheVariants.{Solid, Top}
 use Rattle.snippet_window.proofs.NearLemmas.{part_of_norm}
 use Rattle.snippet_text.specs.Normalized.{norm}

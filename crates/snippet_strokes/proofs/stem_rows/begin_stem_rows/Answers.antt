@@ -7,10 +7,10 @@ use Rattle.snippet_style.specs.Cell.{Cell}
 use Rattle.snippet_style.specs.Separators.{separator_row}
 use Rattle.snippet_strokes.specs.SourceRows.{bare_row}
 use Rattle.snippet_strokes.specs.declared.stem_rows.Stem.{Stem}
-use Rattle.snippet_strokes.specs.StemRows.{cell_across, stem_down}
-use Rattle.snippet_strokes.specs.Strokes.{stems_of}
+use Rattle.snippet_strokes.specs.StemRows.{cell_across, stem_down, stems_of}
 use Rattle.snippet_strokes.specs.Writes.{painted}
 use Rattle.snippet_strokes.proofs.BegunLemmas.{begun_row}
+use Rattle.snippet_strokes.proofs.EveryStem.{stems_painted}
 use Rattle.snippet_strokes.proofs.StemRowLemmas.{none_down, row_begun, row_count_next}
 use Rattle.snippet_strokes.proofs.stem_rows.begin_stem_rows.Goals as goal
 
@@ -92,6 +92,8 @@ returns c =
     record {
       painted = sym (append-nil new) ∙ ap (λ rows. new ++ rows) (sym past) ∙ sym (ap (λ ws. painted ws (new ++ drop c.loop-below.below bare)) none)
           ∙ c.loop-below.invariant.whole ∙ ap (painted (stems_of layout row c.args.placed.now))
-          (sym (append_assoc old (replicate (count - 1) sep) (bare_row layout.decor layout.gutter c.args.closes ∷ [])));
+          (sym (append_assoc old (replicate (count - 1) sep) (bare_row layout.decor layout.gutter c.args.closes ∷ [])))
+          ∙ sym (stems_painted layout row c.args.placed.now
+          (old ++ replicate (count - 1) sep ++ bare_row layout.decor layout.gutter c.args.closes ∷ []));
       small = c.loop-below.invariant.small some;
     }

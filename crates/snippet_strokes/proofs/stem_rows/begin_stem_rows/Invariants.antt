@@ -2,8 +2,7 @@ use Rattle.std.proofs.Common.{◌≡◌, ◌+◌, ◌-◌, ◌<◌, ◌++◌, �
 use Rattle.std.specs.List.{flat_map}
 use Rattle.snippet_style.specs.Separators.{separator_row}
 use Rattle.snippet_strokes.specs.SourceRows.{bare_row}
-use Rattle.snippet_strokes.specs.StemRows.{stem_down}
-use Rattle.snippet_strokes.specs.Strokes.{stems_of}
+use Rattle.snippet_strokes.specs.StemRows.{stem_down, stems_of}
 use Rattle.snippet_strokes.specs.Writes.{painted}
 use Rattle.snippet_style.specs.Bounds.{AreRows}
 use Rattle.snippet_strokes.proofs.stem_rows.begin_stem_rows.Given as goal

@@ -6,8 +6,7 @@ use Rattle.snippet_labels.specs.Positions.{has_stem}
 use Rattle.snippet_labels.specs.declared.positions.PlacedEntry.{PlacedEntry}
 use Rattle.snippet_style.specs.Bounds.{HasNext}
 use Rattle.snippet_strokes.specs.declared.stem_rows.Stem.{Stem}
-use Rattle.snippet_strokes.specs.StemRows.{stem_down}
-use Rattle.snippet_strokes.specs.Strokes.{is_stem_covered, stems_of}
+use Rattle.snippet_strokes.specs.StemRows.{is_stem_covered, stem_down, stems_of}
 use Rattle.snippet_strokes.proofs.StemRowLemmas.{stem_left, stem_taken}
 use Rattle.snippet_strokes.proofs.stem_rows.uncovered_stems.Goals.{then-has_own_stem+in_ok-push, else-has_own_stem}
 use Rattle.snippet_strokes.proofs.stem_rows.uncovered_stems.Goals as goal

@@ -1,8 +1,7 @@
 use Rattle.std.proofs.Common.{◌≡◌, ◌<◌, ◌++◌, ℕ, All, drop}
 use Rattle.std.specs.List.{flat_map}
 use Rattle.snippet_style.specs.Bounds.{HasNext}
-use Rattle.snippet_strokes.specs.StemRows.{stem_down}
-use Rattle.snippet_strokes.specs.Strokes.{stems_of}
+use Rattle.snippet_strokes.specs.StemRows.{stem_down, stems_of}
 use Rattle.snippet_strokes.proofs.stem_rows.uncovered_stems.Given as goal
 
 -- with the stems of the entries from this one on the stems so far are all of them

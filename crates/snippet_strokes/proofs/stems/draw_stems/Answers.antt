@@ -1,8 +1,9 @@
 use Rattle.std.proofs.Common.{◌≡◌, ◌∙◌, ◌+◌, ◌-◌, ◌∷◌, false, true, ap, sym, subst, arith, drop, length, take}
 use Rattle.std.proofs.lemmas.List.{drop_more, drop_all, length-drop, take_all}
 use Rattle.snippet_strokes.specs.Drawing.{HasPlaceAmong, HasRows}
-use Rattle.snippet_strokes.specs.Strokes.{is_stem_covered, stems_of}
+use Rattle.snippet_strokes.specs.StemRows.{is_stem_covered, stems_of}
 use Rattle.snippet_strokes.specs.Writes.{painted}
+use Rattle.snippet_strokes.proofs.EveryStem.{stems_painted}
 use Rattle.snippet_strokes.proofs.StemWrites.{stem_count, stems_next, stems_skip}
 use Rattle.snippet_strokes.proofs.stems.draw_stems.Goals.{then-not-is_stem_covered+in_ok-draw_stem, else-not-is_stem_covered}
 use Rattle.snippet_strokes.proofs.stems.draw_stems.Goals as goal
@@ -51,4 +52,7 @@ returns c =
     let layout = c.args.layout in
     let row = c.args.row in
     let none = drop_all c.loop-i.i c.args.placed.now (omega (arith, c.loop-i-test.false)) in
-    record { painted = sym (ap (λ xs. painted (stems_of layout row xs) c.loop-i.buffer) none) ∙ c.loop-i.invariant.0 }
+    record {
+      painted = sym (ap (λ xs. painted (stems_of layout row xs) c.loop-i.buffer) none) ∙ c.loop-i.invariant.0
+          ∙ sym (stems_painted layout row c.args.placed.now c.args.buffer.now);
+    }

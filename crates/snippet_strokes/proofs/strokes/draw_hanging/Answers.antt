@@ -1,4 +1,5 @@
-use Rattle.std.proofs.Common.{◌≡◌, ◌∙◌, ◌+◌, ◌^◌, ◌<◌, List, ℕ, All, ap, sym, subst, arith, length}
+use Rattle.std.proofs.Common.{◌≡◌, ◌∙◌, ◌+◌, ◌^◌, ◌<◌, List, ℕ, All, ap, sym, subst, arith, length, replicate, ◌-◌, ◌++◌, ◌∷◌, []}
+use Rattle.std.specs.List.{flat_map}
 use Rattle.snippet_grid.specs.Layout.{Layout}
 use Rattle.snippet_labels.specs.declared.positions.PlacedEntry.{PlacedEntry}
 use Rattle.snippet_labels.specs.PlacedEntries.{HasPlace}
@@ -7,10 +8,15 @@ use Rattle.snippet_labels.specs.Positions.{HasItsLabel}
 use Rattle.snippet_style.specs.Cell.{Cell}
 use Rattle.snippet_style.specs.Separators.{separator_row}
 use Rattle.snippet_strokes.specs.Drawing.{HasPlaceAmong}
-use Rattle.snippet_strokes.specs.Painting.{marks_of, painting_order}
+use Rattle.snippet_strokes.specs.Painting.{painting_order}
 use Rattle.snippet_strokes.specs.SourceRows.{bare_row}
-use Rattle.snippet_strokes.specs.Strokes.{labels_of, stems_of}
+use Rattle.snippet_strokes.specs.Strokes.{labels_of, stem_of}
+use Rattle.snippet_strokes.proofs.Drawn.{marks_of}
+use Rattle.snippet_strokes.specs.StemRows.{stems_of}
 use Rattle.snippet_strokes.specs.Writes.{painted}
+use Rattle.snippet_strokes.proofs.EveryMark.{every_mark}
+use Rattle.snippet_strokes.proofs.EveryStem.{stems_painted}
+use Rattle.snippet_strokes.proofs.EveryStroke.{strokes_painted}
 use Rattle.snippet_strokes.proofs.HangingLemmas.{hanging_painted, stemmed_enough, stemmed_long}
 use Rattle.snippet_strokes.proofs.ReadyLemmas.{ready_labels, ready_places, ready_texts}
 use Rattle.snippet_strokes.proofs.ReadyRows.{places_among, count_labels, count_marks, enough_after}
@@ -28,9 +34,9 @@ begin_stem_rows-requires c =
 
 -- the stems, in the words of the row of the marks
 stems_drawn : (layout : Layout) (row : ℕ) (given placed : List PlacedEntry) (old begun stemmed : List (List Cell)) → length old ≡ row + 1 → given ≡ placed
-    → stemmed ≡ painted (stems_of layout (length old) given) begun → stemmed ≡ painted (stems_of layout (row + 1) placed) begun
+    → stemmed ≡ painted (flat_map (stem_of layout (length old)) given) begun → stemmed ≡ painted (stems_of layout (row + 1) placed) begun
 stems_drawn layout row given placed old begun stemmed last are drawn =
-    drawn ∙ ap (λ n. painted (stems_of layout n given) begun) last ∙ ap (λ ps. painted (stems_of layout (row + 1) ps) begun) are
+    drawn ∙ stems_painted layout (length old) given begun ∙ ap (λ n. painted (stems_of layout n given) begun) last ∙ ap (λ ps. painted (stems_of layout (row + 1) ps) begun) are
 
 pub overflow_add-place : goal.overflow_add-place
 overflow_add-place c =
@@ -102,11 +108,13 @@ returns c =
     ∙ ap (λ ps. painted (labels_of layout (row + 1) ps) stemmed) c.deref-2.ensures.value in
     let hung : length labelled ≡ length stemmed = count_labels stemmed labelled enough labels in
     let marks : new ≡ painted (marks_of layout (row + 1) (painting_order placed)) labelled = c.in_ok-draw_marks.ensures.painted
-    ∙ ap (λ ps. painted (marks_of layout (row + 1) ps) labelled) c.in_ok-draw_marks.ensures.order in
+    ∙ every_mark layout (row + 1) c.draw_marks.new.placed.items labelled ∙ ap (λ ps. painted (marks_of layout (row + 1) ps) labelled) c.in_ok-draw_marks.ensures.order in
     record {
       order = c.in_ok-draw_marks.ensures.order;
       painted = hanging_painted layout row (length old + c.args.count) placed (painting_order placed) _ stemmed labelled new
-          c.requires.lines stems labels marks;
+          c.requires.lines stems labels marks
+          ∙ sym (strokes_painted layout row (length old + c.args.count) placed (painting_order placed)
+          (old ++ replicate (c.args.count - 1) sep ++ end ∷ []));
       small = omega (arith, long, c.in_ok-begin_stem_rows.ensures.small);
       count = count_marks labelled new (enough_after stemmed labelled enough hung) (painting_order placed) marks ∙ hung ∙ long;
     }

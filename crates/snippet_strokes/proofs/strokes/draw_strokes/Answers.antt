@@ -22,8 +22,9 @@ use Rattle.snippet_strokes.proofs.PositionLemmas.{looked_of_placed, row_count_so
 use Rattle.snippet_strokes.proofs.BegunLemmas.{rows_begun, rows_ready}
 use Rattle.snippet_strokes.proofs.ReadyLemmas.{all_ready, ready_places}
 use Rattle.snippet_strokes.proofs.ReadyRows.{enough_begun}
-use Rattle.snippet_strokes.specs.Strokes.{drawn_strokes}
+use Rattle.snippet_strokes.proofs.Drawn.{drawn_strokes}
 use Rattle.snippet_strokes.specs.Writes.{painted}
+use Rattle.snippet_strokes.proofs.EveryStroke.{strokes_painted}
 use Rattle.snippet_strokes.proofs.LineRowLemmas.{own_none, own_strokes, painted_added}
 use Rattle.snippet_strokes.proofs.strokes.draw_strokes.Goals as goal
 
@@ -162,7 +163,7 @@ returns c =
     let all : ℕ = length old + row_count placed in
     let long : length begun ≡ all = rows_begun old begun sep end (row_count placed) (row_count_some placed) begun_is in
     let new_is : new ≡ painted (drawn_strokes layout row (length begun) placed after) begun = c.in_ok-draw_rows.ensures.painted
-    ∙ ap (λ n. painted (drawn_strokes layout row n placed after) begun) (sym whole) in
+    ∙ strokes_painted layout row (length old + c.row_count-count.result) placed after begun ∙ ap (λ n. painted (drawn_strokes layout row n placed after) begun) (sym whole) in
     let flags = c.in_ok-overlapped.overlapped.items in
     let final = c.cut_wide.new.buffer in
     let cut_to : List PlacedEntry → List Bool → List (List Cell) = λ ps fs. cut_rows layout.decor row (cuts_of layout c.args.place.room ps fs) new in

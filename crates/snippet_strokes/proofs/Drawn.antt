@@ -1,0 +1,45 @@
+-- Strokes as the code draws them: marks from their first glyph on, and no stem that the next one's covers.
+use Rattle.std.proofs.Common.{ℕ, ◌+◌, nat_lt, List, [], ◌∷◌, ◌++◌}
+use Rattle.std.specs.Prelude.{if◌then◌else◌}
+use Rattle.std.specs.List.{flat_map}
+use Rattle.snippet_grid.specs.Layout.{Layout, code_cell}
+use Rattle.snippet_labels.specs.declared.positions.PlacedEntry.{PlacedEntry}
+use Rattle.snippet_model.specs.AnnotationKind.{is_primary}
+use Rattle.snippet_style.specs.Glyphs.{strokes_of}
+use Rattle.snippet_strokes.specs.Painting.{first_glyph, mark_end, stroke_role}
+use Rattle.snippet_strokes.specs.StemRows.{stems_of}
+use Rattle.snippet_strokes.specs.Strokes.{connector_of, connectors_of, corner_of, corners_of, label_of, labels_of}
+use Rattle.snippet_strokes.specs.Writes.{Write, glyph_at, stretch_of}
+
+-- the mark of an entry, if it takes any cell: its first glyph, and the underline after it
+abbrev pub drawn_mark : Layout → ℕ → PlacedEntry → List Write
+drawn_mark layout row e =
+    let from = code_cell layout e.entry.start.display in
+    let to = code_cell layout (mark_end e) in
+    if nat_lt from to then glyph_at row from (first_glyph layout.decor e) (stroke_role e) ∷ stretch_of row (from + 1) to
+    (strokes_of layout.decor (is_primary e.entry.kind)).underline (stroke_role e) else []
+
+-- the marks of some entries, in the order in which they are painted
+abbrev pub marks_of : Layout → ℕ → List PlacedEntry → List Write
+marks_of layout row order = flat_map (drawn_mark layout row) order
+
+-- the strokes of a line but its marks
+abbrev pub drawn_under_marks : Layout → ℕ → ℕ → List PlacedEntry → List Write
+drawn_under_marks layout row count placed =
+    connectors_of layout (row + 1) placed ++ corners_of layout row count placed ++ stems_of layout (row + 1) placed ++ labels_of layout (row + 1) placed
+
+-- all of them
+abbrev pub drawn_strokes : Layout → ℕ → ℕ → List PlacedEntry → List PlacedEntry → List Write
+drawn_strokes layout row count placed order =
+    flat_map (connector_of layout (row + 1)) placed ++ flat_map (corner_of layout row count) placed ++ stems_of layout (row + 1) placed
+    ++ flat_map (label_of layout (row + 1)) placed ++ flat_map (drawn_mark layout (row + 1)) order
+
+-- the strokes of some entries that have no stem, from left to right
+abbrev pub drawn_part : Layout → ℕ → ℕ → List PlacedEntry → List Write
+drawn_part layout row count part =
+    corners_of layout row count part ++ connectors_of layout (row + 1) part ++ marks_of layout (row + 1) part ++ labels_of layout (row + 1) part
+
+-- those of entries that stand apart, one entry after another from left to right
+abbrev pub drawn_apart : Layout → ℕ → ℕ → List PlacedEntry → List Write
+drawn_apart layout row count [] = []
+drawn_apart layout row count (e ∷ left) = drawn_apart layout row count left ++ drawn_part layout row count (e ∷ [])
