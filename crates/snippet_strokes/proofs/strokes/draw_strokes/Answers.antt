@@ -163,7 +163,8 @@ returns c =
     let all : ℕ = length old + row_count placed in
     let long : length begun ≡ all = rows_begun old begun sep end (row_count placed) (row_count_some placed) begun_is in
     let new_is : new ≡ painted (drawn_strokes layout row (length begun) placed after) begun = c.in_ok-draw_rows.ensures.painted
-    ∙ strokes_painted layout row (length old + c.row_count-count.result) placed after begun ∙ ap (λ n. painted (drawn_strokes layout row n placed after) begun) (sym whole) in
+    ∙ strokes_painted layout row (length old + c.row_count-count.result) placed after begun
+    ∙ ap (λ n. painted (drawn_strokes layout row n placed after) begun) (sym whole) in
     let flags = c.in_ok-overlapped.overlapped.items in
     let final = c.cut_wide.new.buffer in
     let cut_to : List PlacedEntry → List Bool → List (List Cell) = λ ps fs. cut_rows layout.decor row (cuts_of layout c.args.place.room ps fs) new in
