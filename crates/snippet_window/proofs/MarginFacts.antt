@@ -14,11 +14,11 @@ use Rattle.snippet_style.specs.Bounds.{max_usize}
 use Rattle.snippet_window.specs.declared.margin.Margin.{Margin}
 use Rattle.snippet_window.specs.declared.extent.Extent.{Extent}
 use Rattle.snippet_window.specs.Extent.{ReachesLines, columns_of, ends_of, entries_of, line_texts, with_columns}
-use Rattle.snippet_window.specs.Margin.{capped_sum, margin_bounds}
+use Rattle.snippet_window.specs.Margin.{capped_sum}
 use Rattle.snippet_window.specs.Measures.{StandsClear, margin_of, end_with}
 use Rattle.snippet_window.proofs.ExtentLemmas.{lines_all, starts_all}
 use Rattle.snippet_window.proofs.MarginLaws.{bounds_reached}
-use Rattle.snippet_window.proofs.MeasureWords.{whitespaces_of, widths_of}
+use Rattle.snippet_window.proofs.MeasureWords.{margin_by, whitespaces_of, widths_of}
 
 -- ---- margins
 
@@ -49,7 +49,7 @@ cut_low : (blank : ℕ) → cond (nat_lt 20 blank) (blank - 16) 0 ≤ blank
 cut_low blank = either (λ n. n ≤ blank) (nat_lt 20 blank) (blank - 16) 0 (omega arith) (omega arith)
 
 pub margin_sound : (whitespace first last label_end room widest : ℕ) → first ≤ last → first ≤ max_usize
-    → IsSound first (margin_bounds whitespace first last label_end room widest)
+    → IsSound first (margin_by whitespace first last label_end room widest)
 margin_sound whitespace first last label_end room widest ordered fits =
     let Sound : Margin → Type 0 = IsSound first in
     let blank : ℕ = min whitespace first - 6 in
@@ -79,7 +79,7 @@ margin_sound whitespace first last label_end room widest ordered fits =
 either_room : (room : ℕ) (b : Bool) (x y : Margin) → x.term_width ≡ room → y.term_width ≡ room → (cond b x y).term_width ≡ room
 either_room room b x y = either (λ (m : Margin). m.term_width ≡ room) b x y
 
-margin_bounds-room : (whitespace first last label_end room widest : ℕ) → (margin_bounds whitespace first last label_end room widest).term_width ≡ room
+margin_bounds-room : (whitespace first last label_end room widest : ℕ) → (margin_by whitespace first last label_end room widest).term_width ≡ room
 margin_bounds-room whitespace first last label_end room widest =
     let blank : ℕ = min whitespace first - 6 in
     let from : ℕ = first - 6 in
@@ -147,7 +147,7 @@ entries_all Q (info ∷ infos) all =
 abbrev pub margin_of_lines : ℕ → List AnnotatedLineInfo → Margin
 margin_of_lines room infos =
     let columns = columns_of (entries_of infos) in
-    margin_bounds (unwrap_or (least (whitespaces_of (line_texts infos))) 0) (unwrap_or (least columns) 0) (greatest columns)
+    margin_by (unwrap_or (least (whitespaces_of (line_texts infos))) 0) (unwrap_or (least columns) 0) (greatest columns)
     (greatest (ends_of (entries_of infos))) room (greatest (widths_of (line_texts infos)))
 
 -- it is that of the lines as they are seen

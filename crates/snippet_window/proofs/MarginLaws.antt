@@ -21,7 +21,6 @@ use Rattle.snippet_parts.specs.Annotated.{seen_kept, kept_line, annotated_lines}
 use Rattle.snippet_parts.specs.Depths.{same_place, depth_among}
 use Rattle.snippet_parts.specs.Kept.{keeps, kept_lines}
 use Rattle.snippet_lines.specs.Lines.{Source, source_lines}
-use Rattle.snippet_window.specs.Margin.{margin_bounds}
 use Rattle.snippet_parts.specs.Mark.{is_marking, is_single_line}
 use Rattle.snippet_parts.specs.Marked.{first_line, last_line}
 use Rattle.snippet_window.specs.Extent.{ReachesLines, columns_of, ends_of, entries_of, with_columns}
@@ -29,7 +28,7 @@ use Rattle.snippet_window.specs.Extent.{line_texts}
 use Rattle.snippet_window.specs.Measures.{end_with, margin_of}
 use Rattle.snippet_parts.specs.Least.{greatest, least}
 use Rattle.snippet_window.specs.declared.extent.Extent.{Extent}
-use Rattle.snippet_window.proofs.MeasureWords.{whitespaces_of, widths_of}
+use Rattle.snippet_window.proofs.MeasureWords.{margin_by, whitespaces_of, widths_of}
 use Rattle.snippet_lines.specs.Place.{start_location}
 use Rattle.snippet_lines.specs.Span.{IsSpan}
 use Rattle.snippet_window.specs.Window.{chars_at}
@@ -268,7 +267,7 @@ parts_back g fold s marks c spans here =
 
 -- the bounds for how far lines reach are those for the lines as they are seen
 pub bounds_reached : (room : ℕ) (infos : List AnnotatedLineInfo) (x : Extent) → ReachesLines infos x
-    → margin_bounds (unwrap_or x.whitespace 0) (unwrap_or x.first 0) x.last x.label_end room x.widest ≡ margin_of room (map seen_kept infos)
+    → margin_by (unwrap_or x.whitespace 0) (unwrap_or x.first 0) x.last x.label_end room x.widest ≡ margin_of room (map seen_kept infos)
 bounds_reached room infos x reaches =
     let lines = map seen_kept infos in
     let es = entries_of infos in
@@ -282,20 +281,20 @@ bounds_reached room infos x reaches =
     ∙ ap (λ ts. unwrap_or (least (whitespaces_of ts)) 0) (seen_texts infos) in
     let low : unwrap_or x.first 0 ≡ unwrap_or (least (flat_map (measured columns) parts)) 0 = ap (λ (o : Option ℕ). unwrap_or o 0) reaches.entries.first
     ∙ ap (λ ns. unwrap_or (least ns) 0) all_columns in
-    ap (λ n. margin_bounds n (unwrap_or x.first 0) x.last x.label_end room x.widest) blank
-    ∙ ap (λ n. margin_bounds (unwrap_or (least (whitespaces_of texts)) 0) n x.last x.label_end room x.widest) low
-    ∙ ap (λ n. margin_bounds (unwrap_or (least (whitespaces_of texts)) 0) (unwrap_or (least (flat_map (measured columns) parts)) 0) n x.label_end room x.widest)
+    ap (λ n. margin_by n (unwrap_or x.first 0) x.last x.label_end room x.widest) blank
+    ∙ ap (λ n. margin_by (unwrap_or (least (whitespaces_of texts)) 0) n x.last x.label_end room x.widest) low
+    ∙ ap (λ n. margin_by (unwrap_or (least (whitespaces_of texts)) 0) (unwrap_or (least (flat_map (measured columns) parts)) 0) n x.label_end room x.widest)
     (reaches.entries.last ∙ ap greatest all_columns)
-    ∙ ap (λ n. margin_bounds (unwrap_or (least (whitespaces_of texts)) 0) (unwrap_or (least (flat_map (measured columns) parts)) 0)
+    ∙ ap (λ n. margin_by (unwrap_or (least (whitespaces_of texts)) 0) (unwrap_or (least (flat_map (measured columns) parts)) 0)
     (greatest (flat_map (measured columns) parts)) n room x.widest) (reaches.entries.label_end ∙ ap greatest all_ends)
-    ∙ ap (λ n. margin_bounds (unwrap_or (least (whitespaces_of texts)) 0) (unwrap_or (least (flat_map (measured columns) parts)) 0)
+    ∙ ap (λ n. margin_by (unwrap_or (least (whitespaces_of texts)) 0) (unwrap_or (least (flat_map (measured columns) parts)) 0)
     (greatest (flat_map (measured columns) parts)) (greatest (map end_of parts)) room n)
     (reaches.widest ∙ ap (λ ts. greatest (widths_of ts)) (seen_texts infos))
 
 -- the bounds for the lines that are kept follow from the spans
 pub margin_of_spans : (room : ℕ) (fold : Bool) (s : Source) (marks : List Annotation) → All (λ (a : Annotation). IsSpan s.text a.span.start a.span.end) marks
     → margin_of room (annotated_lines fold s marks)
-    ≡ margin_bounds (unwrap_or (least (whitespaces_of (map (chars_at s.text) (kept_lines fold s.text marks)))) 0)
+    ≡ margin_by (unwrap_or (least (whitespaces_of (map (chars_at s.text) (kept_lines fold s.text marks)))) 0)
     (unwrap_or (least (flat_map (span_columns s) marks)) 0) (greatest (flat_map (span_columns s) marks)) (greatest (flat_map (span_ends s) marks)) room
     (greatest (widths_of (map (chars_at s.text) (kept_lines fold s.text marks))))
 margin_of_spans room fold s marks spans =
@@ -311,12 +310,12 @@ margin_of_spans room fold s marks spans =
     let after : greatest (map end_of parts) ≡ greatest (flat_map (span_ends s) marks) = ap greatest (single_list end_of parts)
     ∙ greatest_same (measured_parts ends (kept_parts fold s marks)) (flat_map (span_ends s) marks) (parts_there ends fold s marks) (λ c.
     parts_back ends fold s marks c spans) in
-    ap (λ ts. margin_bounds (unwrap_or (least (whitespaces_of ts)) 0) (unwrap_or (least (flat_map (measured columns) parts)) 0)
+    ap (λ ts. margin_by (unwrap_or (least (whitespaces_of ts)) 0) (unwrap_or (least (flat_map (measured columns) parts)) 0)
     (greatest (flat_map (measured columns) parts)) (greatest (map end_of parts)) room (greatest (widths_of ts)))
     (kept_texts s marks (kept_lines fold s.text marks))
-    ∙ ap (λ n. margin_bounds (unwrap_or (least (whitespaces_of texts)) 0) n (greatest (flat_map (measured columns) parts)) (greatest (map end_of parts))
+    ∙ ap (λ n. margin_by (unwrap_or (least (whitespaces_of texts)) 0) n (greatest (flat_map (measured columns) parts)) (greatest (map end_of parts))
     room (greatest (widths_of texts))) low ∙ ap
-    (λ n. margin_bounds (unwrap_or (least (whitespaces_of texts)) 0) (unwrap_or (least (flat_map (span_columns s) marks)) 0)
+    (λ n. margin_by (unwrap_or (least (whitespaces_of texts)) 0) (unwrap_or (least (flat_map (span_columns s) marks)) 0)
     n (greatest (map end_of parts)) room (greatest (widths_of texts))) high
-    ∙ ap (λ n. margin_bounds (unwrap_or (least (whitespaces_of texts)) 0) (unwrap_or (least (flat_map (span_columns s) marks)) 0)
+    ∙ ap (λ n. margin_by (unwrap_or (least (whitespaces_of texts)) 0) (unwrap_or (least (flat_map (span_columns s) marks)) 0)
     (greatest (flat_map (span_columns s) marks)) n room (greatest (widths_of texts))) after

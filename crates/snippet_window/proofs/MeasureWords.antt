@@ -2,7 +2,9 @@
 use Rattle.std.proofs.Common.{List, ℕ, cond, eqb, map}
 use Rattle.std.specs.List.{filter_map}
 use Rattle.snippet_text.specs.Width.{width_of}
+use Rattle.snippet_window.specs.Margin.{margin_bounds}
 use Rattle.snippet_window.specs.Window.{leading_whitespace}
+use Rattle.snippet_window.specs.declared.margin.Margin.{Margin}
 
 -- the columns of a character of leading whitespace: four of a tab, one of any other
 abbrev pub whitespace_width : ℕ → ℕ
@@ -14,3 +16,8 @@ whitespaces_of texts = filter_map leading_whitespace texts
 
 abbrev pub widths_of : List (List ℕ) → List ℕ
 widths_of texts = map width_of texts
+
+-- the margin of lines that reach so far, in a room of so many columns
+abbrev pub margin_by : ℕ → ℕ → ℕ → ℕ → ℕ → ℕ → Margin
+margin_by whitespace first last label_end room widest =
+    margin_bounds room (record { whitespace = whitespace; widest = widest; first = first; last = last; label_end = label_end })

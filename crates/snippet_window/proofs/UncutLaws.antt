@@ -11,7 +11,6 @@ use Rattle.snippet_lines.specs.declared.place.Loc.{Loc}
 use Rattle.snippet_parts.specs.Annotated.{annotated_lines, long_entry, single_part}
 use Rattle.snippet_parts.specs.Kept.{kept_lines}
 use Rattle.snippet_lines.specs.Lines.{Source, source_lines}
-use Rattle.snippet_window.specs.Margin.{margin_bounds}
 use Rattle.snippet_parts.specs.Mark.{is_marking, is_marked_on, is_single_line, is_wide, start_column}
 use Rattle.snippet_parts.specs.Marked.{first_line, last_line}
 use Rattle.snippet_parts.specs.Least.{greatest, least}
@@ -24,7 +23,7 @@ use Rattle.snippet_parts.proofs.MarkLemmas.{start_column-from}
 use Rattle.snippet_lines.proofs.PlaceLemmas.{locations_of-end}
 use Rattle.snippet_window.proofs.MarginLaws.{margin_of_spans}
 use Rattle.snippet_window.proofs.SpanMeasures.{columns, measured, measured_long, short_span, long_span, span_columns, span_ends}
-use Rattle.snippet_window.proofs.MeasureWords.{whitespaces_of, widths_of}
+use Rattle.snippet_window.proofs.MeasureWords.{margin_by, whitespaces_of, widths_of}
 use Rattle.snippet_window.specs.declared.margin.Margin.{Margin}
 
 -- lines of which each is blank begin with no whitespace that counts
@@ -154,7 +153,7 @@ uncut_left left room widest rest none fits =
     ap (λ (m : Margin). m.computed_left) (cond-true (leb (max widest left - left) room) kept rest here) ∙ none
 
 margin_near : (whitespace first last after room widest : ℕ) → min whitespace first ≤ 26 → widest ≤ room
-    → (margin_bounds whitespace first last after room widest).computed_left ≡ 0
+    → (margin_by whitespace first last after room widest).computed_left ≡ 0
 margin_near whitespace first last after room widest near fits =
     let blank : ℕ = min whitespace first - 6 in
     uncut_left (cond (ltb 20 blank) (blank - 16) 0) room widest _ (cond-false (ltb 20 blank) (blank - 16) 0 (grind (arith, nat_tests))) fits

@@ -24,8 +24,13 @@ margin_of room lines =
     let parts = filter (λ p. not (is_bar p.annotation_type)) (flat_map (λ line. line.parts) lines) in
     let columns = flat_map (λ p. p.start.display ∷ p.end.display ∷ []) parts in
     let ends = map (λ p. end_with p.end.display p.label) parts in
-    margin_bounds (unwrap_or (least (filter_map leading_whitespace texts)) 0) (unwrap_or (least columns) 0) (greatest columns) (greatest ends) room
-    (greatest (map width_of texts))
+    margin_bounds room (record {
+      whitespace = unwrap_or (least (filter_map leading_whitespace texts)) 0;
+      widest = greatest (map width_of texts);
+      first = unwrap_or (least columns) 0;
+      last = greatest columns;
+      label_end = greatest ends;
+    })
 
 -- an entry that has columns stands after the padding of a margin, if lines are cut on the left
 abbrev pub StandsClear : Margin → LineAnnotation → Type 0

@@ -95,7 +95,8 @@ abbrev pub end_mark_column : List ℕ → Annotation → ℕ
 end_mark_column source a =
     (end_location (record { text = source; first = 0 }) a.span.start a.span.end).display - 1
 
--- whether a span that is marked starts in a column up to 26, up to which nothing is cut from the left, or the mark at its end does
+-- whether a span that is marked starts in a column up to 26, or the mark at its end does: up to there, the six columns before a span and 20
+-- of whitespace, nothing is cut from the left
 abbrev pub is_near_span : List ℕ → Annotation → Bool
 is_near_span source a =
     is_marking a.kind && (nat_le (start_column source a) 26 || (not (is_single_line source a) && nat_le (end_mark_column source a) 26))

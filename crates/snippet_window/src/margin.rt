@@ -36,8 +36,13 @@ impl Margin {
         term_width: usize,
         max_line_len: usize,
     ) -> Margin
-        ensures bounds { result
-            ≡ margin_bounds whitespace_left span_left span_right label_right term_width max_line_len }
+        ensures bounds { result ≡ margin_bounds term_width (record {
+          whitespace = whitespace_left;
+          widest = max_line_len;
+          first = span_left;
+          last = span_right;
+          label_end = label_right;
+        }) }
         ensures room { result.term_width ≡ term_width }
         ensures ordered { span_left ≤ span_right → result.computed_left ≤ result.computed_right }
         // Where lines are cut on the left, the first span stands after the padding.

@@ -3,7 +3,6 @@ use Rattle.std.proofs.lemmas.List.{take_all}
 use Rattle.snippet_window.specs.Extent.{ReachesLines, columns_of, entries_of}
 use Rattle.snippet_parts.specs.declared.shown_line.ShownLine.{ShownLine}
 use Rattle.snippet_parts.specs.ShownLines.{kept_of}
-use Rattle.snippet_window.specs.Margin.{margin_bounds}
 use Rattle.snippet_window.specs.Measures.{StandsClear}
 use Rattle.snippet_parts.specs.Least.{least}
 use Rattle.snippet_parts.proofs.LeastLemmas.{least_below}
@@ -11,6 +10,7 @@ use Rattle.snippet_window.proofs.ExtentLemmas.{lines_all, starts_all}
 use Rattle.snippet_window.proofs.MarginLaws.{bounds_reached}
 use Rattle.snippet_parts.proofs.ShownLineLemmas.{kept_of-next, kept_of-past}
 use Rattle.snippet_window.proofs.extent.margin_for.Goals as goal
+use Rattle.snippet_window.proofs.MeasureWords.{margin_by}
 use Rattle.snippet_window.proofs.extent.margin_for.Goals.{else-not-line, then-not-line}
 
 pub returns-clause-clear : goal.returns-clause-clear
@@ -29,8 +29,8 @@ returns-clause-bounds c =
     let all : take c.loop-line.line-index lines ≡ lines = take_all c.loop-line.line-index lines (omega arith) in
     let x = c.loop-line.extent in
     let reaches = subst (λ ls. ReachesLines (kept_of ls) x) all c.loop-line.invariant in
-    c.new.ensures.bounds ∙ ap (λ n. margin_bounds n c.unwrap_or-2.result x.last x.label_end c.args.room x.widest) c.unwrap_or.ensures
-    ∙ ap (λ n. margin_bounds (unwrap_or x.whitespace 0) n x.last x.label_end c.args.room x.widest) c.unwrap_or-2.ensures
+    c.new.ensures.bounds ∙ ap (λ n. margin_by n c.unwrap_or-2.result x.last x.label_end c.args.room x.widest) c.unwrap_or.ensures
+    ∙ ap (λ n. margin_by (unwrap_or x.whitespace 0) n x.last x.label_end c.args.room x.widest) c.unwrap_or-2.ensures
     ∙ bounds_reached c.args.room (kept_of lines) x reaches
 
 pub loop-line-preserved : goal.loop-line-preserved
