@@ -36,7 +36,8 @@ begin_stem_rows-requires c =
 stems_drawn : (layout : Layout) (row : ℕ) (given placed : List PlacedEntry) (old begun stemmed : List (List Cell)) → length old ≡ row + 1 → given ≡ placed
     → stemmed ≡ painted (flat_map (stem_of layout (length old)) given) begun → stemmed ≡ painted (stems_of layout (row + 1) placed) begun
 stems_drawn layout row given placed old begun stemmed last are drawn =
-    drawn ∙ stems_painted layout (length old) given begun ∙ ap (λ n. painted (stems_of layout n given) begun) last ∙ ap (λ ps. painted (stems_of layout (row + 1) ps) begun) are
+    drawn ∙ stems_painted layout (length old) given begun
+    ∙ ap (λ n. painted (stems_of layout n given) begun) last ∙ ap (λ ps. painted (stems_of layout (row + 1) ps) begun) are
 
 pub overflow_add-place : goal.overflow_add-place
 overflow_add-place c =
@@ -108,7 +109,8 @@ returns c =
     ∙ ap (λ ps. painted (labels_of layout (row + 1) ps) stemmed) c.deref-2.ensures.value in
     let hung : length labelled ≡ length stemmed = count_labels stemmed labelled enough labels in
     let marks : new ≡ painted (marks_of layout (row + 1) (painting_order placed)) labelled = c.in_ok-draw_marks.ensures.painted
-    ∙ every_mark layout (row + 1) c.draw_marks.new.placed.items labelled ∙ ap (λ ps. painted (marks_of layout (row + 1) ps) labelled) c.in_ok-draw_marks.ensures.order in
+    ∙ every_mark layout (row + 1) c.draw_marks.new.placed.items labelled
+    ∙ ap (λ ps. painted (marks_of layout (row + 1) ps) labelled) c.in_ok-draw_marks.ensures.order in
     record {
       order = c.in_ok-draw_marks.ensures.order;
       painted = hanging_painted layout row (length old + c.args.count) placed (painting_order placed) _ stemmed labelled new

@@ -14,9 +14,11 @@ use Rattle.snippet_labels.specs.PlacedEntries.{HasPlace, shifted}
 use Rattle.std.specs.Prelude.{if◌then◌else◌}
 use Rattle.std.specs.List.{list_any}
 use Rattle.snippet_strokes.specs.Cuts.{overlapped}
-use Rattle.snippet_strokes.specs.LookedCuts.{cut_rows, cuts_of, is_wide_at}
+use Rattle.snippet_strokes.specs.LookedCuts.{is_wide_at}
+use Rattle.snippet_strokes.proofs.CutWords.{cut_rows, cuts_of}
 use Rattle.snippet_strokes.specs.SourceRows.{bare_row}
 use Rattle.snippet_style.specs.Separators.{closing_row, separator_row}
+use Rattle.snippet_strokes.proofs.CutPairs.{entries_cut}
 use Rattle.snippet_strokes.proofs.PaintOrder.{IsPermutation-painting_order}
 use Rattle.snippet_strokes.proofs.PositionLemmas.{looked_of_placed, row_count_some, positions_of_placed}
 use Rattle.snippet_strokes.proofs.BegunLemmas.{rows_begun, rows_ready}
@@ -163,7 +165,8 @@ returns c =
     let all : ℕ = length old + row_count placed in
     let long : length begun ≡ all = rows_begun old begun sep end (row_count placed) (row_count_some placed) begun_is in
     let new_is : new ≡ painted (drawn_strokes layout row (length begun) placed after) begun = c.in_ok-draw_rows.ensures.painted
-    ∙ strokes_painted layout row (length old + c.row_count-count.result) placed after begun ∙ ap (λ n. painted (drawn_strokes layout row n placed after) begun) (sym whole) in
+    ∙ strokes_painted layout row (length old + c.row_count-count.result) placed after begun
+    ∙ ap (λ n. painted (drawn_strokes layout row n placed after) begun) (sym whole) in
     let flags = c.in_ok-overlapped.overlapped.items in
     let final = c.cut_wide.new.buffer in
     let cut_to : List PlacedEntry → List Bool → List (List Cell) = λ ps fs. cut_rows layout.decor row (cuts_of layout c.args.place.room ps fs) new in
@@ -183,7 +186,7 @@ returns c =
           painted_added layout c.args.place.room c.args.place.closes es placed flags above source old new final row are old_is
           (last_row above source old_is) all_rows
           (new_is ∙ ap (λ n. painted (drawn_strokes layout row n placed after) begun) long ∙ ap (painted (drawn_strokes layout row all placed after)) begun_is)
-          flags_are (final_is value)
+          flags_are (final_is (value ∙ sym (entries_cut layout c.args.place.room row c.deref-3.result.now c.deref-4.result.now new)))
           ∙ ap (λ rows. above ++ rows) (sym (own_strokes layout c.args.place.room closes text c.args.place.dropped c.args.entries.now source other given)))
           c.cut_wide.ensures.value;
     }
