@@ -39,9 +39,8 @@ use Rattle.snippet_parts.specs.declared.entries.LineAnnotationType.TheVariants.{
 use Rattle.snippet_parts.proofs.PartLemmas.{made-all}
 use Rattle.snippet_strokes.specs.Bars.{Bar, bars_apart, ends_of_bars, is_whole_line}
 use Rattle.snippet_strokes.specs.Cuts.{overlapped}
-use Rattle.snippet_strokes.specs.LookedCuts.{Stretch}
+use Rattle.snippet_strokes.proofs.CutWords.{Stretch, cuts_of}
 use Rattle.snippet_strokes.proofs.StrokeWords.{cut_row}
-use Rattle.snippet_strokes.specs.LookedCuts.{cuts_of}
 use Rattle.snippet_labels.specs.PlacedEntries.{shifted}
 use Rattle.snippet_labels.proofs.LabelWords.{label_text}
 use Rattle.snippet_strokes.proofs.LineFacts.{AreLineRows, AreOwnRows, StrokesPainted}

@@ -22,9 +22,9 @@ use Rattle.snippet_grid.proofs.ReplaceLemmas.{replaced_there, replaced_empty, re
 use Rattle.snippet_grid.specs.Layout.{Layout, code_cell}
 use Rattle.snippet_labels.specs.declared.positions.PlacedEntry.{PlacedEntry}
 use Rattle.snippet_model.specs.FreeRows.{IsFreeCell}
-use Rattle.snippet_strokes.specs.LookedCuts.{Stretch, cut_of}
+use Rattle.snippet_strokes.proofs.CutWords.{Stretch, cut_of, cut_rows, cuts_of}
 use Rattle.snippet_strokes.proofs.StrokeWords.{cut_row}
-use Rattle.snippet_strokes.specs.LookedCuts.{cut_rows, cuts_of, is_wide_at}
+use Rattle.snippet_strokes.specs.LookedCuts.{is_wide_at}
 use Rattle.snippet_strokes.proofs.PlainEntries.{wide_entries}
 use Rattle.snippet_strokes.proofs.SeenRows.{IsCut}
 use Rattle.snippet_strokes.proofs.CellLemmas.{free_placeholder}
@@ -40,7 +40,7 @@ use Rattle.snippet_strokes.proofs.StrokeWords.{begun_rows}
 use Rattle.snippet_strokes.proofs.EveryStroke.{strokes_painted}
 
 -- the cells of the middle of an entry
-abbrev middle_of : Layout → ℕ → LineAnnotation → Stretch
+abbrev pub middle_of : Layout → ℕ → LineAnnotation → Stretch
 middle_of layout room e =
     let kept = max 5 (room / 3) in
     record { from = code_cell layout e.start.display + kept; to = code_cell layout e.end.display - kept }
@@ -259,7 +259,7 @@ IsCut-cuts layout room (e ∷ es) (flag ∷ flags) row =
 -- ---- entry by entry
 
 -- what is cut for one entry
-cut_one : (layout : Layout) (room : ℕ) (pair : PlacedEntry × Bool) (row : List Cell)
+pub cut_one : (layout : Layout) (room : ℕ) (pair : PlacedEntry × Bool) (row : List Cell)
     → cut_row layout.decor (cut_of layout room pair) row ≡ cut_middle layout room row pair
 cut_one layout room pair row =
     either (is_wide_entry room (length (placeholder_of layout.decor)) pair.0.entry && not pair.1)

@@ -13,7 +13,7 @@ use Rattle.snippet_parts.specs.declared.entries.LineAnnotation.{LineAnnotation}
 use Rattle.snippet_parts.specs.declared.entries.LineAnnotationType.TheVariants.{Singleline}
 use Rattle.snippet_labels.specs.declared.positions.PlacedEntry.{PlacedEntry}
 use Rattle.snippet_strokes.specs.Cuts.{overlapped}
-use Rattle.snippet_strokes.specs.LookedCuts.{cut_of}
+use Rattle.snippet_strokes.proofs.CutWords.{cut_of}
 use Rattle.snippet_strokes.proofs.StrokeWords.{cut_row}
 use Rattle.snippet_strokes.specs.Labels.{stroke_glyphs}
 use Rattle.snippet_strokes.specs.Painting.{painting_order}

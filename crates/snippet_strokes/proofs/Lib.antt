@@ -13,6 +13,8 @@ pub mod BlankLemmas
 pub mod CellLemmas
 pub mod CrossedLaws
 pub mod CutLemmas
+pub mod CutPairs
+pub mod CutWords
 pub mod DrawLemmas
 pub mod Drawn
 pub mod DrawnCells

@@ -33,7 +33,7 @@ use Rattle.snippet_strokes.specs.Bars.{ends_of_bars, is_whole_line}
 use Rattle.snippet_strokes.proofs.BarParts.{with_parts}
 use Rattle.snippet_strokes.specs.Cuts.{overlapped}
 use Rattle.snippet_strokes.proofs.StrokeWords.{cut_row}
-use Rattle.snippet_strokes.specs.LookedCuts.{cuts_of}
+use Rattle.snippet_strokes.proofs.CutWords.{cuts_of}
 use Rattle.snippet_strokes.specs.Drawing.{row_count}
 use Rattle.snippet_strokes.specs.LineRows.{line_rows, own_rows}
 use Rattle.snippet_strokes.specs.Painting.{painting_order}

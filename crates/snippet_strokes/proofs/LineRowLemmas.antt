@@ -22,9 +22,9 @@ use Rattle.snippet_strokes.specs.Painting.{painting_order}
 use Rattle.snippet_labels.specs.Positions.{ArePlaced}
 use Rattle.snippet_strokes.specs.Drawing.{row_count}
 use Rattle.snippet_strokes.specs.Cuts.{overlapped}
-use Rattle.snippet_strokes.specs.LookedCuts.{Stretch}
+use Rattle.snippet_strokes.proofs.CutWords.{Stretch, cut_rows, cuts_of}
 use Rattle.snippet_strokes.proofs.StrokeWords.{cut_row}
-use Rattle.snippet_strokes.specs.LookedCuts.{cut_rows, cuts_of, is_wide_at}
+use Rattle.snippet_strokes.specs.LookedCuts.{is_wide_at}
 use Rattle.snippet_strokes.proofs.SeenRows.{CutsRows, IsCut}
 use Rattle.snippet_strokes.specs.SourceRows.{bare_row}
 use Rattle.snippet_strokes.specs.Strokes.{stroke_rows}

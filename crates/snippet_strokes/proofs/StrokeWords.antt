@@ -25,7 +25,7 @@ use Rattle.snippet_style.specs.declared.role.ElementStyle.TheVariants.{Underline
 use Rattle.snippet_strokes.specs.StrokeRows.{highlights}
 use Rattle.snippet_grid.specs.Grid.{replaced_within}
 use Rattle.snippet_style.specs.declared.glyphs.DecorStyle.{DecorStyle}
-use Rattle.snippet_strokes.specs.LookedCuts.{Stretch}
+use Rattle.snippet_strokes.proofs.CutWords.{Stretch}
 
 -- the label of an entry
 abbrev pub label_write : Layout → ℕ → PlacedEntry → Write

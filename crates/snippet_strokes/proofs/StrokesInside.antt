@@ -19,7 +19,7 @@ use Rattle.snippet_labels.specs.Positions.{has_label, label_place, placed_of}
 use Rattle.snippet_labels.specs.declared.positions.PlacedEntry.{PlacedEntry}
 use Rattle.snippet_strokes.specs.Cuts.{overlapped}
 use Rattle.snippet_strokes.proofs.StrokeWords.{cut_row}
-use Rattle.snippet_strokes.specs.LookedCuts.{cuts_of}
+use Rattle.snippet_strokes.proofs.CutWords.{cuts_of}
 use Rattle.snippet_strokes.specs.Drawing.{HasRows, row_count}
 use Rattle.snippet_strokes.specs.Painting.{first_glyph, mark_end, painting_order, stroke_role}
 use Rattle.snippet_strokes.specs.SourceRows.{bare_row}

@@ -10,7 +10,6 @@ use Rattle.snippet_labels.specs.declared.positions.PlacedEntry.{PlacedEntry}
 use Rattle.snippet_labels.specs.PlacedEntries.{entry_width}
 use Rattle.snippet_model.specs.AnnotationKind.{is_primary}
 use Rattle.snippet_labels.specs.Positions.{has_stem, takes_space}
-use Rattle.std.specs.List.{flat_map}
 use Rattle.snippet_style.specs.declared.role.ElementStyle.{ElementStyle}
 use Rattle.snippet_strokes.specs.Writes.{Write, glyph_at, stretch_of}
 

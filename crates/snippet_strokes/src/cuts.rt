@@ -1,9 +1,9 @@
 //! Wide spans, of which the middle gives its place to the placeholder, in the source row and in the row of the marks.
-ghost use Rattle.std.specs.Prelude.{◌≡◌, ◌+◌, ◌/◌, ◌<◌, ◌≤◌, max, [], false, true, All, IfOk, OnOk, length};
-ghost use Rattle.std.specs.List.{list_any};
+ghost use Rattle.std.specs.Prelude.{◌≡◌, ◌+◌, ◌/◌, ◌<◌, ◌≤◌, max, [], false, true, All, IfOk, OnOk, fold, length};
+ghost use Rattle.std.specs.List.{list_any, zip};
 ghost use Rattle.snippet_parts.specs.Entries.{is_wide_entry};
 ghost use Rattle.snippet_style.specs.Glyphs.{placeholder_of};
-ghost use Rattle.snippet_grid.specs.Grid.{cells_replaced};
+ghost use Rattle.snippet_grid.specs.Grid.{cells_replaced, changed_within};
 ghost use Rattle.snippet_style.specs.Cell.{text_cells};
 ghost use Rattle.snippet_style.specs.declared.role.ElementStyle.TheVariants.{LineNumber};
 ghost use Rattle.snippet_strokes.specs.Cuts as rule;
@@ -168,8 +168,9 @@ pub(crate) fn cut_wide(
     requires count { length overlapped.now ≤ length placed.now }
     requires rows { row + 1 < length buffer.old }
     requires small { AreRows (length buffer.old) }
-    ensures value { OnOk result (buffer.new ≡ spec.cut_rows layout.decor row
-        (spec.cuts_of layout room placed.now overlapped.now) buffer.old) }
+    ensures value { OnOk result (buffer.new ≡ changed_within
+        (λ cells. fold (rule.cut_middle layout room) cells (zip placed.now overlapped.now))
+        row (row + 2) buffer.old) }
 {
     for k in 0..overlapped.len() {
         cut_entry(buffer, layout, row, room, &placed[k], overlapped[k])?;
@@ -192,8 +193,8 @@ fn cut_entry(
 ) -> Result<(), AllocError>
     requires columns { HasPlace placed.now.entry }
     requires small { HasNext row }
-    ensures value { OnOk result (buffer.new ≡ spec.cut_rows layout.decor row
-        (spec.cut_of layout room (placed.now, overlapped)) buffer.old) }
+    ensures value { OnOk result (buffer.new ≡ changed_within
+        (λ cells. rule.cut_middle layout room cells (placed.now, overlapped)) row (row + 2) buffer.old) }
 {
     let entry = &placed.entry;
     if overlapped || !is_wide(room, layout.decor, entry) {

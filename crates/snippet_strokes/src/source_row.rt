@@ -156,8 +156,7 @@ fn write_source_row(
     ensures added { OnOk result (buffer.new ≡ buffer.old
         ++ with_bars layout (λ strokes. strokes.bar) beside.entry.past.now
         (with_bars layout (λ strokes. strokes.whole_line) beside.entry.tops.now
-        (source_row layout (chars texts.entry.number.now)
-        (ended_cells layout.decor texts.entry.window.end
+        (source_row layout (chars texts.entry.number.now) (ended_cells layout.decor texts.entry.window.end
         (begun_cells layout.decor texts.entry.window.start (chars texts.entry.window.text.now))))) ∷ []) }
     ensures short { OnOk result (IsWindowEnd (length (ended_cells layout.decor texts.entry.window.end
         (begun_cells layout.decor texts.entry.window.start (chars texts.entry.window.text.now))))) }

@@ -1,8 +1,8 @@
 use Rattle.std.proofs.Common.{◌∙◌, ◌+◌, ◌<◌, List, false, sym, ap, arith, length, drop, get_or}
 use Rattle.snippet_labels.specs.declared.positions.PlacedEntry.{PlacedEntry}
-use Rattle.snippet_strokes.specs.LookedCuts.{Stretch, cut_of}
-use Rattle.snippet_strokes.specs.LookedCuts.{cut_rows, cuts_of}
+use Rattle.snippet_strokes.proofs.CutWords.{Stretch, cut_of, cut_rows, cuts_of}
 use Rattle.snippet_strokes.proofs.CutLemmas.{cut_rows-append, cuts_of-more, cuts_of-none}
+use Rattle.snippet_strokes.proofs.CutPairs.{entries_cut, entry_cut}
 use Rattle.snippet_strokes.proofs.cuts.cut_wide.Goals as goal
 
 pub loop-k-preserved : goal.loop-k-preserved
@@ -18,7 +18,8 @@ loop-k-preserved c =
     let of : PlacedEntry → List Stretch = λ y. cut_of layout c.args.room (y, get_or flags k flag) in
     let rest = cuts_of layout c.args.room (drop (k + 1) placed) (drop (k + 1) flags) in
     let more = cuts_of-more layout c.args.room placed flags k x flag within c.loop-k-test.true in
-    ap (cut_rows layout.decor row rest) c.in_ok-cut_entry.ensures.value
+    ap (cut_rows layout.decor row rest) (c.in_ok-cut_entry.ensures.value
+    ∙ sym (entry_cut layout c.args.room row (x, get_or flags k flag) c.loop-k.buffer))
     ∙ ap (λ y. cut_rows layout.decor row rest (cut_rows layout.decor row (of y) c.loop-k.buffer)) c.index-placed-k.is
     ∙ sym (cut_rows-append layout.decor row (of (get_or placed k x)) rest c.loop-k.buffer)
     ∙ ap (λ cuts. cut_rows layout.decor row cuts c.loop-k.buffer) (sym more)
@@ -28,4 +29,7 @@ pub returns : goal.returns
 returns c =
     let layout = c.args.layout in
     let none = cuts_of-none layout c.args.room c.loop-k.k c.args.placed.now c.args.overlapped.now (omega (arith, c.loop-k-test.false)) in
-    record { value = sym (ap (λ cuts. cut_rows layout.decor c.args.row cuts c.loop-k.buffer) none) ∙ c.loop-k.invariant }
+    record {
+      value = sym (ap (λ cuts. cut_rows layout.decor c.args.row cuts c.loop-k.buffer) none) ∙ c.loop-k.invariant
+          ∙ entries_cut layout c.args.room c.args.row c.args.placed.now c.args.overlapped.now c.args.buffer.now;
+    }

@@ -36,8 +36,8 @@ begin_stem_rows-requires c =
 stems_drawn : (layout : Layout) (row : ℕ) (given placed : List PlacedEntry) (old begun stemmed : List (List Cell)) → length old ≡ row + 1 → given ≡ placed
     → stemmed ≡ painted (flat_map (stem_of layout (length old)) given) begun → stemmed ≡ painted (stems_of layout (row + 1) placed) begun
 stems_drawn layout row given placed old begun stemmed last are drawn =
-    drawn ∙ stems_painted layout (length old) given begun ∙ ap (λ n. painted (stems_of layout n given) begun) last
-    ∙ ap (λ ps. painted (stems_of layout (row + 1) ps) begun) are
+    drawn ∙ stems_painted layout (length old) given begun
+    ∙ ap (λ n. painted (stems_of layout n given) begun) last ∙ ap (λ ps. painted (stems_of layout (row + 1) ps) begun) are
 
 pub overflow_add-place : goal.overflow_add-place
 overflow_add-place c =

@@ -14,9 +14,11 @@ use Rattle.snippet_labels.specs.PlacedEntries.{HasPlace, shifted}
 use Rattle.std.specs.Prelude.{if◌then◌else◌}
 use Rattle.std.specs.List.{list_any}
 use Rattle.snippet_strokes.specs.Cuts.{overlapped}
-use Rattle.snippet_strokes.specs.LookedCuts.{cut_rows, cuts_of, is_wide_at}
+use Rattle.snippet_strokes.specs.LookedCuts.{is_wide_at}
+use Rattle.snippet_strokes.proofs.CutWords.{cut_rows, cuts_of}
 use Rattle.snippet_strokes.specs.SourceRows.{bare_row}
 use Rattle.snippet_style.specs.Separators.{closing_row, separator_row}
+use Rattle.snippet_strokes.proofs.CutPairs.{entries_cut}
 use Rattle.snippet_strokes.proofs.PaintOrder.{IsPermutation-painting_order}
 use Rattle.snippet_strokes.proofs.PositionLemmas.{looked_of_placed, row_count_some, positions_of_placed}
 use Rattle.snippet_strokes.proofs.BegunLemmas.{rows_begun, rows_ready}
@@ -184,7 +186,7 @@ returns c =
           painted_added layout c.args.place.room c.args.place.closes es placed flags above source old new final row are old_is
           (last_row above source old_is) all_rows
           (new_is ∙ ap (λ n. painted (drawn_strokes layout row n placed after) begun) long ∙ ap (painted (drawn_strokes layout row all placed after)) begun_is)
-          flags_are (final_is value)
+          flags_are (final_is (value ∙ sym (entries_cut layout c.args.place.room row c.deref-3.result.now c.deref-4.result.now new)))
           ∙ ap (λ rows. above ++ rows) (sym (own_strokes layout c.args.place.room closes text c.args.place.dropped c.args.entries.now source other given)))
           c.cut_wide.ensures.value;
     }
