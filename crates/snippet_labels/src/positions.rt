@@ -196,8 +196,8 @@ fn shifted<'a>(entry: &LineAnnotation<'a>, dropped: usize) -> LineAnnotation<'a>
 fn shown_label<'a>(alloc: Global, entry: &LineAnnotation<'a>) -> Result<DrawnLabel<'a>, AllocError>
     ensures shows { IfOk result (λ label. chars label ≡ normalized_chars entry.now.label) }
 {
-    match &entry.label {
-        Some(label) => Ok(DrawnLabel::new(normalized(alloc, label.as_str())?)),
+    match entry.label.text() {
+        Some(text) => Ok(DrawnLabel::new(normalized(alloc, text)?)),
         None => Ok(DrawnLabel::new(CowStr::Borrowed(""))),
     }
 }

@@ -15,7 +15,7 @@ pub struct LineAnnotation<'a> {
     /// How it is marked.
     pub kind: AnnotationKind,
     /// What is said of it.
-    pub label: Option<Label<'a>>,
+    pub label: Label<'a>,
     /// Which part of a span it stands for.
     pub annotation_type: LineAnnotationType,
     /// Whether the source itself is coloured as the mark is.
@@ -31,7 +31,7 @@ impl<'a> LineAnnotation<'a> {
             start: self.start,
             end: self.end,
             kind: self.kind,
-            label: self.label.as_ref().map(|label| label.copied()),
+            label: self.label.copied(),
             annotation_type: self.annotation_type,
             highlight_source: self.highlight_source,
         }

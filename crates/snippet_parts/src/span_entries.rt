@@ -43,11 +43,7 @@ fn entry<'a>(span: &LocatedSpan<'a>) -> LineAnnotation<'a>
         start: span.start,
         end,
         kind: span.annotation.kind,
-        label: span
-            .annotation
-            .label
-            .as_ref()
-            .map(|label| Label::new(label.as_str())),
+        label: Label::new(span.annotation.label.as_ref().map(|label| label.as_str())),
         annotation_type: LineAnnotationType::Singleline,
         highlight_source: span.annotation.highlight_source,
     }
@@ -121,7 +117,7 @@ fn start_entry(span: LongSpan<'_>, depth: usize) -> LineAnnotation<'_>
         start: span.start,
         end,
         kind: span.kind,
-        label: None,
+        label: Label::new(None),
         annotation_type: LineAnnotationType::MultilineStart(depth),
         highlight_source: span.highlight_source,
     }
@@ -141,7 +137,7 @@ fn bar_entry(span: LongSpan<'_>, number: usize, depth: usize) -> LineAnnotation<
         start: at,
         end: at,
         kind: span.kind,
-        label: None,
+        label: Label::new(None),
         annotation_type: LineAnnotationType::MultilineLine(depth),
         highlight_source: span.highlight_source,
     }
@@ -161,7 +157,7 @@ fn end_entry(span: LongSpan<'_>, annotation_type: LineAnnotationType) -> LineAnn
         start,
         end: span.end,
         kind: span.kind,
-        label: span.label.map(|text| Label::new(text)),
+        label: Label::new(span.label),
         annotation_type,
         highlight_source: span.highlight_source,
     }

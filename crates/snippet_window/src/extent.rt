@@ -118,11 +118,8 @@ fn label_end(entry: &LineAnnotation) -> usize
     requires label { IfSome entry.now.label TextFits }
     ensures value { result ≡ end_with entry.now.end.display entry.now.label }
 {
-    match &entry.label {
-        Some(label) => entry
-            .end
-            .display
-            .saturating_add(str_width(label.as_str()) + 1),
+    match entry.label.text() {
+        Some(text) => entry.end.display.saturating_add(str_width(text) + 1),
         None => entry.end.display,
     }
 }

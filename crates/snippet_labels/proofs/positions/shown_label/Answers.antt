@@ -1,7 +1,10 @@
 use Rattle.std.proofs.Common.{◌∙◌, chars, sym, ap}
 use Rattle.std.proofs.lemmas.Str.{chars-nil}
+use Rattle.std.specs.Option.{option_copied}
 use Rattle.snippet_labels.proofs.LabelWords.{label_chars}
 use Rattle.snippet_labels.proofs.positions.shown_label.Goals as goal
 
 pub returns-in-None : goal.returns-in-None
-returns-in-None c = record { shows = ap chars c.new-in-None.ensures.value ∙ chars-nil ∙ sym (ap label_chars c.in-None.is) }
+returns-in-None c = record {
+  shows = ap chars c.new-in-None.ensures.value ∙ chars-nil ∙ ap label_chars (sym (ap option_copied c.in-None.is) ∙ c.text.ensures.value);
+}

@@ -1,5 +1,5 @@
-use Rattle.std.proofs.Common.{◌∙◌, ◌+◌, ap, chars, sym}
-use Rattle.snippet_text.specs.Width.{width_of}
+use Rattle.std.proofs.Common.{◌∙◌, ◌+◌, ap, sym}
+use Rattle.std.specs.Option.{option_copied}
 use Rattle.snippet_window.specs.Margin.{capped_sum}
 use Rattle.snippet_window.specs.Measures.{end_with}
 use Rattle.snippet_window.proofs.extent.label_end.Goals as goal
@@ -9,5 +9,5 @@ returns-in-Some c =
     let end = c.args.entry.now.end.display in
     record {
       value = c.saturating_add.ensures ∙ ap (λ n. capped_sum end (n + 1)) c.str_width.ensures.value
-          ∙ ap (λ t. capped_sum end (width_of (chars t) + 1)) c.as_str.ensures.value ∙ ap (end_with end) (sym c.in-Some.is);
+          ∙ ap (end_with end) (sym (ap option_copied c.in-Some.is) ∙ c.text.ensures.value);
     }
