@@ -11,9 +11,10 @@
     1 | let x = 1;
       |     ^ never read
 
-A report is a list of groups, as docs/REPORTS.md has them: dicts, or the dataclasses below. What may be left out may be None too, but
-for a level's name: there None is no name at all. Spans count characters of the source; with `spans="bytes"` they count bytes of its
-UTF-8, as in that document.
+A report is a list of groups: dicts with the fields that docs/REPORTS.md has, or the dataclasses below. What may be left out may be None
+too, but for a level's name: there None is no name at all. Spans are `start` and `end`, and count characters of the source; with
+`spans="bytes"` they count bytes of its UTF-8. What else that document has is refused as NotDrawable: `unit`, spans by `from` and `to`,
+and, in place of a source, the number of one of the case's `sources`. `answer_json` takes these, and `html`.
 
 The library is looked for where YAZGULT_LIB says (a file), in YAZGULT_LIB_DIR, beside this file and in the lib folder of the prefix that
 it is installed under, and where the system has its libraries.

@@ -1,5 +1,6 @@
 //! The call of the library, and what it answers.
 
+use crate::bytes::reserve;
 use crate::renderer::RenderError;
 
 extern "C" {
@@ -8,9 +9,9 @@ extern "C" {
 
 /// The answer to a report in its bytes: a text under each sheet, or why there is none.
 pub(crate) fn draw(input: &[u8]) -> Result<Vec<String>, RenderError> {
-    let mut answer = Answer { bytes: &answer_to(input) };
+    let mut answer = Answer { bytes: &answer_to(input)? };
     match answer.byte() {
-        0 => Ok((0..answer.number()).map(|_| answer.text()).collect()),
+        0 => answer.texts(),
         1 => Err(answer.refusal()),
         3 => Err(RenderError::Memory),
         _ => panic!("libyazgult and the crate yazgult don't fit together"),
@@ -19,7 +20,7 @@ pub(crate) fn draw(input: &[u8]) -> Result<Vec<String>, RenderError> {
 
 /// The same of a report under one sheet.
 pub(crate) fn draw_one(input: &[u8]) -> Result<String, RenderError> {
-    let mut bytes = answer_to(input);
+    let mut bytes = answer_to(input)?;
     // an answer of one text is its kind, the number of texts, the length of the text, and the text
     if bytes.starts_with(&[0, 1]) {
         bytes.drain(..17);
@@ -28,10 +29,13 @@ pub(crate) fn draw_one(input: &[u8]) -> Result<String, RenderError> {
     Ok(draw(input)?.remove(0))
 }
 
-/// The bytes of the answer to a report in its bytes. Where there is less room than the answer takes the report is drawn once more, so
-/// there is room for what most reports take: labels and bars make a text longer than what it is made of.
-fn answer_to(input: &[u8]) -> Vec<u8> {
-    let mut output = Vec::with_capacity(4 * input.len() + 16384);
+/// What most texts have room in, beside as much as the report takes: labels and bars make a text longer than what it is made of.
+const ROOM: usize = 16384;
+
+/// The bytes of the answer to a report in its bytes. Where there is less room than the answer takes the report is drawn once more.
+fn answer_to(input: &[u8]) -> Result<Vec<u8>, RenderError> {
+    let mut output = Vec::new();
+    reserve(input.len().saturating_add(ROOM), &mut output)?;
     loop {
         let room = output.capacity();
         // SAFETY: both pointers are of a slice's length and not null, and the output overlaps nothing else; the library writes the
@@ -40,9 +44,9 @@ fn answer_to(input: &[u8]) -> Vec<u8> {
         if length <= room {
             // SAFETY: the library has written so many bytes.
             unsafe { output.set_len(length) };
-            return output;
+            return Ok(output);
         }
-        output.reserve(length);
+        reserve(length, &mut output)?;
     }
 }
 
@@ -66,9 +70,22 @@ impl<'a> Answer<'a> {
         u64::from_le_bytes(self.take(8).try_into().expect("a number has eight bytes")) as usize
     }
 
-    fn text(&mut self) -> String {
+    fn texts(&mut self) -> Result<Vec<String>, RenderError> {
+        let mut texts = Vec::new();
+        let count = self.number();
+        reserve(count, &mut texts)?;
+        for _ in 0..count {
+            texts.push(self.text()?);
+        }
+        Ok(texts)
+    }
+
+    fn text(&mut self) -> Result<String, RenderError> {
+        let mut bytes = Vec::new();
         let length = self.number();
-        String::from_utf8(self.take(length).to_vec()).expect("texts are UTF-8")
+        reserve(length, &mut bytes)?;
+        bytes.extend_from_slice(self.take(length));
+        Ok(String::from_utf8(bytes).expect("texts are UTF-8"))
     }
 
     fn refusal(&mut self) -> RenderError {

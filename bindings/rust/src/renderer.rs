@@ -99,8 +99,8 @@ impl Renderer {
         self
     }
 
-    /// Whether line feeds of labels, paths, identifiers and level names are shown, as `␊`, so that no such text can begin a line of the
-    /// report. They are drawn as they are unless this says otherwise.
+    /// Whether line feeds of labels, paths, identifiers and level names are shown, as `␊`, and in the text form those of replacements, so
+    /// that no such text can begin a line of the report. They are drawn as they are unless this says otherwise.
     pub const fn show_line_feeds(mut self, show_line_feeds: bool) -> Self {
         self.show_line_feeds = show_line_feeds;
         self
@@ -166,16 +166,16 @@ impl Renderer {
         self.try_render(groups).unwrap_or_else(|refusal| panic!("{refusal}"))
     }
 
-    /// The text of a report, or why there is none.
+    /// The text of a report, or why there is none. Where memory is refused, that is told as any other refusal.
     pub fn try_render(&self, groups: Report<'_>) -> Result<String, RenderError> {
         let sheet = std::slice::from_ref(&self.stylesheet);
-        call::draw_one(&bytes::report(self, sheet, groups))
+        call::draw_one(&bytes::report(self, sheet, groups)?)
     }
 
     /// The texts of a report, one under each of these sheets, in order; the renderer's own sheet isn't looked at. They differ in
     /// their codes alone.
     pub fn render_sheets(&self, groups: Report<'_>, sheets: &[Stylesheet]) -> Result<Vec<String>, RenderError> {
-        call::draw(&bytes::report(self, sheets, groups))
+        call::draw(&bytes::report(self, sheets, groups)?)
     }
 
     /// The style of an error's level, of its primary marks and their labels.
