@@ -9,12 +9,13 @@ use Rattle.std.specs.List.{flat_map, list_all}
 use Rattle.std.specs.Str.{chars}
 use lib.Pointwise.{pointwise}
 use Rattle.snippet_grid.proofs.HtmlLemmas.{look_is}
-use Rattle.snippet_grid.proofs.HtmlReads.{is_made, lacks, piece_says}
-use Rattle.snippet_grid.specs.Html.{HtmlLook, HtmlPiece, Text, anchor_ended, anchor_started, tags_between, cells_html, class_of, ended}
+use Rattle.snippet_grid.proofs.HtmlReads.{is_class, is_made, piece_says}
+use Rattle.snippet_grid.specs.Html.{HtmlLook, HtmlPiece, Text, SpanStart, SpanEnd, AnchorStart, AnchorEnd, anchor_ended, anchor_started}
+use Rattle.snippet_grid.specs.Html.{tags_between, cells_html, class_of, ended}
 use Rattle.snippet_grid.specs.Html.{further_html, level_class, html_look_of, plain_look, row_html, rows_html, same_html_look, span_ended}
 use Rattle.snippet_grid.specs.Html.{span_started}
 use Rattle.snippet_grid.specs.Html.{started}
-use Rattle.snippet_grid.specs.HtmlRead.{ReadChar, chars_of_cells, chars_of_rows, chars_read, feed_read}
+use Rattle.snippet_grid.specs.HtmlRead.{ReadChar, chars_of_cells, chars_of_rows, feed_read}
 use Rattle.snippet_grid.specs.Print.{further_text, plain_text, row_text}
 use Rattle.snippet_style.specs.Cell.{Cell}
 use Rattle.snippet_style.specs.declared.role.ElementStyle.{ElementStyle}
@@ -91,8 +92,8 @@ made-append (p ∷ ps) qs first second =
     let parts = and_parts _ _ first in
     ap (λ (b : Bool). b && list_all is_made (ps ++ qs)) parts.0 ∙ made-append ps qs parts.1 second
 
--- the class of a role ends no tag
-level_lacks : (level : LevelInner) → lacks 62 (chars (level_class level)) ≡ true
+-- the class of a role ends no tag and no attribute, and begins no escape
+level_lacks : (level : LevelInner) → is_class (chars (level_class level)) ≡ true
 unfolding chars
 level_lacks Error = refl
 level_lacks Warning = refl
@@ -100,7 +101,7 @@ level_lacks Info = refl
 level_lacks Note = refl
 level_lacks Help = refl
 
-class_lacks : (level : LevelInner) (role : ElementStyle) → lacks 62 (chars (class_of level role)) ≡ true
+class_lacks : (level : LevelInner) (role : ElementStyle) → is_class (chars (class_of level role)) ≡ true
 unfolding chars
 class_lacks level MainHeaderMsg = refl
 class_lacks level HeaderMsg = refl
@@ -116,7 +117,7 @@ class_lacks level (Level own) = level_lacks own
 class_lacks level Addition = refl
 class_lacks level Removal = refl
 
-made_span_started : (class : List ℕ) → lacks 62 (chars class) ≡ true → list_all is_made (span_started class) ≡ true
+made_span_started : (class : List ℕ) → is_class (chars class) ≡ true → list_all is_made (span_started class) ≡ true
 made_span_started [] none = refl
 made_span_started (c ∷ cs) none = ap (λ (b : Bool). b && true) none
 
@@ -166,6 +167,16 @@ made_rows level [] = refl
 made_rows level (row ∷ rows) = made-append (row_html level row) (further_html level rows) (made_cells level plain_look row) (made_further level rows)
 
 -- ---- classes and links
+
+-- the characters of some pieces, each with the class and the address of the tags that are open there; `look` is what is open at
+-- first
+abbrev pub chars_read : HtmlLook → List HtmlPiece → List ReadChar
+chars_read look [] = []
+chars_read look (Text ch ∷ ps) = record { ch = ch; look = look } ∷ chars_read look ps
+chars_read look (SpanStart class ∷ ps) = chars_read (record look { class = class }) ps
+chars_read look (SpanEnd ∷ ps) = chars_read (record look { class = [] }) ps
+chars_read look (AnchorStart address ∷ ps) = chars_read (record look { address = address }) ps
+chars_read look (AnchorEnd ∷ ps) = chars_read (record look { address = [] }) ps
 
 -- after the tags that begin something, its class and its address are open
 read_span : (class : List ℕ) (ps : List HtmlPiece)

@@ -14,7 +14,7 @@ use Rattle.snippet_grid.specs.HtmlRead.{html_says, piece_tag, tags_of, unescaped
 abbrev pub lacks : ℕ → List ℕ → Bool
 lacks x text = list_all (λ c. not (nat_eq c x)) text
 
-not_true : (b : Bool) → not b ≡ true → b ≡ false
+pub not_true : (b : Bool) → not b ≡ true → b ≡ false
 not_true true is = absurd (false≢true is)
 not_true false is = refl
 
@@ -25,7 +25,7 @@ lacks-append x (c ∷ cs) b first second =
     ap (λ (t : Bool). t && lacks x (cs ++ b)) parts.0 ∙ lacks-append x cs b parts.1 second
 
 -- an escape, by the tests that it makes
-abbrev escape_by : (amp lt gt quot apostrophe : Bool) → ℕ → List ℕ
+abbrev pub escape_by : (amp lt gt quot apostrophe : Bool) → ℕ → List ℕ
 escape_by amp lt gt quot apostrophe ch =
     if amp then codes "&amp;" else if lt then codes "&lt;" else if gt then codes "&gt;" else if quot then codes "&quot;" else if apostrophe then codes "&#39;"
     else ch ∷ []
@@ -53,7 +53,7 @@ escape_lacks_less ch = lacks_less (nat_eq ch 38) (nat_eq ch 60) (nat_eq ch 62) (
 escape_lacks_greater : (ch : ℕ) → lacks 62 (escape ch) ≡ true
 escape_lacks_greater ch = lacks_greater (nat_eq ch 38) (nat_eq ch 60) (nat_eq ch 62) (nat_eq ch 34) (nat_eq ch 39) ch refl
 
-escaped_lacks_greater : (text : List ℕ) → lacks 62 (escaped text) ≡ true
+pub escaped_lacks_greater : (text : List ℕ) → lacks 62 (escaped text) ≡ true
 escaped_lacks_greater [] = refl
 escaped_lacks_greater (ch ∷ text) = lacks-append 62 (escape ch) (escaped text) (escape_lacks_greater ch) (escaped_lacks_greater text)
 
@@ -99,13 +99,17 @@ abbrev pub piece_says : HtmlPiece → List ℕ
 piece_says (Text ch) = ch ∷ []
 piece_says other = []
 
--- whether the class in a piece, if there is one, ends no tag
+-- whether a class ends no tag and no attribute, and begins no escape
+abbrev pub is_class : List ℕ → Bool
+is_class class = lacks 62 class && (lacks 34 class && lacks 38 class)
+
+-- whether the class in a piece, if there is one, is such a one
 abbrev pub is_made : HtmlPiece → Bool
-is_made (SpanStart class) = lacks 62 (chars class)
+is_made (SpanStart class) = is_class (chars class)
 is_made other = true
 
 -- the text of a tag that begins with this and goes on so
-tag_text : (head body rest : List ℕ) → ((60 ∷ head) ++ (body ++ codes "\">")) ++ rest ≡ 60 ∷ ((head ++ (body ++ codes "\"")) ++ 62 ∷ rest)
+pub tag_text : (head body rest : List ℕ) → ((60 ∷ head) ++ (body ++ codes "\">")) ++ rest ≡ 60 ∷ ((head ++ (body ++ codes "\"")) ++ 62 ∷ rest)
 tag_text head body rest =
     ap (λ (t : List ℕ). 60 ∷ t) (append_assoc head (body ++ codes "\">") rest ∙ ap (λ (t : List ℕ). head ++ t) (append_assoc body (codes "\">") rest)
     ∙ ap (λ (t : List ℕ). head ++ t) (sym (append_assoc body (codes "\"") (62 ∷ rest))) ∙ sym (append_assoc head (body ++ codes "\"") (62 ∷ rest)))
@@ -124,7 +128,7 @@ tag_found head body rest in_head in_body =
 
 piece_outside : (p : HtmlPiece) (rest : List ℕ) → is_made p ≡ true → without_tags false (piece_html p ++ rest) ≡ piece_escaped p ++ without_tags false rest
 piece_outside (Text ch) rest made = outside (escape ch) rest (escape_lacks_less ch)
-piece_outside (SpanStart class) rest made = tag_dropped (codes "span class=\"") (chars class) rest refl made
+piece_outside (SpanStart class) rest made = tag_dropped (codes "span class=\"") (chars class) rest refl (and_parts _ _ made).0
 piece_outside SpanEnd rest made = refl
 piece_outside (AnchorStart address) rest made =
     tag_dropped (codes "a href=\"") (escaped (chars address)) rest refl (escaped_lacks_greater (chars address))
@@ -132,7 +136,7 @@ piece_outside AnchorEnd rest made = refl
 
 piece_tags : (p : HtmlPiece) (rest : List ℕ) → is_made p ≡ true → tags_of None (piece_html p ++ rest) ≡ piece_tag p ++ tags_of None rest
 piece_tags (Text ch) rest made = no_tags (escape ch) rest (escape_lacks_less ch)
-piece_tags (SpanStart class) rest made = tag_found (codes "span class=\"") (chars class) rest refl made
+piece_tags (SpanStart class) rest made = tag_found (codes "span class=\"") (chars class) rest refl (and_parts _ _ made).0
 piece_tags SpanEnd rest made = refl
 piece_tags (AnchorStart address) rest made =
     tag_found (codes "a href=\"") (escaped (chars address)) rest refl (escaped_lacks_greater (chars address))
@@ -153,7 +157,7 @@ tags_are (p ∷ ps) made =
 
 -- ---- escapes
 
-undone : (a b c d e : Bool) (ch : ℕ) (rest : List ℕ) → nat_eq ch 38 ≡ a → nat_eq ch 60 ≡ b → nat_eq ch 62 ≡ c → nat_eq ch 34 ≡ d → nat_eq ch 39 ≡ e
+pub undone : (a b c d e : Bool) (ch : ℕ) (rest : List ℕ) → nat_eq ch 38 ≡ a → nat_eq ch 60 ≡ b → nat_eq ch 62 ≡ c → nat_eq ch 34 ≡ d → nat_eq ch 39 ≡ e
     → unescaped None (escape_by a b c d e ch ++ rest) ≡ ch ∷ unescaped None rest
 undone true b c d e ch rest amp lt gt quot apostrophe = ap (λ (x : ℕ). x ∷ unescaped None rest) (sym (eqb-true ch 38 amp))
 undone false true c d e ch rest amp lt gt quot apostrophe = ap (λ (x : ℕ). x ∷ unescaped None rest) (sym (eqb-true ch 60 lt))

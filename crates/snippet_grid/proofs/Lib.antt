@@ -10,6 +10,7 @@ pub mod HtmlLaws
 pub mod HtmlLemmas
 pub mod HtmlReads
 pub mod HtmlRows
+pub mod HtmlStands
 pub mod OpenRowLemmas
 pub mod LastLemmas
 pub mod OutcomeLemmas

@@ -1,11 +1,10 @@
 -- The rows of a grid as HTML: their characters, escaped, with tags between them.
-use Rattle.std.specs.Prelude.{◌≡◌, ℕ, ◌&&◌, ◌||◌, nat_eq, Bool, if◌then◌else◌, List, [], ◌∷◌, ◌++◌, Option, None, Some, codes, encode_utf8_all, map}
-use Rattle.std.specs.Prelude.{take, length}
-use Rattle.std.specs.Char.{is_ascii_graphic, to_ascii_lowercase}
-use Rattle.std.specs.List.{flat_map, list_all}
+use Rattle.std.specs.Prelude.{◌≡◌, ℕ, ◌&&◌, nat_eq, Bool, if◌then◌else◌, List, [], ◌∷◌, ◌++◌, Option, None, Some, codes, encode_utf8_all}
+use Rattle.std.specs.List.{flat_map}
 use Rattle.std.specs.Str.{chars}
 use lib.Pointwise.{pointwise}
 use Rattle.snippet_style.specs.Cell.{Cell}
+use Rattle.snippet_text.specs.LinkAddress.{is_link_address}
 use Rattle.snippet_style.specs.declared.role.ElementStyle.{ElementStyle}
 use Rattle.snippet_style.specs.declared.role.ElementStyle.TheVariants.{MainHeaderMsg, HeaderMsg, LineAndColumn, Quotation, NoStyle, LineNumber}
 use Rattle.snippet_style.specs.declared.role.ElementStyle.TheVariants.{UnderlinePrimary, LabelPrimary, UnderlineSecondary, LabelSecondary, Level, Addition}
@@ -56,19 +55,6 @@ class_of level Addition = codes "snippet-addition"
 class_of level Removal = codes "snippet-removal"
 
 -- ---- links
-
--- whether an address begins with this scheme, in letters of either case
-abbrev pub has_scheme : List ℕ → List ℕ → Bool
-has_scheme scheme address = pointwise nat_eq (map to_ascii_lowercase (take (length scheme) address)) scheme
-
--- whether each character of an address is an ASCII character that is seen: no blank, no control character
-abbrev pub is_graphic_address : List ℕ → Bool
-is_graphic_address address = list_all is_ascii_graphic address
-
--- whether an address may be a link: it is of the web or of mail, and each of its characters is seen
-abbrev pub is_link_address : List ℕ → Bool
-is_link_address address =
-    (has_scheme (codes "http:") address || has_scheme (codes "https:") address || has_scheme (codes "mailto:") address) && is_graphic_address address
 
 -- the address that a link leads to in HTML; empty where it leads nowhere
 abbrev pub link_address : Option (List ℕ) → List ℕ

@@ -1,6 +1,6 @@
 -- Reading HTML: what a text says without its tags and with its escapes undone, which tags it has, and what each character
 -- stands in.
-use Rattle.std.specs.Prelude.{ℕ, nat_eq, Bool, true, false, not, if◌then◌else◌, List, [], ◌∷◌, ◌++◌, Option, None, Some, codes, map}
+use Rattle.std.specs.Prelude.{ℕ, nat_eq, Bool, true, false, not, if◌then◌else◌, List, [], ◌∷◌, ◌++◌, Option, None, Some, codes, drop, length, map, take}
 use Rattle.std.specs.List.{flat_map}
 use Rattle.std.specs.Str.{chars}
 use lib.Pointwise.{pointwise}
@@ -48,20 +48,72 @@ piece_tag SpanEnd = codes "/span" ∷ []
 piece_tag (AnchorStart address) = (codes "a href=\"" ++ (escaped (chars address) ++ codes "\"")) ∷ []
 piece_tag AnchorEnd = codes "/a" ∷ []
 
--- a character, with what it stands in
+-- ---- what each character stands in
+
+-- the value of a tag's attribute: what stands before the next quote, with its escapes undone
+abbrev pub quoted : List ℕ → List ℕ
+quoted [] = []
+quoted (c ∷ cs) = if nat_eq c 34 then [] else c ∷ quoted cs
+
+abbrev pub value_of : List ℕ → List ℕ
+value_of attribute = unescaped None (quoted attribute)
+
+-- whether a tag begins with this
+abbrev pub begins : List ℕ → List ℕ → Bool
+begins head tag = pointwise nat_eq (take (length head) tag) head
+
+-- what a character that is read stands in, in characters: a class, and the address of a link. Each is empty where there is none
+pub record InTags : Type 0 where
+  pub class : List ℕ
+  pub address : List ℕ
+
+-- the same after a tag: that of a class, or of a link, begins it or ends it, and another tag changes nothing
+abbrev pub after_tag : InTags → List ℕ → InTags
+after_tag tags tag =
+    if pointwise nat_eq tag (codes "/span") then record tags { class = [] }
+    else if pointwise nat_eq tag (codes "/a") then record tags { address = [] }
+    else if begins (codes "span class=\"") tag then record tags { class = value_of (drop 12 tag) }
+    else if begins (codes "a href=\"") tag then record tags { address = value_of (drop 8 tag) }
+    else tags
+
+-- a character that is read, with what it stands in
+pub record CharInTags : Type 0 where
+  pub ch : ℕ
+  pub tags : InTags
+
+-- where a reader is: in text, or in a tag or an escape of which so much was read
+pub data ReadingAt : Type 0 where
+  InText : ReadingAt
+  InTag : (tag : List ℕ) → ReadingAt
+  InEscape : (name : List ℕ) → ReadingAt
+
+-- the characters that are read of a text in HTML, each with what it stands in
+abbrev pub reads : InTags → ReadingAt → List ℕ → List CharInTags
+reads tags at [] = []
+reads tags InText (c ∷ cs) =
+    if nat_eq c 60 then reads tags (InTag []) cs
+    else if nat_eq c 38 then reads tags (InEscape []) cs
+    else record { ch = c; tags = tags } ∷ reads tags InText cs
+reads tags (InTag tag) (c ∷ cs) = if nat_eq c 62 then reads (after_tag tags tag) InText cs else reads tags (InTag (tag ++ c ∷ [])) cs
+reads tags (InEscape name) (c ∷ cs) =
+    if nat_eq c 59 then map (λ ch. (let read : CharInTags = record { ch = ch; tags = tags } in read)) (named name) ++ reads tags InText cs
+    else reads tags (InEscape (name ++ c ∷ [])) cs
+
+-- those of a whole text, at whose beginning nothing is open
+abbrev pub html_reads : List ℕ → List CharInTags
+html_reads html = reads (record { class = []; address = [] }) InText html
+
+-- a character, with what its cell stands in
 pub record ReadChar : Type 0 where
   pub ch : ℕ
   pub look : HtmlLook
 
--- the characters of some pieces, each with the class and the address of the tags that are open there; `look` is what is open at
--- first
-abbrev pub chars_read : HtmlLook → List HtmlPiece → List ReadChar
-chars_read look [] = []
-chars_read look (Text ch ∷ ps) = record { ch = ch; look = look } ∷ chars_read look ps
-chars_read look (SpanStart class ∷ ps) = chars_read (record look { class = class }) ps
-chars_read look (SpanEnd ∷ ps) = chars_read (record look { class = [] }) ps
-chars_read look (AnchorStart address ∷ ps) = chars_read (record look { address = address }) ps
-chars_read look (AnchorEnd ∷ ps) = chars_read (record look { address = [] }) ps
+-- the same as it is read
+abbrev pub tags_in : HtmlLook → InTags
+tags_in look = record { class = chars look.class; address = chars look.address }
+
+abbrev pub as_read : ReadChar → CharInTags
+as_read read = record { ch = read.ch; tags = tags_in read.look }
 
 -- the characters of some cells, each with what the cell stands in
 abbrev pub chars_of_cells : LevelInner → List Cell → List ReadChar

@@ -7,7 +7,6 @@
 //! a cell  </a></span>  <span class="snippet-error"><a href="https://..">  the next cell
 //! ```
 ghost use Rattle.std.specs.Prelude.{◌≡◌, ◌++◌, IfOk, OnOk, string_bytes, encode_utf8_all, map};
-ghost use Rattle.std.specs.Char.{to_ascii_lowercase};
 ghost use Rattle.std.specs.Option.{option_copied};
 ghost use Rattle.std.specs.Str.{chars};
 ghost use Rattle.snippet_grid.specs.Runs.{IsGrid, IsRow, EndsBy, cells_to, grid_shown};
@@ -20,6 +19,7 @@ use crate::runs::Run;
 use crate::spaces::push_spaces;
 use crate::weave::row_end;
 use snippet_style::{ElementStyle, LevelInner};
+use snippet_text::is_link_address;
 use std::alloc::AllocError;
 
 /// What a cell stands in: the class of its role, and the address that it links to. Each is empty where there is none.
@@ -101,34 +101,6 @@ fn link_address(link: Option<&str>) -> &str
         Some(address) if is_link_address(address) => address,
         _ => "",
     }
-}
-
-/// Whether an address may be a link: it is of the web or of mail, and each of its characters is an ASCII character
-/// that is seen. So no address runs a script, and none hides what it leads to.
-fn is_link_address(address: &str) -> bool
-    ensures value { result ≡ spec.is_link_address address.now }
-{
-    let is_known = has_scheme("http:", address)
-        || has_scheme("https:", address)
-        || has_scheme("mailto:", address);
-    is_known && is_seen(address)
-}
-
-/// Whether each character of an address is an ASCII character that is seen.
-fn is_seen(address: &str) -> bool
-    ensures value { result ≡ spec.is_graphic_address address.now }
-{
-    address.as_bytes().iter().all(|b| b.is_ascii_graphic())
-}
-
-/// Whether an address begins with this scheme, in letters of either case.
-fn has_scheme(scheme: &str, address: &str) -> bool
-    requires lower { map to_ascii_lowercase scheme.now ≡ scheme.now }
-    ensures value { result ≡ spec.has_scheme scheme.now address.now }
-{
-    let bytes = address.as_bytes();
-    let len = scheme.len();
-    len <= bytes.len() && bytes[..len].eq_ignore_ascii_case(scheme.as_bytes())
 }
 
 /// What a cell of this role and link stands in, in a group of this level.

@@ -1,3 +1,4 @@
+pub mod LinkAddress
 pub mod TextBounds
 pub mod Normalized
 pub mod OneLine

@@ -1,2 +1,3 @@
 pub mod GivenBytes
 pub mod Part
+pub mod Standing

@@ -1,4 +1,5 @@
-//! Bytes that are written whole, or up to where a write failed; and bytes that are given as far as there is room.
+//! Bytes that are written whole, or up to where a write failed, to a writer or to a stream that keeps whether one did;
+//! and bytes that are given as far as there is room.
 #![tactic(auto)]
 
 ghost use Rattle.std.specs.Prelude.{◌≤◌, IfOk, OnErr, OnOk, length, take};
@@ -6,9 +7,11 @@ ghost use Rattle.std.specs.Io.KnownBytes.{Appends, Keeps};
 ghost use Rattle.written.specs.Part.{AppendsPart};
 
 mod room;
+mod stream;
 
 pub use room::give;
 use std::io::{self, ErrorKind, Write};
+pub use stream::Stream;
 
 /// Writes these bytes. Where a write failed a first part of them was written, and the error is its own.
 ///
