@@ -79,12 +79,12 @@ IsSourceOf sources d source =
 pub record IsSnippetOf {T : Type 0} (Says : List ℕ → Option SpanUnit → Data → T → Type 0) (its : Shape) (markers : List ℕ)
     (sources : List (List ℕ)) (d : Data) (snippet : Snippet T) : Type 0 where
   pub only : HasShape its d
-  pub source : SaysAt (IsSourceOf sources) (codes "source") d (cow_str_bytes snippet.source)
+  pub source : SaysAt (IsSourceOf sources) (codes "source") d (cow_str_bytes snippet.source.text)
   pub path : optional_at as_str (codes "path") d ≡ Some (option_map cow_str_bytes snippet.path)
   pub line_start : given_or as_whole 1 (codes "line_start") d ≡ Some snippet.line_start
   pub line_numbering : given_or as_bool true (codes "line_numbering") d ≡ Some snippet.line_numbering
   pub fold : given_or as_bool true (codes "fold") d ≡ Some snippet.fold
-  pub marked : AreMarkersOf Says (cow_str_bytes snippet.source) markers d snippet.markers.items
+  pub marked : AreMarkersOf Says (cow_str_bytes snippet.source.text) markers d snippet.markers.items
 
 -- an annotation: its kind, its span, its label, and whether it colours the source
 pub record IsAnnotationOf (source : List ℕ) (unit : Option SpanUnit) (d : Data) (annotation : Annotation) : Type 0 where

@@ -32,8 +32,8 @@ pub(crate) fn source_in<'v>(
     sources: &'v [SourceLines<'_>],
 ) -> Result<SourceText<'v>, Fault>
     ensures value { IfOk result (λ source.
-        SaysAt (IsSourceOf sources.now) (codes "source") (view snippet.now.value.now) (cow_str_bytes source)) }
-    ensures fits { IfOk result (λ source. TextFits (cow_str_bytes source)) }
+        SaysAt (IsSourceOf sources.now) (codes "source") (view snippet.now.value.now) (cow_str_bytes source.text)) }
+    ensures fits { IfOk result (λ source. TextFits (cow_str_bytes source.text)) }
 {
     let source = snippet.needed("source", FormatValue::Source)?;
     if let Some(lines) = named_source(&source, sources) {

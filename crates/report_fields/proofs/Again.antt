@@ -232,8 +232,8 @@ snippet_again : {T : Type 0} (f : T → List ℕ → List ℕ) (after : List ℕ
 unfolding after_snippet
 snippet_again f after P again s rest is =
     seq _ (option_text s.path _ is.0)
-    (seq_number s.line_start (text_then s.source (list_then f s.markers.items (flag_then s.line_numbering (flag_then s.fold rest)))) _
-    (seq _ (text_again s.source _ is.1)
+    (seq_number s.line_start (text_then s.source.text (list_then f s.markers.items (flag_then s.line_numbering (flag_then s.fold rest)))) _
+    (seq _ (text_again s.source.text _ is.1)
     (seq _ (list_again f after P again s.markers.items _ is.2) (seq _ (flag_again s.line_numbering _ tt) (flag_again s.fold rest tt)))))
 
 option_number : Again (option_then number_then) (after_option after_number) (λ o. IfSome o Any)

@@ -156,7 +156,7 @@ patch_then p rest = span_then p.span (text_then p.replacement rest)
 
 abbrev pub snippet_then : {T : Type 0} → (T → List ℕ → List ℕ) → Snippet T → List ℕ → List ℕ
 snippet_then f s rest =
-    option_then text_then s.path (number_then s.line_start (text_then s.source
+    option_then text_then s.path (number_then s.line_start (text_then s.source.text
     (list_then f s.markers.items (flag_then s.line_numbering (flag_then s.fold rest)))))
 
 abbrev pub origin_then : Origin → List ℕ → List ℕ

@@ -43,7 +43,7 @@ abbrev pub IsPatch : Patch → Type 0
 IsPatch patch = IsText patch.replacement
 
 abbrev pub IsSnippet : {T : Type 0} → (T → Type 0) → Snippet T → Type 0
-IsSnippet P snippet = IfSome snippet.path IsText × IsText snippet.source × IsListOf P snippet.markers.items
+IsSnippet P snippet = IfSome snippet.path IsText × IsText snippet.source.text × IsListOf P snippet.markers.items
 
 abbrev pub IsElement : Element → Type 0
 IsElement (element.Message message) = IsName message.level.name × IsText message.text

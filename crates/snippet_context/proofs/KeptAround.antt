@@ -9,6 +9,7 @@ use Rattle.std.specs.List.{All, filter, list_any, range_with_len}
 use Rattle.snippet_lines.specs.OrderedBy.{ordered_by}
 use Rattle.std.specs.declared.ops.Range.{Range}
 use Rattle.snippet_lines.specs.Lines.{Source, source_lines}
+use Rattle.snippet_model.specs.Source.{SourceSeen}
 use Rattle.snippet_model.specs.declared.snippet.Annotation.{Annotation}
 use Rattle.snippet_model.specs.declared.snippet.Snippet.{Snippet}
 use Rattle.snippet_parts.proofs.KeptLemmas.{among-kept, kept-within}
@@ -161,10 +162,10 @@ made-same s marks spans =
 -- a snippet with the lines around those that it keeps keeps just these, and has the same entries
 pub keeps-around : (before after : ℕ) (a b : Snippet Annotation) → IsSnippetWithContext before after a b → KeepsLinesAround before after a b
 keeps-around before after a b with =
-    let source : List ℕ = cow_str_bytes a.source in
-    let same : cow_str_bytes b.source ≡ source = ap cow_str_bytes with.source in
+    let source : List ℕ = cow_str_bytes a.source.text in
+    let same : cow_str_bytes b.source.text ≡ source = ap (λ (s : SourceSeen). cow_str_bytes s.text) with.source in
     record {
-      lines = ap (λ fold. kept_lines fold (cow_str_bytes b.source) b.markers.items) with.fold
+      lines = ap (λ fold. kept_lines fold (cow_str_bytes b.source.text) b.markers.items) with.fold
           ∙ ap (λ text. kept_lines a.fold text b.markers.items) same ∙ ap (kept_lines a.fold source) with.markers
           ∙ kept-around before after a.fold source a.markers.items;
       entries = ap₂ (λ text first. made_parts (record { text = text; first = first }) b.markers.items) same with.line_start

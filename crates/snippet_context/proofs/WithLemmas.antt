@@ -13,7 +13,7 @@ use Rattle.snippet_context.specs.WithContext.{HoldsSpan, IsSnippetWithContext}
 -- where lines aren't folded no span is added
 unfolded-spans : (before after : ℕ) (s : Snippet Annotation) → s.fold ≡ false → context_spans before after s ≡ []
 unfolded-spans before after s none =
-    cond-false s.fold (map (span_around before after (cow_str_bytes s.source)) (kept_lines true (cow_str_bytes s.source) s.markers.items)) [] none
+    cond-false s.fold (map (span_around before after (cow_str_bytes s.source.text)) (kept_lines true (cow_str_bytes s.source.text) s.markers.items)) [] none
 
 -- so the snippet stays
 pub unfolded-with : (before after : ℕ) (s : Snippet Annotation) → s.fold ≡ false → IsSnippetWithContext before after s s
@@ -26,5 +26,5 @@ unfolded-with before after s none =
       line_numbering = refl;
       fold = refl;
       markers = sym (append-nil s.markers.items) ∙ sym (ap (λ (spans : List (Range ℕ)). s.markers.items ++ map visible_mark spans) empty);
-      spans = subst (All (HoldsSpan (cow_str_bytes s.source))) (sym empty) (All-nil (HoldsSpan (cow_str_bytes s.source)));
+      spans = subst (All (HoldsSpan (cow_str_bytes s.source.text))) (sym empty) (All-nil (HoldsSpan (cow_str_bytes s.source.text)));
     }

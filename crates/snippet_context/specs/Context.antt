@@ -33,7 +33,7 @@ span_around before after source j =
 -- lines are kept
 abbrev pub context_spans : ℕ → ℕ → Snippet Annotation → List (Range ℕ)
 context_spans before after s =
-    if s.fold then map (span_around before after (cow_str_bytes s.source)) (kept_lines true (cow_str_bytes s.source) s.markers.items) else []
+    if s.fold then map (span_around before after (cow_str_bytes s.source.text)) (kept_lines true (cow_str_bytes s.source.text) s.markers.items) else []
 
 -- an annotation that keeps the lines of a span, and marks nothing
 abbrev pub visible_mark : Range ℕ → Annotation

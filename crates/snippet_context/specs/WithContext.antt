@@ -22,9 +22,9 @@ use Rattle.snippet_context.specs.Context.{context_marks, context_spans, lines_ar
 
 -- a snippet without a fault: its source and the numbers of its lines fit, and each of its spans is one
 pub record IsSnippetSound (s : Snippet Annotation) : Type 0 where
-  pub fits : TextFits (cow_str_bytes s.source)
-  pub numbers : HasNext (s.line_start + newline_count (cow_str_bytes s.source))
-  pub spans : All (λ a. IsSpan (cow_str_bytes s.source) a.span.start a.span.end) s.markers.items
+  pub fits : TextFits (cow_str_bytes s.source.text)
+  pub numbers : HasNext (s.line_start + newline_count (cow_str_bytes s.source.text))
+  pub spans : All (λ a. IsSpan (cow_str_bytes s.source.text) a.span.start a.span.end) s.markers.items
 
 -- an element whose source is annotated without a fault, or one of another kind
 abbrev pub IsElementSound : Element → Type 0
@@ -55,7 +55,7 @@ pub record IsSnippetWithContext (before after : ℕ) (a b : Snippet Annotation) 
   pub line_numbering : b.line_numbering ≡ a.line_numbering
   pub fold : b.fold ≡ a.fold
   pub markers : b.markers.items ≡ a.markers.items ++ context_marks before after a
-  pub spans : All (HoldsSpan (cow_str_bytes a.source)) (context_spans before after a)
+  pub spans : All (HoldsSpan (cow_str_bytes a.source.text)) (context_spans before after a)
 
 -- the second element is the first with such lines; only an annotated snippet has any
 abbrev pub IsElementWithContext : ℕ → ℕ → Element → Element → Type 0
@@ -73,6 +73,6 @@ pub record IsGroupWithContext (before after : ℕ) (a b : Group) : Type 0 where
 -- the second snippet keeps just the lines near one that the first keeps, each once and in order; and what stands on a line is what stood
 -- there: the same entries, in the same order
 pub record KeepsLinesAround (before after : ℕ) (a b : Snippet Annotation) : Type 0 where
-  pub lines : kept_lines b.fold (cow_str_bytes b.source) b.markers.items
-      ≡ lines_around before after (length (source_lines (cow_str_bytes a.source))) (kept_lines a.fold (cow_str_bytes a.source) a.markers.items)
+  pub lines : kept_lines b.fold (cow_str_bytes b.source.text) b.markers.items
+      ≡ lines_around before after (length (source_lines (cow_str_bytes a.source.text))) (kept_lines a.fold (cow_str_bytes a.source.text) a.markers.items)
   pub entries : made_parts (numbered_source b) b.markers.items ≡ made_parts (numbered_source a) a.markers.items

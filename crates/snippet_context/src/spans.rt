@@ -26,7 +26,7 @@ pub fn spans_around(
     requires sound { IsSnippetSound snippet.now }
     requires folded { snippet.now.fold ≡ true }
     ensures value { IfOk result (λ spans. spans.items ≡ spec.context_spans before after snippet.now) }
-    ensures parts { IfOk result (λ spans. All (HoldsSpan (cow_str_bytes snippet.now.source)) spans.items) }
+    ensures parts { IfOk result (λ spans. All (HoldsSpan (cow_str_bytes snippet.now.source.text)) spans.items) }
 {
     let map = map_of(alloc, snippet)?;
     let (_, kept) = map.annotated_lines(&snippet.markers, true)?;
@@ -51,11 +51,11 @@ fn spans_of(
     starts: &[usize],
     kept: &[AnnotatedLineInfo<'_>],
 ) -> Result<Vec<Range<usize>>, AllocError>
-    requires starts { starts.now ≡ spec_starts (cow_str_bytes snippet.now.source) }
+    requires starts { starts.now ≡ spec_starts (cow_str_bytes snippet.now.source.text) }
     requires kept { map seen_kept kept.now ≡ annotated_lines true (numbered_source snippet.now)
         snippet.now.markers.items }
     ensures value { IfOk result (λ spans. spans.items ≡ map (spec.span_around before after
-        (cow_str_bytes snippet.now.source)) (kept_lines true (cow_str_bytes snippet.now.source)
+        (cow_str_bytes snippet.now.source.text)) (kept_lines true (cow_str_bytes snippet.now.source.text)
         snippet.now.markers.items)) }
 {
     let source = snippet.source.as_str();

@@ -1,6 +1,7 @@
 //! A source whose lines are found once.
 ghost use Rattle.std.specs.Prelude.{◌≡◌, IfOk};
 ghost use Rattle.std.specs.Cow.{cow_str_bytes};
+ghost use Rattle.std.specs.Fmt.{debug_str};
 ghost use Rattle.snippet_lines.specs.Starts as spec;
 
 use memchr::memchr_iter;
@@ -70,6 +71,8 @@ impl<'a> SourceLines<'a> {
 
 /// The text alone.
 impl<'a> fmt::Debug for SourceLines<'a> {
+    ghost debug_output = { debug_str };
+
     fn fmt<W: fmt::Write>(&self, f: &mut fmt::Formatter<W>) -> fmt::Result {
         fmt::Debug::fmt(&self.source(), f)
     }

@@ -41,7 +41,7 @@ PatchFits p = TextFits (cow_str_bytes p.replacement)
 -- a snippet, where each of its markers has texts that fit as F says
 abbrev pub SnippetFits : {T : Type 0} → (T → Type 0) → Snippet T → Type 0
 SnippetFits F s =
-    TextFits (cow_str_bytes s.source) × IfSome s.path (λ t. TextFits (cow_str_bytes t)) × All F s.markers.items
+    TextFits (cow_str_bytes s.source.text) × IfSome s.path (λ t. TextFits (cow_str_bytes t)) × All F s.markers.items
 
 -- an element, where each of its texts fits
 abbrev pub ElementFits : Element → Type 0

@@ -8,5 +8,6 @@ pub mod LevelTies
 pub mod OptionCow
 pub mod FreeRows
 pub mod Same
+pub mod Source
 pub mod StandardName
 pub mod Trusted

@@ -5,6 +5,7 @@ use Rattle.std.specs.List.{AllZip}
 use Rattle.std.specs.Cow.{cow_str_bytes}
 use Rattle.std.specs.declared.alloc.Global.{Global}
 use Rattle.std.specs.declared.borrow.CowStr.{CowStr}
+use Rattle.snippet_model.specs.Source.{SameSource}
 use Rattle.snippet_model.specs.declared.level.Level.{Level}
 use Rattle.snippet_model.specs.declared.level.LevelName.{LevelName}
 use Rattle.snippet_model.specs.declared.level.LevelName.TheVariants.{Own}
@@ -67,7 +68,7 @@ SamePatch a b = (b.span ≡ a.span) × SameText a.replacement b.replacement
 -- snippets of the same source, path and settings, with as many markers, each the same as the one in its place, as Same says
 abbrev pub SameSnippet : {T : Type 0} → (T → T → Type 0) → Snippet T → Snippet T → Type 0
 SameSnippet Same a b =
-    SameOption SameText a.path b.path × (b.line_start ≡ a.line_start) × SameText a.source b.source
+    SameOption SameText a.path b.path × (b.line_start ≡ a.line_start) × SameSource a.source b.source
     × AllZip Same a.markers.items b.markers.items × (b.line_numbering ≡ a.line_numbering) × (b.fold ≡ a.fold)
 
 -- elements of one kind that are the same; two of different kinds never are

@@ -8,6 +8,7 @@ ghost use Rattle.std.specs.Ordering.{nat_cmp, on, as_partial_cmp};
 ghost use Rattle.std.specs.declared.ops.Range.{Range};
 ghost use Rattle.std.specs.declared.borrow.CowStr.TheVariants.{Borrowed};
 ghost use Rattle.snippet_model.specs.AnnotationKind.{rank_of};
+ghost use Rattle.snippet_model.specs.Source.{unindexed};
 
 mod clones;
 mod elements;
@@ -143,7 +144,7 @@ impl<'a, T> Snippet<'a, T> {
     /// A snippet of this source: no path, no markers, its first line has number 1, lines are numbered and folded.
     /// It takes no memory.
     pub fn source(alloc: Global, source: &'a str) -> Snippet<'a, T>
-        ensures source { result.source ≡ Borrowed source.entry }
+        ensures source { result.source ≡ unindexed (Borrowed source.entry) }
         ensures path { result.path ≡ None }
         ensures line_start { result.line_start ≡ 1 }
         ensures markers { result.markers.items ≡ [] }
@@ -155,7 +156,7 @@ impl<'a, T> Snippet<'a, T> {
 
     /// The same of a source that may be owned.
     pub fn source_cow(alloc: Global, source: CowStr<'a>) -> Snippet<'a, T>
-        ensures source { result.source ≡ source.entry }
+        ensures source { result.source ≡ unindexed source.entry }
         ensures path { result.path ≡ None }
         ensures line_start { result.line_start ≡ 1 }
         ensures markers { result.markers.items ≡ [] }
@@ -167,7 +168,8 @@ impl<'a, T> Snippet<'a, T> {
 
     /// The same of a source whose lines were found before: drawing it looks for no line again. It takes no memory.
     pub fn indexed(alloc: Global, lines: &'a SourceLines<'_>) -> Snippet<'a, T>
-        ensures source { cow_str_bytes result.source ≡ lines.now }
+        ensures source { cow_str_bytes result.source.text ≡ lines.now }
+        ensures lines { result.source.is_indexed ≡ true }
         ensures path { result.path ≡ None }
         ensures line_start { result.line_start ≡ 1 }
         ensures markers { result.markers.items ≡ [] }

@@ -1,7 +1,10 @@
 //! The source of a snippet.
-ghost use Rattle.std.specs.Prelude.{◌≡◌, IfOk, IfSome, length};
+ghost use Rattle.std.specs.Prelude.{◌≡◌, IfOk, IfSome, length, string_bytes, true};
 ghost use Rattle.std.specs.Cow.{cow_str_bytes};
+ghost use Rattle.std.specs.Option.{is_some};
+ghost use Rattle.std.specs.Fmt.{debug_str};
 ghost use Rattle.snippet_lines.specs.Starts as spec;
+ghost use Rattle.snippet_model.specs.Source.{SameSource, unindexed};
 
 use snippet_lines::SourceLines;
 use snippet_text::CowStr;
@@ -11,7 +14,7 @@ use std::marker::Model;
 
 /// The text of a snippet's source: borrowed, owned, or that of lines that are lent.
 ///
-/// Promises see it as the text alone: what is drawn doesn't depend on whether its lines are known.
+/// What is drawn depends on the text alone, and not on whether its lines are known.
 #[derive(Drop)]
 pub struct SourceText<'a> {
     text: CowStr<'a>,
@@ -22,13 +25,13 @@ pub struct SourceText<'a> {
 impl<'a> Model for SourceText<'a> {
     ghost use Rattle.std.specs.Prelude.{◌≡◌, IfSome};
     ghost use Rattle.std.specs.Cow.{cow_str_bytes};
-    ghost use Rattle.std.specs.declared.alloc.Global.{Global};
-    ghost use Rattle.std.specs.declared.borrow.CowStr.{CowStr};
+    ghost use Rattle.std.specs.Option.{is_some};
     ghost use Rattle.snippet_lines.specs.Starts.{line_starts};
+    ghost use Rattle.snippet_model.specs.Source.{SourceSeen};
 
-    ghost Value = { CowStr Global };
+    ghost Value = { SourceSeen };
 
-    ghost view = { λ source. source.text };
+    ghost view = { λ source. record { text = source.text; is_indexed = is_some source.starts } };
 
     ghost invariant = { λ source. IfSome source.starts
         (λ starts. starts.now ≡ line_starts (cow_str_bytes source.text)) };
@@ -37,14 +40,15 @@ impl<'a> Model for SourceText<'a> {
 impl<'a> SourceText<'a> {
     /// A text of which no lines are known.
     pub fn new(text: CowStr<'a>) -> SourceText<'a>
-        ensures value { result ≡ text.entry }
+        ensures value { result ≡ unindexed text.entry }
     {
         SourceText { text, starts: None }
     }
 
     /// The text of a source whose lines were found before. It takes no memory.
     pub fn indexed(lines: &'a SourceLines<'_>) -> SourceText<'a>
-        ensures text { cow_str_bytes result ≡ lines.now }
+        ensures text { cow_str_bytes result.text ≡ lines.now }
+        ensures lines { result.is_indexed ≡ true }
     {
         SourceText {
             text: CowStr::Borrowed(lines.source()),
@@ -54,28 +58,29 @@ impl<'a> SourceText<'a> {
 
     /// The text.
     pub fn as_str(&self) -> &str
-        ensures value { result.now ≡ cow_str_bytes self.now }
+        ensures value { result.now ≡ cow_str_bytes self.now.text }
     {
         self.text.as_str()
     }
 
     /// How many bytes it has.
     pub fn len(&self) -> usize
-        ensures value { result ≡ length (cow_str_bytes self.now) }
+        ensures value { result ≡ length (cow_str_bytes self.now.text) }
     {
         self.text.len()
     }
 
     /// The byte at which each of its lines starts, where these are lent.
     pub fn line_starts(&self) -> Option<&'a [usize]>
-        ensures value { IfSome result (λ starts. starts.now ≡ spec.line_starts (cow_str_bytes self.now)) }
+        ensures value { IfSome result (λ starts. starts.now ≡ spec.line_starts (cow_str_bytes self.now.text)) }
+        ensures known { is_some result ≡ self.now.is_indexed }
     {
         self.starts
     }
 
     /// A copy: the same text, and the same lines. The one error is that memory ran out.
     pub fn clone(&self) -> Result<SourceText<'a>, AllocError>
-        ensures same { IfOk result (λ copy. cow_str_bytes copy ≡ cow_str_bytes self.now) }
+        ensures same { IfOk result (SameSource self.now) }
     {
         Ok(SourceText {
             text: self.text.clone()?,
@@ -86,6 +91,8 @@ impl<'a> SourceText<'a> {
 
 /// The text alone.
 impl<'a> fmt::Debug for SourceText<'a> {
+    ghost debug_output = { λ source. debug_str (cow_str_bytes source.text) };
+
     fn fmt<W: fmt::Write>(&self, f: &mut fmt::Formatter<W>) -> fmt::Result {
         fmt::Debug::fmt(&self.as_str(), f)
     }

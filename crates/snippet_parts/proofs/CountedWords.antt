@@ -15,7 +15,7 @@ greatest_end marks = greatest (map (λ a. a.span.end) marks)
 -- or there are no spans
 abbrev pub reached_source : Snippet Annotation → List ℕ
 reached_source s =
-    cond (s.fold && not (eqb (length s.markers.items) 0)) (take (greatest_end s.markers.items) (cow_str_bytes s.source)) (cow_str_bytes s.source)
+    cond (s.fold && not (eqb (length s.markers.items) 0)) (take (greatest_end s.markers.items) (cow_str_bytes s.source.text)) (cow_str_bytes s.source.text)
 
 -- the greatest end of the annotations up to the i-th, with the next
 pub greatest-more : (marks : List Annotation) (i : ℕ) (a : Annotation) (before now : ℕ) → i < length marks → a ≡ get_or marks i a

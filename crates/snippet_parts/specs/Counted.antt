@@ -10,6 +10,6 @@ use Rattle.snippet_parts.specs.Least.{greatest}
 -- greatest end of its spans, or by all where lines aren't folded or there are no spans
 abbrev pub counted_number : Snippet Annotation → ℕ
 counted_number s =
-    let source = cow_str_bytes s.source in
+    let source = cow_str_bytes s.source.text in
     let reached = take (greatest (map (λ a. a.span.end) s.markers.items)) source in
     s.line_start + newline_count (if s.fold && not (length s.markers.items == 0) then reached else source)

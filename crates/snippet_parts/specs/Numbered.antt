@@ -5,4 +5,4 @@ use Rattle.snippet_model.specs.declared.snippet.Snippet.{Snippet}
 
 -- a snippet's source, with the number of its first line
 abbrev pub numbered_source : {T : Type 0} → Snippet T → Source
-numbered_source s = record { text = cow_str_bytes s.source; first = s.line_start }
+numbered_source s = record { text = cow_str_bytes s.source.text; first = s.line_start }

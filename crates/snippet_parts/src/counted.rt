@@ -20,10 +20,10 @@ pub fn counted_number(map: &SourceMap<'_>, snippet: &Snippet<Annotation>) -> usi
 
 /// The byte up to which a snippet's spans reach, or the end of its source where it isn't folded or has no spans.
 fn reached_end(snippet: &Snippet<Annotation>) -> usize
-    ensures value { take result (cow_str_bytes snippet.now.source)
+    ensures value { take result (cow_str_bytes snippet.now.source.text)
         ≡ (if snippet.now.fold && not (length snippet.now.markers.items == 0)
-        then take (greatest (map (λ a. a.span.end) snippet.now.markers.items)) (cow_str_bytes snippet.now.source)
-        else cow_str_bytes snippet.now.source) }
+        then take (greatest (map (λ a. a.span.end) snippet.now.markers.items)) (cow_str_bytes snippet.now.source.text)
+        else cow_str_bytes snippet.now.source.text) }
 {
     if snippet.fold && !snippet.markers.is_empty() {
         return greatest_end(&snippet.markers);

@@ -20,8 +20,8 @@ pub fn map_of<'a, T: Marker>(
     alloc: Global,
     snippet: &'a Snippet<'a, T>,
 ) -> Result<SourceMap<'a>, AllocError>
-    requires fits { TextFits (cow_str_bytes snippet.now.source) }
-    requires numbers { HasNext (snippet.now.line_start + newline_count (cow_str_bytes snippet.now.source)) }
+    requires fits { TextFits (cow_str_bytes snippet.now.source.text) }
+    requires numbers { HasNext (snippet.now.line_start + newline_count (cow_str_bytes snippet.now.source.text)) }
     ensures ok { IfOk result (λ m. m ≡ numbered_source snippet.now) }
     ensures utf8 { IfOk result (λ m. IsUtf8 m.text) }
 {

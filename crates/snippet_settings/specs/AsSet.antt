@@ -1,6 +1,7 @@
 -- When a report is another as it is set: what of the two differs, part by part.
 use Rattle.std.specs.Prelude.{◌≡◌, Bool, ⊤}
 use Rattle.std.specs.List.{AllZip}
+use Rattle.snippet_model.specs.Source.{SameSource}
 use Rattle.snippet_model.specs.declared.level.Level.{Level}
 use Rattle.snippet_model.specs.declared.level.LevelName.{LevelName}
 use Rattle.snippet_model.specs.declared.level.LevelName.TheVariants.{Own}
@@ -53,7 +54,7 @@ IsAnnotationAsSet feeds a b =
 -- of the second as it is set
 abbrev pub IsSnippetAsSet : {T : Type 0} → Bool → (T → T → Type 0) → Snippet T → Snippet T → Type 0
 IsSnippetAsSet feeds Marker a b =
-    IsOptionAsSet feeds a.path b.path × (b.line_start ≡ a.line_start) × SameText a.source b.source
+    IsOptionAsSet feeds a.path b.path × (b.line_start ≡ a.line_start) × SameSource a.source b.source
     × AllZip Marker a.markers.items b.markers.items × (b.line_numbering ≡ a.line_numbering) × (b.fold ≡ a.fold)
 
 -- elements of one kind, the second as it is set

@@ -9,3 +9,4 @@ mod texts;
 mod titles;
 
 pub use groups::groups_as_set;
+pub use line_feeds::shown_on_one_line;

@@ -29,6 +29,22 @@ pub fn with_line_feeds_shown<'a>(alloc: Global, text: &'a str) -> Result<CowStr<
     }
 }
 
+/// The same of a text that may have been made: it is given back where it holds none.
+///
+/// # Errors
+///
+/// There is no memory for the text.
+pub fn shown_on_one_line<'a>(alloc: Global, text: CowStr<'a>) -> Result<CowStr<'a>, AllocError>
+    ensures value { IfOk result (λ shown.
+        chars (cow_str_bytes shown) ≡ spec.with_line_feeds_shown (chars (cow_str_bytes text.entry))) }
+{
+    if has_line_feed(text.as_str()) {
+        Ok(CowStr::Owned(replaced(alloc, text.as_str())?))
+    } else {
+        Ok(text)
+    }
+}
+
 /// Whether a text holds a line feed.
 fn has_line_feed(text: &str) -> bool
     ensures value { result ≡ list_any (λ c. c == 10) (chars text.now) }

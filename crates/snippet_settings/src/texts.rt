@@ -2,6 +2,7 @@
 ghost use Rattle.std.specs.Prelude.{◌≡◌, IfOk, IfSome, None, MatchOption, IsSomeAnd};
 ghost use Rattle.std.specs.Cow.{cow_str_bytes};
 ghost use Rattle.snippet_model.specs.Same.{SameOption, SameText};
+ghost use Rattle.snippet_model.specs.Source.{SameSource};
 ghost use Rattle.snippet_settings.specs.LineFeeds.{IsOptionAsSet, IsTextAsSet};
 
 use crate::line_feeds::with_line_feeds_shown;
@@ -57,7 +58,7 @@ pub fn option_lent<'a>(text: &'a Option<CowStr<'a>>) -> Option<CowStr<'a>>
 
 /// The same source, lent, with its lines where they are known.
 pub fn source_lent<'a>(source: &'a SourceText<'a>) -> Result<SourceText<'a>, AllocError>
-    ensures same { IfOk result (SameText source.now) }
+    ensures same { IfOk result (SameSource source.now) }
 {
     match source.line_starts() {
         // Lines are lent with a text that is lent, so this copies none.

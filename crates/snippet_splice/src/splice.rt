@@ -1,5 +1,6 @@
 //! The part of a source that is shown with patches applied.
 ghost use Rattle.std.specs.Prelude.{◌≡◌, ◌↔◌, ◌+◌, ◌<◌, [], ◌++◌, map, All, IfOk, IfSome, IsNone, length, take};
+ghost use Rattle.std.specs.Prelude.{◌≤◌, ◌*◌};
 ghost use Rattle.std.specs.String.{string_bytes};
 ghost use Rattle.snippet_lines.specs.Lines.{source_lines, text_at};
 ghost use Rattle.snippet_lines.specs.Span.{IsSpan, IsSpanBorder};
@@ -196,7 +197,7 @@ fn write_patches(
     ensures end { IfOk result (λ w. w.end ≡ end_from from (map trimmed_edit_of patches.now)) }
     ensures border { IfOk result (λ w. IsSpanBorder source.now w.end) }
 {
-    let mut text = String::with_capacity(alloc, room_for(from, patches))?;
+    let mut text = String::with_capacity(alloc, room_for(source, from, patches))?;
     let mut ranges = Vec::with_capacity(alloc, patches.len())?;
     let mut feeds = 0;
     let mut end = from;
@@ -215,11 +216,14 @@ fn write_patches(
 const REPLACEMENT_BYTES: usize = 16;
 
 /// Room for a source from a byte to the end of the last patch, with the patches applied, in bytes: for what is kept of
-/// it at least.
-fn room_for(from: usize, patches: &[TrimmedPatch<'_>]) -> usize {
-    let kept = match patches.last() {
-        Some(patch) => patch.span.end.saturating_sub(from),
+/// it at least. That is never more than the source has, and a few bytes for each patch.
+fn room_for(source: &str, from: usize, patches: &[TrimmedPatch<'_>]) -> usize
+    ensures most { result ≤ length source.now + 16 * length patches.now }
+{
+    let end = match patches.last() {
+        Some(patch) => patch.span.end.min(source.len()),
         None => 0,
     };
+    let kept = end.saturating_sub(from);
     kept.saturating_add(patches.len().saturating_mul(REPLACEMENT_BYTES))
 }

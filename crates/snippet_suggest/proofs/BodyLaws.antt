@@ -87,7 +87,7 @@ module _ (layout : SuggestionLayout) (s : Snippet Patch) (P : SuggestionRow → 
   holds_left_out (line ∷ lines) shown rows have =
       let test : Bool = is_left_out (shown_kind s) (line ∷ lines) (last_reached s) && is_touched s.fold (given_ranges s) 0 in
       let gone : List SubstitutionHighlight = if bytes_eq line (last_reached s) then suggested_stretches s
-      (last_line_reached (cow_str_bytes s.source) (edits_of s) - first_given s) else [] in
+      (last_line_reached (cow_str_bytes s.source.text) (edits_of s) - first_given s) else [] in
       let f : List Cell → List Cell = left_out_cells layout.base.gutter line gone (new_on s 0) in
       let same : (row : List Cell) → map without_role (f row) ≡ map without_role row = λ row.
       with_same Addition layout.base.gutter (chars line) (new_on s 0) _ ∙ with_same Removal layout.base.gutter (chars line) gone row in
@@ -122,9 +122,9 @@ touched_within source start end i d inside =
     omega (arith, get_or-range_with_len a n i d within, within, line_of-within source end)
 
 -- the number beside a line that is removed fits
-emptied_within : (s : Snippet Patch) → All (λ k. k < length (source_lines (cow_str_bytes s.source))) (emptied_lines s)
+emptied_within : (s : Snippet Patch) → All (λ k. k < length (source_lines (cow_str_bytes s.source.text))) (emptied_lines s)
 emptied_within s =
-    let source : List ℕ = cow_str_bytes s.source in
+    let source : List ℕ = cow_str_bytes s.source.text in
     let es = in_order (edits_of s) in
     cond_both s.fold (lines_touched source (first_start es) (first_end es)) (lines_touched source 0 (length source))
     (All (λ k. k < length (source_lines source))) (λ folds. touched_within source (first_start es) (first_end es))
@@ -147,7 +147,7 @@ beside_small (line ∷ lines) Add own counted emptied replaced small few =
 
 removed_small : (s : Snippet Patch) → IsSuggestible s → All (λ k. removed_number s k < 2 ^ 64) (removed_lines s)
 removed_small s can =
-    let begin : ℕ = line_of (source_lines (cow_str_bytes s.source)) (first_start (trimmed_of s)) in
+    let begin : ℕ = line_of (source_lines (cow_str_bytes s.source.text)) (first_start (trimmed_of s)) in
     beside_small (given_lines s) (shown_kind s) (λ k. s.line_start + k) (λ k. capped_sum (s.line_start + first_given s) (k - begin)) (emptied_lines s)
     (replaced_lines s) (λ i d inside. omega (arith, emptied_within s i d inside, can.lines)) (λ k. omega arith)
 

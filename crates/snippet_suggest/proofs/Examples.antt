@@ -4,6 +4,7 @@ use Rattle.std.specs.declared.alloc.Global.{Global}
 use Rattle.std.specs.declared.borrow.CowStr.{CowStr}
 use Rattle.std.specs.declared.borrow.CowStr.TheVariants.{Borrowed}
 use Rattle.std.specs.Str.{chars, trim_end, trim_start}
+use Rattle.snippet_model.specs.Source.{unindexed}
 use Rattle.snippet_model.specs.declared.snippet.Snippet.{Snippet}
 use Rattle.snippet_model.specs.declared.snippet.Patch.{Patch}
 use Rattle.snippet_lines.specs.Lines.{newline_count, start_of}
@@ -30,7 +31,7 @@ snippet v folds text ps few =
     record {
       path = None;
       line_start = 1;
-      source = text_of text;
+      source = unindexed (text_of text);
       markers = record { ptr = v.ptr; len = length ps; cap = length ps; alloc = v.alloc; items = ps; ok = (refl, omega arith); small = few };
       line_numbering = true;
       fold = folds;

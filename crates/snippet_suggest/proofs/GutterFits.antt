@@ -85,7 +85,7 @@ first_before source (e ∷ es) spans =
 counted_last : (s : Snippet Patch) → IsSuggestible s → (k : ℕ) → k < length (given_lines s)
     → (s.line_start + first_given s + k ≤ counted_line s) × (counted_line s < 2 ^ 64)
 counted_last s can k within =
-    let source : List ℕ = cow_str_bytes s.source in
+    let source : List ℕ = cow_str_bytes s.source.text in
     let ls = source_lines source in
     let first : ℕ = s.line_start + first_given s in
     let removed : ℕ = s.line_start + line_of ls (first_end (trimmed_of s)) in

@@ -41,7 +41,7 @@ pub record IsDiff (p : PreparedSuggestion) (line : List ℕ) (infos : List LineI
 
 module _ (p : PreparedSuggestion) (line : List ℕ) (infos : List LineInfo) (start end first : ℕ) (is : IsDiff p line infos start end first) where
   abbrev source : List ℕ
-  source = cow_str_bytes p.snippet.now.source
+  source = cow_str_bytes p.snippet.now.source.text
 
   abbrev es : List Edit
   es = edits_of p.snippet.now

@@ -24,14 +24,14 @@ use Rattle.snippet_suggest.proofs.PreparedLemmas.{first_original-start}
 -- the spans of its edits are taken
 edit_spans : (p : PreparedSuggestion) → IsPrepared p → All (λ e. IsSpan p.map.text e.start e.end) (edits_of p.snippet.now)
 edit_spans p is =
-    let source : List ℕ = cow_str_bytes p.snippet.now.source in
+    let source : List ℕ = cow_str_bytes p.snippet.now.source.text in
     subst (λ text. All (λ (e : Edit). IsSpan text e.start e.end) (edits_of p.snippet.now)) (sym (ap (λ m. m.text) is.lines))
     (All-map (λ e. IsSpan source e.start e.end) edit_of p.snippet.now.markers.items is.suggestible.spans)
 
 -- so are those of its patches, and those that they had before they were trimmed
 pub known_spans : (p : PreparedSuggestion) → IsPrepared p → All (λ t. IsSpan p.map.text t.span.start t.span.end) p.splice.patches.items
 known_spans p is =
-    let text : cow_str_bytes p.snippet.now.source ≡ p.map.text = sym (ap (λ m. m.text) is.lines) in
+    let text : cow_str_bytes p.snippet.now.source.text ≡ p.map.text = sym (ap (λ m. m.text) is.lines) in
     trimmed_spans p.map.text (edits_of p.snippet.now) p.splice.patches.items (edit_spans p is)
     (is.edits ∙ ap (λ source. trimmed_edits source (edits_of p.snippet.now)) text)
 
@@ -44,14 +44,14 @@ known_originals p is =
 pub known_some : (p : PreparedSuggestion) → IsPrepared p → 0 < length p.splice.patches.items
 known_some p is = go p.splice.patches.items is.edits
   where
-    go : (ts : List TrimmedPatch) → map trimmed_edit_of ts ≡ trimmed_edits (cow_str_bytes p.snippet.now.source) (edits_of p.snippet.now) → 0 < length ts
-    go [] same = absurd (is.some (none_given (cow_str_bytes p.snippet.now.source) p.snippet.now.markers.items [] same refl))
+    go : (ts : List TrimmedPatch) → map trimmed_edit_of ts ≡ trimmed_edits (cow_str_bytes p.snippet.now.source.text) (edits_of p.snippet.now) → 0 < length ts
+    go [] same = absurd (is.some (none_given (cow_str_bytes p.snippet.now.source.text) p.snippet.now.markers.items [] same refl))
     go (t ∷ ts) same = omega arith
 
 -- its trimmed edits stand apart
-pub known_apart : (p : PreparedSuggestion) → IsPrepared p → AreApart 0 (trimmed_edits (cow_str_bytes p.snippet.now.source) (edits_of p.snippet.now))
+pub known_apart : (p : PreparedSuggestion) → IsPrepared p → AreApart 0 (trimmed_edits (cow_str_bytes p.snippet.now.source.text) (edits_of p.snippet.now))
 known_apart p is =
-    let source : List ℕ = cow_str_bytes p.snippet.now.source in
+    let source : List ℕ = cow_str_bytes p.snippet.now.source.text in
     trimmed-apart source 0 (in_order (edits_of p.snippet.now)) (apart-in_order (edits_of p.snippet.now)
     (ordered-spans source p.snippet.now.markers.items is.suggestible.spans) is.suggestible.disjoint)
 
@@ -60,7 +60,7 @@ pub known_reached : (p : PreparedSuggestion) → IsPrepared p → (infos : List 
     → end ≡ end_from 0 (map trimmed_edit_of p.splice.patches.items) → map table_entry infos ≡ touched_entries p.map start end
     → last_removed infos ≡ last_reached p.snippet.now
 known_reached p is infos start end ordered ends are =
-    let source : List ℕ = cow_str_bytes p.snippet.now.source in
+    let source : List ℕ = cow_str_bytes p.snippet.now.source.text in
     let es : List Edit = edits_of p.snippet.now in
     let text : p.map.text ≡ source = ap (λ m. m.text) is.lines in
     touched_last p.map infos start end ordered are ∙ ap (λ t. text_at (source_lines t) (line_of (source_lines t) end)) text
@@ -92,5 +92,5 @@ known_first p is =
     let s = p.snippet.now in
     let trimmed = p.splice.patches.items in
     ap (λ m. m.first + (if s.fold then line_of (source_lines m.text) (first_original trimmed) else 0)) is.lines
-    ∙ ap (λ b. s.line_start + (if s.fold then line_of (source_lines (cow_str_bytes s.source)) b else 0))
+    ∙ ap (λ b. s.line_start + (if s.fold then line_of (source_lines (cow_str_bytes s.source.text)) b else 0))
     (first_original-start trimmed (in_order (edits_of s)) is.originals)

@@ -53,7 +53,7 @@ known_few p is diff =
     let kind : shown_kind s ≡ Diff = sym is.kind ∙ diff in
     omega (
       arith,
-      one_given (cow_str_bytes s.source) (trimmed_of s) (given_text s) (ap (λ k. counted_folded k 0 0 1) kind),
+      one_given (cow_str_bytes s.source.text) (trimmed_of s) (given_text s) (ap (λ k. counted_folded k 0 0 1) kind),
       length-map
           (lines_of (given_text s)) (λ l. l.0),
     )

@@ -30,9 +30,9 @@ use Rattle.snippet_suggest.proofs.OrderLaws.{removed_row}
 
 -- the texts of the lines that a span touches are those of the source
 touched_source : (p : PreparedSuggestion) → IsPrepared p → (infos : List LineInfo) (start end : ℕ) → map table_entry infos ≡ touched_entries p.map start end
-    → texts_at infos ≡ texts_of_source p.snippet.now (lines_touched (cow_str_bytes p.snippet.now.source) start end)
+    → texts_at infos ≡ texts_of_source p.snippet.now (lines_touched (cow_str_bytes p.snippet.now.source.text) start end)
 touched_source p is infos start end are =
-    let text : p.map.text ≡ cow_str_bytes p.snippet.now.source = ap (λ m. m.text) is.lines in
+    let text : p.map.text ≡ cow_str_bytes p.snippet.now.source.text = ap (λ m. m.text) is.lines in
     touched_texts p.map infos start end are ∙ ap (λ (t : List ℕ). map (text_at (source_lines t)) (lines_touched t start end)) text
 
 -- those of the first patch's span, or of the whole source
@@ -45,10 +45,10 @@ touched_either false source start end size = refl
 known_emptied : (p : PreparedSuggestion) → IsPrepared p → (start end : ℕ)
     → start ≡ (if p.snippet.now.fold then first_original p.splice.patches.items else 0)
     → end ≡ (if p.snippet.now.fold then first_original_end p.splice.patches.items else length p.map.text)
-    → lines_touched (cow_str_bytes p.snippet.now.source) start end ≡ emptied_lines p.snippet.now
+    → lines_touched (cow_str_bytes p.snippet.now.source.text) start end ≡ emptied_lines p.snippet.now
 known_emptied p is start end starts ends =
     let s = p.snippet.now in
-    let source : List ℕ = cow_str_bytes s.source in
+    let source : List ℕ = cow_str_bytes s.source.text in
     let first : ℕ = first_start (in_order (edits_of s)) in
     let last : ℕ = first_end (in_order (edits_of s)) in
     let from : start ≡ (if s.fold then first else 0) = starts ∙ ap (λ (n : ℕ). if s.fold then n else 0) (known_first_start p is) in
@@ -81,7 +81,7 @@ pub known_emptied_rows : (p : PreparedSuggestion) → IsPrepared p → (infos : 
     → removed_from (line_of (source_lines p.map.text) start) (numbered_at infos) ≡ map (removed_row p.snippet.now) (removed_lines p.snippet.now)
 known_emptied_rows p is infos start end none starts ends are =
     let s = p.snippet.now in
-    let source : List ℕ = cow_str_bytes s.source in
+    let source : List ℕ = cow_str_bytes s.source.text in
     let ls = source_lines p.map.text in
     let a : ℕ = line_of ls start in
     let n : ℕ = line_of ls end + 1 - a in
@@ -128,10 +128,10 @@ removes_replaced p is line diff one =
 pub replaced_touched : (p : PreparedSuggestion) → IsPrepared p → (line : List ℕ) → given_lines p.snippet.now ≡ line ∷ []
     → true ≡ is_touched p.snippet.now.fold p.splice.ranges.items 0
     → replaced_lines p.snippet.now ≡ unless_stays (bytes_eq line (last_reached p.snippet.now))
-    (lines_touched (cow_str_bytes p.snippet.now.source) (first_start (trimmed_of p.snippet.now)) (end_from 0 (trimmed_of p.snippet.now)))
+    (lines_touched (cow_str_bytes p.snippet.now.source.text) (first_start (trimmed_of p.snippet.now)) (end_from 0 (trimmed_of p.snippet.now)))
 replaced_touched p is line one touches =
     let s = p.snippet.now in
-    let ks : List ℕ = lines_touched (cow_str_bytes s.source) (first_start (trimmed_of s)) (end_from 0 (trimmed_of s)) in
+    let ks : List ℕ = lines_touched (cow_str_bytes s.source.text) (first_start (trimmed_of s)) (end_from 0 (trimmed_of s)) in
     ap (λ t. if t then unless_stays (bytes_eq (slice_index_or (given_lines s) 0 []) (last_reached s)) ks else [])
     (ap (λ rs. is_touched s.fold rs 0) (sym is.ranges) ∙ sym touches)
     ∙ ap (λ (ls : List (List ℕ)). unless_stays (bytes_eq (slice_index_or ls 0 []) (last_reached s)) ks) one
@@ -144,7 +144,7 @@ pub known_replaced : (p : PreparedSuggestion) → IsPrepared p → (line : List 
     → unless_stays (bytes_eq line (last_removed infos)) (texts_at infos) ≡ texts_of_source p.snippet.now (replaced_lines p.snippet.now)
 known_replaced p is line infos start end one touches starts ends are reached =
     let s = p.snippet.now in
-    let source : List ℕ = cow_str_bytes s.source in
+    let source : List ℕ = cow_str_bytes s.source.text in
     let ks : List ℕ = lines_touched source (first_start (trimmed_of s)) (end_from 0 (trimmed_of s)) in
     let stays : Bool = bytes_eq line (last_reached s) in
     let from : start ≡ first_start (trimmed_of s) = starts ∙ ap first_start is.edits in
@@ -162,12 +162,12 @@ pub known_replaced_rows : (p : PreparedSuggestion) → IsPrepared p → (line : 
     → start ≡ first_start (map trimmed_edit_of p.splice.patches.items) → end ≡ end_from 0 (map trimmed_edit_of p.splice.patches.items)
     → map table_entry infos ≡ touched_entries p.map start end → last_removed infos ≡ last_reached p.snippet.now
     → first ≡ p.snippet.now.line_start + first_given p.snippet.now
-    → removed_from (line_of (source_lines (cow_str_bytes p.snippet.now.source)) (first_start (trimmed_of p.snippet.now)))
+    → removed_from (line_of (source_lines (cow_str_bytes p.snippet.now.source.text)) (first_start (trimmed_of p.snippet.now)))
     (counted_from first 0 (unless_stays (bytes_eq line (last_removed infos)) (texts_at infos))) ≡ map (removed_row p.snippet.now)
     (removed_lines p.snippet.now)
 known_replaced_rows p is line infos start end first diff one touches starts ends are reached numbered =
     let s = p.snippet.now in
-    let source : List ℕ = cow_str_bytes s.source in
+    let source : List ℕ = cow_str_bytes s.source.text in
     let ls = source_lines source in
     let a : ℕ = line_of ls (first_start (trimmed_of s)) in
     let n : ℕ = line_of ls (end_from 0 (trimmed_of s)) + 1 - a in

@@ -22,9 +22,9 @@ edits-feeds (p ∷ ps) =
 
 -- the lines that are given have numbers, where the source's lines have, and one more for each LF of the replacements
 pub numbers-bound : (s : Snippet Patch) → HaveSpans s → AreDisjoint (edits_of s)
-    → s.line_start + length (source_lines (cow_str_bytes s.source)) + sum_by (λ p. count_by (λ b. b == 10) (cow_str_bytes p.replacement))
+    → s.line_start + length (source_lines (cow_str_bytes s.source.text)) + sum_by (λ p. count_by (λ b. b == 10) (cow_str_bytes p.replacement))
     s.markers.items < 2 ^ 64 → s.line_start + first_given s + length (given_lines s) ≤ 2 ^ 64
 numbers-bound s spans disjoint fits =
-    let bound = shown-bound s.fold (cow_str_bytes s.source) (edits_of s) (edits-apart s spans disjoint) in
+    let bound = shown-bound s.fold (cow_str_bytes s.source.text) (edits_of s) (edits-apart s spans disjoint) in
     let count : length (given_lines s) ≡ length (lines_of (given_text s)) = length-map (lines_of (given_text s)) (λ l. l.0) in
     omega (arith, fits, bound, count, edits-feeds s.markers.items)

@@ -23,35 +23,35 @@ use Rattle.snippet_suggest.proofs.RisingLemmas.{rising_shown}
 
 -- each patch of a snippet has a span
 abbrev pub HaveSpans : Snippet Patch → Type 0
-HaveSpans s = All (λ p. IsSpan (cow_str_bytes s.source) p.span.start p.span.end) s.markers.items
+HaveSpans s = All (λ p. IsSpan (cow_str_bytes s.source.text) p.span.start p.span.end) s.markers.items
 
 -- the edits of its patches stand apart once they are in order
 pub edits-apart : (s : Snippet Patch) → HaveSpans s → AreDisjoint (edits_of s) → AreApart 0 (in_order (edits_of s))
 edits-apart s spans disjoint =
-    apart-in_order (edits_of s) (ordered-spans (cow_str_bytes s.source) s.markers.items spans) disjoint
+    apart-in_order (edits_of s) (ordered-spans (cow_str_bytes s.source.text) s.markers.items spans) disjoint
 
 -- the part of the patched source that is given
 pub given-part : (s : Snippet Patch) → HaveSpans s → AreDisjoint (edits_of s) → s.markers.items ≢ [] → IsOfferable s
-    → IsShownPart s.fold (cow_str_bytes s.source) (edits_of s)
+    → IsShownPart s.fold (cow_str_bytes s.source.text) (edits_of s)
 given-part s spans disjoint some offerable =
-    IsShownPart-plain s.fold (cow_str_bytes s.source) (edits_of s) offerable.no_cr offerable.before (edits-apart s spans disjoint)
-    (some-edits (cow_str_bytes s.source) s.markers.items some)
+    IsShownPart-plain s.fold (cow_str_bytes s.source.text) (edits_of s) offerable.no_cr offerable.before (edits-apart s spans disjoint)
+    (some-edits (cow_str_bytes s.source.text) s.markers.items some)
 
 -- the lines that are given are lines of the patched source, one after the other
 pub given-from : (s : Snippet Patch) → HaveSpans s → AreDisjoint (edits_of s) → s.markers.items ≢ [] → IsOfferable s
-    → AreFrom (first_given s) (given_lines s) (texts_of (source_lines (patched (cow_str_bytes s.source) (edits_of s))))
+    → AreFrom (first_given s) (given_lines s) (texts_of (source_lines (patched (cow_str_bytes s.source.text) (edits_of s))))
 given-from s spans disjoint some offerable =
-    let source : List ℕ = cow_str_bytes s.source in
+    let source : List ℕ = cow_str_bytes s.source.text in
     let part : IsShownPart s.fold source (edits_of s) = given-part s spans disjoint some offerable in
     subst (λ t. AreFrom (first_given s) (texts_of (lines_of t)) (texts_of (source_lines (patched source (edits_of s))))) (sym part.text)
     (AreFrom-shown s.fold source (edits_of s) offerable.no_cr offerable.no_cr_in part)
 
 -- a line that is given is the line of the patched source at the same place
 pub given-is-patched : (s : Snippet Patch) → HaveSpans s → AreDisjoint (edits_of s) → s.markers.items ≢ [] → IsOfferable s → (k : ℕ)
-    → k < length (given_lines s) → (first_given s + k < length (source_lines (patched (cow_str_bytes s.source) (edits_of s))))
-    × (slice_index_or (given_lines s) k [] ≡ text_at (source_lines (patched (cow_str_bytes s.source) (edits_of s))) (first_given s + k))
+    → k < length (given_lines s) → (first_given s + k < length (source_lines (patched (cow_str_bytes s.source.text) (edits_of s))))
+    × (slice_index_or (given_lines s) k [] ≡ text_at (source_lines (patched (cow_str_bytes s.source.text) (edits_of s))) (first_given s + k))
 given-is-patched s spans disjoint some offerable k low =
-    let ls : List Line = source_lines (patched (cow_str_bytes s.source) (edits_of s)) in
+    let ls : List Line = source_lines (patched (cow_str_bytes s.source.text) (edits_of s)) in
     let at = AreFrom-at (given_lines s) (texts_of ls) (first_given s) k [] (given-from s spans disjoint some offerable) low in
     let within : first_given s + k < length ls = omega (arith, at.0, length-map ls (λ l. l.0)) in
     (within, at.1 ∙ get_or-map (λ l. l.0) ls (first_given s + k) ([], Eof) [] within)

@@ -47,7 +47,7 @@ none_left_out Add lines last other = refl
 
 -- the row of line i of the source, as removed
 abbrev pub removed_row : Snippet Patch → ℕ → SuggestionRow
-removed_row s i = Removes i (removed_number s i) (text_at (source_lines (cow_str_bytes s.source)) i)
+removed_row s i = Removes i (removed_number s i) (text_at (source_lines (cow_str_bytes s.source.text)) i)
 
 -- the rows of a diff below the one that it begins with
 abbrev pub changed_rows : Bool → Bool → List SuggestionRow → List SuggestionRow
@@ -158,7 +158,7 @@ few_in_diff : (s : Snippet Patch) → shown_kind s ≡ Diff → length (given_li
 few_in_diff s diff =
     omega (
       arith,
-      one_given (cow_str_bytes s.source) (trimmed_of s) (given_text s) (ap (λ k. counted_folded k 0 0 1) diff),
+      one_given (cow_str_bytes s.source.text) (trimmed_of s) (given_text s) (ap (λ k. counted_folded k 0 0 1) diff),
       length-map
           (lines_of (given_text s)) (λ l. l.0),
     )
@@ -203,7 +203,7 @@ IsRowOf s (Begins start) = Unit {0}
 IsRowOf s (Offers k) = Unit {0}
 IsRowOf s Skips = Unit {0}
 IsRowOf s (Removes i number text) =
-    (number ≡ removed_number s i) × (text ≡ text_at (source_lines (cow_str_bytes s.source)) i)
+    (number ≡ removed_number s i) × (text ≡ text_at (source_lines (cow_str_bytes s.source.text)) i)
 IsRowOf s Empty = Unit {0}
 IsRowOf s (Ends follows) = Unit {0}
 

@@ -59,7 +59,7 @@ lines_counted (b ∷ bs) first small fits =
 -- there is a number for the last line that is given
 pub last-fits : (s : Snippet Patch) → IsSuggestible s → s.line_start + first_given s + newline_count (given_text s) < 2 ^ 64
 last-fits s h =
-    let source : List ℕ = cow_str_bytes s.source in
+    let source : List ℕ = cow_str_bytes s.source.text in
     let k : ℕ = line_of (source_lines source) (first_start (in_order (edits_of s))) in
     let below : first_given s < length (source_lines source) = cond_both s.fold k 0 (λ n. n < length (source_lines source)) (λ _.
     line_of-within source (first_start (in_order (edits_of s)))) (λ _. omega (arith, length-source_lines source)) in
@@ -85,7 +85,7 @@ counted-is s source ps text kind count h of given edits originals shown counted 
     let begin : start ≡ first_start (in_order (edits_of s)) = first_original-start ps (in_order (edits_of s)) originals in
     let first : source.first + (if s.fold then line_of (source_lines source.text) start else 0) ≡ s.line_start + first_given s =
     ap (λ (m : Source). m.first + (if s.fold then line_of (source_lines m.text) start else 0)) of
-    ∙ ap (λ at. s.line_start + (if s.fold then line_of (source_lines (cow_str_bytes s.source)) at else 0)) begin in
+    ∙ ap (λ at. s.line_start + (if s.fold then line_of (source_lines (cow_str_bytes s.source.text)) at else 0)) begin in
     let small : source.first + (if s.fold then line_of (source_lines source.text) start else 0) + newline_count text < 2 ^ 64 = omega
     (arith, first, ap newline_count given, last-fits s h) in
     counted small ∙ ap (λ (m : Source). counted_from m s.fold text kind start end) of

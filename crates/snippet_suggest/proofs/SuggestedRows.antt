@@ -242,7 +242,7 @@ pub record AreReplaced (s : Snippet Patch) (line : List ℕ) (f : ℕ → List �
   pub are : numbered_at infos ≡ map {B = ℕ × List ℕ} (λ j. (s.line_start + j, f j)) (range_with_len a n)
   pub some : 0 < n
   pub last : last_removed infos ≡ last_reached s
-  pub reached : a + (n - 1) ≡ last_line_reached (cow_str_bytes s.source) (edits_of s)
+  pub reached : a + (n - 1) ≡ last_line_reached (cow_str_bytes s.source.text) (edits_of s)
 
 -- how many of them are shown
 abbrev pub shown_count : Snippet Patch → List ℕ → ℕ → ℕ
@@ -260,7 +260,7 @@ module _ (layout : SuggestionLayout) (s : Snippet Patch) (line : List ℕ) (f : 
   left = is_left_out Diff (line ∷ []) (last_reached s)
 
   abbrev gone : List SubstitutionHighlight
-  gone = if stays then suggested_stretches s (last_line_reached (cow_str_bytes s.source) (edits_of s) - first_given s) else []
+  gone = if stays then suggested_stretches s (last_line_reached (cow_str_bytes s.source.text) (edits_of s) - first_given s) else []
 
   abbrev removed : List SuggestionRow
   removed = removed_from a (counted_from first 0 (map f (range_with_len a (shown_count s line n))))
@@ -281,9 +281,9 @@ module _ (layout : SuggestionLayout) (s : Snippet Patch) (line : List ℕ) (f : 
       let own : get_or (map (λ (info : LineInfo). info.line_index) infos) (length infos - 1) 0 ≡ index (numbered_at infos) = own_index infos in
       let last : index (numbered_at infos) ≡ s.line_start + (a + (n - 1)) = ap index known.are ∙ last_index s.line_start f a n known.some in
       let at : get_or (map (λ (info : LineInfo). info.line_index) infos) (length infos - 1) 0 - first
-      ≡ last_line_reached (cow_str_bytes s.source) (edits_of s) - first_given s = omega (arith, own, last, known.reached) in
+      ≡ last_line_reached (cow_str_bytes s.source.text) (edits_of s) - first_given s = omega (arith, own, last, known.reached) in
       ap (λ (k : ℕ). if stays then replaced k else []) at ∙ ap (λ (ss : List SubstitutionHighlight). if stays then ss else [])
-      (same (last_line_reached (cow_str_bytes s.source) (edits_of s) - first_given s))
+      (same (last_line_reached (cow_str_bytes s.source.text) (edits_of s) - first_given s))
 
   -- the row of the line in their place
   offered_is : suggested_cells layout s [] (Offers 0) ≡ offered_cells layout Diff 1 first line (new_on s 0)

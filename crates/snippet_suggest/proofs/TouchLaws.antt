@@ -90,7 +90,7 @@ lone_patch_left_out : (s : Snippet Patch) → HaveSpans s → AreDisjoint (edits
     → is_left_out (shown_kind s) (given_lines s) (last_reached s) ≡ true
     → (length (given_lines s) ≤ 1) × ((is_blank_text (get_or (given_lines s) 0 []) ≡ true) ⊎ IsAsItWas s)
 lone_patch_left_out s spans disjoint some offerable first is =
-    let source : List ℕ = cow_str_bytes s.source in
+    let source : List ℕ = cow_str_bytes s.source.text in
     let why = left_out (shown_kind s) (given_lines s) (last_reached s) is in
     let one : length (given_lines s) ≤ 1 = omega (
       arith,
@@ -103,17 +103,18 @@ lone_patch_left_out s spans disjoint some offerable first is =
     (one, ⊎_elim (λ blank. inl blank) (λ same. inr (ap (λ t. texts_of (lines_of t)) text ∙ only (given_lines s) [] first one ∙ ap (λ t. t ∷ []) same)) why.1)
 
 -- where a line is touched there are patches
-touched_some : (s : Snippet Patch) (j : ℕ) → IsTouched (cow_str_bytes s.source) (edits_of s) j → s.markers.items ≢ []
+touched_some : (s : Snippet Patch) (j : ℕ) → IsTouched (cow_str_bytes s.source.text) (edits_of s) j → s.markers.items ≢ []
 touched_some s j touched none =
-    let source : List ℕ = cow_str_bytes s.source in
+    let source : List ℕ = cow_str_bytes s.source.text in
     omega (arith, touched.among.1, ap (λ ps. length (stands source (trimmed_edits source (map edit_of ps)))) none)
 
 -- each touched line that isn't blank is offered, unless the text is as it was
-pub touched-offered : (s : Snippet Patch) → HaveSpans s → AreDisjoint (edits_of s) → IsOfferable s → (j : ℕ) → IsTouched (cow_str_bytes s.source) (edits_of s) j
-    → is_blank_text (text_at (source_lines (patched (cow_str_bytes s.source) (edits_of s))) j) ≡ false → IsAsItWas s ⊎ Contains (offered_lines s) j
+pub touched-offered : (s : Snippet Patch) → HaveSpans s → AreDisjoint (edits_of s) → IsOfferable s → (j : ℕ)
+    → IsTouched (cow_str_bytes s.source.text) (edits_of s) j
+    → is_blank_text (text_at (source_lines (patched (cow_str_bytes s.source.text) (edits_of s))) j) ≡ false → IsAsItWas s ⊎ Contains (offered_lines s) j
 touched-offered s spans disjoint offerable j touched filled =
     let some : s.markers.items ≢ [] = touched_some s j touched in
-    let source : List ℕ = cow_str_bytes s.source in
+    let source : List ℕ = cow_str_bytes s.source.text in
     let es : List Edit = edits_of s in
     let base : ℕ = first_given s in
     let ls : List Line = source_lines (patched source es) in

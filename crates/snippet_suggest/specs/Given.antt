@@ -29,34 +29,34 @@ abbrev pub edits_of : Snippet Patch → List Edit
 edits_of s = map (λ (p : Patch). record { start = p.span.start; end = p.span.end; text = cow_str_bytes p.replacement }) s.markers.items
 
 abbrev pub trimmed_of : Snippet Patch → List Edit
-trimmed_of s = map (trimmed_edit (cow_str_bytes s.source)) (in_order (edits_of s))
+trimmed_of s = map (trimmed_edit (cow_str_bytes s.source.text)) (in_order (edits_of s))
 
 -- the text that is shown of the patched source, and its lines
 abbrev pub given_text : Snippet Patch → List ℕ
-given_text s = shown_text s.fold (cow_str_bytes s.source) (edits_of s)
+given_text s = shown_text s.fold (cow_str_bytes s.source.text) (edits_of s)
 
 abbrev pub given_lines : Snippet Patch → List (List ℕ)
 given_lines s = map (λ l. l.0) (lines_of (given_text s))
 
 -- which line of the patched source the first of them is: where lines are folded that on which the first edit starts
 abbrev pub first_given : Snippet Patch → ℕ
-first_given s = if s.fold then line_of (source_lines (cow_str_bytes s.source)) (first_start (in_order (edits_of s))) else 0
+first_given s = if s.fold then line_of (source_lines (cow_str_bytes s.source.text)) (first_start (in_order (edits_of s))) else 0
 
 -- for each trimmed patch the lines among them on which its text stands; they begin where the first of them does
 abbrev pub given_ranges : Snippet Patch → List LineRange
 given_ranges s =
-    let lines = source_lines (cow_str_bytes s.source) in
+    let lines = source_lines (cow_str_bytes s.source.text) in
     let start = if s.fold then start_of lines (line_of lines (first_start (in_order (edits_of s)))) else 0 in
-    written_ranges (cow_str_bytes s.source) 0 start (trimmed_of s)
+    written_ranges (cow_str_bytes s.source.text) 0 start (trimmed_of s)
 
 -- how they are shown
 abbrev pub shown_kind : Snippet Patch → DisplaySuggestion
-shown_kind s = kind_of (cow_str_bytes s.source) (trimmed_of s) (given_text s)
+shown_kind s = kind_of (cow_str_bytes s.source.text) (trimmed_of s) (given_text s)
 
 -- the text of the last source line that is reached
 abbrev pub last_reached : Snippet Patch → List ℕ
 last_reached s =
-    text_at (source_lines (cow_str_bytes s.source)) (last_line_reached (cow_str_bytes s.source) (edits_of s))
+    text_at (source_lines (cow_str_bytes s.source.text)) (last_line_reached (cow_str_bytes s.source.text) (edits_of s))
 
 -- whether one line, in place of the lines that are removed, isn't shown: it is blank, or the same as the last of them
 abbrev pub is_left_out : DisplaySuggestion → List (List ℕ) → List ℕ → Bool
@@ -99,14 +99,14 @@ first_end (e ∷ es) = e.end
 -- the lines that are removed where nothing stands in their place: folded those of the first span, as it is given; unfolded all
 abbrev pub emptied_lines : Snippet Patch → List ℕ
 emptied_lines s =
-    let source = cow_str_bytes s.source in
+    let source = cow_str_bytes s.source.text in
     if s.fold then lines_touched source (first_start (in_order (edits_of s))) (first_end (in_order (edits_of s))) else lines_touched source 0 (length source)
 
 -- those that are removed where one line stands in their place: from the one on which the first trimmed patch starts to the one on
 -- which the last ends, without this if it is the same as the line in their place; but none if no patch touches that
 abbrev pub replaced_lines : Snippet Patch → List ℕ
 replaced_lines s =
-    let lines = lines_touched (cow_str_bytes s.source) (first_start (trimmed_of s)) (fold (λ before e. e.end) 0 (trimmed_of s)) in
+    let lines = lines_touched (cow_str_bytes s.source.text) (first_start (trimmed_of s)) (fold (λ before e. e.end) 0 (trimmed_of s)) in
     let stays = bytes_eq (slice_index_or (given_lines s) 0 []) (last_reached s) in
     if is_touched s.fold (given_ranges s) 0 then (if stays then take (length lines - 1) lines else lines) else []
 
@@ -118,19 +118,19 @@ removed_lines s =
 
 -- the texts of some lines of the source
 abbrev pub texts_of_source : Snippet Patch → List ℕ → List (List ℕ)
-texts_of_source s ks = map (text_at (source_lines (cow_str_bytes s.source))) ks
+texts_of_source s ks = map (text_at (source_lines (cow_str_bytes s.source.text))) ks
 
 -- what the promise on offered lines asks of a snippet: no CR in its source and its replacements, and no trimmed patch that
 -- starts after an LF that ends the source
 pub record IsOfferable (s : Snippet Patch) : Type 0 where
-  pub no_cr : HasNoCr (cow_str_bytes s.source)
+  pub no_cr : HasNoCr (cow_str_bytes s.source.text)
   pub no_cr_in : All (λ e. HasNoCr e.text) (edits_of s)
-  pub before : All (λ e. IsBeforeFinalLf (cow_str_bytes s.source) e.start) (trimmed_of s)
+  pub before : All (λ e. IsBeforeFinalLf (cow_str_bytes s.source.text) e.start) (trimmed_of s)
 
 -- the spliced text has one line, and that is the last source line that is reached
 abbrev pub IsAsItWas : Snippet Patch → Type 0
 IsAsItWas s =
-    texts_of (lines_of (spliced_text s.fold (cow_str_bytes s.source) (edits_of s))) ≡ last_reached s ∷ []
+    texts_of (lines_of (spliced_text s.fold (cow_str_bytes s.source.text) (edits_of s))) ≡ last_reached s ∷ []
 
 -- where the first of some patches started before it was trimmed, and where it ended
 abbrev pub first_original : List TrimmedPatch → ℕ
@@ -146,6 +146,6 @@ first_original_end (p ∷ ps) = p.original_span.end
 abbrev pub counted_line : Snippet Patch → ℕ
 counted_line s =
     let first = s.line_start + first_given s in
-    let removed = s.line_start + line_of (source_lines (cow_str_bytes s.source)) (first_end (trimmed_of s)) in
+    let removed = s.line_start + line_of (source_lines (cow_str_bytes s.source.text)) (first_end (trimmed_of s)) in
     let last = first + newline_count (given_text s) in
     if s.fold then elim (shown_kind s) [ Underline ↦ first | Diff ↦ removed | kind ↦ last ] else last

@@ -19,16 +19,16 @@ use Rattle.snippet_style.specs.Bounds.{IsUsize, max_usize}
 -- what preparing a snippet of patches asks of it: that its source fits, that each patch has a span, that no two of them
 -- overlap, and that there are numbers for the lines that it gives
 pub record IsSuggestible (s : Snippet Patch) : Type 0 where
-  pub source : TextFits (cow_str_bytes s.source)
-  pub lines : IsUsize (s.line_start + length (source_lines (cow_str_bytes s.source)))
-  pub spans : All (λ p. IsSpan (cow_str_bytes s.source) p.span.start p.span.end) s.markers.items
+  pub source : TextFits (cow_str_bytes s.source.text)
+  pub lines : IsUsize (s.line_start + length (source_lines (cow_str_bytes s.source.text)))
+  pub spans : All (λ p. IsSpan (cow_str_bytes s.source.text) p.span.start p.span.end) s.markers.items
   pub disjoint : AreDisjoint (edits_of s)
   pub numbers : s.line_start + first_given s + length (given_lines s) ≤ max_usize + 1
 
 -- what was prepared is that of its snippet, which has patches, and whose source is UTF-8, as each `str` is
 pub record IsPrepared (p : PreparedSuggestion) : Type 0 where
   pub suggestible : IsSuggestible p.snippet.now
-  pub utf8 : IsUtf8 (cow_str_bytes p.snippet.now.source)
+  pub utf8 : IsUtf8 (cow_str_bytes p.snippet.now.source.text)
   pub some : p.snippet.now.markers.items ≢ []
   pub lines : p.map ≡ numbered_source p.snippet.now
   pub text : string_bytes p.splice.complete ≡ given_text p.snippet.now
@@ -36,9 +36,9 @@ pub record IsPrepared (p : PreparedSuggestion) : Type 0 where
   pub originals : map original_bounds_of p.splice.patches.items ≡ map edit_bounds (in_order (edits_of p.snippet.now))
   pub ranges : p.splice.ranges.items ≡ given_ranges p.snippet.now
   pub new : (k : ℕ)
-      → line_stretches p.splice.highlights.items k ≡ new_stretches p.snippet.now.fold (cow_str_bytes p.snippet.now.source) (edits_of p.snippet.now) k
+      → line_stretches p.splice.highlights.items k ≡ new_stretches p.snippet.now.fold (cow_str_bytes p.snippet.now.source.text) (edits_of p.snippet.now) k
   pub replaced : (k : ℕ)
-      → line_stretches p.splice.replaced_highlights.items k ≡ replaced_stretches p.snippet.now.fold (cow_str_bytes p.snippet.now.source)
+      → line_stretches p.splice.replaced_highlights.items k ≡ replaced_stretches p.snippet.now.fold (cow_str_bytes p.snippet.now.source.text)
       (edits_of p.snippet.now) k
   pub kind : p.kind ≡ shown_kind p.snippet.now
   pub counted : p.counted ≡ counted_line p.snippet.now

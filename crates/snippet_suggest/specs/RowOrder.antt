@@ -47,7 +47,7 @@ lines_taken shown = filter_map line_taken shown
 -- are removed, they are counted as it is: the first of them has its number
 abbrev pub removed_number : Snippet Patch → ℕ → ℕ
 removed_number s i =
-    let begin = line_of (source_lines (cow_str_bytes s.source)) (first_start (trimmed_of s)) in
+    let begin = line_of (source_lines (cow_str_bytes s.source.text)) (first_start (trimmed_of s)) in
     if length (given_lines s) == 0 then s.line_start + i else capped_sum (s.line_start + first_given s) (i - begin)
 
 -- what the rows of a suggestion show, but the last one, which is what it ends with. A line of the source that is removed has a row with
@@ -57,7 +57,7 @@ removed_number s i =
 abbrev pub rows_of_suggestion : SuggestionStart → Snippet Patch → List SuggestionRow
 rows_of_suggestion start s =
     let touched = is_touched s.fold (given_ranges s) in
-    let removed = map (λ i. Removes i (removed_number s i) (text_at (source_lines (cow_str_bytes s.source)) i)) (removed_lines s) in
+    let removed = map (λ i. Removes i (removed_number s i) (text_at (source_lines (cow_str_bytes s.source.text)) i)) (removed_lines s) in
     let left_out = is_left_out (shown_kind s) (given_lines s) (last_reached s) in
     let changed = if touched 0 then removed ++ (if left_out then [] else Offers 0 ∷ []) else Empty ∷ [] in
     let shown = map (λ line. elim line [ Line k ↦ Offers k | Gap ↦ Skips ]) (shown_from touched 0 0 (length (given_lines s))) in

@@ -30,10 +30,10 @@ use Rattle.snippet_suggest.specs.Cells.{offered_cells}
 
 -- the stretches of line k that is given which are new, and those of line k after the first in the source which are replaced
 abbrev pub new_on : Snippet Patch → ℕ → List SubstitutionHighlight
-new_on s k = new_stretches s.fold (cow_str_bytes s.source) (edits_of s) k
+new_on s k = new_stretches s.fold (cow_str_bytes s.source.text) (edits_of s) k
 
 abbrev pub suggested_stretches : Snippet Patch → ℕ → List SubstitutionHighlight
-suggested_stretches s k = replaced_stretches s.fold (cow_str_bytes s.source) (edits_of s) k
+suggested_stretches s k = replaced_stretches s.fold (cow_str_bytes s.source.text) (edits_of s) k
 
 -- the row of a line that is removed, over one that is there or has no cells: where no line is given, all of its text has the role of
 -- removal, and else the stretches that are replaced
@@ -70,7 +70,8 @@ cells_over f under (row ∷ rows) = f under row ∷ map (f []) rows
 abbrev pub with_left_out : SuggestionLayout → Snippet Patch → List (List ℕ) → List (List Cell) → List (List Cell)
 with_left_out layout s [] rows = rows
 with_left_out layout s (line ∷ lines) rows =
-    let gone = if bytes_eq line (last_reached s) then suggested_stretches s (last_line_reached (cow_str_bytes s.source) (edits_of s) - first_given s) else [] in
+    let gone =
+    if bytes_eq line (last_reached s) then suggested_stretches s (last_line_reached (cow_str_bytes s.source.text) (edits_of s) - first_given s) else [] in
     if is_left_out (shown_kind s) (line ∷ lines) (last_reached s) && is_touched s.fold (given_ranges s) 0 then on_last
     (left_out_cells layout.base.gutter line gone (new_on s 0)) rows else rows
 

@@ -1,5 +1,5 @@
 -- The cells of a stretch of a row.
-use Rattle.std.specs.Prelude.{ℕ, List, Option, map}
+use Rattle.std.specs.Prelude.{ℕ, ◌+◌, List, Option, length, map}
 use Rattle.std.specs.Option.{option_copied}
 use Rattle.std.specs.Str.{chars}
 use Rattle.snippet_style.specs.Cell.{Cell}
@@ -13,3 +13,7 @@ cells_alike role link word = map (λ ch. (let cell : Cell = record { ch = ch; ro
 -- those of a stretch: one for each character of its text
 abbrev pub stretch_cells : RowStretch → List Cell
 stretch_cells s = cells_alike s.role (option_copied s.link) (chars s.text.now)
+
+-- the bytes that its text has room for at first: those of the characters, and eight for the codes before and after them
+abbrev pub stretch_room : RowStretch → ℕ
+stretch_room s = length s.text.now + 8

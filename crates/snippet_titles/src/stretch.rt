@@ -1,11 +1,11 @@
 //! Rows that are printed from their texts, without a grid.
 ghost use Rattle.std.specs.Prelude.{◌≡◌, ◌≢◌, ◌++◌, ℕ, List, [], ◌∷◌, None, Some, IfOk, OnOk, ◌<◌, false, length, true};
-ghost use Rattle.std.specs.Prelude.{string_bytes};
+ghost use Rattle.std.specs.Prelude.{◌≤◌, string_bytes, sum_by};
 ghost use Rattle.std.specs.List.{flat_map};
 ghost use Rattle.std.specs.Option.{option_copied};
 ghost use Rattle.std.specs.Str.{chars};
 ghost use Rattle.snippet_grid.specs.Stretch.{PrintsStretch};
-ghost use Rattle.snippet_titles.specs.StretchCells.{cells_alike, stretch_cells};
+ghost use Rattle.snippet_titles.specs.StretchCells.{cells_alike, stretch_cells, stretch_room};
 ghost use Rattle.snippet_style.specs.Cell.{text_cells};
 ghost use Rattle.snippet_style.specs.Stylesheet.{style_of};
 ghost use Rattle.snippet_grid.specs.Woven.{Opening, Reset, LinkTo, LinkEnd, Prints, WeavesRow, piece_text};
@@ -76,7 +76,9 @@ pub(crate) fn print_row(
 }
 
 /// The bytes that the text of some stretches has room for at first.
-fn room_for(stretches: &[RowStretch<'_>]) -> usize {
+fn room_for(stretches: &[RowStretch<'_>]) -> usize
+    ensures most { result ≤ sum_by stretch_room stretches.now }
+{
     let mut bytes = 0usize;
     for stretch in stretches {
         bytes = bytes.saturating_add(stretch.text.len().saturating_add(STRETCH_BYTES));

@@ -21,6 +21,6 @@ returns c =
         fold = refl;
         markers = c.in_ok-add_visible.ensures.added
             ∙ ap (λ (spans : List (Range ℕ)). s.markers.items ++ map visible_mark spans) c.in_ok-spans.ensures.value;
-        spans = subst (All (HoldsSpan (cow_str_bytes s.source))) c.in_ok-spans.ensures.value c.in_ok-spans.ensures.parts;
+        spans = subst (All (HoldsSpan (cow_str_bytes s.source.text))) c.in_ok-spans.ensures.value c.in_ok-spans.ensures.parts;
       };
     }

@@ -13,7 +13,7 @@ use Rattle.snippet_context.proofs.spans.spans_around.Goals as goal
 pub returns-in-Some-clause-parts : goal.returns-in-Some-clause-parts
 returns-in-Some-clause-parts c =
     let s = c.args.snippet.now in
-    let source : List ℕ = cow_str_bytes s.source in
+    let source : List ℕ = cow_str_bytes s.source.text in
     let ks : List ℕ = kept_lines true source s.markers.items in
     let utf8 : IsUtf8 source = subst (λ (m : Source). IsUtf8 m.text) c.in_ok-map.ensures.ok c.in_ok-map.ensures.utf8 in
     IfOk-weaker c.spans_of.result _ _ (λ spans is. subst (All (HoldsSpan source)) (sym is) (around-parts c.args.before c.args.after source ks utf8
@@ -22,7 +22,7 @@ returns-in-Some-clause-parts c =
 pub returns-clause-parts : goal.returns-clause-parts
 returns-clause-parts c =
     let s = c.args.snippet.now in
-    let source : List ℕ = cow_str_bytes s.source in
+    let source : List ℕ = cow_str_bytes s.source.text in
     let ks : List ℕ = kept_lines true source s.markers.items in
     let utf8 : IsUtf8 source = subst (λ (m : Source). IsUtf8 m.text) c.in_ok-map.ensures.ok c.in_ok-map.ensures.utf8 in
     IfOk-weaker c.spans_of-in-None.result _ _ (λ spans is. subst (All (HoldsSpan source)) (sym is) (around-parts c.args.before c.args.after source ks utf8

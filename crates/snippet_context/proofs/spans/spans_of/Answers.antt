@@ -22,7 +22,7 @@ overflow_sub-line c =
 pub span_around-requires-clause-within : goal.span_around-requires-clause-within
 span_around-requires-clause-within c =
     let s = c.args.snippet.now in
-    let source : List ℕ = cow_str_bytes s.source in
+    let source : List ℕ = cow_str_bytes s.source.text in
     let at = kept-number (numbered_source s) s.markers.items c.args.kept.now c.loop-info.info-index c.info-item.result c.requires.kept (omega arith)
     c.info-item.is in
     let inside = kept-within (λ k. list_any (keeps source k) s.markers.items) (length (source_lines source)) c.loop-info.info-index 0 at.0 in
@@ -31,7 +31,7 @@ span_around-requires-clause-within c =
 pub loop-info-preserved : goal.loop-info-preserved
 loop-info-preserved c =
     let s = c.args.snippet.now in
-    let source : List ℕ = cow_str_bytes s.source in
+    let source : List ℕ = cow_str_bytes s.source.text in
     let ks : List ℕ = kept_lines true source s.markers.items in
     let i : ℕ = c.loop-info.info-index in
     let k : ℕ = get_or ks i 0 in
@@ -46,7 +46,7 @@ loop-info-preserved c =
 pub returns : goal.returns
 returns c =
     let s = c.args.snippet.now in
-    let source : List ℕ = cow_str_bytes s.source in
+    let source : List ℕ = cow_str_bytes s.source.text in
     let ks : List ℕ = kept_lines true source s.markers.items in
     let count : length c.args.kept.now ≡ length ks = sym (length-map c.args.kept.now seen_kept) ∙ ap length c.requires.kept
     ∙ length-map ks (kept_line (numbered_source s) s.markers.items) in

@@ -6,5 +6,5 @@ use Rattle.snippet_context.proofs.spans.spans_of.Given as goal
 
 -- the spans around the lines so far
 abbrev pub invariant-loop-info : goal.invariant-loop-info
-invariant-loop-info l = l.spans.items ≡ map (span_around l.before l.after (cow_str_bytes l.snippet.source))
-    (take l.info-index (kept_lines true (cow_str_bytes l.snippet.source) l.snippet.markers.items))
+invariant-loop-info l = l.spans.items ≡ map (span_around l.before l.after (cow_str_bytes l.snippet.source.text))
+    (take l.info-index (kept_lines true (cow_str_bytes l.snippet.source.text) l.snippet.markers.items))

@@ -20,7 +20,7 @@ use Rattle.snippet_suggest.proofs.prepared.prepare_suggestion.Goals as goal
 
 pub map_of-requires-clause-numbers : goal.map_of-requires-clause-numbers
 map_of-requires-clause-numbers c =
-    omega (arith, c.requires.suggestible.lines, length-source_lines (cow_str_bytes c.args.snippet.now.source))
+    omega (arith, c.requires.suggestible.lines, length-source_lines (cow_str_bytes c.args.snippet.now.source.text))
 
 pub counted_line-counted-requires-clause-some : goal.counted_line-counted-requires-clause-some
 counted_line-counted-requires-clause-some c =
@@ -33,7 +33,7 @@ counted_line-counted-requires-clause-some c =
 pub returns-clause-prepared : goal.returns-clause-prepared
 returns-clause-prepared c =
     let s : Snippet Patch = c.args.snippet.now in
-    let source : List ℕ = cow_str_bytes s.source in
+    let source : List ℕ = cow_str_bytes s.source.text in
     let ps : List TrimmedPatch = c.in-Some.splice.patches.items in
     let lines : c.in_ok-map.map ≡ numbered_source s = c.in_ok-map.ensures.ok in
     let of : c.in_ok-map.map.text ≡ source = ap (λ (m : Source). m.text) lines in
