@@ -1,13 +1,13 @@
 -- Rows in which stretches gave their place to the placeholder.
 use Rattle.std.proofs.Common.{◌≡◌, ◌∙◌, true, false, ℕ, zero, suc, ◌+◌, ◌-◌, ◌<◌, ◌≤◌, Bool, List, [], ◌∷◌, ◌++◌, length, map, take, drop, set, get_or, cond}
 use Rattle.std.proofs.Common.{refl, sym, ap, subst, arith, inl, inr, fold}
-use Rattle.std.proofs.lemmas.Bool.{cases_lt, or_parts}
+use Rattle.std.proofs.lemmas.Bool.{and_parts, cases_lt, or_parts}
 use Rattle.std.proofs.lemmas.List.{places, same_lists, map-append, append_assoc, length-append, drop_more, drop_all}
 use Rattle.std.proofs.lemmas.List.Sums.{sum_by-cons}
 use Rattle.std.proofs.lemmas.List.Elements.{All-append, All-take, All-drop}
 use Rattle.std.proofs.Math.Seq.{set-append_seam}
 use Rattle.std.specs.Prelude.{◌&&◌, ◌/◌, max, not}
-use Rattle.std.specs.List.{list_any, slice_index_or, flat_map, zip}
+use Rattle.std.specs.List.{list_all, list_any, slice_index_or, flat_map, zip}
 use Rattle.snippet_parts.specs.declared.entries.LineAnnotation.{LineAnnotation}
 use Rattle.snippet_parts.specs.Entries.{is_wide_entry}
 use Rattle.snippet_window.specs.Window.{AreReplaced}
@@ -29,7 +29,7 @@ use Rattle.snippet_strokes.proofs.PlainEntries.{wide_entries}
 use Rattle.snippet_strokes.proofs.SeenRows.{IsCut}
 use Rattle.snippet_strokes.proofs.CellLemmas.{free_placeholder}
 use Rattle.snippet_grid.proofs.RowLemmas.{row_text-text_cells}
-use Rattle.snippet_strokes.specs.Cuts.{cut_middle, overlapped}
+use Rattle.snippet_strokes.specs.Cuts.{cut_middle, is_cut, overlapped}
 use Rattle.snippet_strokes.specs.Drawing.{row_count}
 use Rattle.snippet_strokes.specs.Painting.{painting_order}
 use Rattle.snippet_labels.specs.Positions.{placed_of}
@@ -278,6 +278,20 @@ cut_each layout room (pair ∷ pairs) row =
     let rest : List Stretch = flat_map (cut_of layout room) pairs in
     cut_each layout room pairs (cut_middle layout room row pair) ∙ ap (cut_row layout.decor rest) (sym (cut_one layout room pair row))
     ∙ sym (cut_row-append layout.decor (cut_of layout room pair) rest row)
+
+-- a row stays where no entry is cut
+pub uncut_row : (layout : Layout) (room : ℕ) (pairs : List (PlacedEntry × Bool)) (row : List Cell)
+    → list_all (λ pair. not (is_cut room layout.decor pair)) pairs ≡ true → cut_row layout.decor (flat_map (cut_of layout room) pairs) row ≡ row
+uncut_row layout room [] row all = refl
+uncut_row layout room (pair ∷ pairs) row all =
+    let parts = and_parts (not (is_cut room layout.decor pair)) (list_all (λ p. not (is_cut room layout.decor p)) pairs) all in
+    ap (λ b. cut_row layout.decor (cond b (middle_of layout room pair.0.entry ∷ []) [] ++ flat_map (cut_of layout room) pairs) row)
+    (negated (is_cut room layout.decor pair) parts.0)
+    ∙ uncut_row layout room pairs row parts.1
+  where
+    negated : (b : Bool) → not b ≡ true → b ≡ false
+    negated true is = cc
+    negated false is = refl
 
 map_alike : {X Y : Type 0} (f g : X → Y) (xs : List X) → ((x : X) → f x ≡ g x) → map f xs ≡ map g xs
 map_alike f g [] same = refl

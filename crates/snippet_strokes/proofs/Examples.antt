@@ -21,7 +21,7 @@ use Rattle.snippet_labels.specs.Positions.{is_placed_before}
 use Rattle.snippet_grid.specs.Layout.{Layout}
 
 -- an entry of these columns, each of one character
-abbrev entry : AnnotationKind → ℕ → ℕ → LineAnnotation
+abbrev pub entry : AnnotationKind → ℕ → ℕ → LineAnnotation
 entry kind from to = record {
   start = record { line = 1; char = from; display = from; byte = from };
   end = record

@@ -74,6 +74,7 @@ pub mod StemWrites
 pub mod StrokeCells
 pub mod StrokeGlyphs
 pub mod StrokeLemmas
+pub mod UncutLemmas
 pub mod StrokeWords
 pub mod StrokeWrites
 pub mod StrokesInside

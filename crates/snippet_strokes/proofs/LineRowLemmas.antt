@@ -1,8 +1,8 @@
 -- The rows of a line, as they are drawn below those that are there.
 use Rattle.std.proofs.Common.{◌≡◌, ℕ, ◌+◌, ◌-◌, ◌<◌, Bool, true, false, List, [], ◌∷◌, ◌++◌, length, map, replicate, drop, get_or, refl, sym, ap, ◌∙◌, subst}
-use Rattle.std.proofs.Common.{arith, inl, inr}
+use Rattle.std.proofs.Common.{arith, inl, inr, not}
 use Rattle.std.specs.Prelude.{if◌then◌else◌}
-use Rattle.std.specs.List.{list_any}
+use Rattle.std.specs.List.{list_all, list_any}
 use Rattle.std.proofs.lemmas.List.Sorted.{list_any-IsPermutation}
 use Rattle.std.proofs.lemmas.Bool.{cases_Bool, cond-false, cond-true, false≢true}
 use Rattle.std.proofs.lemmas.List.{append_assoc, length-append, length_push}
@@ -21,19 +21,20 @@ use Rattle.snippet_strokes.specs.LineRows.{own_rows}
 use Rattle.snippet_strokes.specs.Painting.{painting_order}
 use Rattle.snippet_labels.specs.Positions.{ArePlaced}
 use Rattle.snippet_strokes.specs.Drawing.{row_count}
-use Rattle.snippet_strokes.specs.Cuts.{overlapped}
 use Rattle.snippet_strokes.proofs.CutWords.{Stretch, cut_rows, cuts_of}
 use Rattle.snippet_strokes.proofs.StrokeWords.{cut_row}
 use Rattle.snippet_strokes.specs.LookedCuts.{is_wide_at}
 use Rattle.snippet_strokes.proofs.SeenRows.{CutsRows, IsCut}
 use Rattle.snippet_strokes.specs.SourceRows.{bare_row}
-use Rattle.snippet_strokes.specs.Strokes.{stroke_rows}
+use Rattle.snippet_strokes.specs.Cuts.{is_cut, overlapped}
+use Rattle.snippet_strokes.specs.Strokes.{cut_pairs, is_uncut, stroke_rows}
+use Rattle.snippet_strokes.proofs.PlacedAre.{placed_are}
 use Rattle.snippet_strokes.proofs.Drawn.{drawn_strokes}
 use Rattle.snippet_strokes.proofs.StrokeWords.{begun_rows}
 use Rattle.snippet_strokes.specs.Writes.{Write, painted}
 use Rattle.snippet_strokes.proofs.PaintOrder.{IsPermutation-painting_order}
 use Rattle.snippet_strokes.proofs.BegunLemmas.{wide_entries-order}
-use Rattle.snippet_strokes.proofs.CutLemmas.{IsCut-cuts, cut_rows-here, cuts_of-narrow}
+use Rattle.snippet_strokes.proofs.CutLemmas.{IsCut-cuts, cut_rows-here, cuts_of-narrow, uncut_row}
 use Rattle.snippet_strokes.proofs.LowerWrites.{painted-below, strokes-lowered}
 use Rattle.snippet_strokes.proofs.LineFromValue.{two_more}
 use Rattle.snippet_strokes.proofs.LineValueLaws.{stroke_rows_are}
@@ -50,7 +51,8 @@ begun_below layout closes count above source =
 
 -- of rows with the strokes of a line the first two are cut where entries are wide
 pub rows_cut : (layout : Layout) (room : ℕ) (closes : Bool) (es : List LineAnnotation) (source : List Cell) (rows : List (List Cell))
-    → (is : StrokesPainted layout room closes es source rows) → CutsRows layout (wide_entries room layout.decor es) is.top is.marks is.lower rows
+    → (is : StrokesPainted layout room closes es source rows)
+    → CutsRows layout (wide_entries room layout.decor es) (is_uncut room layout.decor es) is.top is.marks is.lower rows
 rows_cut layout room closes es source rows is =
     let order = painting_order is.placed in
     let change : List Cell → List Cell = cut_row layout.decor (cuts_of layout room order (overlapped is.placed)) in
@@ -63,6 +65,8 @@ rows_cut layout room closes es source rows is =
       new_is = is.rows_are;
       source_cut = cut is.top;
       marks_cut = cut is.marks;
+      kept = λ uncut. uncut_row layout room (cut_pairs is.placed) is.marks
+          (subst (λ placed. list_all (λ pair. not (is_cut room layout.decor pair)) (cut_pairs placed) ≡ true) (sym (placed_are es is.placed is.are)) uncut);
     }
 
 -- the strokes of a line, painted and then cut, are its rows

@@ -20,7 +20,7 @@ use Rattle.snippet_strokes.proofs.MarkWriteLemmas.{Painted-marks}
 use Rattle.snippet_strokes.specs.Drawable.{AreDrawable}
 use Rattle.snippet_strokes.specs.Drawing.{AreEnough, HasPlaceAmong, row_count}
 use Rattle.snippet_strokes.proofs.LineFacts.{StrokesPainted}
-use Rattle.snippet_strokes.specs.Strokes.{connectors_of, corners_of, labels_of}
+use Rattle.snippet_strokes.specs.Strokes.{connectors_of, corners_of, is_uncut, labels_of}
 use Rattle.snippet_strokes.proofs.Drawn.{drawn_strokes, marks_of}
 use Rattle.snippet_strokes.specs.StemRows.{stems_of}
 use Rattle.snippet_strokes.proofs.StrokeWords.{begun_rows}
@@ -105,7 +105,7 @@ painted_seen layout room closes es source rows place places bar_cells bare_bars 
     painted (drawn_strokes layout 0 n placed order) begun) (omega (arith, long))
     ∙ sym (marks_painted layout 0 (length begun) placed order begun labelled marked under refl) in
     let Cut : List (List Cell) → Type 0 = λ drawn.
-    CutsRows layout (wide_entries room layout.decor es) (row_at drawn 0) (row_at drawn 1) (drop 2 drawn) rows in
+    CutsRows layout (wide_entries room layout.decor es) (is_uncut room layout.decor es) (row_at drawn 0) (row_at drawn 1) (drop 2 drawn) rows in
     strokes_seen layout room closes es placed [] source begun joined barred stemmed labelled marked place is.are
     (entries_all HasPlace es placed is.are.same places) (entries_all (HasBarCell layout) es placed is.are.same bar_cells)
     bare_bars refl refl refl refl refl refl rows (subst Cut (is.painted_are ∙ all) (rows_cut layout room closes es source rows is))

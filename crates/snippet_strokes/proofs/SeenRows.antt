@@ -18,6 +18,7 @@ use Rattle.snippet_model.specs.FreeRows.{IsFree}
 use Rattle.snippet_strokes.proofs.SeenLabels.{IsLabelledAtEnd, LabelsStand}
 use Rattle.snippet_strokes.proofs.DrawnCells.{StandsFrom}
 use Rattle.snippet_strokes.specs.SourceRows.{bare_row}
+use Rattle.snippet_strokes.specs.Strokes.{is_uncut}
 
 -- below each column that has a mark the row holds it, and below each column that no entry covers no cell is in the role of
 -- marks. Where no entry has a label that shows anything, a space stands there; after the mark of a line's one entry stand
@@ -39,11 +40,11 @@ pub record IsStrokeRow (layout : Layout) (plain : Bool) (es : List LineAnnotatio
   pub free : IsFree row
 
 -- the rows of a line's strokes: on a plain line that has entries first that of its marks. It is with the last row that the window closes.
--- Where no entry is wide, no label is lost
+-- Where no entry is cut, no label is lost
 pub record AreStrokes (layout : Layout) (room : ℕ) (es : List LineAnnotation) (closes : Bool) (rows : List (List Cell)) : Type 0 where
   pub some : are_plain room layout.decor es ≡ true → 0 < length es → 0 < length rows
   pub marks : are_plain room layout.decor es ≡ true → ShowsMarks layout.decor layout.code es (row_at rows 0)
-  pub labels : wide_entries room layout.decor es ≡ 0 → All IsLabelledAtEnd es → LabelsStand layout es rows
+  pub labels : is_uncut room layout.decor es ≡ true → All IsLabelledAtEnd es → LabelsStand layout es rows
   pub are : (k : ℕ) → k < length rows → IsStrokeRow layout (are_plain room layout.decor es) es (closes && k + 1 == length rows) (row_at rows k)
 
 -- a row of which, from the code's cell on, at most so many stretches gave their place to the placeholder, one for each
@@ -54,13 +55,14 @@ pub record IsCut (layout : Layout) (wide : ℕ) (whole row : List Cell) : Type 0
   pub uncut : wide ≡ 0 → row ≡ whole
   pub free : IsFree whole → IsFree row
 
--- two rows, one below the other, were each cut so, and nothing changed below them
-pub record CutsRows (layout : Layout) (wide : ℕ) (source marks : List Cell) (below new : List (List Cell)) : Type 0 where
+-- two rows, one below the other, were each cut so, or both stay as they were, and nothing changed below them
+pub record CutsRows (layout : Layout) (wide : ℕ) (uncut : Bool) (source marks : List Cell) (below new : List (List Cell)) : Type 0 where
   pub source_now : List Cell
   pub marks_now : List Cell
   pub new_is : new ≡ source_now ∷ marks_now ∷ below
   pub source_cut : IsCut layout wide source source_now
   pub marks_cut : IsCut layout wide marks marks_now
+  pub kept : uncut ≡ true → marks_now ≡ marks
 
 -- a source row with its bars beside it, and cut where entries are wide: it begins as this row does, and where bars stand it
 -- holds nothing but parts of them

@@ -32,7 +32,7 @@ use Rattle.snippet_strokes.proofs.SeenRows.{AreSeen, CutsRows, HasNoBars, IsCut,
 use Rattle.snippet_style.specs.Separators.{separator_row}
 use Rattle.snippet_strokes.proofs.DrawLemmas.{DrawsFrom-more, bar_space}
 use Rattle.snippet_strokes.specs.Labels.{IsStrokeCell}
-use Rattle.snippet_strokes.specs.Strokes.{connectors_of, corners_of, labels_of}
+use Rattle.snippet_strokes.specs.Strokes.{connectors_of, corners_of, is_uncut, labels_of}
 use Rattle.snippet_strokes.proofs.Drawn.{drawn_strokes, marks_of}
 use Rattle.snippet_strokes.specs.StemRows.{stems_of}
 use Rattle.snippet_strokes.proofs.LabelPlaces.{HasStrokesBeside, LabelsStand-placed}
@@ -420,7 +420,8 @@ module _ (layout : Layout) (room : ℕ) (closes : Bool) (es : List LineAnnotatio
       (inl (begun_space k c right)) beside)
 
   -- what is seen of the rows, once those of the source and of the marks are cut where entries are wide
-  pub strokes_seen : (rows : List (List Cell)) → CutsRows layout (wide_entries room layout.decor es) source (row_at new row) lower rows
+  pub strokes_seen : (rows : List (List Cell))
+      → CutsRows layout (wide_entries room layout.decor es) (is_uncut room layout.decor es) source (row_at new row) lower rows
       → AreSeen layout room es closes plain_row rows
   strokes_seen rows cuts =
       let wide : ℕ = wide_entries room layout.decor es in
@@ -439,7 +440,7 @@ module _ (layout : Layout) (room : ℕ) (closes : Bool) (es : List LineAnnotatio
           marks = λ flat. subst (ShowsMarks layout.decor layout.code es) (sym (cuts.marks_cut.uncut (narrow flat))) (shows_marks flat);
           labels = λ uncut _. LabelsStand-placed layout row es placed new below is places stands beside_labels
               (subst hung (sym new_is) (all_hung layout (length above_rows) (length begun) placed (painting_order placed) begun))
-              (rows_new cuts.marks_now (cuts.marks_cut.uncut uncut));
+              (rows_new cuts.marks_now (cuts.kept uncut));
           are = λ k inside. subst (λ n. IsStrokeRow layout plain es (closes && k + 1 == n) (row_at below k)) (sym long)
               (stroke_rows wide narrow cuts.marks_now cuts.marks_cut k (omega (arith, inside, long)));
         };

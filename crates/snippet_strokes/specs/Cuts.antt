@@ -3,6 +3,7 @@ use Rattle.std.specs.Prelude.{ℕ, map, ◌+◌, ◌-◌, ◌/◌, ◌&&◌, ◌
 use Rattle.std.specs.Prelude.{if◌then◌else◌}
 use Rattle.std.specs.List.{enumerate_from, list_any}
 use Rattle.snippet_style.specs.Cell.{Cell, text_cells}
+use Rattle.snippet_style.specs.declared.glyphs.DecorStyle.{DecorStyle}
 use Rattle.snippet_style.specs.Glyphs.{placeholder_of}
 use Rattle.snippet_style.specs.declared.role.ElementStyle.TheVariants.{LineNumber}
 use Rattle.snippet_grid.specs.Grid.{replaced_within}
@@ -26,12 +27,16 @@ overlapped placed =
 
 -- ---- what is cut
 
--- a row with the placeholder in place of the middle of an entry, in a room of so many columns, if the entry is wide and, as the flag beside
--- it says, not overlapped. A third of the room stays at each end of it, and five columns at least. A stretch that the row doesn't hold stays
+-- whether the middle of an entry is cut, in a room of so many columns: the entry is wide and, as the flag beside it says, not overlapped
+abbrev pub is_cut : ℕ → DecorStyle → PlacedEntry × Bool → Bool
+is_cut room decor pair = is_wide_entry room (length (placeholder_of decor)) pair.0.entry && not pair.1
+
+-- a row with the placeholder in place of the middle of an entry that is cut. A third of the room stays at each end of it, and five columns
+-- at least. A stretch that the row doesn't hold stays
 abbrev pub cut_middle : Layout → ℕ → List Cell → PlacedEntry × Bool → List Cell
 cut_middle layout room row pair =
     let e = pair.0.entry in
     let kept = max 5 (room / 3) in
-    if is_wide_entry room (length (placeholder_of layout.decor)) e && not pair.1
+    if is_cut room layout.decor pair
     then replaced_within (code_cell layout e.start.display + kept) (code_cell layout e.end.display - kept)
     (text_cells LineNumber (placeholder_of layout.decor)) row else row

@@ -1,10 +1,11 @@
 -- What is written for the strokes of a line, as lists of writes: its labels, its stems, the lines that lead to bars, the bars of
 -- the spans that begin or end on it, and all of them, over which its marks are painted.
-use Rattle.std.specs.Prelude.{ℕ, ◌+◌, ◌-◌, List, [], ◌∷◌, map, if◌then◌else◌, ◌==◌, ◌&&◌, Bool, ◌++◌, replicate, drop, take, fold}
-use Rattle.std.specs.List.{range_with_len, flat_map, zip}
+use Rattle.std.specs.Prelude.{ℕ, ◌+◌, ◌-◌, List, [], ◌∷◌, map, if◌then◌else◌, ◌==◌, ◌&&◌, Bool, not, ◌++◌, replicate, drop, take, fold}
+use Rattle.std.specs.List.{range_with_len, flat_map, list_all, zip}
 use Rattle.snippet_style.specs.declared.role.ElementStyle.{ElementStyle}
 use Rattle.snippet_strokes.specs.Writes.{Write, glyph_at, painted, stretch_of}
 use Rattle.snippet_style.specs.Glyphs.{strokes_of}
+use Rattle.snippet_style.specs.declared.glyphs.DecorStyle.{DecorStyle}
 use Rattle.snippet_model.specs.AnnotationKind.{is_primary}
 use Rattle.snippet_grid.specs.Layout.{Layout, bar_cell, code_cell}
 use Rattle.snippet_labels.specs.declared.positions.PlacedEntry.{PlacedEntry}
@@ -16,7 +17,7 @@ use Rattle.snippet_style.specs.Separators.{separator_row}
 use Rattle.snippet_strokes.specs.Drawing.{row_count}
 use Rattle.snippet_strokes.specs.Painting.{mark_of, painting_order, stroke_role}
 use Rattle.snippet_labels.specs.Positions.{has_label, has_stem, label_place, placed_of, is_start_part, takes_space}
-use Rattle.snippet_strokes.specs.Cuts.{cut_middle, overlapped}
+use Rattle.snippet_strokes.specs.Cuts.{cut_middle, is_cut, overlapped}
 use Rattle.snippet_strokes.specs.SourceRows.{bare_row}
 use Rattle.std.specs.Option.{option_map_or}
 use Rattle.snippet_strokes.specs.Bars.{bar_at}
@@ -78,10 +79,18 @@ line_strokes layout row count placed order =
     flat_map (connector_of layout (row + 1)) placed ++ flat_map (corner_of layout row count) placed ++ flat_map (stem_of layout (row + 1)) placed
     ++ flat_map (label_of layout (row + 1)) placed ++ flat_map (mark_of layout (row + 1)) order
 
+-- placed entries, each with whether it is overlapped. As the original does, what is known of the entry at a place in the order in which they
+-- are placed stands there for the one at the same place in the order in which marks are painted
+abbrev pub cut_pairs : List PlacedEntry → List (PlacedEntry × Bool)
+cut_pairs placed = zip (painting_order placed) (overlapped placed)
+
+-- whether no entry of a line is cut
+abbrev pub is_uncut : ℕ → DecorStyle → List LineAnnotation → Bool
+is_uncut room decor es = list_all (λ pair. not (is_cut room decor pair)) (cut_pairs (placed_of es))
+
 -- the rows of a line with the strokes of these entries, of which this is the source row. All strokes are painted over this row and those below
 -- it, of which there are as many as the entries ask for: separators, with the last row as the window closes or goes on. Of the first two, the
--- source row and that of the marks, what is cut where entries are wide is replaced last. As the original does, what is known of the entry at a
--- place in the order in which they are placed stands there for the one at the same place in the order in which marks are painted
+-- source row and that of the marks, what is cut where entries are wide is replaced last
 abbrev pub stroke_rows : Layout → ℕ → Bool → List LineAnnotation → List Cell → List (List Cell)
 stroke_rows layout room closes es source =
     let placed = placed_of es in
@@ -89,8 +98,7 @@ stroke_rows layout room closes es source =
     let count = row_count placed in
     let bare = replicate (count - 1) (separator_row layout.decor layout.gutter) ++ bare_row layout.decor layout.gutter closes ∷ [] in
     let whole = painted (line_strokes layout 0 (count + 1) placed order) (source ∷ bare) in
-    let entries = zip order (overlapped placed) in
-    map (λ row. fold (cut_middle layout room) row entries) (take 2 whole) ++ drop 2 whole
+    map (λ row. fold (cut_middle layout room) row (cut_pairs placed)) (take 2 whole) ++ drop 2 whole
 
 -- ---- a part of them, as its painter promises it
 

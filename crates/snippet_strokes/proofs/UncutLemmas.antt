@@ -1,0 +1,62 @@
+-- Where no entry of a line is wide none is cut; and a wide one that others overlap isn't, either.
+use Rattle.std.proofs.Common.{◌≡◌, ◌∙◌, ℕ, ◌+◌, Bool, true, false, not, cond, None, List, [], ◌∷◌, length, map, refl, sym, ap, subst, All}
+use Rattle.std.proofs.Common.{arith}
+use Rattle.std.proofs.lemmas.Bool.{and_from}
+use Rattle.std.proofs.lemmas.List.Sums.{sum_by-cons}
+use Rattle.std.specs.Prelude.{◌&&◌}
+use Rattle.std.specs.List.{list_all, zip}
+use Rattle.std.specs.Str.{chars}
+use Rattle.snippet_labels.specs.Positions.{placed_of}
+use Rattle.snippet_labels.specs.declared.positions.PlacedEntry.{PlacedEntry}
+use Rattle.snippet_parts.specs.Entries.{is_wide_entry}
+use Rattle.snippet_parts.specs.declared.entries.LineAnnotation.{LineAnnotation}
+use Rattle.snippet_style.specs.Glyphs.{placeholder_of}
+use Rattle.snippet_style.specs.declared.glyphs.DecorStyle.{DecorStyle}
+use Rattle.snippet_style.specs.declared.glyphs.DecorStyle.TheVariants.{Ascii}
+use Rattle.snippet_model.specs.declared.snippet.AnnotationKind.TheVariants.{Primary, Context}
+use Rattle.snippet_strokes.specs.Cuts.{is_cut, overlapped}
+use Rattle.snippet_strokes.specs.Painting.{painting_order}
+use Rattle.snippet_strokes.specs.Strokes.{is_uncut}
+use Rattle.snippet_strokes.proofs.BegunLemmas.{wide_entries-order}
+use Rattle.snippet_strokes.proofs.Examples.{entry}
+use Rattle.snippet_strokes.proofs.PlacedOf.{HasTextLabel, placed_of_are}
+use Rattle.snippet_strokes.proofs.PlainEntries.{wide_entries}
+
+-- a sum of nothing
+zero_parts : (b : Bool) (n : ℕ) → cond b 1 0 + n ≡ 0 → (b ≡ false) × (n ≡ 0)
+zero_parts true n none = absurd (omega (arith, none))
+zero_parts false n none = (refl, omega (arith, none))
+
+-- of entries none of which is wide none is cut, whatever is known of them
+none_cut : (room : ℕ) (decor : DecorStyle) (es : List PlacedEntry) (flags : List Bool) → wide_entries room decor (map (λ (e : PlacedEntry). e.entry) es) ≡ 0
+    → list_all (λ pair. not (is_cut room decor pair)) (zip es flags) ≡ true
+none_cut room decor [] flags narrow = refl
+none_cut room decor (e ∷ es) [] narrow = refl
+none_cut room decor (e ∷ es) (flag ∷ flags) narrow =
+    let wide : LineAnnotation → Bool = is_wide_entry room (length (placeholder_of decor)) in
+    let entries = map (λ (x : PlacedEntry). x.entry) es in
+    let parts = zero_parts (wide e.entry) (wide_entries room decor entries) (sym (sum_by-cons (λ x. cond (wide x) 1 0) e.entry entries) ∙ narrow) in
+    and_from (not (is_cut room decor (e, flag))) (list_all (λ pair. not (is_cut room decor pair)) (zip es flags)) (ap (λ b. not (b && not flag)) parts.0)
+    (none_cut room decor es flags parts.1)
+
+-- so a line without a wide entry has none that is cut
+pub narrow_uncut : (room : ℕ) (decor : DecorStyle) (es : List LineAnnotation) → All HasTextLabel es → wide_entries room decor es ≡ 0
+    → is_uncut room decor es ≡ true
+narrow_uncut room decor es texts narrow =
+    let placed = placed_of es in
+    none_cut room decor (painting_order placed) (overlapped placed) (wide_entries-order room decor es placed (placed_of_are es texts) ∙ narrow)
+
+-- four spans that overlap one another: in twenty columns all are wide, and none is cut
+abbrev nested : List LineAnnotation
+nested = entry Primary 0 60 ∷ entry Context 1 60 ∷ entry Context 2 60 ∷ entry Context 3 60 ∷ []
+
+nested_wide : wide_entries 20 Ascii nested ≡ 4
+nested_wide = refl
+
+nested_uncut : is_uncut 20 Ascii nested ≡ true
+unfolding chars
+nested_uncut = refl
+
+-- one alone is cut
+alone_cut : is_uncut 20 Ascii (entry Primary 0 50 ∷ []) ≡ false
+alone_cut = refl
