@@ -7,6 +7,7 @@ use Rattle.std.specs.declared.borrow.CowStr.{CowStr}
 use Rattle.std.specs.declared.borrow.CowStr.TheVariants.{Borrowed}
 use Rattle.snippet_lines.specs.Lines.{newline_count, start_of}
 use Rattle.snippet_lines.specs.Place.{end_location, line_of, location_of, locations_of, place_of, start_location, steps_after_text}
+use Rattle.snippet_model.specs.Source.{unindexed}
 use Rattle.snippet_model.specs.Heading.{Heading}
 use Rattle.snippet_model.specs.declared.level.LevelName.{LevelName}
 use Rattle.snippet_model.specs.declared.level.LevelName.TheVariants.{Hidden, Standard}
@@ -31,6 +32,7 @@ use Rattle.snippet_text_form.specs.Form.{form_bytes, form_links, form_text, plai
 use Rattle.snippet_text_form.specs.HeadingForm.{heading_form, label_form, lines_form, text_roles_of}
 use Rattle.snippet_text_form.specs.Suggestion.{origin_form, suggestion_form}
 use Rattle.snippet_text_form.specs.declared.heading.HeadingKind.TheVariants.{Title, Message}
+use Rattle.snippet_text_form.specs.declared.suggestion.SuggestionSettings.{SuggestionSettings}
 
 -- a text, a heading, and snippets whose first line has number 1
 abbrev text_of : List ℕ → CowStr Global
@@ -49,24 +51,24 @@ cause v path text ms few =
     record {
       path = path;
       line_start = 1;
-      source = text_of text;
+      source = unindexed (text_of text);
       markers = record { ptr = v.ptr; len = length ms; cap = length ms; alloc = v.alloc; items = ms; ok = (refl, omega arith); small = few };
       line_numbering = true;
       fold = true;
     }
 
-abbrev offer : Vec Patch Global → List ℕ → (ps : List Patch) → length ps < 2 ^ 63 → Snippet Patch
+abbrev pub offer : Vec Patch Global → List ℕ → (ps : List Patch) → length ps < 2 ^ 63 → Snippet Patch
 offer v text ps few =
     record {
       path = None;
       line_start = 1;
-      source = text_of text;
+      source = unindexed (text_of text);
       markers = record { ptr = v.ptr; len = length ps; cap = length ps; alloc = v.alloc; items = ps; ok = (refl, omega arith); small = few };
       line_numbering = true;
       fold = true;
     }
 
-abbrev patch : ℕ → ℕ → List ℕ → Patch
+abbrev pub patch : ℕ → ℕ → List ℕ → Patch
 patch start end text = record { span = record { start = start; end = end }; replacement = text_of text }
 
 -- a title with an id, one whose name is hidden, and a message after another element
@@ -140,9 +142,13 @@ two_lines_anonymized : (v : Vec Annotation Global)
 unfolding cause_form locations_of start_location end_location location_of place_of steps_after_text line_of start_of newline_count digits norm chars
 two_lines_anonymized v = refl
 
+-- how suggestions are told: with the numbers of lines, and with line feeds as they are
+abbrev told : SuggestionSettings
+told = record { anonymized = false; show_line_feeds = false }
+
 -- `foo` with `bar` in its place
 replacement : (v : Vec Patch Global)
-    → plain_from true (suggestion_form false (record { option = None; names_path = true })
+    → plain_from true (suggestion_form told (record { option = None; names_path = true })
     (offer v (codes "foo") (patch 0 3 (codes "bar") ∷ []) (omega arith))) ≡ codes "\n on line 1, column 1 to column 4 replace with: bar"
 unfolding suggestion_form trimmed_edit sandwich kept_before locations_of start_location end_location location_of place_of steps_after_text line_of start_of
     newline_count digits norm chars
@@ -150,7 +156,7 @@ replacement v = refl
 
 -- `foo()` with `y` put before the bracket, the second of two suggestions
 second_option : (v : Vec Patch Global)
-    → plain_from true (suggestion_form false (record { option = Some 2; names_path = false })
+    → plain_from true (suggestion_form told (record { option = Some 2; names_path = false })
     (offer v (codes "foo()") (patch 4 4 (codes "y") ∷ []) (omega arith))) ≡ codes "\n option 2\n  on line 1, column 5 add: y"
 unfolding suggestion_form trimmed_edit sandwich kept_before locations_of start_location end_location location_of place_of steps_after_text line_of start_of
     newline_count digits norm chars
@@ -158,22 +164,38 @@ second_option v = refl
 
 -- `x` put into the empty line between `a` and `b`. The bytes at which a line is cut are those of the source, so the column is named
 empty_line : (v : Vec Patch Global)
-    → plain_from true (suggestion_form false (record { option = None; names_path = true })
+    → plain_from true (suggestion_form told (record { option = None; names_path = true })
     (offer v (codes "a\n\nb") (patch 2 2 (codes "x") ∷ []) (omega arith))) ≡ codes "\n on line 2, column 1 add: x"
 unfolding suggestion_form trimmed_edit sandwich kept_before locations_of start_location end_location location_of place_of steps_after_text line_of start_of
     newline_count digits norm chars
 empty_line v = refl
 
+-- two lines in place of `foo`, as they are, and on one line, with U+240A for the line feed between them
+two_lines_put : (v : Vec Patch Global)
+    → plain_from true (suggestion_form told (record { option = None; names_path = true })
+    (offer v (codes "foo") (patch 0 3 (codes "a\nb\n") ∷ []) (omega arith))) ≡ codes "\n on line 1, column 1 to column 4 replace with: a\nb"
+unfolding suggestion_form trimmed_edit sandwich kept_before locations_of start_location end_location location_of place_of steps_after_text line_of start_of
+    newline_count digits norm chars
+two_lines_put v = refl
+
+two_lines_shown : (v : Vec Patch Global)
+    → plain_from true (suggestion_form (record told { show_line_feeds = true }) (record { option = None; names_path = true })
+    (offer v (codes "foo") (patch 0 3 (codes "a\nb\n") ∷ []) (omega arith)))
+    ≡ codes "\n on line 1, column 1 to column 4 replace with: a" ++ 0x240A ∷ codes "b"
+unfolding suggestion_form trimmed_edit sandwich kept_before locations_of start_location end_location location_of place_of steps_after_text line_of start_of
+    newline_count digits norm chars
+two_lines_shown v = refl
+
 -- on a line of whitespace alone, and where a line is deleted, no column is named
 blank_line : (v : Vec Patch Global)
-    → plain_from true (suggestion_form false (record { option = None; names_path = true }) (offer v (codes "\t") (patch 1 1 (codes "(") ∷ []) (omega arith)))
+    → plain_from true (suggestion_form told (record { option = None; names_path = true }) (offer v (codes "\t") (patch 1 1 (codes "(") ∷ []) (omega arith)))
     ≡ codes "\n on line 1 add: ("
 unfolding suggestion_form trimmed_edit sandwich kept_before locations_of start_location end_location location_of place_of steps_after_text line_of start_of
     newline_count digits norm chars
 blank_line v = refl
 
 deleted_line : (v : Vec Patch Global)
-    → plain_from true (suggestion_form false (record { option = None; names_path = true }) (offer v (codes " b") (patch 0 2 [] ∷ []) (omega arith)))
+    → plain_from true (suggestion_form told (record { option = None; names_path = true }) (offer v (codes " b") (patch 0 2 [] ∷ []) (omega arith)))
     ≡ codes "\n on line 1"
 unfolding suggestion_form trimmed_edit sandwich kept_before locations_of start_location end_location location_of place_of steps_after_text line_of start_of
     newline_count digits norm chars

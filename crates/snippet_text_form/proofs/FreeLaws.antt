@@ -7,9 +7,8 @@ use Rattle.std.specs.List.{flat_map, Contains}
 use Rattle.std.specs.Option.{option_map}
 use Rattle.std.proofs.lemmas.Bool.Decides.{nat_tests}
 use Rattle.std.proofs.lemmas.List.Elements.{All-nil, All-cons, All-head, All-tail, All-append, All-replicate, All-weaker}
-use Rattle.snippet_lines.specs.Lines.{Source, line_at}
+use Rattle.snippet_lines.specs.Lines.{Source}
 use Rattle.snippet_lines.specs.Place.{locations_of}
-use Rattle.snippet_lines.specs.declared.place.Loc.{Loc}
 use Rattle.snippet_model.specs.Heading.{Heading, is_hidden}
 use Rattle.snippet_model.specs.Level.{name_of}
 use Rattle.snippet_model.specs.declared.level.Level.{Level}
@@ -20,6 +19,7 @@ use Rattle.snippet_model.specs.declared.snippet.Patch.{Patch}
 use Rattle.snippet_model.specs.declared.snippet.Snippet.{Snippet}
 use Rattle.snippet_splice.specs.Edits.{Edit}
 use Rattle.snippet_splice.specs.ShownText.{without_final_line_feeds}
+use Rattle.snippet_settings.specs.LineFeeds.{picture_of, with_line_feeds_shown}
 use Rattle.snippet_style.specs.declared.role.ElementStyle.{ElementStyle}
 use Rattle.snippet_style.specs.declared.role.ElementStyle.TheVariants.{Addition}
 use Rattle.snippet_suggest.specs.Given as given
@@ -27,26 +27,26 @@ use Rattle.snippet_suggest.specs.Kind.{is_blank_text}
 use Rattle.snippet_text.specs.Normalized.{is_listed, norm, normalized_chars}
 use Rattle.snippet_text.specs.Width.{width_of}
 use Rattle.snippet_titles.specs.HeadingRows.{address_of, shown_text, heading_lines, is_set}
-use Rattle.snippet_titles.specs.Origin.{column_text, line_name}
 use Rattle.snippet_titles.specs.declared.style.HeadingRoles.{HeadingRoles}
-use Rattle.snippet_titles.proofs.DigitLemmas.{IsDigit, decimal-all}
 use Rattle.snippet_titles.proofs.FreeLemmas.{IsUnlisted, IsOwn, norm-free, own_text, own_unlisted, All-slice_split}
 use Rattle.snippet_titles.proofs.OriginFree.{each-fails}
-use Rattle.snippet_text_form.specs.Cause.{after_place, cause_form, column_unless, end_in_file, end_on_line, is_labelled, is_blank_before, is_blank_after}
-use Rattle.snippet_text_form.specs.Cause.{label_characters, named_spans, further_indent, span_form, span_place, span_text, spans_form}
+use Rattle.snippet_text_form.specs.Cause.{cause_form, is_labelled, label_characters, named_spans, further_indent, span_form, span_text, spans_form}
 use Rattle.snippet_parts.specs.Numbered.{numbered_source}
+use Rattle.snippet_text_form.specs.Position.{place, place_in_file}
+use Rattle.snippet_text_form.specs.Suggestion.{added_form, added_text, before_added, edit_form, edit_indent, edit_place, named_path, option_form}
+use Rattle.snippet_text_form.specs.Suggestion.{origin_form, suggestion_form}
 use Rattle.snippet_text_form.specs.Form.{FormPiece, Break, Styled, bare, begun_after, plain_from, styled}
 use Rattle.snippet_text_form.specs.HeadingForm.{before_id, before_name, colon_form, further_line, heading_form, id_form, id_text_form, label_form}
 use Rattle.snippet_text_form.specs.HeadingForm.{heading_label}
 use Rattle.snippet_text_form.specs.HeadingForm.{link_for, linking, lines_form, name_form, text_roles_of}
-use Rattle.snippet_text_form.specs.Position.{after_path, column_words, place, place_in_file, place_on_line, to_line}
-use Rattle.snippet_text_form.specs.Suggestion.{added_form, edit_form, edit_indent, edit_place, replaces_whole_line, named_path, option_form, origin_form}
-use Rattle.snippet_text_form.specs.Suggestion.{overwrites, replaced_to, replaces, suggestion_form}
 use Rattle.snippet_text_form.specs.declared.heading.HeadingKind.{HeadingKind}
 use Rattle.snippet_text_form.specs.declared.heading.HeadingKind.TheVariants.{Title, Message}
 use Rattle.snippet_text_form.specs.declared.suggestion.SuggestionContext.{SuggestionContext}
+use Rattle.snippet_text_form.specs.declared.suggestion.SuggestionSettings.{SuggestionSettings}
 use Rattle.snippet_text_form.proofs.OrderLaws.{plain-append}
 use Rattle.snippet_text_form.proofs.FormSteps.{plain-bare}
+use Rattle.snippet_text_form.proofs.PlaceParts.{PathIs, before_added-each, before_id-each, before_name-each, decimal-each, edit_indent-each}
+use Rattle.snippet_text_form.proofs.PlaceParts.{edit_place-each, further_indent-each, is_odd, place-each, place_in_file-each, span_text-each}
 
 -- a fact holds of each plain character of a text form, whatever stands before that
 abbrev pub EachPlain : (ℕ → Type 0) → List FormPiece → Type 0
@@ -81,122 +81,28 @@ module _ (P : ℕ → Type 0) (feed : P 10) where
   each-styled : (role : ElementStyle) (link : Option (List ℕ)) (text : List ℕ) → All P text → EachPlain P (Styled role link text ∷ [])
   each-styled role link text all begun = All-append P text [] all (All-nil P)
 
--- these texts hold no listed character: one that is known, a number, the name of a line, a column
+-- these texts hold no listed character: printable ASCII, paths and labels as they are shown, and so what names a place
 abbrev pub AreFree : List ℕ → Type 0
 AreFree text = All IsUnlisted text
 
 free-append : (xs ys : List ℕ) → AreFree xs → AreFree ys → AreFree (xs ++ ys)
 free-append xs ys first second = All-append IsUnlisted xs ys first second
 
-digit-free : (c : ℕ) → IsDigit c → IsUnlisted c
-digit-free c is = grind (arith, nat_tests)
+printable-free : (c : ℕ) → is_odd c ≡ false → IsUnlisted c
+printable-free c is = grind (arith, nat_tests, is)
 
-decimal-free : (n : ℕ) → AreFree (decimal n)
-decimal-free n = All-weaker IsDigit IsUnlisted digit-free (decimal n) (decimal-all n)
+path-free : (path : Option (List ℕ)) → PathIs IsUnlisted printable-free path
+path-free None = tt
+path-free (Some path) = norm-free (chars path)
 
-line_name-free : (anonymized : Bool) (line : ℕ) → AreFree (line_name anonymized line)
-line_name-free true line = each-fails is_listed (codes "LL") refl
-line_name-free false line = decimal-free line
-
-column_text-free : (column : Option ℕ) → AreFree (column_text column)
-column_text-free None = All-nil IsUnlisted
-column_text-free (Some column) =
-    free-append (codes ":") (decimal column) (each-fails is_listed (codes ":") refl) (decimal-free column)
-
-column_words-free : (column : Option ℕ) → AreFree (column_words column)
-column_words-free None = All-nil IsUnlisted
-column_words-free (Some column) =
-    free-append (codes ", column ") (decimal column) (each-fails is_listed (codes ", column ") refl) (decimal-free column)
-
--- nor do places
-after_path-free : (anonymized : Bool) (line column : Option ℕ) → AreFree (after_path anonymized line column)
-after_path-free anonymized None column = column_words-free column
-after_path-free anonymized (Some line) column =
-    free-append (codes ":" ++ line_name anonymized line) (column_text column)
-    (free-append (codes ":") (line_name anonymized line) (each-fails is_listed (codes ":") refl) (line_name-free anonymized line)) (column_text-free column)
-
-place_in_file-free : (anonymized : Bool) (path : List ℕ) (line column : Option ℕ) → AreFree (place_in_file anonymized path line column)
-place_in_file-free anonymized path line column =
-    free-append (codes "at " ++ norm (chars path)) (after_path anonymized line column)
-    (free-append (codes "at ") (norm (chars path)) (each-fails is_listed (codes "at ") refl) (norm-free (chars path)))
-    (after_path-free anonymized line column)
-
-place_on_line-free : (anonymized : Bool) (line : ℕ) (column : Option ℕ) → AreFree (place_on_line anonymized line column)
-place_on_line-free anonymized line column =
-    free-append (codes "on line " ++ line_name anonymized line) (column_words column)
-    (free-append (codes "on line ") (line_name anonymized line) (each-fails is_listed (codes "on line ") refl) (line_name-free anonymized line))
-    (column_words-free column)
-
-place-free : (anonymized : Bool) (path : Option (List ℕ)) (line : ℕ) (column : Option ℕ) → AreFree (place anonymized path line column)
-place-free anonymized None line column = place_on_line-free anonymized line column
-place-free anonymized (Some path) line column = place_in_file-free anonymized path (Some line) column
-
-to_line-free : (anonymized : Bool) (line : ℕ) (column : Option ℕ) → AreFree (to_line anonymized line column)
-to_line-free anonymized line column =
-    free-append (codes " to line " ++ line_name anonymized line) (column_words column)
-    (free-append (codes " to line ") (line_name anonymized line) (each-fails is_listed (codes " to line ") refl) (line_name-free anonymized line))
-    (column_words-free column)
-
--- nor does where a span ends
-end_in_file-free : (anonymized : Bool) (start end : Loc) → AreFree (end_in_file anonymized start end)
-end_in_file-free anonymized start end = of_lines (start.line == end.line)
-  where
-    text : List ℕ
-    text = codes " to " ++ line_name anonymized end.line ++ codes ":" ++ decimal (end.char + 1)
-
-    text_free : AreFree text
-    text_free =
-        free-append (codes " to " ++ line_name anonymized end.line ++ codes ":") (decimal (end.char + 1))
-        (free-append (codes " to " ++ line_name anonymized end.line) (codes ":")
-        (free-append (codes " to ") (line_name anonymized end.line) (each-fails is_listed (codes " to ") refl)
-        (line_name-free anonymized end.line)) (each-fails is_listed (codes ":") refl)) (decimal-free (end.char + 1))
-
-    of_lines : (same : Bool) → AreFree (if same then [] else text)
-    of_lines true = All-nil IsUnlisted
-    of_lines false = text_free
-
-end_on_line-free : (anonymized : Bool) (source : Source) (start end : Loc) → AreFree (end_on_line anonymized source start end)
-end_on_line-free anonymized source start end = of_lines (start.line == end.line)
-  where
-    column : Option ℕ
-    column = column_unless (is_blank_after (line_at source end.line) end.char) end
-
-    of_lines : (same : Bool) → AreFree (if same then [] else to_line anonymized end.line column)
-    of_lines true = All-nil IsUnlisted
-    of_lines false = to_line-free anonymized end.line column
-
-span_place-free : (anonymized : Bool) (source : Source) (path : Option (List ℕ)) (start end : Loc) → AreFree (span_place anonymized source path start end)
-span_place-free anonymized source None start end =
-    let column : Option ℕ = column_unless (is_blank_before (line_at source start.line) start.char) start in
-    free-append (place_on_line anonymized start.line column) (end_on_line anonymized source start end) (place_on_line-free anonymized start.line column)
-    (end_on_line-free anonymized source start end)
-span_place-free anonymized source (Some path) start end =
-    free-append (place_in_file anonymized path (Some start.line) (Some (start.char + 1))) (end_in_file anonymized start end)
-    (place_in_file-free anonymized path (Some start.line) (Some (start.char + 1))) (end_in_file-free anonymized start end)
-
--- nor does a label, nor an annotation's line
-normalized-free : (label : Option (List ℕ)) → AreFree (normalized_chars label)
-normalized-free None = All-nil IsUnlisted
-normalized-free (Some text) = norm-free (chars text)
-
-after_place-free : (label : List ℕ) → AreFree label → AreFree (after_place label)
-after_place-free label free = of_shown (nat_lt 0 (length label))
-  where
-    of_shown : (shows : Bool) → AreFree (if shows then codes ": " ++ label else [])
-    of_shown true = free-append (codes ": ") label (each-fails is_listed (codes ": ") refl) free
-    of_shown false = All-nil IsUnlisted
+label-free : (label : Option (List ℕ)) → AreFree (normalized_chars label)
+label-free None = All-nil IsUnlisted
+label-free (Some text) = norm-free (chars text)
 
 span_text-free : (anonymized : Bool) (source : Source) (indent : List ℕ) (path : Option (List ℕ)) (a : Annotation) → AreFree indent
     → AreFree (span_text anonymized source indent path a)
 span_text-free anonymized source indent path a free =
-    let at = locations_of source a.span.start a.span.end in
-    let place : List ℕ = span_place anonymized source path at.0 at.1 in
-    free-append (indent ++ place) (after_place (label_characters a)) (free-append indent place free (span_place-free anonymized source path at.0 at.1))
-    (after_place-free (label_characters a) (normalized-free (option_map cow_str_bytes a.label)))
-
-further_indent-free : (path : Option (List ℕ)) → AreFree (further_indent path)
-further_indent-free None = each-fails is_listed (codes " ") refl
-further_indent-free (Some path) = each-fails is_listed (codes "  ") refl
+    span_text-each IsUnlisted printable-free anonymized source indent path a free (path-free path) (label-free (option_map cow_str_bytes a.label))
 
 -- text without codes after a break, which holds none
 abbrev FormIsFree : List FormPiece → Type 0
@@ -208,7 +114,8 @@ line-free text free = each-break IsUnlisted refl (bare text) (each-bare IsUnlist
 spans-free : (anonymized : Bool) (source : Source) (path : Option (List ℕ)) (marks : List Annotation) → FormIsFree (spans_form anonymized source path marks)
 spans-free anonymized source path [] =
     let where_is : List ℕ = place anonymized path source.first None in
-    line-free (codes " " ++ where_is) (free-append (codes " ") where_is (each-fails is_listed (codes " ") refl) (place-free anonymized path source.first None))
+    line-free (codes " " ++ where_is) (free-append (codes " ") where_is (each-fails is_listed (codes " ") refl)
+    (place-each IsUnlisted printable-free anonymized path source.first None (path-free path)))
 spans-free anonymized source path (a ∷ marks) =
     let indent : List ℕ = further_indent path in
     let further : Annotation → List FormPiece = span_form anonymized source indent None in
@@ -216,7 +123,8 @@ spans-free anonymized source path (a ∷ marks) =
     (span_text-free anonymized source (codes " ") path a (each-fails is_listed (codes " ") refl)) in
     each-append IsUnlisted refl (span_form anonymized source (codes " ") path a) (flat_map further (filter is_labelled marks))
     one (each-flat_map IsUnlisted refl further
-    (λ b. line-free (span_text anonymized source indent None b) (span_text-free anonymized source indent None b (further_indent-free path)))
+    (λ b. line-free (span_text anonymized source indent None b) (span_text-free anonymized source indent None b
+    (further_indent-each IsUnlisted printable-free path)))
     (filter is_labelled marks))
 
 -- a cause holds none
@@ -225,87 +133,70 @@ unfolding cause_form
 cause-free begun anonymized s =
     spans-free anonymized (numbered_source s) (option_map cow_str_bytes s.path) (named_spans s.markers.items) begun
 
--- nor does where an edit stands
-replaced_to-free : (anonymized : Bool) (start end : Loc) → AreFree (replaced_to anonymized start end)
-replaced_to-free anonymized start end = of_lines (start.line == end.line)
-  where
-    column : List ℕ
-    column = decimal (end.char + 1)
-
-    on_line : List ℕ
-    on_line = codes " to column " ++ column
-
-    of_lines : (same : Bool) → AreFree (if same then on_line else to_line anonymized end.line (Some (end.char + 1)))
-    of_lines true =
-        free-append (codes " to column ") column (each-fails is_listed (codes " to column ") refl) (decimal-free (end.char + 1))
-    of_lines false = to_line-free anonymized end.line (Some (end.char + 1))
-
-edit_place-free : (anonymized : Bool) (source : Source) (path : Option (List ℕ)) (e : Edit) (start end : Loc)
-    → AreFree (edit_place anonymized source path e start end)
-edit_place-free anonymized source path e start end = of_kind (replaces source.text e)
-  where
-    column : Option ℕ
-    column = column_unless (replaces_whole_line source start end e) start
-
-    from : List ℕ
-    from = place anonymized path start.line (Some (start.char + 1))
-
-    of_kind : (replacing : Bool) → AreFree (if replacing then from ++ replaced_to anonymized start end else place anonymized path start.line column)
-    of_kind true =
-        free-append from (replaced_to anonymized start end) (place-free anonymized path start.line (Some (start.char + 1)))
-        (replaced_to-free anonymized start end)
-    of_kind false = place-free anonymized path start.line column
-
 -- nor what it puts there
-sign-free : (over : Bool) → AreFree (if over then codes " replace with: " else codes " add: ")
-sign-free true = each-fails is_listed (codes " replace with: ") refl
-sign-free false = each-fails is_listed (codes " add: ") refl
-
-added_free : (source : List ℕ) (e : Edit) → FormIsFree (added_form source e)
-added_free source e = of_blank (is_blank_text e.text)
+picture-free : (c : ℕ) → IsUnlisted c → IsUnlisted (picture_of c)
+picture-free c free = of_feed (c == 10)
   where
-    sign : List ℕ
-    sign = if overwrites source e then codes " replace with: " else codes " add: "
+    of_feed : (feed : Bool) → IsUnlisted (if feed then 0x240A else c)
+    of_feed true = refl
+    of_feed false = free
+
+pictures-free : (cs : List ℕ) → AreFree cs → AreFree (with_line_feeds_shown cs)
+pictures-free [] free = All-nil IsUnlisted
+pictures-free (c ∷ cs) free =
+    All-cons IsUnlisted (picture_of c) (with_line_feeds_shown cs) (picture-free c (All-head IsUnlisted c cs free))
+    (pictures-free cs (All-tail IsUnlisted c cs free))
+
+added_text-free : (feeds : Bool) (e : Edit) → AreFree (added_text feeds e)
+added_text-free true e =
+    pictures-free (norm (chars (without_final_line_feeds e.text))) (norm-free (chars (without_final_line_feeds e.text)))
+added_text-free false e = norm-free (chars (without_final_line_feeds e.text))
+
+added_free : (feeds : Bool) (source : List ℕ) (e : Edit) → FormIsFree (added_form feeds source e)
+added_free feeds source e = of_blank (is_blank_text e.text)
+  where
+    before : List ℕ
+    before = before_added source e
 
     text : List ℕ
-    text = norm (chars (without_final_line_feeds e.text))
+    text = added_text feeds e
 
-    of_blank : (blank : Bool) → FormIsFree (if blank then [] else bare sign ++ styled Addition text)
+    of_blank : (blank : Bool) → FormIsFree (if blank then [] else bare before ++ styled Addition text)
     of_blank true = each-nil IsUnlisted refl
     of_blank false =
-        each-append IsUnlisted refl (bare sign) (styled Addition text) (each-bare IsUnlisted refl sign (sign-free (overwrites source e)))
-        (each-styled IsUnlisted refl Addition None text (norm-free (chars (without_final_line_feeds e.text))))
+        each-append IsUnlisted refl (bare before) (styled Addition text)
+        (each-bare IsUnlisted refl before (before_added-each IsUnlisted printable-free source e))
+        (each-styled IsUnlisted refl Addition None text (added_text-free feeds e))
 
-edit-free : (anonymized : Bool) (source : Source) (indent : List ℕ) (path : Option (List ℕ)) → AreFree indent → (e : Edit)
-    → FormIsFree (edit_form anonymized source indent path e)
-edit-free anonymized source indent path free e =
+edit-free : (settings : SuggestionSettings) (source : Source) (indent : List ℕ) (path : Option (List ℕ)) → AreFree indent → (e : Edit)
+    → FormIsFree (edit_form settings source indent path e)
+edit-free settings source indent path free e =
     let at = locations_of source e.start e.end in
-    let place : List ℕ = edit_place anonymized source path e at.0 at.1 in
+    let place : List ℕ = edit_place settings.anonymized source path e at.0 at.1 in
     let front : List ℕ = indent ++ place in
-    let line : FormIsFree (bare front) = each-bare IsUnlisted refl front (free-append indent place free (edit_place-free anonymized source path e at.0 at.1)) in
-    each-break IsUnlisted refl (bare front ++ added_form source.text e)
-    (each-append IsUnlisted refl (bare front) (added_form source.text e) line (added_free source.text e))
+    let placed : AreFree place = edit_place-each IsUnlisted printable-free settings.anonymized source path e at.0 at.1 (path-free path) in
+    let line : FormIsFree (bare front) = each-bare IsUnlisted refl front (free-append indent place free placed) in
+    let added : List FormPiece = added_form settings.show_line_feeds source.text e in
+    each-break IsUnlisted refl (bare front ++ added)
+    (each-append IsUnlisted refl (bare front) added line (added_free settings.show_line_feeds source.text e))
 
 option-free : (option : Option ℕ) → FormIsFree (option_form option)
 option-free None = each-nil IsUnlisted refl
 option-free (Some number) =
     line-free (codes " option " ++ decimal number) (free-append (codes " option ") (decimal number) (each-fails is_listed (codes " option ") refl)
-    (decimal-free number))
-
-edit_indent-free : (option : Option ℕ) → AreFree (edit_indent option)
-edit_indent-free None = each-fails is_listed (codes " ") refl
-edit_indent-free (Some number) = each-fails is_listed (codes "  ") refl
+    (decimal-each IsUnlisted printable-free number))
 
 -- a suggestion holds none, nor does a place without source
-pub suggestion-free : (begun anonymized : Bool) (at : SuggestionContext) (s : Snippet Patch)
-    → All (λ c. is_listed c ≡ false) (plain_from begun (suggestion_form anonymized at s))
+pub suggestion-free : (begun : Bool) (settings : SuggestionSettings) (at : SuggestionContext) (s : Snippet Patch)
+    → All (λ c. is_listed c ≡ false) (plain_from begun (suggestion_form settings at s))
 unfolding suggestion_form
-suggestion-free begun anonymized at s =
+suggestion-free begun settings at s =
     let source : Source = numbered_source s in
     let path : Option (List ℕ) = named_path at.names_path (option_map cow_str_bytes s.path) in
-    let edits : Edit → List FormPiece = edit_form anonymized source (edit_indent at.option) path in
+    let edits : Edit → List FormPiece = edit_form settings source (edit_indent at.option) path in
     each-append IsUnlisted refl (option_form at.option) (flat_map edits (given.trimmed_of s)) (option-free at.option)
-    (each-flat_map IsUnlisted refl edits (edit-free anonymized source (edit_indent at.option) path (edit_indent-free at.option)) (given.trimmed_of s)) begun
+    (each-flat_map IsUnlisted refl edits (edit-free settings source (edit_indent at.option) path
+    (edit_indent-each IsUnlisted printable-free at.option)) (given.trimmed_of s)) begun
 
 -- the text form of an origin holds no listed character
 pub origin-free : (begun anonymized : Bool) (o : Origin) → All (λ c. is_listed c ≡ false) (plain_from begun (origin_form anonymized o))
@@ -313,17 +204,9 @@ unfolding origin_form
 origin-free begun anonymized o =
     let text : List ℕ = place_in_file anonymized (cow_str_bytes o.path) o.line o.char_column in
     line-free (codes " " ++ text) (free-append (codes " ") text (each-fails is_listed (codes " ") refl)
-    (place_in_file-free anonymized (cow_str_bytes o.path) o.line o.char_column)) begun
+    (place_in_file-each IsUnlisted printable-free anonymized (cow_str_bytes o.path) o.line o.char_column (norm-free (chars (cow_str_bytes o.path))))) begun
 
 -- what holds of each character that isn't listed, and of each of a heading's text, holds of all of the heading
-before_name-free : (kind : HeadingKind) → AreFree (before_name kind)
-before_name-free Title = All-nil IsUnlisted
-before_name-free Message = each-fails is_listed (codes " ") refl
-
-before_id-free : (hidden : Bool) → AreFree (before_id hidden)
-before_id-free true = All-nil IsUnlisted
-before_id-free false = each-fails is_listed (codes " ") refl
-
 module _ (P : ℕ → Type 0) (free : (c : ℕ) → IsUnlisted c → P c) where
   bare-all : (text : List ℕ) → AreFree text → EachPlain P (bare text)
   bare-all text all = each-bare P (free 10 refl) text (All-weaker IsUnlisted P free text all)
@@ -341,14 +224,16 @@ module _ (P : ℕ → Type 0) (free : (c : ℕ) → IsUnlisted c → P c) where
       of_hidden : (hidden : Bool) → EachPlain P (if hidden then [] else bare (before_name kind) ++ styled role name)
       of_hidden true = each-nil P (free 10 refl)
       of_hidden false =
-          each-append P (free 10 refl) (bare (before_name kind)) (styled role name) (bare-all (before_name kind) (before_name-free kind))
+          each-append P (free 10 refl) (bare (before_name kind)) (styled role name)
+          (bare-all (before_name kind) (before_name-each IsUnlisted printable-free kind))
           (styled-all role None name (norm-free (chars (name_of level))))
 
   id_text-all : (hidden : Bool) (role : ElementStyle) (address text : Option (List ℕ)) → EachPlain P (id_text_form hidden role address text)
   id_text-all hidden role address None = each-nil P (free 10 refl)
   id_text-all hidden role address (Some text) =
       let shown : List ℕ = norm (chars text) in
-      each-append P (free 10 refl) (bare (before_id hidden)) (linking role address shown) (bare-all (before_id hidden) (before_id-free hidden))
+      each-append P (free 10 refl) (bare (before_id hidden)) (linking role address shown)
+      (bare-all (before_id hidden) (before_id-each IsUnlisted printable-free hidden))
       (styled-all role (link_for address shown) shown (norm-free (chars text)))
 
   id-all : (hyperlink hidden : Bool) (role : ElementStyle) (id : Option Id) → EachPlain P (id_form hyperlink hidden role id)

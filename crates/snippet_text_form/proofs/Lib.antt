@@ -5,9 +5,11 @@ pub mod FormLaws
 pub mod FormSteps
 pub mod FreeLaws
 pub mod LabelForm
+pub mod LineLaws
 pub mod LinkLaws
 pub mod MarkLemmas
 pub mod OrderLaws
+pub mod PlaceParts
 pub mod SplitForm
 pub mod SuggestionLemmas
 pub mod TextLemmas

@@ -20,7 +20,6 @@ use Rattle.snippet_model.specs.declared.snippet.Origin.{Origin}
 use Rattle.snippet_model.specs.declared.snippet.Patch.{Patch}
 use Rattle.snippet_model.specs.declared.snippet.Snippet.{Snippet}
 use Rattle.snippet_splice.specs.Edits.{Edit}
-use Rattle.snippet_splice.specs.ShownText.{without_final_line_feeds}
 use Rattle.snippet_style.specs.declared.role.ElementStyle.{ElementStyle}
 use Rattle.snippet_style.specs.declared.role.ElementStyle.TheVariants.{Addition}
 use Rattle.snippet_suggest.specs.Given as given
@@ -37,10 +36,11 @@ use Rattle.snippet_text_form.specs.HeadingForm.{before_id, before_name, colon_fo
 use Rattle.snippet_text_form.specs.HeadingForm.{heading_label}
 use Rattle.snippet_text_form.specs.HeadingForm.{link_for, linking, lines_form, name_form, text_roles_of}
 use Rattle.snippet_text_form.specs.Position.{place, place_in_file}
-use Rattle.snippet_text_form.specs.Suggestion.{added_form, edit_form, edit_indent, edit_place, named_path, option_form, origin_form, overwrites}
+use Rattle.snippet_text_form.specs.Suggestion.{added_form, added_text, before_added, edit_form, edit_indent, edit_place, named_path, option_form, origin_form}
 use Rattle.snippet_text_form.specs.Suggestion.{suggestion_form}
 use Rattle.snippet_text_form.specs.declared.heading.HeadingKind.{HeadingKind}
 use Rattle.snippet_text_form.specs.declared.suggestion.SuggestionContext.{SuggestionContext}
+use Rattle.snippet_text_form.specs.declared.suggestion.SuggestionSettings.{SuggestionSettings}
 
 -- one text form after another
 pub links-append : (a b : List FormPiece) → form_links (a ++ b) ≡ form_links a ++ form_links b
@@ -150,33 +150,33 @@ option-links : (option : Option ℕ) → form_links (option_form option) ≡ []
 option-links None = refl
 option-links (Some number) = bare-links (codes " option " ++ decimal number)
 
-added_links : (source : List ℕ) (e : Edit) → form_links (added_form source e) ≡ []
-added_links source e = of_blank (is_blank_text e.text) refl
+added_links : (feeds : Bool) (source : List ℕ) (e : Edit) → form_links (added_form feeds source e) ≡ []
+added_links feeds source e = of_blank (is_blank_text e.text)
   where
-    sign : List ℕ
-    sign = if overwrites source e then codes " replace with: " else codes " add: "
+    before : List ℕ
+    before = before_added source e
 
-    of_blank : (blank : Bool) → is_blank_text e.text ≡ blank → form_links (added_form source e) ≡ []
-    of_blank true is = rw is refl
-    of_blank false is =
-        rw is (links-before (bare sign) (styled Addition (norm (chars (without_final_line_feeds e.text)))) refl ∙ bare-links sign)
+    of_blank : (blank : Bool) → form_links (if blank then [] else bare before ++ styled Addition (added_text feeds e)) ≡ []
+    of_blank true = refl
+    of_blank false = links-before (bare before) (styled Addition (added_text feeds e)) refl ∙ bare-links before
 
-edit-links : (anonymized : Bool) (source : Source) (indent : List ℕ) (path : Option (List ℕ)) (e : Edit)
-    → form_links (edit_form anonymized source indent path e) ≡ []
-edit-links anonymized source indent path e =
+edit-links : (settings : SuggestionSettings) (source : Source) (indent : List ℕ) (path : Option (List ℕ)) (e : Edit)
+    → form_links (edit_form settings source indent path e) ≡ []
+edit-links settings source indent path e =
     let at = locations_of source e.start e.end in
-    let front : List ℕ = indent ++ edit_place anonymized source path e at.0 at.1 in
-    form_links-unlinked (bare front) (added_form source.text e) (bare-links front) ∙ added_links source.text e
+    let front : List ℕ = indent ++ edit_place settings.anonymized source path e at.0 at.1 in
+    form_links-unlinked (bare front) (added_form settings.show_line_feeds source.text e) (bare-links front)
+    ∙ added_links settings.show_line_feeds source.text e
 
 -- the text form of a suggestion has no link
-pub suggestion-links : (anonymized : Bool) (at : SuggestionContext) (s : Snippet Patch) → form_links (suggestion_form anonymized at s) ≡ []
+pub suggestion-links : (settings : SuggestionSettings) (at : SuggestionContext) (s : Snippet Patch) → form_links (suggestion_form settings at s) ≡ []
 unfolding suggestion_form
-suggestion-links anonymized at s =
+suggestion-links settings at s =
     let source : Source = numbered_source s in
     let path : Option (List ℕ) = named_path at.names_path (option_map cow_str_bytes s.path) in
-    let edits : Edit → List FormPiece = edit_form anonymized source (edit_indent at.option) path in
+    let edits : Edit → List FormPiece = edit_form settings source (edit_indent at.option) path in
     form_links-unlinked (option_form at.option) (flat_map edits (given.trimmed_of s)) (option-links at.option)
-    ∙ each-links edits (edit-links anonymized source (edit_indent at.option) path) (given.trimmed_of s)
+    ∙ each-links edits (edit-links settings source (edit_indent at.option) path) (given.trimmed_of s)
 
 -- the text form of an origin has no link
 pub origin-links : (anonymized : Bool) (o : Origin) → form_links (origin_form anonymized o) ≡ []

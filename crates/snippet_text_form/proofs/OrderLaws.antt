@@ -26,7 +26,7 @@ use Rattle.snippet_text_form.specs.declared.heading.HeadingKind.{HeadingKind}
 use Rattle.snippet_text_form.proofs.FormSteps.{plain-bare}
 
 -- text that stands before another, or before nothing
-begun-cons : (begun : Bool) (c : ℕ) (cs : List ℕ) → begun_after begun (c ∷ cs) ≡ true
+pub begun-cons : (begun : Bool) (c : ℕ) (cs : List ℕ) → begun_after begun (c ∷ cs) ≡ true
 begun-cons true c cs = refl
 begun-cons false c cs = grind (arith, nat_tests)
 

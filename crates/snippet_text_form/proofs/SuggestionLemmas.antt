@@ -23,6 +23,7 @@ use Rattle.snippet_text_form.specs.Position.{place}
 use Rattle.snippet_text_form.specs.Suggestion.{edit_form, edit_indent, edit_place, replaces_whole_line, named_path, option_form, overwrites, replaced_to}
 use Rattle.snippet_text_form.specs.Suggestion.{replaces, suggestion_form}
 use Rattle.snippet_text_form.specs.declared.suggestion.SuggestionContext.{SuggestionContext}
+use Rattle.snippet_text_form.specs.declared.suggestion.SuggestionSettings.{SuggestionSettings}
 use Rattle.snippet_text_form.proofs.AddedLemmas.{added-two}
 
 -- a text on a line of its own
@@ -61,20 +62,20 @@ edits_more f old mid new ps i d within first last =
     ∙ ap (λ es. old ++ flat_map f es) (sym (map_more trimmed_edit_of ps i d within))
 
 -- a suggestion is added once its number and all of its patches are
-pub suggestion_added : (anonymized : Bool) (at : SuggestionContext) (p : PreparedSuggestion) (indent : List ℕ) (path : Option (List ℕ))
+pub suggestion_added : (settings : SuggestionSettings) (at : SuggestionContext) (p : PreparedSuggestion) (indent : List ℕ) (path : Option (List ℕ))
     (old mid new : List FormPiece) → IsPrepared p → indent ≡ edit_indent at.option
     → path ≡ named_path at.names_path (option_map cow_str_bytes p.snippet.now.path) → mid ≡ old ++ option_form at.option
-    → new ≡ mid ++ flat_map (edit_form anonymized p.map indent path) (map trimmed_edit_of p.splice.patches.items)
-    → new ≡ old ++ suggestion_form anonymized at p.snippet.now
+    → new ≡ mid ++ flat_map (edit_form settings p.map indent path) (map trimmed_edit_of p.splice.patches.items)
+    → new ≡ old ++ suggestion_form settings at p.snippet.now
 unfolding suggestion_form
-suggestion_added anonymized at p indent path old mid new is indents names first last =
+suggestion_added settings at p indent path old mid new is indents names first last =
     let s : Snippet Patch = p.snippet.now in
     let edits : List Edit = map trimmed_edit_of p.splice.patches.items in
     let named : Option (List ℕ) = named_path at.names_path (option_map cow_str_bytes s.path) in
-    let forms : flat_map (edit_form anonymized p.map indent path) edits ≡ flat_map (edit_form anonymized (numbered_source s) (edit_indent at.option) named)
-    (trimmed_of s) = ap (λ source. flat_map (edit_form anonymized source indent path) edits) is.lines
-    ∙ ap (λ text. flat_map (edit_form anonymized (numbered_source s) text path) edits) indents
-    ∙ ap (λ to. flat_map (edit_form anonymized (numbered_source s) (edit_indent at.option) to) edits) names
-    ∙ ap (λ es. flat_map (edit_form anonymized (numbered_source s) (edit_indent at.option) named) es) is.edits in
-    added-two old mid new (option_form at.option) (flat_map (edit_form anonymized p.map indent path) edits) first last
+    let forms : flat_map (edit_form settings p.map indent path) edits ≡ flat_map (edit_form settings (numbered_source s) (edit_indent at.option) named)
+    (trimmed_of s) = ap (λ source. flat_map (edit_form settings source indent path) edits) is.lines
+    ∙ ap (λ text. flat_map (edit_form settings (numbered_source s) text path) edits) indents
+    ∙ ap (λ to. flat_map (edit_form settings (numbered_source s) (edit_indent at.option) to) edits) names
+    ∙ ap (λ es. flat_map (edit_form settings (numbered_source s) (edit_indent at.option) named) es) is.edits in
+    added-two old mid new (option_form at.option) (flat_map (edit_form settings p.map indent path) edits) first last
     ∙ ap (λ form. old ++ (option_form at.option ++ form)) forms

@@ -1,6 +1,6 @@
 -- What a suggestion and a place without source are in the text form.
 use Rattle.std.specs.Prelude.{ℕ, ◌+◌, nat_lt, ◌==◌, ◌&&◌, ◌||◌, not, Bool, false, List, [], ◌∷◌, ◌++◌, Option, None, Some, chars, codes, drop, length, take}
-use Rattle.std.specs.Prelude.{if◌then◌else◌}
+use Rattle.std.specs.Prelude.{if◌then◌else◌, true}
 use Rattle.std.specs.Cow.{cow_str_bytes}
 use Rattle.std.specs.Fmt.{decimal}
 use Rattle.std.specs.List.{flat_map}
@@ -17,12 +17,14 @@ use Rattle.snippet_splice.specs.ShownText.{without_final_line_feeds}
 use Rattle.snippet_style.specs.declared.role.ElementStyle.TheVariants.{Addition}
 use Rattle.snippet_suggest.specs.Given.{trimmed_of}
 use Rattle.snippet_parts.specs.Numbered.{numbered_source}
+use Rattle.snippet_settings.specs.LineFeeds.{with_line_feeds_shown}
 use Rattle.snippet_suggest.specs.Kind.{is_blank_text, is_under_text, text_under}
 use Rattle.snippet_text.specs.Normalized.{norm}
 use Rattle.snippet_text_form.specs.Cause.{column_unless}
 use Rattle.snippet_text_form.specs.Form.{FormPiece, Break, bare, styled}
 use Rattle.snippet_text_form.specs.Position.{place, place_in_file, to_line}
 use Rattle.snippet_text_form.specs.declared.suggestion.SuggestionContext.{SuggestionContext}
+use Rattle.snippet_text_form.specs.declared.suggestion.SuggestionSettings.{SuggestionSettings}
 
 -- whether an edit stands over text that isn't blank
 abbrev pub overwrites : List ℕ → Edit → Bool
@@ -61,18 +63,26 @@ edit_place anonymized source path e start end =
     if replaces source.text e then place anonymized path start.line (Some (start.char + 1)) ++ replaced_to anonymized start end
     else place anonymized path start.line (column_unless (replaces_whole_line source start end e) start)
 
--- what an edit puts there, in the style of additions: its text without the line feeds that end it, normalised; nothing where it
--- is blank
-abbrev pub added_form : List ℕ → Edit → List FormPiece
-added_form source e =
-    if is_blank_text e.text then []
-    else bare (if overwrites source e then codes " replace with: " else codes " add: ") ++ styled Addition (norm (chars (without_final_line_feeds e.text)))
+-- the characters of what an edit puts there: its text without the line feeds that end it, normalised; with line feeds shown it is one
+-- line, as long as it may be
+abbrev pub added_text : Bool → Edit → List ℕ
+added_text true e = with_line_feeds_shown (norm (chars (without_final_line_feeds e.text)))
+added_text false e = norm (chars (without_final_line_feeds e.text))
+
+-- what stands before them
+abbrev pub before_added : List ℕ → Edit → List ℕ
+before_added source e = if overwrites source e then codes " replace with: " else codes " add: "
+
+-- what an edit puts there, in the style of additions; nothing where it is blank
+abbrev pub added_form : Bool → List ℕ → Edit → List FormPiece
+added_form feeds source e =
+    if is_blank_text e.text then [] else bare (before_added source e) ++ styled Addition (added_text feeds e)
 
 -- an edit, on a line of its own: after an indent the place where it stands, and what it puts there
-abbrev pub edit_form : Bool → Source → List ℕ → Option (List ℕ) → Edit → List FormPiece
-edit_form anonymized source indent path e =
+abbrev pub edit_form : SuggestionSettings → Source → List ℕ → Option (List ℕ) → Edit → List FormPiece
+edit_form settings source indent path e =
     let at = locations_of source e.start e.end in
-    Break ∷ (bare (indent ++ edit_place anonymized source path e at.0 at.1) ++ added_form source.text e)
+    Break ∷ (bare (indent ++ edit_place settings.anonymized source path e at.0 at.1) ++ added_form settings.show_line_feeds source.text e)
 
 -- a suggestion's number among those for one file, on a line of its own, and the indent below it
 abbrev pub option_form : Option ℕ → List FormPiece
@@ -88,9 +98,9 @@ abbrev pub named_path : Bool → Option (List ℕ) → Option (List ℕ)
 named_path names path = if names then path else None
 
 -- a suggestion: its number, where it is one of several for one file, and its trimmed edits, in order
-unfoldable pub suggestion_form : Bool → SuggestionContext → Snippet Patch → List FormPiece
-suggestion_form anonymized at s =
-    option_form at.option ++ flat_map (edit_form anonymized (numbered_source s) (edit_indent at.option)
+unfoldable pub suggestion_form : SuggestionSettings → SuggestionContext → Snippet Patch → List FormPiece
+suggestion_form settings at s =
+    option_form at.option ++ flat_map (edit_form settings (numbered_source s) (edit_indent at.option)
     (named_path at.names_path (option_map cow_str_bytes s.path))) (trimmed_of s)
 
 -- a place without source, on a line of its own

@@ -13,4 +13,4 @@ pub use cause::add_cause;
 pub use form::TextForm;
 pub use heading::{HeadingKind, add_heading};
 pub use origin::add_origin;
-pub use suggestion::{SuggestionContext, add_suggestion};
+pub use suggestion::{SuggestionContext, SuggestionSettings, add_suggestion};

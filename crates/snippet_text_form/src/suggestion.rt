@@ -1,5 +1,5 @@
 //! Suggestions.
-ghost use Rattle.std.specs.Prelude.{◌≡◌, ◌++◌, Some, chars, IsTrue, OnOk};
+ghost use Rattle.std.specs.Prelude.{◌≡◌, ◌++◌, Some, chars, IfOk, IsTrue, OnOk};
 ghost use Rattle.std.specs.Cow.{cow_str_bytes};
 ghost use Rattle.std.specs.Option.{option_copied, option_map};
 ghost use Rattle.std.specs.Str.{IsCharBoundary};
@@ -8,22 +8,39 @@ ghost use Rattle.snippet_splice.specs.Edits.{trimmed_edit_of};
 ghost use Rattle.snippet_splice.specs.ShownText.{without_final_line_feeds};
 ghost use Rattle.snippet_suggest.specs.PreparedSuggestion.{IsPrepared};
 ghost use Rattle.snippet_text_form.specs.Form.{bare};
-ghost use Rattle.snippet_text_form.specs.Suggestion.{added_form, edit_form, edit_indent, edit_place, named_path};
-ghost use Rattle.snippet_text_form.specs.Suggestion.{option_form, replaced_to, suggestion_form};
+ghost use Rattle.snippet_text_form.specs.Suggestion.{added_form, added_text, edit_form, edit_indent, edit_place};
+ghost use Rattle.snippet_text_form.specs.Suggestion.{named_path, option_form, replaced_to, suggestion_form};
 ghost use Rattle.snippet_text_form.specs.Suggestion as spec;
 ghost use Rattle.snippet_text.specs.TextBounds.{IsOffset};
 
 use crate::cause::column_unless;
 use crate::form::TextForm;
-use crate::position::{LineStart, NamedSource, SpanEnds, add_place, add_to_line};
+use crate::position::{LineStart, SpanEnds, add_place, add_to_line};
 use snippet_lines::{Loc, newline_count};
 use snippet_model::snippet::{Patch, Snippet};
 use snippet_parts::SourceMap;
+use snippet_settings::shown_on_one_line;
 use snippet_splice::TrimmedPatch;
 use snippet_style::ElementStyle;
 use snippet_suggest::{PreparedSuggestion, is_blank, overwrites};
-use snippet_text::normalized;
+use snippet_text::{CowStr, normalized};
 use std::alloc::{AllocError, Global};
+
+/// How suggestions are told.
+#[derive(Clone, Copy, Debug, PartialEq, Eq)]
+pub struct SuggestionSettings {
+    /// Whether each line of a source is named `LL`.
+    pub anonymized: bool,
+    /// Whether the line feeds of what a patch puts in are shown, as `␊`, so that it is told on one line.
+    pub show_line_feeds: bool,
+}
+
+/// The source that patches are for, and how they are told.
+#[derive(Clone, Copy)]
+struct PatchedSource<'m, 'a> {
+    map: &'m SourceMap<'a>,
+    settings: SuggestionSettings,
+}
 
 /// Where a suggestion stands among others.
 #[derive(Clone, Copy, Debug, PartialEq, Eq)]
@@ -47,20 +64,20 @@ pub struct SuggestionContext {
 pub fn add_suggestion<'a>(
     alloc: Global,
     form: &mut TextForm<'a>,
-    anonymized: bool,
+    settings: SuggestionSettings,
     place: SuggestionContext,
     suggestion: &PreparedSuggestion<'a>,
 ) -> Result<(), AllocError>
     requires prepared { IsPrepared suggestion.now }
-    ensures added { OnOk result (form.new ≡ form.old ++ suggestion_form anonymized place suggestion.now.snippet.now) }
+    ensures added { OnOk result (form.new ≡ form.old ++ suggestion_form settings place suggestion.now.snippet.now) }
 {
     let path = shown_path(place.names_path, suggestion.snippet);
     add_option(form, place.option)?;
     let indent = indent_below(place.option);
     let start = LineStart { indent, path };
-    let source = NamedSource {
+    let source = PatchedSource {
         map: &suggestion.map,
-        anonymized,
+        settings,
     };
     for patch in &suggestion.splice.patches {
         add_patch(alloc, form, &source, start, patch)?;
@@ -104,12 +121,12 @@ fn indent_below<'a>(option: Option<usize>) -> &'a str
 fn add_patch<'a>(
     alloc: Global,
     form: &mut TextForm<'a>,
-    source: &NamedSource<'_, 'a>,
+    source: &PatchedSource<'_, 'a>,
     start: LineStart<'a>,
     patch: &TrimmedPatch<'a>,
 ) -> Result<(), AllocError>
     requires span { IsSpan source.now.map.now.text patch.now.span.start patch.now.span.end }
-    ensures added { OnOk result (form.new ≡ form.old ++ edit_form source.now.anonymized source.now.map.now
+    ensures added { OnOk result (form.new ≡ form.old ++ edit_form source.now.settings source.now.map.now
         (chars start.entry.indent.now) (option_copied start.entry.path) (trimmed_edit_of patch.now)) }
 {
     form.add_break()?;
@@ -123,24 +140,25 @@ fn add_patch<'a>(
     };
     add_patch_place(alloc, form, source, start.path, patch, ends)?;
     let text = source.map.source();
-    add_replacement(alloc, form, text, patch)
+    let show_line_feeds = source.settings.show_line_feeds;
+    add_replacement(alloc, form, show_line_feeds, text, patch)
 }
 
 /// Adds where a patch stands.
 fn add_patch_place<'a>(
     alloc: Global,
     form: &mut TextForm<'a>,
-    source: &NamedSource<'_, 'a>,
+    source: &PatchedSource<'_, 'a>,
     path: Option<&'a str>,
     patch: &TrimmedPatch<'a>,
     ends: SpanEnds,
 ) -> Result<(), AllocError>
     requires span { IsSpan source.now.map.now.text patch.now.span.start patch.now.span.end }
-    ensures added { OnOk result (form.new ≡ form.old ++ bare (edit_place source.now.anonymized source.now.map.now
-        (option_copied path.entry) (trimmed_edit_of patch.now) ends.start ends.end)) }
+    ensures added { OnOk result (form.new ≡ form.old ++ bare (edit_place source.now.settings.anonymized
+        source.now.map.now (option_copied path.entry) (trimmed_edit_of patch.now) ends.start ends.end)) }
 {
     let map = source.map;
-    let anonymized = source.anonymized;
+    let anonymized = source.settings.anonymized;
     let start = ends.start;
     let end = ends.end;
     if overwrites(map.source(), patch) && !is_blank(patch.replacement) {
@@ -213,11 +231,13 @@ fn can_cut(line: &str, byte: usize) -> bool
 fn add_replacement<'a>(
     alloc: Global,
     form: &mut TextForm<'a>,
+    show_line_feeds: bool,
     source: &str,
     patch: &TrimmedPatch<'a>,
 ) -> Result<(), AllocError>
     requires span { IsSpan source.now patch.now.span.start patch.now.span.end }
-    ensures added { OnOk result (form.new ≡ form.old ++ added_form source.now (trimmed_edit_of patch.now)) }
+    ensures added { OnOk result (form.new ≡ form.old
+        ++ added_form show_line_feeds source.now (trimmed_edit_of patch.now)) }
 {
     if is_blank(patch.replacement) {
         return Ok(());
@@ -227,8 +247,26 @@ fn add_replacement<'a>(
     } else {
         " add: "
     })?;
-    let text = without_final_line_feeds(patch.replacement);
-    form.add_styled(ElementStyle::Addition, None, normalized(alloc, text)?)
+    let text = added_text(alloc, show_line_feeds, patch)?;
+    form.add_styled(ElementStyle::Addition, None, text)
+}
+
+/// The text that a patch puts in as it is told: without the line feeds that end it, normalised, and on one line where
+/// line feeds are shown.
+fn added_text<'a>(
+    alloc: Global,
+    show_line_feeds: bool,
+    patch: &TrimmedPatch<'a>,
+) -> Result<CowStr<'a>, AllocError>
+    ensures value { IfOk result (λ text. chars (cow_str_bytes text)
+        ≡ added_text show_line_feeds (trimmed_edit_of patch.now)) }
+{
+    let text = normalized(alloc, without_final_line_feeds(patch.replacement))?;
+    if show_line_feeds {
+        shown_on_one_line(alloc, text)
+    } else {
+        Ok(text)
+    }
 }
 
 /// A text without the line feeds that end it.

@@ -14,9 +14,10 @@ pub returns : goal.returns
 returns c =
     let a = c.args in
     let e : Edit = trimmed_edit_of a.patch.now in
-    let place : Loc × Loc → List ℕ = λ at. edit_place a.source.now.anonymized a.source.now.map.now (option_copied a.start.path) e at.0 at.1 in
+    let place : Loc × Loc → List ℕ = λ at. edit_place a.source.now.settings.anonymized a.source.now.map.now (option_copied a.start.path) e at.0 at.1 in
     let at : Loc × Loc = locations_of a.source.now.map.now e.start e.end in
-    let added : List FormPiece = added_form a.source.now.map.now.text e in
+    let feeds = a.source.now.settings.show_line_feeds in
+    let added : List FormPiece = added_form feeds a.source.now.map.now.text e in
     let begun : List FormPiece = c.add_break.new.self in
     let indented : List FormPiece = c.add_text.new.self in
     let placed : List FormPiece = c.add_patch_place.new.form in
@@ -30,5 +31,5 @@ returns c =
           (λ last. adds_line a.form.now begun new (bare (chars a.start.indent.now ++ place at) ++ added)
           c.in_ok-add_break.ensures.added
           (added-two begun placed new (bare (chars a.start.indent.now ++ place at))
-          added front (last ∙ ap (λ text. placed ++ added_form text e) c.source-text.ensures.value))) c.add_replacement.ensures.added;
+          added front (last ∙ ap (λ text. placed ++ added_form feeds text e) c.source-text.ensures.value))) c.add_replacement.ensures.added;
     }

@@ -18,7 +18,7 @@ pub returns-in_ok-add_place : goal.returns-in_ok-add_place
 returns-in_ok-add_place c =
     let a = c.args in
     let map = a.source.now.map.now in
-    let anonymized = a.source.now.anonymized in
+    let anonymized = a.source.now.settings.anonymized in
     let start = a.ends.start in
     let end = a.ends.end in
     let e : Edit = trimmed_edit_of a.patch.now in
@@ -40,7 +40,7 @@ pub returns-else-overwrites : goal.returns-else-overwrites
 returns-else-overwrites c =
     let a = c.args in
     let map = a.source.now.map.now in
-    let anonymized = a.source.now.anonymized in
+    let anonymized = a.source.now.settings.anonymized in
     let start = a.ends.start in
     let end = a.ends.end in
     let e : Edit = trimmed_edit_of a.patch.now in

@@ -10,7 +10,7 @@ use Rattle.snippet_style.specs.declared.role.ElementStyle.TheVariants.{Addition}
 use Rattle.snippet_suggest.specs.Kind.{is_blank_text}
 use Rattle.snippet_text.specs.Normalized.{norm}
 use Rattle.snippet_text_form.specs.Form.{FormPiece, bare, styled}
-use Rattle.snippet_text_form.specs.Suggestion.{overwrites}
+use Rattle.snippet_text_form.specs.Suggestion.{added_text, before_added, overwrites}
 use Rattle.snippet_text_form.proofs.AddedLemmas.{added-two}
 use Rattle.snippet_text_form.proofs.suggestion.add_replacement.Goals as goal
 use Rattle.snippet_text_form.proofs.suggestion.add_replacement.Goals.{then-overwrites, else-overwrites}
@@ -23,8 +23,9 @@ returns c =
     let new : List FormPiece = c.add_styled.new.self in
     let e : Edit = trimmed_edit_of c.args.patch.now in
     let over = overwrites c.args.source.now e in
-    let lead : List ℕ = if over then codes " replace with: " else codes " add: " in
-    let form : List FormPiece = styled Addition (norm (chars (without_final_line_feeds e.text))) in
+    let lead : List ℕ = before_added c.args.source.now e in
+    let text : List ℕ = added_text c.args.show_line_feeds e in
+    let form : List FormPiece = styled Addition text in
     let given : is_blank_text e.text ≡ false = sym c.is_blank.ensures.value ∙ c.if-is_blank.false in
     let led : chars c.if-overwrites.add_text.now ≡ lead = elim c.if-overwrites.branch [
       | then-overwrites w ↦
@@ -35,9 +36,8 @@ returns c =
           ∙ sym (cond-false over (codes " replace with: ") (codes " add: ") (sym (c.overwrites.ensures.value c.requires.span) ∙ w.if-overwrites.false))
     ] in
     let front : mid ≡ old ++ bare lead = c.in_ok-add_text.ensures.added ∙ ap (λ text. old ++ bare text) led in
-    let shown : chars (cow_str_bytes c.in_ok-normalized.field-0) ≡ norm (chars (without_final_line_feeds e.text)) = c.in_ok-normalized.ensures.value
-    ∙ ap (λ text. norm (chars text)) c.without_final_line_feeds-text.ensures.value in
+    let shown : chars (cow_str_bytes c.in_ok-text.text) ≡ text = c.in_ok-text.ensures.value in
     record {
-      added = on_ok_weaker c.add_styled.result (λ last. added-two old mid new (bare lead) form front (last ∙ ap (λ text. mid ++ styled Addition text) shown)
+      added = on_ok_weaker c.add_styled.result (λ last. added-two old mid new (bare lead) form front (last ∙ ap (λ cs. mid ++ styled Addition cs) shown)
           ∙ ap (λ pieces. old ++ pieces) (sym (cond-false (is_blank_text e.text) [] (bare lead ++ form) given))) c.add_styled.ensures.added;
     }

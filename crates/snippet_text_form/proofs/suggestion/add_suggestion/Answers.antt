@@ -26,7 +26,7 @@ add_patch-requires c =
 
 pub loop-patch-preserved : goal.loop-patch-preserved
 loop-patch-preserved c =
-    let added : Edit → List FormPiece = edit_form c.args.anonymized c.args.suggestion.now.map (chars c.indent_below-indent.result.now)
+    let added : Edit → List FormPiece = edit_form c.args.settings c.args.suggestion.now.map (chars c.indent_below-indent.result.now)
     (option_copied c.shown_path-path.result) in
     edits_more added c.add_option.new.form c.loop-patch.form c.add_patch.new.form c.deref-patch-items.result.now c.loop-patch.patch-index _
     c.loop-patch-test.true c.loop-patch.invariant c.in_ok-add_patch.ensures.added
@@ -42,7 +42,7 @@ returns c =
     ≡ p.splice.patches.items = take_all c.loop-patch.patch-index c.deref-patch-items.result.now c.loop-patch-test.false
     ∙ c.deref-patch-items.ensures.value in
     record {
-      added = suggestion_added a.anonymized a.place p indent path a.form.now begun c.loop-patch.form c.requires.prepared
+      added = suggestion_added a.settings a.place p indent path a.form.now begun c.loop-patch.form c.requires.prepared
           c.indent_below-indent.ensures.value c.shown_path-path.ensures.value c.in_ok-add_option.ensures.added
-          (c.loop-patch.invariant ∙ ap (λ ts. begun ++ flat_map (edit_form a.anonymized p.map indent path) (map trimmed_edit_of ts)) all);
+          (c.loop-patch.invariant ∙ ap (λ ts. begun ++ flat_map (edit_form a.settings p.map indent path) (map trimmed_edit_of ts)) all);
     }

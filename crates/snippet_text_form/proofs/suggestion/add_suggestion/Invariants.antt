@@ -8,5 +8,5 @@ use Rattle.snippet_text_form.proofs.suggestion.add_suggestion.Given as goal
 -- the patches so far are added
 abbrev pub invariant-loop-patch : goal.invariant-loop-patch
 invariant-loop-patch l =
-    l.form ≡ l.initial.form ++ flat_map (edit_form l.anonymized l.suggestion.map (chars l.start.indent.now) (option_copied l.start.path))
+    l.form ≡ l.initial.form ++ flat_map (edit_form l.source.settings l.suggestion.map (chars l.start.indent.now) (option_copied l.start.path))
     (map trimmed_edit_of (take l.patch-index l.patch-items))
