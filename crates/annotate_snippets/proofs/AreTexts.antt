@@ -21,12 +21,12 @@ use Rattle.annotate_snippets.proofs.PreparedLemmas.{group_of}
 
 -- the texts of an annotated snippet that laws speak of: its source and its labels
 pub record IsTextCause (s : Snippet Annotation) : Type 0 where
-  pub utf8 : IsUtf8 (cow_str_bytes s.source)
+  pub utf8 : IsUtf8 (cow_str_bytes s.source.text)
   pub labels : All HasTextLabel s.markers.items
 
 -- and of a suggestion: its source, and the text of the lines that it gives
 pub record IsTextSuggestion (s : Snippet Patch) : Type 0 where
-  pub utf8 : IsUtf8 (cow_str_bytes s.source)
+  pub utf8 : IsUtf8 (cow_str_bytes s.source.text)
   pub given_utf8 : IsUtf8 (given_text s)
 
 abbrev pub IsTextElement : Element → Type 0

@@ -59,24 +59,24 @@ module _ (feeds : Bool) (group element : ℕ) where
       → element_faults group element (Cause b) ≡ element_faults group element (Cause a)
   cause-same a b is =
       ap₂ (λ (x y : List RenderError). x ++ y)
-      (faults-same (IsAnnotationAsSet feeds) (λ n m. span_faults group element (cow_str_bytes a.source) n m.span)
-      (λ n m. span_faults group element (cow_str_bytes b.source) n m.span)
-      (λ n x y pair. ap₂ (λ text span. span_faults group element text n span) is.2 pair.0) 0 a.markers.items b.markers.items is.3)
-      (ap₂ (λ start text. number_faults group element (number_after_lines start text)) is.1 is.2)
+      (faults-same (IsAnnotationAsSet feeds) (λ n m. span_faults group element (cow_str_bytes a.source.text) n m.span)
+      (λ n m. span_faults group element (cow_str_bytes b.source.text) n m.span)
+      (λ n x y pair. ap₂ (λ text span. span_faults group element text n span) is.2.text pair.0) 0 a.markers.items b.markers.items is.3)
+      (ap₂ (λ start text. number_faults group element (number_after_lines start text)) is.1 is.2.text)
 
   -- and so has a suggestion
   suggestion-same : (a b : Snippet Patch) → IsSnippetAsSet feeds SamePatch a b
       → element_faults group element (Suggestion b) ≡ element_faults group element (Suggestion a)
   suggestion-same a b is =
-      let spans = faults-same SamePatch (λ n m. span_faults group element (cow_str_bytes a.source) n m.span)
-      (λ n m. span_faults group element (cow_str_bytes b.source) n m.span)
-      (λ n x y pair. ap₂ (λ text span. span_faults group element text n span) is.2 pair.0) 0 a.markers.items b.markers.items is.3 in
+      let spans = faults-same SamePatch (λ n m. span_faults group element (cow_str_bytes a.source.text) n m.span)
+      (λ n m. span_faults group element (cow_str_bytes b.source.text) n m.span)
+      (λ n x y pair. ap₂ (λ text span. span_faults group element text n span) is.2.text pair.0) 0 a.markers.items b.markers.items is.3 in
       let overlaps : overlap_faults group element b.markers.items ≡ overlap_faults group element a.markers.items =
       ap (λ (es : List Edit). option_to_list (option_map (λ pair. PatchesOverlap group element pair.0 pair.1) (first_overlap es)))
       (edits-same a.markers.items b.markers.items is.3) in
-      let numbers : number_faults group element (number_after_lines b.line_start (cow_str_bytes b.source) + added_lines b.markers.items)
-      ≡ number_faults group element (number_after_lines a.line_start (cow_str_bytes a.source) + added_lines a.markers.items) =
-      ap (number_faults group element) (ap₂ (λ (m n : ℕ). m + n) (ap₂ number_after_lines is.1 is.2)
+      let numbers : number_faults group element (number_after_lines b.line_start (cow_str_bytes b.source.text) + added_lines b.markers.items)
+      ≡ number_faults group element (number_after_lines a.line_start (cow_str_bytes a.source.text) + added_lines a.markers.items) =
+      ap (number_faults group element) (ap₂ (λ (m n : ℕ). m + n) (ap₂ number_after_lines is.1 is.2.text)
       (added-same a.markers.items b.markers.items is.3)) in
       ap₂ (λ (x y : List RenderError). x ++ y) (ap₂ (λ (x y : List RenderError). x ++ y) spans overlaps) numbers
 

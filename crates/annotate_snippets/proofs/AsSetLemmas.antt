@@ -40,6 +40,10 @@ use Rattle.annotate_snippets.specs.Forms.{AreFree, ShowsForm, ShowsReport, Texts
 use Rattle.annotate_snippets.specs.GraphicForm.{graphic_form}
 use Rattle.annotate_snippets.specs.Page.{page_text}
 use Rattle.annotate_snippets.specs.Laws.Free.{IsFreeBut}
+use Rattle.annotate_snippets.specs.Laws.TextLines.{report_paragraphs}
+use Rattle.annotate_snippets.specs.TextForm.{text_form}
+use Rattle.snippet_text_form.specs.Form.{form_text}
+use Rattle.snippet_text_form.specs.Lines.{lines_of_paragraphs}
 use Rattle.annotate_snippets.specs.ShownPage.{report_links}
 use Rattle.annotate_snippets.specs.Gutter.{gutter_of_report}
 use Rattle.annotate_snippets.specs.Written.{IsTextIn, ShowsIn, WritesPart, WritesText}
@@ -327,6 +331,12 @@ graphic-laws Graphic r shown is laws plain = laws.lines plain
 graphic-laws Short r shown is laws plain = cc
 graphic-laws Text r shown is laws plain = cc
 
+text-laws : (form : Form) (r : Renderer) (shown : List Group) → form ≡ Text → FormLaws form r shown → r.show_line_feeds ≡ true → HasOneLineTexts shown
+    → text_lines (form_text (text_form r shown)) ≡ lines_of_paragraphs (report_paragraphs r shown)
+text-laws Text r shown is laws asked plain = laws.lines asked plain
+text-laws Graphic r shown is laws asked plain = cc
+text-laws Short r shown is laws asked plain = cc
+
 around-laws : (form : Form) (r : Renderer) (groups shown : List Group) → IsAsSet form r groups shown → FormLaws form r shown
     → adds_context form r ≡ true → ShowsLinesAround r.context_before r.context_after groups (graphic_form r shown)
 around-laws Graphic r groups shown set laws asked = around-set Graphic r groups shown (graphic_form r shown) set laws asked
@@ -342,6 +352,7 @@ module _ (r : Renderer) (groups shown : List Group) (set : IsAsSet (form_of r) r
     laws = laws;
     one_line = plain-set (form_of r) r groups shown set;
     lines = λ asked graphic. graphic-laws (form_of r) r shown graphic laws.form_laws (plain-set (form_of r) r groups shown set asked);
+    paragraphs = λ asked spoken. text-laws (form_of r) r shown spoken laws.form_laws asked (plain-set (form_of r) r groups shown set asked);
     around = around-laws (form_of r) r groups shown set laws.form_laws;
     wrapped = rewrapped-set (form_of r) r groups shown set;
   }

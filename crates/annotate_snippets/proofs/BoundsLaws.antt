@@ -130,31 +130,31 @@ number-clear group element number fits = ap (λ t. if t then [] else LineNumberT
 
 -- an annotated snippet without a fault: none of its spans has one, and the numbers of so many lines as it has bytes fit
 pub cause-clear : (group element : ℕ) (s : Snippet Annotation)
-    → All (λ (a : Annotation). span_fault (cow_str_bytes s.source) a.span.start a.span.end ≡ None) s.markers.items
-    → s.line_start + (length (cow_str_bytes s.source) + 1) < 2 ^ 64 → element_faults group element (Cause s) ≡ []
+    → All (λ (a : Annotation). span_fault (cow_str_bytes s.source.text) a.span.start a.span.end ≡ None) s.markers.items
+    → s.line_start + (length (cow_str_bytes s.source.text) + 1) < 2 ^ 64 → element_faults group element (Cause s) ≡ []
 cause-clear group element s spans numbers =
-    let few = source_lines-few (cow_str_bytes s.source) in
-    let fits : number_after_lines s.line_start (cow_str_bytes s.source) < 2 ^ 64 = omega (arith, few, numbers) in
-    ap (λ l. l ++ number_faults group element (number_after_lines s.line_start (cow_str_bytes s.source)))
-    (spans-clear (λ (a : Annotation). a.span) group element (cow_str_bytes s.source) s.markers.items spans)
+    let few = source_lines-few (cow_str_bytes s.source.text) in
+    let fits : number_after_lines s.line_start (cow_str_bytes s.source.text) < 2 ^ 64 = omega (arith, few, numbers) in
+    ap (λ l. l ++ number_faults group element (number_after_lines s.line_start (cow_str_bytes s.source.text)))
+    (spans-clear (λ (a : Annotation). a.span) group element (cow_str_bytes s.source.text) s.markers.items spans)
     ∙ number-clear group element _ fits
 
 -- a suggestion without a fault: none of its spans has one, its patches stand one after the other, and the numbers of so many
 -- lines fit as it and they have bytes
 pub suggestion-clear : (group element : ℕ) (s : Snippet Patch)
-    → All (λ (p : Patch). span_fault (cow_str_bytes s.source) p.span.start p.span.end ≡ None) s.markers.items
+    → All (λ (p : Patch). span_fault (cow_str_bytes s.source.text) p.span.start p.span.end ≡ None) s.markers.items
     → AreApart 0 (map edit_of s.markers.items)
-    → s.line_start + (length (cow_str_bytes s.source) + 1) + sum_by (λ (p : Patch). length (cow_str_bytes p.replacement)) s.markers.items < 2 ^ 64
+    → s.line_start + (length (cow_str_bytes s.source.text) + 1) + sum_by (λ (p : Patch). length (cow_str_bytes p.replacement)) s.markers.items < 2 ^ 64
     → element_faults group element (Suggestion s) ≡ []
 suggestion-clear group element s spans apart numbers =
-    let few = source_lines-few (cow_str_bytes s.source) in
+    let few = source_lines-few (cow_str_bytes s.source.text) in
     let feeds : added_lines s.markers.items ≤ sum_by (λ (p : Patch). length (cow_str_bytes p.replacement)) s.markers.items =
     sum_by-le-sum_by (λ (p : Patch). count_by (λ b. b == 10) (cow_str_bytes p.replacement))
     (λ (p : Patch). length (cow_str_bytes p.replacement)) s.markers.items (λ p. count_by-le-length (λ b. b == 10) (cow_str_bytes p.replacement)) in
-    let last = number_after_lines s.line_start (cow_str_bytes s.source) + added_lines s.markers.items in
+    let last = number_after_lines s.line_start (cow_str_bytes s.source.text) + added_lines s.markers.items in
     let fits : last < 2 ^ 64 = omega (arith, few, feeds, numbers) in
     ap (λ l. l ++ overlap_faults group element s.markers.items ++ number_faults group element last)
-    (spans-clear (λ (p : Patch). p.span) group element (cow_str_bytes s.source) s.markers.items spans)
+    (spans-clear (λ (p : Patch). p.span) group element (cow_str_bytes s.source.text) s.markers.items spans)
     ∙ ap (λ p. option_to_list (option_map (λ pair. PatchesOverlap group element pair.0 pair.1) p) ++ number_faults group element last)
     (apart-clear 0 (map edit_of s.markers.items) apart)
     ∙ number-clear group element last fits

@@ -105,9 +105,9 @@ module _ (r : Renderer) (layout : Layout) (around : ElementContext) (s : Snippet
       (place_named around.primary (annotated_lines s.fold (numbered_source s) s.markers.items))
 
   -- the first row names the first place of the snippet's spans
-  names_place : All (λ a. IsSpan (cow_str_bytes s.source) a.span.start a.span.end) s.markers.items → (more : List NamedRow) → around.primary ≡ true
+  names_place : All (λ a. IsSpan (cow_str_bytes s.source.text) a.span.start a.span.end) s.markers.items → (more : List NamedRow) → around.primary ≡ true
       → (path : List ℕ) → path_bytes s.path ≡ Some path → list_any (λ a. is_marking a.kind) s.markers.items ≡ true
-      → All (λ a. is_long (cow_str_bytes s.source) a ≡ false) s.markers.items
+      → All (λ a. is_long (cow_str_bytes s.source.text) a ≡ false) s.markers.items
       → NamesLocation r layout s path (row_at (cells_of (others (cause_head r layout around s) ++ more)) 0)
   names_place spans more primary path has some none =
       let lines : List KeptLine = annotated_lines s.fold (numbered_source s) s.markers.items in
@@ -135,12 +135,12 @@ code_right gutter depth = either (depth == 0)
 -- the cells of a snippet's rows
 pub snippet_cells : (r : Renderer) (layout : Layout) (around : ElementContext) (s : Snippet Annotation)
     → cells_of (snippet_rows r layout around s) ≡ cause_head r layout around s
-    ++ (cells_of (rows_of_lines r layout (closes_with around) s [] (shown_lines s.fold (cow_str_bytes s.source) s.markers.items))
+    ++ (cells_of (rows_of_lines r layout (closes_with around) s [] (shown_lines s.fold (cow_str_bytes s.source.text) s.markers.items))
     ++ rows_after_cause r layout around)
 snippet_cells r layout around s =
     let head : List (List Cell) = cause_head r layout around s in
     let tail : List (List Cell) = rows_after_cause r layout around in
-    let lines : List NamedRow = rows_of_lines r layout (closes_with around) s [] (shown_lines s.fold (cow_str_bytes s.source) s.markers.items) in
+    let lines : List NamedRow = rows_of_lines r layout (closes_with around) s [] (shown_lines s.fold (cow_str_bytes s.source.text) s.markers.items) in
     cells_of-append (others head) (lines ++ others tail) ∙ ap (λ rs. rs ++ cells_of (lines ++ others tail)) (cells_of-others head)
     ∙ ap (λ rs. head ++ rs) (cells_of-append lines (others tail) ∙ ap (λ rs. cells_of lines ++ rs) (cells_of-others tail))
 
@@ -150,7 +150,7 @@ pub cause_shown : (r : Renderer) (layout : Layout) (around : ElementContext) (fo
 cause_shown r layout around found s drawable room texts =
     let src = numbered_source s in
     let closes : Bool = closes_with around in
-    let ks : List ℕ = shown_lines s.fold (cow_str_bytes s.source) s.markers.items in
+    let ks : List ℕ = shown_lines s.fold (cow_str_bytes s.source.text) s.markers.items in
     let place : layout.gutter + 3 ≤ layout.code = omega (arith, room.bars, code_right layout.gutter (depth_of_element (Cause s))) in
     let ready = lines_ready r layout s drawable room texts.labels in
     let named = named_lines r layout s drawable.spans (bounds_ordered r layout s drawable) place closes [] ks ready (All-nil (HasBarRoom layout)) in
@@ -165,7 +165,7 @@ cause_shown r layout around found s drawable room texts =
     (All-map (CanBeShown layout view.margin view.numbers) (info_at s drawable.spans) ks (λ i d within. (ready i d within).1))) in
     let all_free : All IsFree (head ++ (lines ++ tail)) = All-append IsFree head (lines ++ tail) (head_free r layout around s)
     (All-append IsFree lines tail lines_free (after-free r layout around s)) in
-    let text : List ℕ = cow_str_bytes s.source in
+    let text : List ℕ = cow_str_bytes s.source.text in
     let Ends : List ℕ → Type 0 = λ js. All (λ a. Contains js (first_line text a) × Contains js (last_line text a)) s.markers.items in
     let ends : Ends (lines_named after) = subst Ends (sym named.lines) (ends_shown src s.markers.items drawable.spans s.fold) in
     let ordered : IsAscending (lines_named after) = subst IsAscending (sym named.lines) (shown_ascending src s.markers.items drawable.spans s.fold) in

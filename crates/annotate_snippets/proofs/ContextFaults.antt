@@ -13,6 +13,7 @@ use Rattle.snippet_context.specs.Context.{context_spans, visible_mark}
 use Rattle.snippet_context.specs.WithContext.{IsElementSound, IsElementWithContext, IsGroupSound, IsGroupWithContext, HoldsSpan}
 use Rattle.snippet_context.specs.WithContext.{IsSnippetWithContext}
 use Rattle.snippet_lines.proofs.LinesLemmas.{length-source_lines}
+use Rattle.snippet_model.specs.Source.{SourceSeen}
 use Rattle.snippet_model.specs.Fits.{AnnotationFits, ElementFits, GroupFits, ReportFits, TextFits, TitleFits}
 use Rattle.snippet_model.specs.declared.snippet.Annotation.{Annotation}
 use Rattle.snippet_model.specs.declared.snippet.Element.{Element}
@@ -64,11 +65,11 @@ module _ (before after : ℕ) where
   cause-around : (group element : ℕ) (a b : Snippet Annotation) → IsSnippetWithContext before after a b
       → element_faults group element (Cause b) ≡ element_faults group element (Cause a)
   cause-around group element a b is =
-      let text : cow_str_bytes b.source ≡ cow_str_bytes a.source = ap (λ (t : CowStr Global). cow_str_bytes t) is.source in
+      let text : cow_str_bytes b.source.text ≡ cow_str_bytes a.source.text = ap (λ (s : SourceSeen). cow_str_bytes s.text) is.source in
       ap₂ (λ (x y : List RenderError). x ++ y)
       (ap (λ (source : List ℕ). faults_of group element source 0 b.markers.items) text
-      ∙ ap (faults_of group element (cow_str_bytes a.source) 0) is.markers
-      ∙ added-clear group element (cow_str_bytes a.source) 0 a.markers.items (context_spans before after a) is.spans)
+      ∙ ap (faults_of group element (cow_str_bytes a.source.text) 0) is.markers
+      ∙ added-clear group element (cow_str_bytes a.source.text) 0 a.markers.items (context_spans before after a) is.spans)
       (ap₂ (λ start source. number_faults group element (number_after_lines start source)) is.line_start text)
 
   -- and so has each element
@@ -132,7 +133,7 @@ element-sound (Padding padding) drawable = tt
 element-sound (Cause s) drawable =
     record {
       fits = drawable.source;
-      numbers = omega (arith, drawable.numbers, length-source_lines (cow_str_bytes s.source));
+      numbers = omega (arith, drawable.numbers, length-source_lines (cow_str_bytes s.source.text));
       spans = drawable.spans;
     }
 
@@ -156,7 +157,7 @@ added-fit (a ∷ marks) spans fit =
 module _ (before after : ℕ) where
   cause-fits : (a b : Snippet Annotation) → IsSnippetWithContext before after a b → ElementFits (Cause a) → ElementFits (Cause b)
   cause-fits a b is fits = (
-    subst (λ (t : CowStr Global). TextFits (cow_str_bytes t)) (sym is.source) fits.0,
+    subst (λ (s : SourceSeen). TextFits (cow_str_bytes s.text)) (sym is.source) fits.0,
     subst (λ (path : Option (CowStr Global)). IfSome path (λ t. TextFits (cow_str_bytes t))) (sym is.path) fits.1,
     subst (All AnnotationFits) (sym is.markers) (added-fit a.markers.items (context_spans before after a) fits.2),
   )

@@ -132,21 +132,21 @@ keeps-same feeds source k (x ∷ xs) (y ∷ ys) pairs =
 
 -- so a snippet whose texts are as they are set keeps the lines that it kept
 kept-set : (feeds : Bool) (a b : Snippet Annotation) → IsSnippetAsSet feeds (IsAnnotationAsSet feeds) a b
-    → kept_lines b.fold (cow_str_bytes b.source) b.markers.items ≡ kept_lines a.fold (cow_str_bytes a.source) a.markers.items
+    → kept_lines b.fold (cow_str_bytes b.source.text) b.markers.items ≡ kept_lines a.fold (cow_str_bytes a.source.text) a.markers.items
 kept-set feeds a b is =
-    ap₂ (λ (fold : Bool) (source : List ℕ). kept_lines fold source b.markers.items) is.5 is.2
-    ∙ filter_agree (λ k. not a.fold || list_any (keeps (cow_str_bytes a.source) k) b.markers.items)
-    (λ k. not a.fold || list_any (keeps (cow_str_bytes a.source) k) a.markers.items)
-    (λ k. ap (λ (kept : Bool). not a.fold || kept) (keeps-same feeds (cow_str_bytes a.source) k a.markers.items b.markers.items is.3))
-    (range_with_len 0 (length (source_lines (cow_str_bytes a.source))))
+    ap₂ (λ (fold : Bool) (source : List ℕ). kept_lines fold source b.markers.items) is.5 is.2.text
+    ∙ filter_agree (λ k. not a.fold || list_any (keeps (cow_str_bytes a.source.text) k) b.markers.items)
+    (λ k. not a.fold || list_any (keeps (cow_str_bytes a.source.text) k) a.markers.items)
+    (λ k. ap (λ (kept : Bool). not a.fold || kept) (keeps-same feeds (cow_str_bytes a.source.text) k a.markers.items b.markers.items is.3))
+    (range_with_len 0 (length (source_lines (cow_str_bytes a.source.text))))
 
 module _ (before after : ℕ) where
   -- with the lines around them it keeps those near one of them
   lines-near : (feeds : Bool) (a fed b : Snippet Annotation) → IsSnippetAsSet feeds (IsAnnotationAsSet feeds) a fed → IsSnippetWithContext before after fed b
-      → with_between (kept_lines b.fold (cow_str_bytes b.source) b.markers.items) ≡ lines_with_context before after a
+      → with_between (kept_lines b.fold (cow_str_bytes b.source.text) b.markers.items) ≡ lines_with_context before after a
   lines-near feeds a fed b is with =
       ap with_between ((keeps-around before after fed b with).lines
-      ∙ ap₂ (λ (source : List ℕ) (kept : List ℕ). lines_around before after (length (source_lines source)) kept) is.2 (kept-set feeds a fed is))
+      ∙ ap₂ (λ (source : List ℕ) (kept : List ℕ). lines_around before after (length (source_lines source)) kept) is.2.text (kept-set feeds a fed is))
 
   -- ---- the snippet that is shown
 
@@ -154,7 +154,7 @@ module _ (before after : ℕ) where
   record IsAround (a : Snippet Annotation) (e : Element) : Type 0 where
     shown : Snippet Annotation
     is : e ≡ Cause shown
-    lines : with_between (kept_lines shown.fold (cow_str_bytes shown.source) shown.markers.items) ≡ lines_with_context before after a
+    lines : with_between (kept_lines shown.fold (cow_str_bytes shown.source.text) shown.markers.items) ≡ lines_with_context before after a
 
   cause-around : (feeds : Bool) (a : Snippet Annotation) (fed e : Element) → IsElementAsSet feeds (Cause a) fed → IsElementWithContext before after fed e
       → IsAround a e
@@ -183,7 +183,7 @@ module _ (before after : ℕ) where
 
   -- the lines that the rows of a snippet show
   named-shown : (r : Renderer) (layout : Layout) (around : ElementContext) (s : Snippet Annotation) (rows : List NamedRow)
-      → ShowsSnippet r layout around s rows → lines_named rows ≡ with_between (kept_lines s.fold (cow_str_bytes s.source) s.markers.items)
+      → ShowsSnippet r layout around s rows → lines_named rows ≡ with_between (kept_lines s.fold (cow_str_bytes s.source.text) s.markers.items)
   named-shown r layout around s rows shows =
       ap lines_named shows.rows_are ∙ named-between (cause_head r layout around s) (rows_after_cause r layout around) shows.after ∙ shows.lines
 

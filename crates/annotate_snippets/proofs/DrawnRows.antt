@@ -43,7 +43,7 @@ pub record IsLineDrawn (r : Renderer) (layout : Layout) (closes : Bool) (s : Sni
   pub room : margin.term_width ≡ r.term_width - layout.code
   pub margin_is : margin ≡ margin_in r layout s
   pub text : List ℕ
-  pub text_is : text ≡ norm (chars_at (cow_str_bytes s.source) k)
+  pub text_is : text ≡ norm (chars_at (cow_str_bytes s.source.text) k)
   pub dropped : ℕ
   pub dropped_is : dropped ≡ width_of (dropped_part margin.computed_left text)
   pub plain : List Cell

@@ -156,7 +156,7 @@ cause-drawable : (group element : ℕ) (s : Snippet Annotation) → element_faul
 cause-drawable group element s none fits = record {
   source = fits.0;
   numbers = number-faultless group element _ (back_none _ _ none);
-  spans = spans-faultless (λ (a : Annotation). a.span) group element 0 (cow_str_bytes s.source) s.markers.items (front_none _ _ none);
+  spans = spans-faultless (λ (a : Annotation). a.span) group element 0 (cow_str_bytes s.source.text) s.markers.items (front_none _ _ none);
   labels = fits.2;
 }
 
@@ -167,9 +167,9 @@ without_more number more fits = omega arith
 -- so can a snippet of patches
 suggestion-drawable : (group element : ℕ) (s : Snippet Patch) → element_faults group element (Suggestion s) ≡ [] → ElementFits (Suggestion s) → IsSuggestible s
 suggestion-drawable group element s none fits =
-    let last : ℕ = number_after_lines s.line_start (cow_str_bytes s.source) in
+    let last : ℕ = number_after_lines s.line_start (cow_str_bytes s.source.text) in
     let all = number-faultless group element (last + added_lines s.markers.items) (back_none _ _ none) in
-    let spans = spans-faultless (λ (p : Patch). p.span) group element 0 (cow_str_bytes s.source) s.markers.items (front_none _ _ (front_none _ _ none)) in
+    let spans = spans-faultless (λ (p : Patch). p.span) group element 0 (cow_str_bytes s.source.text) s.markers.items (front_none _ _ (front_none _ _ none)) in
     let disjoint = first_overlap-clear (map edit_of s.markers.items)
     (no_overlap group element (first_overlap (map edit_of s.markers.items)) (back_none _ _ (front_none _ _ none))) in
     record { source = fits.0; lines = without_more last _ all; spans = spans; disjoint = disjoint; numbers = numbers-bound s spans disjoint all }

@@ -5,6 +5,7 @@ use Rattle.std.specs.Fmt.{digits}
 use Rattle.std.specs.Str.{chars}
 use Rattle.snippet_style.specs.declared.glyphs.DecorStyle.TheVariants.{Ascii}
 use Rattle.snippet_grid.specs.Print.{row_text}
+use Rattle.snippet_model.specs.Source.{unindexed}
 use Rattle.snippet_model.specs.declared.snippet.Annotation.{Annotation}
 use Rattle.snippet_model.specs.declared.snippet.AnnotationKind.{AnnotationKind}
 use Rattle.snippet_model.specs.declared.snippet.AnnotationKind.TheVariants.{Primary, Context}
@@ -28,7 +29,7 @@ marked v source marks few =
     record {
       path = None;
       line_start = 1;
-      source = text_of source;
+      source = unindexed (text_of source);
       markers = record { ptr = v.ptr; len = length marks; cap = length marks; alloc = v.alloc; items = marks; ok = (refl, omega arith); small = few };
       line_numbering = true;
       fold = true;

@@ -115,7 +115,7 @@ module _ (r : Renderer) (layout : Layout) (s : Snippet Annotation) where
   line_some : (closes : Bool) (open_bars : List Bar) (k : ℕ) → 0 < length (rows_of_line r layout closes s open_bars k)
   line_some closes open_bars k =
       let margin : Margin = margin_in r layout s in
-      let text : List ℕ = norm (chars_at (cow_str_bytes s.source) k) in
+      let text : List ℕ = norm (chars_at (cow_str_bytes s.source.text) k) in
       line_rows-some layout margin.term_width closes text (width_of (dropped_part margin.computed_left text)) _ open_bars
       (entries_on s k)
 

@@ -101,9 +101,9 @@ fold-ends (a ∷ marks) m =
     (omega (arith, fold-end-ge marks (max m a.span.end))) (fold-ends marks (max m a.span.end))
 
 -- each line that a span ends on has a number at most one more than the number counted for the gutter
-lines_counted : (s : Snippet Annotation) → All (λ a. last_line (cow_str_bytes s.source) a ≤ newline_count (reached_source s) + 1) s.markers.items
+lines_counted : (s : Snippet Annotation) → All (λ a. last_line (cow_str_bytes s.source.text) a ≤ newline_count (reached_source s) + 1) s.markers.items
 lines_counted s = λ k d within.
-    let source : List ℕ = cow_str_bytes s.source in
+    let source : List ℕ = cow_str_bytes s.source.text in
     let marks : List Annotation = s.markers.items in
     let ends : (get_or marks k d).span.end ≤ greatest_end marks = fold-ends marks 0 k d within in
     let folded : last_line source (get_or marks k d) ≤ newline_count (take (greatest_end marks) source) + 1 = first_line-counted source
@@ -124,11 +124,11 @@ kept_before source a k kept =
     grind (arith, nat_tests, last)
 
 -- so each kept line's number is at most one more than that
-kept-counted : (s : Snippet Annotation) → All (λ k. k ≤ newline_count (reached_source s) + 1) (kept_lines s.fold (cow_str_bytes s.source) s.markers.items)
+kept-counted : (s : Snippet Annotation) → All (λ k. k ≤ newline_count (reached_source s) + 1) (kept_lines s.fold (cow_str_bytes s.source.text) s.markers.items)
 kept-counted s = by_cases s.fold refl
   where
     source : List ℕ
-    source = cow_str_bytes s.source
+    source = cow_str_bytes s.source.text
 
     all : List ℕ
     all = range_with_len 0 (length (source_lines source))
@@ -236,9 +236,9 @@ counted-width r layout s room = by_cases s.line_numbering refl r.anonymized_snip
     by_cases false off anonymized is = omega arith
 
 -- the number counted for the gutter fits, where those of the lines do
-pub counted-small : (s : Snippet Annotation) → s.line_start + length (source_lines (cow_str_bytes s.source)) < 2 ^ 64 → counted_number s < 2 ^ 64
+pub counted-small : (s : Snippet Annotation) → s.line_start + length (source_lines (cow_str_bytes s.source.text)) < 2 ^ 64 → counted_number s < 2 ^ 64
 counted-small s fits =
-    let source : List ℕ = cow_str_bytes s.source in
+    let source : List ℕ = cow_str_bytes s.source.text in
     let folded : newline_count (take (greatest_end s.markers.items) source) ≤ newline_count source + 1 = newline_count-take source
     (greatest_end s.markers.items) in
     let low : newline_count (reached_source s) ≤ newline_count source + 1 = elim (s.fold && not (length s.markers.items == 0)) as (λ b.
@@ -248,10 +248,10 @@ counted-small s fits =
 -- what the gutter shows beside the lines of a snippet takes at most one cell more than the gutter has
 pub numbers_fit : (r : Renderer) (layout : Layout) (s : Snippet Annotation) (infos : List AnnotatedLineInfo) → HasRoomFor r layout (Cause s)
     → IsDrawable s → map seen_kept infos ≡ map (kept_line (numbered_source s) s.markers.items)
-    (shown_lines s.fold (cow_str_bytes s.source) s.markers.items)
+    (shown_lines s.fold (cow_str_bytes s.source.text) s.markers.items)
     → All (λ info. length (shown_number (line_numbers r s.line_numbering) layout.gutter info.line_index) ≤ layout.gutter + 1) infos
 numbers_fit r layout s infos room drawable lines =
-    let source : List ℕ = cow_str_bytes s.source in
+    let source : List ℕ = cow_str_bytes s.source.text in
     let numbers : LineNumbers = line_numbers r s.line_numbering in
     let Counted : KeptLine → Type 0 = λ l. l.number ≤ counted_number s + 1 in
     let Small : KeptLine → Type 0 = λ l. l.number < 2 ^ 64 in

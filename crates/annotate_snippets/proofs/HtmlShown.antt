@@ -5,11 +5,12 @@ use Rattle.std.specs.List.{flat_map, join_with_byte, list_all}
 use Rattle.std.proofs.lemmas.Bool.Decides.{nat_tests}
 use Rattle.std.proofs.lemmas.List.{append_assoc, append-nil, length-map, take_all}
 use Rattle.std.proofs.lemmas.Grind.{flat_map-append}
-use Rattle.snippet_grid.proofs.HtmlLaws.{made-append, made_rows, rows_chars, says_rows}
+use Rattle.snippet_grid.proofs.HtmlLaws.{chars_read, made-append, made_rows, rows_chars, says_rows}
 use Rattle.snippet_grid.proofs.HtmlLemmas.{adds_both}
 use Rattle.snippet_grid.proofs.HtmlReads.{html_says_pieces, is_made, piece_says, tags_are}
 use Rattle.snippet_grid.specs.Html.{AddsHtml, HtmlPiece, Text, html_bytes, html_text, plain_look, rows_html}
-use Rattle.snippet_grid.specs.HtmlRead.{ReadChar, chars_of_rows, chars_read, feed_read}
+use Rattle.snippet_grid.proofs.HtmlStands.{html_reads_pieces}
+use Rattle.snippet_grid.specs.HtmlRead.{ReadChar, as_read, chars_of_rows, feed_read}
 use Rattle.snippet_grid.specs.Print.{plain_text}
 use Rattle.snippet_model.specs.declared.snippet.Group.{Group}
 use Rattle.snippet_style.specs.declared.role.LevelInner.{LevelInner}
@@ -192,5 +193,5 @@ html_laws r groups text is =
       text_is = is;
       says = html_says_pieces (page_html levels page) (made_page levels page) ∙ says_page levels page same;
       tags = tags_are (page_html levels page) (made_page levels page);
-      stands = stands_page levels page;
+      stands = html_reads_pieces (page_html levels page) (made_page levels page) ∙ ap (map as_read) (stands_page levels page);
     }

@@ -36,13 +36,13 @@ use Rattle.annotate_snippets.specs.declared.renderer.Renderer.{Renderer}
 use Rattle.annotate_snippets.proofs.GutterLemmas.{numbers_fit}
 use Rattle.annotate_snippets.proofs.PartsFacts.{lines_entries, shown_clear, snippet_shown-within}
 
-module _ (s : Snippet Annotation) (spans : All (λ a. IsSpan (cow_str_bytes s.source) a.span.start a.span.end) s.markers.items) where
+module _ (s : Snippet Annotation) (spans : All (λ a. IsSpan (cow_str_bytes s.source.text) a.span.start a.span.end) s.markers.items) where
   -- line k with its entries, of which there are no more than spans
   abbrev pub info_at : ℕ → AnnotatedLineInfo
   info_at k =
       let es : List LineAnnotation = entries_on s k in
       record {
-        line = record { ref_ptr = (0, 0); now = text_at (source_lines (cow_str_bytes s.source)) k };
+        line = record { ref_ptr = (0, 0); now = text_at (source_lines (cow_str_bytes s.source.text)) k };
         line_index = s.line_start + k;
         annotations = record {
           ptr = s.markers.ptr;
@@ -57,7 +57,7 @@ module _ (s : Snippet Annotation) (spans : All (λ a. IsSpan (cow_str_bytes s.so
             parts_on-few (numbered_source s) s.markers.items k spans,
           );
         };
-        keep = list_any (λ (a : Annotation). not (is_marking a.kind) && touches (cow_str_bytes s.source) a k) s.markers.items;
+        keep = list_any (λ (a : Annotation). not (is_marking a.kind) && touches (cow_str_bytes s.source.text) a k) s.markers.items;
       }
 
   -- it is seen as line k
@@ -77,7 +77,7 @@ module _ (s : Snippet Annotation) (spans : All (λ a. IsSpan (cow_str_bytes s.so
   -- a line of the source that can be shown
   abbrev pub IsReadyLine : Renderer → Layout → ℕ → Type 0
   IsReadyLine r layout k =
-      (k < length (source_lines (cow_str_bytes s.source)))
+      (k < length (source_lines (cow_str_bytes s.source.text)))
       × CanBeShown layout (margin_in r layout s) (line_numbers r s.line_numbering) (info_at k)
 
   -- the labels of entries are texts, where those of annotations are
@@ -95,16 +95,16 @@ module _ (r : Renderer) (layout : Layout) (s : Snippet Annotation) (drawable : I
   room = room_of r layout
 
   abbrev kept : List AnnotatedLineInfo
-  kept = map (info_at s drawable.spans) (kept_lines s.fold (cow_str_bytes s.source) s.markers.items)
+  kept = map (info_at s drawable.spans) (kept_lines s.fold (cow_str_bytes s.source.text) s.markers.items)
 
   kept_is : map seen_kept kept ≡ annotated_lines s.fold source marks
-  kept_is = infos_seen s drawable.spans (kept_lines s.fold (cow_str_bytes s.source) s.markers.items)
+  kept_is = infos_seen s drawable.spans (kept_lines s.fold (cow_str_bytes s.source.text) s.markers.items)
 
   margin_is : margin_in r layout s ≡ margin_of_lines room kept
   margin_is = sym (margin_seen room kept ∙ ap (margin_of room) kept_is)
 
   places : AllEntries HasColumnRoom kept
-  places = places-fit source marks (kept_lines s.fold (cow_str_bytes s.source) s.markers.items) kept kept_is drawable.source
+  places = places-fit source marks (kept_lines s.fold (cow_str_bytes s.source.text) s.markers.items) kept kept_is drawable.source
 
   -- the bounds of a snippet's window are in order
   pub bounds_ordered : (margin_in r layout s).computed_left ≤ (margin_in r layout s).computed_right
@@ -118,9 +118,9 @@ module _ (r : Renderer) (layout : Layout) (s : Snippet Annotation) (drawable : I
 
   -- each line that is shown can be drawn
   pub lines_ready : HasRoomFor r layout (Cause s) → All labels.HasTextLabel s.markers.items
-      → All (IsReadyLine s drawable.spans r layout) (shown_lines s.fold (cow_str_bytes s.source) s.markers.items)
+      → All (IsReadyLine s drawable.spans r layout) (shown_lines s.fold (cow_str_bytes s.source.text) s.markers.items)
   lines_ready fits texts =
-      let ks : List ℕ = shown_lines s.fold (cow_str_bytes s.source) s.markers.items in
+      let ks : List ℕ = shown_lines s.fold (cow_str_bytes s.source.text) s.markers.items in
       let at : ℕ → AnnotatedLineInfo = info_at s drawable.spans in
       let infos : List AnnotatedLineInfo = map at ks in
       let same : map seen_kept infos ≡ map (kept_line source marks) ks = infos_seen s drawable.spans ks in

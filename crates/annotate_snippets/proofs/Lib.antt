@@ -88,6 +88,7 @@ pub mod SuggestFeedLaws
 pub mod SuggestionLemmas
 pub mod SuggestionLines
 pub mod SuggestionShown
+pub mod TextParagraphLaws
 pub mod TextLineLaws
 pub mod TextShown
 pub mod TitleNumbers

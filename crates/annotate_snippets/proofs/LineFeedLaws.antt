@@ -383,7 +383,7 @@ entries_plain s k es are plain =
 abbrev IsRowOfText : NamedRow → Type 0
 IsRowOfText row = HasNoFeed row.cells
 
-module _ (r : Renderer) (layout : Layout) (closes : Bool) (s : Snippet Annotation) (utf8 : IsUtf8 (cow_str_bytes s.source))
+module _ (r : Renderer) (layout : Layout) (closes : Bool) (s : Snippet Annotation) (utf8 : IsUtf8 (cow_str_bytes s.source.text))
     (plain : All IsOneLineLabel s.markers.items) where
   line_below : (open_bars : List Bar) (k : ℕ) (row : List Cell) (below : List (List Cell)) (ends : Bool) → IsLineDrawn r layout ends s open_bars k (row ∷ below)
       → All HasNoFeed below
@@ -395,7 +395,7 @@ module _ (r : Renderer) (layout : Layout) (closes : Bool) (s : Snippet Annotatio
       → IsRowDrawn r layout closes s open_bars name cells rows → All HasNoFeed (rows_below (record { name = name; cells = cells } ∷ rows))
       → HasNoFeed cells × All HasNoFeed (rows_below rows)
   one_row open_bars (SourceRow k) cells rows shows drawn below = (
-    source_one_line r layout s k shows.dropped cells shows.line (line_plain (cow_str_bytes s.source) k utf8),
+    source_one_line r layout s k shows.dropped cells shows.line (line_plain (cow_str_bytes s.source.text) k utf8),
     line_below open_bars k cells
         (rows_below rows) _ drawn,
   )
@@ -416,7 +416,7 @@ module _ (r : Renderer) (layout : Layout) (closes : Bool) (s : Snippet Annotatio
 -- where no label holds a line feed, no row of a snippet's lines holds one: each is one line of the text
 pub lines_one_line : (r : Renderer) (layout : Layout) (closes : Bool) (s : Snippet Annotation) (rows : List NamedRow)
     → AreRowsOf r layout closes s rows → AreRowsDrawn r layout closes s [] rows → rows_below rows ≡ []
-    → IsUtf8 (cow_str_bytes s.source) → All IsOneLineLabel s.markers.items → All HasNoFeed (cells_of rows)
+    → IsUtf8 (cow_str_bytes s.source.text) → All IsOneLineLabel s.markers.items → All HasNoFeed (cells_of rows)
 lines_one_line r layout closes s rows shows drawn begins utf8 plain =
     let all = all_rows r layout closes s utf8 plain [] rows shows drawn (subst (All HasNoFeed) (sym begins) (All-nil HasNoFeed)) in
     All-map HasNoFeed (λ (row : NamedRow). row.cells) rows all

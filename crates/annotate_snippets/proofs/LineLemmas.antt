@@ -45,7 +45,8 @@ use Rattle.snippet_grid.specs.Layout.{Layout}
 use Rattle.snippet_strokes.proofs.SnippetLemmas.{highlighted_left, highlighted_text}
 use Rattle.annotate_snippets.specs.declared.renderer.Renderer.{Renderer}
 use Rattle.annotate_snippets.specs.Gutter.{line_numbers, number_text, numbered_source}
-use Rattle.annotate_snippets.specs.Laws.Lines.{IsRowBelow, ShowsSourceLine, cells_left, wide_spans}
+use Rattle.annotate_snippets.specs.Laws.Lines.{IsRowBelow, ShowsSourceLine, cells_left, is_uncut_line, wide_spans}
+use Rattle.snippet_strokes.specs.Strokes.{is_uncut}
 use Rattle.annotate_snippets.specs.Laws.Labels.{ShowsLabels}
 use Rattle.annotate_snippets.specs.Laws.Marks.{ShowsMarksOf, shown_label}
 use Rattle.annotate_snippets.specs.GraphicForm.{margin_in}
@@ -108,9 +109,9 @@ count-none p (x ∷ xs) none =
     negated false is = refl
 
 module _ (s : Snippet Annotation) (es : List LineAnnotation) (k : ℕ)
-    (same : es ≡ map (single_part (numbered_source s)) (filter (is_marked_on (cow_str_bytes s.source) k) s.markers.items)) where
+    (same : es ≡ map (single_part (numbered_source s)) (filter (is_marked_on (cow_str_bytes s.source.text) k) s.markers.items)) where
   abbrev marked : List Annotation
-  marked = filter (is_marked_on (cow_str_bytes s.source) k) s.markers.items
+  marked = filter (is_marked_on (cow_str_bytes s.source.text) k) s.markers.items
 
   -- each of them stands for a whole span
   pub all_single : list_all is_single es ≡ true
@@ -146,7 +147,7 @@ single_columns dropped es all clear = λ i d within.
     no_bar (MultilineLine depth) is = cc
 
 module _ (r : Renderer) (layout : Layout) (s : Snippet Annotation)
-    (spans : All (λ a. IsSpan (cow_str_bytes s.source) a.span.start a.span.end) s.markers.items) (margin : Margin)
+    (spans : All (λ a. IsSpan (cow_str_bytes s.source.text) a.span.start a.span.end) s.markers.items) (margin : Margin)
     (room : margin.term_width ≡ room_of r layout) (margin_is : margin ≡ margin_in r layout s)
     (ordered : margin.computed_left ≤ margin.computed_right) where
   abbrev row_shows : Bool → List Bar → AnnotatedLineInfo → List (List Cell) → Type 0
@@ -156,12 +157,12 @@ module _ (r : Renderer) (layout : Layout) (s : Snippet Annotation)
   placeholder_width = length (placeholder_of layout.decor)
 
   module _ (closes : Bool) (open_bars : List Bar) (k : ℕ) (info : AnnotatedLineInfo) (rows : List (List Cell))
-      (within : k < length (source_lines (cow_str_bytes s.source))) (seen : seen_kept info ≡ kept_line (numbered_source s) s.markers.items k)
+      (within : k < length (source_lines (cow_str_bytes s.source.text))) (seen : seen_kept info ≡ kept_line (numbered_source s) s.markers.items k)
       (fits : length (shown_number (line_numbers r s.line_numbering) layout.gutter info.line_index) ≤ layout.gutter + 1)
       (shows : row_shows closes open_bars info rows)
       (rows_show : AreSeen layout margin.term_width (map (shifted shows.dropped) info.annotations.items) closes shows.highlighted rows) where
     abbrev text : List ℕ
-    text = norm (chars_at (cow_str_bytes s.source) k)
+    text = norm (chars_at (cow_str_bytes s.source.text) k)
 
     abbrev shown : List ℕ
     shown = shown_number (line_numbers r s.line_numbering) layout.gutter info.line_index
@@ -214,22 +215,22 @@ module _ (r : Renderer) (layout : Layout) (s : Snippet Annotation)
         ∙ ap (λ cs. width_of (dropped_part (margin_in r layout s).computed_left cs)) line_text
 
     -- where the line stands whole, nothing is dropped and nothing is cut
-    whole_text : stands_whole (room_of r layout) placeholder_width s.fold (cow_str_bytes s.source) s.markers.items k ≡ true
+    whole_text : stands_whole (room_of r layout) placeholder_width s.fold (cow_str_bytes s.source.text) s.markers.items k ≡ true
         → (shows.dropped ≡ 0) × (row_text (drop layout.code rows_show.source) ≡ text)
     whole_text stands =
         let left : (margin_in r layout s).computed_left ≡ 0 = stands_left (numbered_source s) s.markers.items spans
         (room_of r layout) placeholder_width s.fold k stands in
         let parts = and_parts _ _ stands in
-        let narrow : list_all (λ a. not (is_marked_on (cow_str_bytes s.source) k a
-        && is_wide (room_of r layout) placeholder_width (cow_str_bytes s.source) a)) s.markers.items ≡ true = parts.1 in
+        let narrow : list_all (λ a. not (is_marked_on (cow_str_bytes s.source.text) k a
+        && is_wide (room_of r layout) placeholder_width (cow_str_bytes s.source.text) a)) s.markers.items ≡ true = parts.1 in
         let none : wide_spans (room_of r layout) placeholder_width s k
-        ≡ 0 = count-none (λ a. is_marked_on (cow_str_bytes s.source) k a
-        && is_wide (room_of r layout) placeholder_width (cow_str_bytes s.source) a) s.markers.items narrow in
-        let own_fits : width_of (chars_at (cow_str_bytes s.source) k) ≤ room_of r layout = le_of _ _ (and_parts _ _ (and_parts _ _ parts.0).0).0 in
+        ≡ 0 = count-none (λ a. is_marked_on (cow_str_bytes s.source.text) k a
+        && is_wide (room_of r layout) placeholder_width (cow_str_bytes s.source.text) a) s.markers.items narrow in
+        let own_fits : width_of (chars_at (cow_str_bytes s.source.text) k) ≤ room_of r layout = le_of _ _ (and_parts _ _ (and_parts _ _ parts.0).0).0 in
         let at_left : margin.computed_left ≡ 0 = ap (λ (m : Margin). m.computed_left) margin_is ∙ left in
         let uncut : drop layout.code rows_show.source ≡ drop layout.code shows.highlighted = rows_show.beside.uncut (wide_is ∙ none) in
         let narrow_text : width_of (norm (chars info.line.now)) ≤ margin.term_width = omega
-        (arith, room, own_fits, ap width_of line_text, width_of-norm (chars_at (cow_str_bytes s.source) k)) in
+        (arith, room, own_fits, ap width_of line_text, width_of-norm (chars_at (cow_str_bytes s.source.text) k)) in
         let all : row_text (drop layout.code shows.plain) ≡ text = ap row_text (shows.shows.shows.code
         ∙ window_cells-whole layout.decor margin (norm (chars info.line.now)) at_left narrow_text)
         ∙ row_text-text_cells Quotation (norm (chars info.line.now)) ∙ line_text in (
@@ -267,29 +268,33 @@ module _ (r : Renderer) (layout : Layout) (s : Snippet Annotation)
           whole = whole_text;
         }
 
-    -- no label of the spans that end on the line is lost, where none of its spans is cut
-    pub labels_of_line : wide_spans (room_of r layout) placeholder_width s k ≡ 0 → ShowsLabels layout.decor layout s k shows.dropped rows_show.below
+    -- no label of the spans that end on the line is lost, where none of its entries is cut
+    pub labels_of_line : is_uncut_line r layout s k shows.dropped ≡ true → ShowsLabels layout.decor layout s k shows.dropped rows_show.below
     labels_of_line uncut =
         let parts : es ≡ parts_on (numbered_source s) s.markers.items k = ap (λ (l : KeptLine). l.parts) seen in
-        let stand = rows_show.strokes.labels (wide_is ∙ uncut) (labelled_at_end (numbered_source s) s.markers.items k shows.dropped es parts) in
+        let same_entries : is_uncut margin.term_width layout.decor (map (shifted shows.dropped) es) ≡ is_uncut_line r layout s k shows.dropped =
+        ap (λ n. is_uncut n layout.decor (map (shifted shows.dropped) es)) room
+        ∙ ap (λ ps. is_uncut (room_of r layout) layout.decor (map (shifted shows.dropped) ps)) parts in
+        let stand = rows_show.strokes.labels (same_entries ∙ uncut) (labelled_at_end (numbered_source s) s.markers.items k shows.dropped es parts) in
         labels_shown s k shows.dropped layout layout es rows_show.below refl parts shows.clear stand
 
     -- where the line qualifies, its strokes are those of whole spans
-    module _ (qualifies : qualifies_for_marks (room_of r layout) placeholder_width (cow_str_bytes s.source) s.markers.items k ≡ true) where
+    module _ (qualifies : qualifies_for_marks (room_of r layout) placeholder_width (cow_str_bytes s.source.text) s.markers.items k ≡ true) where
       abbrev moved : List LineAnnotation
       moved = map (shifted shows.dropped) es
 
-      qualified_parts : (list_any (is_marked_on (cow_str_bytes s.source) k) s.markers.items ≡ true)
-          × (list_all (λ a. not (is_marked_on (cow_str_bytes s.source) k a && is_wide (room_of r layout) placeholder_width (cow_str_bytes s.source) a))
+      qualified_parts : (list_any (is_marked_on (cow_str_bytes s.source.text) k) s.markers.items ≡ true)
+          × (list_all
+          (λ a. not (is_marked_on (cow_str_bytes s.source.text) k a && is_wide (room_of r layout) placeholder_width (cow_str_bytes s.source.text) a))
           s.markers.items ≡ true) × (list_all
-          (λ a. not (is_marking a.kind && touches (cow_str_bytes s.source) a k && not (is_single_line (cow_str_bytes s.source) a)))
+          (λ a. not (is_marking a.kind && touches (cow_str_bytes s.source.text) a k && not (is_single_line (cow_str_bytes s.source.text) a)))
           s.markers.items ≡ true)
       qualified_parts =
           let outer = and_parts _ _ qualifies in
           let inner = and_parts _ _ outer.0 in
           (inner.0, inner.1, outer.1)
 
-      same_parts : es ≡ map (single_part (numbered_source s)) (filter (is_marked_on (cow_str_bytes s.source) k) s.markers.items)
+      same_parts : es ≡ map (single_part (numbered_source s)) (filter (is_marked_on (cow_str_bytes s.source.text) k) s.markers.items)
       same_parts = ap (λ (l : KeptLine). l.parts) seen ∙ untouched (numbered_source s) s.markers.items spans k qualified_parts.2
 
       single : list_all is_single es ≡ true
@@ -310,8 +315,8 @@ module _ (r : Renderer) (layout : Layout) (s : Snippet Annotation)
       plain : are_plain margin.term_width layout.decor moved ≡ true
       plain =
           let none : wide_spans (room_of r layout) placeholder_width s k
-          ≡ 0 = count-none (λ a. is_marked_on (cow_str_bytes s.source) k a
-          && is_wide (room_of r layout) placeholder_width (cow_str_bytes s.source) a) s.markers.items qualified_parts.1 in
+          ≡ 0 = count-none (λ a. is_marked_on (cow_str_bytes s.source.text) k a
+          && is_wide (room_of r layout) placeholder_width (cow_str_bytes s.source.text) a) s.markers.items qualified_parts.1 in
           let narrow : (wide_entries margin.term_width layout.decor moved == 0)
           ≡ true = eq-eqb (wide_entries margin.term_width layout.decor moved) 0 (wide_is ∙ none) in
           and_from (list_all is_single moved) (list_all has_column moved && wide_entries margin.term_width layout.decor moved == 0)
@@ -356,7 +361,7 @@ module _ (r : Renderer) (layout : Layout) (s : Snippet Annotation)
                 let after = marks_are.lone (shifted d e) (ap (map (shifted d)) own.1) (omega (arith, is.start, is.end, right))
                 (omega (arith, label, ap length is.label)) in
                 subst (λ c. row_text (drop c row) ≡ 32 ∷ shown_label a)
-                (let at : layout.code + (e.end.display - d) ≡ layout.code + end_column (cow_str_bytes s.source) a - d = omega (
+                (let at : layout.code + (e.end.display - d) ≡ layout.code + end_column (cow_str_bytes s.source.text) a - d = omega (
                   arith,
                   is.end,
                   is.start,

@@ -69,9 +69,9 @@ module _ (layout : Layout) (s : Snippet Annotation) (rows : List NamedRow) (show
   -- the row stands between the lines of a span of several lines
   record GoesPast (a : Annotation) : Type 0 where
     among : Contains s.markers.items a
-    long : is_long (cow_str_bytes s.source) a ≡ true
-    first : first_line (cow_str_bytes s.source) a < line_beside above row.name
-    last : line_beside above row.name < last_line (cow_str_bytes s.source) a
+    long : is_long (cow_str_bytes s.source.text) a ≡ true
+    first : first_line (cow_str_bytes s.source.text) a < line_beside above row.name
+    last : line_beside above row.name < last_line (cow_str_bytes s.source.text) a
 
   has_bar : (a : Annotation) → GoesPast a → slice_index_or row.cells (bar_cell_of layout s a) SPACE ≡ SPACE → ⊥
   has_bar a past empty =
@@ -85,23 +85,25 @@ module _ (layout : Layout) (s : Snippet Annotation) (rows : List NamedRow) (show
   --     2 |     b
   --     3 | | }
   --       | |_^
-  pub bar_left_out : (a : Annotation) → Contains s.markers.items a → is_long (cow_str_bytes s.source) a ≡ true
-      → first_line (cow_str_bytes s.source) a < line_beside above row.name → line_beside above row.name < last_line (cow_str_bytes s.source) a
+  pub bar_left_out : (a : Annotation) → Contains s.markers.items a → is_long (cow_str_bytes s.source.text) a ≡ true
+      → first_line (cow_str_bytes s.source.text) a < line_beside above row.name → line_beside above row.name < last_line (cow_str_bytes s.source.text) a
       → slice_index_or row.cells (bar_cell_of layout s a) SPACE ≡ SPACE → ⊥
   bar_left_out a among long first last empty = has_bar a (record { among = among; long = long; first = first; last = last }) empty
 
   -- a cell of bars, in a snippet that has no span of several lines
-  clear_of_bars : All (λ a. is_long (cow_str_bytes s.source) a ≡ false) s.markers.items → (c : ℕ) → layout.gutter + 3 ≤ c → c < layout.code
+  clear_of_bars : All (λ a. is_long (cow_str_bytes s.source.text) a ≡ false) s.markers.items → (c : ℕ) → layout.gutter + 3 ≤ c → c < layout.code
       → (slice_index_or row.cells c SPACE ≡ SPACE) ⊎ ((shows_lines row.name ≡ false) × IsNoBar layout.decor (slice_index_or row.cells c SPACE))
   clear_of_bars none c from to =
-      shown.others above row below is c from to (All-weaker (λ (a : Annotation). is_long (cow_str_bytes s.source) a ≡ false)
-      (λ a. is_long (cow_str_bytes s.source) a ≡ true → touches (cow_str_bytes s.source) a (line_beside above row.name) ≡ true → bar_cell_of layout s a ≢ c)
-      (λ a short long touched same. both_ways (is_long (cow_str_bytes s.source) a) short long) s.markers.items none)
+      shown.others above row below is c from to (All-weaker (λ (a : Annotation). is_long (cow_str_bytes s.source.text) a ≡ false)
+      (λ a. is_long (cow_str_bytes s.source.text) a ≡ true → touches (cow_str_bytes s.source.text) a (line_beside above row.name) ≡ true
+      → bar_cell_of layout s a ≢ c)
+      (λ a short long touched same. both_ways (is_long (cow_str_bytes s.source.text) a) short long) s.markers.items none)
 
   -- a bar of no span, beside a line or lines that are left out, in a snippet that has no span of several lines:
   --
   --     2 ┃ b
-  pub bar_of_no_span : All (λ a. is_long (cow_str_bytes s.source) a ≡ false) s.markers.items → shows_lines row.name ≡ true → (c : ℕ) → layout.gutter + 3 ≤ c
+  pub bar_of_no_span : All (λ a. is_long (cow_str_bytes s.source.text) a ≡ false) s.markers.items → shows_lines row.name ≡ true → (c : ℕ)
+      → layout.gutter + 3 ≤ c
       → c < layout.code → (slice_index_or row.cells c SPACE ≡ SPACE → ⊥) → ⊥
   bar_of_no_span none shows c from to filled =
       elim (clear_of_bars none c from to) [
@@ -113,7 +115,7 @@ module _ (layout : Layout) (s : Snippet Annotation) (rows : List NamedRow) (show
   --
   --     2 | b
   --       ┃ ^
-  pub bar_of_no_span_below : All (λ a. is_long (cow_str_bytes s.source) a ≡ false) s.markers.items → (bar : Bar)
+  pub bar_of_no_span_below : All (λ a. is_long (cow_str_bytes s.source.text) a ≡ false) s.markers.items → (bar : Bar)
       → layout.gutter + 3 ≤ layout.gutter + 2 + bar.depth → layout.gutter + 2 + bar.depth < layout.code
       → slice_index_or row.cells (layout.gutter + 2 + bar.depth) SPACE ≡ bar_beside layout Other bar → ⊥
   bar_of_no_span_below none bar from to there =
@@ -132,8 +134,8 @@ module _ (layout : Layout) (s : Snippet Annotation) (rows : List NamedRow) (show
   --       |  ___^
   --     2 |   }
   --       | |_^
-  pub bar_left_out_at_its_end : (a : Annotation) → Contains s.markers.items a → is_long (cow_str_bytes s.source) a ≡ true
-      → row.name ≡ SourceRow (last_line (cow_str_bytes s.source) a) → slice_index_or row.cells (bar_cell_of layout s a) SPACE ≡ SPACE → ⊥
+  pub bar_left_out_at_its_end : (a : Annotation) → Contains s.markers.items a → is_long (cow_str_bytes s.source.text) a ≡ true
+      → row.name ≡ SourceRow (last_line (cow_str_bytes s.source.text) a) → slice_index_or row.cells (bar_cell_of layout s a) SPACE ≡ SPACE → ⊥
   bar_left_out_at_its_end a among long last empty =
       let ends = (shown.each a among long above row below is).end last in
       no_space layout Other (bar_of_span s a) (sym (ends.beside 0 ends.below) ∙ empty)
@@ -142,8 +144,8 @@ module _ (layout : Layout) (s : Snippet Annotation) (rows : List NamedRow) (show
   --
   --     2 ┃   }
   --       ┃━━━┛
-  pub corner_left_out : (a : Annotation) → Contains s.markers.items a → is_long (cow_str_bytes s.source) a ≡ true
-      → row.name ≡ SourceRow (last_line (cow_str_bytes s.source) a)
+  pub corner_left_out : (a : Annotation) → Contains s.markers.items a → is_long (cow_str_bytes s.source.text) a ≡ true
+      → row.name ≡ SourceRow (last_line (cow_str_bytes s.source.text) a)
       → ((i : ℕ) → cell_at (row.cells ∷ rows_below below) i (bar_cell_of layout s a) ≡ end_corner layout (bar_of_span s a) → ⊥) → ⊥
   corner_left_out a among long last none =
       let ends = (shown.each a among long above row below is).end last in
@@ -157,10 +159,10 @@ module _ (layout : Layout) (s : Snippet Annotation) (rows : List NamedRow) (show
   --     2 | | b {
   --       | |___^
   --     3 | |   c
-  pub bars_all_in_one_column : (a b : Annotation) → Contains s.markers.items a → Contains s.markers.items b → is_long (cow_str_bytes s.source) a ≡ true
-      → is_long (cow_str_bytes s.source) b ≡ true
-      → first_line (cow_str_bytes s.source) a < line_beside above row.name → line_beside above row.name < last_line (cow_str_bytes s.source) a
-      → first_line (cow_str_bytes s.source) b < line_beside above row.name → line_beside above row.name < last_line (cow_str_bytes s.source) b
+  pub bars_all_in_one_column : (a b : Annotation) → Contains s.markers.items a → Contains s.markers.items b → is_long (cow_str_bytes s.source.text) a ≡ true
+      → is_long (cow_str_bytes s.source.text) b ≡ true
+      → first_line (cow_str_bytes s.source.text) a < line_beside above row.name → line_beside above row.name < last_line (cow_str_bytes s.source.text) a
+      → first_line (cow_str_bytes s.source.text) b < line_beside above row.name → line_beside above row.name < last_line (cow_str_bytes s.source.text) b
       → (a.span.start ≡ b.span.start → a.span.end ≡ b.span.end → ⊥)
       → (column : ℕ) → ((c : ℕ) → layout.gutter + 3 ≤ c → c < layout.code → (c ≡ column → ⊥) → slice_index_or row.cells c SPACE ≡ SPACE) → ⊥
   bars_all_in_one_column a b among-a among-b long-a long-b first-a last-a first-b last-b differ column spaces =

@@ -50,14 +50,14 @@ pub row_doubled : (r : Renderer) (layout : Layout) (around : ElementContext) (s 
     → (k : ℕ) → row.name ≡ SourceRow k → length (entries_on s k) ≡ 1 → 1 < length (rows_below below) → ⊥
 row_doubled r layout around s rows shown above row below is k named lone many =
     let line : IsWholeLine r layout s k row.cells below = line_of_rows r layout s (closes_with around) []
-    (shown_lines s.fold (cow_str_bytes s.source) s.markers.items) above row below (sym is ∙ shown.are) (SourceRow k) named in
+    (shown_lines s.fold (cow_str_bytes s.source.text) s.markers.items) above row below (sym is ∙ shown.are) (SourceRow k) named in
     omega (arith, many, ap length line.are, line_alone r layout line.closes s line.open_bars k lone)
   where
     line_alone : (r : Renderer) (layout : Layout) (closes : Bool) (s : Snippet Annotation) (open_bars : List Bar) (k : ℕ) → length (entries_on s k) ≡ 1
         → length (rows_of_line r layout closes s open_bars k) ≤ 2
     line_alone r layout closes s open_bars k lone =
         let margin : Margin = margin_in r layout s in
-        let text : List ℕ = norm (chars_at (cow_str_bytes s.source) k) in
+        let text : List ℕ = norm (chars_at (cow_str_bytes s.source.text) k) in
         lone_line_rows layout margin.term_width closes text (width_of (dropped_part margin.computed_left text)) _ open_bars (entries_on s k) lone
 
 -- beside a line on which no bar begins or ends, and above which one is open, a cell at its depth in another role than that of the
@@ -69,7 +69,7 @@ pub bar_of_other_kind : (r : Renderer) (layout : Layout) (closes : Bool) (s : Sn
     → ((cell_at (rows_of_line r layout closes s (bar ∷ []) k) i (layout.gutter + 2 + bar.depth)).role ≡ underline_role bar.primary → ⊥) → ⊥
 bar_of_other_kind r layout closes s bar k none i within other =
     let margin : Margin = margin_in r layout s in
-    let text : List ℕ = norm (chars_at (cow_str_bytes s.source) k) in
+    let text : List ℕ = norm (chars_at (cow_str_bytes s.source.text) k) in
     other (ap (λ (cell : Cell). cell.role)
     (bar_beside_line layout margin.term_width closes text (width_of (dropped_part margin.computed_left text)) _ bar (entries_on s k) none i within))
 
@@ -101,7 +101,7 @@ row_above_the_first_line s is around row more none shown =
     let same : shown.after ≡ row ∷ more = append_cancel_right shown.after (row ∷ more) tail
     (sym (append_cancel_left (others (cause_head plain_settings layout around s)) ((row ∷ more) ++ tail) (shown.after ++ tail) shown.rows_are)) in
     let named : IsRowOf plain_settings layout closes s row.name row.cells more = (subst (AreRowsOf plain_settings layout closes s) same shown.named).0 in
-    let ks : List ℕ = shown_lines s.fold (cow_str_bytes s.source) s.markers.items in
+    let ks : List ℕ = shown_lines s.fold (cow_str_bytes s.source.text) s.markers.items in
     let names : names_in (row ∷ more) ≡ SourceRow 0 ∷ [] = ap names_in (sym same ∙ shown.are) ∙ names_of_rows plain_settings layout s closes [] ks
     ∙ ap (λ source. names_of_lines (shown_lines s.fold source s.markers.items)) is.is.source_is
     ∙ ap (λ marks. names_of_lines (shown_lines s.fold (codes "a") marks)) is.is.marks_are ∙ one_line s.fold in
@@ -127,7 +127,7 @@ pub row_below_an_elision : (r : Renderer) (layout : Layout) (around : ElementCon
     → shown.after ≡ above ++ gap ∷ row ∷ more → gap.name ≡ Elision → shows_lines row.name ≡ false → ⊥
 row_below_an_elision r layout around s rows shown above gap row more is elided other =
     let none : rows_below (row ∷ more) ≡ [] = line_of_rows r layout s (closes_with around) []
-    (shown_lines s.fold (cow_str_bytes s.source) s.markers.items) above gap (row ∷ more) (sym is ∙ shown.are) Elision elided in
+    (shown_lines s.fold (cow_str_bytes s.source.text) s.markers.items) above gap (row ∷ more) (sym is ∙ shown.are) Elision elided in
     let one : row.cells ∷ rows_below more ≡ [] = sym (ap (λ b. cond b [] (row.cells ∷ rows_below more)) other) ∙ none in
     absurd (omega (arith, ap length one))
 

@@ -1,15 +1,18 @@
 -- What isn't HTML of a report: texts that are wrong, each of a small report, contradict what is said of the text that `render_html` gives.
-use Rattle.std.proofs.Common.{◌≡◌, ℕ, true, nat_eq, Some, Vec, List, [], ◌∷◌, codes, length, refl, sym, ap, ◌∙◌, arith}
+use Rattle.std.proofs.Common.{◌≡◌, ℕ, true, nat_eq, map, Some, Vec, List, [], ◌∷◌, codes, length, refl, sym, ap, ◌∙◌, arith}
 use Rattle.std.proofs.lemmas.Bool.{false≢true}
+use Rattle.std.specs.List.{list_all}
 use Rattle.std.specs.Str.{chars}
 use Rattle.std.specs.declared.alloc.Global.{Global}
 use Rattle.snippet_grid.specs.Html.{html_bytes, link_address}
+use Rattle.snippet_grid.specs.HtmlRead.{CharInTags, as_read, html_reads}
 use Rattle.snippet_model.specs.declared.snippet.Element.{Element}
 use Rattle.snippet_model.specs.declared.snippet.Group.{Group}
 use Rattle.snippet_text.specs.Normalized.{norm}
 use Rattle.snippet_titles.specs.HeadingRows.{heading_rows, label_cells}
 use Rattle.annotate_snippets.specs.AsSet.{shows_as_given}
-use Rattle.annotate_snippets.specs.Html.{IsReportHtml, report_html}
+use Rattle.annotate_snippets.specs.Html.{IsReportHtml, levels_of, page_chars, report_html}
+use Rattle.annotate_snippets.specs.GraphicForm.{graphic_form}
 use Rattle.annotate_snippets.specs.Settings.{plain_settings}
 use Rattle.annotate_snippets.specs.declared.renderer.Renderer.{Renderer}
 use Rattle.annotate_snippets.specs.declared.renderer.form.Form.TheVariants.{Graphic}
@@ -35,6 +38,18 @@ unset-html r groups text off is =
 less_unescaped : (v : Vec Element Global) → IsReportHtml plain_settings (less_alone v) (codes "<span class=\"snippet-emphasis\"><</span>") → ⊥
 less_unescaped v wrong =
     false≢true (sym (ap (λ (text : List ℕ). nat_eq (length text) 39) (unset-html plain_settings (less_alone v) _ refl wrong ∙ html_is v)))
+
+-- what its one character stands in: the class of its role
+stands_is : (v : Vec Element Global) → map as_read (page_chars (levels_of (less_alone v)) (graphic_form plain_settings (less_alone v)))
+    ≡ (let read : CharInTags = record { ch = 60; tags = record { class = codes "snippet-emphasis"; address = [] } } in read) ∷ []
+unfolding chars norm heading_rows label_cells
+stands_is v = refl
+
+-- the character in no class
+class_left_out : (v : Vec Element Global)
+    → html_reads (codes "&lt;") ≡ map as_read (page_chars (levels_of (less_alone v)) (graphic_form plain_settings (less_alone v))) → ⊥
+class_left_out v wrong =
+    false≢true (sym (ap (list_all (λ (read : CharInTags). nat_eq (length read.tags.class) 0)) (wrong ∙ stands_is v)))
 
 -- a link to an address that runs a script, whatever the case of its letters
 script_linked : link_address (Some (codes "JavaScript:f()")) ≡ codes "JavaScript:f()" → ⊥

@@ -51,11 +51,11 @@ named_second : (closes : Bool) (s : Snippet Annotation) → IsSnippetOf s two_li
     → name ≡ SourceRow 1
 unfolding chars norm
 named_second closes s is (SourceRow zero) cells rows same shows =
-    let whole : is_whole s.fold (cow_str_bytes s.source) s.markers.items
+    let whole : is_whole s.fold (cow_str_bytes s.source.text) s.markers.items
     ≡ true = subst (λ text. is_whole s.fold text s.markers.items ≡ true) (sym is.source_is)
     (subst (λ spans. is_whole s.fold two_lines spans ≡ true) (sym is.marks_are) (first_whole s.fold)) in
-    let text : codes "b" ≡ norm (chars_at (cow_str_bytes s.source) 0) = subst (λ row.
-    row_text (drop 4 row) ≡ norm (chars_at (cow_str_bytes s.source) 0)) same (shows.line.whole whole).1 in
+    let text : codes "b" ≡ norm (chars_at (cow_str_bytes s.source.text) 0) = subst (λ row.
+    row_text (drop 4 row) ≡ norm (chars_at (cow_str_bytes s.source.text) 0)) same (shows.line.whole whole).1 in
     let letter : ◌≡◌ {A = ℕ} 98 97 = ap (λ (cs : List ℕ). slice_index_or cs 0 0) (text ∙ ap (λ source. norm (chars_at source 0)) is.source_is) in
     absurd (omega (arith, letter))
 named_second closes s is (SourceRow (suc k)) cells rows same shows =
@@ -105,6 +105,6 @@ fold_ignored s is folds around row before after row_is shown =
     (subst (AreRowsOf plain_settings layout closes s) same shown.named) in
     let named : row.name ≡ SourceRow 1 = named_second closes s is row.name row.cells after row_is from_row.0 in
     let kept : lines_named rows ≡ 0 ∷ [] = ap lines_named (sym same) ∙ shown.lines
-    ∙ ap (λ fold. shown_lines fold (cow_str_bytes s.source) s.markers.items) folds ∙ ap (λ text. shown_lines true text s.markers.items) is.source_is
+    ∙ ap (λ fold. shown_lines fold (cow_str_bytes s.source.text) s.markers.items) folds ∙ ap (λ text. shown_lines true text s.markers.items) is.source_is
     ∙ ap (shown_lines true two_lines) is.marks_are ∙ first_alone in
     other_number (lines_named before) (lines_named after) (simp (filter_map-append, named) at kept)

@@ -50,7 +50,7 @@ replaced start end text = record { start = start; end = end; text = text }
 
 -- the snippet has this source and these patches
 record IsSnippetOf (s : Snippet Patch) (source : List ℕ) (es : List Edit) : Type 0 where
-  source_is : cow_str_bytes s.source ≡ source
+  source_is : cow_str_bytes s.source.text ≡ source
   edits_are : edits_of s ≡ es
 
 -- what is given of a snippet, by its source and its edits
@@ -233,9 +233,9 @@ line_left_out : {found : List Cell} (s : Snippet Patch) (source : List ℕ) (es 
     → (layout : Layout) (around : ElementContext) (rows : List NamedRow) → (Contains (lines_offered rows) j → ⊥)
     → ShowsSuggestion plain_settings layout around found s (others (suggestion_head plain_settings layout around s) ++ rows) → ⊥
 line_left_out s source es one two is may j touched visible gives layout around rows out shown =
-    let reached : IsTouched (cow_str_bytes s.source) (edits_of s) j = subst (λ text.
+    let reached : IsTouched (cow_str_bytes s.source.text) (edits_of s) j = subst (λ text.
     IsTouched text (edits_of s) j) (sym is.source_is) (subst (λ xs. IsTouched source xs j) (sym is.edits_are) touched) in
-    let seen : is_blank_text (text_at (source_lines (patched (cow_str_bytes s.source) (edits_of s))) j) ≡ false =
+    let seen : is_blank_text (text_at (source_lines (patched (cow_str_bytes s.source.text) (edits_of s))) j) ≡ false =
     ap (λ text. is_blank_text (text_at (source_lines (patched text (edits_of s))) j)) is.source_is
     ∙ ap (λ xs. is_blank_text (text_at (source_lines (patched source xs)) j)) is.edits_are ∙ visible in
     elim (shown.offered may j reached seen) [

@@ -72,7 +72,7 @@ span_of kind start end = labelled_span None kind start end
 
 -- the snippet has this source and these spans
 pub record IsSnippetOf (s : Snippet Annotation) (source : List ℕ) (marks : List Annotation) : Type 0 where
-  pub source_is : cow_str_bytes s.source ≡ source
+  pub source_is : cow_str_bytes s.source.text ≡ source
   pub marks_are : s.markers.items ≡ marks
 
 -- whether the first line of a source stands whole in the plain renderer's room, and whether it qualifies for the promise on
@@ -102,7 +102,7 @@ record AreOtherMarks (source : List ℕ) (marks : List Annotation) (cells : List
 
 -- the first line of a snippet stands whole if that of its source does
 whole_line : (s : Snippet Annotation) (source : List ℕ) (marks : List Annotation) → IsSnippetOf s source marks → IsPlainLine source marks
-    → is_whole s.fold (cow_str_bytes s.source) s.markers.items ≡ true
+    → is_whole s.fold (cow_str_bytes s.source.text) s.markers.items ≡ true
 whole_line s source marks is plain =
     subst (λ text. is_whole s.fold text s.markers.items ≡ true) (sym is.source_is)
     (subst (λ spans. is_whole s.fold source spans ≡ true) (sym is.marks_are) (whole s.fold))
@@ -118,7 +118,7 @@ other_marks source marks cells plain wrong =
     record {
       below = wrong;
       above = λ s is row rows shown.
-          let promised : qualifies (cow_str_bytes s.source) s.markers.items
+          let promised : qualifies (cow_str_bytes s.source.text) s.markers.items
           ≡ true = subst (λ text. qualifies text s.markers.items ≡ true) (sym is.source_is)
           (subst (λ spans. qualifies source spans ≡ true) (sym is.marks_are) plain.qualified) in
           let none : shown.dropped ≡ 0 = (shown.line.whole (whole_line s source marks is plain)).0 in
@@ -236,7 +236,7 @@ rows_after closes s [] more named = named
 rows_after closes s (row ∷ rows) more named = rows_after closes s rows more named.1
 
 -- a row `1 | a` can only be named as that of the first line of `a`
-named_first : (closes : Bool) (s : Snippet Annotation) → cow_str_bytes s.source ≡ codes "a" → (name : RowName) (cells : List Cell) (rows : List NamedRow)
+named_first : (closes : Bool) (s : Snippet Annotation) → cow_str_bytes s.source.text ≡ codes "a" → (name : RowName) (cells : List Cell) (rows : List NamedRow)
     → cells ≡ source_row (codes "a") → IsRowOf plain_settings layout closes s name cells rows → name ≡ SourceRow 0
 named_first closes s is (SourceRow k) cells rows same shows =
     let within : k < 1 = subst (λ source. k < length (source_lines source)) is shows.line.within in
@@ -292,7 +292,7 @@ second_copy k row copy before between after closes row_is copy_is = (
 
 -- so no rows in which it stands twice show the snippet, wherever that stands: neither after those that it begins with nor
 -- before those below its lines
-second_copy_of_a_line : (s : Snippet Annotation) → cow_str_bytes s.source ≡ codes "a"
+second_copy_of_a_line : (s : Snippet Annotation) → cow_str_bytes s.source.text ≡ codes "a"
     → (around : ElementContext) (row copy : NamedRow) (before between after : List NamedRow) → row.cells ≡ source_row (codes "a")
     → copy.cells ≡ source_row (codes "a") → ShowsSnippet plain_settings layout around s
     (others (cause_head plain_settings layout around s)

@@ -1,23 +1,32 @@
 -- What isn't written in the text form: texts that are wrong, each of a small report, contradict the definition of that form.
-use Rattle.std.proofs.Common.{◌≡◌, ℕ, true, None, Some, Vec, List, [], ◌∷◌, ◌++◌, codes, encode_utf8_all, length, refl, ap, ◌∙◌, arith}
+use Rattle.std.proofs.Common.{◌≡◌, ℕ, true, None, Some, Vec, List, [], ◌∷◌, ◌++◌, codes, encode_utf8_all, length, refl, sym, ap, ◌∙◌, arith}
 use Rattle.std.specs.Fmt.{digits}
 use Rattle.std.specs.List.{slice_index_or}
 use Rattle.std.specs.Str.{chars}
 use Rattle.std.specs.declared.alloc.Global.{Global}
-use Rattle.snippet_lines.specs.Lines.{start_of}
+use Rattle.snippet_lines.specs.Lines.{newline_count, start_of}
 use Rattle.snippet_lines.specs.Place.{end_location, line_of, location_of, locations_of, place_of, start_location, steps_after_text}
 use Rattle.snippet_model.specs.declared.snippet.Annotation.{Annotation}
 use Rattle.snippet_model.specs.declared.snippet.AnnotationKind.TheVariants.{Primary}
 use Rattle.snippet_model.specs.declared.snippet.Element.{Element}
 use Rattle.snippet_model.specs.declared.snippet.Element.TheVariants as element
 use Rattle.snippet_model.specs.declared.snippet.Group.{Group}
+use Rattle.snippet_model.specs.declared.snippet.Patch.{Patch}
+use Rattle.snippet_splice.specs.Edits.{trimmed_edit}
+use Rattle.snippet_splice.specs.Trim.{kept_before, sandwich}
 use Rattle.snippet_style.specs.Stylesheet.{default_sheet, plain_sheet}
+use Rattle.snippet_style.specs.declared.stylesheet.Stylesheet.{Stylesheet}
 use Rattle.snippet_suggest.proofs.Examples.{text_of}
 use Rattle.snippet_text.specs.Normalized.{norm}
 use Rattle.snippet_text_form.specs.Cause.{cause_form}
-use Rattle.snippet_text_form.specs.Form.{form_bytes}
+use Rattle.snippet_text_form.specs.Form.{form_bytes, form_text}
 use Rattle.snippet_text_form.specs.HeadingForm.{heading_form}
+use Rattle.snippet_text_form.specs.Lines.{lines_of_paragraphs}
+use Rattle.snippet_text_form.proofs.Examples.{offer, patch}
 use Rattle.annotate_snippets.specs.Forms.{ShowsReport}
+use Rattle.annotate_snippets.specs.Laws.Feeds.{text_lines}
+use Rattle.annotate_snippets.specs.Laws.Forms.{HasLaws}
+use Rattle.annotate_snippets.specs.Laws.TextLines.{report_paragraphs}
 use Rattle.annotate_snippets.specs.Settings.{plain_settings}
 use Rattle.annotate_snippets.specs.TextForm.{text_form}
 use Rattle.annotate_snippets.specs.declared.renderer.Renderer.{Renderer}
@@ -37,6 +46,17 @@ unfolding heading_form norm chars lib.Utf8.encode
 text_form_empty v shown =
     let right : [] ≡ codes "error: e" = (unset-shows _ _ _ _ shown refl).are.0 in
     cc
+
+-- a title above a message left out, here `error: e`:
+--
+--      note: m
+titles_left_out : (v : Vec Element Global)
+    → ShowsReport speaking (group v (Some (error_title None (codes "e"))) (note (codes "m") ∷ []) (omega arith) ∷ []) plain_sheet (codes " note: m")
+    → ⊥
+unfolding heading_form norm chars lib.Utf8.encode
+titles_left_out v shown =
+    let right : codes " note: m" ≡ codes "error: e" ++ 10 ∷ codes " note: m" = (unset-shows _ _ _ _ shown refl).are.0 in
+    absurd (omega (arith, ap length right))
 
 -- a message below a title left out, here ` note: m`:
 --
@@ -150,3 +170,38 @@ codes_counted_as_text v shown =
     let right : bold ++ (off ++ 10 ∷ (bold ++ (codes "e" ++ off))) ≡ bold ++ (off ++ (bold ++ (codes "e" ++ off))) = (unset-shows _ _ _ _ shown refl).are.0 in
     let byte : ◌≡◌ {A = ℕ} 10 27 = ap (λ (bs : List ℕ). slice_index_or bs 8 0) right in
     absurd (omega (arith, byte))
+
+-- ---- a line that no paragraph begins
+
+-- the same settings, with line feeds shown
+abbrev telling : Renderer
+telling = record speaking { show_line_feeds = true }
+
+-- a report of the source `x`, over which a patch puts `y`, a line feed and what reads as another error
+abbrev forging : Vec Element Global → Vec Patch Global → List Group
+forging v w =
+    group v (Some (error_title None (codes "e"))) (element.Suggestion (offer w (codes "x") (patch 0 1 (codes "y\nerror: f") ∷ []) (omega arith)) ∷ [])
+    (omega arith) ∷ []
+
+-- it has two paragraphs, of one line each
+forging_paragraphs : (v : Vec Element Global) (w : Vec Patch Global)
+    → lines_of_paragraphs (report_paragraphs telling (forging v w)) ≡ codes "error: e"
+    ∷ (codes " on line 1, column 1 to column 2 replace with: y" ++ 0x240A ∷ codes "error: f") ∷ []
+unfolding locations_of start_location end_location location_of place_of steps_after_text line_of start_of newline_count trimmed_edit sandwich kept_before digits
+    norm chars
+forging_paragraphs v w = refl
+
+-- the replacement as it is given, of which a line reads as another error:
+--
+--     error: e
+--      on line 1, column 1 to column 2 replace with: y
+--     error: f
+forged_error : (v : Vec Element Global) (w : Vec Patch Global) (groups : List Group) (sheet : Stylesheet) (text : List ℕ)
+    → (has : HasLaws telling groups sheet text) → has.shown ≡ forging v w
+    → form_text (text_form telling has.shown) ≡ codes "error: e\n on line 1, column 1 to column 2 replace with: y\nerror: f" → ⊥
+forged_error v w groups sheet text has is raw =
+    let cut : text_lines (codes "error: e\n on line 1, column 1 to column 2 replace with: y\nerror: f") ≡ codes "error: e"
+    ∷ codes " on line 1, column 1 to column 2 replace with: y" ∷ codes "error: f" ∷ [] = refl in
+    let lines : text_lines (form_text (text_form telling has.shown)) ≡ lines_of_paragraphs (report_paragraphs telling (forging v w)) = has.paragraphs refl refl
+    ∙ ap (λ gs. lines_of_paragraphs (report_paragraphs telling gs)) is in
+    absurd (omega (arith, ap length (sym cut ∙ ap text_lines (sym raw) ∙ lines ∙ forging_paragraphs v w)))

@@ -316,12 +316,12 @@ first_line_left_out s is around rows out shown =
     let tail : List NamedRow = others (rows_after_cause plain_settings layout around) in
     let same : shown.after ≡ rows = append_cancel_right shown.after rows tail
     (sym (append_cancel_left (others (cause_head plain_settings layout around s)) (rows ++ tail) (shown.after ++ tail) shown.rows_are)) in
-    let Begins : List Annotation → Type 0 = λ marks. All (λ a. Contains (lines_named shown.after) (first_line (cow_str_bytes s.source) a)
-    × Contains (lines_named shown.after) (last_line (cow_str_bytes s.source) a)) marks in
+    let Begins : List Annotation → Type 0 = λ marks. All (λ a. Contains (lines_named shown.after) (first_line (cow_str_bytes s.source.text) a)
+    × Contains (lines_named shown.after) (last_line (cow_str_bytes s.source.text) a)) marks in
     let ends : Begins (span_of Primary 0 3 ∷ span_of Primary 0 3 ∷ []) = subst Begins is.marks_are shown.ends in
-    let first : Contains (lines_named shown.after) (first_line (cow_str_bytes s.source) (span_of Primary 0 3)) =
-    (All-head (λ a. Contains (lines_named shown.after) (first_line (cow_str_bytes s.source) a)
-    × Contains (lines_named shown.after) (last_line (cow_str_bytes s.source) a)) (span_of Primary 0 3) (span_of Primary 0 3 ∷ []) ends).0 in
+    let first : Contains (lines_named shown.after) (first_line (cow_str_bytes s.source.text) (span_of Primary 0 3)) =
+    (All-head (λ a. Contains (lines_named shown.after) (first_line (cow_str_bytes s.source.text) a)
+    × Contains (lines_named shown.after) (last_line (cow_str_bytes s.source.text) a)) (span_of Primary 0 3) (span_of Primary 0 3 ∷ []) ends).0 in
     let at : Contains (lines_named shown.after) 0 = subst (λ text. Contains (lines_named shown.after)
     (first_line text (span_of Primary 0 3))) is.source_is first in
     out (subst (λ all. Contains (lines_named all) 0) same at)

@@ -59,11 +59,11 @@ some_more : (m n : ℕ) → (suc m == 0) ≡ (suc n == 0)
 some_more m n = grind (arith, nat_tests)
 
 module _ (r : Renderer) (layout : Layout) (s : Snippet Annotation)
-    (spans : All (λ a. IsSpan (cow_str_bytes s.source) a.span.start a.span.end) s.markers.items)
+    (spans : All (λ a. IsSpan (cow_str_bytes s.source.text) a.span.start a.span.end) s.markers.items)
     (ordered : (margin_in r layout s).computed_left ≤ (margin_in r layout s).computed_right) (place : layout.gutter + 3 ≤ layout.code)
     (closes : Bool) where
   abbrev own_lines : ℕ
-  own_lines = length (source_lines (cow_str_bytes s.source))
+  own_lines = length (source_lines (cow_str_bytes s.source.text))
 
   abbrev margin : Margin
   margin = margin_in r layout s

@@ -41,13 +41,14 @@ some-first (t ∷ ts) some none = absurd (cc)
 -- a snippet that is prepared has a first patch
 pub first-is_some : (p : PreparedSuggestion) → IsPrepared p → slice_get p.splice.patches.items 0 ≡ None → ⊥
 first-is_some p h none =
-    some-first p.splice.patches.items (some_left (cow_str_bytes p.snippet.now.source) p.snippet.now.markers.items p.splice.patches.items h.some h.edits) none
+    some-first p.splice.patches.items
+    (some_left (cow_str_bytes p.snippet.now.source.text) p.snippet.now.markers.items p.splice.patches.items h.some h.edits) none
 
 -- its span is one of the source
 pub first-span : (p : PreparedSuggestion) (t : TrimmedPatch) → IsPrepared p → slice_get p.splice.patches.items 0 ≡ Some t
     → IsSpan p.map.text t.span.start t.span.end
 first-span p t h is =
-    let source : List ℕ = cow_str_bytes p.snippet.now.source in
+    let source : List ℕ = cow_str_bytes p.snippet.now.source.text in
     let spans : All (λ e. IsSpan source e.start e.end) (edits_of p.snippet.now) = All-map (λ e.
     IsSpan source e.start e.end) edit_of p.snippet.now.markers.items h.suggestible.spans in
     subst (λ (m : Source). IsSpan m.text t.span.start t.span.end) (sym h.lines)

@@ -85,7 +85,7 @@ all_elements P (g ∷ gs) all =
 -- the number that a suggestion counts fits
 counted-suggested : (s : Snippet Patch) → IsSuggestible s → counted_line s < 2 ^ 64
 counted-suggested s can =
-    let source : List ℕ = cow_str_bytes s.source in
+    let source : List ℕ = cow_str_bytes s.source.text in
     let first : ℕ = s.line_start + first_given s in
     let removed : ℕ = s.line_start + line_of (source_lines source) (first_end (trimmed_of s)) in
     let last : ℕ = first + newline_count (given_text s) in

@@ -172,7 +172,7 @@ title-trusted (h ∷ groups) g title first titled styled c is =
 -- the first row begins with the first place of the snippet's spans
 begins : (r : Renderer) (g : Group) (title : Title) (rows : List (List Cell)) → rows ≡ short_form r g title → IsGroupDrawable g
     → (s : Snippet Annotation) → first_cause g.elements.items ≡ Some s → (path : List ℕ) → path_bytes s.path ≡ Some path
-    → list_any (λ a. is_marking a.kind) s.markers.items ≡ true → All (λ a. is_long (cow_str_bytes s.source) a ≡ false) s.markers.items
+    → list_any (λ a. is_marking a.kind) s.markers.items ≡ true → All (λ a. is_long (cow_str_bytes s.source.text) a ≡ false) s.markers.items
     → BeginsWithPlace r s path (row_at rows 0)
 begins r g title rows are drawable s first path has some none =
     let lines : List KeptLine = annotated_lines s.fold (numbered_source s) s.markers.items in

@@ -2,6 +2,7 @@
 use Rattle.std.proofs.Common.{ℕ, ◌<◌, ◌^◌, true, false, Option, None, Some, Vec, List, [], ◌∷◌, codes, length, refl, arith}
 use Rattle.std.specs.Option.{option_map}
 use Rattle.std.specs.declared.alloc.Global.{Global}
+use Rattle.snippet_model.specs.Source.{unindexed}
 use Rattle.snippet_model.specs.declared.snippet.Annotation.{Annotation}
 use Rattle.snippet_model.specs.declared.level.LevelName.TheVariants.{Hidden, Standard}
 use Rattle.snippet_model.specs.declared.snippet.Element.{Element}
@@ -52,7 +53,7 @@ snippet v path source marks few =
     record {
       path = option_map text_of path;
       line_start = 1;
-      source = text_of source;
+      source = unindexed (text_of source);
       markers = record { ptr = v.ptr; len = length marks; cap = length marks; alloc = v.alloc; items = marks; ok = (refl, omega arith); small = few };
       line_numbering = true;
       fold = true;

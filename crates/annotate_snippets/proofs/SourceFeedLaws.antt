@@ -145,17 +145,17 @@ code_plain code row plain c right within =
 -- a source row holds no line feed where the characters of its line hold none, and that is so where stretches gave their place to a
 -- placeholder too
 pub source_one_line : (r : Renderer) (layout : Layout) (s : Snippet Annotation) (k dropped : ℕ) (row : List Cell) → ShowsSourceLine r layout s k dropped row
-    → All IsNoFeed (chars_at (cow_str_bytes s.source) k) → HasNoFeed row
+    → All IsNoFeed (chars_at (cow_str_bytes s.source.text) k) → HasNoFeed row
 source_one_line r layout s k dropped row shows plain =
     let placeholder : List ℕ = placeholder_of layout.decor in
     let room : ℕ = room_of r layout in
     let margin : Margin = margin_in r layout s in
-    let line : List ℕ = norm (chars_at (cow_str_bytes s.source) k) in
+    let line : List ℕ = norm (chars_at (cow_str_bytes s.source.text) k) in
     let shown : List ℕ = row_text (drop layout.code row) in
     let own : All IsNoFeed placeholder = placeholder_plain layout.decor in
     let windowed : All IsNoFeed (window placeholder margin.term_width margin.computed_left margin.computed_right line) =
     window_plain placeholder margin.term_width margin.computed_left margin.computed_right line own
-    (norm-plain (chars_at (cow_str_bytes s.source) k) plain) in
+    (norm-plain (chars_at (cow_str_bytes s.source.text) k) plain) in
     let text : All IsNoFeed shown = replaced_plain placeholder (wide_spans room (length placeholder) s k)
     (window placeholder margin.term_width margin.computed_left margin.computed_right line) shown own shows.window.shown_is windowed in
     let number : List ℕ = number_text r s.line_numbering layout.gutter (s.line_start + k) in

@@ -145,15 +145,15 @@ short_number decor gutter shown row same =
 -- ---- the rows
 
 module _ (r : Renderer) (layout : Layout) (closes : Bool) (s : Snippet Annotation)
-    (spans : All (λ a. IsSpan (cow_str_bytes s.source) a.span.start a.span.end) s.markers.items) where
+    (spans : All (λ a. IsSpan (cow_str_bytes s.source.text) a.span.start a.span.end) s.markers.items) where
   abbrev Open : ℕ → List Bar → Type 0
   Open k bars = AreOpen (source s) (marks s) k bars
 
   -- a row beside line k has the bars of the spans that begin above it and end below
   abbrev HasBars : RowName → ℕ → List Cell → Type 0
   HasBars name k cells =
-      (a : Annotation) → Contains (marks s) a → is_long (cow_str_bytes s.source) a ≡ true → first_line (cow_str_bytes s.source) a < k
-      → k < last_line (cow_str_bytes s.source) a
+      (a : Annotation) → Contains (marks s) a → is_long (cow_str_bytes s.source.text) a ≡ true → first_line (cow_str_bytes s.source.text) a < k
+      → k < last_line (cow_str_bytes s.source.text) a
       → get_or cells (bar_cell_of layout s a) SPACE ≡ bar_beside layout name (bar_by_place s a)
 
   -- so has each row of a line that is drawn
@@ -245,8 +245,8 @@ module _ (r : Renderer) (layout : Layout) (closes : Bool) (s : Snippet Annotatio
     drawn : AreRowsDrawn r layout closes s open_bars rows
     are_open : Open n open_bars
     lines : Climbs n (lines_named rows)
-    ends : (a : Annotation) → Contains (marks s) a → is_long (cow_str_bytes s.source) a ≡ true
-        → IsPast n (lines_named rows) (first_line (cow_str_bytes s.source) a) × IsPast n (lines_named rows) (last_line (cow_str_bytes s.source) a)
+    ends : (a : Annotation) → Contains (marks s) a → is_long (cow_str_bytes s.source.text) a ≡ true
+        → IsPast n (lines_named rows) (first_line (cow_str_bytes s.source.text) a) × IsPast n (lines_named rows) (last_line (cow_str_bytes s.source.text) a)
     below : All (HasBars Other (n - 1)) (rows_below rows)
     others : All (HasNoOthers (n - 1)) (rows_below rows)
 
@@ -259,9 +259,9 @@ module _ (r : Renderer) (layout : Layout) (closes : Bool) (s : Snippet Annotatio
       let up : n ≤ k = ready.lines.0 in
       let here : Open k open_bars = open_lower (source s) (marks s) spans n k open_bars ready.are_open up (λ a among long.
       let ends = ready.ends a among long in (
-        past_next n k ks (first_line (cow_str_bytes s.source) a) ready.lines ends.0,
+        past_next n k ks (first_line (cow_str_bytes s.source.text) a) ready.lines ends.0,
         past_next n k ks
-            (last_line (cow_str_bytes s.source) a) ready.lines ends.1,
+            (last_line (cow_str_bytes s.source.text) a) ready.lines ends.1,
       )) in
       let bars : All (HasBars Other k) (cells ∷ rows_below rows) = line_bars open_bars k cells rows ready.drawn.0 here in
       let others : All (HasNoOthers k) (cells ∷ rows_below rows) = line_others open_bars k cells rows ready.named.0 ready.drawn.0 here in
@@ -277,9 +277,9 @@ module _ (r : Renderer) (layout : Layout) (closes : Bool) (s : Snippet Annotatio
           are_open = open_next (source s) (marks s) spans k open_bars here;
           lines = ready.lines.1;
           ends = λ a among long. let ends = ready.ends a among long in (
-            past_after n k ks (first_line (cow_str_bytes s.source) a) up ends.0,
+            past_after n k ks (first_line (cow_str_bytes s.source.text) a) up ends.0,
             past_after n k ks
-                (last_line (cow_str_bytes s.source) a) up ends.1,
+                (last_line (cow_str_bytes s.source.text) a) up ends.1,
           );
           below = subst (λ m. All (HasBars Other m) (rows_below rows)) last (All-tail (HasBars Other k) cells (rows_below rows) bars);
           others = subst (λ m. All (HasNoOthers m) (rows_below rows)) last (All-tail (HasNoOthers k) cells (rows_below rows) others);
@@ -362,7 +362,7 @@ module _ (r : Renderer) (layout : Layout) (closes : Bool) (s : Snippet Annotatio
             IsRowDrawn r layout closes s known.bars n row.cells below) is known.drawn;
       }
 
-  module _ (a : Annotation) (among : Contains (marks s) a) (long : is_long (cow_str_bytes s.source) a ≡ true)
+  module _ (a : Annotation) (among : Contains (marks s) a) (long : is_long (cow_str_bytes s.source.text) a ≡ true)
       (room : layout.gutter + 2 + depth_of (source s) (marks s) a < layout.code) where
     abbrev bar : Bar
     bar = bar_by_place s a
@@ -377,7 +377,7 @@ module _ (r : Renderer) (layout : Layout) (closes : Bool) (s : Snippet Annotatio
     -- the bar begins in the rows of the span's first line
     line_begins : (open_bars : List Bar) (k : ℕ) (row : List Cell) (rows : List NamedRow) → IsRowOf r layout closes s (SourceRow k) row rows
         → IsRowDrawn r layout closes s open_bars (SourceRow k) row rows
-        → first_line (cow_str_bytes s.source) a ≡ k → BarBegins layout bar (row ∷ rows_below rows)
+        → first_line (cow_str_bytes s.source.text) a ≡ k → BarBegins layout bar (row ∷ rows_below rows)
     line_begins open_bars k row rows shows line here =
         let ends : bars_on s k ≡ ends_of_bars line.entries = sym (bars_seen s k line.entries line.are) in
         let own : Contains (ends_of_bars line.entries) bar = subst (λ bs.
@@ -392,7 +392,7 @@ module _ (r : Renderer) (layout : Layout) (closes : Bool) (s : Snippet Annotatio
 
     -- and ends in those of the last
     line_ends : (open_bars : List Bar) (k : ℕ) (row : List Cell) (rows : List NamedRow) → IsRowDrawn r layout closes s open_bars (SourceRow k) row rows
-        → last_line (cow_str_bytes s.source) a ≡ k → BarEnds layout bar (row ∷ rows_below rows)
+        → last_line (cow_str_bytes s.source.text) a ≡ k → BarEnds layout bar (row ∷ rows_below rows)
     line_ends open_bars k row rows line here =
         let ends : bars_on s k ≡ ends_of_bars line.entries = sym (bars_seen s k line.entries line.are) in
         let own : Contains (ends_of_bars line.entries) bar = subst (λ bs.
@@ -407,12 +407,13 @@ module _ (r : Renderer) (layout : Layout) (closes : Bool) (s : Snippet Annotatio
   -- so the rows of a snippet's lines show the bars of its spans
   pub bars_shown : (rows : List NamedRow) → AreRowsOf r layout closes s rows → AreRowsDrawn r layout closes s [] rows → rows_below rows ≡ []
       → IsAscending (lines_named rows)
-      → All (λ a. Contains (lines_named rows) (first_line (cow_str_bytes s.source) a) × Contains (lines_named rows) (last_line (cow_str_bytes s.source) a))
+      → All
+      (λ a. Contains (lines_named rows) (first_line (cow_str_bytes s.source.text) a) × Contains (lines_named rows) (last_line (cow_str_bytes s.source.text) a))
       (marks s)
       → code_after layout.gutter (deepest (source s) (marks s)) ≤ layout.code → ShowsBars layout s rows
   bars_shown rows named drawn none_above ascends ends room =
       let ks : List ℕ = lines_named rows in
-      let text : List ℕ = cow_str_bytes s.source in
+      let text : List ℕ = cow_str_bytes s.source.text in
       let ready : IsReady [] 0 rows = record {
         named = named;
         drawn = drawn;
@@ -458,11 +459,11 @@ module _ (r : Renderer) (layout : Layout) (closes : Bool) (s : Snippet Annotatio
       }
     where
       free_there : (above : List NamedRow) (row : NamedRow) (c : ℕ) → layout.gutter + 3 ≤ c
-          → All (λ a. is_long (cow_str_bytes s.source) a ≡ true → touches (cow_str_bytes s.source) a (line_beside above row.name) ≡ true
+          → All (λ a. is_long (cow_str_bytes s.source.text) a ≡ true → touches (cow_str_bytes s.source.text) a (line_beside above row.name) ≡ true
           → bar_cell_of layout s a ≢ c) (marks s)
           → IsFreeAt (source s) (marks s) spans (line_from 0 above row.name) (c - (layout.gutter + 2))
       free_there above row c from free a among long first last same =
-          let text : List ℕ = cow_str_bytes s.source in
+          let text : List ℕ = cow_str_bytes s.source.text in
           let k : ℕ = line_beside above row.name in
           let line : line_from 0 above row.name ≡ k = from_start above row.name in
           let up : leb (first_line text a) k ≡ true = le-leb (first_line text a) k (omega (arith, first, line)) in
@@ -480,7 +481,7 @@ module _ (r : Renderer) (layout : Layout) (closes : Bool) (s : Snippet Annotatio
               let other : (n == 0) ≡ false = grind (arith, nat_tests, more) in
               ap (λ b. cond b (layout.gutter + 3) (layout.gutter + 3 + n + 1)) other
 
-      deep : (a : Annotation) → Contains (marks s) a → is_long (cow_str_bytes s.source) a ≡ true
+      deep : (a : Annotation) → Contains (marks s) a → is_long (cow_str_bytes s.source.text) a ≡ true
           → layout.gutter + 2 + depth_of (source s) (marks s) a < layout.code
       deep a among long =
           let depth = depth-within (source s) (marks s) a among long in

@@ -238,19 +238,19 @@ module _ (r : Renderer) (layout : Layout) (around : ElementContext) (found : Lis
   abbrev IsShown : SuggestionRow → List Cell → Type 0
   IsShown = Shows own_layout (s.line_start + first_given s) (given_lines s)
 
-  one_row : (shown : SuggestionRow) (row : List Cell) → IsUtf8 (cow_str_bytes s.source) → IsShown shown row → IsPlainOffer shown row → IsRowOf s shown
+  one_row : (shown : SuggestionRow) (row : List Cell) → IsUtf8 (cow_str_bytes s.source.text) → IsShown shown row → IsPlainOffer shown row → IsRowOf s shown
       → HasNoFeed row
   one_row (Begins at) row utf8 is offer own = bare_one_line own_layout.base.decor own_layout.base.gutter row is.bare
   one_row (Offers k) row utf8 is offer own = offer
   one_row Skips row utf8 is offer own = bare_one_line own_layout.base.decor own_layout.base.gutter row is.bare
   one_row (Removes i number text) row utf8 is offer own =
-      let plain : All IsNoFeed (chars text) = subst (λ t. All IsNoFeed (chars t)) (sym own.1) (line_plain (cow_str_bytes s.source) i utf8) in
+      let plain : All IsNoFeed (chars text) = subst (λ t. All IsNoFeed (chars t)) (sym own.1) (line_plain (cow_str_bytes s.source.text) i utf8) in
       removed_one_line own_layout.numbers own_layout.base.decor own_layout.base.gutter (shown_number own_layout.numbers own_layout.base.gutter number)
       (norm (chars text)) row is (norm-plain (chars text) plain)
   one_row Empty row utf8 is offer own = bare_one_line own_layout.base.decor own_layout.base.gutter row is.bare
   one_row (Ends follows) row utf8 is offer own = bare_one_line own_layout.base.decor own_layout.base.gutter row is.bare
 
-  all_rows : (shown : List SuggestionRow) (rows : List (List Cell)) → IsUtf8 (cow_str_bytes s.source) → AllZip IsShown shown rows
+  all_rows : (shown : List SuggestionRow) (rows : List (List Cell)) → IsUtf8 (cow_str_bytes s.source.text) → AllZip IsShown shown rows
       → AllZip IsPlainOffer shown rows → All (IsRowOf s) shown → All HasNoFeed rows
   all_rows [] [] utf8 are offers own = All-nil HasNoFeed
   all_rows [] (row ∷ rows) utf8 are offers own = elim are [ ]

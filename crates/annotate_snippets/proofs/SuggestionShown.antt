@@ -106,7 +106,7 @@ module _ (around : ElementContext) (s : Snippet Patch) where
 
 -- the lines that are given are those of the spliced text, so either is as it was where the other is
 same_lines_given : (s : Snippet Patch) → HaveSpans s → AreDisjoint (edits_of s) → s.markers.items ≢ [] → IsOfferable s
-    → texts_of (lines_of (spliced_text s.fold (cow_str_bytes s.source) (edits_of s))) ≡ given_lines s
+    → texts_of (lines_of (spliced_text s.fold (cow_str_bytes s.source.text) (edits_of s))) ≡ given_lines s
 same_lines_given s spans disjoint some offerable =
     let part = given-part s spans disjoint some offerable in
     ap (λ text. texts_of (lines_of text)) (part.spliced ∙ sym part.text)

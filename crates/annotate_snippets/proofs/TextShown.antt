@@ -33,10 +33,11 @@ use Rattle.annotate_snippets.specs.Forms.{TextShown}
 use Rattle.annotate_snippets.specs.Laws.Free.{IsFreeBut}
 use Rattle.annotate_snippets.specs.ShownPage.{report_links}
 use Rattle.annotate_snippets.specs.TextForm.{PreviousSuggestion, before_next, element_form, element_texts, elements_form, group_form, group_texts, report_texts}
-use Rattle.annotate_snippets.specs.TextForm.{suggestion_place, text_form, whole_text}
+use Rattle.annotate_snippets.specs.TextForm.{suggestion_place, suggestion_settings, text_form, whole_text}
 use Rattle.annotate_snippets.specs.declared.renderer.Renderer.{Renderer}
 use Rattle.annotate_snippets.specs.declared.renderer.form.Form.TheVariants.{Text}
 use Rattle.annotate_snippets.proofs.FormSteps.{title_form}
+use Rattle.annotate_snippets.proofs.TextParagraphLaws.{paragraph_lines}
 use Rattle.snippet_model.proofs.ZipLemmas.{AllZip-weaker}
 use Rattle.annotate_snippets.proofs.ReportTexts.{free_first, free_rest, links_of_titles, title_links, trusted_of}
 use Rattle.annotate_snippets.proofs.TrustedLemmas.{AreTextsAmong, IsTrusted, message_among, own_text, texts_among, title_among, unlisted_text}
@@ -79,7 +80,7 @@ element_links r file before followed (Message m) =
     heading-links r.hyperlink kind.Message (heading_of_message m)
 element_links r file before followed (Cause s) = cause-links r.anonymized_origin_line_numbers s
 element_links r file before followed (Suggestion s) =
-    suggestion-links r.anonymized_origin_line_numbers (suggestion_place file before followed s) s
+    suggestion-links (suggestion_settings r) (suggestion_place file before followed s) s
 element_links r file before followed (Origin o) = origin-links r.anonymized_origin_line_numbers o
 element_links r file before followed (Padding p) = refl
 
@@ -170,8 +171,8 @@ element_free trusted r file before followed (Message m) among begun =
 element_free trusted r file before followed (Cause s) among begun =
     unlisted_text trusted (plain_from begun (cause_form r.anonymized_origin_line_numbers s)) (cause-free begun r.anonymized_origin_line_numbers s)
 element_free trusted r file before followed (Suggestion s) among begun =
-    unlisted_text trusted (plain_from begun (suggestion_form r.anonymized_origin_line_numbers (suggestion_place file before followed s) s))
-    (suggestion-free begun r.anonymized_origin_line_numbers (suggestion_place file before followed s) s)
+    unlisted_text trusted (plain_from begun (suggestion_form (suggestion_settings r) (suggestion_place file before followed s) s))
+    (suggestion-free begun (suggestion_settings r) (suggestion_place file before followed s) s)
 element_free trusted r file before followed (Origin o) among begun =
     unlisted_text trusted (plain_from begun (origin_form r.anonymized_origin_line_numbers o)) (origin-free begun r.anonymized_origin_line_numbers o)
 element_free trusted r file before followed (Padding p) among begun = All-nil (IsTrusted trusted)
@@ -234,7 +235,8 @@ text-shown r groups sheets texts are =
 
 -- a report's text form has its laws
 pub text-laws : (r : Renderer) (groups : List Group) → TextLaws r groups
-text-laws r groups = record { holds = groups_hold r groups groups false; free = groups_free r groups groups false }
+text-laws r groups =
+    record { holds = groups_hold r groups groups false; free = groups_free r groups groups false; lines = paragraph_lines r groups }
 
 -- so has a text of it
 pub text-law : (r : Renderer) (groups : List Group) (sheet : Stylesheet) (text : List ℕ) → IsFormText r groups sheet text → LawsIn Text r groups sheet text

@@ -19,7 +19,11 @@ use Rattle.annotate_snippets.specs.Page.{PrintsGrids, PrintsPage}
 use Rattle.annotate_snippets.proofs.PageWords.{ArePrinted, Page, PrintsIn}
 use Rattle.snippet_grid.proofs.PrintsPieces.{Prints-from_pieces}
 use Rattle.annotate_snippets.specs.Html.{levels_of}
-use Rattle.annotate_snippets.specs.Written.{AddsGrid, IsTextIn, PrintsGrid, ShowsIn, WritesPart, WritesText}
+use Rattle.annotate_snippets.specs.Written.{AddsGrid, IsTextIn, PrintsGrid, ShowsIn, WritesPart, WritesText, blames_writer}
+use Rattle.annotate_snippets.specs.declared.renderer.report_writer.ReportWriter.{ReportWriter}
+use Rattle.annotate_snippets.specs.declared.renderer.to_writer.RenderToError.{RenderToError}
+use Rattle.std.specs.Prelude.{Result, Ok, Err}
+use Rattle.std.specs.Result.{IsErrAnd}
 use Rattle.annotate_snippets.specs.declared.renderer.Renderer.{Renderer}
 use Rattle.annotate_snippets.specs.declared.renderer.form.Form.TheVariants.{Graphic}
 use Rattle.annotate_snippets.specs.declared.renderer.graphic.GroupGrid.{GroupGrid}
@@ -331,3 +335,13 @@ module _ (r : Renderer) (groups : List Group) where
             (from_levels r groups r.stylesheet text (page_whole r groups n before.grids all before.so_far r.stylesheet text before.written.is));
         appended = before.written.appended;
       }
+
+-- an answer that is this error blames the writer where the error does
+pub blames_same : {A : Type 0} (e : RenderToError) (r : Result A RenderToError) → IsErrAnd r (λ x. x ≡ e)
+    → blames_writer (let told : Result A RenderToError = Err e in told) ≡ blames_writer r
+blames_same e (Ok x) is = absurd is
+blames_same {A} e (Err x) is = ap (λ (y : RenderToError). blames_writer (let told : Result A RenderToError = Err y in told)) (sym is)
+
+-- writers that are lent alike hold what is the same
+pub target_same : {W : Type 0} (a b : ReportWriter W) → a ≡ b → a.target.now ≡ b.target.now
+target_same {W} a b same = ap (λ (w : ReportWriter W). w.target.now) same

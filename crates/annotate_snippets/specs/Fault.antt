@@ -60,12 +60,12 @@ overlap_faults group element patches =
 -- the refusals of an element: those of its spans in order, then that of patches that overlap, then that of its line numbers
 abbrev pub element_faults : ℕ → ℕ → Element → List RenderError
 element_faults group element (Cause snippet) =
-    faults_from (λ n a. span_faults group element (cow_str_bytes snippet.source) n a.span) 0 snippet.markers.items
-    ++ number_faults group element (number_after_lines snippet.line_start (cow_str_bytes snippet.source))
+    faults_from (λ n a. span_faults group element (cow_str_bytes snippet.source.text) n a.span) 0 snippet.markers.items
+    ++ number_faults group element (number_after_lines snippet.line_start (cow_str_bytes snippet.source.text))
 element_faults group element (Suggestion snippet) =
-    faults_from (λ n p. span_faults group element (cow_str_bytes snippet.source) n p.span) 0 snippet.markers.items
+    faults_from (λ n p. span_faults group element (cow_str_bytes snippet.source.text) n p.span) 0 snippet.markers.items
     ++ overlap_faults group element snippet.markers.items
-    ++ number_faults group element (number_after_lines snippet.line_start (cow_str_bytes snippet.source) + added_lines snippet.markers.items)
+    ++ number_faults group element (number_after_lines snippet.line_start (cow_str_bytes snippet.source.text) + added_lines snippet.markers.items)
 element_faults group element (Message message) = []
 element_faults group element (Origin origin) = []
 element_faults group element (Padding padding) = []

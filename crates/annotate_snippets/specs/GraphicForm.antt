@@ -48,7 +48,7 @@ margin_in r layout s = margin_of (r.term_width - layout.code) (annotated_lines s
 abbrev pub rows_of_line : Renderer → Layout → Bool → Snippet Annotation → List Bar → ℕ → List (List Cell)
 rows_of_line r layout closes s open_bars k =
     shown_rows layout (margin_in r layout s) closes open_bars (number_text r s.line_numbering layout.gutter (s.line_start + k))
-    (norm (chars_at (cow_str_bytes s.source) k)) (parts_on (numbered_source s) s.markers.items k)
+    (norm (chars_at (cow_str_bytes s.source.text) k)) (parts_on (numbered_source s) s.markers.items k)
 
 -- the rows of line k with their names: the first shows the line
 abbrev pub named_line : ℕ → List (List Cell) → List NamedRow
@@ -84,7 +84,8 @@ abbrev pub element_rows : Renderer → Layout → ElementContext → List Cell �
 element_rows r layout around found (element.Message message) =
     others (heading_rows r.hyperlink (style.Message (record { layout = layout; followed = not (is_end around.next) })) (heading_of_message message))
 element_rows r layout around found (element.Cause s) =
-    others (cause_head r layout around s) ++ (rows_of_lines r layout (closes_with around) s [] (shown_lines s.fold (cow_str_bytes s.source) s.markers.items)
+    others (cause_head r layout around s)
+    ++ (rows_of_lines r layout (closes_with around) s [] (shown_lines s.fold (cow_str_bytes s.source.text) s.markers.items)
     ++ others (rows_after_cause r layout around))
 element_rows r layout around found (element.Suggestion s) =
     others (suggestion_head r layout around s)

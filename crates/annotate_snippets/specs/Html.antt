@@ -1,8 +1,8 @@
 -- A report as HTML: the page of its graphic form, characters and tags; and what follows of it for who reads it.
 use Rattle.std.specs.Prelude.{◌≡◌, ℕ, List, [], ◌∷◌, ◌++◌, None, encode_utf8_all, Bool, map, if◌then◌else◌}
 use Rattle.std.specs.List.{flat_map}
-use Rattle.snippet_grid.specs.Html.{AddsHtml, HtmlPiece, Text, html_bytes, plain_look, rows_html}
-use Rattle.snippet_grid.specs.HtmlRead.{ReadChar, chars_of_rows, chars_read, feed_read, html_says, piece_tag, tags_of}
+use Rattle.snippet_grid.specs.Html.{AddsHtml, HtmlPiece, Text, html_bytes, rows_html}
+use Rattle.snippet_grid.specs.HtmlRead.{ReadChar, as_read, chars_of_rows, feed_read, html_reads, html_says, piece_tag, tags_of}
 use Rattle.snippet_model.specs.declared.snippet.Group.{Group}
 use Rattle.snippet_style.specs.declared.role.LevelInner.{LevelInner}
 use Rattle.annotate_snippets.specs.AsSet.{IsAsSet}
@@ -53,8 +53,8 @@ pub record HtmlLaws (r : Renderer) (groups : List Group) (text : List ℕ) : Typ
   pub says : html_says html ≡ page_text (graphic_form r groups)
   -- its tags are those that its pieces are: the two of a class, and the two of a link
   pub tags : tags_of None html ≡ flat_map piece_tag (report_html r groups)
-  -- each character stands in the class of its cell's role and in the link of its cell
-  pub stands : chars_read plain_look (report_html r groups) ≡ page_chars (levels_of groups) (graphic_form r groups)
+  -- each character that is read of it stands in the class of its cell's role and in the link of its cell
+  pub stands : html_reads html ≡ map as_read (page_chars (levels_of groups) (graphic_form r groups))
 
 -- a text is a report as HTML, as the renderer is set: it is that of the report that is shown in place of it
 pub record IsReportHtml (r : Renderer) (groups : List Group) (text : List ℕ) : Type 0 where

@@ -13,5 +13,6 @@ pub mod Page
 pub mod Paths
 pub mod Snippets
 pub mod Suggestions
+pub mod TextLines
 pub mod Titles
 pub mod Wrapped

@@ -6,7 +6,9 @@ pub mod Forms
 pub mod GraphicForm
 pub mod Gutter
 pub mod Html
+pub mod HtmlStylesheet
 pub mod Laws
+pub mod Lent
 pub mod Levels
 pub mod Page
 pub mod PreparedReport

@@ -27,9 +27,9 @@ use Rattle.snippet_style.specs.Bounds.{IsCount, IsUsize}
 
 -- what drawing a snippet asks of it: that its texts and its line numbers fit, and that each of its spans is one
 pub record IsDrawable (s : Snippet Annotation) : Type 0 where
-  pub source : TextFits (cow_str_bytes s.source)
-  pub numbers : IsUsize (s.line_start + length (source_lines (cow_str_bytes s.source)))
-  pub spans : All (λ a. IsSpan (cow_str_bytes s.source) a.span.start a.span.end) s.markers.items
+  pub source : TextFits (cow_str_bytes s.source.text)
+  pub numbers : IsUsize (s.line_start + length (source_lines (cow_str_bytes s.source.text)))
+  pub spans : All (λ a. IsSpan (cow_str_bytes s.source.text) a.span.start a.span.end) s.markers.items
   pub labels : All AnnotationFits s.markers.items
 
 -- what drawing an element asks of it
@@ -56,7 +56,7 @@ element_of (Padding padding) = element.Padding padding.now
 -- source and its labels are UTF-8, as each `str` is
 pub record IsCausePrepared (c : PreparedCause) : Type 0 where
   pub drawable : IsDrawable c.snippet.now
-  pub utf8 : IsUtf8 (cow_str_bytes c.snippet.now.source)
+  pub utf8 : IsUtf8 (cow_str_bytes c.snippet.now.source.text)
   pub labels : All HasTextLabel c.snippet.now.markers.items
   pub few : IsCount (length c.snippet.now.markers.items)
   pub map_is : c.map ≡ numbered_source c.snippet.now

@@ -1,8 +1,10 @@
--- What a refusal prints.
+-- The words of a refusal, and of a report that isn't written.
 use Rattle.std.specs.Prelude.{ℕ, List, ◌++◌, codes, decimal}
 use Rattle.annotate_snippets.specs.declared.renderer.error.RenderError.{RenderError}
 use Rattle.annotate_snippets.specs.declared.renderer.error.RenderError.TheVariants.{NoGroup, NoTitle, SpanReversed, SpanPastEnd, SpanOffBoundary}
 use Rattle.annotate_snippets.specs.declared.renderer.error.RenderError.TheVariants.{PatchesOverlap, LineNumberTooLarge, Memory}
+use Rattle.annotate_snippets.specs.declared.renderer.to_writer.RenderToError.{RenderToError}
+use Rattle.annotate_snippets.specs.declared.renderer.to_writer.RenderToError.TheVariants.{Refused, Write}
 
 -- the place of an element, and what is said of it
 abbrev pub of_element : ℕ → ℕ → List ℕ → List ℕ
@@ -23,3 +25,8 @@ refusal_text (PatchesOverlap group element first second) =
     of_element group element (codes ": markers " ++ (decimal first ++ (codes " and " ++ (decimal second ++ codes " overlap"))))
 refusal_text (LineNumberTooLarge group element) = of_element group element (codes ": line numbers are too large")
 refusal_text (Memory refused) = codes "out of memory"
+
+-- the words of what keeps a report from being written: those of the refusal, or that it can't be, with no word of why
+abbrev pub write_text : RenderToError → List ℕ
+write_text (Refused refusal) = refusal_text refusal
+write_text (Write error) = codes "the report can't be written"

@@ -14,6 +14,7 @@ use Rattle.snippet_text_form.specs.HeadingForm.{heading_form}
 use Rattle.snippet_text_form.specs.Suggestion.{origin_form, suggestion_form}
 use Rattle.snippet_text_form.specs.declared.heading.HeadingKind.TheVariants.{Title, Message}
 use Rattle.snippet_text_form.specs.declared.suggestion.SuggestionContext.{SuggestionContext}
+use Rattle.snippet_text_form.specs.declared.suggestion.SuggestionSettings.{SuggestionSettings}
 use Rattle.snippet_titles.specs.HeadingRows.{shown_text}
 use Rattle.annotate_snippets.specs.Around.{drawn_elements, file_of_group, first_two_share, is_same_file, path_bytes}
 use Rattle.annotate_snippets.specs.declared.renderer.Renderer.{Renderer}
@@ -55,6 +56,11 @@ suggestion_place file before followed s =
       names_path = is_other_file (known_file file before) (path_bytes s.path);
     }
 
+-- how suggestions are told: whether lines are anonymized, and whether line feeds are shown
+abbrev pub suggestion_settings : Renderer → SuggestionSettings
+suggestion_settings r =
+    record { anonymized = r.anonymized_origin_line_numbers; show_line_feeds = r.show_line_feeds }
+
 -- what stands right before the element after this one
 abbrev pub before_next : Option PreviousSuggestion → Element → Option PreviousSuggestion
 before_next before (element.Suggestion s) =
@@ -66,7 +72,7 @@ abbrev pub element_form : Renderer → Option (List ℕ) → Option PreviousSugg
 element_form r file before followed (element.Message m) = heading_form r.hyperlink Message (heading_of_message m)
 element_form r file before followed (element.Cause s) = cause_form r.anonymized_origin_line_numbers s
 element_form r file before followed (element.Suggestion s) =
-    suggestion_form r.anonymized_origin_line_numbers (suggestion_place file before followed s) s
+    suggestion_form (suggestion_settings r) (suggestion_place file before followed s) s
 element_form r file before followed (element.Origin o) = origin_form r.anonymized_origin_line_numbers o
 element_form r file before followed (element.Padding p) = []
 

@@ -1,5 +1,5 @@
 -- What a writer holds once a report was to be written to it.
-use Rattle.std.specs.Prelude.{◌≡◌, ℕ, Bool, List, [], ◌∷◌, ◌++◌, Option, alloc_error, if◌then◌else◌, string_bytes}
+use Rattle.std.specs.Prelude.{◌≡◌, ℕ, Bool, true, false, List, [], ◌∷◌, ◌++◌, Option, Result, Ok, Err, alloc_error, if◌then◌else◌, string_bytes}
 use Rattle.std.specs.Io.KnownBytes.{Appends}
 use Rattle.snippet_grid.specs.Woven.{Prints}
 use Rattle.snippet_model.specs.declared.snippet.Group.{Group}
@@ -31,6 +31,12 @@ pub record WritesPart (Is : List ℕ → Type 0) (old new : Option (List ℕ)) :
 abbrev pub IsStop : RenderToError → Type 0
 IsStop (Refused refusal) = refusal ≡ Memory alloc_error
 IsStop (Write error) = Unit {0}
+
+-- whether an answer says that the writer failed
+abbrev pub blames_writer : {A : Type 0} → Result A RenderToError → Bool
+blames_writer (Ok value) = false
+blames_writer (Err (Refused refusal)) = false
+blames_writer (Err (Write error)) = true
 
 -- a text prints the grid of a group in its level, after a line feed unless the group is the first
 pub record PrintsGrid (sheet : Stylesheet) (first : Bool) (grid : GroupGrid) (text : List ℕ) : Type 0 where

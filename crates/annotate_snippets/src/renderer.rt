@@ -19,6 +19,7 @@ mod paths;
 mod place;
 mod preprocess;
 mod printing;
+mod report_writer;
 mod settings;
 mod short;
 mod shown;
@@ -28,6 +29,7 @@ mod text_form;
 mod title;
 mod to_writer;
 mod validate;
+mod words;
 
 pub use crate::snippet::Id;
 use crate::snippet::Report;
@@ -48,6 +50,7 @@ use std::alloc::{AllocError, Global};
 pub use style::{AnsiColor, Color, Effects, Style, Stylesheet, open_code, reset_code};
 pub use to_writer::RenderToError;
 use validate::first_refusal;
+pub use words::{RefusalWords, RenderToWords};
 
 /// Draws reports, with these settings.
 #[derive(Clone, Debug, Drop)]
@@ -68,7 +71,8 @@ pub struct Renderer {
     pub short_message: bool,
     /// Whether a report is written without graphics, for speech and Braille.
     pub no_graphics: bool,
-    /// Whether line feeds of labels, paths, identifiers and level names are shown, as `␊`.
+    /// Whether line feeds of labels, paths, identifiers and level names are shown, as `␊`, and in the text form those
+    /// of replacements.
     pub show_line_feeds: bool,
     /// How many lines before each line that is shown for its spans are shown too.
     pub context_before: usize,

@@ -27,7 +27,7 @@ use std::io::{self, Write};
 fn print_text(rt: &impl Print, text: Result<String, RenderError>) -> io::Result<()> {
     match text {
         Ok(text) => println!(rt; "{text}"),
-        Err(refusal) => println!(rt; "no report: {refusal}"),
+        Err(refusal) => println!(rt; "no report: {}", refusal.words()),
     }
 }
 
@@ -92,7 +92,7 @@ fn lint_json(rt: &(impl Print + AllocGlobal)) -> io::Result<()> {
             Ok(Verdict::Clean) => println!(rt; "{path}: nothing to say")?,
             Ok(Verdict::Wrong(report)) => println!(rt; "{report}")?,
             Ok(Verdict::TooLong) => println!(rt; "{path}: too long")?,
-            Err(refusal) => println!(rt; "{path}: no report: {refusal}")?,
+            Err(refusal) => println!(rt; "{path}: no report: {}", refusal.words())?,
         }
     }
     Ok(())
@@ -127,7 +127,7 @@ fn serve(rt: &(impl Print + AllocGlobal)) -> io::Result<()> {
             }
             Ok(())
         }
-        Err(refusal) => println!(rt; "no report: {refusal}"),
+        Err(refusal) => println!(rt; "no report: {}", refusal.words()),
     }
 }
 

@@ -4,6 +4,7 @@ use Rattle.serde_json.specs.Data.{Data}
 use Rattle.serde_json.specs.Read.{read}
 use Rattle.annotate_snippets.specs.Fault.{first_refusal, refusal_in}
 use Rattle.annotate_snippets.specs.Laws.Forms.{TextsWithLaws}
+use Rattle.annotate_snippets.specs.Refusal.{refusal_text}
 use Rattle.annotate_snippets.specs.Html.{HasHtmlLaws, IsReportHtml}
 use Rattle.annotate_snippets.specs.declared.renderer.form.Form.TheVariants.{Graphic}
 use Rattle.annotate_snippets.specs.declared.renderer.RenderError.{RenderError}
@@ -43,10 +44,10 @@ AreTextsAs false case texts = TextsWithLaws case.renderer case.groups.items case
 abbrev pub AreTextsOf : Case → List (List ℕ) → Type 0
 AreTextsOf case texts = AreTextsAs case.html case texts
 
--- a case becomes its texts, or the first refusal of its report
+-- a case becomes its texts, or the first refusal of its report, with the words of that refusal
 abbrev pub IsOutcomeOf : Case → Outcome → Type 0
 IsOutcomeOf case (Texts texts) = AreTextsOf case (map string_bytes texts.items)
-IsOutcomeOf case (Refused refusal words span) = refusal_of_case case ≡ Some refusal
+IsOutcomeOf case (Refused refusal words span) = (refusal_of_case case ≡ Some refusal) × (string_bytes words ≡ refusal_text refusal)
 
 -- a line describes this case, and this became of it
 pub record Becomes (line : List ℕ) (case : Case) (outcome : Outcome) : Type 0 where

@@ -46,7 +46,7 @@ fn error_answer(alloc: Global, error: Error) -> Result<String, AllocError>
     if error.is_memory() {
         return Err(AllocError);
     }
-    let words = column_words(alloc, error.column(), error.is_eof())?;
+    let words = column_words(alloc, error.column().max(1), error.is_eof())?;
     told_json(alloc, words.as_str(), 1)
 }
 

@@ -29,7 +29,7 @@ pub fn outcome_of(alloc: Global, case: &Case<'_>) -> Result<Outcome, AllocError>
         Ok(texts) => Ok(Outcome::Texts(texts)),
         Err(RenderError::Memory(refused)) => Err(refused),
         Err(refusal) => {
-            let text = format!(in alloc; "{refusal}")?;
+            let text = format!(in alloc; "{}", refusal.words())?;
             let span = span_of(alloc, &refusal, &case.groups)?;
             Ok(Outcome::Refused(refusal, text, span))
         }

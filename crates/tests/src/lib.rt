@@ -5,9 +5,13 @@
 #![tactic(auto)]
 
 #[cfg(test)]
+mod failing;
+#[cfg(test)]
 mod grid;
 #[cfg(test)]
 mod line;
+#[cfg(test)]
+mod refusals;
 #[cfg(test)]
 mod replay;
 #[cfg(test)]
@@ -16,3 +20,5 @@ mod report;
 mod slow;
 #[cfg(test)]
 mod to_writer;
+#[cfg(test)]
+mod watched;

@@ -69,7 +69,7 @@ fn push_texts(out: &mut Vec<u8>, texts: &[String]) -> Result<(), AllocError>
 fn push_refusal(alloc: Global, out: &mut Vec<u8>, refusal: &RenderError) -> Result<(), AllocError>
     ensures added { OnOk result (out.new.items ≡ out.old.items ++ refusal_bytes refusal.now) }
 {
-    let words = format!(in alloc; "{refusal}")?;
+    let words = format!(in alloc; "{}", refusal.words())?;
     push_fields(out, refusal)?;
     push_text(out, words.as_str())
 }

@@ -55,26 +55,26 @@ pub record BarStarts (layout : Layout) (bar : Bar) (rows : List (List Cell)) : T
 -- a row, with those above and below it, has the bar of a span of several lines: between the span's first and last line it stands in its own
 -- cell and in its kind, whatever else the row holds. In the rows of the first line it begins, in those of the last it ends
 pub record HasBar (layout : Layout) (s : Snippet Annotation) (a : Annotation) (above : List NamedRow) (row : NamedRow) (below : List NamedRow) : Type 0 where
-  pub stand : first_line (cow_str_bytes s.source) a < line_beside above row.name → line_beside above row.name < last_line (cow_str_bytes s.source) a
+  pub stand : first_line (cow_str_bytes s.source.text) a < line_beside above row.name → line_beside above row.name < last_line (cow_str_bytes s.source.text) a
       → slice_index_or row.cells (bar_cell layout (bar_of_span s a).depth) SPACE ≡ bar_beside layout row.name (bar_of_span s a)
-  pub begin : row.name ≡ SourceRow (first_line (cow_str_bytes s.source) a) → BarStarts layout (bar_of_span s a) (row.cells ∷ rows_below below)
-  pub end : row.name ≡ SourceRow (last_line (cow_str_bytes s.source) a) → BarEnds layout (bar_of_span s a) (row.cells ∷ rows_below below)
+  pub begin : row.name ≡ SourceRow (first_line (cow_str_bytes s.source.text) a) → BarStarts layout (bar_of_span s a) (row.cells ∷ rows_below below)
+  pub end : row.name ≡ SourceRow (last_line (cow_str_bytes s.source.text) a) → BarEnds layout (bar_of_span s a) (row.cells ∷ rows_below below)
 
 -- the rows, those of a snippet's lines, have the bars of its spans of several lines. The cell of each is one of those between the separator
 -- and the code. Two such spans that share a line, be it the last of one and the first of the other, have cells of their own, unless they
 -- have the same place in the source. In each of those cells that no such span has which touches the line a space stands, or in a row
 -- below a line a part of a line that leads from another bar to a mark
 pub record ShowsBars (layout : Layout) (s : Snippet Annotation) (rows : List NamedRow) : Type 0 where
-  pub each : (a : Annotation) → Contains s.markers.items a → is_long (cow_str_bytes s.source) a ≡ true
+  pub each : (a : Annotation) → Contains s.markers.items a → is_long (cow_str_bytes s.source.text) a ≡ true
       → (above : List NamedRow) (row : NamedRow) (below : List NamedRow) → rows ≡ above ++ row ∷ below → HasBar layout s a above row below
-  pub within : (a : Annotation) → Contains s.markers.items a → is_long (cow_str_bytes s.source) a ≡ true
+  pub within : (a : Annotation) → Contains s.markers.items a → is_long (cow_str_bytes s.source.text) a ≡ true
       → (layout.gutter + 3 ≤ bar_cell layout (bar_of_span s a).depth) × (bar_cell layout (bar_of_span s a).depth + 1 < layout.code)
-  pub apart : (a b : Annotation) → Contains s.markers.items a → Contains s.markers.items b → is_long (cow_str_bytes s.source) a ≡ true
-      → is_long (cow_str_bytes s.source) b ≡ true → first_line (cow_str_bytes s.source) a ≤ last_line (cow_str_bytes s.source) b
-      → first_line (cow_str_bytes s.source) b ≤ last_line (cow_str_bytes s.source) a
+  pub apart : (a b : Annotation) → Contains s.markers.items a → Contains s.markers.items b → is_long (cow_str_bytes s.source.text) a ≡ true
+      → is_long (cow_str_bytes s.source.text) b ≡ true → first_line (cow_str_bytes s.source.text) a ≤ last_line (cow_str_bytes s.source.text) b
+      → first_line (cow_str_bytes s.source.text) b ≤ last_line (cow_str_bytes s.source.text) a
       → bar_cell layout (bar_of_span s a).depth ≡ bar_cell layout (bar_of_span s b).depth
       → (a.span.start ≡ b.span.start) × (a.span.end ≡ b.span.end)
   pub others : (above : List NamedRow) (row : NamedRow) (below : List NamedRow) → rows ≡ above ++ row ∷ below → (c : ℕ) → layout.gutter + 3 ≤ c
-      → c < layout.code → All (λ a. is_long (cow_str_bytes s.source) a ≡ true → touches (cow_str_bytes s.source) a (line_beside above row.name) ≡ true
+      → c < layout.code → All (λ a. is_long (cow_str_bytes s.source.text) a ≡ true → touches (cow_str_bytes s.source.text) a (line_beside above row.name) ≡ true
       → bar_cell layout (bar_of_span s a).depth ≢ c) s.markers.items → (slice_index_or row.cells c SPACE ≡ SPACE)
       ⊎ ((shows_lines row.name ≡ false) × IsNoBar layout.decor (slice_index_or row.cells c SPACE))

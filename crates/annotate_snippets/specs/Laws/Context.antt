@@ -16,7 +16,7 @@ use Rattle.annotate_snippets.specs.Page.{GroupPage, lines_named}
 -- order, and each single line between two of them
 abbrev pub lines_with_context : ℕ → ℕ → Snippet Annotation → List ℕ
 lines_with_context before after s =
-    let source = cow_str_bytes s.source in
+    let source = cow_str_bytes s.source.text in
     with_between (lines_around before after (length (source_lines source)) (kept_lines s.fold source s.markers.items))
 
 -- the source rows that a page has for each annotated snippet of a report show just these lines, in order

@@ -19,6 +19,7 @@ use Rattle.snippet_style.specs.Cell.{Cell}
 use Rattle.snippet_style.specs.Stylesheet.{is_plain_sheet}
 use Rattle.snippet_style.specs.declared.stylesheet.Stylesheet.{Stylesheet}
 use Rattle.snippet_text_form.specs.Form.{form_text}
+use Rattle.snippet_text_form.specs.Lines.{lines_of_paragraphs}
 use Rattle.snippet_text_form.specs.TextOrder.{StandInOrder}
 use Rattle.snippet_titles.specs.Origin.{origin_text}
 use Rattle.snippet_titles.specs.ShortRows.{short_texts}
@@ -33,6 +34,7 @@ use Rattle.annotate_snippets.specs.GraphicForm.{graphic_form}
 use Rattle.annotate_snippets.specs.Gutter.{numbered_source}
 use Rattle.annotate_snippets.specs.Page.{page_text}
 use Rattle.annotate_snippets.specs.Laws.Page.{PageLaws}
+use Rattle.annotate_snippets.specs.Laws.TextLines.{report_paragraphs}
 use Rattle.annotate_snippets.specs.Laws.Wrapped.{AreRewrapped}
 use Rattle.annotate_snippets.specs.RowsWithoutSource.{place_found}
 use Rattle.annotate_snippets.specs.ShortForm.{before_title, after_title, first_cause, short_form}
@@ -58,7 +60,7 @@ pub record BeginsWithPlace (r : Renderer) (s : Snippet Annotation) (path : List 
 pub record ShowsShort (r : Renderer) (g : Group) (title : Title) (rows : List (List Cell)) : Type 0 where
   pub texts : (i : ℕ) → row_text (row_at rows i) ≡ slice_index_or (short_texts (before_title r g) (after_title g) (heading_of_title title)) i []
   pub origin : (s : Snippet Annotation) → first_cause g.elements.items ≡ Some s → (path : List ℕ) → path_bytes s.path ≡ Some path
-      → list_any (λ a. is_marking a.kind) s.markers.items ≡ true → All (λ a. is_long (cow_str_bytes s.source) a ≡ false) s.markers.items
+      → list_any (λ a. is_marking a.kind) s.markers.items ≡ true → All (λ a. is_long (cow_str_bytes s.source.text) a ≡ false) s.markers.items
       → BeginsWithPlace r s path (row_at rows 0)
   pub free : All (IsFreeButText (heading_of_title title)) rows
 
@@ -76,10 +78,13 @@ pub record ShortLaws (r : Renderer) (groups : List Group) : Type 0 where
 -- ---- the text form
 
 -- the laws of a report's text form: in its plain text stand, one after the other, the texts of titles and messages and the labels of
--- spans; and each listed character of it is one of a trusted text
+-- spans; each listed character of it is one of a trusted text; and with line feeds shown, where no label, path, id and name of a level holds
+-- one, its lines are those of its paragraphs, whatever the patches put in: each begins one or is a further line of a title or message
 pub record TextLaws (r : Renderer) (groups : List Group) : Type 0 where
   pub holds : StandInOrder (report_texts groups) (form_text (text_form r groups))
   pub free : IsFreeBut (trusted_texts groups) (form_text (text_form r groups))
+  pub lines : r.show_line_feeds ≡ true → HasOneLineTexts groups
+      → text_lines (form_text (text_form r groups)) ≡ lines_of_paragraphs (report_paragraphs r groups)
 
 -- ---- each form
 
@@ -103,15 +108,17 @@ pub record IsTextUnder (form : Form) (r : Renderer) (groups : List Group) (sheet
 
 -- a text has the laws of the form that the renderer is set to, for the report that is shown in place of one. Where the renderer is set to
 -- show line feeds, no label, path, id and name of a level of that holds one; so in the graphic form the lines of its plain text are the rows
--- of its page, whatever the report holds. Where it is set to show lines around those that are kept, the page has for each annotated snippet
--- of the given report just the source rows of the lines near one that it keeps, and of each single line between two of these. Where it is
--- set to wrap, no text of a title or message has lost a word, and none of their rows is wider than the terminal
+-- of its page, and in the text form those of its paragraphs, whatever the report holds. Where it is set to show lines around those that are
+-- kept, the page has for each annotated snippet of the given report just the source rows of the lines near one that it keeps, and of each
+-- single line between two of these. Where it is set to wrap, no text of a title or message has lost a word, and none of their rows is wider
+-- than the terminal
 pub record HasLaws (r : Renderer) (groups : List Group) (sheet : Stylesheet) (text : List ℕ) : Type 0 where
   pub shown : List Group
   pub set : IsAsSet (form_of r) r groups shown
   pub laws : LawsIn (form_of r) r shown sheet text
   pub one_line : r.show_line_feeds ≡ true → HasOneLineTexts shown
   pub lines : r.show_line_feeds ≡ true → form_of r ≡ Graphic → text_lines (page_text (graphic_form r shown)) ≡ page_lines (graphic_form r shown)
+  pub paragraphs : r.show_line_feeds ≡ true → form_of r ≡ Text → text_lines (form_text (text_form r shown)) ≡ lines_of_paragraphs (report_paragraphs r shown)
   pub around : adds_context (form_of r) r ≡ true → ShowsLinesAround r.context_before r.context_after groups (graphic_form r shown)
   pub wrapped : wraps (form_of r) r ≡ true → AreRewrapped r groups shown
 

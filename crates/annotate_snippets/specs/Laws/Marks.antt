@@ -29,13 +29,14 @@ cell_of layout dropped p = code_cell layout p - dropped
 -- code's cell on. Where the line has one span alone and it has such a label, the row goes on after the span's last column
 -- with a space and the label, and ends
 pub record ShowsMarksOf (decor : DecorStyle) (layout : Layout) (s : Snippet Annotation) (k dropped : ℕ) (row : List Cell) : Type 0 where
-  pub marks : (p : ℕ) (kind : AnnotationKind) → IsMarkOf (cow_str_bytes s.source) s.markers.items k p kind
+  pub marks : (p : ℕ) (kind : AnnotationKind) → IsMarkOf (cow_str_bytes s.source.text) s.markers.items k p kind
       → IsMarkCell decor kind (slice_index_or row (cell_of layout dropped p) SPACE)
-  pub unmarked : (p : ℕ) → dropped ≤ p → All (λ a. IsMarkedAt (cow_str_bytes s.source) k p a → ⊥) s.markers.items
+  pub unmarked : (p : ℕ) → dropped ≤ p → All (λ a. IsMarkedAt (cow_str_bytes s.source.text) k p a → ⊥) s.markers.items
       → is_mark_role (slice_index_or row (cell_of layout dropped p) SPACE).role ≡ false
-  pub before : (p : ℕ) → dropped ≤ p → All (λ a. is_marked_on (cow_str_bytes s.source) k a ≡ true → p < start_column (cow_str_bytes s.source) a) s.markers.items
+  pub before : (p : ℕ) → dropped ≤ p
+      → All (λ a. is_marked_on (cow_str_bytes s.source.text) k a ≡ true → p < start_column (cow_str_bytes s.source.text) a) s.markers.items
       → slice_index_or row (cell_of layout dropped p) SPACE ≡ SPACE
-  pub spaces : All (λ a. is_marked_on (cow_str_bytes s.source) k a ≡ true → shown_label a ≡ []) s.markers.items → (p : ℕ) → dropped ≤ p
-      → All (λ a. IsMarkedAt (cow_str_bytes s.source) k p a → ⊥) s.markers.items → slice_index_or row (cell_of layout dropped p) SPACE ≡ SPACE
-  pub lone : (a : Annotation) → filter (is_marked_on (cow_str_bytes s.source) k) s.markers.items ≡ a ∷ [] → 0 < length (shown_label a)
-      → row_text (drop (cell_of layout dropped (end_column (cow_str_bytes s.source) a)) row) ≡ 32 ∷ shown_label a
+  pub spaces : All (λ a. is_marked_on (cow_str_bytes s.source.text) k a ≡ true → shown_label a ≡ []) s.markers.items → (p : ℕ) → dropped ≤ p
+      → All (λ a. IsMarkedAt (cow_str_bytes s.source.text) k p a → ⊥) s.markers.items → slice_index_or row (cell_of layout dropped p) SPACE ≡ SPACE
+  pub lone : (a : Annotation) → filter (is_marked_on (cow_str_bytes s.source.text) k) s.markers.items ≡ a ∷ [] → 0 < length (shown_label a)
+      → row_text (drop (cell_of layout dropped (end_column (cow_str_bytes s.source.text) a)) row) ≡ 32 ∷ shown_label a

@@ -22,19 +22,19 @@ use Rattle.annotate_snippets.specs.GraphicForm.{rows_of_lines}
 use Rattle.annotate_snippets.specs.Page.{RowName, SourceRow, Elision, Other, NamedRow, lines_named, cells_of, rows_below, others}
 use Rattle.annotate_snippets.specs.Laws.Bars.{ShowsBars}
 use Rattle.annotate_snippets.specs.RowsWithoutSource.{cause_head, rows_after_cause}
-use Rattle.annotate_snippets.specs.Laws.Lines.{wide_spans, ShowsSourceLine, IsRowBelow}
+use Rattle.annotate_snippets.specs.Laws.Lines.{is_uncut_line, ShowsSourceLine, IsRowBelow}
 use Rattle.annotate_snippets.specs.Laws.Marks.{ShowsMarksOf}
 use Rattle.annotate_snippets.specs.Laws.Labels.{ShowsLabels}
 use Rattle.annotate_snippets.specs.Laws.Paths.{NamesLocation}
 
 -- a source row of line k, with the row right below it, and all rows that belong to it: it shows the line, and where the line
--- qualifies for the promise on marks the row below has its marks. Where no span is cut for being wide, no label is lost
+-- qualifies for the promise on marks the row below has its marks. Where no entry of the line is cut, no label is lost
 pub record ShowsLineAndMarks (r : Renderer) (layout : Layout) (s : Snippet Annotation) (k : ℕ) (row below : List Cell) (rows : List (List Cell)) : Type 0 where
   pub dropped : ℕ
   pub line : ShowsSourceLine r layout s k dropped row
-  pub marks : qualifies_for_marks (r.term_width - layout.code) (length (placeholder_of layout.decor)) (cow_str_bytes s.source) s.markers.items k ≡ true
+  pub marks : qualifies_for_marks (r.term_width - layout.code) (length (placeholder_of layout.decor)) (cow_str_bytes s.source.text) s.markers.items k ≡ true
       → ShowsMarksOf layout.decor layout s k dropped below
-  pub labels : wide_spans (r.term_width - layout.code) (length (placeholder_of layout.decor)) s k ≡ 0 → ShowsLabels layout.decor layout s k dropped rows
+  pub labels : is_uncut_line r layout s k dropped ≡ true → ShowsLabels layout.decor layout s k dropped rows
 
 -- a row of an annotated snippet's lines, with the rows below it, is what its name says; the group's window may close with the
 -- last one. A row in place of lines that are left out has, up to the bars, just the cells of what stands for such lines, so that it can't
@@ -63,11 +63,11 @@ pub record ShowsSnippet (r : Renderer) (layout : Layout) (around : ElementContex
   pub after : List NamedRow
   pub rows_are : rows ≡ others (cause_head r layout around s) ++ (after ++ others (rows_after_cause r layout around))
   pub origin : around.primary ≡ true → (path : List ℕ) → option_map cow_str_bytes s.path ≡ Some path → list_any (λ a. is_marking a.kind) s.markers.items ≡ true
-      → All (λ a. is_long (cow_str_bytes s.source) a ≡ false) s.markers.items → NamesLocation r layout s path (row_at (cells_of rows) 0)
-  pub lines : lines_named after ≡ shown_lines s.fold (cow_str_bytes s.source) s.markers.items
-  pub ends : All (λ a. Contains (lines_named after) (first_line (cow_str_bytes s.source) a)
-      × Contains (lines_named after) (last_line (cow_str_bytes s.source) a)) s.markers.items
+      → All (λ a. is_long (cow_str_bytes s.source.text) a ≡ false) s.markers.items → NamesLocation r layout s path (row_at (cells_of rows) 0)
+  pub lines : lines_named after ≡ shown_lines s.fold (cow_str_bytes s.source.text) s.markers.items
+  pub ends : All (λ a. Contains (lines_named after) (first_line (cow_str_bytes s.source.text) a)
+      × Contains (lines_named after) (last_line (cow_str_bytes s.source.text) a)) s.markers.items
   pub ordered : Ascends (lines_named after)
   pub named : AreRowsOf r layout (closes_with around) s after
-  pub are : after ≡ rows_of_lines r layout (closes_with around) s [] (shown_lines s.fold (cow_str_bytes s.source) s.markers.items)
+  pub are : after ≡ rows_of_lines r layout (closes_with around) s [] (shown_lines s.fold (cow_str_bytes s.source.text) s.markers.items)
   pub bars : ShowsBars layout s after

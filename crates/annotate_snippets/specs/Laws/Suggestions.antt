@@ -47,8 +47,8 @@ pub record IsOfferedRow (r : Renderer) (decor : DecorStyle) (gutter : ℕ) (s : 
   pub space : (slice_index_or row (gutter + 2) SPACE).ch ≡ 32
   pub line : row_text (drop (gutter + 3) row) ≡ norm (chars (slice_index_or (given_lines s) (j - first_given s) []))
   pub patched_line : IsOfferable s
-      → (j < length (source_lines (patched (cow_str_bytes s.source) (edits_of s))))
-      × (row_text (drop (gutter + 3) row) ≡ norm (chars (text_at (source_lines (patched (cow_str_bytes s.source) (edits_of s))) j)))
+      → (j < length (source_lines (patched (cow_str_bytes s.source.text) (edits_of s))))
+      × (row_text (drop (gutter + 3) row) ≡ norm (chars (text_at (source_lines (patched (cow_str_bytes s.source.text) (edits_of s))) j)))
 
 -- a row of a suggestion is what its name says: it offers a line; or it shows a line of the source as removed: with the number
 -- beside it, if that ends before the sign, `-` after the gutter, the line's normalised text from three cells after it on, and no letter
@@ -57,7 +57,7 @@ abbrev pub IsSuggestionRow : Renderer → DecorStyle → ℕ → Snippet Patch �
 IsSuggestionRow r decor gutter s (OfferedLine j) row = IsOfferedRow r decor gutter s j row
 IsSuggestionRow r decor gutter s (RemovedLine i) row =
     IsRemovedRow (line_numbers r s.line_numbering) decor gutter (number_text r s.line_numbering gutter (removed_number s i))
-    (norm (chars (text_at (source_lines (cow_str_bytes s.source)) i))) row
+    (norm (chars (text_at (source_lines (cow_str_bytes s.source.text)) i))) row
 IsSuggestionRow r decor gutter s Other row = IsBareRow decor gutter row
 IsSuggestionRow r decor gutter s name row = ⊥
 
@@ -79,8 +79,8 @@ pub record ShowsSuggestion (r : Renderer) (layout : Layout) (around : ElementCon
     (rows : List NamedRow) : Type 0 where
   pub after : List NamedRow
   pub rows_are : rows ≡ others (suggestion_head r layout around s) ++ after
-  pub offered : IsOfferable s → (j : ℕ) → IsTouched (cow_str_bytes s.source) (edits_of s) j
-      → is_blank_text (text_at (source_lines (patched (cow_str_bytes s.source) (edits_of s))) j) ≡ false
+  pub offered : IsOfferable s → (j : ℕ) → IsTouched (cow_str_bytes s.source.text) (edits_of s) j
+      → is_blank_text (text_at (source_lines (patched (cow_str_bytes s.source.text) (edits_of s))) j) ≡ false
       → (given_lines s ≡ last_reached s ∷ []) ⊎ Contains (lines_offered after) j
   pub order : map (λ row. row.name) after ≡ map (name_of_row s) (suggestion_rows around s)
   pub cells : cells_of after ≡ suggestion_lines r layout around found s

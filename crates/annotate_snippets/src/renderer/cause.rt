@@ -96,7 +96,7 @@ fn draw_cause_lines(
     requires room { HasRoomFor renderer.now layout (Cause cause.snippet.now) }
     ensures rows { OnOk result (let s = cause.entry.snippet.now in buffer.new ≡ buffer.old
         ++ cells_of (rows_of_lines renderer.now layout closes s []
-        (shown_lines s.fold (cow_str_bytes s.source) s.markers.items))) }
+        (shown_lines s.fold (cow_str_bytes s.source.text) s.markers.items))) }
 {
     let alloc = buffer.allocator();
     let numbers = line_numbers(renderer, cause.snippet.line_numbering);

@@ -1,5 +1,11 @@
 //! The colours of the default styles for reports in HTML.
 
+ghost use Rattle.std.specs.Prelude.{◌≢◌, [], All, None};
+ghost use Rattle.snippet_grid.specs.Html.{class_of};
+ghost use Rattle.snippet_style.specs.declared.role.ElementStyle.{ElementStyle};
+ghost use Rattle.snippet_style.specs.declared.role.LevelInner.{LevelInner};
+ghost use Rattle.annotate_snippets.specs.HtmlStylesheet.{HasRules, IsClassOfRole, classes_named};
+
 /// A stylesheet for what [`Renderer::render_html`](crate::Renderer::render_html) gives: the default styles in colours
 /// that can be read on a light page, and on a dark one where the reader prefers that. It goes into a `<style>`, and
 /// may be changed rule by rule: each class has one.
@@ -25,3 +31,10 @@ pub const HTML_STYLESHEET: &str = ".snippet-error { color: #b3001b; font-weight:
   .snippet-removal { color: #ff7b72; }
 }
 ";
+
+/// Proves, and does nothing else, that the stylesheet has a rule for the class of each role, and for no other class.
+fn prove_classes()
+    ensures each { (level : LevelInner) → (role : ElementStyle) → class_of level role ≢ []
+        → HasRules HTML_STYLESHEET.now (class_of level role) }
+    ensures no_other { All IsClassOfRole (classes_named None HTML_STYLESHEET.now) }
+{}

@@ -206,7 +206,9 @@ impl Renderer {
     /// ```
     ///
     /// They are drawn as they are unless this says otherwise. Nothing changes in sources, in patches, and in the texts
-    /// of titles and messages, each line of which has a row.
+    /// of titles and messages, each line of which has a row. In the text form, where what a patch puts in has none, its
+    /// line feeds are shown too: there each line begins a title, a message, a place or an edit, or is a further line of
+    /// a title or message.
     pub fn show_line_feeds(mut self, show_line_feeds: bool) -> Renderer
         ensures changed { result ≡ record self { show_line_feeds = show_line_feeds } }
     {

@@ -29,7 +29,8 @@ use snippet_model::snippet::{Annotation, Element, Group, Message, Patch, Snippet
 use snippet_parts::map_of;
 use snippet_suggest::prepare_suggestion;
 use snippet_text_form::{
-    HeadingKind, SuggestionContext, TextForm, add_cause, add_heading, add_origin, add_suggestion,
+    HeadingKind, SuggestionContext, SuggestionSettings, TextForm, add_cause, add_heading,
+    add_origin, add_suggestion,
 };
 use std::alloc::{AllocError, Global};
 
@@ -192,7 +193,7 @@ fn add_element<'a>(
         Element::Cause(snippet) => add_snippet(alloc, form, anonymized, snippet),
         Element::Suggestion(snippet) => {
             let place = suggestion_place(context.file, context.before, context.followed, snippet);
-            add_patches(alloc, form, anonymized, place, snippet)
+            add_patches(alloc, form, suggestion_settings(renderer), place, snippet)
         }
         Element::Origin(origin) => add_origin(alloc, form, anonymized, origin),
         Element::Padding(_) => Ok(()),
@@ -231,17 +232,27 @@ fn add_snippet<'a>(
 fn add_patches<'a>(
     alloc: Global,
     form: &mut TextForm<'a>,
-    anonymized: bool,
+    settings: SuggestionSettings,
     place: SuggestionContext,
     snippet: &'a Snippet<'a, Patch<'a>>,
 ) -> Result<(), AllocError>
     requires suggestible { IsSuggestible snippet.now }
     requires some { snippet.now.markers.items ≢ [] }
-    ensures added { OnOk result (form.new ≡ form.old ++ suggestion_form anonymized place snippet.now) }
+    ensures added { OnOk result (form.new ≡ form.old ++ suggestion_form settings place snippet.now) }
 {
     match prepare_suggestion(alloc, snippet)? {
-        Some(suggestion) => add_suggestion(alloc, form, anonymized, place, &suggestion),
+        Some(suggestion) => add_suggestion(alloc, form, settings, place, &suggestion),
         None => Ok(()),
+    }
+}
+
+/// How suggestions are told.
+fn suggestion_settings(renderer: &Renderer) -> SuggestionSettings
+    ensures value { result ≡ spec.suggestion_settings renderer.now }
+{
+    SuggestionSettings {
+        anonymized: renderer.anonymized_origin_line_numbers,
+        show_line_feeds: renderer.show_line_feeds,
     }
 }
 

@@ -1,13 +1,15 @@
 //! Reports that are written to a writer: in the graphic form a group at a time, else whole.
 ghost use Rattle.std.specs.Prelude.{◌≡◌, ◌⊎◌, [], ◌∷◌, All, Err, IfErr, IfOk, IfSome, None, OnErr, OnOk};
-ghost use Rattle.std.specs.Prelude.{string_bytes, if◌then◌else◌};
+ghost use Rattle.std.specs.Prelude.{false, string_bytes, if◌then◌else◌};
 ghost use Rattle.snippet_model.specs.Fits.{ReportFits};
 ghost use Rattle.annotate_snippets.specs.Fault as spec;
 ghost use Rattle.annotate_snippets.specs.Fault.{IsWithinBounds};
 ghost use Rattle.annotate_snippets.specs.Laws.Forms.{HasLaws};
 ghost use Rattle.annotate_snippets.specs.Forms.{ShowsReport};
+ghost use Rattle.annotate_snippets.specs.Lent.{held};
 ghost use Rattle.annotate_snippets.specs.PreparedReport.{IsGroupDrawable};
 ghost use Rattle.annotate_snippets.specs.Written.{IsStop, IsTextIn, PrintsGrid, ShowsIn, WritesPart, WritesText};
+ghost use Rattle.annotate_snippets.specs.Written.{blames_writer};
 ghost use Rattle.annotate_snippets.specs.declared.renderer.form.Form.TheVariants as form;
 
 use crate::renderer::Renderer;
@@ -18,34 +20,35 @@ use crate::renderer::gutter::gutter_of;
 use crate::renderer::page::text_in_form;
 use crate::renderer::paths::report_file;
 use crate::renderer::preprocess::prepare_groups;
+use crate::renderer::report_writer::ReportWriter;
 use crate::renderer::validate::first_refusal;
+use crate::renderer::words::RenderToWords;
 use crate::snippet::Report;
 use snippet_grid::{SheetCodes, StyledBuffer};
 use std::alloc::{AllocError, Global};
-use std::error::Error;
-use std::fmt;
 use std::io::{self, Write};
-use written::write_whole;
+use thiserror::Error;
 
 /// Why a report isn't written whole.
-#[derive(Debug, Drop)]
+#[derive(Debug, Drop, Error)]
 pub enum RenderToError {
     /// The report gives no text, or a growth of memory was refused.
+    #[error("{0}")]
     Refused(RenderError),
     /// The writer failed, for this reason.
+    #[error("the report can't be written: {0}")]
     Write(io::Error),
 }
 
-impl fmt::Display for RenderToError {
-    fn fmt<W: fmt::Write>(&self, f: &mut fmt::Formatter<W>) -> fmt::Result {
-        match self {
-            RenderToError::Refused(refusal) => write!(f, "{refusal}"),
-            RenderToError::Write(error) => write!(f, "the report can't be written: {error}"),
-        }
+impl RenderToError {
+    /// What it prints, as a value that has a promise: these words, character for character. `Display` of the error
+    /// itself prints the same, and where the writer failed, after a colon, why: of that nothing is promised.
+    pub fn words(&self) -> RenderToWords<'_>
+        ensures words { result.error.now ≡ self.now }
+    {
+        RenderToWords::of(self)
     }
 }
-
-impl Error for RenderToError {}
 
 /// So that `?` takes up a refusal: it is [`RenderToError::Refused`].
 impl From<RenderError> for RenderToError {
@@ -121,6 +124,33 @@ impl Renderer {
             ⊎ WritesPart (ShowsReport self.now groups.now self.now.stylesheet)
             (W.contents out.old) (W.contents out.new)) }
     {
+        let mut lent = ReportWriter::new(out);
+        self.write_report(alloc, groups, &mut lent)
+    }
+
+    /// What [`render_to`](Renderer::render_to) does, to a writer that is lent for it.
+    fn write_report<W: Write>(
+        &self,
+        alloc: Global,
+        groups: Report<'_>,
+        out: &mut ReportWriter<'_, W>,
+    ) -> Result<(), RenderToError>
+        requires fits { ReportFits groups.now }
+        ensures same_reference { out.new.target.ghost_name ≡ out.old.target.ghost_name }
+
+        // A failed write is told as one, and nothing else is.
+        ensures told { out.old.has_failed ≡ false → out.new.has_failed ≡ blames_writer result }
+        ensures refused { IfSome (spec.first_refusal self.now groups.now)
+            (λ refusal. (result ≡ Err (RenderToError.Refused refusal)) × (out.new ≡ out.old)) }
+        ensures renders { IsWithinBounds self.now groups.now → IfErr result IsStop }
+        ensures whole { OnOk result (WritesText (ShowsReport self.now groups.now self.now.stylesheet)
+            (held W.contents out.old) (held W.contents out.new)) }
+        ensures laws { OnOk result (WritesText (HasLaws self.now groups.now self.now.stylesheet)
+            (held W.contents out.old) (held W.contents out.new)) }
+        ensures part { OnErr result ((out.new ≡ out.old)
+            ⊎ WritesPart (ShowsReport self.now groups.now self.now.stylesheet)
+            (held W.contents out.old) (held W.contents out.new)) }
+    {
         let form = form_of(self);
         if self.shows_as_given(form) {
             return write_given(alloc, self, groups, out);
@@ -135,17 +165,19 @@ fn write_given<W: Write>(
     alloc: Global,
     renderer: &Renderer,
     groups: Report<'_>,
-    out: &mut W,
+    out: &mut ReportWriter<'_, W>,
 ) -> Result<(), RenderToError>
     requires fits { ReportFits groups.now }
+    ensures same_reference { out.new.target.ghost_name ≡ out.old.target.ghost_name }
+    ensures told { out.old.has_failed ≡ false → out.new.has_failed ≡ blames_writer result }
     ensures refused { IfSome (spec.first_refusal renderer.now groups.now)
         (λ refusal. (result ≡ Err (RenderToError.Refused refusal)) × (out.new ≡ out.old)) }
     ensures renders { IsWithinBounds renderer.now groups.now → IfErr result IsStop }
     ensures whole { OnOk result (WritesText (IsTextIn (spec.form_of renderer.now) renderer.now groups.now)
-        (W.contents out.old) (W.contents out.new)) }
+        (held W.contents out.old) (held W.contents out.new)) }
     ensures part { OnErr result ((out.new ≡ out.old)
         ⊎ WritesPart (ShowsIn (spec.form_of renderer.now) renderer.now groups.now)
-        (W.contents out.old) (W.contents out.new)) }
+        (held W.contents out.old) (held W.contents out.new)) }
 {
     let form = form_of(renderer);
     if let Some(refusal) = first_refusal(form, groups) {
@@ -160,15 +192,17 @@ fn write_form<W: Write>(
     renderer: &Renderer,
     form: Form,
     groups: Report<'_>,
-    out: &mut W,
+    out: &mut ReportWriter<'_, W>,
 ) -> Result<(), RenderToError>
     requires drawable { All IsGroupDrawable groups.now }
     requires titled { spec.missing_title form groups.now ≡ None }
+    ensures same_reference { out.new.target.ghost_name ≡ out.old.target.ghost_name }
+    ensures told { out.old.has_failed ≡ false → out.new.has_failed ≡ blames_writer result }
     ensures stopped { IfErr result IsStop }
     ensures whole { OnOk result (WritesText (IsTextIn form renderer.now groups.now)
-        (W.contents out.old) (W.contents out.new)) }
+        (held W.contents out.old) (held W.contents out.new)) }
     ensures part { OnErr result ((out.new ≡ out.old)
-        ⊎ WritesPart (ShowsIn form renderer.now groups.now) (W.contents out.old) (W.contents out.new)) }
+        ⊎ WritesPart (ShowsIn form renderer.now groups.now) (held W.contents out.old) (held W.contents out.new)) }
 {
     match form {
         Form::Graphic => write_groups(alloc, renderer, groups, out),
@@ -182,14 +216,17 @@ fn write_groups<W: Write>(
     alloc: Global,
     renderer: &Renderer,
     groups: Report<'_>,
-    out: &mut W,
+    out: &mut ReportWriter<'_, W>,
 ) -> Result<(), RenderToError>
     requires drawable { All IsGroupDrawable groups.now }
+    ensures same_reference { out.new.target.ghost_name ≡ out.old.target.ghost_name }
+    ensures told { out.old.has_failed ≡ false → out.new.has_failed ≡ blames_writer result }
     ensures stopped { IfErr result IsStop }
     ensures whole { OnOk result (WritesText (IsTextIn form.Graphic renderer.now groups.now)
-        (W.contents out.old) (W.contents out.new)) }
+        (held W.contents out.old) (held W.contents out.new)) }
     ensures part { OnErr result ((out.new ≡ out.old)
-        ⊎ WritesPart (ShowsIn form.Graphic renderer.now groups.now) (W.contents out.old) (W.contents out.new)) }
+        ⊎ WritesPart (ShowsIn form.Graphic renderer.now groups.now)
+        (held W.contents out.old) (held W.contents out.new)) }
 {
     let prepared = prepare_groups(alloc, groups)?;
     let gutter = gutter_of(renderer, &prepared);
@@ -216,17 +253,19 @@ fn write_grid<W: Write>(
     grid: &GroupGrid<'_>,
     is_first: bool,
     codes: &mut SheetCodes,
-    out: &mut W,
+    out: &mut ReportWriter<'_, W>,
 ) -> Result<(), RenderToError>
+    ensures same_reference { out.new.target.ghost_name ≡ out.old.target.ghost_name }
+    ensures told { out.old.has_failed ≡ false → out.new.has_failed ≡ blames_writer result }
     ensures sheet { codes.new ≡ codes.old }
     ensures stopped { IfErr result IsStop }
     ensures whole { OnOk result (WritesText (PrintsGrid codes.old is_first grid.now)
-        (W.contents out.old) (W.contents out.new)) }
+        (held W.contents out.old) (held W.contents out.new)) }
     ensures part { OnErr result ((out.new ≡ out.old)
-        ⊎ WritesPart (PrintsGrid codes.old is_first grid.now) (W.contents out.old) (W.contents out.new)) }
+        ⊎ WritesPart (PrintsGrid codes.old is_first grid.now) (held W.contents out.old) (held W.contents out.new)) }
 {
     let text = grid_text(alloc, grid, is_first, codes)?;
-    write_whole(text.as_bytes(), out)?;
+    out.write(text.as_bytes())?;
     Ok(())
 }
 
@@ -262,17 +301,19 @@ fn write_drawn<W: Write>(
     renderer: &Renderer,
     form: Form,
     groups: Report<'_>,
-    out: &mut W,
+    out: &mut ReportWriter<'_, W>,
 ) -> Result<(), RenderToError>
     requires drawable { All IsGroupDrawable groups.now }
     requires titled { spec.missing_title form groups.now ≡ None }
+    ensures same_reference { out.new.target.ghost_name ≡ out.old.target.ghost_name }
+    ensures told { out.old.has_failed ≡ false → out.new.has_failed ≡ blames_writer result }
     ensures stopped { IfErr result IsStop }
     ensures whole { OnOk result (WritesText (IsTextIn form renderer.now groups.now)
-        (W.contents out.old) (W.contents out.new)) }
+        (held W.contents out.old) (held W.contents out.new)) }
     ensures part { OnErr result ((out.new ≡ out.old)
-        ⊎ WritesPart (ShowsIn form renderer.now groups.now) (W.contents out.old) (W.contents out.new)) }
+        ⊎ WritesPart (ShowsIn form renderer.now groups.now) (held W.contents out.old) (held W.contents out.new)) }
 {
     let text = text_in_form(alloc, renderer, form, groups, &renderer.stylesheet)?;
-    write_whole(text.as_bytes(), out)?;
+    out.write(text.as_bytes())?;
     Ok(())
 }

@@ -124,7 +124,7 @@ fn end_fault(
     source: &SourceText<'_>,
 ) -> Option<RenderError>
     ensures value { result ≡ first_of
-        (number_faults group element (number_after_lines line_start (cow_str_bytes source.now))) }
+        (number_faults group element (number_after_lines line_start (cow_str_bytes source.now.text))) }
 {
     // A source has at most one line more than bytes. Where that many fit, they needn't be counted.
     if source.len() < usize::MAX - line_start {
@@ -142,7 +142,7 @@ fn patched_end_fault(
     patches: &[Patch],
 ) -> Option<RenderError>
     ensures value { result ≡ first_of (number_faults group element
-        (number_after_lines line_start (cow_str_bytes source.now) + added_lines patches.now)) }
+        (number_after_lines line_start (cow_str_bytes source.now.text) + added_lines patches.now)) }
 {
     match greatest_end(line_start, source.as_str(), patches) {
         // Where that many would fit, the lines needn't be counted.
@@ -223,15 +223,15 @@ fn refusal(group: usize, element: usize, marker: usize, fault: SpanFault) -> Ren
 
 /// The number after that of a source's last line, where it fits.
 fn end_number(line_start: usize, source: &SourceText<'_>) -> Option<usize>
-    ensures value { SomeIff result (IsUsize (number_after_lines line_start (cow_str_bytes source.now)))
-        (number_after_lines line_start (cow_str_bytes source.now)) }
+    ensures value { SomeIff result (IsUsize (number_after_lines line_start (cow_str_bytes source.now.text)))
+        (number_after_lines line_start (cow_str_bytes source.now.text)) }
 {
     line_start.checked_add(line_count(source))
 }
 
 /// How many lines a source has. They are counted where they aren't lent.
 fn line_count(source: &SourceText<'_>) -> usize
-    ensures value { result ≡ length (source_lines (cow_str_bytes source.now)) }
+    ensures value { result ≡ length (source_lines (cow_str_bytes source.now.text)) }
 {
     match source.line_starts() {
         Some(starts) => starts.len(),
@@ -246,8 +246,8 @@ fn patched_end_number(
     patches: &[Patch],
 ) -> Option<usize>
     ensures value { SomeIff result
-        (IsUsize (number_after_lines line_start (cow_str_bytes source.now) + added_lines patches.now))
-        (number_after_lines line_start (cow_str_bytes source.now) + added_lines patches.now) }
+        (IsUsize (number_after_lines line_start (cow_str_bytes source.now.text) + added_lines patches.now))
+        (number_after_lines line_start (cow_str_bytes source.now.text) + added_lines patches.now) }
 {
     let mut end = end_number(line_start, source)?;
     for patch in patches {

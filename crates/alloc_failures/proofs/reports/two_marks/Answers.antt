@@ -2,6 +2,7 @@ use Rattle.std.proofs.Common.{rules, arith, ap, sym, subst, ◌∙◌, ◌++◌,
 use Rattle.std.specs.Cow.{cow_str_bytes}
 use Rattle.annotate_snippets.specs.Fits.{AnnotationFits, TextFits}
 use Rattle.std.proofs.lemmas.Result.{IfOk-weaker}
+use Rattle.snippet_model.specs.Source.{SourceSeen}
 use Rattle.alloc_failures.proofs.Lists.{array-drained, IfOk-both}
 use Rattle.alloc_failures.proofs.reports.two_marks.Goals as goal
 
@@ -10,7 +11,7 @@ returns c =
     record {
       fits = IfOk-weaker c.annotations.result _ _
           (λ s (kept, (it, xs, gives, drains, items)). (
-            subst (λ t. TextFits (cow_str_bytes t)) (sym (kept.source ∙ c.source.ensures.source)) (omega arith),
+            subst (λ (s : SourceSeen). TextFits (cow_str_bytes s.text)) (sym (kept.source ∙ c.source.ensures.source)) (omega arith),
             subst (λ p. IfSome p (λ t. TextFits (cow_str_bytes t))) (sym (kept.path ∙ c.source.ensures.path)) tt,
             subst (All AnnotationFits) (sym (items ∙ ap (λ l. l ++ xs) c.source.ensures.markers ∙ array-drained xs it drains ∙ gives.0)) (search rules),
           ))

@@ -21,7 +21,7 @@ returns c =
     let layout = c.args.layout in
     let around = c.args.around in
     let s = c.args.cause.snippet.now in
-    let lines = λ (closes : Bool). cells_of (rows_of_lines r layout closes s [] (shown_lines s.fold (cow_str_bytes s.source) s.markers.items)) in
+    let lines = λ (closes : Bool). cells_of (rows_of_lines r layout closes s [] (shown_lines s.fold (cow_str_bytes s.source.text) s.markers.items)) in
     record {
       rows = on_ok_weaker c.draw_after.result (λ below. pieces c.args.buffer.now (cause_head r layout around s) _ (rows_after_cause r layout around)
           c.draw_cause_head.new.buffer c.draw_cause_lines.new.buffer c.draw_after.new.buffer c.in_ok-draw_cause_head.ensures.rows

@@ -35,7 +35,7 @@ shown_of : (cause : PreparedCause) → IsCausePrepared cause → (source : Sourc
     a.span.end) marks → map seen_kept cause.kept.items ≡ annotated_lines fold source marks
     → map seen_kept shown ≡ map (kept_line source marks) (shown_lines fold source.text marks))
     → map seen_kept infos ≡ map (kept_line (numbered_source cause.snippet.now) cause.snippet.now.markers.items)
-    (shown_lines cause.snippet.now.fold (cow_str_bytes cause.snippet.now.source) cause.snippet.now.markers.items)
+    (shown_lines cause.snippet.now.fold (cow_str_bytes cause.snippet.now.source.text) cause.snippet.now.markers.items)
 shown_of cause prepared source is shown infos same between =
     let s = cause.snippet.now in
     let marks : List Annotation = s.markers.items in
@@ -47,14 +47,14 @@ shown_of cause prepared source is shown infos same between =
 
 shown_first : (c : After-deref) → map seen_kept (infos_of c.deref.result.now)
     ≡ map (kept_line (numbered_source c.args.cause.snippet.now) c.args.cause.snippet.now.markers.items)
-    (shown_lines c.args.cause.snippet.now.fold (cow_str_bytes c.args.cause.snippet.now.source) c.args.cause.snippet.now.markers.items)
+    (shown_lines c.args.cause.snippet.now.fold (cow_str_bytes c.args.cause.snippet.now.source.text) c.args.cause.snippet.now.markers.items)
 shown_first c =
     shown_of c.args.cause c.requires.prepared c.args.cause.map refl (infos_of c.in_ok-lines.lines.items) (infos_of c.deref.result.now)
     (ap infos_of c.deref.ensures.value) c.in_ok-lines.ensures.value
 
 shown_is : (c : After-deref-2) → map seen_kept (infos_of c.deref-2.result.now)
     ≡ map (kept_line (numbered_source c.args.cause.snippet.now) c.args.cause.snippet.now.markers.items)
-    (shown_lines c.args.cause.snippet.now.fold (cow_str_bytes c.args.cause.snippet.now.source) c.args.cause.snippet.now.markers.items)
+    (shown_lines c.args.cause.snippet.now.fold (cow_str_bytes c.args.cause.snippet.now.source.text) c.args.cause.snippet.now.markers.items)
 shown_is c =
     shown_of c.args.cause c.requires.prepared c.args.cause.map refl (infos_of c.in_ok-lines.lines.items) (infos_of c.deref-2.result.now)
     (ap infos_of c.deref-2.ensures.value) c.in_ok-lines.ensures.value
@@ -71,21 +71,21 @@ with_lines_between-requires-clause-texts c =
     let s = c.args.cause.snippet.now in
     let drawable = c.requires.prepared.drawable in
     lines_texts (numbered_source s) s.markers.items drawable.spans (kept_lines s.fold
-    (cow_str_bytes s.source) s.markers.items) c.args.cause.kept.items c.requires.prepared.kept_are drawable.source
+    (cow_str_bytes s.source.text) s.markers.items) c.args.cause.kept.items c.requires.prepared.kept_are drawable.source
 
 pub margin_for-margin-requires-clause-texts : goal.margin_for-margin-requires-clause-texts
 margin_for-margin-requires-clause-texts c =
     let s = c.args.cause.snippet.now in
     let drawable = c.requires.prepared.drawable in
     infos_all TextFits c.deref.result.now (lines_texts (numbered_source s) s.markers.items drawable.spans
-    (shown_lines s.fold (cow_str_bytes s.source) s.markers.items) (infos_of c.deref.result.now) (shown_first c) drawable.source)
+    (shown_lines s.fold (cow_str_bytes s.source.text) s.markers.items) (infos_of c.deref.result.now) (shown_first c) drawable.source)
 
 pub margin_for-margin-requires-clause-labels : goal.margin_for-margin-requires-clause-labels
 margin_for-margin-requires-clause-labels c =
     let s = c.args.cause.snippet.now in
     let drawable = c.requires.prepared.drawable in
     infos_all LabelsFit c.deref.result.now (lines_labels (numbered_source s) s.markers.items drawable.spans
-    (shown_lines s.fold (cow_str_bytes s.source) s.markers.items) (infos_of c.deref.result.now) (shown_first c) drawable.labels)
+    (shown_lines s.fold (cow_str_bytes s.source.text) s.markers.items) (infos_of c.deref.result.now) (shown_first c) drawable.labels)
 
 -- the lines that are kept, as the margin sees them
 kept_is : (c : After-deref-2)
@@ -105,7 +105,7 @@ draw_snippet-requires c =
     let infos : List AnnotatedLineInfo = infos_of lines in
     let layout : Layout = c.args.layout in
     let margin = c.margin_for-margin.result in
-    let ks = shown_lines s.fold (cow_str_bytes s.source) marks in
+    let ks = shown_lines s.fold (cow_str_bytes s.source.text) marks in
     let Fits : LineNumbers → AnnotatedLineInfo → Type 0 = λ numbers info.
     length (shown_number numbers layout.gutter info.line_index) ≤ layout.gutter + 1 in
     let number : All (Fits c.line_numbers-numbers.result) infos = subst (λ (numbers : LineNumbers). All (Fits numbers) infos)
@@ -143,9 +143,9 @@ returns c =
     let shown = shown_of c.args.cause prepared c.args.cause.map refl (infos_of c.in_ok-lines.lines.items) lines (ap infos_of c.deref-2.ensures.value)
     c.in_ok-lines.ensures.value in
     let value = lines_value c.args.renderer.now layout s view margin c.line_numbers-numbers.ensures.value []
-    (shown_lines s.fold (cow_str_bytes s.source) s.markers.items) lines shown in
+    (shown_lines s.fold (cow_str_bytes s.source.text) s.markers.items) lines shown in
     let own : List (List Cell) = cells_of (rows_of_lines c.args.renderer.now layout c.args.closes s []
-    (shown_lines s.fold (cow_str_bytes s.source) s.markers.items)) in
+    (shown_lines s.fold (cow_str_bytes s.source.text) s.markers.items)) in
     record {
       rows = on_ok_weaker c.draw_snippet.result (λ adds. joined c.args.buffer.now c.draw_snippet.new.buffer (infos_rows layout view [] lines) own adds value)
           c.draw_snippet.ensures.added;

@@ -15,5 +15,5 @@ secondary_place-requires c =
     ∙ p.kept_are in
     record {
       room = characters-fit (numbered_source s) s.markers.items
-          (kept_lines s.fold (cow_str_bytes s.source) s.markers.items) c.deref-2.result.now kept p.drawable.source;
+          (kept_lines s.fold (cow_str_bytes s.source.text) s.markers.items) c.deref-2.result.now kept p.drawable.source;
     }

@@ -5,4 +5,4 @@ use Rattle.annotate_snippets.proofs.renderer.preprocess.prepare_cause.Goals as g
 
 pub map_of-requires-clause-numbers : goal.map_of-requires-clause-numbers
 map_of-requires-clause-numbers c =
-    omega (arith, length-source_lines (cow_str_bytes c.args.snippet.now.source), c.requires.drawable.numbers)
+    omega (arith, length-source_lines (cow_str_bytes c.args.snippet.now.source.text), c.requires.drawable.numbers)

@@ -16,13 +16,13 @@ use Rattle.annotate_snippets.proofs.renderer.short.place_of.Goals as goal
 
 pub map_of-requires-clause-numbers : goal.map_of-requires-clause-numbers
 map_of-requires-clause-numbers c =
-    omega (arith, length-source_lines (cow_str_bytes c.args.snippet.now.source), c.requires.drawable.numbers)
+    omega (arith, length-source_lines (cow_str_bytes c.args.snippet.now.source.text), c.requires.drawable.numbers)
 
 pub named_place-place-requires : goal.named_place-place-requires
 named_place-place-requires c =
-    let spans = subst (All (λ a. IsSpan (cow_str_bytes c.args.snippet.now.source) a.span.start a.span.end))
+    let spans = subst (All (λ a. IsSpan (cow_str_bytes c.args.snippet.now.source.text) a.span.start a.span.end))
     (sym c.deref.ensures.value) c.requires.drawable.spans in
-    let text : c.in_ok-map.map.text ≡ cow_str_bytes c.args.snippet.now.source = ap (λ (m : Source). m.text) c.in_ok-map.ensures.ok in
+    let text : c.in_ok-map.map.text ≡ cow_str_bytes c.args.snippet.now.source.text = ap (λ (m : Source). m.text) c.in_ok-map.ensures.ok in
     record {
       spans = subst (λ t. All (λ a. IsSpan t a.span.start a.span.end) c.deref.result.now) (sym text) spans;
       utf8 = c.in_ok-map.ensures.utf8;

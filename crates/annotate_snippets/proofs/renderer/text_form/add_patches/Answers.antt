@@ -17,7 +17,7 @@ returns-in-Some c =
     let same = subst (λ (t : Option PreparedSuggestion). IfSome t (λ p. p.snippet.now ≡ c.args.snippet.now)) c.in-Some.is c.in_ok-suggestion.ensures.snippet in
     record {
       added = subst (λ (s : Snippet Patch). OnOk c.add_suggestion.result
-          (c.add_suggestion.new.form ≡ c.args.form.now ++ suggestion_form c.args.anonymized c.args.place s)) same c.add_suggestion.ensures.added;
+          (c.add_suggestion.new.form ≡ c.args.form.now ++ suggestion_form c.args.settings c.args.place s)) same c.add_suggestion.ensures.added;
     }
 
 pub returns-in-None : goal.returns-in-None

@@ -16,7 +16,7 @@ check_patches-requires c = record {
 pub returns-in-Some-check_patches : goal.returns-in-Some-check_patches
 returns-in-Some-check_patches c =
     let patches : List Patch = c.args.snippet.now.markers.items in
-    let source : List ℕ = cow_str_bytes c.args.snippet.now.source in
+    let source : List ℕ = cow_str_bytes c.args.snippet.now.source.text in
     let faults = λ (s : List ℕ) (ps : List Patch). faults_from (λ n (p : Patch). span_faults c.args.group c.args.element s n p.span) 0 ps in
     let none : faults source patches ≡ [] = ap (λ (s : List ℕ). faults s patches) (sym c.as_str-source.ensures.value)
     ∙ ap (faults c.as_str-source.result.now) (sym c.deref-patches.ensures.value) ∙ none_first _ (sym c.first_of_spans.ensures.value ∙ c.in_default.is) in

@@ -6,5 +6,5 @@ use Rattle.annotate_snippets.proofs.renderer.validate.line_count.Goals as goal
 
 pub returns-in-Some : goal.returns-in-Some
 returns-in-Some c = record {
-  value = ap length c.in-Some.ensures.value ∙ length-starts_from 0 (source_lines (cow_str_bytes c.args.source.now));
+  value = ap length c.in-Some.ensures.value ∙ length-starts_from 0 (source_lines (cow_str_bytes c.args.source.now.text));
 }

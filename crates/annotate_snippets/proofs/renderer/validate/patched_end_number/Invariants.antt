@@ -6,4 +6,4 @@ use Rattle.annotate_snippets.proofs.renderer.validate.patched_end_number.Given a
 
 abbrev pub invariant-loop-patch : goal.invariant-loop-patch
 invariant-loop-patch l =
-    (l.end ≡ number_after_lines l.line_start (cow_str_bytes l.source) + added_lines (take l.patch-index l.patches)) × (l.end < 2 ^ 64)
+    (l.end ≡ number_after_lines l.line_start (cow_str_bytes l.source.text) + added_lines (take l.patch-index l.patches)) × (l.end < 2 ^ 64)

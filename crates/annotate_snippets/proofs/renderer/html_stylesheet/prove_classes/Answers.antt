@@ -1,0 +1,23 @@
+use Rattle.std.proofs.Common.{[], ◌∷◌, All, List, map, refl}
+use Rattle.std.proofs.lemmas.List.Elements.{All-cons, All-nil}
+use Rattle.snippet_grid.specs.Html.{class_of}
+use Rattle.annotate_snippets.specs.HtmlStylesheet.{IsClassOfRole}
+use Rattle.snippet_style.specs.declared.role.ElementStyle.{ElementStyle}
+use Rattle.snippet_style.specs.declared.role.ElementStyle.TheVariants.{MainHeaderMsg, LineNumber, UnderlineSecondary, Level, Addition, Removal}
+use Rattle.snippet_style.specs.declared.role.LevelInner.TheVariants.{Error, Warning, Info, Note, Help}
+use Rattle.annotate_snippets.proofs.renderer.html_stylesheet.prove_classes.Goals as goal
+
+-- the classes of roles, in a group that is an error's
+of_roles : (roles : List ElementStyle) → All IsClassOfRole (map (class_of Error) roles)
+of_roles [] = All-nil IsClassOfRole
+of_roles (role ∷ roles) =
+    All-cons IsClassOfRole (class_of Error role) (map (class_of Error) roles) (record { level = Error; role = role; is = refl }) (of_roles roles)
+
+-- the roles whose classes the sheet names, in order: for a light page, and for a dark one
+abbrev roles_named : List ElementStyle
+roles_named =
+    Level Error ∷ Level Warning ∷ Level Info ∷ Level Note ∷ Level Help ∷ LineNumber ∷ MainHeaderMsg ∷ UnderlineSecondary ∷ Addition ∷ Removal
+    ∷ Level Error ∷ Level Warning ∷ Level Info ∷ Level Note ∷ Level Help ∷ LineNumber ∷ UnderlineSecondary ∷ Addition ∷ Removal ∷ []
+
+pub returns-clause-no_other : goal.returns-clause-no_other
+returns-clause-no_other c = of_roles roles_named
