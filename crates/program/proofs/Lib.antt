@@ -1,2 +1,2 @@
 pub mod NotGiven
-pub mod Writing
+pub mod Shown

@@ -1,3 +1,3 @@
 pub mod Stream
-pub mod Standing
 pub mod Arguments
+pub mod Message

@@ -1,12 +1,7 @@
 -- What a run writes to a stream.
-use Rattle.std.specs.Prelude.{◌≡◌, ℕ, List, [], ◌∷◌, ◌++◌, Option, chars, encode_utf8_all}
-use Rattle.snippet_text.specs.Normalized.{norm}
-use Rattle.program.specs.Standing.{Adds, BreaksOffBefore, Gets, known}
-use Rattle.program.specs.declared.stream.Stream.{Stream}
-
--- a text as a message shows it: what is listed in it is replaced
-abbrev pub normalized_text : List ℕ → List ℕ
-normalized_text text = encode_utf8_all (norm (chars text))
+use Rattle.std.specs.Prelude.{◌≡◌, ℕ, List, [], ◌∷◌, ◌++◌, Option}
+use Rattle.written.specs.Standing.{Adds, BreaksOffBefore, Gets, known}
+use Rattle.written.specs.declared.stream.Stream.{Stream}
 
 -- a text and a line feed
 abbrev pub ended_line : List ℕ → List ℕ

@@ -5,4 +5,5 @@
 pub mod exit;
 pub mod input;
 pub mod line;
-pub mod stream;
+pub mod message;
+pub mod standing_in;

@@ -6,10 +6,11 @@
 
 use program::exit::exit_code;
 use program::input::given_arguments;
-use program::stream::Stream;
+use program::standing_in::stand_in;
 use replay_run::run::run;
 use std::io::{self, BufWriter};
 use std::process::ExitCode;
+use written::Stream;
 
 /// The status of a run that was stopped before it began.
 const STOPPED: u8 = 2;
@@ -28,5 +29,6 @@ fn answer(rt: &HostRuntime) -> io::Result<u8> {
 }
 
 fn main(rt: HostRuntime) -> ExitCode {
+    let _held = stand_in(&rt);
     exit_code("replay", answer(&rt), STOPPED, &mut rt.stderr())
 }

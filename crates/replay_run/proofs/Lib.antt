@@ -6,5 +6,4 @@ pub mod Commands
 pub mod Ending
 pub mod Growing
 pub mod Reading
-pub mod Telling
 pub mod Told

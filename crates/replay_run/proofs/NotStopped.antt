@@ -7,9 +7,9 @@ use Rattle.replay_run.specs.WrittenAnswer.{AnswersLine, AnswersLines, AreFirstLi
 use Rattle.replay_answer.specs.Answer.{answer_of, told_of}
 use Rattle.replay_run.specs.Answered.{AppendsFirst, StopsAfter, StopsFor, StopsReader}
 use Rattle.replay_answer.specs.Answer.{not_json_text}
-use Rattle.replay_run.specs.Problem.{IsWrite, TellsStop, TellsUsageError, normalized_text, stop_text}
+use Rattle.replay_run.specs.Problem.{IsWrite, TellsStop, TellsUsageError, message_text, normalized_text, stop_text}
 use Rattle.replay_command.specs.Arguments.{Argument}
-use Rattle.program.specs.Standing.{Standing}
+use Rattle.written.specs.Standing.{Standing}
 use Rattle.program.specs.Stream.{Output, Receives}
 use Rattle.program.proofs.NotGiven.{sound, told_nothing}
 use Rattle.std.specs.declared.io.Error.{Error}
@@ -134,7 +134,7 @@ Untold = Receives (λ (held : Option (List ℕ)). held) (sound []) (sound [])
 
 -- what stopped it is told there
 pub stop_untold : (name : Argument) (problem : Problem) → TellsStop name problem Untold → ⊥
-stop_untold name problem (inl told) = told_nothing (normalized_text (stop_text name problem told.0)) told.1
+stop_untold name problem (inl told) = told_nothing (message_text (stop_text name problem told.0)) told.1
 stop_untold name problem (inr told) = told_nothing (codes "replay: out of memory") told
 
 -- and what is wrong with the arguments

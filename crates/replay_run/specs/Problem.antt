@@ -3,9 +3,9 @@ use Rattle.std.specs.Prelude.{◌≡◌, ◌⊎◌, ℕ, Bool, true, List, ◌++
 use Rattle.std.specs.Prelude.{string_bytes}
 use Rattle.std.specs.declared.alloc.Global.{Global}
 use Rattle.std.specs.declared.io.Error.{Error}
-pub use Rattle.program.specs.Stream.{normalized_text}
+pub use Rattle.program.specs.Message.{message_text, normalized_text}
 use Rattle.program.specs.Stream.{Output, Told}
-use Rattle.program.specs.Standing.{Standing}
+use Rattle.written.specs.Standing.{Standing}
 use Rattle.serde_json.specs.Data.{Data}
 use Rattle.serde_json.specs.Read.{read}
 use Rattle.replay_answer.specs.Answer.{not_json_text}
@@ -50,7 +50,7 @@ stop_text name problem said = codes "replay: " ++ (name ++ (codes ": " ++ proble
 -- that is told; or that there was no memory for it
 abbrev pub TellsStop : Argument → Problem → (Output → Type 0) → Type 0
 TellsStop name problem Err =
-    ((said : List ℕ) × Err (Told (normalized_text (stop_text name problem said)))) ⊎ Err (Told (codes "replay: out of memory"))
+    ((said : List ℕ) × Err (Told (message_text (stop_text name problem said)))) ⊎ Err (Told (codes "replay: out of memory"))
 
 -- that there was no memory is told
 abbrev pub TellsMemory : (Output → Type 0) → Type 0

@@ -4,7 +4,7 @@ ghost use Rattle.std.specs.Prelude.{◌≡◌, ◌⊎◌, ℕ, Bool, ◌||◌, t
 ghost use Rattle.std.specs.Prelude.{codes, string_bytes};
 ghost use Rattle.std.specs.Io.KnownBytes.{Appends};
 ghost use Rattle.annotate_snippets.specs.Fits.{ReportFits};
-ghost use Rattle.program.specs.Standing.{known};
+ghost use Rattle.written.specs.Standing.{known};
 ghost use Rattle.serde_json.specs.Errors.{IsMemory};
 ghost use Rattle.serde_json.specs.Read.{read};
 ghost use Rattle.serde_json.specs.View.{view};
@@ -24,7 +24,6 @@ ghost use Rattle.replay_answer.specs.declared.outcome.Outcome.{Outcome};
 
 use crate::problem::{InputLine, Problem, fault_words, wrong_line};
 use annotate_snippets::SourceLines;
-use program::stream::Stream;
 use replay_answer::answer::{answer_json, told_json};
 use replay_answer::case::Case;
 use replay_answer::outcome::{Outcome, outcome_of};
@@ -33,6 +32,7 @@ use serde_json::{Error, Value};
 use std::alloc::{AllocError, Global};
 use std::io;
 use std::io::{BufRead, Write};
+use written::Stream;
 
 /// The bytes that end a line.
 const LINE_END: &[u8] = b"\n";
@@ -378,7 +378,7 @@ fn not_json(line: InputLine, error: Error) -> Problem
     if error.is_memory() {
         Problem::Memory
     } else {
-        Problem::NotJson(line, error.column(), error.is_eof())
+        Problem::NotJson(line, error.column().max(1), error.is_eof())
     }
 }
 

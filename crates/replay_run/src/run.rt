@@ -5,7 +5,7 @@ ghost use Rattle.std.specs.Prelude.{OnOk};
 ghost use Rattle.std.specs.Io.KnownBytes.{Appends};
 ghost use Rattle.clap.specs.Words.{found_of, kind_of, rows_of};
 ghost use Rattle.clap.specs.declared.error.kind.ErrorKind.TheVariants as kind;
-ghost use Rattle.program.specs.Standing.{known};
+ghost use Rattle.written.specs.Standing.{known};
 ghost use Rattle.program.specs.Stream.{Receives};
 ghost use Rattle.replay_command.specs.Arguments.{AsksToShow, Checks, IsCommandLine, Argument, asked, arguments_at};
 ghost use Rattle.replay_run.specs.Answered.{AnswersInputs, StopsInputs};
@@ -25,12 +25,12 @@ use crate::problem::Problem;
 use crate::repeat::{TimedTally, print_tally};
 use crate::stop::{StopAt, or_stop, tell_stop, tell_usage_error};
 use clap::ArgMatches;
-use program::stream::Stream;
 use replay_command::arguments::matches_of;
 use replay_command::command::{ReplayCommand, command_of};
 use std::alloc::Global;
 use std::io::Write;
 use std::rt::{Clock, Files};
+use written::Stream;
 
 /// The status of a run that did all that was asked, and found nothing that differs.
 const DONE: u8 = 0;
@@ -71,14 +71,15 @@ pub fn run<'w, R: Files + Input + Clock + AllocGlobal, W: Write, V: Write>(
         → Grows (known W.contents out.old) (known W.contents out.new) }
 {
     match matches_of(rt.alloc(), args) {
-        Ok(matches) => run_matched(rt, &matches, out, err),
-        Err(error) => answer_error(rt.alloc(), &error, out, err),
+        Ok(matches) => run_matched(rt, args, &matches, out, err),
+        Err(error) => answer_error(rt.alloc(), args, &error, out, err),
     }
 }
 
 /// The same, by what the arguments are matched with.
 fn run_matched<R: Files + Input + Clock + AllocGlobal, W: Write, V: Write>(
     rt: &R,
+    args: &[&str],
     matches: &ArgMatches<'_>,
     out: &mut Stream<W>,
     err: &mut Stream<V>,
@@ -114,7 +115,7 @@ fn run_matched<R: Files + Input + Clock + AllocGlobal, W: Write, V: Write>(
             }
         },
         Err(error) => {
-            tell_usage_error(rt.alloc(), &error, err);
+            tell_usage_error(rt.alloc(), args, &error, err);
             STOPPED
         }
     }
@@ -123,6 +124,7 @@ fn run_matched<R: Files + Input + Clock + AllocGlobal, W: Write, V: Write>(
 /// Writes the help or the version, or what is wrong with the arguments.
 fn answer_error<W: Write, V: Write>(
     alloc: Global,
+    args: &[&str],
     error: &clap::Error,
     out: &mut Stream<W>,
     err: &mut Stream<V>,
@@ -137,7 +139,7 @@ fn answer_error<W: Write, V: Write>(
     ensures shown { result ≡ 0 → Grows (known W.contents out.old) (known W.contents out.new) }
 {
     if error.use_stderr() {
-        tell_usage_error(alloc, error, err);
+        tell_usage_error(alloc, args, error, err);
         return STOPPED;
     }
     match show(alloc, error, out) {

@@ -10,9 +10,12 @@ use crate::problem::{Problem, words_of};
 use annotate_snippets::text::normalize_untrusted_str;
 use clap::error::ErrorKind;
 use program::line::write_line;
-use program::stream::Stream;
+use program::message::{lines_of, message_text};
+use replay_command::arguments::matches_of;
+use replay_command::command::command_of;
 use std::alloc::{AllocError, Global};
 use std::io::Write;
+use written::Stream;
 
 /// What is told where there is no memory to tell more.
 const OUT_OF_MEMORY: &str = "replay: out of memory";
@@ -47,20 +50,26 @@ pub fn tell_stop<V: Write>(alloc: Global, stop: &StopAt<'_>, err: &mut Stream<V>
 /// What is told of what stopped a run.
 fn stop_message(alloc: Global, stop: &StopAt<'_>) -> Result<String, AllocError>
     ensures message { IfOk result (λ text. (said : List ℕ)
-        × (string_bytes text ≡ spec.normalized_text (stop_text stop.now.file.now stop.now.problem said))) }
+        × (string_bytes text ≡ spec.message_text (stop_text stop.now.file.now stop.now.problem said))) }
 {
     let file = stop.file;
     let words = words_of(alloc, &stop.problem)?;
     let message = format!(in alloc; "replay: {file}: {words}")?;
-    normalize_untrusted_str(alloc, message.as_str())
+    message_text(alloc, message.as_str())
 }
 
-/// Tells what is wrong with the arguments, or that there was no memory for that.
-pub fn tell_usage_error<V: Write>(alloc: Global, error: &clap::Error, err: &mut Stream<V>)
+/// Tells what is wrong with these arguments, or that there was no memory for that. They are quoted there on one line
+/// each.
+pub fn tell_usage_error<V: Write>(
+    alloc: Global,
+    args: &[&str],
+    error: &clap::Error,
+    err: &mut Stream<V>,
+)
     ensures told { TellsUsageError (Receives V.contents err.old err.new) }
     ensures memory { kind_of error.now ≡ ErrorKind.OutOfMemory → TellsMemory (Receives V.contents err.old err.new) }
 {
-    match shown_error(alloc, error) {
+    match shown_error(alloc, args, error) {
         Ok(text) => write_line(text.as_str(), err),
         Err(AllocError) => write_line(OUT_OF_MEMORY, err),
     };
@@ -68,13 +77,45 @@ pub fn tell_usage_error<V: Write>(alloc: Global, error: &clap::Error, err: &mut 
 
 /// What is wrong with the arguments, as it may be shown, without the line's end; unless that is that there was no
 /// memory to match them.
-fn shown_error(alloc: Global, error: &clap::Error) -> Result<String, AllocError>
+fn shown_error(alloc: Global, args: &[&str], error: &clap::Error) -> Result<String, AllocError>
     ensures shown { IfOk result (λ text. (said : List ℕ) × (string_bytes text ≡ spec.normalized_text said)) }
     ensures memory { kind_of error.now ≡ ErrorKind.OutOfMemory → IsErr result }
 {
     if let ErrorKind::OutOfMemory = error.kind() {
         return Err(AllocError);
     }
-    let message = format!(in alloc; "{error}")?;
+    let message = quoting_lines(alloc, args, error)?;
     normalize_untrusted_str(alloc, message.as_str().trim_end_matches('\n'))
+}
+
+/// What is wrong with these arguments, which are quoted with their line feeds shown: it is what is wrong with arguments
+/// that have these pictures in place of line feeds. No name of an option has either, so what is wrong is the same.
+fn quoting_lines(alloc: Global, args: &[&str], error: &clap::Error) -> Result<String, AllocError> {
+    let lines = lines_of(alloc, args)?;
+    let shown: Vec<&str> = lines.iter().map(|line| line.as_str()).collect(alloc)?;
+    match usage_error(alloc, &shown) {
+        Some(told) => told_or(alloc, &told, error),
+        None => format!(in alloc; "{error}"),
+    }
+}
+
+/// An error as it is told; another one, where there was no memory for it.
+fn told_or(
+    alloc: Global,
+    told: &clap::Error,
+    otherwise: &clap::Error,
+) -> Result<String, AllocError> {
+    if told.kind() == ErrorKind::OutOfMemory {
+        format!(in alloc; "{otherwise}")
+    } else {
+        format!(in alloc; "{told}")
+    }
+}
+
+/// What is wrong with arguments, if anything is.
+fn usage_error(alloc: Global, args: &[&str]) -> Option<clap::Error> {
+    match matches_of(alloc, args) {
+        Ok(matches) => command_of(alloc, &matches).err(),
+        Err(error) => Some(error),
+    }
 }

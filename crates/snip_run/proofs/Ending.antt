@@ -11,7 +11,7 @@ use Rattle.snip_run.specs.declared.arguments.SnipCommand.{SnipCommand}
 use Rattle.snip_run.specs.declared.run.SnipFailure.{SnipFailure}
 use Rattle.snip_run.specs.declared.run.SnipFailure.TheVariants.{Refused}
 use Rattle.snip_run.specs.Report.{RefusesCommand}
-use Rattle.snip_run.specs.Run.{Ends, Failed, Fails, IsReadable, BadUsage, Printed, ShowsFile, Unprinted, message, normalized_text, usage}
+use Rattle.snip_run.specs.Run.{Ends, Failed, Fails, IsReadable, BadUsage, Printed, ShowsFile, Unprinted, message, usage}
 use Rattle.snip_run.specs.Text.{IsShownText}
 use Rattle.snip_run.specs.Arguments.{AreLine, CommandLine, Argument, IsCommandLine, IsCommandOf}
 
@@ -64,10 +64,6 @@ ends_failed args file command failure Out Err of fails silent (inr told) =
       out = silent;
       err = told;
     }
-
--- a name that is shown is spelled by the characters that are shown for it
-pub shown_text : (shown : String Global) (name : List ℕ) → chars (string_bytes shown) ≡ norm (chars name) → string_bytes shown ≡ normalized_text name
-shown_text shown name value = sym (encodes-chars (string_bytes shown) (IsUtf8-string_bytes shown)) ∙ ap encode_utf8_all value
 
 -- a run whose report is printed, and one whose report couldn't be
 pub ends_printed : (args : List Argument) (file : Option (List ℕ)) (command : SnipCommand) (text : List ℕ) (Out Err : Output → Type 0)

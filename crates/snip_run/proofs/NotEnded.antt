@@ -3,7 +3,7 @@ use Rattle.std.proofs.Common.{◌≡◌, ◌++◌, ℕ, Bool, List, [], ◌∷�
 use Rattle.std.specs.Str.{chars}
 use Rattle.snippet_text.specs.Normalized.{norm}
 use Rattle.program.specs.Stream.{Output, Silent, Told, Receives, ended_line}
-use Rattle.program.specs.declared.stream.Stream.{Stream}
+use Rattle.written.specs.declared.stream.Stream.{Stream}
 use Rattle.program.proofs.NotGiven.{cut_unfailed, sound, told_nothing}
 use Rattle.snip_run.specs.Run.{End, Ends, Failed, MayEnd, BadUsage, Printed, Unprinted, err_of, message, out_of, status_of, usage}
 use Rattle.snip_run.specs.declared.run.SnipFailure.TheVariants.{Unreadable}
@@ -109,3 +109,8 @@ failure_untold args file held ends = told_for held ends.end ends.status_is ends.
 pub raw_name_told : message (27 ∷ []) Unreadable ≡ codes "snip: cannot read " ++ 27 ∷ [] → ⊥
 unfolding norm chars lib.Utf8.encode
 raw_name_told is = absurd (omega (arith, ap length is))
+
+-- or an `a`, a line feed and a `b`, which would be two lines
+pub feeding_name_told : message (97 ∷ 10 ∷ 98 ∷ []) Unreadable ≡ codes "snip: cannot read " ++ 97 ∷ 10 ∷ 98 ∷ [] → ⊥
+unfolding norm chars lib.Utf8.encode
+feeding_name_told is = absurd (omega (arith, ap length is))

@@ -36,7 +36,7 @@ pub record IsSnippetFor (command : SnipCommand) (source : List ℕ) (snippet : S
   pub mark : Annotation
   pub mark_is : IsMarkFor command mark
   pub markers : snippet.markers.items ≡ mark ∷ []
-  pub source_is : cow_str_bytes snippet.source ≡ source
+  pub source_is : cow_str_bytes snippet.source.text ≡ source
   pub path : snippet.path ≡ None
   pub line_start : snippet.line_start ≡ 1
   pub line_numbering : snippet.line_numbering ≡ true

@@ -1,6 +1,6 @@
 -- How a run ends, and what it writes.
 use Rattle.std.specs.Prelude.{◌≡◌, ℕ, ◌⊎◌, List, ◌++◌, Option, IsSomeAnd, IfSome, All, alloc_error, codes}
-pub use Rattle.program.specs.Stream.{normalized_text}
+pub use Rattle.program.specs.Message.{message_text}
 use Rattle.annotate_snippets.specs.Refusal.{refusal_text}
 use Rattle.annotate_snippets.specs.declared.renderer.RenderError.{RenderError}
 use Rattle.annotate_snippets.specs.declared.renderer.RenderError.TheVariants.{Memory}
@@ -38,7 +38,7 @@ usage = codes "usage: snip [--unicode] [--text] [--short] [--styled] [--width N]
 
 -- what is told where FILE of this name gives no report
 abbrev pub message : Argument → SnipFailure → List ℕ
-message name Unreadable = codes "snip: cannot read " ++ normalized_text name
+message name Unreadable = codes "snip: cannot read " ++ message_text name
 message name (Refused refusal) = codes "snip: " ++ refusal_text refusal
 
 -- how a run ends: its text is printed; or that couldn't be written; or FILE of this name gives no report; or the arguments aren't of the form

@@ -12,14 +12,15 @@ ghost use Rattle.snip_run.specs.Text.{TextFits, IsShownText};
 use crate::arguments::{SnipCommand, command_of};
 use annotate_snippets::level::ERROR;
 use annotate_snippets::renderer::RenderError;
-use annotate_snippets::text::{normalize_untrusted_str, text_fits};
+use annotate_snippets::text::text_fits;
 use annotate_snippets::{AnnotationKind, Element, Group, OptionCow, Snippet};
 use program::line::write_line;
-use program::stream::Stream;
+use program::message::message_text;
 use report_options::options::renderer_of;
 use std::alloc::{AllocError, Global};
 use std::io::Write;
 use std::str;
+use written::Stream;
 
 /// How the arguments are to be written.
 const USAGE: &str =
@@ -129,10 +130,10 @@ fn message_of(alloc: Global, failure: &SnipFailure, name: &str) -> Result<String
 {
     match failure {
         SnipFailure::Unreadable => {
-            let shown = normalize_untrusted_str(alloc, name)?;
+            let shown = message_text(alloc, name)?;
             format!(in alloc; "snip: cannot read {shown}")
         }
-        SnipFailure::Refused(refusal) => format!(in alloc; "snip: {refusal}"),
+        SnipFailure::Refused(refusal) => format!(in alloc; "snip: {}", refusal.words()),
     }
 }
 

@@ -6,7 +6,7 @@
 
 use program::exit::exit_code;
 use program::input::{file_bytes, given_texts};
-use program::stream::Stream;
+use program::standing_in::stand_in;
 use std::alloc::AllocError;
 use std::process::ExitCode;
 use tidy_run::arguments::{file_word, log_word};
@@ -16,6 +16,7 @@ use tidy_run::rule::Rule;
 use tidy_run::run::{Streams, run};
 use tidy_run::tabs::Tabs;
 use tidy_run::trailing_blanks::TrailingBlanks;
+use written::Stream;
 
 /// The status of a run that there was no memory for.
 const STOPPED: u8 = 2;
@@ -43,5 +44,6 @@ fn answer(rt: &HostRuntime) -> Result<u8, AllocError> {
 }
 
 fn main(rt: HostRuntime) -> ExitCode {
+    let _held = stand_in(&rt);
     exit_code("tidy", answer(&rt), STOPPED, &mut rt.stderr())
 }

@@ -9,7 +9,7 @@ use Rattle.annotate_snippets.specs.Normalized.{norm}
 use Rattle.program.specs.Stream.{Output, Silent, Whole, CutShort, Told as Tells}
 use Rattle.tidy_run.specs.Report.{Told}
 use Rattle.tidy_run.specs.Run.{AreGiven, AreKept, AreTextsOf, End, Ends, Failed, Fails, Found, IsReport, IsSource, MayEnd, BadUsage, Reads, ShowsTold, Unlogged}
-use Rattle.tidy_run.specs.Run.{Unprinted, all_logged, err_of, log_of, message, out_of, sheets_for, normalized_text, status_of, usage}
+use Rattle.tidy_run.specs.Run.{Unprinted, all_logged, err_of, log_of, message, out_of, sheets_for, status_of, usage}
 use Rattle.tidy_run.specs.Arguments.{CommandLine, Argument, command_line_of}
 use Rattle.tidy_run.specs.declared.run.TidyFailure.{TidyFailure}
 use Rattle.tidy_run.specs.declared.run.TidyFailure.TheVariants.{Memory, Unwritable}
@@ -144,7 +144,3 @@ module _ (args : List Argument) (file : Option (List ℕ)) (tells : List ℕ →
       let (shown, logged, same, out, log) = given_texts line.log (λ shown.
       Out (CutShort shown)) Log texts (subst (AreGiven line.log (λ shown. Out (CutShort shown)) Log) same_texts given) in
       ends_as (Unprinted shown logged) (report_of_texts line file tells texts shown logged reads are same) out err log
-
--- a name that is shown is spelled by the characters that are shown for it
-pub shown_text : (shown : String Global) (name : List ℕ) → chars (string_bytes shown) ≡ norm (chars name) → string_bytes shown ≡ normalized_text name
-shown_text shown name value = sym (encodes-chars (string_bytes shown) (IsUtf8-string_bytes shown)) ∙ ap encode_utf8_all value

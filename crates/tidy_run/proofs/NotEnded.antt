@@ -4,10 +4,10 @@ use Rattle.std.proofs.lemmas.Slice.Zip.{AllZip-long}
 use Rattle.std.specs.Str.{chars}
 use Rattle.snippet_text.specs.Normalized.{norm}
 use Rattle.program.specs.Stream.{Output, Silent, Whole, Receives}
-use Rattle.program.specs.declared.stream.Stream.{Stream}
+use Rattle.written.specs.declared.stream.Stream.{Stream}
 use Rattle.program.proofs.NotGiven.{cut_unfailed, sound, told_nothing}
 use Rattle.tidy_run.specs.Report.{Told}
-use Rattle.tidy_run.specs.Run.{Clean, End, Ends, Failed, Found, MayEnd, BadUsage, Unlogged, Unprinted, err_of, log_of, message, normalized_text}
+use Rattle.tidy_run.specs.Run.{Clean, End, Ends, Failed, Found, MayEnd, BadUsage, Unlogged, Unprinted, err_of, log_of, message, message_text}
 use Rattle.tidy_run.specs.Run.{out_of, sheets_for, status_of, usage}
 use Rattle.tidy_run.specs.declared.run.TidyFailure.TheVariants.{Unwritable}
 use Rattle.tidy_run.specs.Arguments.{CommandLine, Argument, command_line_of}
@@ -117,6 +117,15 @@ module _ (args : List Argument) (file : Option (List ℕ)) (tells : List ℕ →
 pub raw_log_told : (name : Bor (List ℕ)) → name.now ≡ 27 ∷ [] → message (Unwritable name) ≡ codes "tidy: cannot write " ++ 27 ∷ [] → ⊥
 unfolding norm chars lib.Utf8.encode
 raw_log_told name raw is =
-    let told : message (Unwritable name) ≡ codes "tidy: cannot write " ++ normalized_text (27 ∷ []) =
-    ap (λ text. codes "tidy: cannot write " ++ normalized_text text) raw in
+    let told : message (Unwritable name) ≡ codes "tidy: cannot write " ++ message_text (27 ∷ []) =
+    ap (λ text. codes "tidy: cannot write " ++ message_text text) raw in
+    absurd (omega (arith, ap length (sym told ∙ is)))
+
+-- or an `a`, a line feed and a `b`, which would be two lines
+pub feeding_log_told : (name : Bor (List ℕ)) → name.now ≡ 97 ∷ 10 ∷ 98 ∷ []
+    → message (Unwritable name) ≡ codes "tidy: cannot write " ++ 97 ∷ 10 ∷ 98 ∷ [] → ⊥
+unfolding norm chars lib.Utf8.encode
+feeding_log_told name raw is =
+    let told : message (Unwritable name) ≡ codes "tidy: cannot write " ++ message_text (97 ∷ 10 ∷ 98 ∷ []) =
+    ap (λ text. codes "tidy: cannot write " ++ message_text text) raw in
     absurd (omega (arith, ap length (sym told ∙ is)))

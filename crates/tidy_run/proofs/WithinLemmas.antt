@@ -80,7 +80,7 @@ path_text_fits path source s of fits = by_cases s.path of.path_is
     by_cases None is = tt
     by_cases (Some t) is = let same : cow_str_bytes t ≡ path = cc in subst TextFits (sym same) fits
 
-source_text_fits : {T : Type 0} (path source : List ℕ) (s : Snippet T) → IsOfFile path source s → TextFits source → TextFits (cow_str_bytes s.source)
+source_text_fits : {T : Type 0} (path source : List ℕ) (s : Snippet T) → IsOfFile path source s → TextFits source → TextFits (cow_str_bytes s.source.text)
 source_text_fits path source s of fits = subst TextFits (sym of.source_is) fits
 
 -- a title of a level whose name fits, without an id
@@ -110,13 +110,13 @@ warning-within : (path source title : List ℕ) (found : List Finding) (g : Grou
 warning-within path source title found g is titled of =
     let s : Snippet Annotation = is.snippet in
     let Clear : List ℕ → Annotation → Type 0 = λ text a. span_fault text a.span.start a.span.end ≡ None in
-    let spans : All (Clear (cow_str_bytes s.source)) s.markers.items =
+    let spans : All (Clear (cow_str_bytes s.source.text)) s.markers.items =
     subst (λ text. All (Clear text) s.markers.items) (sym is.of_file.source_is)
     (subst (All (Clear source)) (sym is.marks) (All-map (Clear source) annotation_of found (clear-spans source 0 found of.inside))) in
-    let size : length (cow_str_bytes s.source) ≡ length source = ap length is.of_file.source_is in
+    let size : length (cow_str_bytes s.source.text) ≡ length source = ap length is.of_file.source_is in
     let fits = of.source_fits in
     let first = is.of_file.line_start in
-    let numbers : s.line_start + (length (cow_str_bytes s.source) + 1) < 2 ^ 64 = omega (arith, size, fits, first) in
+    let numbers : s.line_start + (length (cow_str_bytes s.source.text) + 1) < 2 ^ 64 = omega (arith, size, fits, first) in
     let unlabelled : All AnnotationFits s.markers.items =
     subst (All AnnotationFits) (sym is.marks) (All-map AnnotationFits annotation_of found (λ k d within. tt)) in
     group-within warning_level title false (Cause s) g is.is (lit< tt) (omega (arith, titled.short))
@@ -130,7 +130,7 @@ help-within path source found g is of =
     let ps : List Patch = s.markers.items in
     let inside : AreInside source 0 (map mended_by ps) = subst (AreInside source 0) (sym is.patches) of.inside in
     let Clear : List ℕ → Patch → Type 0 = λ text p. span_fault text p.span.start p.span.end ≡ None in
-    let spans : All (Clear (cow_str_bytes s.source)) ps =
+    let spans : All (Clear (cow_str_bytes s.source.text)) ps =
     subst (λ text. All (Clear text) ps) (sym is.of_file.source_is)
     (of-each (λ (f : Finding). span_fault source f.start f.end ≡ None) mended_by ps (clear-spans source 0 (map mended_by ps) inside)) in
     let short : All (λ (p : Patch). length (cow_str_bytes p.replacement) ≤ 64) ps =
@@ -139,10 +139,10 @@ help-within path source found g is of =
     sum_by-le (λ (p : Patch). length (cow_str_bytes p.replacement)) 64 ps short in
     let many : length ps ≡ length found = sym (length-map ps mended_by) ∙ ap length is.patches in
     let few = of.few in
-    let size : length (cow_str_bytes s.source) ≡ length source = ap length is.of_file.source_is in
+    let size : length (cow_str_bytes s.source.text) ≡ length source = ap length is.of_file.source_is in
     let fits = of.source_fits in
     let first = is.of_file.line_start in
-    let numbers : s.line_start + (length (cow_str_bytes s.source) + 1) + sum_by (λ (p : Patch). length (cow_str_bytes p.replacement)) ps < 2 ^ 64 =
+    let numbers : s.line_start + (length (cow_str_bytes s.source.text) + 1) + sum_by (λ (p : Patch). length (cow_str_bytes p.replacement)) ps < 2 ^ 64 =
     omega (arith, all, many, few, size, fits, first) in
     let replacements : All PatchFits ps =
     All-weaker (λ (p : Patch). length (cow_str_bytes p.replacement) ≤ 64) PatchFits (λ p few. omega (arith, few)) ps short in

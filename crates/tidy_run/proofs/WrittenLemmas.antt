@@ -10,11 +10,10 @@ use Rattle.std.proofs.lemmas.List.{length-map, nil_from_length}
 use Rattle.std.proofs.lemmas.Slice.Zip.{AllZip-long}
 use Rattle.annotate_snippets.specs.Laws.Forms.{HasLaws}
 use Rattle.annotate_snippets.specs.Forms.{TextsShown}
-use Rattle.annotate_snippets.specs.Settings.{plain_settings}
 use Rattle.annotate_snippets.specs.declared.renderer.style.Stylesheet.{Stylesheet}
 use Rattle.annotate_snippets.specs.declared.snippet.Group.{Group}
 use Rattle.annotate_snippets.proofs.ReportLemmas.{IfOk-both}
-use Rattle.tidy_run.specs.Report.{IsReportOf, Told}
+use Rattle.tidy_run.specs.Report.{IsReportOf, Told, tidy_settings}
 use Rattle.tidy_run.specs.Run.{AreTextsOf, ShowsTold}
 
 -- there is no text of a report, or one for each sheet
@@ -37,14 +36,14 @@ counted_texts P (Some source) path told sheets texts read shows =
 -- what is drawn of some groups shows these, and has their laws
 abbrev AreDrawn : List Group → List Stylesheet → Vec (String Global) Global → Type 0
 AreDrawn groups sheets texts =
-    TextsShown plain_settings groups sheets (map string_bytes texts.items) × AllZip (HasLaws plain_settings groups) sheets (map string_bytes texts.items)
+    TextsShown tidy_settings groups sheets (map string_bytes texts.items) × AllZip (HasLaws tidy_settings groups) sheets (map string_bytes texts.items)
 
 -- the texts of a report that tells all of it are what is written of that
 pub texts_of_told : (path source : List ℕ) (told : List Told) (groups : List Group) (sheets : List Stylesheet)
     (drawn : Result (Vec (String Global) Global) AllocError)
     → IsReportOf path source told groups → (groups ≡ [] → IfOk drawn (λ texts. texts.items ≡ []))
-    → (groups ≢ [] → IfOk drawn (λ texts. TextsShown plain_settings groups sheets (map string_bytes texts.items)))
-    → (groups ≢ [] → IfOk drawn (λ texts. AllZip (HasLaws plain_settings groups) sheets (map string_bytes texts.items)))
+    → (groups ≢ [] → IfOk drawn (λ texts. TextsShown tidy_settings groups sheets (map string_bytes texts.items)))
+    → (groups ≢ [] → IfOk drawn (λ texts. AllZip (HasLaws tidy_settings groups) sheets (map string_bytes texts.items)))
     → IfOk drawn (λ texts. AreTextsOf path source told sheets (map string_bytes texts.items))
 texts_of_told path source [] [] sheets drawn report none shows laws =
     IfOk-weaker drawn (λ texts. texts.items ≡ []) (λ texts. map string_bytes texts.items ≡ []) (λ texts empty. ap (map string_bytes) empty) (none refl)
@@ -53,5 +52,5 @@ texts_of_told path source (t ∷ told) [] sheets drawn report none shows laws = 
 texts_of_told path source (t ∷ told) (g ∷ groups) sheets drawn report none shows laws =
     IfOk-weaker drawn (AreDrawn (g ∷ groups) sheets) (λ texts. ShowsTold path source (t ∷ told) sheets (map string_bytes texts.items))
     (λ texts shown. record { groups = g ∷ groups; report = report; shows = shown.0; laws = shown.1 })
-    (IfOk-both (λ texts. TextsShown plain_settings (g ∷ groups) sheets (map string_bytes texts.items))
-    (λ texts. AllZip (HasLaws plain_settings (g ∷ groups)) sheets (map string_bytes texts.items)) drawn (shows (λ empty. cc)) (laws (λ empty. cc)))
+    (IfOk-both (λ texts. TextsShown tidy_settings (g ∷ groups) sheets (map string_bytes texts.items))
+    (λ texts. AllZip (HasLaws tidy_settings (g ∷ groups)) sheets (map string_bytes texts.items)) drawn (shows (λ empty. cc)) (laws (λ empty. cc)))

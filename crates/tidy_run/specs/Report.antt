@@ -14,8 +14,14 @@ use Rattle.annotate_snippets.specs.declared.snippet.Patch.{Patch}
 use Rattle.annotate_snippets.specs.declared.snippet.Snippet.{Snippet}
 use Rattle.annotate_snippets.specs.declared.snippet.Title.{Title}
 use Rattle.annotate_snippets.specs.Edits.{edit_of, patched}
+use Rattle.annotate_snippets.specs.Settings.{plain_settings}
+use Rattle.annotate_snippets.specs.declared.renderer.Renderer.{Renderer}
 use Rattle.tidy_run.specs.Findings.{Finding}
 use Rattle.tidy_run.specs.Mended.{mended}
+
+-- how a report is drawn: plainly, but that line feeds of the file's name are shown
+abbrev pub tidy_settings : Renderer
+tidy_settings = record plain_settings { show_line_feeds = true }
 
 -- the mark of a finding: a primary one of its bytes, without a label
 abbrev pub annotation_of : Finding → Annotation
@@ -29,7 +35,7 @@ mended_by p = record { start = p.span.start; end = p.span.end; text = cow_str_by
 -- a snippet of a file: its path and all of its source, from line 1, with line numbers, and folded
 pub record IsOfFile {T : Type 0} (path source : List ℕ) (snippet : Snippet T) : Type 0 where
   pub path_is : option_map cow_str_bytes snippet.path ≡ Some path
-  pub source_is : cow_str_bytes snippet.source ≡ source
+  pub source_is : cow_str_bytes snippet.source.text ≡ source
   pub line_start : snippet.line_start ≡ 1
   pub line_numbering : snippet.line_numbering ≡ true
   pub fold : snippet.fold ≡ true

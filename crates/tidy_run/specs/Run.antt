@@ -9,9 +9,9 @@ use Rattle.annotate_snippets.specs.Fits.{TextFits}
 use Rattle.annotate_snippets.specs.Laws.Forms.{HasLaws}
 use Rattle.annotate_snippets.specs.Forms.{TextsShown}
 use Rattle.annotate_snippets.specs.Settings.{plain_settings, styled_settings}
-pub use Rattle.program.specs.Stream.{normalized_text}
+pub use Rattle.program.specs.Message.{message_text}
 use Rattle.program.specs.Stream.{Output, Silent, Whole, CutShort, Told as Tells}
-use Rattle.tidy_run.specs.Report.{IsReportOf, Told}
+use Rattle.tidy_run.specs.Report.{IsReportOf, Told, tidy_settings}
 use Rattle.tidy_run.specs.Arguments.{CommandLine, Argument, command_line_of}
 use Rattle.tidy_run.specs.declared.run.TidyFailure.{TidyFailure}
 use Rattle.tidy_run.specs.declared.run.TidyFailure.TheVariants.{Unreadable, Unwritable, Memory}
@@ -31,8 +31,8 @@ sheets_for (Some log) = styled_settings.stylesheet ∷ plain_settings.stylesheet
 pub record ShowsTold (path source : List ℕ) (told : List Told) (sheets : List Stylesheet) (texts : List (List ℕ)) : Type 0 where
   pub groups : List Group
   pub report : IsReportOf path source told groups
-  pub shows : TextsShown plain_settings groups sheets texts
-  pub laws : AllZip (HasLaws plain_settings groups) sheets texts
+  pub shows : TextsShown tidy_settings groups sheets texts
+  pub laws : AllZip (HasLaws tidy_settings groups) sheets texts
 
 -- the texts that are written where this is told of a file: none where nothing is, else those that show it
 abbrev pub AreTextsOf : List ℕ → List ℕ → List Told → List Stylesheet → List (List ℕ) → Type 0
@@ -70,8 +70,8 @@ usage = codes "usage: tidy [--log LOG] FILE"
 
 -- what is told of a failure
 abbrev pub message : TidyFailure → List ℕ
-message (Unreadable name) = codes "tidy: cannot read " ++ normalized_text name.now
-message (Unwritable name) = codes "tidy: cannot write " ++ normalized_text name.now
+message (Unreadable name) = codes "tidy: cannot read " ++ message_text name.now
+message (Unwritable name) = codes "tidy: cannot write " ++ message_text name.now
 message Memory = codes "tidy: out of memory"
 
 -- how a run ends: nothing is told; the report is printed, once it is in LOG where that is given; it couldn't be printed; it couldn't be

@@ -5,9 +5,9 @@ ghost use Rattle.std.specs.Result.{OnOk};
 ghost use Rattle.annotate_snippets.specs.declared.snippet.Group.{Group};
 ghost use Rattle.annotate_snippets.specs.Fault.{IsWithinBounds};
 ghost use Rattle.annotate_snippets.specs.Fits.{TextFits};
-ghost use Rattle.annotate_snippets.specs.Settings.{plain_settings};
 ghost use Rattle.tidy_run.specs.Findings.{AreInside, IsTitle, finding_of, findings_of};
-ghost use Rattle.tidy_run.specs.Report.{IsHelp, IsOfFile, IsReportOf, IsWarning, annotation_of, mended_by, told_of};
+ghost use Rattle.tidy_run.specs.Report.{IsHelp, IsOfFile, IsReportOf, IsWarning, annotation_of, mended_by};
+ghost use Rattle.tidy_run.specs.Report.{tidy_settings, told_of};
 
 use crate::rule::{Edit, Rule};
 use annotate_snippets::level::{HELP, WARNING};
@@ -128,7 +128,7 @@ pub fn report<'a>(
     ensures told { IfOk result (λ groups. IsReportOf path.now source.now
         (flat_map (λ rule. told_of (title_of rule) (findings_of (finds rule source.now) source.now)) rules.now)
         groups.items) }
-    ensures bounds { IfOk result (λ groups. IsWithinBounds plain_settings groups.items) }
+    ensures bounds { IfOk result (λ groups. IsWithinBounds tidy_settings groups.items) }
 {
     let mut groups = Vec::new(alloc);
     for (i, rule) in rules.iter().enumerate() {

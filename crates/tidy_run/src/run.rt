@@ -7,12 +7,11 @@ ghost use Rattle.annotate_snippets.specs.Fault.{IsWithinBounds};
 ghost use Rattle.annotate_snippets.specs.Fits.{TextFits};
 ghost use Rattle.annotate_snippets.specs.Laws.Forms.{HasLaws};
 ghost use Rattle.annotate_snippets.specs.Forms.{TextsShown};
-ghost use Rattle.annotate_snippets.specs.Settings.{plain_settings};
 ghost use Rattle.program.specs.Stream.{Receives, Told};
 ghost use Rattle.tidy_run.specs.Findings.{findings_of};
-ghost use Rattle.tidy_run.specs.Report.{told_of};
+ghost use Rattle.tidy_run.specs.Report.{tidy_settings, told_of};
 ghost use Rattle.tidy_run.specs.Run.{AreTextsOf, Becomes, Ends, Fails, IsSource, Reads, message, sheets_for};
-ghost use Rattle.tidy_run.specs.Run.{normalized_text};
+ghost use Rattle.tidy_run.specs.Run as spec;
 ghost use Rattle.tidy_run.specs.Arguments.{command_line_of, said, arguments_at};
 
 use crate::arguments::{TidyCommand, command_of};
@@ -21,13 +20,14 @@ use crate::report::report;
 use crate::rule::Rule;
 use annotate_snippets::renderer::RenderError;
 use annotate_snippets::renderer::style::Stylesheet;
-use annotate_snippets::text::{normalize_untrusted_str, text_fits};
+use annotate_snippets::text::text_fits;
 use annotate_snippets::{Group, Renderer, SourceLines};
 use program::line::write_line;
-use program::stream::Stream;
+use program::message::message_text;
 use std::alloc::{AllocError, Global};
 use std::io::Write;
 use std::str;
+use written::Stream;
 
 /// How the arguments are to be written.
 const USAGE: &str = "usage: tidy [--log LOG] FILE";
@@ -79,17 +79,18 @@ fn drawn(
     groups: &Vec<Group<'_>>,
     sheets: &[Stylesheet],
 ) -> Result<Vec<String>, AllocError>
-    requires bounds { IsWithinBounds plain_settings groups.now.items }
+    requires bounds { IsWithinBounds tidy_settings groups.now.items }
     ensures none { groups.now.items ≡ [] → IfOk result (λ texts. texts.items ≡ []) }
     ensures shows { groups.now.items ≢ [] → IfOk result (λ texts.
-        TextsShown plain_settings groups.now.items sheets.now (map string_bytes texts.items)) }
+        TextsShown tidy_settings groups.now.items sheets.now (map string_bytes texts.items)) }
     ensures laws { groups.now.items ≢ [] → IfOk result (λ texts.
-        AllZip (HasLaws plain_settings groups.now.items) sheets.now (map string_bytes texts.items)) }
+        AllZip (HasLaws tidy_settings groups.now.items) sheets.now (map string_bytes texts.items)) }
 {
     if groups.is_empty() {
         return Ok(Vec::new(alloc));
     }
-    match Renderer::plain().render_sheets(alloc, groups, sheets) {
+    let renderer = Renderer::plain().show_line_feeds(true);
+    match renderer.render_sheets(alloc, groups, sheets) {
         Ok(texts) => Ok(texts),
         Err(RenderError::Memory(error)) => Err(error),
         Err(_) => unreachable!(),
@@ -218,9 +219,9 @@ fn message_of(alloc: Global, failure: TidyFailure<'_>) -> Result<String, AllocEr
 /// What is told where this can't be done to the file of this name.
 fn cannot(alloc: Global, verb: &str, name: &str) -> Result<String, AllocError>
     ensures message { IfOk result (λ text.
-        string_bytes text ≡ codes "tidy: cannot " ++ (verb.now ++ (codes " " ++ normalized_text name.now))) }
+        string_bytes text ≡ codes "tidy: cannot " ++ (verb.now ++ (codes " " ++ spec.message_text name.now))) }
 {
-    let shown = normalize_untrusted_str(alloc, name)?;
+    let shown = message_text(alloc, name)?;
     format!(in alloc; "tidy: cannot {verb} {shown}")
 }
 

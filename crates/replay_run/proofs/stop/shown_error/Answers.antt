@@ -1,12 +1,12 @@
-use Rattle.std.proofs.Common.{refl, rules}
+use Rattle.std.proofs.Common.{rules}
 use Rattle.std.proofs.lemmas.Result.{IfOk-weaker}
-use Rattle.replay_run.proofs.Telling.{shown_message}
+use Rattle.program.proofs.Shown.{shown_text}
 use Rattle.replay_run.proofs.stop.shown_error.Goals as goal
 
 pub returns : goal.returns
 returns c =
     record {
       shown = IfOk-weaker c.normalize_untrusted_str.result _ _
-          (λ text value. (c.trim_end_matches.result.now, shown_message text _ _ value refl)) c.normalize_untrusted_str.ensures.value;
+          (λ text value. (c.trim_end_matches.result.now, shown_text text _ value)) c.normalize_untrusted_str.ensures.value;
       memory = search rules;
     }

@@ -6,6 +6,7 @@ use Rattle.annotate_snippets.specs.declared.snippet.Element.{Element}
 use Rattle.annotate_snippets.specs.declared.snippet.Group.{Group}
 use Rattle.annotate_snippets.specs.declared.snippet.Snippet.{Snippet}
 use Rattle.annotate_snippets.specs.declared.snippet.Title.{Title}
+use Rattle.snippet_model.specs.Source.{SourceSeen}
 use Rattle.snip_run.specs.declared.arguments.SnipCommand.{SnipCommand}
 use Rattle.annotate_snippets.specs.KeptSettings.{KeepsSettings}
 use Rattle.snip_run.specs.Report.{IsMarkFor, IsSnippetFor, IsTitleFor}
@@ -38,7 +39,7 @@ returns-clause-report c =
       mark_is = mark_is;
       markers = added (λ s. s.markers.items ≡ begun.markers.items ++ mark ∷ []) c.annotation.ensures.annotations
           ∙ ap (λ (ms : List Annotation). ms ++ mark ∷ []) c.source.ensures.markers;
-      source_is = ap cow_str_bytes (kept.source ∙ c.source.ensures.source);
+      source_is = ap (λ (s : SourceSeen). cow_str_bytes s.text) (kept.source ∙ c.source.ensures.source);
       path = kept.path ∙ c.source.ensures.path;
       line_start = kept.line_start ∙ c.source.ensures.line_start;
       line_numbering = kept.line_numbering ∙ c.source.ensures.line_numbering;

@@ -72,4 +72,6 @@ loop-i-init g c =
     }
 
 pub returns-clause-bounds : goal.returns-clause-bounds
-returns-clause-bounds g c = within-bounds c.loop-i.groups.items c.loop-i.invariant.within
+returns-clause-bounds g c =
+    let plain = within-bounds c.loop-i.groups.items c.loop-i.invariant.within in
+    record { faultless = plain.faultless; fits = plain.fits }
