@@ -3,27 +3,24 @@
 
 use program::exit::exit_code;
 use program::input::given_arguments;
-use program::stream::Stream;
+use program::standing_in::stand_in;
 use redraw_command::tally::FAILED;
-use redraw_command::terminal::Surroundings;
+use redraw_command::terminal::{Surroundings, columns_of, is_colorless};
 use redraw_run::run::run;
 use std::env;
 use std::io::{self, BufWriter, IsTerminal};
 use std::process::ExitCode;
 use std::rt::Env;
+use written::Stream;
 
-/// Whether colors aren't wanted, or the terminal shows none.
-fn is_colorless(rt: &(impl Env + AllocGlobal)) -> bool {
-    let is_unwanted = env::var(rt, "NO_COLOR").is_ok_and(|value| !value.is_empty());
-    let is_dumb = env::var(rt, "TERM").is_ok_and(|value| value.as_str() == "dumb");
-    is_unwanted || is_dumb
+/// What a variable of the environment is set to, where it is set to UTF-8.
+fn variable(rt: &(impl Env + AllocGlobal), name: &str) -> Option<String> {
+    env::var(rt, name).ok()
 }
 
-/// The width of the terminal in columns, where the environment gives it.
-fn columns(rt: &(impl Env + AllocGlobal)) -> Option<usize> {
-    let value = env::var(rt, "COLUMNS").ok()?;
-    let columns = value.as_str().parse().ok()?;
-    if columns > 0 { Some(columns) } else { None }
+/// The text that there is, if there is one.
+fn text_of(text: &Option<String>) -> Option<&str> {
+    text.as_ref().map(|text| text.as_str())
 }
 
 /// Runs the program, and answers the status to end with.
@@ -34,11 +31,14 @@ fn answer(rt: &HostRuntime) -> io::Result<u8> {
         .iter()
         .map(|argument| argument.as_str())
         .collect(alloc)?;
+    let no_color = variable(rt, "NO_COLOR");
+    let term = variable(rt, "TERM");
+    let columns = variable(rt, "COLUMNS");
     let folder = env::current_dir(rt).ok();
     let around = Surroundings {
         is_terminal: rt.stdout().is_terminal(),
-        is_colorless: is_colorless(rt),
-        columns: columns(rt),
+        is_colorless: is_colorless(text_of(&no_color), text_of(&term)),
+        columns: columns_of(text_of(&columns)),
         folder: folder.as_ref().map(|path| path.as_str()),
     };
     let mut out = Stream::new(BufWriter::new(alloc, rt.stdout())?);
@@ -47,5 +47,6 @@ fn answer(rt: &HostRuntime) -> io::Result<u8> {
 }
 
 fn main(rt: HostRuntime) -> ExitCode {
+    let _held = stand_in(&rt);
     exit_code("redraw", answer(&rt), FAILED, &mut rt.stderr())
 }

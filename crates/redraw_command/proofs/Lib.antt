@@ -1,5 +1,9 @@
 pub mod Chosen
 pub mod CommandLines
+pub mod Finding
+pub mod NotFound
 pub mod NotWritten
+pub mod Paths
 pub mod Telling
+pub mod Unheeding
 pub mod Wording

@@ -1,14 +1,8 @@
 -- What is told.
-use Rattle.std.proofs.Common.{◌≡◌, ℕ, List, String, Global, ap, chars, codes, encode_utf8_all, inl, inr, refl, string_bytes, subst, sym, ◌∙◌}
-use Rattle.std.proofs.lemmas.Str.{IsUtf8-string_bytes, encodes-chars}
-use Rattle.program.specs.Standing.{Gets, Standing}
+use Rattle.std.proofs.Common.{◌≡◌, ℕ, List, codes, inl, inr, refl, subst}
+use Rattle.written.specs.Standing.{Gets, Standing}
 use Rattle.program.specs.Stream.{ended_line}
-use Rattle.snippet_text.specs.Normalized.{norm}
 use Rattle.redraw_command.specs.Told.{IsMessage, Tells, TellsMemory, TellsOfArguments, normalized_text}
-
--- what is shown for a text is spelled by the characters that are shown for it
-pub shown_message : (text : String Global) (given : List ℕ) → chars (string_bytes text) ≡ norm (chars given) → string_bytes text ≡ normalized_text given
-shown_message text given value = sym (encodes-chars (string_bytes text) (IsUtf8-string_bytes text)) ∙ ap encode_utf8_all value
 
 -- a line that is given is told
 pub tells_line : (old new : Standing) (text line : List ℕ) → text ≡ line → IsMessage line → Gets old new (ended_line text) → Tells old new

@@ -1,5 +1,5 @@
 -- What the arguments of a command line ask for.
-use Rattle.std.specs.Prelude.{◌≡◌, ◌≢◌, ◌⊎◌, ℕ, ◌^◌, Bool, true, false, ◌&&◌, List, [], ◌∷◌, Option, Some, None, codes}
+use Rattle.std.specs.Prelude.{◌≡◌, ◌≢◌, ◌⊎◌, ℕ, ◌^◌, Bool, true, false, ◌&&◌, ◌||◌, List, [], ◌∷◌, Option, Some, None, codes}
 use Rattle.std.specs.Prelude.{if◌then◌else◌, bytes_eq, nat_lt, not, option_map}
 use Rattle.std.specs.Borrow.{Bor}
 use Rattle.std.specs.Option.{option_and_then, option_map_or}
@@ -59,7 +59,7 @@ form_rules =
 abbrev pub flag_rules : List Rule
 flag_rules =
     flag_rule (codes "styled") ∷ flag_rule (codes "links") ∷ flag_rule (codes "duplicates") ∷ flag_rule (codes "quiet")
-    ∷ flag_rule (codes "confined") ∷ []
+    ∷ flag_rule (codes "confined") ∷ flag_rule (codes "unconfined") ∷ []
 
 -- the words that may stand after `--color`, and after `--level`
 abbrev pub color_words : List Argument
@@ -141,6 +141,7 @@ look_of found = record {
   text = was_given (codes "text") found;
   short = was_given (codes "short") found;
   html = was_given (codes "html") found && not (was_given (codes "github") found);
+  github = was_given (codes "github") found;
   colors = when_of (first_of (codes "color") found) (was_given (codes "styled") found);
   links = was_given (codes "links") found;
   width = option_and_then number_of (first_of (codes "width") found);
@@ -158,11 +159,13 @@ pub record IsChoiceOf (found : List Row) (c : Choice) : Type 0 where
 abbrev pub names_at : Option (Bor (List (Bor Argument))) → Option (List Argument)
 names_at names = option_map (λ (ns : Bor (List (Bor Argument))). arguments_at ns.now) names
 
--- what is asked for, by what is found
+-- what is asked for, by what is found. No files but those below the folder are read for lines of rustc and cargo where that is asked for,
+-- and for SARIF logs unless that is lifted
 pub record IsRequestOf (found : List Row) (r : RedrawRequest) : Type 0 where
   pub look : r.look ≡ look_of found
   pub root : argument_at r.root ≡ first_of (codes "root") found
-  pub confined : r.is_confined ≡ was_given (codes "confined") found
+  pub confined_lines : r.confines_lines ≡ was_given (codes "confined") found
+  pub confined_logs : r.confines_logs ≡ (was_given (codes "confined") found || not (was_given (codes "unconfined") found))
   pub choice : IsChoiceOf found r.choice
   pub inputs : names_at r.inputs ≡ all_of (codes "inputs") found
 

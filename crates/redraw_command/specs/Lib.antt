@@ -1,8 +1,11 @@
 pub mod Arguments
 pub mod Choice
+pub mod Files
+pub mod Found
 pub mod Line
 pub mod Look
 pub mod Seen
 pub mod Tally
 pub mod Told
+pub mod Unheeded
 pub mod Workflow

@@ -1,5 +1,7 @@
 -- When colours and links are written.
-use Rattle.std.specs.Prelude.{Bool, true, false, ◌&&◌, ◌||◌, not}
+use Rattle.std.specs.Prelude.{ℕ, Bool, true, false, ◌&&◌, ◌||◌, List, [], ◌∷◌, Option, Some, None, bytes_eq, codes, not, zero, suc}
+use Rattle.std.specs.Option.{option_and_then}
+use Rattle.redraw_command.specs.Arguments.{number_of}
 use Rattle.redraw_command.specs.declared.terminal.Look.{Look}
 use Rattle.redraw_command.specs.declared.terminal.Surroundings.{Surroundings}
 use Rattle.redraw_command.specs.declared.terminal.When.{When}
@@ -24,3 +26,27 @@ is_always Never = false
 -- whether links are written where codes are: where they are asked for, or codes always are
 abbrev pub has_links : Look → Bool
 has_links look = look.links || is_always look.colors
+
+-- whether a variable is set to anything but nothing
+abbrev pub is_set : Option (List ℕ) → Bool
+is_set None = false
+is_set (Some []) = false
+is_set (Some (b ∷ value)) = true
+
+-- whether a terminal of this name shows no colours
+abbrev pub is_dumb : Option (List ℕ) → Bool
+is_dumb None = false
+is_dumb (Some name) = bytes_eq name (codes "dumb")
+
+-- whether colours aren't wanted, or the terminal shows none, by what `NO_COLOR` and `TERM` are set to
+abbrev pub is_colorless : (no_color term : Option (List ℕ)) → Bool
+is_colorless no_color term = is_set no_color || is_dumb term
+
+-- a width that is at least one column
+abbrev pub some_columns : ℕ → Option ℕ
+some_columns zero = None
+some_columns (suc n) = Some (suc n)
+
+-- the width of the terminal, by what `COLUMNS` is set to
+abbrev pub columns_of : Option (List ℕ) → Option ℕ
+columns_of value = option_and_then some_columns (option_and_then number_of value)

@@ -1,12 +1,13 @@
 -- What is told on standard error.
 use Rattle.std.specs.Prelude.{◌≡◌, ℕ, ◌⊎◌, List, ◌++◌, codes}
-use Rattle.program.specs.Standing.{Gets, Standing}
+use Rattle.written.specs.Standing.{Gets, Standing}
 use Rattle.program.specs.Stream.{ended_line}
-pub use Rattle.program.specs.Stream.{normalized_text}
+pub use Rattle.program.specs.Message.{message_text, normalized_text}
+use Rattle.redraw_command.specs.Unheeded.{apart}
 
--- what is told where this is said: the program's name, and that as it may be shown
+-- what is told where this is said: the program's name, and that on one line as it may be shown, without the start of a command of GitHub
 abbrev pub message : List ℕ → List ℕ
-message said = codes "redraw: " ++ normalized_text said
+message said = codes "redraw: " ++ apart (message_text said)
 
 -- a line that is told: a message, or that there was no memory for one
 abbrev pub IsMessage : List ℕ → Type 0

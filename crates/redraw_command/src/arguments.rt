@@ -1,6 +1,6 @@
 //! The arguments of the command line, without the program's name.
 
-ghost use Rattle.std.specs.Prelude.{◌≡◌, ◌&&◌, codes, false, not, IfOk};
+ghost use Rattle.std.specs.Prelude.{◌≡◌, ◌&&◌, ◌||◌, codes, false, not, IfOk};
 ghost use Rattle.clap.specs.Words.{FailsBy, app_of, fault_of, found_of, rows_of, rule_of};
 ghost use Rattle.clap.specs.Walk.{all_of, first_of};
 ghost use Rattle.clap.specs.Simple.{matches_of as rows_for};
@@ -23,8 +23,10 @@ pub struct RedrawRequest<'w, 'a> {
     pub look: Look,
     /// The folder that files are read below, where one is given.
     pub root: Option<&'a str>,
-    /// Whether no files but those below the folder are read.
-    pub is_confined: bool,
+    /// Whether no files but those below the folder are read for lines of rustc and cargo.
+    pub confines_lines: bool,
+    /// The same for SARIF logs.
+    pub confines_logs: bool,
     /// Which findings are drawn, and in which form.
     pub choice: Choice<'a>,
     /// The inputs that are read; standard input where none are named.
@@ -118,14 +120,20 @@ fn with_flags<'a>(alloc: Global, command: Command<'a>) -> Result<Command<'a>, Al
     let confined = flag(
         alloc,
         "confined",
-        "Show no files but those below the folder: for logs from strangers",
+        "Show no files but those below the folder for cargo's and rustc's lines either",
+    );
+    let unconfined = flag(
+        alloc,
+        "unconfined",
+        "Show files elsewhere for SARIF logs too: for logs of your own",
     );
     let flagged = command
         .arg(styled)?
         .arg(links)?
         .arg(duplicates)?
         .arg(quiet)?
-        .arg(confined)?;
+        .arg(confined)?
+        .arg(unconfined)?;
     Ok(flagged)
 }
 
@@ -240,10 +248,18 @@ pub fn request_of<'w, 'a>(matches: &'w ArgMatches<'a>) -> RedrawRequest<'w, 'a>
     RedrawRequest {
         look: look_of(matches),
         root: argument_after(matches, "root"),
-        is_confined: has(matches, "confined"),
+        confines_lines: has(matches, "confined"),
+        confines_logs: confines_logs(has(matches, "confined"), has(matches, "unconfined")),
         choice: choice_of(matches),
         inputs: inputs_of(matches),
     }
+}
+
+/// Whether no files but those below the folder are read for SARIF logs: unless that is lifted, and not asked for too.
+fn confines_logs(is_confined: bool, is_unconfined: bool) -> bool
+    ensures value { result ≡ is_confined || not is_unconfined }
+{
+    is_confined || !is_unconfined
 }
 
 /// Whether an option that stands alone was given.
@@ -281,6 +297,7 @@ fn look_of(matches: &ArgMatches<'_>) -> Look
         text: has(matches, "text"),
         short: has(matches, "short"),
         html: is_html(has(matches, "html"), has(matches, "github")),
+        github: has(matches, "github"),
         colors: colors_of(color, has(matches, "styled")),
         links: has(matches, "links"),
         width: width_of(width),
@@ -313,7 +330,7 @@ fn width_of(argument: Option<&str>) -> Option<usize>
 }
 
 /// The number that an argument of decimal digits writes; `None` for another argument, and where the number doesn't fit.
-fn number_of(argument: &str) -> Option<usize>
+pub fn number_of(argument: &str) -> Option<usize>
     ensures value { result ≡ spec.number_of argument.now }
 {
     argument.parse().ok()

@@ -4,6 +4,7 @@
 
 pub mod arguments;
 pub mod choice;
+pub mod found;
 pub mod line;
 pub mod relative;
 pub mod seen;
@@ -11,4 +12,5 @@ pub mod stop;
 pub mod tally;
 pub mod tell;
 pub mod terminal;
+pub mod unheeded;
 pub mod workflow;

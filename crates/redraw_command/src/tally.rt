@@ -97,6 +97,26 @@ impl Tally {
     }
 }
 
+/// What is told in the end: what was drawn, what became of the rest, and how many files weren't read.
+#[derive(Clone, Copy)]
+pub struct Summary {
+    pub tally: Tally,
+    /// The files that weren't read, since they lie elsewhere than below the folder.
+    pub outside: u64,
+}
+
+impl fmt::Display for Summary {
+    fn fmt<W: fmt::Write>(&self, f: &mut fmt::Formatter<W>) -> fmt::Result {
+        let Summary { tally, outside } = *self;
+        write!(f, "{tally}")?;
+        if outside > 0 {
+            let files = Counted(outside, "file", "files");
+            write!(f, ", {files} outside the folder not read")?;
+        }
+        Ok(())
+    }
+}
+
 /// So many things of a name, which is given for one and for several.
 #[derive(Clone, Copy)]
 struct Counted(u64, &'static str, &'static str);

@@ -1,6 +1,9 @@
 //! How reports look: by the options, and by where they are shown.
 ghost use Rattle.std.specs.Prelude.{◌≡◌};
+ghost use Rattle.redraw_command.specs.Arguments.{argument_at};
 ghost use Rattle.redraw_command.specs.Look as spec;
+
+use crate::arguments::number_of;
 
 /// When colors are written.
 #[derive(Clone, Copy, PartialEq, Eq)]
@@ -22,6 +25,8 @@ pub struct Look {
     pub short: bool,
     /// Whether reports are written as HTML, in the graphic form, and all that is printed is one document.
     pub html: bool,
+    /// Whether findings are written as workflow commands of GitHub.
+    pub github: bool,
     /// When reports are written with style codes.
     pub colors: When,
     /// Whether the names of errors link to pages that explain them, where style codes are written.
@@ -60,5 +65,42 @@ impl Look {
         ensures value { result ≡ spec.has_links self.now }
     {
         self.links || self.colors == When::Always
+    }
+}
+
+/// Whether colors aren't wanted, or the terminal shows none, by what `NO_COLOR` and `TERM` are set to.
+pub fn is_colorless(no_color: Option<&str>, term: Option<&str>) -> bool
+    ensures value { result ≡ spec.is_colorless (argument_at no_color.entry) (argument_at term.entry) }
+{
+    is_set(no_color) || is_dumb(term)
+}
+
+/// Whether a variable is set to anything but nothing.
+fn is_set(value: Option<&str>) -> bool
+    ensures value { result ≡ spec.is_set (argument_at value.entry) }
+{
+    match value {
+        Some(text) => !text.is_empty(),
+        None => false,
+    }
+}
+
+/// Whether a terminal of this name shows no colors.
+fn is_dumb(name: Option<&str>) -> bool
+    ensures value { result ≡ spec.is_dumb (argument_at name.entry) }
+{
+    match name {
+        Some(name) => name == "dumb",
+        None => false,
+    }
+}
+
+/// The width of the terminal in columns, by what `COLUMNS` is set to; `None` where that is no number, or 0.
+pub fn columns_of(value: Option<&str>) -> Option<usize>
+    ensures value { result ≡ spec.columns_of (argument_at value.entry) }
+{
+    match number_of(value?) {
+        Some(0) => None,
+        columns => columns,
     }
 }

@@ -1,26 +1,68 @@
 //! The calls of macros that are shown beside primary places.
 
-use crate::expansion::told_call;
+use crate::expansion::{call_text, told_call};
 use crate::spans::{at_value, file_span, region_of};
 use json_node::fault::Fault;
 use json_node::node::Node;
 use redraw_report::diagnostic::{FileSpan, LineRegion, Region};
+use std::alloc::{AllocError, Global};
+use std::collections::BTreeSet;
+
+/// The line and column where a place starts, and those where it ends.
+type Corners = (usize, usize, usize, usize);
+
+/// Where it is said already that a macro was called there, and how.
+#[derive(Drop)]
+pub struct ToldCalls {
+    said: BTreeSet<(Corners, &'static str)>,
+}
+
+impl ToldCalls {
+    /// What these places say of calls.
+    pub fn new(alloc: Global, spans: &[FileSpan]) -> Result<ToldCalls, AllocError> {
+        let mut said = BTreeSet::new(alloc);
+        for span in spans {
+            if let Some(call) = said_of(span) {
+                said.insert(call)?;
+            }
+        }
+        Ok(ToldCalls { said })
+    }
+
+    /// Keeps in mind that this is said of a place in this region, and answers whether it wasn't said before.
+    fn adds(&mut self, region: LineRegion, label: &'static str) -> Result<bool, AllocError> {
+        match corners_of(region) {
+            Some(corners) => Ok(self.said.insert((corners, label))?),
+            None => Ok(true),
+        }
+    }
+}
 
 /// Adds the call of a macro that is shown beside a primary place, where there is one and it isn't there yet.
-pub fn add_call(node: &Node<'_, '_>, spans: &mut Vec<FileSpan>) -> Result<(), Fault> {
+pub fn add_call(
+    node: &Node<'_, '_>,
+    told: &mut ToldCalls,
+    spans: &mut Vec<FileSpan>,
+) -> Result<(), Fault> {
     if !node.flag("is_primary")? {
         return Ok(());
     }
     match told_call(node.value) {
-        Some((call, label)) => add_told(&at_value(node, call), label, spans),
+        Some((call, label)) => add_told(&at_value(node, call), label, told, spans),
         None => Ok(()),
     }
 }
 
 /// Adds a place of which this is said, unless it is there.
-fn add_told(place: &Node<'_, '_>, label: &str, spans: &mut Vec<FileSpan>) -> Result<(), Fault> {
+fn add_told(
+    place: &Node<'_, '_>,
+    label: &'static str,
+    told: &mut ToldCalls,
+    spans: &mut Vec<FileSpan>,
+) -> Result<(), Fault> {
     let region = region_of(place)?;
-    if !is_said(spans, Region::Lines(region), label) {
+    let is_new = told.adds(region, label)?;
+    if is_new {
         spans.push(told_span(place, region, label)?)?;
     }
     Ok(())
@@ -32,20 +74,20 @@ fn told_span(place: &Node<'_, '_>, region: LineRegion, label: &str) -> Result<Fi
     file_span(place, file, region, Some(label), false)
 }
 
-/// Whether this is said of one of these places, in this region.
-fn is_said(spans: &[FileSpan], region: Region, label: &str) -> bool {
-    for span in spans {
-        if span.region == region && has_label(span, label) {
-            return true;
-        }
+/// What a place says of the call of a macro, and where, if it does.
+fn said_of(span: &FileSpan) -> Option<(Corners, &'static str)> {
+    match (span.region, &span.label) {
+        (Region::Lines(lines), Some(label)) => Some((
+            corners_of(lines)?,
+            call_text(label.as_str())?,
+        )),
+        _ => None,
     }
-    false
 }
 
-/// Whether this is said of a place.
-fn has_label(span: &FileSpan, label: &str) -> bool {
-    match &span.label {
-        Some(said) => said.as_str() == label,
-        None => false,
-    }
+/// Where a region starts and ends, where its columns are given.
+fn corners_of(region: LineRegion) -> Option<Corners> {
+    let start = region.start_column?;
+    let end = region.end_column?;
+    Some((region.start_line, start, region.end_line, end))
 }

@@ -18,10 +18,14 @@ pub fn packaged_diagnostic_of(node: &Node<'_, '_>) -> Result<Diagnostic, Fault> 
     Ok(diagnostic)
 }
 
-/// Adds the file that is named in this field, if there is one.
+/// The most bytes that the path of a file has on a machine.
+const MOST_BYTES: usize = 4096;
+
+/// Adds the file that is named in this field, if there is one. A name that is too long is that of no file: what is
+/// looked for below its folders is then bounded, whatever a log says.
 fn add_home(node: &Node<'_, '_>, name: &str, homes: &mut Vec<String>) -> Result<(), Fault> {
-    if let Some(path) = given_text(node, name)? {
-        homes.push(owned(node.alloc, path)?)?;
+    match given_text(node, name)? {
+        Some(path) if path.len() <= MOST_BYTES => Ok(homes.push(owned(node.alloc, path)?)?),
+        _ => Ok(()),
     }
-    Ok(())
 }

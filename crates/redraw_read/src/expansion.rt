@@ -86,14 +86,34 @@ fn decl_name(expansion: &Value) -> Option<&str> {
     expansion.get("macro_decl_name").and_then(Value::as_str)
 }
 
+/// What is said of the call of a macro, of a derive macro, and of an attribute macro.
+const CALL: &str = "in this macro invocation";
+
+const DERIVE_CALL: &str = "in this derive macro expansion";
+
+const ATTRIBUTE_CALL: &str = "in this attribute macro expansion";
+
 /// What is said of the call of a macro of this name.
 fn call_label(name: &str) -> Option<&'static str> {
     if name.ends_with('!') {
-        Some("in this macro invocation")
+        Some(CALL)
     } else if name.starts_with("#[derive(") {
-        Some("in this derive macro expansion")
+        Some(DERIVE_CALL)
     } else if name.starts_with("#[") {
-        Some("in this attribute macro expansion")
+        Some(ATTRIBUTE_CALL)
+    } else {
+        None
+    }
+}
+
+/// This text, if it is what is said of the call of a macro.
+pub fn call_text(text: &str) -> Option<&'static str> {
+    if text == CALL {
+        Some(CALL)
+    } else if text == DERIVE_CALL {
+        Some(DERIVE_CALL)
+    } else if text == ATTRIBUTE_CALL {
+        Some(ATTRIBUTE_CALL)
     } else {
         None
     }

@@ -115,13 +115,15 @@ impl<S: SourceFiles + Drop> Sources<S> {
         Ok(None)
     }
 
-    /// The bytes of the file of this name below the folders in which this file is, from the innermost.
+    /// The bytes of the file of this name below the folders in which this file is, from the innermost. Slashes in a
+    /// row are one.
     fn bytes_above(&self, name: &str, home: &str) -> Result<Option<Vec<u8>>, AllocError> {
         let mut path = home;
         for _ in 0..home.len() {
             let Some((folder, _)) = path.rsplit_once('/') else {
                 return Ok(None);
             };
+            let folder = folder.trim_end_matches('/');
             let near = format!(in self.alloc; "{folder}/{name}")?;
             if let Some(bytes) = self.source_files.bytes(near.as_str())? {
                 return Ok(Some(bytes));

@@ -7,7 +7,7 @@ ghost use Rattle.serde_json.specs.Find.{as_str};
 ghost use Rattle.serde_json.specs.View.{view};
 ghost use Rattle.redraw_read.specs.Told.{said_label};
 
-use crate::calls::add_call;
+use crate::calls::{ToldCalls, add_call};
 use crate::expansion::shown_place;
 use crate::json::{given, given_text, listed, owned, values_of};
 use crate::order::settle_order;
@@ -36,8 +36,9 @@ fn add_calls<'v>(
     values: &'v [Value],
     spans: &mut Vec<FileSpan>,
 ) -> Result<(), Fault> {
+    let mut told = ToldCalls::new(list.alloc, spans)?;
     for (index, value) in values.iter().enumerate() {
-        add_call(&list.item(index, value), spans)?;
+        add_call(&list.item(index, value), &mut told, spans)?;
     }
     Ok(())
 }

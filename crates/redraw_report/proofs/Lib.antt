@@ -1,3 +1,5 @@
 pub mod Joined
+pub mod NotLinked
 pub mod OneMark
+pub mod SafeLinks
 pub mod Sections

@@ -21,6 +21,7 @@ use Rattle.redraw_report.specs.declared.finding.MarkedSpan.{MarkedSpan}
 use Rattle.redraw_report.specs.declared.finding.Offer.{Offer}
 use Rattle.redraw_report.specs.declared.finding.Remark.{Remark}
 use Rattle.redraw_report.specs.declared.finding.Shown.{Shown}
+use Rattle.redraw_report.specs.Links.{safe_address}
 use Rattle.redraw_report.specs.SameSource.{same_source}
 use Rattle.redraw_report.specs.ShownText.{shown_text}
 use Rattle.redraw_report.specs.View.{Edited, Edits, Gap, Headed, Lines, Marked, Marks, Named, Names, Part, Says, Section}
@@ -137,9 +138,9 @@ more_parts more = if nat_lt 0 more then Says (level_of Plain) (chars (more_text 
 abbrev pub offers_parts : List Offer → List Part
 offers_parts offers = flat_map offered (take 4 offers) ++ more_parts (length offers - 4)
 
--- the name and address of a rule
+-- the name of a rule, and its address, where that may be a link
 abbrev pub named_of : Code → Named
-named_of c = record { id = Some (string_bytes c.id); url = option_map string_bytes c.url }
+named_of c = record { id = Some (string_bytes c.id); url = safe_address (option_map string_bytes c.url) }
 
 -- the title of a finding: its message isn't trusted, and is normalised where it is drawn
 abbrev pub headed_of : Finding → Headed

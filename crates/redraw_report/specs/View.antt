@@ -54,7 +54,7 @@ abbrev pub lines_view : {T : Type 0} → Snippet T → Lines
 lines_view s =
     record {
       path = option_map cow_str_bytes s.path;
-      text = cow_str_bytes s.source;
+      text = cow_str_bytes s.source.text;
       first_line = s.line_start;
       numbered = s.line_numbering;
       folded = s.fold;

@@ -231,7 +231,7 @@ fn add_marked<'a>(
     within: &[MarkedSpan<'a>],
 ) -> Result<(), AllocError>
     ensures added { OnOk result (map part_view elements.new.items ≡ map part_view elements.old.items
-        ++ Marks (file_lines source.now.path.now (cow_str_bytes text.entry) first_line true)
+        ++ Marks (file_lines source.now.path.now (cow_str_bytes text.entry.text) first_line true)
         (map marked_of within.now) ∷ []) }
 {
     let markers = annotations_of(alloc, within)?;

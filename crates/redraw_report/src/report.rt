@@ -1,5 +1,6 @@
 //! The report of a finding.
 ghost use Rattle.std.specs.Prelude.{◌≡◌, ◌++◌, List, [], ◌∷◌, IfOk, map};
+ghost use Rattle.redraw_report.specs.Links.{HasSafeLinks};
 ghost use Rattle.redraw_report.specs.declared.finding.Remark.{Remark};
 ghost use Rattle.redraw_report.specs.Report as spec;
 ghost use Rattle.redraw_report.specs.Report.{headed_of, marked_parts, offers_parts, remark_section, report_of};
@@ -107,9 +108,10 @@ fn add_remarks<'a>(
     Ok(group)
 }
 
-/// The report of a finding.
+/// The report of a finding. It links to nothing but addresses that may be links.
 pub fn report<'a>(alloc: Global, finding: &Finding<'a>) -> Result<Vec<Group<'a>>, AllocError>
     ensures told { IfOk result (λ groups. map section_view groups.items ≡ report_of finding.now) }
+    ensures safe { IfOk result (λ groups. HasSafeLinks groups.items) }
 {
     let mut groups = Vec::new(alloc);
     let first = first_group(alloc, finding)?;

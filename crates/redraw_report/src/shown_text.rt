@@ -30,7 +30,7 @@ impl<'a> ShownText<'a> {
 
     /// The text as a snippet takes it.
     pub fn source(self) -> SourceText<'a>
-        ensures text { cow_str_bytes result ≡ shown_text self.entry }
+        ensures text { cow_str_bytes result.text ≡ shown_text self.entry }
     {
         match self {
             ShownText::Text(text) => SourceText::new(CowStr::Borrowed(text)),

@@ -1,5 +1,7 @@
 //! Titles and messages: what is said, how severe it is, and which rule it is about.
-ghost use Rattle.std.specs.Prelude.{◌≡◌, IfOk};
+ghost use Rattle.std.specs.Prelude.{◌≡◌, IfOk, option_map, string_bytes};
+ghost use Rattle.std.specs.Cow.{cow_str_bytes};
+ghost use Rattle.redraw_report.specs.Links as links;
 ghost use Rattle.redraw_report.specs.Report as spec;
 ghost use Rattle.redraw_report.specs.Report.{headed_of, named_of, remark_headed, said};
 ghost use Rattle.redraw_report.specs.View.{headed_view, named_view, part_view};
@@ -8,7 +10,7 @@ use crate::diagnostic::{Code, Severity};
 use crate::finding::{Finding, Remark};
 use snippet_model::{Element, Id, Level, Title};
 use snippet_style::LevelInner;
-use snippet_text::{CowStr, normalized};
+use snippet_text::{CowStr, is_link_address, normalized};
 use std::alloc::{AllocError, Global};
 
 /// The level that a severity is drawn by.
@@ -35,16 +37,26 @@ fn kind_of(severity: Severity) -> LevelInner
     }
 }
 
-/// The identifier of a rule's name, with its address.
+/// The identifier of a rule's name, with its address, where that may be a link.
 fn id_of<'a>(code: &'a Code) -> Id<'a>
     ensures value { named_view result ≡ named_of code.now }
 {
     Id {
         id: Some(CowStr::Borrowed(code.id.as_str())),
-        url: match &code.url {
-            Some(url) => Some(CowStr::Borrowed(url.as_str())),
-            None => None,
-        },
+        url: safe_address(&code.url),
+    }
+}
+
+/// An address, if it may be a link. A tool's log is no one's to trust: another one could hold what a terminal takes
+/// for the end of the link, and for codes after it.
+fn safe_address<'a>(address: &'a Option<String>) -> Option<CowStr<'a>>
+    ensures value { option_map cow_str_bytes result ≡ links.safe_address (option_map string_bytes address.now) }
+{
+    match address {
+        Some(address) if is_link_address(address.as_str()) => {
+            Some(CowStr::Borrowed(address.as_str()))
+        }
+        _ => None,
     }
 }
 

@@ -8,9 +8,9 @@ use Rattle.std.proofs.lemmas.List.Concat.{flat_map-append}
 use Rattle.std.proofs.Math.Dec.{eqb-suc-zero}
 use Rattle.redraw_run.specs.declared.look.ReportRenderer.{ReportRenderer}
 use Rattle.annotate_snippets.specs.declared.renderer.error.RenderError.{RenderError}
-use Rattle.program.specs.Standing.{Adds, BreaksOff, Gets, Standing}
+use Rattle.written.specs.Standing.{Adds, BreaksOff, Gets, Standing}
 use Rattle.program.specs.Stream.{ended_line}
-use Rattle.program.proofs.Writing.{adds_breaks, adds_none, adds_twice, breaks_stays, gets_twice}
+use Rattle.written.proofs.Writing.{adds_breaks, adds_none, adds_twice, breaks_stays, gets_twice}
 use Rattle.redraw_command.specs.Tally.{is_empty, one_more}
 use Rattle.redraw_command.specs.Told.{Tells}
 use Rattle.redraw_command.specs.Workflow.{command}
@@ -276,7 +276,8 @@ goes_commanded a b (Err s) d line bytes form made counted renderer choice err is
 
 -- a line is handed on
 pub goes_handed : {T : Type 0} (a b : State) (r : Result T Stop) (line bytes : List ℕ) → b.tally ≡ a.tally → b.renderer ≡ a.renderer
-    → b.choice ≡ a.choice → b.err ≡ a.err → bytes ≡ handed a.renderer.is_html line → Writes r a.out b.out bytes → Happens r (IsHandedOn line) a b
+    → b.choice ≡ a.choice → b.err ≡ a.err → bytes ≡ handed a.renderer.is_html a.renderer.is_workflow line → Writes r a.out b.out bytes
+    → Happens r (IsHandedOn line) a b
 goes_handed a b (Ok x) line bytes tally renderer choice err is writes =
     record {
       deeds = HandedOn line ∷ [];

@@ -2,15 +2,15 @@
 use Rattle.std.proofs.Common.{◌≡◌, ◌⊎◌, ◌++◌, ℕ, Bool, List, [], ◌∷◌, Option, Some, ap, arith, codes, length, length-append, subst, sym, true}
 use Rattle.std.specs.Io.KnownBytes.{Appends}
 use Rattle.std.specs.List.{flat_map}
-use Rattle.program.specs.Standing.{Adds, Standing}
-use Rattle.program.proofs.Writing.{adds_twice}
+use Rattle.written.specs.Standing.{Adds, Standing}
+use Rattle.written.proofs.Writing.{adds_twice}
 use Rattle.redraw_run.specs.Deeds.{State, printed}
 use Rattle.redraw_run.specs.HtmlDocument.{html_end, handed, html_start}
 use Rattle.redraw_run.specs.Run.{Finishes}
 
 -- a tag that another tool writes, here its `<`, is handed on as it is
-pub tag_handed_on : handed true (60 ∷ []) ≡ 60 ∷ [] → ⊥
-tag_handed_on is = cc is
+pub tag_handed_on : (is_workflow : Bool) → handed true is_workflow (60 ∷ []) ≡ 60 ∷ [] → ⊥
+tag_handed_on is_workflow is = cc is
 
 -- a stream that holds nothing, and to which a write has failed or not
 abbrev nothing : Bool → Standing

@@ -20,7 +20,7 @@ use Rattle.annotate_snippets.specs.Settings.{plain_settings}
 use Rattle.annotate_snippets.specs.TextForm.{elements_form, group_form, text_form}
 use Rattle.annotate_snippets.specs.declared.renderer.Renderer.{Renderer}
 use Rattle.annotate_snippets.proofs.AsSetLemmas.{unset-shows}
-use Rattle.program.specs.Standing.{Standing}
+use Rattle.written.specs.Standing.{Standing}
 use Rattle.redraw_command.specs.Workflow.{command}
 use Rattle.redraw_command.specs.declared.choice.Choice.{Choice}
 use Rattle.redraw_command.specs.declared.choice.OutputForm.TheVariants.{Report}
@@ -123,7 +123,8 @@ by_groups f (g ∷ gs) first rest shown titled error none =
     by_title g gs f g.title refl (ap (λ (s : Section). s.title) same ∙ titled) error none
 
 -- no text at all for an error that is drawn, here in the text form
-pub nothing_drawn : (files : List File) (d : Diagnostic) → d.severity ≡ Error → ShowsFinding record { settings = speaking; is_html = false } files d [] → ⊥
+pub nothing_drawn : (files : List File) (d : Diagnostic) → d.severity ≡ Error
+    → ShowsFinding record { settings = speaking; is_html = false; is_workflow = false } files d [] → ⊥
 nothing_drawn files d error shown =
     let f : Finding = shown.finding in
     let (first, rest, split, titled) = begins_titled (headed_of f) (section_of (headed_of f) (marked_parts f.marks.items)) f.remarks.items refl in

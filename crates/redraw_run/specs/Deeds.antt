@@ -2,7 +2,7 @@
 use Rattle.std.specs.Prelude.{◌≡◌, ℕ, ◌⊎◌, true, List, [], ◌∷◌, ◌++◌, Some, Result, Ok, Err}
 use Rattle.std.specs.List.{flat_map}
 use Rattle.annotate_snippets.specs.declared.renderer.error.RenderError.{RenderError}
-use Rattle.program.specs.Standing.{Adds, BreaksOff, Gets, Standing}
+use Rattle.written.specs.Standing.{Adds, BreaksOff, Gets, Standing}
 use Rattle.program.specs.Stream.{ended_line}
 use Rattle.redraw_command.specs.Choice.{is_sum}
 use Rattle.redraw_command.specs.Tally.{one_more, tallied}
@@ -61,11 +61,11 @@ abbrev pub AreDeeds : ReportRenderer → Choice → List Deed → Type 0
 AreDeeds r c [] = Unit {0}
 AreDeeds r c (deed ∷ deeds) = IsDeed r c deed × AreDeeds r c deeds
 
--- what standard output is given by it. In HTML a line that is handed on has escapes
+-- what standard output is given by it. In HTML a line that is handed on has escapes, and among workflow commands it is none
 abbrev pub printed : ReportRenderer → Deed → List ℕ
 printed r (Drawn d text) = text ++ (ending_after r.settings.short_message d.severity ++ 10 ∷ [])
 printed r (Commanded d line) = line ++ 10 ∷ []
-printed r (HandedOn line) = handed r.is_html line
+printed r (HandedOn line) = handed r.is_html r.is_workflow line
 printed r (Told line) = []
 printed r (Refused d why) = []
 printed r LeftOut = []

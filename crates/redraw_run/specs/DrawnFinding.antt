@@ -9,7 +9,7 @@ use Rattle.annotate_snippets.specs.declared.renderer.error.RenderError.{RenderEr
 use Rattle.annotate_snippets.specs.declared.renderer.error.RenderError.TheVariants.{Memory}
 use Rattle.annotate_snippets.specs.declared.renderer.form.Form.TheVariants.{Graphic}
 use Rattle.annotate_snippets.specs.declared.snippet.Group.{Group}
-use Rattle.program.specs.Standing.{Adds, Standing}
+use Rattle.written.specs.Standing.{Adds, Standing}
 use Rattle.redraw_command.specs.Choice.{is_sum}
 use Rattle.redraw_command.specs.Tally.{one_more, tallied}
 use Rattle.redraw_command.specs.Workflow.{command}
@@ -18,6 +18,7 @@ use Rattle.redraw_command.specs.declared.choice.OutputForm.TheVariants.{Report, 
 use Rattle.redraw_command.specs.declared.tally.Tally.{Tally}
 use Rattle.redraw_read.specs.Placed.{IsFindingOf, home_of}
 use Rattle.redraw_read.specs.declared.sources.File.{File}
+use Rattle.redraw_report.specs.Links.{HasSafeLinks}
 use Rattle.redraw_report.specs.Report.{report_of}
 use Rattle.redraw_report.specs.View.{section_view}
 use Rattle.redraw_report.specs.declared.diagnostic.Diagnostic.{Diagnostic}
@@ -41,12 +42,14 @@ abbrev pub refusal_by : ReportRenderer → List Group → Option RenderError
 refusal_by r groups = if r.is_html then refusal_in Graphic groups else first_refusal r.settings groups
 
 -- the text shows the report of the finding that the diagnostic reports, its places looked for in these files; and it has the laws of
--- that report's text
+-- that report's text. The report leads nowhere but to addresses that may be links, and by these laws the text links to what the report
+-- leads to: so whatever a log says, inside the code of a link stands such an address
 pub record ShowsFinding (r : ReportRenderer) (files : List File) (d : Diagnostic) (text : List ℕ) : Type 0 where
   pub finding : Finding
   pub is : IsFindingOf record { files = files; home = home_of d.homes.items; is_short = r.settings.short_message } d finding
   pub groups : List Group
   pub told : map section_view groups ≡ report_of finding
+  pub safe : HasSafeLinks groups
   pub shows : ShowsAs r.is_html r.settings groups text
   pub laws : HasLawsAs r.is_html r.settings groups text
 

@@ -1,6 +1,7 @@
 -- A document in HTML: what stands before all that is drawn, and what stands after it.
 use Rattle.std.specs.Prelude.{ℕ, Bool, if◌then◌else◌, List, [], ◌++◌, codes}
 use Rattle.annotate_snippets.specs.declared.renderer.html_stylesheet.TheConstants.{HTML_STYLESHEET}
+use Rattle.redraw_command.specs.Unheeded.{unheeded}
 use Rattle.snippet_grid.specs.Html.{escaped}
 
 -- the stylesheet of reports, and the tags up to what is drawn
@@ -20,6 +21,6 @@ html_start is_html = if is_html then head else []
 abbrev pub html_end : Bool → List ℕ
 html_end is_html = if is_html then codes "</pre>\n</body>\n</html>\n" else []
 
--- a line of the input as it is handed on: with escapes where HTML is written
-abbrev pub handed : Bool → List ℕ → List ℕ
-handed is_html line = if is_html then escaped line else line
+-- a line of the input as it is handed on: with escapes where HTML is written, as no workflow command where these are, and else as it is
+abbrev pub handed : (is_html is_workflow : Bool) → List ℕ → List ℕ
+handed is_html is_workflow line = if is_html then escaped line else (if is_workflow then unheeded line else line)

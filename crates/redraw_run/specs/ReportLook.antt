@@ -29,4 +29,5 @@ looks look around =
         show_line_feeds = true;
       };
       is_html = look.html;
+      is_workflow = look.github;
     }

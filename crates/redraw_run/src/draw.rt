@@ -16,7 +16,7 @@ ghost use Rattle.redraw_read.specs.Loaded.{texts_of};
 ghost use Rattle.serde_json.specs.View.{view};
 ghost use Rattle.redraw_read.specs.declared.sources.File.{File};
 ghost use Rattle.redraw_command.specs.declared.choice.OutputForm.TheVariants.{Report, Workflow};
-ghost use Rattle.program.specs.Standing.{Adds, Standing, known};
+ghost use Rattle.written.specs.Standing.{Adds, Standing, known};
 
 use crate::html::escaped;
 use crate::look::ReportRenderer;
@@ -24,13 +24,13 @@ use crate::text::drawn_of;
 use crate::write::{pass, print};
 use annotate_snippets::renderer::RenderError;
 use json_node::fault::Fault;
-use program::stream::Stream;
 use redraw_command::choice::{Choice, OutputForm, is_sum};
 use redraw_command::relative::make_relative;
 use redraw_command::seen::{Names, SeenDiagnostics};
 use redraw_command::stop::Stop;
 use redraw_command::tally::Tally;
 use redraw_command::tell::tell;
+use redraw_command::unheeded::unheeded;
 use redraw_command::workflow::command_of;
 use redraw_read::place::load_files;
 use redraw_read::sources::{SourceFiles, Sources};
@@ -39,6 +39,7 @@ use serde_json::Value;
 use std::alloc::{AllocError, Global};
 use std::fmt;
 use std::io::Write;
+use written::Stream;
 
 /// What is drawn from, and what was drawn so far.
 #[derive(Drop)]
@@ -48,6 +49,8 @@ pub struct Drawing<'w, S: Drop> {
     /// Which findings are drawn, and in which form.
     pub choice: Choice<'w>,
     pub sources: Sources<S>,
+    /// The files that SARIF logs name, which are read by a rule of their own. While a log is drawn they are `sources`.
+    pub log_sources: Sources<S>,
     /// The folder that paths are shown from, where it is known.
     pub folder: Option<String>,
     pub tally: Tally,
@@ -127,7 +130,7 @@ impl<S: SourceFiles + Drop> Drawing<'_, S> {
         self.leave_out();
         let input = self.input;
         let line = begins.saturating_add(error.line() as u64).saturating_sub(1);
-        let column = error.column();
+        let column = error.column().max(1);
         let ending = if error.is_eof() {
             ": it ends too early"
         } else {
@@ -137,7 +140,7 @@ impl<S: SourceFiles + Drop> Drawing<'_, S> {
         tell(self.alloc, told, err);
     }
 
-    /// Hands on a line of the input as it is; in HTML with escapes.
+    /// Hands on a line of the input as it is; in HTML with escapes, and among workflow commands as none.
     pub fn hand_on<W: Write>(&self, line: &[u8], out: &mut Stream<W>) -> Result<(), Stop>
         ensures does { (err : Standing) → Happens result (IsHandedOn line.now)
             (standing self.now (known W.contents out.old) err) (standing self.now (known W.contents out.new) err) }
@@ -145,6 +148,9 @@ impl<S: SourceFiles + Drop> Drawing<'_, S> {
         if self.renderer.is_html {
             let escaped = escaped(self.alloc, line)?;
             pass(&escaped, out)
+        } else if self.renderer.is_workflow {
+            let plain = unheeded(self.alloc, line)?;
+            pass(&plain, out)
         } else {
             pass(line, out)
         }
@@ -411,7 +417,7 @@ impl<S: SourceFiles + Drop> Drawing<'_, S> {
             RenderError::Memory(_) => Err(Stop::Memory),
             _ => {
                 self.leave_out();
-                self.tell(format_args!("{error}"), err);
+                self.tell(error.words(), err);
                 Ok(())
             }
         }

@@ -6,12 +6,14 @@ use annotate_snippets::Renderer;
 use redraw_command::terminal::{Look, Surroundings};
 use report_options::options::{Options, renderer_of};
 
-/// What draws reports: the library's renderer, and whether it gives HTML.
+/// What draws reports: the library's renderer, and what else of the form of all that is printed matters.
 #[derive(Drop)]
 pub struct ReportRenderer {
     pub settings: Renderer,
     /// Whether reports are drawn as HTML.
     pub is_html: bool,
+    /// Whether findings are written as workflow commands of GitHub, which no other line may be taken for.
+    pub is_workflow: bool,
 }
 
 /// What draws reports as they are to look there. In HTML they are in the graphic form, and link.
@@ -32,5 +34,6 @@ pub fn renderer_for(look: &Look, around: Surroundings<'_>) -> ReportRenderer
     ReportRenderer {
         settings,
         is_html: look.html,
+        is_workflow: look.github,
     }
 }

@@ -13,7 +13,7 @@ ghost use Rattle.redraw_run.specs.Inputs.{IsDrawnOf, asked_names, given_names, h
 ghost use Rattle.redraw_run.specs.ReadLines.{IsTextPrinted, SumsUp};
 ghost use Rattle.redraw_run.specs.Run.{Answers, ArePartlyPrinted, AreInputsPrinted, Draws, EndsInput};
 ghost use Rattle.std.specs.Io.Buffered.{reader_inner, reader_remaining};
-ghost use Rattle.program.specs.Standing.{known};
+ghost use Rattle.written.specs.Standing.{known};
 
 use crate::draw::Drawing;
 use crate::files::FilesUnder;
@@ -21,19 +21,20 @@ use crate::html;
 use crate::input::draw_input;
 use crate::look::renderer_for;
 use crate::write::pass;
-use program::stream::Stream;
 use redraw_command::arguments::{RedrawRequest, matches_of, request_of};
 use redraw_command::relative::folder_of;
 use redraw_command::seen::{Names, SeenDiagnostics};
 use redraw_command::stop::Stop;
-use redraw_command::tally::{CLEAN, FAILED, Tally};
+use redraw_command::tally::{CLEAN, FAILED, Summary, Tally};
 use redraw_command::tell::{tell, tell_error, tell_memory};
 use redraw_command::terminal::Surroundings;
 use redraw_read::sources::{SourceFiles, Sources};
 use std::alloc::{AllocError, Global};
+use std::cell::Cell;
 use std::fs;
 use std::io::{self, BufRead, BufReader, Write};
 use std::rt::Files;
+use written::Stream;
 
 /// Runs what the arguments ask for, and answers the status to end with.
 pub fn run<'w, R: Files + Input + AllocGlobal, W: Write, V: Write>(
@@ -50,13 +51,14 @@ pub fn run<'w, R: Files + Input + AllocGlobal, W: Write, V: Write>(
 {
     match matches_of(rt.alloc(), args) {
         Ok(matches) => draw_all(rt, request_of(&matches), around, out, err),
-        Err(error) => answer_error(rt.alloc(), &error, out, err),
+        Err(error) => answer_error(rt.alloc(), args, &error, out, err),
     }
 }
 
 /// Writes the help or the version, or what is wrong with the arguments.
 fn answer_error<W: Write, V: Write>(
     alloc: Global,
+    args: &[&str],
     error: &clap::Error,
     out: &mut Stream<W>,
     err: &mut Stream<V>,
@@ -74,7 +76,7 @@ fn answer_error<W: Write, V: Write>(
         → IsTextPrinted (known W.contents out.old) (known W.contents out.new) result }
 {
     if error.use_stderr() {
-        tell_error(alloc, error, err);
+        tell_error(alloc, args, error, err);
         return FAILED;
     }
     print_error(alloc, error, out)
@@ -120,18 +122,17 @@ fn draw_all<'w, R: Files + Input + AllocGlobal, W: Write, V: Write>(
         tell_memory(err);
         return FAILED;
     };
-    let source_files = FilesUnder {
-        rt,
-        root: request.root,
-        is_confined: request.is_confined,
-    };
+    let outside = Cell::new(0);
+    let line_files = FilesUnder::for_lines(rt, &request, &outside);
+    let log_files = FilesUnder::for_logs(rt, &request, &outside);
     let renderer = renderer_for(&request.look, around);
     let tally = Tally::new();
     let mut drawing = Drawing {
         alloc,
         renderer,
         choice: request.choice,
-        sources: Sources::new(alloc, source_files),
+        sources: Sources::new(alloc, line_files),
+        log_sources: Sources::new(alloc, log_files),
         folder,
         tally,
         seen: SeenDiagnostics::new(alloc),
@@ -142,7 +143,10 @@ fn draw_all<'w, R: Files + Input + AllocGlobal, W: Write, V: Write>(
     match draw_document(rt, request.inputs, &mut drawing, out, err) {
         Ok(is_whole) => finish(
             alloc,
-            &drawing.tally,
+            Summary {
+                tally: drawing.tally,
+                outside: outside.get(),
+            },
             drawing.choice.is_quiet,
             is_whole,
             err,
@@ -395,19 +399,20 @@ fn end_unwritten<V: Write>(alloc: Global, error: io::Error, err: &mut Stream<V>)
 /// Sums up what was drawn, and answers the status to end with.
 fn finish<V: Write>(
     alloc: Global,
-    tally: &Tally,
+    summary: Summary,
     is_quiet: bool,
     is_whole: bool,
     err: &mut Stream<V>,
 ) -> u8
-    ensures status { result ≡ status_of tally.now is_whole }
+    ensures status { result ≡ status_of summary.tally is_whole }
     ensures quiet { is_quiet ≡ true → err.new ≡ err.old }
-    ensures last { SumsUp is_quiet tally.now (known V.contents err.old) (known V.contents err.new) }
+    ensures last { SumsUp is_quiet summary.tally (known V.contents err.old) (known V.contents err.new) }
 {
-    if has_no_sum(tally, is_quiet) {
+    let tally = summary.tally;
+    if has_no_sum(&tally, is_quiet) {
         return tally.status(is_whole);
     }
-    tell(alloc, *tally, err);
+    tell(alloc, summary, err);
     tally.status(is_whole)
 }
 

@@ -3,17 +3,17 @@ ghost use Rattle.std.specs.Prelude.{◌≡◌, IfErr, OnOk, map};
 ghost use Rattle.serde_json.specs.View.{view};
 ghost use Rattle.redraw_run.specs.Deeds.{Does, Happens, TellsAll, standing};
 ghost use Rattle.redraw_run.specs.Fates.{AreRuns, Each, IsResult, IsLogRun};
-ghost use Rattle.program.specs.Standing.{known};
+ghost use Rattle.written.specs.Standing.{known};
 
 use crate::draw::Drawing;
 use json_node::lenient::{LenientNode, List, Problems};
 use json_node::place::JsonPath;
-use program::stream::Stream;
 use redraw_command::stop::Stop;
 use redraw_read::sources::SourceFiles;
 use redraw_sarif::sarif::SarifRun;
 use serde_json::Value;
 use std::io::Write;
+use written::Stream;
 
 /// Draws what the results of a log's runs tell, each before the next is read.
 pub fn draw_runs<S: SourceFiles + Drop, W: Write, V: Write>(
@@ -50,7 +50,7 @@ fn draw_run<S: SourceFiles + Drop, W: Write, V: Write>(
         (standing drawing.new (known W.contents out.new) (known V.contents err.new)) }
 {
     let mut problems = Problems::new(drawing.alloc);
-    let run = SarifRun::new(node, &mut problems);
+    let run = SarifRun::new(drawing.alloc, node, &mut problems);
     let results = run.results(&mut problems);
     tell_all(&problems, drawing, err)?;
     for (index, value) in results.items.iter().enumerate() {

@@ -1,3 +1,4 @@
 pub mod Links
 pub mod Primary
 pub mod Steps
+pub mod Filling

@@ -11,6 +11,8 @@ pub enum SarifExpectation {
     ColumnKind,
     /// A message with a text, or with the name of a text that the rule has.
     Message,
+    /// Arguments of a message that aren't too long.
+    ArgumentLength,
     /// The number of a rule that the run has.
     Rule,
     /// A file's address, or the number of an artifact that the run has.
@@ -25,6 +27,7 @@ impl fmt::Display for SarifExpectation {
             SarifExpectation::Level => "\"none\", \"note\", \"warning\" or \"error\"",
             SarifExpectation::ColumnKind => "\"utf16CodeUnits\" or \"unicodeCodePoints\"",
             SarifExpectation::Message => "a text, or the id of one of the rule's message strings",
+            SarifExpectation::ArgumentLength => "arguments of at most 1 MiB in all their places",
             SarifExpectation::Rule => "the index of a rule of the run",
             SarifExpectation::Artifact => "a uri, or the index of an artifact of the run",
             SarifExpectation::RegionStart => "startLine, charOffset or byteOffset",

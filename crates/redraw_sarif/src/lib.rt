@@ -16,6 +16,7 @@ pub mod placeholders;
 pub mod primary;
 pub mod region;
 pub mod rule;
+pub mod rules;
 pub mod sarif;
 pub mod steps;
 pub mod uri;

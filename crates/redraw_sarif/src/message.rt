@@ -9,8 +9,8 @@ use serde_json::Value;
 use std::alloc::{AllocError, Global};
 
 /// The text of the message in the field of this name, if there is one: its own, or one of the rule's by its id, with
-/// its arguments in the place of placeholders. In a text of its own without arguments braces stay as they are. A link
-/// to a location is its text.
+/// its arguments in the place of placeholders; where these take more than 1 MiB, that is reported, and the text is cut.
+/// In a text of its own without arguments braces stay as they are. A link to a location is its text.
 pub fn text_in(
     alloc: Global,
     object: &LenientNode<'_, '_>,
@@ -40,22 +40,28 @@ fn text_of(
         }
         return Ok(None);
     };
-    Ok(Some(with_arguments(alloc, text, own.is_some(), arguments)?))
+    let text = without_links(alloc, text)?;
+    if own.is_some() && arguments.is_empty() {
+        Ok(Some(text))
+    } else {
+        let whole = with_arguments(alloc, message, text.as_str(), arguments, problems)?;
+        Ok(Some(whole))
+    }
 }
 
-/// A text, which may be a message's own, with the message's arguments.
+/// A text with the arguments of its message. One that is cut, since its arguments are too long, is reported.
 fn with_arguments(
     alloc: Global,
+    message: &LenientNode<'_, '_>,
     text: &str,
-    is_own: bool,
     arguments: &[Value],
+    problems: &mut Problems,
 ) -> Result<String, AllocError> {
-    let text = without_links(alloc, text)?;
-    if is_own && arguments.is_empty() {
-        Ok(text)
-    } else {
-        filled(alloc, text.as_str(), arguments)
+    let filled = filled(alloc, text, arguments)?;
+    if filled.is_cut {
+        message.tell(problems, SarifExpectation::ArgumentLength);
     }
+    Ok(filled.text)
 }
 
 /// The text of the rule that a message names by its id.

@@ -1,7 +1,8 @@
 //! The rule that a result breaks, and how severe that is.
 
 use crate::expectation::SarifExpectation;
-use json_node::lenient::{LenientNode, Problems, field_at, item_at, text_at, text_field};
+use crate::rules::RunRules;
+use json_node::lenient::{LenientNode, Problems, field_at, text_at};
 use redraw_report::diagnostic::{Code, Severity};
 use serde_json::Value;
 use std::alloc::{AllocError, Global};
@@ -46,20 +47,21 @@ fn text_of_string<'v>(strings: Option<&'v Value>, id: &str) -> Option<&'v str> {
 
 /// The rule of a result: by its number, or else by its id. Where it is the number of no rule, that is reported.
 pub fn rule_of<'v>(
-    run: &'v Value,
+    rules: &RunRules<'v>,
     reported: &LenientNode<'v, '_>,
     problems: &mut Problems,
 ) -> SarifRule<'v> {
     let index = index_of(reported, problems);
-    let component = component_of(run, reported.value);
-    let rules = rules_of(component);
-    let rule = match index {
-        Some(index) => rules.get(index),
-        None => rule_by_id(rules, id_of(reported.value).unwrap_or("")),
+    let part = rules.part(extension_of(reported.value));
+    let rule = match (part, index) {
+        (Some(part), Some(index)) => part.rules.get(index),
+        (Some(part), None) => part.rule_by_id(id_of(reported.value).unwrap_or("")),
+        (None, _) => None,
     };
     if index.is_some() && rule.is_none() {
         reported.tell(problems, SarifExpectation::Rule);
     }
+    let component = part.and_then(|part| part.part);
     SarifRule { component, rule }
 }
 
@@ -72,15 +74,6 @@ fn index_of(reported: &LenientNode<'_, '_>, problems: &mut Problems) -> Option<u
     }
 }
 
-/// The component whose rule a result names: an extension of the tool by its number, else the driver.
-fn component_of<'v>(run: &'v Value, reported: &Value) -> Option<&'v Value> {
-    let tool = run.get("tool");
-    match extension_of(reported) {
-        Some(index) => item_at(field_at(tool, "extensions"), index),
-        None => field_at(tool, "driver"),
-    }
-}
-
 /// The number of the extension that a result names.
 fn extension_of(reported: &Value) -> Option<u64> {
     reported
@@ -88,50 +81,11 @@ fn extension_of(reported: &Value) -> Option<u64> {
         .and_then(Value::as_u64)
 }
 
-/// The rules of a component, if there is one.
-fn rules_of(component: Option<&Value>) -> &[Value] {
-    match field_at(component, "rules") {
-        Some(Value::Array(rules)) => rules.as_slice(),
-        _ => &[],
-    }
-}
-
 /// The id of the rule as a result has it.
 fn id_of(reported: &Value) -> Option<&str> {
     match reported.get("ruleId") {
         Some(id) => id.as_str(),
         None => text_at(reported.get("rule"), "id"),
-    }
-}
-
-/// The rule of this id, or else that of the longest id of which this one is a part, as `CA1000` of `CA1000/1`.
-fn rule_by_id<'v>(rules: &'v [Value], id: &str) -> Option<&'v Value> {
-    let mut found = None;
-    let mut longest = 0;
-    for rule in rules {
-        if let Some(length) = length_of_part(rule, id) {
-            if length > longest {
-                longest = length;
-                found = Some(rule);
-            }
-        }
-    }
-    found
-}
-
-/// How long the id of a rule is, if it is this id or the part of it before a slash.
-fn length_of_part(rule: &Value, id: &str) -> Option<usize> {
-    match text_field(rule, "id") {
-        Some(own) if is_part(own, id) => Some(own.len()),
-        _ => None,
-    }
-}
-
-/// Whether the id of a rule is this id, or the part of it before a slash.
-fn is_part(own: &str, id: &str) -> bool {
-    match id.strip_prefix(own) {
-        Some(rest) => rest.is_empty() || rest.starts_with('/'),
-        None => false,
     }
 }
 

@@ -7,27 +7,36 @@ use crate::location::{Context, add_spans};
 use crate::message::text_in;
 use crate::primary::choose_primary;
 use crate::rule::{SarifRule, code_of, rule_of, severity_of};
+use crate::rules::RunRules;
 use json_node::lenient::{LenientNode, List, Problems};
 use redraw_report::diagnostic::{Diagnostic, FileSpan, Unit};
+use serde_json::Value;
 use std::alloc::{AllocError, Global};
 
 /// What stands where a result says nothing, and its rule doesn't either.
 const NO_MESSAGE: &str = "the log has no message";
 
 /// A run of a log.
-#[derive(Clone, Copy)]
+#[derive(Drop)]
 pub struct SarifRun<'v, 'p> {
     node: LenientNode<'v, 'p>,
     /// What its columns count.
     unit: Unit,
+    rules: RunRules<'v>,
 }
 
 impl<'v, 'p> SarifRun<'v, 'p> {
-    /// The run that this value describes. A value that is no object is a run without results, and is reported.
-    pub fn new(node: LenientNode<'v, 'p>, problems: &mut Problems) -> SarifRun<'v, 'p> {
+    /// The run that this value describes. A value that is no object is a run without results, and is reported. So is
+    /// that memory was refused.
+    pub fn new(
+        alloc: Global,
+        node: LenientNode<'v, 'p>,
+        problems: &mut Problems,
+    ) -> SarifRun<'v, 'p> {
         let _is_told = node.is_object(problems);
         let unit = unit_of(&node, problems);
-        SarifRun { node, unit }
+        let rules = rules_of(alloc, node.value, problems);
+        SarifRun { node, unit, rules }
     }
 
     /// The results of the run.
@@ -48,10 +57,21 @@ impl<'v, 'p> SarifRun<'v, 'p> {
         let context = Context {
             alloc,
             run: self.node.value,
-            rule: rule_of(self.node.value, reported, problems),
+            rule: rule_of(&self.rules, reported, problems),
             unit: self.unit,
         };
         Ok(Some(diagnostic_of(reported, &context, problems)?))
+    }
+}
+
+/// The rules of a run; none where memory is refused, which is reported.
+fn rules_of<'v>(alloc: Global, run: &'v Value, problems: &mut Problems) -> RunRules<'v> {
+    match RunRules::new(alloc, run) {
+        Ok(rules) => rules,
+        Err(AllocError) => {
+            problems.is_refused = true;
+            RunRules::none(alloc)
+        }
     }
 }
 

@@ -1,10 +1,20 @@
-use Rattle.std.proofs.Common.{inl, inr}
-use Rattle.redraw_run.specs.Fates.{AreRuns, IsLog, IsReported}
-use Rattle.redraw_run.proofs.Doing.{goes_as}
+use Rattle.std.proofs.Common.{subst, sym}
+use Rattle.written.specs.Standing.{Standing, known}
+use Rattle.redraw_run.specs.Deeds.{Happens, State}
+use Rattle.redraw_run.specs.Fates.{IsLog}
+use Rattle.redraw_run.specs.Deeds.{standing}
 use Rattle.redraw_run.proofs.report.sarif_log.Goals as goal
 
-pub returns-in-Ok : goal.returns-in-Ok
-returns-in-Ok g c = record { does = goes_as AreRuns IsLog _ _ c.draw_runs.result (λ ds h. inr h) c.draw_runs.ensures.does }
-
-pub returns-in-Err : goal.returns-in-Err
-returns-in-Err g c = record { does = goes_as IsReported IsLog _ _ c.finding.result (λ ds h. inl h) c.finding.ensures.does }
+-- which files are at hand is no part of what is told so far
+pub returns : goal.returns
+returns g c =
+    let out : Standing = known g.W.Write.contents c.draw_log-drawn.new.out in
+    let err : Standing = known g.V.Write.contents c.draw_log-drawn.new.err in
+    let begun : State = standing c.args.drawing.now (known g.W.Write.contents c.args.out.now) (known g.V.Write.contents c.args.err.now) in
+    let ended : State = standing c.draw_log-drawn.new.drawing out err in
+    let first = c.swap_sources.ensures.kept (known g.W.Write.contents c.args.out.now) (known g.V.Write.contents c.args.err.now) in
+    let last = c.swap_sources-2.ensures.kept out err in
+    record {
+      does = subst (λ (b : State). Happens c.draw_log-drawn.result IsLog begun b) (sym last)
+          (subst (λ (a : State). Happens c.draw_log-drawn.result IsLog a ended) first c.draw_log-drawn.ensures.does);
+    }

@@ -23,6 +23,7 @@ returns g c =
             is = c.in_ok-finding.ensures.is;
             groups = groups;
             told = c.in_ok-groups.ensures.told;
+            safe = c.in_ok-groups.ensures.safe;
             shows = shown.0;
             laws = shown.1;
           })
