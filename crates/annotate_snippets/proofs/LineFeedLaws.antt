@@ -52,7 +52,7 @@ use Rattle.snippet_strokes.specs.Strokes.{connector_of, connectors_of, corner_of
 use Rattle.snippet_strokes.proofs.StrokeWords.{bar_writes, begun_rows, corner_by}
 use Rattle.snippet_strokes.specs.Strokes.{corners_of, label_of, labels_of, column_of}
 use Rattle.snippet_strokes.proofs.Drawn.{drawn_mark, drawn_strokes, marks_of}
-use Rattle.snippet_strokes.specs.StemRows.{stems_of}
+use Rattle.snippet_strokes.specs.DrawnStems.{stems_of}
 use Rattle.snippet_strokes.proofs.StrokeWords.{label_write, stem_write}
 use Rattle.snippet_strokes.specs.Writes.{Write, glyph_at, painted, stretch_of}
 use Rattle.snippet_grid.specs.Layout.{Layout, bar_cell as bar_column}

@@ -25,7 +25,7 @@ use Rattle.snippet_strokes.specs.Strokes.{connector_of, connectors_of, corner_of
 use Rattle.snippet_strokes.proofs.StrokeWords.{connector_by, corner_by, label_write}
 use Rattle.snippet_strokes.specs.Strokes.{stem_of}
 use Rattle.snippet_strokes.proofs.Drawn.{drawn_apart, drawn_mark, drawn_part, drawn_strokes, marks_of}
-use Rattle.snippet_strokes.specs.StemRows.{is_stem_covered, stems_of}
+use Rattle.snippet_strokes.specs.DrawnStems.{is_stem_covered, stems_of}
 use Rattle.snippet_strokes.proofs.StrokeWords.{stem_write}
 use Rattle.snippet_strokes.specs.Writes.{Write, glyph_at, painted, stretch_of}
 use Rattle.snippet_strokes.proofs.BarWrites.{All-column_of, All-stretch_of}

@@ -28,7 +28,7 @@ use Rattle.snippet_strokes.proofs.LineRowLemmas.{rows_cut}
 use Rattle.snippet_strokes.proofs.Reach.{Reaches, cell_of_write}
 use Rattle.snippet_strokes.specs.Strokes.{connector_of, connectors_of, corner_of, corners_of, labels_of}
 use Rattle.snippet_strokes.proofs.Drawn.{drawn_strokes, marks_of}
-use Rattle.snippet_strokes.specs.StemRows.{stems_of}
+use Rattle.snippet_strokes.specs.DrawnStems.{stems_of}
 use Rattle.snippet_strokes.proofs.StrokeWords.{begun_rows}
 use Rattle.snippet_strokes.proofs.BarWrites.{All-connector_of, All-stretch_of}
 use Rattle.snippet_strokes.proofs.EntryBarLaws.{is_at, labels_right, marks_right, part_leaves, stems_right}

@@ -7,7 +7,7 @@ use Rattle.snippet_labels.specs.declared.positions.PlacedEntry.{PlacedEntry}
 use Rattle.snippet_model.specs.AnnotationKind.{is_primary}
 use Rattle.snippet_style.specs.Glyphs.{strokes_of}
 use Rattle.snippet_strokes.specs.Painting.{first_glyph, mark_end, stroke_role}
-use Rattle.snippet_strokes.specs.StemRows.{stems_of}
+use Rattle.snippet_strokes.specs.DrawnStems.{stems_of}
 use Rattle.snippet_strokes.specs.Strokes.{connector_of, connectors_of, corner_of, corners_of, label_of, labels_of}
 use Rattle.snippet_strokes.specs.Writes.{Write, glyph_at, stretch_of}
 

@@ -27,7 +27,7 @@ use Rattle.snippet_strokes.proofs.Reach.{Reaches}
 use Rattle.snippet_strokes.specs.Strokes.{column_of, connectors_of, corner_of, corners_of, label_of, labels_of}
 use Rattle.snippet_strokes.proofs.StrokeWords.{corner_by, bar_writes}
 use Rattle.snippet_strokes.proofs.Drawn.{drawn_mark, drawn_strokes, marks_of}
-use Rattle.snippet_strokes.specs.StemRows.{stems_of}
+use Rattle.snippet_strokes.specs.DrawnStems.{stems_of}
 use Rattle.snippet_strokes.proofs.BarWrites.{All-column_of, All-stretch_of}
 use Rattle.snippet_strokes.proofs.LabelWrites.{All-label_of}
 use Rattle.snippet_strokes.proofs.StemWrites.{All-stems_of, All-stem_of}

@@ -7,18 +7,57 @@ use Rattle.std.proofs.lemmas.List.{places, same_lists}
 use Rattle.std.proofs.lemmas.List.Elements.{All-cons, All-nil}
 use Rattle.snippet_grid.proofs.GridLemmas.{row_at-cells_written_same}
 use Rattle.snippet_grid.specs.Grid.{cells_written, row_at}
-use Rattle.snippet_grid.specs.Layout.{Layout}
+use Rattle.snippet_grid.specs.Layout.{Layout, code_cell}
 use Rattle.snippet_labels.specs.declared.positions.PlacedEntry.{PlacedEntry}
 use Rattle.snippet_labels.specs.Positions.{has_stem}
+use Rattle.snippet_model.specs.AnnotationKind.{is_primary}
 use Rattle.snippet_style.specs.Cell.{Cell, SPACE, text_cells, written}
-use Rattle.snippet_strokes.specs.declared.stem_rows.Stem.{Stem}
-use Rattle.snippet_strokes.specs.StemRows.{cell_of_stem, is_stem_covered, stem_down, stem_from, stems_of}
+use Rattle.snippet_style.specs.Glyphs.{strokes_of}
+use Rattle.snippet_style.specs.declared.role.ElementStyle.{ElementStyle}
+use Rattle.snippet_strokes.specs.DrawnStems.{is_stem_covered, stems_of}
 use Rattle.snippet_strokes.specs.Strokes.{stem_of}
-use Rattle.snippet_strokes.specs.Writes.{Write, painted}
+use Rattle.snippet_strokes.specs.Drawing.{foot_glyph}
+use Rattle.snippet_strokes.specs.Painting.{stroke_role}
+use Rattle.snippet_strokes.specs.Writes.{Write, glyph_at, painted}
 use Rattle.snippet_strokes.proofs.OneStep.{written_by}
-use Rattle.snippet_strokes.proofs.StemRowLemmas.{down_rows, move_rows}
+use Rattle.snippet_strokes.proofs.RowsSwapped.{move_rows}
 use Rattle.snippet_strokes.proofs.StrokeWords.{stem_write}
 use Rattle.snippet_strokes.proofs.WriteLemmas.{painted-append}
+
+-- ---- a stem
+
+-- where a stem stands, and what it is made of
+record Stem : Type 0 where
+  position : ℕ
+  cell : ℕ
+  glyph : ℕ
+  foot : ℕ
+  role : ElementStyle
+
+-- the stem of an entry
+abbrev stem_from : Layout → PlacedEntry → Stem
+stem_from layout e =
+    record {
+      position = e.position;
+      cell = code_cell layout e.entry.start.display;
+      glyph = (strokes_of layout.decor (is_primary e.entry.kind)).stem;
+      foot = foot_glyph layout.decor e;
+      role = stroke_role e;
+    }
+
+-- its cell so many rows below the row of the marks, which is `row`
+abbrev cell_of_stem : ℕ → Stem → ℕ → Write
+cell_of_stem row s below = glyph_at (row + below) s.cell (cond (below == s.position) s.foot s.glyph) s.role
+
+-- a stem from so many rows below the row of the marks down to its foot
+abbrev stem_down : ℕ → ℕ → Stem → List Write
+stem_down row below s = map (cell_of_stem row s) (range_with_len below (s.position + 1 - below))
+
+down_rows : (row n k : ℕ) (s : Stem) → All (λ w. row + k ≤ w.row) (map (cell_of_stem row s) (range_with_len k n))
+down_rows row zero k s = All-nil (λ (w : Write). row + k ≤ w.row)
+down_rows row (suc n) k s =
+    All-cons (λ (w : Write). row + k ≤ w.row) (cell_of_stem row s k) (map (cell_of_stem row s) (range_with_len (k + 1) n)) (omega arith)
+    (λ j d within. let next = down_rows row n (k + 1) s j d within in omega (arith, next))
 
 -- ---- one write over another
 

@@ -8,7 +8,7 @@ use Rattle.snippet_strokes.specs.Apart.{strokes_apart, strokes_of_part}
 use Rattle.snippet_strokes.specs.Painting.{mark_of}
 use Rattle.snippet_strokes.specs.Strokes.{connector_of, connectors_of, corner_of, corners_of, label_of, labels_of, line_strokes, stem_of, strokes_under_marks}
 use Rattle.snippet_strokes.proofs.Drawn.{drawn_apart, drawn_mark, drawn_part, drawn_strokes, drawn_under_marks, marks_of}
-use Rattle.snippet_strokes.specs.StemRows.{stems_of}
+use Rattle.snippet_strokes.specs.DrawnStems.{stems_of}
 use Rattle.snippet_strokes.specs.Writes.{Write, painted}
 use Rattle.snippet_strokes.proofs.EveryMark.{every_mark}
 use Rattle.snippet_strokes.proofs.EveryStem.{stems_painted}

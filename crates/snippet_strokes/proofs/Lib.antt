@@ -11,6 +11,7 @@ pub mod BegunLemmas
 pub mod BesideLemmas
 pub mod BlankLemmas
 pub mod CellLemmas
+pub mod CellRowLemmas
 pub mod CrossedLaws
 pub mod CutLemmas
 pub mod CutPairs
@@ -25,7 +26,6 @@ pub mod EveryMark
 pub mod EveryStem
 pub mod EveryStroke
 pub mod Examples
-pub mod HangingLemmas
 pub mod PlacedAre
 pub mod HighlightLaws
 pub mod LabelKept
@@ -59,6 +59,7 @@ pub mod Reach
 pub mod ReadyLemmas
 pub mod ReadyRows
 pub mod RowLemmas
+pub mod RowsSwapped
 pub mod SeenLabels
 pub mod SeenLines
 pub mod SeenRows
@@ -67,9 +68,9 @@ pub mod SnippetLemmas
 pub mod SourceBars
 pub mod SourceCellLaws
 pub mod SourceRowLemmas
+pub mod SplitRows
 pub mod StemCells
 pub mod StemLaws
-pub mod StemRowLemmas
 pub mod StemWrites
 pub mod StrokeCells
 pub mod StrokeGlyphs

@@ -20,7 +20,7 @@ use Rattle.snippet_strokes.specs.Strokes.{connector_of, connectors_of, corner_of
 use Rattle.snippet_strokes.proofs.StrokeWords.{bar_writes, connector_by, corner_by}
 use Rattle.snippet_strokes.specs.Strokes.{label_of, labels_of, stem_of, column_of}
 use Rattle.snippet_strokes.proofs.Drawn.{drawn_mark, drawn_strokes, marks_of}
-use Rattle.snippet_strokes.specs.StemRows.{is_stem_covered, stems_of}
+use Rattle.snippet_strokes.specs.DrawnStems.{is_stem_covered, stems_of}
 use Rattle.snippet_strokes.proofs.StrokeWords.{label_write, line_to, stem_write}
 use Rattle.snippet_strokes.specs.Writes.{Write, glyph_at, painted, stretch_of}
 use Rattle.snippet_strokes.proofs.OneStep.{written_by}
@@ -31,7 +31,7 @@ lowered n w = record w { row = n + w.row }
 
 -- ---- rows below others
 
-written-cons : (x : List Cell) (xs : List (List Cell)) (at : ℕ) (new : List (List Cell)) → written [] (x ∷ xs) (suc at) new ≡ x ∷ written [] xs at new
+pub written-cons : (x : List Cell) (xs : List (List Cell)) (at : ℕ) (new : List (List Cell)) → written [] (x ∷ xs) (suc at) new ≡ x ∷ written [] xs at new
 unfolding written
 written-cons x xs at new =
     let fill : suc at - suc (length xs) ≡ at - length xs = omega arith in
@@ -69,7 +69,7 @@ painted-below above (w ∷ ws) rows =
 -- ---- the strokes of a line
 
 -- what a rule gives for each of some things, so many rows farther down
-flat_map-lowered : {X : Type 0} (n : ℕ) (f g : X → List Write) → ((x : X) → f x ≡ map (lowered n) (g x)) → (xs : List X)
+pub flat_map-lowered : {X : Type 0} (n : ℕ) (f g : X → List Write) → ((x : X) → f x ≡ map (lowered n) (g x)) → (xs : List X)
     → flat_map f xs ≡ map (lowered n) (flat_map g xs)
 flat_map-lowered n f g same [] = refl
 flat_map-lowered n f g same (x ∷ xs) =

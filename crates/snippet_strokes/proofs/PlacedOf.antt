@@ -1,5 +1,5 @@
 -- The placed entries of a line, as the value that the rule gives: they are placed as painters place them, where labels are texts.
-use Rattle.std.proofs.Common.{◌≡◌, ℕ, suc, zero, ◌≤◌, ◌==◌, ◌&&◌, ◌||◌, Bor, true, false, IfSome, List, [], ◌∷◌, ◌++◌, Option, None, Some, All}
+use Rattle.std.proofs.Common.{◌≡◌, ℕ, suc, zero, ◌≤◌, ◌==◌, ◌&&◌, ◌||◌, true, false, IfSome, List, [], ◌∷◌, ◌++◌, Option, None, Some, All}
 use Rattle.std.proofs.Common.{IsUtf8, chars, encode_utf8_all, get_or, length, map, nat_lt, refl, sym, ap, ◌∙◌, subst, arith, inl, inr}
 use Rattle.std.proofs.Math.Utf8.{scalars}
 use Rattle.std.specs.List.{flat_map, zip}

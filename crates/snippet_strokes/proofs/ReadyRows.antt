@@ -1,6 +1,6 @@
 -- Rows over which the strokes of a line are painted, one list after another: they stay as many, so that each entry has the rows that
 -- it needs.
-use Rattle.std.proofs.Common.{All, ◌≡◌, drop, ℕ, ◌+◌, ◌-◌, ◌≤◌, ◌^◌, List, [], ◌∷◌, ◌++◌, Bool, length, map, replicate, refl, sym, ap, ◌∙◌, subst, arith}
+use Rattle.std.proofs.Common.{All, ◌≡◌, drop, ℕ, ◌+◌, ◌-◌, ◌<◌, ◌≤◌, ◌^◌, List, [], ◌∷◌, ◌++◌, Bool, length, map, replicate, refl, sym, ap, ◌∙◌, subst, arith}
 use Rattle.snippet_parts.specs.declared.entries.LineAnnotation.{LineAnnotation}
 use Rattle.snippet_style.specs.Cell.{Cell}
 use Rattle.snippet_style.specs.Separators.{separator_row}
@@ -17,12 +17,12 @@ use Rattle.snippet_strokes.specs.SourceRows.{bare_row}
 use Rattle.snippet_strokes.specs.Writes.{painted}
 use Rattle.snippet_strokes.proofs.LineRowLemmas.{rows_cut}
 use Rattle.snippet_strokes.proofs.MarkWriteLemmas.{Painted-marks}
-use Rattle.snippet_strokes.specs.Drawable.{AreDrawable}
-use Rattle.snippet_strokes.specs.Drawing.{AreEnough, HasPlaceAmong, row_count}
+use Rattle.snippet_strokes.specs.Drawable.{AreDrawable, IsReady}
+use Rattle.snippet_strokes.specs.Drawing.{AreEnough, HasPlaceAmong, HasRows, row_count}
 use Rattle.snippet_strokes.proofs.LineFacts.{StrokesPainted}
 use Rattle.snippet_strokes.specs.Strokes.{connectors_of, corners_of, is_uncut, labels_of}
 use Rattle.snippet_strokes.proofs.Drawn.{drawn_strokes, marks_of}
-use Rattle.snippet_strokes.specs.StemRows.{stems_of}
+use Rattle.snippet_strokes.specs.DrawnStems.{stems_of}
 use Rattle.snippet_strokes.proofs.StrokeWords.{begun_rows}
 use Rattle.snippet_strokes.proofs.BarWrites.{DrawsBarCells-corners, DrawsFrom-connectors}
 use Rattle.snippet_strokes.proofs.BegunLemmas.{rows_begun, rows_ready}
@@ -46,6 +46,29 @@ enough_begun {row} {count} {placed} layout dropped entries old begun sep end dra
       rows = rows_ready placed old begun sep end count (row + 1) (length begun) is (sym last) begins refl;
       ready = all_ready layout dropped entries placed drawable are;
     }
+
+-- so they are below a source row in which nothing stands yet
+pub rows_lifted : (row count : ℕ) (placed : List PlacedEntry) (old : List (List Cell)) → length old ≡ row + 1
+    → All (HasRows (row + 1) (length old + count)) placed → All (HasRows 1 (1 + count)) placed
+rows_lifted row count placed old last rows k d within =
+    let own = rows k d within in
+    record { mark = omega (arith, last, own.mark); label = λ hangs has. omega (arith, last, own.label hangs has) }
+
+-- rows that are begun for entries are as many as these need
+module _ (layout : Layout) (row count : ℕ) (placed : List PlacedEntry) (old begun : List (List Cell)) (sep end : List Cell) (some : 0 < count)
+    (last : length old ≡ row + 1) (rows : All (HasRows (row + 1) (length old + count)) placed) (begins : begun ≡ old ++ replicate
+    (count - 1) sep ++ end ∷ []) where
+  pub begun_long : length begun ≡ length old + count
+  begun_long = rows_begun old begun sep end count some begins
+
+  pub begun_enough : All (IsReady layout) placed → length begun ≤ 2 ^ 60 → AreEnough layout row (length begun) placed
+  begun_enough ready small =
+      record {
+        marks = omega (arith, begun_long, last, some);
+        small = small;
+        rows = subst (λ n. All (HasRows (row + 1) n) placed) (sym begun_long) rows;
+        ready = ready;
+      }
 
 -- so each entry has its place among them
 pub places_among : {layout : Layout} {row n : ℕ} {placed : List PlacedEntry} → AreEnough layout row n placed → All (HasPlaceAmong (row + 1) n) placed

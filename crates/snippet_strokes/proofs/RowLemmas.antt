@@ -1,5 +1,5 @@
 -- Rows of strokes before any stroke is drawn, read cell by cell.
-use Rattle.std.proofs.Common.{◌≡◌, ℕ, ◌+◌, ◌≤◌, Bool, true, false, List, ◌++◌, length, replicate, refl, ap, ◌∙◌, arith, All}
+use Rattle.std.proofs.Common.{◌≡◌, ℕ, ◌+◌, ◌<◌, ◌≤◌, Bool, true, false, List, ◌++◌, length, replicate, refl, ap, ◌∙◌, arith, All}
 use Rattle.std.specs.List.{slice_index_or}
 use Rattle.std.proofs.lemmas.List.{length-replicate, length-append, get_or_past}
 use Rattle.std.proofs.lemmas.List.Elements.{All-append, All-replicate}
@@ -42,6 +42,11 @@ free_closing Unicode = each_fails is_listed (closing_of Unicode) refl
 pub bare_row_short : (decor : DecorStyle) (gutter : ℕ) (closes : Bool) → length (bare_row decor gutter closes) ≤ gutter + 3
 bare_row_short decor gutter true = omega (arith, length-led (gutter + 1) (closing_of decor), closing_short decor)
 bare_row_short decor gutter false = omega (arith, length-separator_row decor gutter)
+
+-- a row that is begun has cells
+pub bare_some : (decor : DecorStyle) (gutter : ℕ) (closes : Bool) → 0 < length (bare_row decor gutter closes)
+bare_some decor gutter true = omega (arith, length-led (gutter + 1) (closing_of decor))
+bare_some decor gutter false = omega (arith, length-separator_row decor gutter)
 
 -- a row of strokes before any stroke is drawn is blank as far as the gutter reaches
 pub bare_row_left : (decor : DecorStyle) (gutter : ℕ) (closes : Bool) (c : ℕ) → c ≤ gutter → slice_index_or (bare_row decor gutter closes) c SPACE ≡ SPACE

@@ -31,7 +31,7 @@ use Rattle.snippet_strokes.specs.Snippet.{gap_row}
 use Rattle.snippet_strokes.specs.Strokes.{column_of, connector_of, connectors_of, corner_of, corners_of, labels_of}
 use Rattle.snippet_strokes.proofs.StrokeWords.{begun_rows, corner_by}
 use Rattle.snippet_strokes.proofs.Drawn.{drawn_strokes, marks_of}
-use Rattle.snippet_strokes.specs.StemRows.{stems_of}
+use Rattle.snippet_strokes.specs.DrawnStems.{stems_of}
 use Rattle.snippet_strokes.proofs.AmongLaws.{all_from_among}
 use Rattle.snippet_strokes.proofs.BarWrites.{All-column_of, All-connector_of, All-stretch_of}
 use Rattle.snippet_strokes.proofs.ElisionLemmas.{bare_elision_short}

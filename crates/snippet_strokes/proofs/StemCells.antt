@@ -24,7 +24,7 @@ use Rattle.snippet_strokes.specs.Labels.{IsStemCell, stem_glyphs}
 use Rattle.snippet_strokes.proofs.Reach.{Reaches, cell_of_write}
 use Rattle.snippet_strokes.specs.Strokes.{connectors_of, corners_of, label_of, labels_of, stem_of}
 use Rattle.snippet_strokes.proofs.Drawn.{drawn_mark, drawn_strokes, marks_of}
-use Rattle.snippet_strokes.specs.StemRows.{is_stem_covered, stems_of}
+use Rattle.snippet_strokes.specs.DrawnStems.{is_stem_covered, stems_of}
 use Rattle.snippet_strokes.proofs.StrokeWords.{stem_write}
 use Rattle.snippet_strokes.proofs.BarWrites.{All-stretch_of}
 use Rattle.snippet_strokes.proofs.LabelWrites.{All-label_of}

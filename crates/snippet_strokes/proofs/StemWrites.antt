@@ -17,7 +17,7 @@ use Rattle.snippet_labels.specs.Positions.{has_label, has_stem}
 use Rattle.snippet_strokes.specs.Writes.{Write, painted}
 use Rattle.snippet_strokes.proofs.Reach.{Reaches, IsWithin, cell_of_write}
 use Rattle.snippet_strokes.specs.Strokes.{stem_of}
-use Rattle.snippet_strokes.specs.StemRows.{is_stem_covered, stems_of}
+use Rattle.snippet_strokes.specs.DrawnStems.{is_stem_covered, stems_of}
 use Rattle.snippet_strokes.proofs.StrokeWords.{stem_write}
 use Rattle.snippet_strokes.proofs.MarkStrokeLemmas.{free_strokes}
 use Rattle.snippet_strokes.proofs.StrokeGlyphs.{of_foot}

@@ -24,7 +24,7 @@ use Rattle.snippet_strokes.specs.Strokes.{connector_of, connectors_of, corner_of
 use Rattle.snippet_strokes.proofs.StrokeWords.{bar_writes, corner_by, label_write}
 use Rattle.snippet_strokes.specs.Strokes.{stem_of}
 use Rattle.snippet_strokes.proofs.Drawn.{drawn_mark, drawn_strokes, marks_of}
-use Rattle.snippet_strokes.specs.StemRows.{stems_of}
+use Rattle.snippet_strokes.specs.DrawnStems.{stems_of}
 use Rattle.snippet_strokes.proofs.BarWrites.{All-column_of, All-connector_of, All-stretch_of}
 use Rattle.snippet_strokes.proofs.LabelWrites.{All-label_of}
 use Rattle.snippet_strokes.proofs.StemWrites.{All-stem_of, All-stems_of}

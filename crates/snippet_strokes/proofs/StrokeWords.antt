@@ -63,6 +63,13 @@ corner_by layout row count e part =
     else bar_writes layout e depth row corner ++ glyph_at corner (bar_cell layout depth) strokes.bar_bottom (stroke_role e) ∷ [] in
     option_map_or (λ bar. drawn bar.depth) (bar_at part (is_primary e.entry.kind)) []
 
+-- what of it stands in the source row
+abbrev pub top_by : Layout → ℕ → PlacedEntry → LineAnnotationType → List Write
+top_by layout row e part =
+    let strokes = strokes_of layout.decor (is_primary e.entry.kind) in
+    let drawn : ℕ → List Write = λ depth. if is_start_part part then [] else glyph_at row (bar_cell layout depth) strokes.bar (stroke_role e) ∷ [] in
+    option_map_or (λ bar. drawn bar.depth) (bar_at part (is_primary e.entry.kind)) []
+
 -- the source row of a line with the rows of its strokes below it, before they are drawn
 abbrev pub begun_rows : Layout → Bool → ℕ → List Cell → List (List Cell)
 begun_rows layout closes count source =

@@ -19,7 +19,7 @@ use Rattle.snippet_strokes.proofs.OneStep.{written_by}
 use Rattle.snippet_strokes.specs.Strokes.{column_of, connectors_of, corners_of, label_of, labels_of}
 use Rattle.snippet_strokes.proofs.StrokeWords.{label_write, stem_write}
 use Rattle.snippet_strokes.proofs.Drawn.{drawn_strokes, drawn_under_marks, marks_of}
-use Rattle.snippet_strokes.specs.StemRows.{stems_of}
+use Rattle.snippet_strokes.specs.DrawnStems.{stems_of}
 use Rattle.snippet_strokes.proofs.WriteLemmas.{painted-append}
 
 -- a label is written where the entry has one

@@ -27,7 +27,7 @@ use Rattle.snippet_strokes.specs.Strokes.{column_of, connector_of, connectors_of
 use Rattle.snippet_strokes.proofs.StrokeWords.{bar_writes, begun_rows, corner_by}
 use Rattle.snippet_strokes.specs.Strokes.{labels_of, stroke_rows}
 use Rattle.snippet_strokes.proofs.Drawn.{drawn_mark, drawn_strokes, marks_of}
-use Rattle.snippet_strokes.specs.StemRows.{stems_of}
+use Rattle.snippet_strokes.specs.DrawnStems.{stems_of}
 use Rattle.snippet_strokes.specs.Writes.{Write, glyph_at, painted, stretch_of}
 use Rattle.snippet_strokes.proofs.CellLemmas.{above_zero}
 use Rattle.snippet_strokes.proofs.BarWrites.{All-connector_of, All-stretch_of}

@@ -1,15 +1,16 @@
 pub mod Apart
 pub mod Bars
+pub mod CellRows
 pub mod Cuts
 pub mod Drawable
 pub mod Drawing
+pub mod DrawnStems
 pub mod EndBars
 pub mod EntryMarks
 pub mod Labels
 pub mod LineRows
 pub mod LookedCuts
 pub mod Painting
-pub mod StemRows
 pub mod StrokeRows
 pub mod Snippet
 pub mod SourceRows

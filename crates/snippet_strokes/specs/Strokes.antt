@@ -70,6 +70,16 @@ corner_of layout row count e =
     else column_of row corner cell strokes.bar (stroke_role e) ++ glyph_at corner cell strokes.bar_bottom (stroke_role e) ∷ [] in
     option_map_or (λ bar. drawn (bar_cell layout bar.depth)) (bar_at e.entry.annotation_type (is_primary e.entry.kind)) []
 
+-- what of it stands in the source row: the uppermost part of the bar of an end
+abbrev pub top_of : Layout → ℕ → PlacedEntry → List Write
+top_of layout row e =
+    let strokes = strokes_of layout.decor (is_primary e.entry.kind) in
+    let drawn : ℕ → List Write = λ cell. if is_start_part e.entry.annotation_type then [] else glyph_at row cell strokes.bar (stroke_role e) ∷ [] in
+    option_map_or (λ bar. drawn (bar_cell layout bar.depth)) (bar_at e.entry.annotation_type (is_primary e.entry.kind)) []
+
+abbrev pub tops_of : Layout → ℕ → List PlacedEntry → List Write
+tops_of layout row placed = flat_map (top_of layout row) placed
+
 -- ---- all of them
 
 -- all strokes of a line. Its source row is `row`, and below it come as many rows that there are `count` in all: the lines to bars, the

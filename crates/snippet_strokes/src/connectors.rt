@@ -9,9 +9,10 @@ ghost use Rattle.snippet_grid.specs.Layout.{code_cell, inner_cell};
 ghost use Rattle.snippet_model.specs.AnnotationKind.{is_primary};
 ghost use Rattle.snippet_style.specs.Glyphs.{strokes_of};
 
-use crate::lines::draw_stretch;
+use crate::canvas::Canvas;
+use crate::cell_rows::CellRows;
 use crate::roles::is_primary;
-use snippet_grid::{Layout, StyledBuffer};
+use snippet_grid::Layout;
 use snippet_labels::PlacedEntry;
 use snippet_parts::LineAnnotationType;
 use std::alloc::AllocError;
@@ -29,7 +30,7 @@ use std::alloc::AllocError;
 ///
 /// There is no memory for the cells.
 pub(crate) fn draw_connectors(
-    buffer: &mut StyledBuffer,
+    buffer: &mut CellRows,
     layout: Layout,
     row: usize,
     placed: &[PlacedEntry],
@@ -45,15 +46,16 @@ pub(crate) fn draw_connectors(
 }
 
 /// Draws the line from the bar of an entry to its start, if it is the start or the end of a span of several lines.
-pub(crate) fn draw_connector(
-    buffer: &mut StyledBuffer,
+pub(crate) fn draw_connector<C: Canvas>(
+    buffer: &mut C,
     layout: Layout,
     row: usize,
     placed: &PlacedEntry,
 ) -> Result<(), AllocError>
-    requires place { HasPlaceAmong row (length buffer.old) placed.now }
+    requires place { HasPlaceAmong row (length (C.rows buffer.old)) placed.now }
     requires bar_cell { HasBarCell layout placed.now.entry }
-    ensures painted { OnOk result (buffer.new ≡ painted (connector_of layout row placed.now) buffer.old) }
+    ensures painted { OnOk result (C.rows buffer.new
+        ≡ painted (connector_of layout row placed.now) (C.rows buffer.old)) }
 {
     match placed.entry.annotation_type {
         LineAnnotationType::MultilineStart(depth) | LineAnnotationType::MultilineEnd(depth) => {
@@ -64,24 +66,24 @@ pub(crate) fn draw_connector(
 }
 
 /// Draws the line from the bar of this depth to before the start of an entry.
-fn draw_line_to(
-    buffer: &mut StyledBuffer,
+fn draw_line_to<C: Canvas>(
+    buffer: &mut C,
     layout: Layout,
     row: usize,
     depth: usize,
     placed: &PlacedEntry,
 ) -> Result<(), AllocError>
-    requires place { HasPlaceAmong row (length buffer.old) placed.now }
+    requires place { HasPlaceAmong row (length (C.rows buffer.old)) placed.now }
     requires depth { inner_cell layout + depth < layout.code }
-    ensures painted { OnOk result (buffer.new ≡ painted (stretch_of (row + placed.now.position) (inner_cell layout
-        + depth) (code_cell layout placed.now.entry.start.display)
-        (strokes_of layout.decor (is_primary placed.now.entry.kind)).connector (stroke_role placed.now)) buffer.old) }
+    ensures painted { OnOk result (C.rows buffer.new ≡ painted (stretch_of (row + placed.now.position)
+        (inner_cell layout + depth) (code_cell layout placed.now.entry.start.display)
+        (strokes_of layout.decor (is_primary placed.now.entry.kind)).connector (stroke_role placed.now))
+        (C.rows buffer.old)) }
 {
     let strokes = layout.decor.underline(is_primary(placed.entry.kind));
     let start = layout.code_cell(placed.entry.start.display);
     let cells = layout.bar_cell(depth) + 1..start;
-    draw_stretch(
-        buffer,
+    buffer.put_stretch(
         row + placed.position,
         cells,
         strokes.connector,

@@ -9,8 +9,10 @@ ghost use Rattle.snippet_strokes.specs.Strokes.{label_of, labels_of};
 ghost use Rattle.snippet_strokes.specs.Writes.{painted};
 ghost use Rattle.snippet_style.specs.Bounds.{FitsRow, HasNext};
 
+use crate::canvas::Canvas;
+use crate::cell_rows::CellRows;
 use crate::roles::label_role;
-use snippet_grid::{Layout, StyledBuffer};
+use snippet_grid::Layout;
 use snippet_labels::PlacedEntry;
 use std::alloc::AllocError;
 
@@ -26,7 +28,7 @@ use std::alloc::AllocError;
 ///
 /// There is no memory for the cells.
 pub(crate) fn draw_labels(
-    buffer: &mut StyledBuffer,
+    buffer: &mut CellRows,
     layout: Layout,
     row: usize,
     placed: &[PlacedEntry],
@@ -43,16 +45,17 @@ pub(crate) fn draw_labels(
 }
 
 /// Draws the label of an entry.
-pub(crate) fn draw_label(
-    buffer: &mut StyledBuffer,
+pub(crate) fn draw_label<C: Canvas>(
+    buffer: &mut C,
     layout: Layout,
     row: usize,
     placed: &PlacedEntry,
 ) -> Result<(), AllocError>
-    requires place { HasPlaceAmong row (length buffer.old) placed.now }
+    requires place { HasPlaceAmong row (length (C.rows buffer.old)) placed.now }
     requires label { HasItsLabel placed.now }
     requires short { FitsRow (normalized_chars placed.now.entry.label) }
-    ensures painted { OnOk result (buffer.new ≡ painted (label_of layout row placed.now) buffer.old) }
+    ensures painted { OnOk result (C.rows buffer.new
+        ≡ painted (label_of layout row placed.now) (C.rows buffer.old)) }
 {
     let (below, column) = label_place(placed);
     buffer.puts(

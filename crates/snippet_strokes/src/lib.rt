@@ -4,6 +4,8 @@
 
 mod apart;
 mod bars;
+mod canvas;
+mod cell_rows;
 mod connectors;
 mod corners;
 mod cuts;
@@ -16,7 +18,6 @@ mod roles;
 mod row;
 mod snippet;
 mod source_row;
-mod stem_rows;
 mod stems;
 mod strokes;
 mod whole_line;

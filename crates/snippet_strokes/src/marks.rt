@@ -6,9 +6,10 @@ ghost use Rattle.snippet_strokes.specs.Painting.{first_glyph, mark_end, mark_of,
 ghost use Rattle.snippet_strokes.specs.Writes.{painted};
 ghost use Rattle.snippet_style.specs.Bounds.{HasNext, IsColumn};
 
-use crate::lines::draw_stretch;
+use crate::canvas::Canvas;
+use crate::cell_rows::CellRows;
 use crate::roles::is_primary;
-use snippet_grid::{Layout, StyledBuffer};
+use snippet_grid::Layout;
 use snippet_labels::positions::PlacedEntry;
 use snippet_parts::LineAnnotation;
 use snippet_style::DecorStyle;
@@ -25,7 +26,7 @@ use std::cmp::Reverse;
 ///
 /// There is no memory for the cells, or to sort the entries.
 pub fn draw_marks(
-    buffer: &mut StyledBuffer,
+    buffer: &mut CellRows,
     layout: Layout,
     row: usize,
     placed: &mut Vec<PlacedEntry>,
@@ -59,8 +60,8 @@ fn entry_width(entry: &LineAnnotation) -> usize
 }
 
 /// Paints the marks of entries into a row, each over those before it.
-pub(crate) fn paint_entries(
-    buffer: &mut StyledBuffer,
+fn paint_entries(
+    buffer: &mut CellRows,
     layout: Layout,
     row: usize,
     placed: &[PlacedEntry],
@@ -80,15 +81,16 @@ pub(crate) fn paint_entries(
 /// ```text
 ///       |       ^^^^^         ┯━━━━
 /// ```
-pub(crate) fn paint_entry(
-    buffer: &mut StyledBuffer,
+pub(crate) fn paint_entry<C: Canvas>(
+    buffer: &mut C,
     layout: Layout,
     row: usize,
     placed: &PlacedEntry,
 ) -> Result<(), AllocError>
     requires row { HasNext row }
     requires columns { IsColumn placed.now.entry.end.display }
-    ensures painted { OnOk result (buffer.new ≡ painted (mark_of layout row placed.now) buffer.old) }
+    ensures painted { OnOk result (C.rows buffer.new
+        ≡ painted (mark_of layout row placed.now) (C.rows buffer.old)) }
 {
     let strokes = layout.decor.underline(is_primary(placed.entry.kind));
     let (start, end) = (placed.entry.start.display, mark_end(placed));
@@ -99,11 +101,11 @@ pub(crate) fn paint_entry(
     let cell = layout.code_cell(start);
     if first == strokes.underline {
         let whole = cell..layout.code_cell(end);
-        return draw_stretch(buffer, row, whole, first, strokes.style);
+        return buffer.put_stretch(row, whole, first, strokes.style);
     }
     buffer.putc(row, cell, first, strokes.style)?;
     let rest = cell + 1..layout.code_cell(end);
-    draw_stretch(buffer, row, rest, strokes.underline, strokes.style)
+    buffer.put_stretch(row, rest, strokes.underline, strokes.style)
 }
 
 /// The column after the last one at which an entry's mark is painted. Where an entry covers no column, but a glyph of

@@ -4,10 +4,12 @@ ghost use Rattle.std.specs.List.{flat_map};
 ghost use Rattle.snippet_strokes.specs.Drawing.{HasPlaceAmong, foot_glyph};
 ghost use Rattle.snippet_strokes.specs.Writes.{painted};
 ghost use Rattle.snippet_strokes.specs.Strokes.{stem_of};
-ghost use Rattle.snippet_strokes.specs.StemRows.{is_stem_covered};
+ghost use Rattle.snippet_strokes.specs.DrawnStems.{is_stem_covered};
 
+use crate::canvas::Canvas;
+use crate::cell_rows::CellRows;
 use crate::roles::is_primary;
-use snippet_grid::{Layout, StyledBuffer};
+use snippet_grid::Layout;
 use snippet_labels::PlacedEntry;
 use snippet_parts::LineAnnotationType;
 use snippet_style::DecorStyle;
@@ -26,7 +28,7 @@ use std::alloc::AllocError;
 ///
 /// There is no memory for the cells.
 pub(crate) fn draw_stems(
-    buffer: &mut StyledBuffer,
+    buffer: &mut CellRows,
     layout: Layout,
     row: usize,
     placed: &[PlacedEntry],
@@ -61,7 +63,7 @@ pub(crate) fn is_stem_covered(placed: &PlacedEntry, later: &[PlacedEntry]) -> bo
 /// Draws the stem of an entry, if it has one: below its first column, as far as the row of its line to the bar, or the
 /// row above its label.
 fn draw_stem(
-    buffer: &mut StyledBuffer,
+    buffer: &mut CellRows,
     layout: Layout,
     row: usize,
     placed: &PlacedEntry,

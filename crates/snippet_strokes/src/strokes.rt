@@ -1,8 +1,7 @@
 //! All that stands below the source row of a line, and the bars beside it of spans that begin or end there.
 ghost use Rattle.std.specs.Prelude.{◌≡◌, ◌+◌, ◌<◌, ◌++◌, ◌∷◌, [], ℕ, if◌then◌else◌, All, List, OnOk};
-ghost use Rattle.std.specs.Prelude.{◌-◌, false, length, replicate};
-ghost use Rattle.std.specs.List.{list_any};
-ghost use Rattle.snippet_labels.specs.Positions.{takes_space};
+ghost use Rattle.std.specs.Prelude.{◌-◌, ◌^◌, false, length, replicate};
+ghost use Rattle.snippet_strokes.specs.Apart.{StandApart};
 ghost use Rattle.snippet_strokes.specs.Bars.{is_whole_line};
 ghost use Rattle.snippet_strokes.specs.Drawable.{AreDrawable, IsReady};
 ghost use Rattle.snippet_strokes.specs.LineRows.{own_rows};
@@ -17,13 +16,13 @@ ghost use Rattle.snippet_style.specs.Separators.{closing_row, separator_row};
 ghost use Rattle.snippet_style.specs.Bounds.{AreRows, IsCount};
 
 use crate::apart::{draw_apart, stand_apart};
+use crate::cell_rows::CellRows;
 use crate::connectors::draw_connectors;
-use crate::corners::draw_corners;
+use crate::corners::{draw_corners, draw_tops};
 use crate::cuts::{cut_wide, overlapping};
 use crate::labels::draw_labels;
 use crate::marks::{draw_marks, sort_for_painting};
 use crate::row::{begin_closing_row, begin_rows};
-use crate::stem_rows::begin_stem_rows;
 use crate::stems::draw_stems;
 use snippet_grid::{Layout, StyledBuffer};
 use snippet_labels::{PlacedEntry, are_starts, placed_entries};
@@ -110,27 +109,51 @@ fn draw_rows(
     ensures small { OnOk result (AreRows (length buffer.old + count)) }
     ensures count { OnOk result (length buffer.new ≡ length buffer.old + count) }
 {
-    if count > 1 && !has_lines(placed) {
-        return draw_hanging(buffer, layout, place, count, placed);
+    if stand_apart(placed) {
+        draw_side_by_side(buffer, layout, place, count, placed)
+    } else {
+        draw_meeting(buffer, layout, place, count, placed)
     }
-    begin_rows(buffer, layout, place.closes, count)?;
-    paint_strokes(buffer, layout, place.row, placed)
 }
 
-/// Whether a line leads to a bar from one of these entries.
-fn has_lines(placed: &[PlacedEntry]) -> bool
-    ensures value { result ≡ list_any takes_space placed.now }
-{
-    placed.iter().any(|entry| entry.takes_space())
-}
-
-/// Does the same where no line leads to a bar. Then the stems are below all other strokes, and stand in the rows as
-/// they are begun: what is drawn into an upper row moves all that stands in the rows below it.
+/// Does the same where the strokes stand side by side: they are drawn from left to right, each after all that is drawn.
 ///
 /// # Errors
 ///
 /// There is no memory for the rows, or to sort the entries.
-fn draw_hanging(
+fn draw_side_by_side(
+    buffer: &mut StyledBuffer,
+    layout: Layout,
+    place: StrokePlace,
+    count: usize,
+    placed: &mut Vec<PlacedEntry>,
+) -> Result<(), AllocError>
+    requires some { 0 < count }
+    requires apart { StandApart (2 ^ 64 - 1) placed.old.items }
+    requires last { length buffer.old ≡ place.row + 1 }
+    requires rows { All (HasRows (place.row + 1) (length buffer.old + count)) placed.old.items }
+    requires ready { All (IsReady layout) placed.old.items }
+    ensures order { OnOk result (placed.new.items ≡ painting_order placed.old.items) }
+    ensures painted { OnOk result (buffer.new ≡ painted (line_strokes layout place.row
+        (length buffer.old + count) placed.old.items (painting_order placed.old.items))
+        (buffer.old ++ replicate (count - 1) (separator_row layout.decor layout.gutter)
+        ++ bare_row layout.decor layout.gutter place.closes ∷ [])) }
+    ensures small { OnOk result (AreRows (length buffer.old + count)) }
+    ensures count { OnOk result (length buffer.new ≡ length buffer.old + count) }
+{
+    begin_rows(buffer, layout, place.closes, count)?;
+    draw_apart(buffer, layout, place.row, placed)?;
+    sort_for_painting(placed)
+}
+
+/// Does the same where strokes meet. They are painted one over another in rows that are kept cell by cell, the first of
+/// which stands for the source row, and these are added below it: what is drawn into an upper row of a grid moves all
+/// that stands in the rows below.
+///
+/// # Errors
+///
+/// There is no memory for the rows, or to sort the entries.
+fn draw_meeting(
     buffer: &mut StyledBuffer,
     layout: Layout,
     place: StrokePlace,
@@ -141,7 +164,6 @@ fn draw_hanging(
     requires last { length buffer.old ≡ place.row + 1 }
     requires rows { All (HasRows (place.row + 1) (length buffer.old + count)) placed.old.items }
     requires ready { All (IsReady layout) placed.old.items }
-    requires lines { list_any takes_space placed.old.items ≡ false }
     ensures order { OnOk result (placed.new.items ≡ painting_order placed.old.items) }
     ensures painted { OnOk result (buffer.new ≡ painted (line_strokes layout place.row
         (length buffer.old + count) placed.old.items (painting_order placed.old.items))
@@ -150,52 +172,29 @@ fn draw_hanging(
     ensures small { OnOk result (AreRows (length buffer.old + count)) }
     ensures count { OnOk result (length buffer.new ≡ length buffer.old + count) }
 {
-    begin_stem_rows(buffer, layout, place.closes, count, placed)?;
-    draw_labels(buffer, layout, place.row + 1, placed)?;
-    draw_marks(buffer, layout, place.row + 1, placed)?;
-    Ok(())
+    draw_tops(buffer, layout, placed)?;
+    let mut rows = CellRows::below_source(buffer.allocator())?;
+    begin_rows(&mut rows, layout, place.closes, count)?;
+    draw_under_marks(&mut rows, layout, placed)?;
+    draw_marks(&mut rows, layout, 1, placed)?;
+    rows.append_below_source(buffer)
 }
 
-/// Draws the strokes of a line into the rows that are begun for them below its source row, which has this number, and
-/// puts its entries in the order of painting. Where strokes stand side by side they are drawn from left to right.
-fn paint_strokes(
-    buffer: &mut StyledBuffer,
-    layout: Layout,
-    row: usize,
-    placed: &mut Vec<PlacedEntry>,
-) -> Result<(), AllocError>
-    requires enough { AreEnough layout row (length buffer.old) placed.old.items }
-    ensures order { OnOk result (placed.new.items ≡ painting_order placed.old.items) }
-    ensures painted { OnOk result (buffer.new ≡ painted (line_strokes layout row
-        (length buffer.old) placed.old.items (painting_order placed.old.items)) buffer.old) }
-    ensures count { OnOk result (length buffer.new ≡ length buffer.old) }
-{
-    if stand_apart(placed) {
-        draw_apart(buffer, layout, row, placed)?;
-        return sort_for_painting(placed);
-    }
-    draw_under_marks(buffer, layout, row, placed)?;
-    draw_marks(buffer, layout, row + 1, placed)?;
-    Ok(())
-}
-
-/// Draws the strokes of a line but its marks into the rows that are begun for them below its source row, which has this
-/// number.
+/// Paints the strokes of a line but its marks into rows, the first of which stands for its source row.
 fn draw_under_marks(
-    buffer: &mut StyledBuffer,
+    rows: &mut CellRows,
     layout: Layout,
-    row: usize,
     placed: &[PlacedEntry],
 ) -> Result<(), AllocError>
-    requires enough { AreEnough layout row (length buffer.old) placed.now }
-    ensures painted { OnOk result (buffer.new ≡ painted (strokes_under_marks layout row
-        (length buffer.old) placed.now) buffer.old) }
-    ensures count { OnOk result (length buffer.new ≡ length buffer.old) }
+    requires enough { AreEnough layout 0 (length rows.old) placed.now }
+    ensures painted { OnOk result (rows.new
+        ≡ painted (strokes_under_marks layout 0 (length rows.old) placed.now) rows.old) }
+    ensures count { OnOk result (length rows.new ≡ length rows.old) }
 {
-    draw_connectors(buffer, layout, row + 1, placed)?;
-    draw_corners(buffer, layout, row, placed)?;
-    draw_stems(buffer, layout, row + 1, placed)?;
-    draw_labels(buffer, layout, row + 1, placed)
+    draw_connectors(rows, layout, 1, placed)?;
+    draw_corners(rows, layout, 0, placed)?;
+    draw_stems(rows, layout, 1, placed)?;
+    draw_labels(rows, layout, 1, placed)
 }
 
 /// Adds a closing row where the window closes with a line that has no entries.

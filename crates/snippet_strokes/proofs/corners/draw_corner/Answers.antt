@@ -9,9 +9,9 @@ use Rattle.snippet_strokes.specs.Writes.{glyph_at, painted}
 use Rattle.snippet_strokes.proofs.corners.draw_corner.Goals as goal
 
 pub returns-in-MultilineStart : goal.returns-in-MultilineStart
-returns-in-MultilineStart c =
+returns-in-MultilineStart g c =
     let a = c.args in
-    let old = a.buffer.now in
+    let old = g.C.Canvas.rows a.buffer.now in
     let bar = c.bar_at-top in
     let rows : ℕ → ℕ → Strokes → List (List Cell) = λ corner cell s.
     painted (glyph_at corner cell s.bar_top s.style ∷ column_of (corner + 1) (length old) cell s.bar s.style) old in
@@ -24,9 +24,9 @@ returns-in-MultilineStart c =
     }
 
 pub returns-in-MultilineEnd : goal.returns-in-MultilineEnd
-returns-in-MultilineEnd c =
+returns-in-MultilineEnd g c =
     let a = c.args in
-    let old = a.buffer.now in
+    let old = g.C.Canvas.rows a.buffer.now in
     let bar = c.bar_at-bottom in
     let rows : ℕ → ℕ → Strokes → List (List Cell) = λ corner cell s.
     painted (column_of a.row corner cell s.bar s.style ++ glyph_at corner cell s.bar_bottom s.style ∷ []) old in

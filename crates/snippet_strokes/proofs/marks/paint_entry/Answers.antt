@@ -12,16 +12,17 @@ use Rattle.snippet_strokes.proofs.WriteLemmas.{drawn_mark-none, mark_painted}
 use Rattle.snippet_strokes.proofs.marks.paint_entry.Goals as goal
 
 pub returns-then-end-start : goal.returns-then-end-start
-returns-then-end-start c =
+returns-then-end-start g c =
     let placed = c.args.placed.now in
     let is_end : c.mark_end-end.result ≡ mark_end placed = c.mark_end-end.ensures.value in
     record {
-      painted = sym (ap (λ ws. painted ws c.args.buffer.now) (drawn_mark-none c.args.layout c.args.row placed (omega (arith, c.if-end-start.true, is_end))))
-          ∙ sym (mark_same c.args.layout c.args.row placed c.args.buffer.now);
+      painted = sym (ap (λ ws. painted ws (g.C.Canvas.rows c.args.buffer.now)) (drawn_mark-none c.args.layout c.args.row placed (omega
+          (arith, c.if-end-start.true, is_end))))
+          ∙ sym (mark_same c.args.layout c.args.row placed (g.C.Canvas.rows c.args.buffer.now));
     }
 
 pub returns-then-first-strokes : goal.returns-then-first-strokes
-returns-then-first-strokes c =
+returns-then-first-strokes g c =
     let placed = c.args.placed.now in
     let layout = layout_of c.layout.inside in
     let strokes = c.underline-strokes in
@@ -31,16 +32,17 @@ returns-then-first-strokes c =
     let is_role = ap (λ (s : Strokes). s.style) strokes.ensures.value ∙ ap underline_role c.is_primary.ensures.value in
     let from = c.code_cell-cell.ensures.value ∙ ap (λ (l : Layout). code_cell l placed.entry.start.display) (sym c.layout.view_is) in
     let to = c.code_cell.ensures.value ∙ ap (λ (l : Layout). code_cell l c.mark_end-end.result) (sym c.layout.view_is) in
-    let drawn = rw to at (rw from at c.draw_stretch.ensures.painted) in
+    let drawn = rw to at (rw from at c.put_stretch.ensures.painted) in
     rw (← c.layout.view_is) (record {
-      painted = on_ok_weaker c.draw_stretch.result
+      painted = on_ok_weaker c.put_stretch.result
           (λ drawn_now. mark_whole layout c.args.row placed c.first_glyph-first.result strokes.result.underline strokes.result.style
-          c.mark_end-end.result c.args.buffer.now c.draw_stretch.new.buffer some is_end c.first_glyph-first.ensures.value is_line
-          is_role c.if-first-strokes.true drawn_now ∙ sym (mark_same layout c.args.row placed c.args.buffer.now)) drawn;
+          c.mark_end-end.result (g.C.Canvas.rows c.args.buffer.now) (g.C.Canvas.rows c.put_stretch.new.self) some is_end c.first_glyph-first.ensures.value
+          is_line
+          is_role c.if-first-strokes.true drawn_now ∙ sym (mark_same layout c.args.row placed (g.C.Canvas.rows c.args.buffer.now))) drawn;
     })
 
 pub returns : goal.returns
-returns c =
+returns g c =
     let placed = c.args.placed.now in
     let layout = layout_of c.layout.inside in
     let strokes = c.underline-strokes in
@@ -51,10 +53,11 @@ returns c =
     let from = c.code_cell-cell.ensures.value ∙ ap (λ (l : Layout). code_cell l placed.entry.start.display) (sym c.layout.view_is) in
     let to = c.code_cell-2.ensures.value ∙ ap (λ (l : Layout). code_cell l c.mark_end-end.result) (sym c.layout.view_is) in
     let begun = rw from at c.in_ok-putc.ensures.ok in
-    let drawn = rw to at (rw from at c.draw_stretch-2.ensures.painted) in
+    let drawn = rw to at (rw from at c.put_stretch-2.ensures.painted) in
     rw (← c.layout.view_is) (record {
-      painted = on_ok_weaker c.draw_stretch-2.result
+      painted = on_ok_weaker c.put_stretch-2.result
           (λ drawn_now. mark_painted layout c.args.row placed c.first_glyph-first.result strokes.result.underline strokes.result.style
-          c.mark_end-end.result c.args.buffer.now c.putc.new.self c.draw_stretch-2.new.buffer some is_end c.first_glyph-first.ensures.value is_line
-          is_role begun drawn_now ∙ sym (mark_same layout c.args.row placed c.args.buffer.now)) drawn;
+          c.mark_end-end.result (g.C.Canvas.rows c.args.buffer.now) (g.C.Canvas.rows c.putc.new.self)
+          (g.C.Canvas.rows c.put_stretch-2.new.self) some is_end c.first_glyph-first.ensures.value is_line
+          is_role begun drawn_now ∙ sym (mark_same layout c.args.row placed (g.C.Canvas.rows c.args.buffer.now))) drawn;
     })

@@ -1,8 +1,8 @@
-use Rattle.std.proofs.Common.{◌≡◌, ◌-◌, ◌^◌, ◌≤◌, ◌++◌, length, replicate}
+use Rattle.std.proofs.Common.{◌≡◌, ◌-◌, ◌++◌, replicate}
 use Rattle.snippet_style.specs.Separators.{separator_row}
 use Rattle.snippet_strokes.proofs.row.begin_rows.Given as goal
 
 -- so many rows are begun
 abbrev pub invariant-loop : goal.invariant-loop
-invariant-loop l =
-    (l.buffer ≡ l.initial.buffer ++ replicate (l.counter - 1) (separator_row l.layout.decor l.layout.gutter)) × (length l.buffer ≤ 2 ^ 60)
+invariant-loop g l =
+    ((g.C.Canvas.rows l.buffer) ≡ (g.C.Canvas.rows l.initial.buffer) ++ replicate (l.counter - 1) (separator_row l.layout.decor l.layout.gutter))

@@ -1,0 +1,294 @@
+-- Strokes are painted into the source row of a line apart from the rows below it: what stands in these is the same over any source row.
+use Rattle.std.proofs.Common.{◌≡◌, ℕ, zero, suc, ◌+◌, ◌-◌, ◌<◌, ◌≤◌, ◌==◌, ◌&&◌, Bool, cond, inl, inr, replicate, nat_lt, true}
+use Rattle.std.proofs.Common.{false, List, [], ◌∷◌, ◌++◌, length, map, take, drop, fold, All, get_or, subst, refl, sym, ap, ◌∙◌, arith}
+use Rattle.std.specs.List.{range_with_len}
+use Rattle.std.proofs.lemmas.List.{append_assoc, get_or-drop, get_or_default, length-drop, length-take-le, length_push, take-append-drop}
+use Rattle.std.proofs.lemmas.Bool.{cases_eq}
+use Rattle.std.proofs.lemmas.Bool.Decides.{nat_tests}
+use Rattle.std.proofs.lemmas.List.Concat.{flat_map-cons}
+use Rattle.std.proofs.lemmas.List.Elements.{All-append, All-cons, All-head, All-nil, All-tail}
+use Rattle.std.proofs.lemmas.List.Sums.{fold-append}
+use Rattle.snippet_grid.proofs.GridLemmas.{WritesCells-cells_written}
+use Rattle.snippet_grid.specs.Grid.{cells_written, row_at}
+use Rattle.snippet_grid.specs.Layout.{Layout}
+use Rattle.snippet_labels.specs.declared.positions.PlacedEntry.{PlacedEntry}
+use Rattle.snippet_model.specs.AnnotationKind.{is_primary}
+use Rattle.snippet_parts.specs.declared.entries.LineAnnotationType.{LineAnnotationType}
+use Rattle.snippet_parts.specs.declared.entries.LineAnnotationType.TheVariants.{Singleline, MultilineStart, MultilineEnd, MultilineLine}
+use Rattle.snippet_style.specs.Cell.{Cell, SPACE, text_cells, written}
+use Rattle.snippet_style.specs.Glyphs.{strokes_of}
+use Rattle.snippet_style.specs.Separators.{separator_row}
+use Rattle.snippet_strokes.specs.SourceRows.{bare_row}
+use Rattle.snippet_strokes.specs.Painting.{first_glyph, mark_end, stroke_role}
+use Rattle.snippet_strokes.specs.DrawnStems.{stems_of}
+use Rattle.snippet_strokes.specs.Strokes.{connectors_of, connector_of, corner_of, corners_of, labels_of, label_of, top_of, tops_of}
+use Rattle.snippet_strokes.specs.Writes.{Write, glyph_at, painted, stretch_of}
+use Rattle.snippet_strokes.proofs.BarWrites.{All-column_of, All-connector_of, All-stretch_of}
+use Rattle.snippet_strokes.proofs.BegunLemmas.{begun_row, sole}
+use Rattle.snippet_strokes.proofs.Drawn.{drawn_mark, drawn_strokes, marks_of}
+use Rattle.snippet_strokes.proofs.LabelWrites.{All-label_of}
+use Rattle.snippet_strokes.proofs.LowerWrites.{flat_map-lowered, lowered, painted-below, strokes-lowered, written-cons}
+use Rattle.snippet_strokes.proofs.RowLemmas.{bare_some}
+use Rattle.snippet_strokes.proofs.OneStep.{written_by}
+use Rattle.snippet_strokes.proofs.StemWrites.{All-stem_of, All-stems_of}
+use Rattle.snippet_strokes.proofs.StrokeWords.{bar_writes, corner_by, top_by}
+use Rattle.snippet_strokes.proofs.WriteLaws.{All-flat_map}
+
+-- the first of some rows after a write, and those below it
+abbrev top_written : List Cell → Write → List Cell
+top_written row w = cond (w.row == 0) (written SPACE row w.cell (text_cells w.role w.text)) row
+
+abbrev rest_written : List (List Cell) → Write → List (List Cell)
+rest_written rows w = cond (w.row == 0) rows (cells_written rows (w.row - 1) w.cell (text_cells w.role w.text))
+
+not_first : (r : ℕ) → 0 < r → (r == 0) ≡ false
+not_first r below = grind (arith, nat_tests, below)
+
+written-first : (x : List Cell) (xs : List (List Cell)) (new : List Cell) → written [] (x ∷ xs) 0 (new ∷ []) ≡ new ∷ xs
+unfolding written
+written-first x xs new = refl
+
+one_written : (row : List Cell) (rows : List (List Cell)) (w : Write) → written_by (row ∷ rows) w ≡ top_written row w ∷ rest_written rows w
+one_written row rows w = by_row w.row
+  where
+    cells : List Cell
+    cells = text_cells w.role w.text
+
+    by_row : (r : ℕ) → cells_written (row ∷ rows) r w.cell cells
+        ≡ cond (r == 0) (written SPACE row w.cell cells) row ∷ cond (r == 0) rows (cells_written rows (r - 1) w.cell cells)
+    by_row zero = written-first row rows (written SPACE row w.cell cells)
+    by_row (suc r) =
+        let same : suc r - 1 ≡ r = omega arith in
+        written-cons row rows r (written SPACE (row_at rows r) w.cell cells ∷ [])
+        ∙ ap (λ n. row ∷ cells_written rows n w.cell cells) (sym same)
+        ∙ ap (λ b. cond b (written SPACE row w.cell cells) row ∷ cond b rows (cells_written rows (suc r - 1) w.cell cells)) (sym (not_first (suc r)
+        (omega arith)))
+
+-- so it is with writes one after another
+split : (ws : List Write) (row : List Cell) (rows : List (List Cell)) → painted ws (row ∷ rows) ≡ fold top_written row ws ∷ fold rest_written rows ws
+split [] row rows = refl
+split (w ∷ ws) row rows = ap (painted ws) (one_written row rows w) ∙ split ws (top_written row w) (rest_written rows w)
+
+-- writes below the first row leave it, and those into it leave the others
+abbrev IsBelow : Write → Type 0
+IsBelow w = 0 < w.row
+
+top_kept : (ws : List Write) (row : List Cell) → All IsBelow ws → fold top_written row ws ≡ row
+top_kept [] row below = refl
+top_kept (w ∷ ws) row below =
+    ap (λ r. fold top_written r ws) (by_row w.row (All-head IsBelow w ws below)) ∙ top_kept ws row (All-tail IsBelow w ws below)
+  where
+    by_row : (r : ℕ) → 0 < r → cond (r == 0) (written SPACE row w.cell (text_cells w.role w.text)) row ≡ row
+    by_row r some = ap (λ b. cond b (written SPACE row w.cell (text_cells w.role w.text)) row) (not_first r some)
+
+rest_kept : (ws : List Write) (rows : List (List Cell)) → All (λ w. w.row ≡ 0) ws → fold rest_written rows ws ≡ rows
+rest_kept [] rows top = refl
+rest_kept (w ∷ ws) rows top =
+    ap (λ rs. fold rest_written rs ws) (ap (λ r. cond (r == 0) rows (cells_written rows (r - 1) w.cell (text_cells w.role w.text)))
+    (All-head (λ v. v.row ≡ 0) w ws top)) ∙ rest_kept ws rows (All-tail (λ v. v.row ≡ 0) w ws top)
+
+-- what holds of the first glyph of a mark, and of its line, holds of the mark
+All-drawn_mark : (P : Write → Type 0) (layout : Layout) (row : ℕ) (e : PlacedEntry)
+    → P (glyph_at row (layout.code + e.entry.start.display) (first_glyph layout.decor e) (stroke_role e))
+    → ((w : Write) → w.row ≡ row → P w) → All P (drawn_mark layout row e)
+All-drawn_mark P layout row e first line =
+    let from = layout.code + e.entry.start.display in
+    let to = layout.code + mark_end e in
+    let glyph : ℕ = (strokes_of layout.decor (is_primary e.entry.kind)).underline in
+    elim (nat_lt from to) as (λ b. All P (cond b (glyph_at row from (first_glyph layout.decor e) (stroke_role e) ∷ stretch_of row (from + 1) to glyph
+    (stroke_role e)) [])) [
+      | true ↦ All-cons P _ _ first (All-stretch_of P row (from + 1) to glyph (stroke_role e) (line _ refl))
+      | false ↦ All-nil P
+    ]
+
+-- ---- the strokes of a line
+
+module _ (layout : Layout) where
+  -- the bars, of which only the uppermost parts of those of ends stand in the source row
+  corner_top : (count : ℕ) (e : PlacedEntry) (row : List Cell) → fold top_written row (corner_of layout 0 count e) ≡ fold top_written row (top_of layout 0 e)
+  corner_top count e row = by_part e.entry.annotation_type
+    where
+      glyph : ℕ
+      glyph = (strokes_of layout.decor (is_primary e.entry.kind)).bar
+
+      below : (depth start end : ℕ) → 0 < start → All IsBelow (bar_writes layout e depth start end)
+      below depth start end some =
+          All-column_of IsBelow start end (layout.gutter + 2 + depth) glyph (stroke_role e) (λ r high low. omega (arith, some, high))
+
+      by_part : (part : LineAnnotationType) → fold top_written row (corner_by layout 0 count e part) ≡ fold top_written row (top_by layout 0 e part)
+      by_part Singleline = refl
+      by_part (MultilineLine depth) = refl
+      by_part (MultilineStart depth) =
+          let n = 0 + 1 + e.position in
+          let top : Write = glyph_at n (layout.gutter + 2 + depth) (strokes_of layout.decor (is_primary e.entry.kind)).bar_top (stroke_role e) in
+          let lower : List Write = bar_writes layout e depth (n + 1) count in
+          top_kept (top ∷ lower) row (All-cons IsBelow top lower (let low : 0 < n = omega arith in low) (below depth (n + 1) count (omega arith)))
+      by_part (MultilineEnd depth) =
+          let n = 0 + 1 + e.position in
+          let f : ℕ → Write = λ r. glyph_at r (layout.gutter + 2 + depth) glyph (stroke_role e) in
+          let more : n - 0 ≡ suc e.position = omega arith in
+          let bottom : Write = glyph_at n (layout.gutter + 2 + depth) (strokes_of layout.decor (is_primary e.entry.kind)).bar_bottom (stroke_role e) in
+          let lower : List Write = map f (range_with_len 1 e.position) ++ bottom ∷ [] in
+          ap (λ m. fold top_written row (map f (range_with_len 0 m) ++ bottom ∷ [])) more
+          ∙ top_kept lower (top_written row (f 0)) (All-append IsBelow (map f (range_with_len 1 e.position)) (bottom ∷ [])
+          (subst (λ m. All IsBelow (map f (range_with_len 1 m))) (let same : 1 + e.position - 1 ≡ e.position = omega arith in same)
+          (below depth 1 (1 + e.position) (omega arith)))
+          (All-cons IsBelow bottom [] (let low : 0 < n = omega arith in low) (All-nil IsBelow)))
+
+  corners_top : (count : ℕ) (es : List PlacedEntry) (row : List Cell)
+      → fold top_written row (corners_of layout 0 count es) ≡ fold top_written row (tops_of layout 0 es)
+  corners_top count [] row = refl
+  corners_top count (e ∷ es) row =
+      let corner : List Write = corner_of layout 0 count e in
+      let top : List Write = top_of layout 0 e in
+      ap (fold top_written row) (flat_map-cons (corner_of layout 0 count) e es) ∙ fold-append top_written row corner (corners_of layout 0 count es)
+      ∙ ap (λ r. fold top_written r (corners_of layout 0 count es)) (corner_top count e row) ∙ corners_top count es (fold top_written row top)
+      ∙ sym (ap (fold top_written row) (flat_map-cons (top_of layout 0) e es) ∙ fold-append top_written row top (tops_of layout 0 es))
+
+  -- all else stands below it
+  connectors_below : (es : List PlacedEntry) → All IsBelow (connectors_of layout 1 es)
+  connectors_below es =
+      All-flat_map IsBelow (connector_of layout 1) es (λ k d within.
+      let e : PlacedEntry = get_or es k d in
+      let low : 0 < 1 + e.position = omega arith in
+      All-connector_of IsBelow layout 1 e (λ depth. All-stretch_of IsBelow (1 + e.position) (layout.gutter + 3 + depth) (layout.code + e.entry.start.display)
+      (strokes_of layout.decor (is_primary e.entry.kind)).connector (stroke_role e) low))
+
+  stems_below : (es : List PlacedEntry) → All IsBelow (stems_of layout 1 es)
+  stems_below es = All-stems_of IsBelow layout 1 es (λ k d within. All-stem_of IsBelow layout 1 (get_or es k d) (λ b low. omega arith))
+
+  labels_below : (es : List PlacedEntry) → All IsBelow (labels_of layout 1 es)
+  labels_below es = All-flat_map IsBelow (label_of layout 1) es (λ k d within. All-label_of IsBelow layout 1 (get_or es k d) (λ has. omega arith))
+
+  marks_below : (es : List PlacedEntry) → All IsBelow (marks_of layout 1 es)
+  marks_below es = All-flat_map IsBelow (drawn_mark layout 1) es (λ k d within. All-drawn_mark IsBelow layout 1 (get_or es k d) (omega arith) (λ w is. omega
+  (arith, is)))
+
+  strokes_top : (count : ℕ) (placed order : List PlacedEntry) (row : List Cell)
+      → fold top_written row (drawn_strokes layout 0 count placed order) ≡ fold top_written row (tops_of layout 0 placed)
+  strokes_top count placed order row =
+      let lines : List Write = connectors_of layout 1 placed in
+      let corners : List Write = corners_of layout 0 count placed in
+      let stems : List Write = stems_of layout 1 placed in
+      let labels : List Write = labels_of layout 1 placed in
+      let marks : List Write = marks_of layout 1 order in
+      fold-append top_written row (lines ++ corners ++ stems ++ labels) marks
+      ∙ top_kept marks _ (marks_below order)
+      ∙ fold-append top_written row (lines ++ corners ++ stems) labels
+      ∙ top_kept labels _ (labels_below placed)
+      ∙ fold-append top_written row (lines ++ corners) stems
+      ∙ top_kept stems _ (stems_below placed)
+      ∙ fold-append top_written row lines corners
+      ∙ ap (λ r. fold top_written r corners) (top_kept lines row (connectors_below placed))
+      ∙ corners_top count placed row
+
+  -- what stands in the source row is written there alone
+  tops_above : (es : List PlacedEntry) → All (λ w. w.row ≡ 0) (tops_of layout 0 es)
+  tops_above es = All-flat_map T (top_of layout 0) es (λ k d within. by_part (get_or es k d) (get_or es k d).entry.annotation_type)
+    where
+      T : Write → Type 0
+      T w = w.row ≡ 0
+
+      by_part : (e : PlacedEntry) (part : LineAnnotationType) → All T (top_by layout 0 e part)
+      by_part e Singleline = All-nil T
+      by_part e (MultilineLine depth) = All-nil T
+      by_part e (MultilineStart depth) = All-nil T
+      by_part e (MultilineEnd depth) = All-cons T _ [] refl (All-nil T)
+
+  tops-lowered : (n : ℕ) (es : List PlacedEntry) → tops_of layout n es ≡ map (lowered n) (tops_of layout 0 es)
+  tops-lowered n es = flat_map-lowered n (top_of layout n) (top_of layout 0) (λ e. by_part e e.entry.annotation_type) es
+    where
+      by_part : (e : PlacedEntry) (part : LineAnnotationType) → top_by layout n e part ≡ map (lowered n) (top_by layout 0 e part)
+      by_part e Singleline = refl
+      by_part e (MultilineLine depth) = refl
+      by_part e (MultilineStart depth) = refl
+      by_part e (MultilineEnd depth) =
+          ap (λ r. glyph_at r (layout.gutter + 2 + depth) (strokes_of layout.decor (is_primary e.entry.kind)).bar (stroke_role e) ∷ [])
+          (let same : n ≡ n + 0 = omega arith in same)
+
+  -- of the source row the uppermost parts of bars are written, and nothing else
+  module _ (row : ℕ) (placed : List PlacedEntry) (old topped : List (List Cell)) (last : length old ≡ row + 1) (tops : topped ≡ painted
+  (tops_of layout row placed) old) where
+    abbrev rows_above : List (List Cell)
+    rows_above = take row old
+
+    abbrev lone_source : (source : List Cell) × (drop row old ≡ source ∷ [])
+    lone_source = sole (drop row old) (omega (arith, length-drop row old, last))
+
+    abbrev top_row : List Cell
+    top_row = fold top_written lone_source.0 (tops_of layout 0 placed)
+
+    above_long : length rows_above ≡ row
+    above_long = length-take-le row old (omega (arith, last))
+
+    old_parts : old ≡ rows_above ++ lone_source.0 ∷ []
+    old_parts = sym (take-append-drop row old) ∙ ap (λ rows. take row old ++ rows) lone_source.1
+
+    topped_parts : topped ≡ rows_above ++ top_row ∷ []
+    topped_parts =
+        let above = rows_above in
+        let source : List (List Cell) = lone_source.0 ∷ [] in
+        tops ∙ ap (λ n. painted (tops_of layout n placed) old) (sym above_long) ∙ ap (painted (tops_of layout (length above) placed)) old_parts
+        ∙ ap (λ ws. painted ws (above ++ source)) (tops-lowered (length above) placed) ∙ painted-below above (tops_of layout 0 placed) source
+        ∙ ap (λ rows. above ++ rows) (split (tops_of layout 0 placed) lone_source.0 []
+        ∙ ap (λ rows. top_row ∷ rows) (rest_kept (tops_of layout 0 placed) [] (tops_above placed)))
+
+    pub tops_count : length topped ≡ length old
+    tops_count = omega (arith, ap length topped_parts, length_push rows_above top_row, above_long, last)
+
+  -- strokes that are painted over an empty row in place of the source row, and what of them stands in the source row painted there, are
+  -- the strokes painted below it
+  pub meeting_painted : (row count : ℕ) (placed order : List PlacedEntry) (old topped dense new bare : List (List Cell)) → length old ≡ row + 1
+      → topped ≡ painted (tops_of layout row placed) old → dense ≡ painted (drawn_strokes layout 0 (count + 1) placed order) ([] ∷ bare)
+      → new ≡ topped ++ drop 1 dense → new ≡ painted (drawn_strokes layout row (length old + count) placed order) (old ++ bare)
+  meeting_painted row count placed order old topped dense new bare last tops drawn added =
+      let above : List (List Cell) = rows_above row placed old topped last tops in
+      let source : List Cell = (lone_source row placed old topped last tops).0 in
+      let strokes : List Write = drawn_strokes layout 0 (count + 1) placed order in
+      let rest : List (List Cell) = fold rest_written bare strokes in
+      let top : List Cell = top_row row placed old topped last tops in
+      let here : length above ≡ row = above_long row placed old topped last tops in
+      let parts : old ≡ above ++ source ∷ [] = old_parts row placed old topped last tops in
+      let all : length old + count ≡ length above + (count + 1) = omega (arith, last, here) in
+      let in_row : topped ≡ above ++ top ∷ [] = topped_parts row placed old topped last tops in
+      let below : drop 1 dense ≡ rest = ap (drop 1) (drawn ∙ split strokes [] bare) in
+      let whole : old ++ bare ≡ above ++ source ∷ bare = ap (λ rows. rows ++ bare) parts ∙ append_assoc above (source ∷ []) bare in
+      let lower : painted (drawn_strokes layout row (length old + count) placed order) (old ++ bare) ≡ above ++ top ∷ rest =
+      ap (λ n. painted (drawn_strokes layout n (length old + count) placed order) (old ++ bare)) (sym here)
+      ∙ ap (λ n. painted (drawn_strokes layout (length above) n placed order) (old ++ bare)) all
+      ∙ ap (painted (drawn_strokes layout (length above) (length above + (count + 1)) placed order)) whole
+      ∙ ap (λ ws. painted ws (above ++ source ∷ bare)) (strokes-lowered layout (length above) (count + 1) placed order)
+      ∙ painted-below above strokes (source ∷ bare) ∙ ap (λ rows. above ++ rows)
+      (split strokes source bare ∙ ap (λ r. r ∷ rest) (strokes_top (count + 1) placed order source)) in
+      added ∙ ap (λ rows. topped ++ rows) below ∙ ap (λ rows. rows ++ rest) in_row ∙ append_assoc above (top ∷ []) rest ∙ sym lower
+
+-- ---- no row becomes shorter
+
+-- a row is as long after writes, or longer
+pub row_grows : (ws : List Write) (rows : List (List Cell)) (r : ℕ) → length (row_at rows r) ≤ length (row_at (painted ws rows) r)
+row_grows [] rows r = omega arith
+row_grows (w ∷ ws) rows r =
+    let writes = WritesCells-cells_written rows w.row w.cell (text_cells w.role w.text) in
+    let next : length (row_at rows r) ≤ length (row_at (written_by rows w) r) = elim (cases_eq r w.row) [
+      | inl here ↦ subst (λ q. length (row_at rows q) ≤ length (row_at (written_by rows w) q)) (sym here) (omega (arith, writes.width))
+      | inr other ↦ omega (arith, ap length (writes.others r other))
+    ] in
+    omega (arith, next, row_grows ws (written_by rows w) r)
+
+-- so rows that are begun have cells once strokes are painted
+pub rows_some : (layout : Layout) (closes : Bool) (count : ℕ) (ws : List Write) (source begun dense : List (List Cell)) → length source ≡ 1
+    → begun ≡ source ++ replicate (count - 1) (separator_row layout.decor layout.gutter) ++ bare_row layout.decor layout.gutter closes ∷ []
+    → dense ≡ painted ws begun → length dense ≡ 1 + count → All (λ row. 0 < length row) (drop 1 dense)
+rows_some layout closes count ws source begun dense one begins drawn long k d within =
+    let here : k < count = omega (arith, within, long, length-drop 1 dense) in
+    let own : get_or (drop 1 dense) k d ≡ row_at dense (1 + k) = get_or-drop 1 dense k d ∙ get_or_default dense (1 + k) d [] (omega (arith, here, long)) in
+    let bare : row_at begun (1 + k) ≡ bare_row layout.decor layout.gutter (closes && k + 1 == count) =
+    ap (λ n. row_at begun (n + k)) (sym one) ∙ begun_row layout closes source begun count k begins here in
+    omega (
+      arith,
+      ap length own,
+      ap (λ rows. length (row_at rows (1 + k))) drawn,
+      row_grows ws begun (1 + k),
+      ap length bare,
+      bare_some layout.decor layout.gutter (closes && k + 1 == count),
+    )

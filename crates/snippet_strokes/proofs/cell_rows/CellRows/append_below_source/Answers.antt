@@ -1,0 +1,25 @@
+use Rattle.std.proofs.Common.{◌≡◌, ◌∙◌, ◌<◌, ◌-◌, ◌++◌, All, List, ap, arith, drop, length, map, subst, sym, take}
+use Rattle.std.proofs.lemmas.List.{length-drop, length-map, length-take}
+use Rattle.std.proofs.lemmas.Result.{on_ok_weaker}
+use Rattle.snippet_style.specs.Cell.{Cell}
+use Rattle.snippet_strokes.specs.CellRows.{cells_of}
+use Rattle.snippet_strokes.proofs.CellRowLemmas.{rows_from, rows_some}
+use Rattle.snippet_strokes.proofs.cell_rows.CellRows.append_below_source.Goals as goal
+
+pub append_rows-requires : goal.append_rows-requires
+append_rows-requires c =
+    let items = c.deref.result.now in
+    let Some : List (List Cell) → Type 0 = λ rows. All (λ row. 0 < length row) (drop 1 rows) in
+    record { some = rows_some items 1 (subst Some (sym (ap (λ rows. map cells_of rows) c.deref.ensures.value ∙ c.self.view_is)) c.requires.some) }
+
+pub returns : goal.returns
+returns c =
+    let items = c.deref.result.now in
+    let same : map cells_of items ≡ c.args.self.now = ap (λ rows. map cells_of rows) c.deref.ensures.value ∙ c.self.view_is in
+    let many : 0 < length (take (length items - 1) (drop 1 items)) = omega
+    (arith, c.requires.rows, ap length same, length-map items cells_of, length-drop 1 items, length-take (length items - 1) (drop 1 items)) in
+    record {
+      added = on_ok_weaker c.append_rows.result (λ adds. adds ∙ ap (λ rows. c.args.buffer.now ++ rows) (rows_from items 1 ∙ ap (drop 1) same))
+          c.append_rows.ensures.added;
+      small = on_ok_weaker c.append_rows.result (λ small. small many) c.append_rows.ensures.small;
+    }

@@ -1,0 +1,52 @@
+use Rattle.std.proofs.Common.{◌≡◌, ◌∙◌, ◌+◌, ◌-◌, ◌++◌, ◌∷◌, [], ap, arith, length, map, replicate, sym}
+use Rattle.std.proofs.lemmas.List.{append_assoc, append-nil, length-map, length_push, map-append, replicate_more}
+use Rattle.snippet_strokes.specs.CellRows.{cell_of, cells_of}
+use Rattle.snippet_strokes.proofs.cell_rows.CellRows.make_row.Goals as goal
+
+pub loop-init : goal.loop-init
+loop-init c =
+    let items = c.self.inside.rows.items in
+    let len : c.len-counter.result ≡ length items = omega (arith, c.len-counter.ensures, c.self.inside.rows.ok.0) in
+    let none : c.len-counter.result - length items ≡ 0 = omega (arith, len) in
+    record {
+      made = sym (ap (λ n. map cells_of items ++ replicate n []) none ∙ append-nil (map cells_of items));
+      count = sym len;
+      above = omega (arith, len);
+      below = omega (arith, len);
+    }
+
+pub invariant_of-self : goal.invariant_of-self
+invariant_of-self c =
+    omega (arith, c.loop.invariant.count, c.loop.invariant.below, c.if-row-ge-MAX_ROWS.false, c.self.invariant)
+
+pub invariant_of-self-in_err-push : goal.invariant_of-self-in_err-push
+invariant_of-self-in_err-push c =
+    omega (arith, ap length c.in_err-push.ensures.items, c.loop.invariant.count, c.loop.invariant.below, c.if-row-ge-MAX_ROWS.false, c.self.invariant)
+
+pub loop-preserved : goal.loop-preserved
+loop-preserved c =
+    let so_far = c.loop.invariant in
+    let items = c.self.inside.rows.items in
+    let n = c.loop.counter - length items in
+    let next : n + 1 ≡ c.loop.counter + 1 - length items = omega (arith, so_far.above) in
+    record {
+      made = ap (map cells_of) c.in_ok-push.ensures.items ∙ map-append cells_of c.loop.self-inside.rows.items (c.new.result ∷ [])
+          ∙ ap (λ rows. rows ++ cells_of c.new.result ∷ []) so_far.made
+          ∙ ap (λ row. (map cells_of items ++ replicate n []) ++ row ∷ []) (ap (map cell_of) c.new.ensures.items)
+          ∙ append_assoc (map cells_of items) (replicate n []) ([] ∷ [])
+          ∙ ap (λ rows. map cells_of items ++ rows) (replicate_more n [] ∙ ap (λ m. replicate m []) next);
+      count = omega (arith, ap length c.in_ok-push.ensures.items, length_push c.loop.self-inside.rows.items c.new.result, so_far.count);
+      above = omega (arith, so_far.above);
+      below = omega (arith, c.loop-test.true);
+    }
+
+pub returns : goal.returns
+returns c =
+    let so_far = c.loop.invariant in
+    let items = c.self.inside.rows.items in
+    let many : c.loop.counter - length items ≡ c.args.row + 1 - length (map cells_of items) =
+    omega (arith, length-map items cells_of, c.loop-test.false, so_far.above, so_far.below) in
+    record {
+      made = so_far.made ∙ ap (λ n. map cells_of items ++ replicate n []) many
+          ∙ ap (λ rows. rows ++ replicate (c.args.row + 1 - length rows) []) c.self.view_is;
+    }

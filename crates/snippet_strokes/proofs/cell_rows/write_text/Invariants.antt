@@ -1,0 +1,12 @@
+-- The characters so far are written.
+use Rattle.std.proofs.Common.{◌≡◌, ◌+◌, length, map}
+use Rattle.snippet_strokes.specs.CellRows.{cell_of}
+use Rattle.snippet_style.specs.Cell.{SPACE, text_cells, written}
+use Rattle.snippet_strokes.proofs.cell_rows.write_text.Given as goal
+
+abbrev pub invariant-loop-ch : goal.invariant-loop-ch
+invariant-loop-ch l =
+    record {
+      next : l.next ≡ l.fn.at + length l.yielded;
+      so_far : map cell_of l.cells.items ≡ written SPACE (map cell_of l.fn.cells.items) l.fn.at (text_cells l.fn.role l.yielded);
+    }

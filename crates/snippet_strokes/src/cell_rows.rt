@@ -1,0 +1,320 @@
+//! Rows that are kept cell by cell, for strokes that meet: what is painted into one row moves nothing in another, and
+//! costs the same wherever it stands. Once all is painted, the rows are added to a grid, from left to right.
+//!
+//! ```text
+//!       | --^^--
+//!       | | |                    stems, labels and marks are painted one over another,
+//!       | | x                    in whichever rows and columns they stand
+//!       | f
+//! ```
+ghost use Rattle.std.specs.Prelude.{◌≡◌, ◌↔◌, IsTrue, ℕ, ◌+◌, ◌-◌, ◌<◌, ◌≤◌};
+ghost use Rattle.std.specs.Prelude.{◌++◌, ◌∷◌, [], All, List, IfOk, OnOk, length, map};
+ghost use Rattle.std.specs.Prelude.{chars, drop, replicate, string_bytes, true};
+ghost use Rattle.std.specs.List.{slice_index_or};
+ghost use Rattle.snippet_grid.specs.Grid.{cells_written};
+ghost use Rattle.snippet_strokes.specs.CellRows.{cell_of, cells_of};
+ghost use Rattle.snippet_strokes.specs.Writes.{painted, stretch_of};
+ghost use Rattle.snippet_strokes.specs.declared.cell_rows.StyledChar.{StyledChar};
+ghost use Rattle.snippet_style.specs.Bounds.{AreRows, HasNext, IsRowNumber, IsUsize};
+ghost use Rattle.snippet_style.specs.Cell.{SPACE, text_cells, written};
+
+use crate::canvas::Canvas;
+use snippet_grid::StyledBuffer;
+use snippet_style::ElementStyle;
+use std::alloc::{AllocError, Global};
+use std::marker::Model;
+use std::ops::Range;
+
+/// A character in a role.
+#[derive(Clone, Copy)]
+pub(crate) struct StyledChar {
+    ch: char,
+    role: ElementStyle,
+}
+
+impl StyledChar {
+    /// Whether it is a space of no role, as a row is filled up with.
+    fn is_blank(&self) -> bool
+        ensures value { IsTrue result ↔ (cell_of self.now ≡ SPACE) }
+    {
+        self.ch == ' ' && matches!(self.role, ElementStyle::NoStyle)
+    }
+}
+
+/// The most rows that there may be.
+const MAX_ROWS: usize = (1 << 60) - 1;
+
+/// What a row is filled up with.
+const BLANK: StyledChar = StyledChar {
+    ch: ' ',
+    role: ElementStyle::NoStyle,
+};
+
+/// Rows that are kept cell by cell.
+#[derive(Drop)]
+pub(crate) struct CellRows {
+    alloc: Global,
+    rows: Vec<Vec<StyledChar>>,
+}
+
+impl Model for CellRows {
+    ghost use Rattle.std.specs.Prelude.{List, length, map};
+    ghost use Rattle.snippet_strokes.specs.CellRows.{cells_of};
+    ghost use Rattle.snippet_style.specs.Bounds.{IsRowNumber};
+    ghost use Rattle.snippet_style.specs.Cell.{Cell};
+
+    ghost Value = { List (List Cell) };
+
+    ghost view = { λ c. map cells_of c.rows.items };
+
+    ghost invariant = { λ c. IsRowNumber (length c.rows.items) };
+}
+
+impl CellRows {
+    /// One row with no cells, which stands for a source row. The others come below it.
+    ///
+    /// # Errors
+    ///
+    /// There is no memory for the row.
+    pub(crate) fn below_source(alloc: Global) -> Result<CellRows, AllocError>
+        ensures source { IfOk result (λ rows. rows ≡ [] ∷ []) }
+    {
+        let mut rows = Vec::new(alloc);
+        rows.push(Vec::new(alloc))?;
+        Ok(CellRows { alloc, rows })
+    }
+
+    /// Makes the row of this number, and all above it, where it isn't there.
+    fn make_row(&mut self, row: usize) -> Result<(), AllocError>
+        requires row { HasNext row }
+        ensures made { OnOk result (self.new ≡ self.old ++ replicate (row + 1 - length self.old) []) }
+    {
+        if row >= MAX_ROWS {
+            return Err(AllocError);
+        }
+        for _ in self.rows.len()..row + 1 {
+            self.rows.push(Vec::new(self.alloc))?;
+        }
+        Ok(())
+    }
+
+    /// Adds all rows but the first, which stands for the source row, to a grid: below all that stands in it.
+    ///
+    /// # Errors
+    ///
+    /// There is no memory for the rows.
+    pub(crate) fn append_below_source(&self, buffer: &mut StyledBuffer) -> Result<(), AllocError>
+        requires rows { 1 < length self.now }
+        requires some { All (λ row. 0 < length row) (drop 1 self.now) }
+        ensures added { OnOk result (buffer.new ≡ buffer.old ++ drop 1 self.now) }
+        ensures small { OnOk result (AreRows (length buffer.new)) }
+    {
+        append_rows(buffer, &self.rows[1..])
+    }
+}
+
+impl Canvas for CellRows {
+    ghost rows = { λ rows. rows };
+
+    fn num_lines(&self) -> usize {
+        self.rows.len()
+    }
+
+    fn putc(
+        &mut self,
+        row: usize,
+        cell: usize,
+        ch: char,
+        role: ElementStyle,
+    ) -> Result<(), AllocError> {
+        self.make_row(row)?;
+        write_char(&mut self.rows[row], cell, StyledChar { ch, role })
+    }
+
+    fn puts(
+        &mut self,
+        row: usize,
+        cell: usize,
+        text: &str,
+        role: ElementStyle,
+    ) -> Result<(), AllocError> {
+        if text.is_empty() {
+            return Ok(());
+        }
+        self.make_row(row)?;
+        write_text(&mut self.rows[row], cell, text, role)
+    }
+
+    fn put_stretch(
+        &mut self,
+        row: usize,
+        cells: Range<usize>,
+        ch: char,
+        role: ElementStyle,
+    ) -> Result<(), AllocError> {
+        if cells.end <= cells.start {
+            return Ok(());
+        }
+        self.make_row(row)?;
+        write_stretch(&mut self.rows[row], cells, StyledChar { ch, role })
+    }
+}
+
+/// Fills a row up with blanks to this cell, unless it is longer.
+fn fill_up(cells: &mut Vec<StyledChar>, at: usize) -> Result<(), AllocError>
+    ensures filled { OnOk result (map cell_of cells.new.items ≡ written SPACE (map cell_of cells.old.items) at []) }
+{
+    if cells.len() < at {
+        cells.resize(at, BLANK)?;
+    }
+    Ok(())
+}
+
+/// Writes a character in a role into a row at this cell.
+fn write_char(cells: &mut Vec<StyledChar>, at: usize, new: StyledChar) -> Result<(), AllocError>
+    ensures written { OnOk result
+        (map cell_of cells.new.items ≡ written SPACE (map cell_of cells.old.items) at (cell_of new ∷ [])) }
+{
+    if at < cells.len() {
+        cells[at] = new;
+        return Ok(());
+    }
+    fill_up(cells, at)?;
+    cells.push(new)?;
+    Ok(())
+}
+
+/// Writes a text in a role into a row from this cell on.
+fn write_text(
+    cells: &mut Vec<StyledChar>,
+    at: usize,
+    text: &str,
+    role: ElementStyle,
+) -> Result<(), AllocError>
+    requires end { IsUsize (at + length (chars text.now)) }
+    ensures written { OnOk result (map cell_of cells.new.items
+        ≡ written SPACE (map cell_of cells.old.items) at (text_cells role (chars text.now))) }
+{
+    fill_up(cells, at)?;
+    let mut next = at;
+    for ch in text.chars() {
+        write_char(cells, next, StyledChar { ch, role })?;
+        next += 1;
+    }
+    Ok(())
+}
+
+/// Writes a character in a role into these cells of a row.
+fn write_stretch(
+    cells: &mut Vec<StyledChar>,
+    range: Range<usize>,
+    new: StyledChar,
+) -> Result<(), AllocError>
+    requires some { range.start < range.end }
+    ensures written { OnOk result (map cell_of cells.new.items ≡ written SPACE (map cell_of cells.old.items)
+        range.start (replicate (range.end - range.start) (cell_of new))) }
+{
+    let (start, end) = (range.start, range.end);
+    fill_up(cells, start)?;
+    for at in start..end {
+        write_char(cells, at, new)?;
+    }
+    Ok(())
+}
+
+/// Adds rows to a grid, below all that stands in it.
+fn append_rows(buffer: &mut StyledBuffer, rows: &[Vec<StyledChar>]) -> Result<(), AllocError>
+    requires some { All (λ row. 0 < length row.items) rows.now }
+    ensures added { OnOk result (buffer.new ≡ buffer.old ++ map cells_of rows.now) }
+    ensures small { OnOk result (0 < length rows.now → AreRows (length buffer.new)) }
+{
+    let mut text = String::new(buffer.allocator());
+    for row in rows {
+        append_row(buffer, &mut text, row)?;
+    }
+    Ok(())
+}
+
+/// Adds a row to a grid, below all that stands in it, with a text for what is written. What this holds before, and
+/// afterwards, means nothing.
+fn append_row(
+    buffer: &mut StyledBuffer,
+    text: &mut String,
+    cells: &[StyledChar],
+) -> Result<(), AllocError>
+    requires some { 0 < length cells.now }
+    ensures added { OnOk result (buffer.new ≡ buffer.old ++ map cell_of cells.now ∷ []) }
+    ensures small { IsRowNumber (length buffer.old) }
+{
+    let row = buffer.num_lines();
+    let mut from = 0;
+    while from < cells.len() {
+        let to = stretch_end(cells, from);
+        // Blanks between what is written need no word.
+        if !cells[from].is_blank() || to == cells.len() {
+            write_part(buffer, text, row, from, &cells[from..to])?;
+        }
+        from = to;
+    }
+    Ok(())
+}
+
+/// Where the cells end that have the role of this one, and are blank if it is, from this one on.
+fn stretch_end(cells: &[StyledChar], from: usize) -> usize
+    requires some { from < length cells.now }
+    ensures more { from < result }
+    ensures within { result ≤ length cells.now }
+    ensures role { (k : ℕ) (d : StyledChar) → from ≤ k → k < result
+        → (slice_index_or cells.now k d).role ≡ (slice_index_or cells.now from d).role }
+    ensures blank { (k : ℕ) (d : StyledChar) → from ≤ k → k < result
+        → cell_of (slice_index_or cells.now from d) ≡ SPACE → cell_of (slice_index_or cells.now k d) ≡ SPACE }
+{
+    let first = cells[from];
+    let mut to = from + 1;
+    while to < cells.len() && goes_on(&first, &cells[to]) {
+        to += 1;
+    }
+    to
+}
+
+/// Whether a character has another one's role, and is blank if that is.
+fn goes_on(first: &StyledChar, next: &StyledChar) -> bool
+    ensures role { result ≡ true → next.now.role ≡ first.now.role }
+    ensures blank { result ≡ true → cell_of first.now ≡ SPACE → cell_of next.now ≡ SPACE }
+{
+    first.role == next.role && first.is_blank() == next.is_blank()
+}
+
+/// Writes characters in one role into a row of a grid from a cell on.
+fn write_part(
+    buffer: &mut StyledBuffer,
+    text: &mut String,
+    row: usize,
+    cell: usize,
+    part: &[StyledChar],
+) -> Result<(), AllocError>
+    requires row { HasNext row }
+    requires end { IsUsize (cell + length part.now) }
+    requires some { 0 < length part.now }
+    requires role { (k : ℕ) (d : StyledChar) → k < length part.now
+        → (slice_index_or part.now k d).role ≡ (slice_index_or part.now 0 d).role }
+    ensures written { OnOk result (buffer.new ≡ cells_written buffer.old row cell (map cell_of part.now)) }
+{
+    let first = part[0];
+    if part.len() == 1 {
+        return buffer.putc(row, cell, first.ch, first.role);
+    }
+    spell(text, part)?;
+    buffer.puts(row, cell, text.as_str(), first.role)
+}
+
+/// Puts characters into a text, in place of what it holds.
+fn spell(text: &mut String, part: &[StyledChar]) -> Result<(), AllocError>
+    ensures spelt { OnOk result (chars (string_bytes text.new) ≡ map (λ c. c.ch) part.now) }
+{
+    text.clear();
+    for styled in part {
+        text.push(styled.ch)?;
+    }
+    Ok(())
+}
