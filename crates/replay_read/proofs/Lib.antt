@@ -1,2 +1,4 @@
+pub mod Lines
 pub mod Listing
 pub mod Spans
+pub mod Units

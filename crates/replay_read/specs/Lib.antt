@@ -3,3 +3,4 @@ pub mod Report
 pub mod Shape
 pub mod Sheet
 pub mod MarkerSpan
+pub mod Stops

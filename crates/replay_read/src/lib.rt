@@ -5,6 +5,7 @@
 pub mod effect;
 pub mod list;
 pub mod report;
+pub mod ruler;
 pub mod shape;
 pub mod sheet;
 pub mod source;

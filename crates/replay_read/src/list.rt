@@ -8,7 +8,7 @@ ghost use Rattle.serde_json.specs.View.{view};
 ghost use Rattle.json_node.specs.Field.{SaysAt, ListSays, as_whole};
 ghost use Rattle.replay_read.specs.declared.span.SpanUnit.{SpanUnit};
 
-use crate::span::Ruler;
+use crate::ruler::Ruler;
 use json_node::expectation::Expectation;
 use json_node::fault::Fault;
 use json_node::node::Node;
@@ -51,8 +51,8 @@ pub trait ReadMarker<'v> {
     ghost fits: { Self → Type 0 };
 
     /// What the item is read as; a fault where it isn't what is expected.
-    fn read(node: &Node<'v, '_>, ruler: Ruler<'_>) -> Result<Self, Fault>
-        ensures value { IfOk result (says ruler.entry.source.now ruler.entry.unit (view node.now.value.now)) }
+    fn read(node: &Node<'v, '_>, ruler: &Ruler<'_>) -> Result<Self, Fault>
+        ensures value { IfOk result (says ruler.now.source.now ruler.now.unit (view node.now.value.now)) }
         ensures fits { IfOk result fits };
 }
 
@@ -147,10 +147,10 @@ fn parts_of<'v, T: ReadPart<'v> + Drop>(
 /// What the items of a list of markers are read as, in order.
 pub fn markers_of<'v, T: ReadMarker<'v> + Drop>(
     list: &Node<'v, '_>,
-    ruler: Ruler<'_>,
+    ruler: &Ruler<'_>,
 ) -> Result<Vec<T>, Fault>
     ensures value { IfOk result (λ xs.
-        ListSays (T.says ruler.entry.source.now ruler.entry.unit) (view list.now.value.now) xs.items) }
+        ListSays (T.says ruler.now.source.now ruler.now.unit) (view list.now.value.now) xs.items) }
     ensures fits { IfOk result (λ xs. All T.fits xs.items) }
 {
     let Some(values) = list.value.as_array() else {

@@ -13,9 +13,10 @@ ghost use Rattle.replay_read.specs.Report.{IsOriginOf, IsPatchOf, IsSnippetOf, I
 ghost use Rattle.replay_read.specs.Kinds.{kind_name, mark_name};
 
 use crate::list::{ReadMarker, ReadPart, markers_of, parts_at};
+use crate::ruler::Ruler;
 use crate::shape::{FormatValue, Shape, has_shape};
 use crate::source::source_in;
-use crate::span::{Ruler, span_of, unit_in};
+use crate::span::{has_many_places, span_of, unit_in};
 use json_node::expectation::Expectation;
 use json_node::fault::Fault;
 use json_node::node::Node;
@@ -250,8 +251,9 @@ fn marked_in<'v, T: ReadMarker<'v> + Drop>(
     ensures fits { IfOk result (λ xs. All T.fits xs.items) }
 {
     let unit = unit_in(snippet)?;
-    let ruler = Ruler { source, unit };
-    markers_of(&snippet.needed(name, Expectation::List)?, ruler)
+    let markers = snippet.needed(name, Expectation::List)?;
+    let ruler = Ruler::new(snippet.alloc, source, unit, has_many_places(&markers, unit))?;
+    markers_of(&markers, &ruler)
 }
 
 /// How the lines of a snippet are shown: the number of the first, whether they have numbers, and whether some are left
@@ -275,7 +277,7 @@ impl<'v> ReadMarker<'v> for Annotation<'v> {
 
     ghost fits = { AnnotationFits };
 
-    fn read(node: &Node<'v, '_>, ruler: Ruler<'_>) -> Result<Self, Fault> {
+    fn read(node: &Node<'v, '_>, ruler: &Ruler<'_>) -> Result<Self, Fault> {
         has_shape(node, Shape::Annotation)?;
         let kind = mark_of(&node.needed("kind", FormatValue::AnnotationKind)?)?;
         let span = span_of(node, ruler)?;
@@ -307,7 +309,7 @@ impl<'v> ReadMarker<'v> for Patch<'v> {
 
     ghost fits = { PatchFits };
 
-    fn read(node: &Node<'v, '_>, ruler: Ruler<'_>) -> Result<Self, Fault> {
+    fn read(node: &Node<'v, '_>, ruler: &Ruler<'_>) -> Result<Self, Fault> {
         has_shape(node, Shape::Patch)?;
         let span = span_of(node, ruler)?;
         let text = node.text("text")?;

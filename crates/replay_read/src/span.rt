@@ -7,11 +7,12 @@ ghost use Rattle.json_node.specs.Field.{MaySayAt, SaysAt, given};
 ghost use Rattle.replay_read.specs.MarkerSpan.{IsCountedSpan, IsPlaceOf, IsPlacedSpan, IsSpanOf, IsUnit};
 ghost use Rattle.replay_read.specs.MarkerSpan as spec;
 
+use crate::ruler::Ruler;
 use crate::shape::{FormatValue, Shape, has_shape};
 use json_node::expectation::Expectation;
 use json_node::fault::Fault;
 use json_node::node::Node;
-use snippet_places::{ColumnUnit, Place, Position, line_start, place_after};
+use snippet_places::Position;
 use std::ops::Range;
 
 /// What is counted in a source.
@@ -23,13 +24,6 @@ pub enum SpanUnit {
     Char,
     /// Units of UTF-16, of which a character has one or two.
     Utf16,
-}
-
-/// A source, and what is counted in it where that is said.
-#[derive(Clone, Copy)]
-pub struct Ruler<'s> {
-    pub source: &'s str,
-    pub unit: Option<SpanUnit>,
 }
 
 /// The unit of a snippet's spans, where one is given.
@@ -54,9 +48,23 @@ fn unit_of(node: &Node<'_, '_>) -> Result<SpanUnit, Fault>
     }
 }
 
+/// How many markers a snippet may have for which its source isn't measured.
+const FEW_MARKERS: usize = 8;
+
+/// Whether so many places are looked for by markers in this list that it is worth measuring their source first. It says
+/// what reading costs, and nothing of what is read.
+pub fn has_many_places(list: &Node<'_, '_>, unit: Option<SpanUnit>) -> bool {
+    let Some(markers) = list.value.as_array() else {
+        return false;
+    };
+    FEW_MARKERS < markers.len()
+        && (matches!(unit, Some(SpanUnit::Char | SpanUnit::Utf16))
+            || markers.iter().any(|marker| marker.get("from").is_some()))
+}
+
 /// The span of a marker in the source.
-pub fn span_of(node: &Node<'_, '_>, ruler: Ruler<'_>) -> Result<Range<usize>, Fault>
-    ensures value { IfOk result (IsSpanOf ruler.entry.source.now ruler.entry.unit (view node.now.value.now)) }
+pub fn span_of(node: &Node<'_, '_>, ruler: &Ruler<'_>) -> Result<Range<usize>, Fault>
+    ensures value { IfOk result (IsSpanOf ruler.now.source.now ruler.now.unit (view node.now.value.now)) }
 {
     if is_left_out(node, "from") && is_left_out(node, "to") {
         counted_span(node, ruler)
@@ -76,25 +84,25 @@ fn is_left_out(node: &Node<'_, '_>, name: &str) -> bool
 }
 
 /// The span from `start` to before `end`, beside which neither `from` nor `to` is given.
-fn counted_span(node: &Node<'_, '_>, ruler: Ruler<'_>) -> Result<Range<usize>, Fault>
+fn counted_span(node: &Node<'_, '_>, ruler: &Ruler<'_>) -> Result<Range<usize>, Fault>
     requires no_from { given (codes "from") (view node.now.value.now) ≡ None }
     requires no_to { given (codes "to") (view node.now.value.now) ≡ None }
-    ensures value { IfOk result (IsCountedSpan ruler.entry.source.now ruler.entry.unit (view node.now.value.now)) }
+    ensures value { IfOk result (IsCountedSpan ruler.now.source.now ruler.now.unit (view node.now.value.now)) }
 {
     let start = node.number("start")?;
     let end = node.number("end")?;
-    Ok(between(ruler.source, counted(ruler, start), counted(ruler, end)))
+    Ok(between(ruler.source, ruler.counted(start), ruler.counted(end)))
 }
 
 /// The span from the place `from` to before the place `to`, beside which neither `start` nor `end` may be given.
-fn placed_span(node: &Node<'_, '_>, ruler: Ruler<'_>) -> Result<Range<usize>, Fault>
-    ensures value { IfOk result (IsPlacedSpan ruler.entry.source.now ruler.entry.unit (view node.now.value.now)) }
+fn placed_span(node: &Node<'_, '_>, ruler: &Ruler<'_>) -> Result<Range<usize>, Fault>
+    ensures value { IfOk result (IsPlacedSpan ruler.now.source.now ruler.now.unit (view node.now.value.now)) }
 {
     has_no(node, "start")?;
     has_no(node, "end")?;
     let from = place_in(node, "from")?;
     let to = place_in(node, "to")?;
-    Ok(between(ruler.source, placed(ruler, from), placed(ruler, to)))
+    Ok(between(ruler.source, ruler.placed(from), ruler.placed(to)))
 }
 
 /// Nothing, if the field of this name isn't given.
@@ -135,90 +143,5 @@ fn between(source: &str, start: Option<usize>, end: Option<usize>) -> Range<usiz
             let past = source.len() + 2;
             past..past
         }
-    }
-}
-
-/// The byte of a number.
-fn counted(ruler: Ruler<'_>, number: usize) -> Option<usize>
-    ensures value { result ≡ spec.counted ruler.entry.source.now ruler.entry.unit number }
-{
-    match ruler.unit {
-        None | Some(SpanUnit::Byte) => Some(number),
-        Some(unit) => byte_after(ruler.source, number, unit),
-    }
-}
-
-/// The byte of a place.
-fn placed(ruler: Ruler<'_>, place: Position) -> Option<usize>
-    ensures value { result ≡ spec.placed ruler.entry.source.now ruler.entry.unit place }
-{
-    match ruler.unit {
-        None => byte_at(ruler.source, place, SpanUnit::Char),
-        Some(unit) => byte_at(ruler.source, place, unit),
-    }
-}
-
-/// The byte of a line and a column.
-fn byte_at(source: &str, place: Position, unit: SpanUnit) -> Option<usize>
-    ensures value { result ≡ spec.byte_at unit source.now place }
-{
-    if place.line == 0 || place.column == 0 {
-        return None;
-    }
-    match line_start(source, place.line - 1) {
-        Some(start) => byte_in_line(source, start, place.column - 1, unit),
-        None => None,
-    }
-}
-
-/// The byte before which so many units stand in the line that starts at this byte.
-fn byte_in_line(source: &str, start: usize, units: usize, unit: SpanUnit) -> Option<usize>
-    requires border { IsCharBoundary source.now start }
-    ensures value { result ≡ spec.byte_in_line unit source.now units start }
-{
-    match byte_after(until_feed(&source[start..]), units, unit) {
-        Some(byte) => Some(start + byte),
-        None => None,
-    }
-}
-
-/// What stands before the first line feed.
-fn until_feed(text: &str) -> &str
-    ensures value { result.now ≡ spec.until_feed text.now }
-    ensures within { length result.now ≤ length text.now }
-{
-    for (at, byte) in text.as_bytes().iter().enumerate() {
-        if *byte == b'\n' {
-            return &text[..at];
-        }
-    }
-    text
-}
-
-/// The byte before which so many units stand.
-fn byte_after(text: &str, units: usize, unit: SpanUnit) -> Option<usize>
-    ensures value { result ≡ spec.byte_after unit text.now units }
-    ensures within { IfSome result (λ at. at ≤ length text.now) }
-{
-    match unit {
-        SpanUnit::Byte if units <= text.len() => Some(units),
-        SpanUnit::Byte => None,
-        SpanUnit::Char => byte_of(text, place_after(text, units, ColumnUnit::Chars)),
-        SpanUnit::Utf16 => byte_of(text, place_after(text, units, ColumnUnit::Utf16)),
-    }
-}
-
-/// The byte of a place that was looked for. Between the units of a character it is that character's second byte, so
-/// that a report is refused for it.
-fn byte_of(text: &str, place: Place) -> Option<usize>
-    ensures value { result ≡ spec.byte_of text.now place }
-    ensures within { place.byte ≤ length text.now → IfSome result (λ at. at ≤ length text.now) }
-{
-    if place.exact {
-        Some(place.byte)
-    } else if place.byte < text.len() {
-        Some(place.byte + 1)
-    } else {
-        None
     }
 }

@@ -1,6 +1,6 @@
 use Rattle.std.proofs.Common.{◌≡◌, ◌++◌, drop, take}
 use Rattle.replay_read.specs.MarkerSpan.{until_feed}
-use Rattle.replay_read.proofs.span.until_feed.Given as goal
+use Rattle.replay_read.proofs.ruler.until_feed.Given as goal
 
 -- no line feed stands before here
 abbrev pub invariant-loop-at : goal.invariant-loop-at
