@@ -11,22 +11,20 @@ ghost use Rattle.tidy_run.specs.Report.{tidy_settings, told_of};
 
 use crate::rule::{Edit, Rule};
 use annotate_snippets::level::{HELP, WARNING};
-use annotate_snippets::{
-    Annotation, AnnotationKind, Element, Group, OptionCow, Patch, Snippet, SourceLines,
-};
+use annotate_snippets::{Annotation, AnnotationKind, Element, Group, OptionCow, Patch, Snippet};
 use std::alloc::{AllocError, Global};
 
 /// The file with a mark at each edit.
 fn marked<'a>(
     alloc: Global,
     path: &'a str,
-    source: &'a SourceLines<'_>,
+    source: &'a str,
     edits: &[Edit],
 ) -> Result<Snippet<'a, Annotation<'a>>, AllocError>
     ensures of_file { IfOk result (IsOfFile path.now source.now) }
     ensures marks { IfOk result (λ snippet. snippet.markers.items ≡ map annotation_of (map finding_of edits.now)) }
 {
-    let mut snippet = Snippet::indexed(alloc, source).path(OptionCow::from(path));
+    let mut snippet = Snippet::source(alloc, source).path(OptionCow::from(path));
     for edit in edits {
         let mark = AnnotationKind::Primary.span(edit.span.start..edit.span.end);
         snippet = snippet.annotation(mark)?;
@@ -38,13 +36,13 @@ fn marked<'a>(
 fn patched<'a>(
     alloc: Global,
     path: &'a str,
-    source: &'a SourceLines<'_>,
+    source: &'a str,
     edits: &[Edit],
 ) -> Result<Snippet<'a, Patch<'a>>, AllocError>
     ensures of_file { IfOk result (IsOfFile path.now source.now) }
     ensures patches { IfOk result (λ snippet. map mended_by snippet.markers.items ≡ map finding_of edits.now) }
 {
-    let mut snippet = Snippet::indexed(alloc, source).path(OptionCow::from(path));
+    let mut snippet = Snippet::source(alloc, source).path(OptionCow::from(path));
     for edit in edits {
         let patch = Patch::new(edit.span.start..edit.span.end, edit.text);
         snippet = snippet.patch(patch)?;
@@ -57,7 +55,7 @@ fn warning<'a>(
     alloc: Global,
     title: &'static str,
     path: &'a str,
-    source: &'a SourceLines<'_>,
+    source: &'a str,
     edits: &[Edit],
 ) -> Result<Group<'a>, AllocError>
     ensures told { IfOk result (IsWarning path.now source.now title.now (map finding_of edits.now)) }
@@ -72,7 +70,7 @@ fn warning<'a>(
 fn help<'a>(
     alloc: Global,
     path: &'a str,
-    source: &'a SourceLines<'_>,
+    source: &'a str,
     edits: &[Edit],
 ) -> Result<Group<'a>, AllocError>
     requires inside { AreInside source.now 0 (map finding_of edits.now) }
@@ -97,7 +95,7 @@ fn tell<'a>(
     groups: &mut Vec<Group<'a>>,
     title: &'static str,
     path: &'a str,
-    source: &'a SourceLines<'_>,
+    source: &'a str,
     edits: &[Edit],
 ) -> Result<(), AllocError>
     requires inside { AreInside source.now 0 (map finding_of edits.now) }
@@ -117,7 +115,7 @@ pub fn report<'a>(
     alloc: Global,
     rules: &[Box<dyn Rule>],
     path: &'a str,
-    source: &'a SourceLines<'_>,
+    source: &'a str,
     findings: &[Vec<Edit>],
 ) -> Result<Vec<Group<'a>>, AllocError>
     requires findings { map (λ edits. map finding_of edits.items) findings.now

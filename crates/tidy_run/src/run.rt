@@ -21,7 +21,7 @@ use crate::rule::Rule;
 use annotate_snippets::renderer::RenderError;
 use annotate_snippets::renderer::style::Stylesheet;
 use annotate_snippets::text::text_fits;
-use annotate_snippets::{Group, Renderer, SourceLines};
+use annotate_snippets::{Group, Renderer};
 use program::line::write_line;
 use program::message::message_text;
 use std::alloc::{AllocError, Global};
@@ -112,8 +112,7 @@ fn rendered<'a>(
         sheets.now (map string_bytes texts.items)) }
 {
     let findings = lint(alloc, rules, source)?;
-    let lines = SourceLines::new(alloc, source)?;
-    let groups = report(alloc, rules, path, &lines, &findings)?;
+    let groups = report(alloc, rules, path, source, &findings)?;
     drawn(alloc, &groups, sheets)
 }
 
