@@ -1,2 +1,3 @@
 pub mod NotGiven
 pub mod Shown
+pub mod Lending

@@ -1,3 +1,4 @@
 pub mod Stream
 pub mod Arguments
 pub mod Message
+pub mod Lent

@@ -4,6 +4,7 @@
 
 pub mod exit;
 pub mod input;
+pub mod lent;
 pub mod line;
 pub mod message;
 pub mod standing_in;

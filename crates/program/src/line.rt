@@ -7,7 +7,7 @@ use std::io::Write;
 use written::Stream;
 
 /// The bytes that end a line.
-const LINE_END: &[u8] = b"\n";
+pub(crate) const LINE_END: &[u8] = b"\n";
 
 /// Writes a line, and says whether all of it was written. Where a write failed a first part of it was, which may be
 /// nothing.

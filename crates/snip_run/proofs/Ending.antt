@@ -1,17 +1,19 @@
 -- How a run ends.
 use Rattle.std.proofs.Common.{◌≡◌, ◌⊎◌, ℕ, List, Option, Some, None, String, Global, Bor, IsSomeAnd, IfSome, IsNone, MatchOption, SomeIff, alloc_error, ap}
-use Rattle.std.proofs.Common.{chars, codes, encode_utf8_all, inl, inr, refl, string_bytes, subst, sym, ◌∙◌}
+use Rattle.std.proofs.Common.{Bool, chars, codes, encode_utf8_all, false, inl, inr, refl, string_bytes, subst, sym, ◌∙◌}
 use Rattle.std.proofs.lemmas.Str.{IsUtf8-string_bytes, encodes-chars}
 use Rattle.annotate_snippets.specs.Normalized.{norm}
 use Rattle.std.specs.Option.{option_copied}
 use Rattle.annotate_snippets.specs.declared.renderer.RenderError.{RenderError}
 use Rattle.annotate_snippets.specs.declared.renderer.RenderError.TheVariants.{Memory}
-use Rattle.program.specs.Stream.{Output, Silent, Whole, CutShort, Told}
+use Rattle.program.specs.Lent.{IsLentFor, sound_stream, stream_of}
+use Rattle.program.specs.Stream.{Output, Receives, Silent, Whole, CutShort, Told}
+use Rattle.program.specs.declared.lent.LentStream.{LentStream}
 use Rattle.snip_run.specs.declared.arguments.SnipCommand.{SnipCommand}
 use Rattle.snip_run.specs.declared.run.SnipFailure.{SnipFailure}
 use Rattle.snip_run.specs.declared.run.SnipFailure.TheVariants.{Refused}
 use Rattle.snip_run.specs.Report.{RefusesCommand}
-use Rattle.snip_run.specs.Run.{Ends, Failed, Fails, IsReadable, BadUsage, Printed, ShowsFile, Unprinted, message, usage}
+use Rattle.snip_run.specs.Run.{Ends, Failed, Fails, IsReadable, BadUsage, Printed, ShowsFile, Unprinted, err_of, message, out_of, usage}
 use Rattle.snip_run.specs.Text.{IsShownText}
 use Rattle.snip_run.specs.Arguments.{AreLine, CommandLine, Argument, IsCommandLine, IsCommandOf}
 
@@ -84,3 +86,28 @@ ends_bad_usage args file Out Err none out err = record { end = BadUsage; may = n
 -- arguments that no line is are of no form
 pub no_command : (args : List Argument) → ((line : CommandLine) → AreLine args line → ⊥) → IsCommandLine args → ⊥
 no_command args none is = none is.0 is.1
+
+-- a run that gives two streams what they are given gives it to all that is given what they are
+pub ends_for : (args : List Argument) (file : Option (List ℕ)) (status : ℕ) (Out Err ToOut ToErr : Output → Type 0) → Ends args file status Out Err
+    → ((output : Output) → Out output → ToOut output) → ((output : Output) → Err output → ToErr output) → Ends args file status ToOut ToErr
+ends_for args file status Out Err ToOut ToErr ends to_out to_err =
+    record {
+      end = ends.end;
+      may = ends.may;
+      status_is = ends.status_is;
+      out = to_out (out_of ends.end) ends.out;
+      err = to_err (err_of ends.end) ends.err;
+    }
+
+-- what a sound stream over a writer is given is given to that writer
+pub lent_for : {W : Type 0} (contents : W → Option (List ℕ)) (old new : W) (before after : LentStream W) → before.target.now ≡ old
+    → before.has_failed ≡ false → new ≡ after.target.now → (output : Output) → Receives contents (stream_of before) (stream_of after) output
+    → IsLentFor contents old new output
+lent_for {W} contents old new before after is sound ends output given =
+    record {
+      has_failed = after.has_failed;
+      receives =
+          subst (λ (w : W). Receives contents (sound_stream old) record { writer = w; has_failed = after.has_failed } output) (sym ends)
+          (subst (λ (w : W). Receives contents (sound_stream w) (stream_of after) output) is
+          (subst (λ (b : Bool). Receives contents record { writer = before.target.now; has_failed = b } (stream_of after) output) sound given));
+    }

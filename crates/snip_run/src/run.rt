@@ -1,8 +1,9 @@
-//! A run of the program, over the bytes of a file and two streams.
+//! A run of the program, over the bytes of a file and two writers.
 ghost use Rattle.std.specs.Prelude.{◌≡◌, ◌≤◌, ◌↔◌, ◌⊎◌, [], ◌∷◌, IsTrue, IsNone, IfErr, IfOk, IfSome, MatchOption};
 ghost use Rattle.std.specs.Prelude.{SomeIff, All, alloc_error, codes, string_bytes};
 ghost use Rattle.std.specs.Option.{option_copied};
 ghost use Rattle.annotate_snippets.specs.Fits.{ReportFits};
+ghost use Rattle.program.specs.Lent.{IsLentFor, stream_of};
 ghost use Rattle.program.specs.Stream.{Receives, Told};
 ghost use Rattle.snip_run.specs.Report.{IsReportFor, RefusesCommand, ShowsCommand};
 ghost use Rattle.snip_run.specs.Run.{Ends, Fails, ShowsFile, message};
@@ -14,13 +15,12 @@ use annotate_snippets::level::ERROR;
 use annotate_snippets::renderer::RenderError;
 use annotate_snippets::text::text_fits;
 use annotate_snippets::{AnnotationKind, Element, Group, OptionCow, Snippet};
-use program::line::write_line;
+use program::lent::LentStream;
 use program::message::message_text;
 use report_options::options::renderer_of;
 use std::alloc::{AllocError, Global};
 use std::io::Write;
 use std::str;
-use written::Stream;
 
 /// How the arguments are to be written.
 const USAGE: &str =
@@ -138,13 +138,14 @@ fn message_of(alloc: Global, failure: &SnipFailure, name: &str) -> Result<String
 }
 
 /// Tells a failure, or that there was no memory for that.
-fn tell<V: Write>(alloc: Global, failure: &SnipFailure, name: &str, err: &mut Stream<V>)
-    ensures told { Receives V.contents err.old err.new (Told (message name.now failure.now))
-        ⊎ Receives V.contents err.old err.new (Told (codes "snip: out of memory")) }
+fn tell<V: Write>(alloc: Global, failure: &SnipFailure, name: &str, err: &mut LentStream<'_, V>)
+    ensures same_reference { err.new.target.ghost_name ≡ err.old.target.ghost_name }
+    ensures told { Receives V.contents (stream_of err.old) (stream_of err.new) (Told (message name.now failure.now))
+        ⊎ Receives V.contents (stream_of err.old) (stream_of err.new) (Told (codes "snip: out of memory")) }
 {
     match message_of(alloc, failure, name) {
-        Ok(message) => write_line(message.as_str(), err),
-        Err(AllocError) => write_line(OUT_OF_MEMORY, err),
+        Ok(message) => err.write_line(message.as_str()),
+        Err(AllocError) => err.write_line(OUT_OF_MEMORY),
     };
 }
 
@@ -152,7 +153,7 @@ fn tell<V: Write>(alloc: Global, failure: &SnipFailure, name: &str, err: &mut St
 ///
 /// `file` is what FILE holds, or `None` where it can't be read. The status is 0 where the report was printed, 2 for
 /// arguments that aren't of the form, and else 1. The report goes to `out`, and what is in its way to `err`; a report
-/// that couldn't be written is told by the status alone. Neither stream is flushed.
+/// that couldn't be written is told by the status alone. Neither writer is flushed.
 ///
 /// | Status | `out` | `err` |
 /// |---|---|---|
@@ -162,28 +163,51 @@ fn tell<V: Write>(alloc: Global, failure: &SnipFailure, name: &str, err: &mut St
 /// | 2 | as it was | how the arguments are to be written, and a line feed more |
 ///
 /// A message that couldn't be written stands there by a first part of it, and only where a write failed. Once one has
-/// failed nothing more is written to its stream.
+/// failed nothing more is written to its writer.
 pub fn run<W: Write, V: Write>(
     alloc: Global,
     args: &[&str],
     file: Option<&[u8]>,
-    out: &mut Stream<W>,
-    err: &mut Stream<V>,
+    out: &mut W,
+    err: &mut V,
 ) -> u8
     ensures status { result ≤ 2 }
     ensures usage { (result ≡ 2) ↔ (IsCommandLine (arguments_at args.now) → ⊥) }
 
-    // By cases: which status, what each stream is given, and when that is so.
+    // By cases: which status, what each writer is given, and when that is so.
     ensures ends { Ends (arguments_at args.now) (option_copied file.entry) result
-        (Receives W.contents out.old out.new) (Receives V.contents err.old err.new) }
+        (IsLentFor W.contents out.old out.new) (IsLentFor V.contents err.old err.new) }
+{
+    let mut lent_out = LentStream::new(out);
+    let mut lent_err = LentStream::new(err);
+    run_lent(alloc, args, file, &mut lent_out, &mut lent_err)
+}
+
+/// What [`run`] does, to writers that are lent for it.
+fn run_lent<W: Write, V: Write>(
+    alloc: Global,
+    args: &[&str],
+    file: Option<&[u8]>,
+    out: &mut LentStream<'_, W>,
+    err: &mut LentStream<'_, V>,
+) -> u8
+    ensures same_out { out.new.target.ghost_name ≡ out.old.target.ghost_name }
+    ensures same_err { err.new.target.ghost_name ≡ err.old.target.ghost_name }
+    ensures status { result ≤ 2 }
+    ensures usage { (result ≡ 2) ↔ (IsCommandLine (arguments_at args.now) → ⊥) }
+
+    // The same cases, of streams that keep whether a write failed: only then is a line cut short.
+    ensures ends { Ends (arguments_at args.now) (option_copied file.entry) result
+        (Receives W.contents (stream_of out.old) (stream_of out.new))
+        (Receives V.contents (stream_of err.old) (stream_of err.new)) }
 {
     let Some(command) = command_of(args) else {
-        write_line(USAGE, err);
+        err.write_line(USAGE);
         return MISUSED;
     };
     match report_text(alloc, args, &command, file) {
         Ok(text) => {
-            if write_line(text.as_str(), out) {
+            if out.write_line(text.as_str()) {
                 PRINTED
             } else {
                 FAILED

@@ -13,10 +13,9 @@ use tidy_run::arguments::{file_word, log_word};
 use tidy_run::final_line::FinalLine;
 use tidy_run::log::Log;
 use tidy_run::rule::Rule;
-use tidy_run::run::{Streams, run};
+use tidy_run::run::run;
 use tidy_run::tabs::Tabs;
 use tidy_run::trailing_blanks::TrailingBlanks;
-use written::Stream;
 
 /// The status of a run that there was no memory for.
 const STOPPED: u8 = 2;
@@ -35,12 +34,15 @@ fn answer(rt: &HostRuntime) -> Result<u8, AllocError> {
     rules.push(Box::new(alloc, TrailingBlanks)?)?;
     rules.push(Box::new(alloc, Tabs)?)?;
     rules.push(Box::new(alloc, FinalLine)?)?;
-    let mut streams = Streams {
-        out: Stream::new(rt.stdout()),
-        err: Stream::new(rt.stderr()),
-        log: Stream::new(Log::new(rt, log_word(&args))),
-    };
-    Ok(run(alloc, &rules, &args, file, &mut streams))
+    Ok(run(
+        alloc,
+        &rules,
+        &args,
+        file,
+        &mut rt.stdout(),
+        &mut rt.stderr(),
+        &mut Log::new(rt, log_word(&args)),
+    ))
 }
 
 fn main(rt: HostRuntime) -> ExitCode {

@@ -1,4 +1,4 @@
-//! A run of the program, over the bytes of a file and three streams.
+//! A run of the program, over the bytes of a file and three writers.
 ghost use Rattle.std.specs.Prelude.{◌≡◌, ◌≢◌, ◌≤◌, ◌⊎◌, [], ◌++◌, None, IsOk, IsNone, IfErr, IfOk, IfSome, IsSomeAnd};
 ghost use Rattle.std.specs.Prelude.{MatchOption, SomeIff, codes, length, map, string_bytes};
 ghost use Rattle.std.specs.List.{AllZip, flat_map};
@@ -7,6 +7,7 @@ ghost use Rattle.annotate_snippets.specs.Fault.{IsWithinBounds};
 ghost use Rattle.annotate_snippets.specs.Fits.{TextFits};
 ghost use Rattle.annotate_snippets.specs.Laws.Forms.{HasLaws};
 ghost use Rattle.annotate_snippets.specs.Forms.{TextsShown};
+ghost use Rattle.program.specs.Lent.{IsLentFor, stream_of};
 ghost use Rattle.program.specs.Stream.{Receives, Told};
 ghost use Rattle.tidy_run.specs.Findings.{findings_of};
 ghost use Rattle.tidy_run.specs.Report.{tidy_settings, told_of};
@@ -22,12 +23,11 @@ use annotate_snippets::renderer::RenderError;
 use annotate_snippets::renderer::style::Stylesheet;
 use annotate_snippets::text::text_fits;
 use annotate_snippets::{Group, Renderer};
-use program::line::write_line;
+use program::lent::LentStream;
 use program::message::message_text;
 use std::alloc::{AllocError, Global};
 use std::io::Write;
 use std::str;
-use written::Stream;
 
 /// How the arguments are to be written.
 const USAGE: &str = "usage: tidy [--log LOG] FILE";
@@ -41,17 +41,6 @@ const CLEAN: u8 = 0;
 const FOUND: u8 = 1;
 /// The status of a run that could do neither.
 const FAILED: u8 = 2;
-
-/// The streams that a run writes to.
-#[derive(Drop)]
-pub struct Streams<W, V, L> {
-    /// Where the report is printed.
-    pub out: Stream<W>,
-    /// Where it is told what went wrong.
-    pub err: Stream<V>,
-    /// What writes to LOG, and isn't written to where the arguments name none.
-    pub log: Stream<L>,
-}
 
 /// Why a command's texts aren't written.
 #[derive(Clone, Copy, Debug, PartialEq, Eq)]
@@ -182,22 +171,25 @@ enum WriteOutcome<'a> {
 fn write_texts<'a, W: Write, L: Write>(
     command: &TidyCommand<'a>,
     texts: &[String],
-    out: &mut Stream<W>,
-    log: &mut Stream<L>,
+    out: &mut LentStream<'_, W>,
+    log: &mut LentStream<'_, L>,
 ) -> WriteOutcome<'a>
     requires count { (texts.now ≡ []) ⊎ (length texts.now ≡ length (sheets_for (said command.now).log)) }
+    ensures same_out { out.new.target.ghost_name ≡ out.old.target.ghost_name }
+    ensures same_log { log.new.target.ghost_name ≡ log.old.target.ghost_name }
     ensures written { Becomes result (said command.now).log (map string_bytes texts.now)
-        (Receives W.contents out.old out.new) (Receives L.contents log.old log.new) }
+        (Receives W.contents (stream_of out.old) (stream_of out.new))
+        (Receives L.contents (stream_of log.old) (stream_of log.new)) }
 {
     let (Some(shown), Some(plain)) = (texts.first(), texts.last()) else {
         return WriteOutcome::Nothing;
     };
     if let Some(name) = command.log {
-        if !write_line(plain.as_str(), log) {
+        if !log.write_line(plain.as_str()) {
             return WriteOutcome::Unlogged(name);
         }
     }
-    if write_line(shown.as_str(), out) {
+    if out.write_line(shown.as_str()) {
         WriteOutcome::All
     } else {
         WriteOutcome::Unprinted
@@ -225,13 +217,14 @@ fn cannot(alloc: Global, verb: &str, name: &str) -> Result<String, AllocError>
 }
 
 /// Tells a failure, or that there was no memory for that.
-fn tell<V: Write>(alloc: Global, failure: TidyFailure<'_>, err: &mut Stream<V>)
-    ensures told { Receives V.contents err.old err.new (Told (message failure.entry))
-        ⊎ Receives V.contents err.old err.new (Told (message TidyFailure.Memory)) }
+fn tell<V: Write>(alloc: Global, failure: TidyFailure<'_>, err: &mut LentStream<'_, V>)
+    ensures same_reference { err.new.target.ghost_name ≡ err.old.target.ghost_name }
+    ensures told { Receives V.contents (stream_of err.old) (stream_of err.new) (Told (message failure.entry))
+        ⊎ Receives V.contents (stream_of err.old) (stream_of err.new) (Told (message TidyFailure.Memory)) }
 {
     match message_of(alloc, failure) {
-        Ok(message) => write_line(message.as_str(), err),
-        Err(AllocError) => write_line(OUT_OF_MEMORY, err),
+        Ok(message) => err.write_line(message.as_str()),
+        Err(AllocError) => err.write_line(OUT_OF_MEMORY),
     };
 }
 
@@ -239,8 +232,9 @@ fn tell<V: Write>(alloc: Global, failure: TidyFailure<'_>, err: &mut Stream<V>)
 /// with.
 ///
 /// `file` is what FILE holds, or `None` where it can't be read. The status is 0 where the rules find nothing, 1 where
-/// what they find was printed, else 2. With LOG the report is printed in colours, once it stands in LOG without. No
-/// stream is flushed.
+/// what they find was printed, else 2. With LOG the report is printed in colours, once it stands in LOG without. What
+/// is written to LOG goes to `log`, which isn't written to where the arguments name none, and what went wrong is told
+/// to `err`. No writer is flushed.
 ///
 /// | Status | `out` | `log` | `err` |
 /// |---|---|---|---|
@@ -251,13 +245,15 @@ fn tell<V: Write>(alloc: Global, failure: TidyFailure<'_>, err: &mut Stream<V>)
 /// | 2, a write of the report failed | a first part of it more | with LOG the report and a line feed more | as it was |
 ///
 /// A message that couldn't be written stands there by a first part of it, and only where a write failed. Once one has
-/// failed nothing more is written to its stream.
+/// failed nothing more is written to its writer.
 pub fn run<W: Write, V: Write, L: Write>(
     alloc: Global,
     rules: &[Box<dyn Rule>],
     args: &[&str],
     file: Option<&[u8]>,
-    streams: &mut Streams<W, V, L>,
+    out: &mut W,
+    err: &mut V,
+    log: &mut L,
 ) -> u8
     ensures status { result ≤ 2 }
     ensures usage { command_line_of (arguments_at args.now) ≡ None → result ≡ 2 }
@@ -265,25 +261,62 @@ pub fn run<W: Write, V: Write, L: Write>(
     // By cases: which status, what each writer is given, and when that is so.
     ensures ends { Ends (arguments_at args.now) (option_copied file.entry)
         (λ source. flat_map (λ rule. told_of (title_of rule) (findings_of (finds rule source) source)) rules.now) result
-        (Receives W.contents streams.old.out streams.new.out) (Receives V.contents streams.old.err streams.new.err)
-        (Receives L.contents streams.old.log streams.new.log) }
+        (IsLentFor W.contents out.old out.new) (IsLentFor V.contents err.old err.new)
+        (IsLentFor L.contents log.old log.new) }
+{
+    let mut lent_out = LentStream::new(out);
+    let mut lent_err = LentStream::new(err);
+    let mut lent_log = LentStream::new(log);
+    run_lent(
+        alloc,
+        rules,
+        args,
+        file,
+        &mut lent_out,
+        &mut lent_err,
+        &mut lent_log,
+    )
+}
+
+/// What [`run`] does, to writers that are lent for it.
+fn run_lent<W: Write, V: Write, L: Write>(
+    alloc: Global,
+    rules: &[Box<dyn Rule>],
+    args: &[&str],
+    file: Option<&[u8]>,
+    out: &mut LentStream<'_, W>,
+    err: &mut LentStream<'_, V>,
+    log: &mut LentStream<'_, L>,
+) -> u8
+    ensures same_out { out.new.target.ghost_name ≡ out.old.target.ghost_name }
+    ensures same_err { err.new.target.ghost_name ≡ err.old.target.ghost_name }
+    ensures same_log { log.new.target.ghost_name ≡ log.old.target.ghost_name }
+    ensures status { result ≤ 2 }
+    ensures usage { command_line_of (arguments_at args.now) ≡ None → result ≡ 2 }
+
+    // The same cases, of streams that keep whether a write failed: only then is a line cut short.
+    ensures ends { Ends (arguments_at args.now) (option_copied file.entry)
+        (λ source. flat_map (λ rule. told_of (title_of rule) (findings_of (finds rule source) source)) rules.now) result
+        (Receives W.contents (stream_of out.old) (stream_of out.new))
+        (Receives V.contents (stream_of err.old) (stream_of err.new))
+        (Receives L.contents (stream_of log.old) (stream_of log.new)) }
 {
     let Some(command) = command_of(args) else {
-        write_line(USAGE, &mut streams.err);
+        err.write_line(USAGE);
         return FAILED;
     };
     let texts = match texts_of(alloc, rules, &command, file) {
         Ok(texts) => texts,
         Err(failure) => {
-            tell(alloc, failure, &mut streams.err);
+            tell(alloc, failure, err);
             return FAILED;
         }
     };
-    match write_texts(&command, &texts, &mut streams.out, &mut streams.log) {
+    match write_texts(&command, &texts, out, log) {
         WriteOutcome::Nothing => CLEAN,
         WriteOutcome::All => FOUND,
         WriteOutcome::Unlogged(name) => {
-            tell(alloc, TidyFailure::Unwritable(name), &mut streams.err);
+            tell(alloc, TidyFailure::Unwritable(name), err);
             FAILED
         }
         WriteOutcome::Unprinted => FAILED,

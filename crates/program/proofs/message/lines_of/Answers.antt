@@ -1,4 +1,4 @@
-use Rattle.std.proofs.Common.{◌≡◌, Bor, List, ℕ, String, Global, ap, arith, chars, map, string_bytes, sym, take, ◌++◌, ◌∷◌, [], ◌∙◌}
+use Rattle.std.proofs.Common.{Bor, List, ℕ, String, Global, ap, arith, chars, map, string_bytes, sym, take, ◌++◌, ◌∷◌, [], ◌∙◌}
 use Rattle.std.proofs.lemmas.List.{map_more, map_push, take_all}
 use Rattle.program.specs.Message.{on_one_line}
 use Rattle.program.proofs.message.lines_of.Goals as goal

@@ -1,29 +1,14 @@
-use Rattle.std.proofs.Common.{refl, string_bytes, subst}
+use Rattle.std.proofs.Common.{sym, ◌∙◌}
 use Rattle.std.specs.Option.{option_copied}
-use Rattle.program.specs.Stream.{CutShort, Receives, Whole}
 use Rattle.snip_run.specs.Arguments.{arguments_at}
-use Rattle.snip_run.proofs.Ending.{ends_failed, ends_bad_usage, ends_printed, ends_unprinted, no_command}
+use Rattle.snip_run.proofs.Ending.{ends_for, lent_for}
 use Rattle.snip_run.proofs.run.run.Goals as goal
 
-pub returns-in_default-clause-ends : goal.returns-in_default-clause-ends
-returns-in_default-clause-ends g c =
-    ends_bad_usage (arguments_at c.args.args.now) (option_copied c.args.file) _ _ (no_command _ c.in_default.ensures.each_line) refl c.write_line.ensures.told
-
-pub returns-then-write_line-clause-ends : goal.returns-then-write_line-clause-ends
-returns-then-write_line-clause-ends g c =
-    ends_printed (arguments_at c.args.args.now) (option_copied c.args.file) c.in-Some.command
-    (string_bytes c.in-Ok.text) _ _ c.in-Some.ensures.command c.in-Ok.ensures.shows
-    (subst (λ text. Receives g.W.Write.contents c.args.out.now c.write_line-in-Ok.new.out
-    (Whole text)) c.as_str.ensures.value c.if-write_line.ensures.whole) refl
-
-pub returns-in-Ok-clause-ends : goal.returns-in-Ok-clause-ends
-returns-in-Ok-clause-ends g c =
-    ends_unprinted (arguments_at c.args.args.now) (option_copied c.args.file) c.in-Some.command
-    (string_bytes c.in-Ok.text) _ _ c.in-Some.ensures.command c.in-Ok.ensures.shows
-    (subst (λ text. Receives g.W.Write.contents c.args.out.now c.write_line-in-Ok.new.out
-    (CutShort text)) c.as_str.ensures.value c.if-write_line.ensures.cut) refl
-
+-- each stream is over the caller's writer, and is so after the run
 pub returns-clause-ends : goal.returns-clause-ends
 returns-clause-ends g c =
-    ends_failed (arguments_at c.args.args.now) (option_copied c.args.file) c.in-Some.command c.in-Err.failure _ _ c.in-Some.ensures.command
-    c.in-Err.ensures.fails refl c.tell.ensures.told
+    let out = c.out-1.given.1 (sym (c.run_lent.ensures.same_out ∙ c.new-lent_out.ensures.same_reference)) in
+    let err = c.err-1.given.1 (sym (c.run_lent.ensures.same_err ∙ c.new-lent_err.ensures.same_reference)) in
+    ends_for (arguments_at c.args.args.now) (option_copied c.args.file) c.run_lent.result _ _ _ _ c.run_lent.ensures.ends
+    (lent_for g.W.Write.contents c.args.out.now _ c.new-lent_out.result c.run_lent.new.out c.new-lent_out.ensures.writer c.new-lent_out.ensures.sound out)
+    (lent_for g.V.Write.contents c.args.err.now _ c.new-lent_err.result c.run_lent.new.err c.new-lent_err.ensures.writer c.new-lent_err.ensures.sound err)

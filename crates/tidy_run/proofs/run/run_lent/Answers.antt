@@ -4,7 +4,7 @@ use Rattle.tidy_run.specs.Run.{Clean, Reads, sheets_for}
 use Rattle.tidy_run.specs.Arguments.{said, arguments_at}
 use Rattle.tidy_run.proofs.Ending.{clean_of_texts, ends_as, ends_failed, ends_found, ends_bad_usage, ends_unlogged, ends_unprinted}
 use Rattle.tidy_run.proofs.WrittenLemmas.{counted_texts}
-use Rattle.tidy_run.proofs.run.run.Goals as goal
+use Rattle.tidy_run.proofs.run.run_lent.Goals as goal
 
 pub write_texts-requires : goal.write_texts-requires
 write_texts-requires g c =
