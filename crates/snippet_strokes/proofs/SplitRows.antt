@@ -162,7 +162,7 @@ module _ (layout : Layout) where
 
   marks_below : (es : List PlacedEntry) → All IsBelow (marks_of layout 1 es)
   marks_below es = All-flat_map IsBelow (drawn_mark layout 1) es (λ k d within. All-drawn_mark IsBelow layout 1 (get_or es k d) (omega arith) (λ w is. omega
-  (arith, is)))
+      (arith, is)))
 
   strokes_top : (count : ℕ) (placed order : List PlacedEntry) (row : List Cell)
       → fold top_written row (drawn_strokes layout 0 count placed order) ≡ fold top_written row (tops_of layout 0 placed)
@@ -208,7 +208,7 @@ module _ (layout : Layout) where
 
   -- of the source row the uppermost parts of bars are written, and nothing else
   module _ (row : ℕ) (placed : List PlacedEntry) (old topped : List (List Cell)) (last : length old ≡ row + 1) (tops : topped ≡ painted
-  (tops_of layout row placed) old) where
+      (tops_of layout row placed) old) where
     abbrev rows_above : List (List Cell)
     rows_above = take row old
 

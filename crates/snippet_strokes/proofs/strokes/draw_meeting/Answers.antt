@@ -48,7 +48,7 @@ module _ (layout : Layout) (closes : Bool) (row count : ℕ) (placed : List Plac
 
   dense_enough : length begun ≤ 2 ^ 60 → AreEnough layout 0 (length begun) placed
   dense_enough small = begun_enough layout 0 count placed source begun (separator_row layout.decor layout.gutter)
-  (bare_row layout.decor layout.gutter closes) some
+      (bare_row layout.decor layout.gutter closes) some
       source_long lifted begins ready small
 
 pub draw_under_marks-requires : goal.draw_under_marks-requires
