@@ -34,15 +34,10 @@ fn answer(rt: &HostRuntime) -> Result<u8, AllocError> {
     rules.push(Box::new(alloc, TrailingBlanks)?)?;
     rules.push(Box::new(alloc, Tabs)?)?;
     rules.push(Box::new(alloc, FinalLine)?)?;
-    Ok(run(
-        alloc,
-        &rules,
-        &args,
-        file,
-        &mut rt.stdout(),
-        &mut rt.stderr(),
-        &mut Log::new(rt, log_word(&args)),
-    ))
+    let mut out = rt.stdout();
+    let mut err = rt.stderr();
+    let mut log = Log::new(rt, log_word(&args));
+    Ok(run(alloc, &rules, &args, file, &mut out, &mut err, &mut log))
 }
 
 fn main(rt: HostRuntime) -> ExitCode {
