@@ -1,4 +1,5 @@
 pub mod Joined
+pub mod Keyed
 pub mod NotLinked
 pub mod OneMark
 pub mod SafeLinks

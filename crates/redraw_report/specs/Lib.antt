@@ -4,4 +4,6 @@ pub mod Region
 pub mod Report
 pub mod SameSource
 pub mod ShownText
+pub mod Sight
+pub mod SourceKey
 pub mod View

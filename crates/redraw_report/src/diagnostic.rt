@@ -93,7 +93,7 @@ pub struct Carried {
 }
 
 /// A part of a file, as the tool counted it.
-#[derive(Clone, Copy, PartialEq, Eq)]
+#[derive(Clone, Copy, PartialEq, Eq, PartialOrd, Ord)]
 pub enum Region {
     /// From byte `start` to before byte `end` of the file, from 0.
     Bytes {
@@ -113,7 +113,7 @@ pub enum Region {
 /// A part of a file by lines and columns, all counted from 1: from a column of a line to before a column of the same or
 /// a later line. Without a start column it begins with its first line, but without any columns with the first character
 /// of that line that isn't a blank. Without an end column it ends with its last line, before that line's end.
-#[derive(Clone, Copy, PartialEq, Eq)]
+#[derive(Clone, Copy, PartialEq, Eq, PartialOrd, Ord)]
 pub struct LineRegion {
     pub start_line: usize,
     pub start_column: Option<usize>,
@@ -124,7 +124,7 @@ pub struct LineRegion {
 }
 
 /// What a tool counts as one character.
-#[derive(Clone, Copy, PartialEq, Eq)]
+#[derive(Clone, Copy, PartialEq, Eq, PartialOrd, Ord)]
 pub enum Unit {
     /// Units of UTF-16: a character outside of the basic plane is two.
     Utf16,

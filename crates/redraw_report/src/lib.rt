@@ -9,6 +9,7 @@ mod marks;
 mod offers;
 pub mod report;
 pub mod shown_text;
+mod source_key;
 mod titles;
 
 pub use snippet_places::lines;

@@ -1,33 +1,36 @@
 //! What is drawn of places: each source with those that are in it.
-ghost use Rattle.std.specs.Prelude.{◌≡◌, ◌++◌, [], ◌∷◌, IfOk, OnOk, map, string_bytes, true};
+ghost use Rattle.std.specs.Prelude.{◌≡◌, ◌++◌, List, [], ◌∷◌, IfOk, OnOk, map, string_bytes, true};
 ghost use Rattle.std.specs.Cow.{cow_str_bytes};
-ghost use Rattle.std.specs.List.{flat_map, list_any};
+ghost use Rattle.std.specs.List.{flat_map};
 ghost use Rattle.redraw_report.specs.Report as spec;
 ghost use Rattle.redraw_report.specs.Report.{content_parts, label_rows, file_lines, marked_of, marked_parts, said};
 ghost use Rattle.redraw_report.specs.Report.{said_of_mark, source_parts, with_shown, with_source, with_sources};
-ghost use Rattle.redraw_report.specs.SameSource.{same_source};
+ghost use Rattle.redraw_report.specs.SourceKey.{AreGroupsOf, AreKeysOf, places_in};
 ghost use Rattle.redraw_report.specs.View.{Gap, Marks, marked_view, part_view};
 ghost use Rattle.redraw_report.specs.declared.diagnostic.Severity.TheVariants.{Note};
+ghost use Rattle.redraw_report.specs.declared.finding.MarkedSpan.{MarkedSpan};
 
 use crate::diagnostic::Severity;
-use crate::finding::{Content, MarkedSpan, Shown, is_same};
+use crate::finding::{Content, MarkedSpan, Shown};
+use crate::source_key::{SourceKey, key_of};
 use crate::titles::message_of;
 use snippet_model::{Annotation, AnnotationKind, Element, Origin, Padding, Snippet, SourceText};
 use snippet_text::CowStr;
 use std::alloc::{AllocError, Global};
+use std::collections::{BTreeMap, BTreeSet};
 
-/// Whether a source is among these.
-fn has_source(order: &[Shown<'_>], source: &Shown<'_>) -> bool
-    ensures value { result ≡ list_any (λ known. same_source known source.now) order.now }
-{
-    order.iter().any(|known| is_same(known, source))
-}
-
-/// Adds a source, if it isn't there yet.
-fn add_shown<'a>(order: &mut Vec<Shown<'a>>, source: Shown<'a>) -> Result<(), AllocError>
+/// Adds a source, if it isn't there yet; these keys are those of the sources that are.
+fn add_shown<'a>(
+    order: &mut Vec<Shown<'a>>,
+    keys: &mut BTreeSet<SourceKey<'a>>,
+    source: Shown<'a>,
+) -> Result<(), AllocError>
+    requires keyed { AreKeysOf keys.old order.old.items }
     ensures order { OnOk result (order.new.items ≡ with_shown order.old.items source.entry) }
+    ensures keyed { OnOk result (AreKeysOf keys.new order.new.items) }
 {
-    if !has_source(order, &source) {
+    let is_new = keys.insert(key_of(&source))?;
+    if is_new {
         order.push(source)?;
     }
     Ok(())
@@ -36,27 +39,33 @@ fn add_shown<'a>(order: &mut Vec<Shown<'a>>, source: Shown<'a>) -> Result<(), Al
 /// Adds the source of a place, but of a place that isn't primary only where all are taken.
 fn add_source_of<'a>(
     order: &mut Vec<Shown<'a>>,
+    keys: &mut BTreeSet<SourceKey<'a>>,
     mark: &MarkedSpan<'a>,
     primary: bool,
 ) -> Result<(), AllocError>
+    requires keyed { AreKeysOf keys.old order.old.items }
     ensures order { OnOk result (order.new.items ≡ with_source primary order.old.items mark.now) }
+    ensures keyed { OnOk result (AreKeysOf keys.new order.new.items) }
 {
     if primary && !mark.is_primary {
         return Ok(());
     }
-    add_shown(order, mark.source)
+    add_shown(order, keys, mark.source)
 }
 
 /// Adds the sources of some places, or only of the primary ones.
 fn add_sources_of<'a>(
     order: &mut Vec<Shown<'a>>,
+    keys: &mut BTreeSet<SourceKey<'a>>,
     marks: &[MarkedSpan<'a>],
     primary: bool,
 ) -> Result<(), AllocError>
+    requires keyed { AreKeysOf keys.old order.old.items }
     ensures order { OnOk result (order.new.items ≡ with_sources primary order.old.items marks.now) }
+    ensures keyed { OnOk result (AreKeysOf keys.new order.new.items) }
 {
     for mark in marks {
-        add_source_of(order, mark, primary)?;
+        add_source_of(order, keys, mark, primary)?;
     }
     Ok(())
 }
@@ -66,8 +75,9 @@ fn sources_of<'a>(alloc: Global, marks: &[MarkedSpan<'a>]) -> Result<Vec<Shown<'
     ensures value { IfOk result (λ order. order.items ≡ spec.sources_of marks.now) }
 {
     let mut order = Vec::new(alloc);
-    add_sources_of(&mut order, marks, true)?;
-    add_sources_of(&mut order, marks, false)?;
+    let mut keys = BTreeSet::new(alloc);
+    add_sources_of(&mut order, &mut keys, marks, true)?;
+    add_sources_of(&mut order, &mut keys, marks, false)?;
     Ok(order)
 }
 
@@ -97,21 +107,45 @@ fn annotation_of<'a>(mark: &MarkedSpan<'a>) -> Annotation<'a>
     }
 }
 
-/// Those of some places that are in this source.
-fn marks_in<'a>(
-    alloc: Global,
-    source: &Shown<'a>,
-    marks: &[MarkedSpan<'a>],
-) -> Result<Vec<MarkedSpan<'a>>, AllocError>
-    ensures value { IfOk result (λ within. within.items ≡ spec.marks_in source.now marks.now) }
+/// Places by their sources.
+type MarkGroups<'a> = BTreeMap<SourceKey<'a>, Vec<MarkedSpan<'a>>>;
+
+/// Places that were found, or none.
+fn found_or_none<'a>(alloc: Global, found: Option<Vec<MarkedSpan<'a>>>) -> Vec<MarkedSpan<'a>>
+    ensures value { result.items ≡ places_in found.entry }
 {
-    let mut within = Vec::new(alloc);
-    for mark in marks {
-        if is_same(&mark.source, source) {
-            within.push(*mark)?;
-        }
+    match found {
+        Some(within) => within,
+        None => Vec::new(alloc),
     }
-    Ok(within)
+}
+
+/// Puts a place to those of its source.
+fn add_mark<'a>(
+    alloc: Global,
+    groups: &mut MarkGroups<'a>,
+    mark: &MarkedSpan<'a>,
+) -> Result<(), AllocError>
+    ensures added { (marks : List MarkedSpan) → AreGroupsOf groups.old marks
+        → OnOk result (AreGroupsOf groups.new (marks ++ mark.now ∷ [])) }
+{
+    let key = key_of(&mark.source);
+    let found = groups.remove(&key);
+    let mut within = found_or_none(alloc, found);
+    within.push(*mark)?;
+    groups.insert(key, within)?;
+    Ok(())
+}
+
+/// Some places by their sources.
+fn groups_of<'a>(alloc: Global, marks: &[MarkedSpan<'a>]) -> Result<MarkGroups<'a>, AllocError>
+    ensures value { IfOk result (λ groups. AreGroupsOf groups marks.now) }
+{
+    let mut groups = BTreeMap::new(alloc);
+    for mark in marks {
+        add_mark(alloc, &mut groups, mark)?;
+    }
+    Ok(groups)
 }
 
 /// The annotations of some places.
@@ -246,19 +280,39 @@ fn add_marked<'a>(
     Ok(())
 }
 
+/// Adds a source with those of some places that are in it, by their groups.
+fn add_group<'a>(
+    alloc: Global,
+    elements: &mut Vec<Element<'a>>,
+    source: &Shown<'a>,
+    groups: &MarkGroups<'a>,
+    marks: &[MarkedSpan<'a>],
+) -> Result<(), AllocError>
+    requires grouped { AreGroupsOf groups.now marks.now }
+    ensures added { OnOk result (map part_view elements.new.items
+        ≡ map part_view elements.old.items ++ source_parts marks.now source.now) }
+{
+    let key = key_of(source);
+    match groups.get(&key) {
+        Some(within) => add_source(alloc, elements, source, within.as_slice()),
+        None => add_source(alloc, elements, source, &marks[..0]),
+    }
+}
+
 /// Adds some sources in their order, each with those of some places that are in it.
 fn add_each_source<'a>(
     alloc: Global,
     elements: &mut Vec<Element<'a>>,
     order: &[Shown<'a>],
+    groups: &MarkGroups<'a>,
     marks: &[MarkedSpan<'a>],
 ) -> Result<(), AllocError>
+    requires grouped { AreGroupsOf groups.now marks.now }
     ensures added { OnOk result (map part_view elements.new.items
         ≡ map part_view elements.old.items ++ flat_map (source_parts marks.now) order.now) }
 {
     for source in order {
-        let within = marks_in(alloc, source, marks)?;
-        add_source(alloc, elements, source, &within)?;
+        add_group(alloc, elements, source, groups, marks)?;
     }
     Ok(())
 }
@@ -277,7 +331,8 @@ fn add_marks<'a>(
         [mark] => add_source(alloc, elements, &mark.source, marks),
         _ => {
             let order = sources_of(alloc, marks)?;
-            add_each_source(alloc, elements, &order, marks)
+            let groups = groups_of(alloc, marks)?;
+            add_each_source(alloc, elements, &order, &groups, marks)
         }
     }
 }
