@@ -7,7 +7,7 @@ ghost use Rattle.serde_json.specs.View.{view};
 use serde_json::Value;
 use sha2::{Digest, Sha256};
 use std::alloc::{AllocError, Global};
-use std::collections::HashSet;
+use std::collections::{BTreeSet, HashSet};
 use std::hash::{BuildHasherDefault, FoldHasher};
 
 /// How many diagnostics are kept in mind.
@@ -51,11 +51,11 @@ impl SeenDiagnostics {
     }
 }
 
-/// Names, each once.
+/// Names, each once. They are in order, and not hashed: whoever writes a log could choose names with one hash.
 #[derive(Drop)]
 pub struct Names {
     alloc: Global,
-    names: HashSet<String>,
+    names: BTreeSet<String>,
 }
 
 impl Names {
@@ -63,7 +63,7 @@ impl Names {
     pub fn new(alloc: Global) -> Names {
         Names {
             alloc,
-            names: HashSet::new(alloc),
+            names: BTreeSet::new(alloc),
         }
     }
 
