@@ -11,7 +11,7 @@ ghost use Rattle.redraw_report.specs.declared.diagnostic.Severity.TheVariants.{N
 ghost use Rattle.redraw_report.specs.declared.finding.MarkedSpan.{MarkedSpan};
 
 use crate::diagnostic::Severity;
-use crate::finding::{Content, MarkedSpan, Shown};
+use crate::finding::{Content, MarkedSpan, Shown, is_same};
 use crate::source_key::{SourceKey, key_of};
 use crate::titles::message_of;
 use snippet_model::{Annotation, AnnotationKind, Element, Origin, Padding, Snippet, SourceText};
@@ -317,8 +317,46 @@ fn add_each_source<'a>(
     Ok(())
 }
 
+/// Those of some places that are in this source.
+fn marks_in<'a>(
+    alloc: Global,
+    source: &Shown<'a>,
+    marks: &[MarkedSpan<'a>],
+) -> Result<Vec<MarkedSpan<'a>>, AllocError>
+    ensures value { IfOk result (λ within. within.items ≡ spec.marks_in source.now marks.now) }
+{
+    let mut within = Vec::new(alloc);
+    for mark in marks {
+        if is_same(&mark.source, source) {
+            within.push(*mark)?;
+        }
+    }
+    Ok(within)
+}
+
+/// Does what `add_each_source` does, where each of some places is compared with each of the sources.
+fn add_few_sources<'a>(
+    alloc: Global,
+    elements: &mut Vec<Element<'a>>,
+    order: &[Shown<'a>],
+    marks: &[MarkedSpan<'a>],
+) -> Result<(), AllocError>
+    ensures added { OnOk result (map part_view elements.new.items
+        ≡ map part_view elements.old.items ++ flat_map (source_parts marks.now) order.now) }
+{
+    for source in order {
+        let within = marks_in(alloc, source, marks)?;
+        add_source(alloc, elements, source, &within)?;
+    }
+    Ok(())
+}
+
+/// How many sources are few.
+const FEW: usize = 4;
+
 /// Adds what is drawn of some places: each source with those that are in it. Sources are compared only where there are
-/// several places: a file may be long.
+/// several places, and then as seldom as may be: a file may be long. Where they are few each place is compared with
+/// each, and else the places are put in groups first.
 fn add_marks<'a>(
     alloc: Global,
     elements: &mut Vec<Element<'a>>,
@@ -331,6 +369,9 @@ fn add_marks<'a>(
         [mark] => add_source(alloc, elements, &mark.source, marks),
         _ => {
             let order = sources_of(alloc, marks)?;
+            if order.len() <= FEW {
+                return add_few_sources(alloc, elements, &order, marks);
+            }
             let groups = groups_of(alloc, marks)?;
             add_each_source(alloc, elements, &order, &groups, marks)
         }
