@@ -2,9 +2,11 @@
 pub mod AsShown
 pub mod Counted
 pub mod Extract
+pub mod FileIndex
 pub mod Loaded
 pub mod Order
 pub mod Placed
 pub mod Rendered
+pub mod Roles
 pub mod Spans
 pub mod Told

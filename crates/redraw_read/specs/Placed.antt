@@ -24,6 +24,7 @@ use Rattle.redraw_report.specs.declared.finding.Shown.{Shown}
 use Rattle.redraw_report.specs.Region.{IsSpanBetween, end_place, start_bytes, start_place}
 use Rattle.snippet_places.specs.declared.clamp.SpanAt.{SpanAt}
 use Rattle.redraw_report.specs.Report.{edited_of, lent}
+pub use Rattle.redraw_report.specs.Sight.{Sight, Lines, Nothing, Blank, sight_of}
 use Rattle.redraw_report.specs.SameSource.{same_source}
 use Rattle.redraw_report.specs.ShownText.{shown_text}
 use Rattle.redraw_report.specs.View.{Edited}
@@ -49,17 +50,6 @@ home_of (home ∷ homes) = string_bytes home
 -- what is at hand for the finding that a diagnostic reports
 abbrev pub hand_for : List File → Bool → Diagnostic → AtHand
 hand_for files is_short d = record { files = files; home = home_of d.homes.items; is_short = is_short }
-
--- what is shown of a part of a file: lines; its line and column alone; or blanks up to its column
-pub data Sight : Type 0 where
-  Lines : (text : List ℕ) (first_line : ℕ) → Sight
-  Nothing : (line column : Option ℕ) → Sight
-  Blank : (line column : ℕ) → Sight
-
-abbrev pub sight_of : Content → Sight
-sight_of (content.Lines text first_line) = Lines (shown_text text) first_line
-sight_of (content.Nothing line column) = Nothing line column
-sight_of (content.Blank line column) = Blank line column
 
 -- the line on which a region starts, and the column, where it has them
 abbrev pub start_line_of : Region → Option ℕ

@@ -1,10 +1,14 @@
 //! What is at hand to show a part of a file in: the file, or lines that the input has of it.
 
 ghost use Rattle.std.specs.Prelude.{◌≡◌, Some};
-ghost use Rattle.std.specs.Option.{option_map};
+ghost use Rattle.std.specs.List.{slice_get};
+ghost use Rattle.std.specs.Option.{option_and_then, option_map};
+ghost use Rattle.std.proofs.Props.{props};
 ghost use Rattle.redraw_read.specs.Extract as spec;
-ghost use Rattle.redraw_read.specs.Extract.{chosen, held_by_file};
+ghost use Rattle.redraw_read.specs.Extract.{chosen, held, held_by_file};
+ghost use Rattle.redraw_read.specs.FileIndex.{IsIndexOf};
 
+use crate::index::FileIndex;
 use crate::lines::has_lines;
 use crate::source::Source;
 use crate::sources::File;
@@ -15,10 +19,13 @@ use redraw_report::diagnostic::Carried;
 pub struct Hand<'a> {
     /// The files that were read.
     pub files: &'a [File],
+    /// Where each stands among them.
+    pub index: &'a FileIndex,
     /// A file of the project that is spoken of; empty where none is known.
     pub home: &'a str,
     /// Whether each finding is drawn on one line, which tells places by marks alone.
     pub is_short: bool,
+    pub ghost indexed: { IsIndexOf index.now files.now } by { Prim.hlevel props },
 }
 
 /// Lines of a file.
@@ -64,10 +71,19 @@ fn source_of<'a>(hand: Hand<'a>, name: &str) -> Option<&'a Source>
     ensures value { option_map (λ source. source.now.lines) result
         ≡ held_by_file hand.entry.files.now name.now hand.entry.home.now }
 {
-    for file in hand.files {
-        if file.is_named(name, hand.home) {
-            return file.source();
-        }
+    match hand.index.place(name, hand.home) {
+        Some(place) => source_at(hand.files, place),
+        None => None,
     }
-    None
+}
+
+/// What the file at this place holds, where it was read.
+fn source_at<'a>(files: &'a [File], place: usize) -> Option<&'a Source>
+    ensures value { option_map (λ source. source.now.lines) result
+        ≡ option_and_then held (slice_get files.now place) }
+{
+    match files.get(place) {
+        Some(file) => file.source(),
+        None => None,
+    }
 }

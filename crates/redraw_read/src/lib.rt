@@ -9,6 +9,7 @@ mod edits;
 pub mod expansion;
 pub mod hand;
 mod headings;
+mod index;
 pub mod json;
 mod lines;
 mod offers;

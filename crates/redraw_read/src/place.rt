@@ -125,6 +125,7 @@ impl Placing {
     {
         let hand = Hand {
             files: sources.files(),
+            index: sources.index(),
             home: first_home(&diagnostic.homes),
             is_short,
         };

@@ -1,12 +1,15 @@
 //! Which places are the point of a diagnostic of rustc. Places that rustc knows apart may be one when they are shown
 //! where a macro was called: then each is primary if one is.
 
-ghost use Rattle.std.specs.Prelude.{◌≡◌, IfOk, false, map, slice_index_or};
+ghost use Rattle.std.specs.Prelude.{◌≡◌, ◌++◌, ◌∷◌, List, [], IfOk, OnOk, false, map, slice_index_or};
 ghost use Rattle.redraw_read.specs.AsShown.{settled, with_roles};
 ghost use Rattle.redraw_read.specs.AsShown as spec;
+ghost use Rattle.redraw_read.specs.Roles.{ArePrimaryParts, IsPartOf};
+ghost use Rattle.redraw_report.specs.declared.diagnostic.FileSpan.{FileSpan};
 
-use redraw_report::diagnostic::FileSpan;
+use redraw_report::diagnostic::{FileSpan, Region};
 use std::alloc::{AllocError, Global};
+use std::collections::BTreeSet;
 
 /// These places, each a primary one exactly where one of them lies that is primary.
 pub fn settle_roles(alloc: Global, spans: Vec<FileSpan>) -> Result<Vec<FileSpan>, AllocError>
@@ -24,11 +27,56 @@ pub fn settle_roles(alloc: Global, spans: Vec<FileSpan>) -> Result<Vec<FileSpan>
 fn roles_of(alloc: Global, spans: &[FileSpan]) -> Result<Vec<bool>, AllocError>
     ensures each { IfOk result (λ roles. roles.items ≡ map (spec.is_at_primary spans.now) spans.now) }
 {
+    let primary = primary_places(alloc, spans)?;
     let mut roles = Vec::new(alloc);
     for span in spans {
-        roles.push(is_at_primary(spans, span))?;
+        roles.push(is_among(&primary, span))?;
     }
     Ok(roles)
+}
+
+/// A part of a file, as it is looked up: none of the others is looked at for it.
+type FilePart<'a> = (Region, &'a str);
+
+/// The part of a file that a place is.
+fn part_of<'a>(span: &'a FileSpan) -> FilePart<'a>
+    ensures of { IsPartOf result span.now }
+{
+    (span.region, span.file.as_str())
+}
+
+/// The parts where primary places lie.
+fn primary_places<'a>(
+    alloc: Global,
+    spans: &'a [FileSpan],
+) -> Result<BTreeSet<FilePart<'a>>, AllocError>
+    ensures each { IfOk result (λ parts. ArePrimaryParts parts spans.now) }
+{
+    let mut parts = BTreeSet::new(alloc);
+    for span in spans {
+        add_primary(&mut parts, span)?;
+    }
+    Ok(parts)
+}
+
+/// Adds the part where a place lies, if it is primary.
+fn add_primary<'a>(parts: &mut BTreeSet<FilePart<'a>>, span: &'a FileSpan) -> Result<(), AllocError>
+    ensures added { (spans : List FileSpan) → ArePrimaryParts parts.old spans
+        → OnOk result (ArePrimaryParts parts.new (spans ++ span.now ∷ [])) }
+{
+    if span.is_primary {
+        parts.insert(part_of(span))?;
+    }
+    Ok(())
+}
+
+/// Whether a place lies in one of these parts.
+fn is_among<'a>(parts: &BTreeSet<FilePart<'a>>, span: &'a FileSpan) -> bool
+    ensures value { (spans : List FileSpan) → ArePrimaryParts parts.now spans
+        → result ≡ spec.is_at_primary spans span.now }
+{
+    let part = part_of(span);
+    parts.contains(&part)
 }
 
 /// These places with these roles.
@@ -69,20 +117,4 @@ fn with_role(span: FileSpan, is_primary: bool) -> FileSpan
         is_primary,
         carried: span.carried,
     }
-}
-
-/// Whether a primary place lies where this one does.
-fn is_at_primary(spans: &[FileSpan], span: &FileSpan) -> bool
-    ensures value { result ≡ spec.is_at_primary spans.now span.now }
-{
-    spans
-        .iter()
-        .any(|other| other.is_primary && are_one(other, span))
-}
-
-/// Whether two places are the same part of the same file.
-fn are_one(first: &FileSpan, second: &FileSpan) -> bool
-    ensures value { result ≡ spec.are_one first.now second.now }
-{
-    first.region == second.region && first.file == second.file
 }

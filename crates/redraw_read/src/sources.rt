@@ -1,13 +1,16 @@
 //! The sources that reports show, each read once.
 
-ghost use Rattle.std.specs.Prelude.{◌≡◌, ◌++◌, ◌||◌, [], ◌∷◌, OnOk, codes, eqb, is_some, string_bytes};
+ghost use Rattle.std.specs.Prelude.{◌≡◌, ◌++◌, ◌||◌, [], ◌∷◌, OnOk, codes, eqb, false, is_some, string_bytes};
 ghost use Rattle.std.specs.List.{list_any, starts_with};
 ghost use Rattle.std.specs.Option.{option_map};
+ghost use Rattle.std.proofs.Props.{props};
 ghost use Rattle.redraw_read.specs.Extract as spec;
 ghost use Rattle.redraw_read.specs.Extract.{held};
+ghost use Rattle.redraw_read.specs.FileIndex.{IsIndexOf};
 ghost use Rattle.redraw_read.specs.Loaded.{Loads, texts_of, unread_name};
 ghost use Rattle.redraw_read.specs.Placed.{home_of};
 
+use crate::index::FileIndex;
 use crate::source::Source;
 use crate::words::begins_with;
 use std::alloc::{AllocError, Global};
@@ -61,8 +64,11 @@ pub struct Sources<S: Drop> {
     alloc: Global,
     source_files: S,
     files: Vec<File>,
+    /// Where each stands among them.
+    index: FileIndex,
     /// The names of those that couldn't be read, until they are told.
     unread: Vec<String>,
+    pub ghost indexed: { IsIndexOf index files.items } by { Prim.hlevel props },
 }
 
 impl<S: SourceFiles + Drop> Sources<S> {
@@ -72,6 +78,7 @@ impl<S: SourceFiles + Drop> Sources<S> {
             alloc,
             source_files,
             files: Vec::new(alloc),
+            index: FileIndex::new(alloc),
             unread: Vec::new(alloc),
         }
     }
@@ -133,8 +140,9 @@ impl<S: SourceFiles + Drop> Sources<S> {
         Ok(None)
     }
 
-    /// Keeps what the file of this name holds.
+    /// Keeps what the file of this name holds, which wasn't asked for before.
     fn keep(&mut self, name: &str, home: &str, source: Option<Source>) -> Result<(), AllocError>
+        requires absent { list_any (spec.is_named name.now home.now) self.old.files.items ≡ false }
         ensures loads { OnOk result (Loads home.now (name.now ∷ []) self.old.files.items self.new.files.items
             (texts_of self.old.unread.items) (texts_of self.new.unread.items)) }
     {
@@ -144,8 +152,25 @@ impl<S: SourceFiles + Drop> Sources<S> {
             source,
         };
         self.note(&file)?;
+        self.put(name, home, file)
+    }
+
+    /// Puts the file of this name to the others. Where memory is refused, they stay as they were.
+    fn put(&mut self, name: &str, home: &str, file: File) -> Result<(), AllocError>
+        requires absent { list_any (spec.is_named name.now home.now) self.old.files.items ≡ false }
+        requires named { (string_bytes file.name ≡ name.now) × (string_bytes file.home ≡ home.now) }
+        ensures put { OnOk result (self.new.files.items ≡ self.old.files.items ++ file ∷ []) }
+        ensures unread { self.new.unread ≡ self.old.unread }
+    {
+        let place = self.files.len();
         self.files.push(file)?;
-        Ok(())
+        match self.index.add(name, home, place) {
+            Ok(()) => Ok(()),
+            Err(error) => {
+                let _refused = self.files.pop();
+                Err(error)
+            }
+        }
     }
 
     /// Notes the name of a file that couldn't be read, to be told.
@@ -178,11 +203,18 @@ impl<S: SourceFiles + Drop> Sources<S> {
         &self.files
     }
 
+    /// Where each stands among them.
+    pub fn index(&self) -> &FileIndex
+        ensures value { result.now ≡ self.now.index }
+    {
+        &self.index
+    }
+
     /// Whether the file of this name was asked for, in a project with this file.
     fn has(&self, name: &str, home: &str) -> bool
         ensures value { result ≡ list_any (spec.is_named name.now home.now) self.now.files.items }
     {
-        self.files.iter().any(|file| file.is_named(name, home))
+        self.index.place(name, home).is_some()
     }
 }
 
