@@ -13,6 +13,8 @@ pub enum SarifExpectation {
     Message,
     /// Arguments of a message that aren't too long.
     ArgumentLength,
+    /// Messages of a result's parts that aren't too long.
+    TextLength,
     /// The number of a rule that the run has.
     Rule,
     /// A file's address, or the number of an artifact that the run has.
@@ -28,6 +30,9 @@ impl fmt::Display for SarifExpectation {
             SarifExpectation::ColumnKind => "\"utf16CodeUnits\" or \"unicodeCodePoints\"",
             SarifExpectation::Message => "a text, or the id of one of the rule's message strings",
             SarifExpectation::ArgumentLength => "arguments of at most 1 MiB in all their places",
+            SarifExpectation::TextLength => {
+                "texts by id or with arguments of at most 1 MiB in all parts of a result"
+            }
             SarifExpectation::Rule => "the index of a rule of the run",
             SarifExpectation::Artifact => "a uri, or the index of an artifact of the run",
             SarifExpectation::RegionStart => "startLine, charOffset or byteOffset",

@@ -1,7 +1,7 @@
 //! The fixes that a result suggests.
 
 use crate::location::Context;
-use crate::message::text_in;
+use crate::message::part_text_in;
 use crate::region::{carried_in, region_of};
 use crate::uri::path_in;
 use json_node::lenient::{LenientNode, List, Problems};
@@ -18,7 +18,7 @@ const UNDESCRIBED: &str = "apply this fix";
 pub fn add_fixes(
     children: &mut Vec<Child>,
     fixes: &List<'_, '_>,
-    context: &Context<'_>,
+    context: &Context<'_, '_>,
     problems: &mut Problems,
 ) -> Result<(), AllocError> {
     for (index, value) in fixes.items.iter().enumerate() {
@@ -31,7 +31,7 @@ pub fn add_fixes(
 fn take_fix(
     children: &mut Vec<Child>,
     fix: &LenientNode<'_, '_>,
-    context: &Context<'_>,
+    context: &Context<'_, '_>,
     problems: &mut Problems,
 ) -> Result<(), AllocError> {
     match edits_of(fix, context, problems)? {
@@ -46,10 +46,10 @@ fn take_fix(
 /// The description of a fix.
 fn description_of(
     fix: &LenientNode<'_, '_>,
-    context: &Context<'_>,
+    context: &Context<'_, '_>,
     problems: &mut Problems,
 ) -> Result<String, AllocError> {
-    match text_in(context.alloc, fix, "description", &context.rule, problems)? {
+    match part_text_in(fix, "description", context, problems)? {
         Some(message) => Ok(message),
         None => String::from_str(context.alloc, UNDESCRIBED),
     }
@@ -60,7 +60,7 @@ fn add_fix(
     children: &mut Vec<Child>,
     message: String,
     edits: Vec<SuggestedEdit>,
-    context: &Context<'_>,
+    context: &Context<'_, '_>,
 ) -> Result<(), AllocError> {
     match last_said(children, message.as_str()) {
         Some(last) => last.alternatives.push(edits)?,
@@ -83,7 +83,7 @@ fn last_said<'c>(children: &'c mut Vec<Child>, message: &str) -> Option<&'c mut 
 fn help_of(
     message: String,
     edits: Vec<SuggestedEdit>,
-    context: &Context<'_>,
+    context: &Context<'_, '_>,
 ) -> Result<Child, AllocError> {
     let mut alternatives = Vec::new(context.alloc);
     alternatives.push(edits)?;
@@ -99,7 +99,7 @@ fn help_of(
 /// alone would be another fix.
 fn edits_of(
     fix: &LenientNode<'_, '_>,
-    context: &Context<'_>,
+    context: &Context<'_, '_>,
     problems: &mut Problems,
 ) -> Result<Option<Vec<SuggestedEdit>>, AllocError> {
     let told = problems.lines.len();
@@ -114,7 +114,7 @@ fn edits_of(
 /// Those edits of a fix with which nothing is wrong.
 fn edits_in(
     fix: &LenientNode<'_, '_>,
-    context: &Context<'_>,
+    context: &Context<'_, '_>,
     problems: &mut Problems,
 ) -> Result<Vec<SuggestedEdit>, AllocError> {
     let mut edits = Vec::new(context.alloc);
@@ -129,7 +129,7 @@ fn edits_in(
 fn add_change(
     edits: &mut Vec<SuggestedEdit>,
     change: &LenientNode<'_, '_>,
-    context: &Context<'_>,
+    context: &Context<'_, '_>,
     problems: &mut Problems,
 ) -> Result<(), AllocError> {
     match path_in(context.alloc, change, context.run, problems)? {
@@ -143,7 +143,7 @@ fn add_replacements(
     edits: &mut Vec<SuggestedEdit>,
     change: &LenientNode<'_, '_>,
     file: &str,
-    context: &Context<'_>,
+    context: &Context<'_, '_>,
     problems: &mut Problems,
 ) -> Result<(), AllocError> {
     let replacements = change.needed_list("replacements", problems);
@@ -164,7 +164,7 @@ fn add_replacement(
     edits: &mut Vec<SuggestedEdit>,
     replacement: &LenientNode<'_, '_>,
     file: &str,
-    context: &Context<'_>,
+    context: &Context<'_, '_>,
     problems: &mut Problems,
 ) -> Result<(), AllocError> {
     if let Some(edit) = edit_of(replacement, file, context, problems)? {
@@ -177,7 +177,7 @@ fn add_replacement(
 fn edit_of(
     replacement: &LenientNode<'_, '_>,
     file: &str,
-    context: &Context<'_>,
+    context: &Context<'_, '_>,
     problems: &mut Problems,
 ) -> Result<Option<SuggestedEdit>, AllocError> {
     let Some(deleted) = replacement.needed("deletedRegion", problems) else {

@@ -20,7 +20,7 @@ pub struct Told {
 pub fn add_steps(
     told: &mut Told,
     reported: &LenientNode<'_, '_>,
-    context: &Context<'_>,
+    context: &Context<'_, '_>,
     problems: &mut Problems,
 ) -> Result<(), AllocError> {
     let flows = reported.list("codeFlows", problems);
@@ -51,7 +51,7 @@ fn first_of<'v, 'n>(
 fn add_thread(
     told: &mut Told,
     thread: &LenientNode<'_, '_>,
-    context: &Context<'_>,
+    context: &Context<'_, '_>,
     problems: &mut Problems,
 ) -> Result<(), AllocError> {
     let steps = thread.needed_list("locations", problems);
@@ -73,7 +73,7 @@ fn add_step_at(
     told: &mut Told,
     steps: &List<'_, '_>,
     index: usize,
-    context: &Context<'_>,
+    context: &Context<'_, '_>,
     problems: &mut Problems,
 ) -> Result<(), AllocError> {
     match steps.items.get(index) {
@@ -90,7 +90,7 @@ fn add_step(
     told: &mut Told,
     step: &LenientNode<'_, '_>,
     number: usize,
-    context: &Context<'_>,
+    context: &Context<'_, '_>,
     problems: &mut Problems,
 ) -> Result<(), AllocError> {
     if !step.is_object(problems) {
@@ -146,7 +146,7 @@ fn text_of(text: &Option<String>) -> Option<&str> {
 }
 
 /// Adds a note.
-fn add_note(told: &mut Told, message: String, context: &Context<'_>) -> Result<(), AllocError> {
+fn add_note(told: &mut Told, message: String, context: &Context<'_, '_>) -> Result<(), AllocError> {
     told.children.push(Child {
         severity: Severity::Note,
         message,

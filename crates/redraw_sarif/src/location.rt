@@ -1,6 +1,6 @@
 //! The places that a result names.
 
-use crate::message::text_in;
+use crate::message::part_text_in;
 use crate::region::{carried_of, region_of};
 use crate::rule::SarifRule;
 use crate::uri::path_in;
@@ -8,25 +8,28 @@ use json_node::lenient::{LenientNode, List, Problems};
 use redraw_report::diagnostic::{FileSpan, Region, Unit};
 use serde_json::Value;
 use std::alloc::{AllocError, Global};
+use std::cell::Cell;
 
 /// The start of a file.
 const START: Region = Region::Bytes { start: 0, end: 0 };
 
 /// What the parts of a result refer to.
 #[derive(Clone, Copy)]
-pub struct Context<'v> {
+pub struct Context<'v, 'r> {
     pub alloc: Global,
     pub run: &'v Value,
     pub rule: SarifRule<'v>,
     /// What columns count.
     pub unit: Unit,
+    /// How many more bytes the messages of a result's parts may have that aren't texts of their own.
+    pub room: &'r Cell<usize>,
 }
 
 /// Adds the places of a list of locations. One without a file is left out.
 pub fn add_spans(
     spans: &mut Vec<FileSpan>,
     locations: &List<'_, '_>,
-    context: &Context<'_>,
+    context: &Context<'_, '_>,
     is_primary: bool,
     problems: &mut Problems,
 ) -> Result<(), AllocError> {
@@ -42,7 +45,7 @@ pub fn add_spans(
 /// The place of a location, with its message as label.
 fn span_of(
     location: &LenientNode<'_, '_>,
-    context: &Context<'_>,
+    context: &Context<'_, '_>,
     is_primary: bool,
     problems: &mut Problems,
 ) -> Result<Option<FileSpan>, AllocError> {
@@ -63,16 +66,16 @@ fn span_of(
 /// The message of a location.
 pub fn message_at(
     location: &LenientNode<'_, '_>,
-    context: &Context<'_>,
+    context: &Context<'_, '_>,
     problems: &mut Problems,
 ) -> Result<Option<String>, AllocError> {
-    text_in(context.alloc, location, "message", &context.rule, problems)
+    part_text_in(location, "message", context, problems)
 }
 
 /// The place of a location, as one of context of which nothing is said; `None` where it has no file.
 pub fn place_at(
     location: &LenientNode<'_, '_>,
-    context: &Context<'_>,
+    context: &Context<'_, '_>,
     problems: &mut Problems,
 ) -> Result<Option<FileSpan>, AllocError> {
     let Some(physical) = location.object("physicalLocation", problems) else {
@@ -88,7 +91,7 @@ pub fn place_at(
 fn place_in(
     file: String,
     physical: &LenientNode<'_, '_>,
-    context: &Context<'_>,
+    context: &Context<'_, '_>,
     problems: &mut Problems,
 ) -> Result<FileSpan, AllocError> {
     let region = physical.object("region", problems);

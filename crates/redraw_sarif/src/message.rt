@@ -2,50 +2,87 @@
 
 use crate::expectation::SarifExpectation;
 use crate::links::without_links;
+use crate::location::Context;
 use crate::placeholders::filled;
 use crate::rule::SarifRule;
 use json_node::lenient::{LenientNode, Problems};
 use serde_json::Value;
 use std::alloc::{AllocError, Global};
+use std::cell::Cell;
+
+/// The most bytes that the messages of a result's parts have that aren't texts of their own, but for the last of them:
+/// 1 MiB. Each place may name the same text of the rule.
+pub const MOST_BYTES: usize = 1_048_576;
 
 /// The text of the message in the field of this name, if there is one: its own, or one of the rule's by its id, with
 /// its arguments in the place of placeholders; where these take more than 1 MiB, that is reported, and the text is cut.
 /// In a text of its own without arguments braces stay as they are. A link to a location is its text.
 pub fn text_in(
-    alloc: Global,
     object: &LenientNode<'_, '_>,
     name: &str,
-    rule: &SarifRule<'_>,
+    context: &Context<'_, '_>,
     problems: &mut Problems,
 ) -> Result<Option<String>, AllocError> {
     match object.object(name, problems) {
-        Some(message) => text_of(alloc, &message, rule, problems),
+        Some(message) => text_of(&message, None, context, problems),
         None => Ok(None),
     }
 }
 
-/// The text of a message.
+/// The same of a part of a result, as a place: where there is no more room for it, it is left out, which is reported.
+pub fn part_text_in(
+    object: &LenientNode<'_, '_>,
+    name: &str,
+    context: &Context<'_, '_>,
+    problems: &mut Problems,
+) -> Result<Option<String>, AllocError> {
+    match object.object(name, problems) {
+        Some(message) => text_of(&message, Some(context.room), context, problems),
+        None => Ok(None),
+    }
+}
+
+/// The text of a message, which takes of this room, where it isn't its own alone.
 fn text_of(
-    alloc: Global,
     message: &LenientNode<'_, '_>,
-    rule: &SarifRule<'_>,
+    room: Option<&Cell<usize>>,
+    context: &Context<'_, '_>,
     problems: &mut Problems,
 ) -> Result<Option<String>, AllocError> {
     let arguments = message.list("arguments", problems).items;
     let told = problems.lines.len();
     let own = message.text("text", problems);
-    let Some(text) = own.or(text_by_id(message, rule, problems)) else {
+    let Some(text) = own.or(text_by_id(message, &context.rule, problems)) else {
         if problems.lines.len() == told {
             message.tell(problems, SarifExpectation::Message);
         }
         return Ok(None);
     };
-    let text = without_links(alloc, text)?;
     if own.is_some() && arguments.is_empty() {
-        Ok(Some(text))
-    } else {
-        let whole = with_arguments(alloc, message, text.as_str(), arguments, problems)?;
-        Ok(Some(whole))
+        return Ok(Some(without_links(context.alloc, text)?));
+    }
+    if is_full(room) {
+        message.tell(problems, SarifExpectation::TextLength);
+        return Ok(None);
+    }
+    let text = without_links(context.alloc, text)?;
+    let whole = with_arguments(context.alloc, message, text.as_str(), arguments, problems)?;
+    take_room(room, whole.len());
+    Ok(Some(whole))
+}
+
+/// Whether nothing is left of a room.
+fn is_full(room: Option<&Cell<usize>>) -> bool {
+    match room {
+        Some(room) => room.get() == 0,
+        None => false,
+    }
+}
+
+/// Takes so many bytes of a room, or what is left.
+fn take_room(room: Option<&Cell<usize>>, bytes: usize) {
+    if let Some(room) = room {
+        room.set(room.get().saturating_sub(bytes));
     }
 }
 

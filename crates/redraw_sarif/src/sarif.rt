@@ -4,7 +4,7 @@ use crate::expectation::SarifExpectation;
 use crate::fixes::add_fixes;
 use crate::flow::{Told, add_steps};
 use crate::location::{Context, add_spans};
-use crate::message::text_in;
+use crate::message::{MOST_BYTES, text_in};
 use crate::primary::choose_primary;
 use crate::rule::{SarifRule, code_of, rule_of, severity_of};
 use crate::rules::RunRules;
@@ -12,6 +12,7 @@ use json_node::lenient::{LenientNode, List, Problems};
 use redraw_report::diagnostic::{Diagnostic, FileSpan, Unit};
 use serde_json::Value;
 use std::alloc::{AllocError, Global};
+use std::cell::Cell;
 
 /// What stands where a result says nothing, and its rule doesn't either.
 const NO_MESSAGE: &str = "the log has no message";
@@ -54,11 +55,13 @@ impl<'v, 'p> SarifRun<'v, 'p> {
         if !reported.is_object(problems) {
             return Ok(None);
         }
+        let room = Cell::new(MOST_BYTES);
         let context = Context {
             alloc,
             run: self.node.value,
             rule: rule_of(&self.rules, reported, problems),
             unit: self.unit,
+            room: &room,
         };
         Ok(Some(diagnostic_of(reported, &context, problems)?))
     }
@@ -90,7 +93,7 @@ fn unit_of(run: &LenientNode<'_, '_>, problems: &mut Problems) -> Unit {
 /// What a result reports.
 fn diagnostic_of(
     reported: &LenientNode<'_, '_>,
-    context: &Context<'_>,
+    context: &Context<'_, '_>,
     problems: &mut Problems,
 ) -> Result<Diagnostic, AllocError> {
     let severity = severity_of(reported, &context.rule, problems);
@@ -110,10 +113,10 @@ fn diagnostic_of(
 /// The message of a result; where it has none, what its rule says of itself.
 fn message_of(
     reported: &LenientNode<'_, '_>,
-    context: &Context<'_>,
+    context: &Context<'_, '_>,
     problems: &mut Problems,
 ) -> Result<String, AllocError> {
-    match text_in(context.alloc, reported, "message", &context.rule, problems)? {
+    match text_in(reported, "message", context, problems)? {
         Some(text) => Ok(text),
         None => String::from_str(context.alloc, description_of(&context.rule)),
     }
@@ -127,7 +130,7 @@ fn description_of<'v>(rule: &SarifRule<'v>) -> &'v str {
 /// The places of a result, and what is said beside its message: of the steps that lead to it, and of its fixes.
 fn told_of(
     reported: &LenientNode<'_, '_>,
-    context: &Context<'_>,
+    context: &Context<'_, '_>,
     problems: &mut Problems,
 ) -> Result<Told, AllocError> {
     let spans = spans_of(reported, context, problems)?;
@@ -142,7 +145,7 @@ fn told_of(
 /// The places of a result: those where it is, and those that help to see it.
 fn spans_of(
     reported: &LenientNode<'_, '_>,
-    context: &Context<'_>,
+    context: &Context<'_, '_>,
     problems: &mut Problems,
 ) -> Result<Vec<FileSpan>, AllocError> {
     let mut spans = Vec::new(context.alloc);
