@@ -10,7 +10,6 @@ ghost use Rattle.snippet_model.specs.AnnotationKind.{is_primary};
 ghost use Rattle.snippet_style.specs.Glyphs.{strokes_of};
 
 use crate::canvas::Canvas;
-use crate::cell_rows::CellRows;
 use crate::roles::is_primary;
 use snippet_grid::Layout;
 use snippet_labels::PlacedEntry;
@@ -29,15 +28,16 @@ use std::alloc::AllocError;
 /// # Errors
 ///
 /// There is no memory for the cells.
-pub(crate) fn draw_connectors(
-    buffer: &mut CellRows,
+pub(crate) fn draw_connectors<C: Canvas>(
+    buffer: &mut C,
     layout: Layout,
     row: usize,
     placed: &[PlacedEntry],
 ) -> Result<(), AllocError>
-    requires places { All (HasPlaceAmong row (length buffer.old)) placed.now }
+    requires places { All (HasPlaceAmong row (length (C.rows buffer.old))) placed.now }
     requires bar_cells { All (λ e. HasBarCell layout e.entry) placed.now }
-    ensures painted { OnOk result (buffer.new ≡ painted (connectors_of layout row placed.now) buffer.old) }
+    ensures painted { OnOk result (C.rows buffer.new
+        ≡ painted (connectors_of layout row placed.now) (C.rows buffer.old)) }
 {
     for entry in placed {
         draw_connector(buffer, layout, row, entry)?;

@@ -10,7 +10,6 @@ ghost use Rattle.snippet_style.specs.Bounds.{AreRows, HasNext, IsCodeCell, IsRow
 ghost use Rattle.snippet_style.specs.Glyphs.{strokes_of};
 
 use crate::canvas::Canvas;
-use crate::cell_rows::CellRows;
 use crate::roles::is_primary;
 use snippet_grid::{Layout, StyledBuffer};
 use snippet_labels::PlacedEntry;
@@ -31,17 +30,17 @@ use std::alloc::AllocError;
 /// # Errors
 ///
 /// There is no memory for the cells.
-pub(crate) fn draw_corners(
-    buffer: &mut CellRows,
+pub(crate) fn draw_corners<C: Canvas>(
+    buffer: &mut C,
     layout: Layout,
     row: usize,
     placed: &[PlacedEntry],
 ) -> Result<(), AllocError>
     requires bar_cells { All (λ e. HasBarCell layout e.entry) placed.now }
-    requires small { AreRows (length buffer.old) }
-    requires rows { All (HasRows (row + 1) (length buffer.old)) placed.now }
-    ensures painted { OnOk result (buffer.new ≡ painted (corners_of layout row
-        (length buffer.old) placed.now) buffer.old) }
+    requires small { AreRows (length (C.rows buffer.old)) }
+    requires rows { All (HasRows (row + 1) (length (C.rows buffer.old))) placed.now }
+    ensures painted { OnOk result (C.rows buffer.new ≡ painted (corners_of layout row
+        (length (C.rows buffer.old)) placed.now) (C.rows buffer.old)) }
 {
     for entry in placed {
         draw_corner(buffer, layout, row, entry)?;

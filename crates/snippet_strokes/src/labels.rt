@@ -10,7 +10,6 @@ ghost use Rattle.snippet_strokes.specs.Writes.{painted};
 ghost use Rattle.snippet_style.specs.Bounds.{FitsRow, HasNext};
 
 use crate::canvas::Canvas;
-use crate::cell_rows::CellRows;
 use crate::roles::label_role;
 use snippet_grid::Layout;
 use snippet_labels::PlacedEntry;
@@ -27,16 +26,16 @@ use std::alloc::AllocError;
 /// # Errors
 ///
 /// There is no memory for the cells.
-pub(crate) fn draw_labels(
-    buffer: &mut CellRows,
+pub(crate) fn draw_labels<C: Canvas>(
+    buffer: &mut C,
     layout: Layout,
     row: usize,
     placed: &[PlacedEntry],
 ) -> Result<(), AllocError>
-    requires places { All (HasPlaceAmong row (length buffer.old)) placed.now }
+    requires places { All (HasPlaceAmong row (length (C.rows buffer.old))) placed.now }
     requires labels { All HasItsLabel placed.now }
     requires short { All (λ e. FitsRow (normalized_chars e.entry.label)) placed.now }
-    ensures painted { OnOk result (buffer.new ≡ painted (labels_of layout row placed.now) buffer.old) }
+    ensures painted { OnOk result (C.rows buffer.new ≡ painted (labels_of layout row placed.now) (C.rows buffer.old)) }
 {
     for entry in placed {
         draw_label(buffer, layout, row, entry)?;

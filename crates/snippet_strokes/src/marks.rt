@@ -7,7 +7,6 @@ ghost use Rattle.snippet_strokes.specs.Writes.{painted};
 ghost use Rattle.snippet_style.specs.Bounds.{HasNext, IsColumn};
 
 use crate::canvas::Canvas;
-use crate::cell_rows::CellRows;
 use crate::roles::is_primary;
 use snippet_grid::Layout;
 use snippet_labels::positions::PlacedEntry;
@@ -25,15 +24,16 @@ use std::cmp::Reverse;
 /// # Errors
 ///
 /// There is no memory for the cells, or to sort the entries.
-pub fn draw_marks(
-    buffer: &mut CellRows,
+pub fn draw_marks<C: Canvas>(
+    buffer: &mut C,
     layout: Layout,
     row: usize,
     placed: &mut Vec<PlacedEntry>,
 ) -> Result<(), AllocError>
     requires row { HasNext row }
     requires columns { All (λ e. IsColumn e.entry.end.display) placed.old.items }
-    ensures painted { OnOk result (buffer.new ≡ painted (flat_map (mark_of layout row) placed.new.items) buffer.old) }
+    ensures painted { OnOk result (C.rows buffer.new
+        ≡ painted (flat_map (mark_of layout row) placed.new.items) (C.rows buffer.old)) }
     ensures order { OnOk result (placed.new.items ≡ painting_order placed.old.items) }
 {
     sort_for_painting(placed)?;
@@ -60,15 +60,16 @@ fn entry_width(entry: &LineAnnotation) -> usize
 }
 
 /// Paints the marks of entries into a row, each over those before it.
-fn paint_entries(
-    buffer: &mut CellRows,
+fn paint_entries<C: Canvas>(
+    buffer: &mut C,
     layout: Layout,
     row: usize,
     placed: &[PlacedEntry],
 ) -> Result<(), AllocError>
     requires row { HasNext row }
     requires columns { All (λ e. IsColumn e.entry.end.display) placed.now }
-    ensures painted { OnOk result (buffer.new ≡ painted (flat_map (mark_of layout row) placed.now) buffer.old) }
+    ensures painted { OnOk result (C.rows buffer.new
+        ≡ painted (flat_map (mark_of layout row) placed.now) (C.rows buffer.old)) }
 {
     for entry in placed {
         paint_entry(buffer, layout, row, entry)?;

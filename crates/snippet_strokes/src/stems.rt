@@ -7,7 +7,6 @@ ghost use Rattle.snippet_strokes.specs.Strokes.{stem_of};
 ghost use Rattle.snippet_strokes.specs.DrawnStems.{is_stem_covered};
 
 use crate::canvas::Canvas;
-use crate::cell_rows::CellRows;
 use crate::roles::is_primary;
 use snippet_grid::Layout;
 use snippet_labels::PlacedEntry;
@@ -27,14 +26,15 @@ use std::alloc::AllocError;
 /// # Errors
 ///
 /// There is no memory for the cells.
-pub(crate) fn draw_stems(
-    buffer: &mut CellRows,
+pub(crate) fn draw_stems<C: Canvas>(
+    buffer: &mut C,
     layout: Layout,
     row: usize,
     placed: &[PlacedEntry],
 ) -> Result<(), AllocError>
-    requires places { All (HasPlaceAmong row (length buffer.old)) placed.now }
-    ensures painted { OnOk result (buffer.new ≡ painted (flat_map (stem_of layout row) placed.now) buffer.old) }
+    requires places { All (HasPlaceAmong row (length (C.rows buffer.old))) placed.now }
+    ensures painted { OnOk result (C.rows buffer.new
+        ≡ painted (flat_map (stem_of layout row) placed.now) (C.rows buffer.old)) }
 {
     for i in 0..placed.len() {
         let entry = &placed[i];
@@ -62,14 +62,14 @@ pub(crate) fn is_stem_covered(placed: &PlacedEntry, later: &[PlacedEntry]) -> bo
 
 /// Draws the stem of an entry, if it has one: below its first column, as far as the row of its line to the bar, or the
 /// row above its label.
-fn draw_stem(
-    buffer: &mut CellRows,
+fn draw_stem<C: Canvas>(
+    buffer: &mut C,
     layout: Layout,
     row: usize,
     placed: &PlacedEntry,
 ) -> Result<(), AllocError>
-    requires place { HasPlaceAmong row (length buffer.old) placed.now }
-    ensures painted { OnOk result (buffer.new ≡ painted (stem_of layout row placed.now) buffer.old) }
+    requires place { HasPlaceAmong row (length (C.rows buffer.old)) placed.now }
+    ensures painted { OnOk result (C.rows buffer.new ≡ painted (stem_of layout row placed.now) (C.rows buffer.old)) }
 {
     if !placed.has_stem() {
         return Ok(());

@@ -16,6 +16,7 @@ ghost use Rattle.snippet_style.specs.Separators.{closing_row, separator_row};
 ghost use Rattle.snippet_style.specs.Bounds.{AreRows, IsCount};
 
 use crate::apart::{draw_apart, stand_apart};
+use crate::canvas::Canvas;
 use crate::cell_rows::CellRows;
 use crate::connectors::draw_connectors;
 use crate::corners::{draw_corners, draw_tops};
@@ -111,6 +112,8 @@ fn draw_rows(
 {
     if stand_apart(placed) {
         draw_side_by_side(buffer, layout, place, count, placed)
+    } else if placed.len() <= FEW {
+        draw_few(buffer, layout, place, count, placed)
     } else {
         draw_meeting(buffer, layout, place, count, placed)
     }
@@ -146,9 +149,41 @@ fn draw_side_by_side(
     sort_for_painting(placed)
 }
 
-/// Does the same where strokes meet. They are painted one over another in rows that are kept cell by cell, the first of
-/// which stands for the source row, and these are added below it: what is drawn into an upper row of a grid moves all
-/// that stands in the rows below.
+/// How many entries are few.
+const FEW: usize = 8;
+
+/// Does the same where strokes of few entries meet: they are painted one over another in the grid.
+///
+/// # Errors
+///
+/// There is no memory for the rows, or to sort the entries.
+fn draw_few(
+    buffer: &mut StyledBuffer,
+    layout: Layout,
+    place: StrokePlace,
+    count: usize,
+    placed: &mut Vec<PlacedEntry>,
+) -> Result<(), AllocError>
+    requires some { 0 < count }
+    requires last { length buffer.old ≡ place.row + 1 }
+    requires rows { All (HasRows (place.row + 1) (length buffer.old + count)) placed.old.items }
+    requires ready { All (IsReady layout) placed.old.items }
+    ensures order { OnOk result (placed.new.items ≡ painting_order placed.old.items) }
+    ensures painted { OnOk result (buffer.new ≡ painted (line_strokes layout place.row
+        (length buffer.old + count) placed.old.items (painting_order placed.old.items))
+        (buffer.old ++ replicate (count - 1) (separator_row layout.decor layout.gutter)
+        ++ bare_row layout.decor layout.gutter place.closes ∷ [])) }
+    ensures small { OnOk result (AreRows (length buffer.old + count)) }
+    ensures count { OnOk result (length buffer.new ≡ length buffer.old + count) }
+{
+    begin_rows(buffer, layout, place.closes, count)?;
+    draw_under_marks(buffer, layout, place.row, placed)?;
+    draw_marks(buffer, layout, place.row + 1, placed)
+}
+
+/// Does the same where strokes of many entries meet. They are painted one over another in rows that are kept cell by
+/// cell, the first of which stands for the source row, and these are added below it: what is drawn into an upper row of
+/// a grid moves all that stands in the rows below.
 ///
 /// # Errors
 ///
@@ -175,26 +210,28 @@ fn draw_meeting(
     draw_tops(buffer, layout, placed)?;
     let mut rows = CellRows::below_source(buffer.allocator())?;
     begin_rows(&mut rows, layout, place.closes, count)?;
-    draw_under_marks(&mut rows, layout, placed)?;
+    draw_under_marks(&mut rows, layout, 0, placed)?;
     draw_marks(&mut rows, layout, 1, placed)?;
     rows.append_below_source(buffer)
 }
 
-/// Paints the strokes of a line but its marks into rows, the first of which stands for its source row.
-fn draw_under_marks(
-    rows: &mut CellRows,
+/// Paints the strokes of a line but its marks into the rows that are begun for them below its source row, which has
+/// this number.
+fn draw_under_marks<C: Canvas>(
+    buffer: &mut C,
     layout: Layout,
+    row: usize,
     placed: &[PlacedEntry],
 ) -> Result<(), AllocError>
-    requires enough { AreEnough layout 0 (length rows.old) placed.now }
-    ensures painted { OnOk result (rows.new
-        ≡ painted (strokes_under_marks layout 0 (length rows.old) placed.now) rows.old) }
-    ensures count { OnOk result (length rows.new ≡ length rows.old) }
+    requires enough { AreEnough layout row (length (C.rows buffer.old)) placed.now }
+    ensures painted { OnOk result (C.rows buffer.new
+        ≡ painted (strokes_under_marks layout row (length (C.rows buffer.old)) placed.now) (C.rows buffer.old)) }
+    ensures count { OnOk result (length (C.rows buffer.new) ≡ length (C.rows buffer.old)) }
 {
-    draw_connectors(rows, layout, 1, placed)?;
-    draw_corners(rows, layout, 0, placed)?;
-    draw_stems(rows, layout, 1, placed)?;
-    draw_labels(rows, layout, 1, placed)
+    draw_connectors(buffer, layout, row + 1, placed)?;
+    draw_corners(buffer, layout, row, placed)?;
+    draw_stems(buffer, layout, row + 1, placed)?;
+    draw_labels(buffer, layout, row + 1, placed)
 }
 
 /// Adds a closing row where the window closes with a line that has no entries.

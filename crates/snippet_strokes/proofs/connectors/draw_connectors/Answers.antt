@@ -18,21 +18,22 @@ count_kept layout row i es old mid so_far rows =
     ap length so_far ∙ (DrawsFrom-connectors layout row (take i es) old (All-take (HasRows row (length old)) i es rows)).count
 
 pub draw_connector-requires-clause-place : goal.draw_connector-requires-clause-place
-draw_connector-requires-clause-place c =
-    let count = count_kept c.args.layout c.args.row c.loop-entry.entry-index c.args.placed.now c.args.buffer.now c.loop-entry.buffer c.loop-entry.invariant
+draw_connector-requires-clause-place g c =
+    let count = count_kept c.args.layout c.args.row c.loop-entry.entry-index c.args.placed.now (g.C.Canvas.rows c.args.buffer.now)
+    (g.C.Canvas.rows c.loop-entry.buffer) c.loop-entry.invariant
     (λ k d within. (c.requires.places k d within).rows) in
     subst (λ n. HasPlaceAmong c.args.row n c.entry-item.result) (sym count)
-    (subst (HasPlaceAmong c.args.row (length c.args.buffer.now)) (sym c.entry-item.is)
+    (subst (HasPlaceAmong c.args.row (length (g.C.Canvas.rows c.args.buffer.now))) (sym c.entry-item.is)
     (c.requires.places c.loop-entry.entry-index c.entry-item.result c.loop-entry-test.true))
 
 pub loop-entry-preserved : goal.loop-entry-preserved
-loop-entry-preserved c =
+loop-entry-preserved g c =
     c.in_ok-draw_connector.ensures.painted ∙ painted_more (connector_of c.args.layout c.args.row) c.args.placed.now c.loop-entry.entry-index
-    c.entry-item.result c.args.buffer.now c.loop-entry.buffer c.loop-entry-test.true c.entry-item.is c.loop-entry.invariant
+    c.entry-item.result (g.C.Canvas.rows c.args.buffer.now) (g.C.Canvas.rows c.loop-entry.buffer) c.loop-entry-test.true c.entry-item.is c.loop-entry.invariant
 
 pub returns : goal.returns
-returns c =
+returns g c =
     record {
-      painted = c.loop-entry.invariant ∙ ap (λ xs. painted (connectors_of c.args.layout c.args.row xs) c.args.buffer.now)
+      painted = c.loop-entry.invariant ∙ ap (λ xs. painted (connectors_of c.args.layout c.args.row xs) (g.C.Canvas.rows c.args.buffer.now))
           (take_all c.loop-entry.entry-index c.args.placed.now (omega (arith, c.loop-entry-test.false)));
     }

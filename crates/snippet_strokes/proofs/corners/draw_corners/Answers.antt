@@ -22,26 +22,28 @@ count_kept layout row i es old mid so_far bar_cells rows =
     (All-take (HasRows (row + 1) n) i es rows)).draws.count
 
 pub draw_corner-requires-clause-small : goal.draw_corner-requires-clause-small
-draw_corner-requires-clause-small c =
+draw_corner-requires-clause-small g c =
     omega (
       arith,
-      count_kept c.args.layout c.args.row c.loop-entry.entry-index c.args.placed.now c.args.buffer.now c.loop-entry.buffer c.loop-entry.invariant
+      count_kept c.args.layout c.args.row c.loop-entry.entry-index c.args.placed.now (g.C.Canvas.rows c.args.buffer.now)
+          (g.C.Canvas.rows c.loop-entry.buffer) c.loop-entry.invariant
           c.requires.bar_cells c.requires.rows,
       c.requires.small,
     )
 
 pub draw_corner-requires-clause-rows : goal.draw_corner-requires-clause-rows
-draw_corner-requires-clause-rows c =
+draw_corner-requires-clause-rows g c =
     subst (λ n. HasRows (c.args.row + 1) n c.entry-item.result)
-    (sym (count_kept c.args.layout c.args.row c.loop-entry.entry-index c.args.placed.now c.args.buffer.now c.loop-entry.buffer
+    (sym (count_kept c.args.layout c.args.row c.loop-entry.entry-index c.args.placed.now (g.C.Canvas.rows c.args.buffer.now)
+    (g.C.Canvas.rows c.loop-entry.buffer)
     c.loop-entry.invariant c.requires.bar_cells c.requires.rows))
-    (subst (HasRows (c.args.row + 1) (length c.args.buffer.now)) (sym c.entry-item.is)
+    (subst (HasRows (c.args.row + 1) (length (g.C.Canvas.rows c.args.buffer.now))) (sym c.entry-item.is)
     (c.requires.rows c.loop-entry.entry-index c.entry-item.result c.loop-entry-test.true))
 
 pub loop-entry-preserved : goal.loop-entry-preserved
-loop-entry-preserved c =
-    let old = c.args.buffer.now in
-    let mid = c.loop-entry.buffer in
+loop-entry-preserved g c =
+    let old = (g.C.Canvas.rows c.args.buffer.now) in
+    let mid = (g.C.Canvas.rows c.loop-entry.buffer) in
     let kept = count_kept c.args.layout c.args.row c.loop-entry.entry-index c.args.placed.now old mid c.loop-entry.invariant c.requires.bar_cells
     c.requires.rows in
     c.in_ok-draw_corner.ensures.painted ∙ ap (λ n. painted (corner_of c.args.layout c.args.row n c.entry-item.result) mid) kept
@@ -49,8 +51,8 @@ loop-entry-preserved c =
     c.args.placed.now c.loop-entry.entry-index c.entry-item.result old mid c.loop-entry-test.true c.entry-item.is c.loop-entry.invariant
 
 pub returns : goal.returns
-returns c =
-    let old = c.args.buffer.now in
+returns g c =
+    let old = (g.C.Canvas.rows c.args.buffer.now) in
     record {
       painted = c.loop-entry.invariant ∙ ap (λ xs. painted (corners_of c.args.layout c.args.row (length old) xs) old)
           (take_all c.loop-entry.entry-index c.args.placed.now (omega (arith, c.loop-entry-test.false)));

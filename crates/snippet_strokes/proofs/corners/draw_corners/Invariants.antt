@@ -5,5 +5,6 @@ use Rattle.snippet_strokes.proofs.corners.draw_corners.Given as goal
 
 -- the bars so far are drawn
 abbrev pub invariant-loop-entry : goal.invariant-loop-entry
-invariant-loop-entry l =
-    l.buffer ≡ painted (corners_of l.layout l.row (length l.initial.buffer) (take l.entry-index l.placed)) l.initial.buffer
+invariant-loop-entry g l =
+    (g.C.Canvas.rows l.buffer) ≡ painted (corners_of l.layout l.row (length (g.C.Canvas.rows l.initial.buffer)) (take l.entry-index l.placed))
+    (g.C.Canvas.rows l.initial.buffer)

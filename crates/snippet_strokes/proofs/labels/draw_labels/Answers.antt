@@ -20,21 +20,22 @@ count_kept layout row i es old mid so_far places rows =
     (All-take (HasRows row (length old)) i es rows) (λ k d within. omega arith)).count
 
 pub draw_label-requires-clause-place : goal.draw_label-requires-clause-place
-draw_label-requires-clause-place c =
-    let count = count_kept c.args.layout c.args.row c.loop-entry.entry-index c.args.placed.now c.args.buffer.now c.loop-entry.buffer c.loop-entry.invariant
+draw_label-requires-clause-place g c =
+    let count = count_kept c.args.layout c.args.row c.loop-entry.entry-index c.args.placed.now (g.C.Canvas.rows c.args.buffer.now)
+    (g.C.Canvas.rows c.loop-entry.buffer) c.loop-entry.invariant
     (λ k d within. (c.requires.places k d within).columns) (λ k d within. (c.requires.places k d within).rows) in
     subst (λ n. HasPlaceAmong c.args.row n c.entry-item.result) (sym count)
-    (subst (HasPlaceAmong c.args.row (length c.args.buffer.now)) (sym c.entry-item.is)
+    (subst (HasPlaceAmong c.args.row (length (g.C.Canvas.rows c.args.buffer.now))) (sym c.entry-item.is)
     (c.requires.places c.loop-entry.entry-index c.entry-item.result c.loop-entry-test.true))
 
 pub loop-entry-preserved : goal.loop-entry-preserved
-loop-entry-preserved c =
+loop-entry-preserved g c =
     c.in_ok-draw_label.ensures.painted ∙ painted_more (label_of c.args.layout c.args.row) c.args.placed.now c.loop-entry.entry-index c.entry-item.result
-    c.args.buffer.now c.loop-entry.buffer c.loop-entry-test.true c.entry-item.is c.loop-entry.invariant
+    (g.C.Canvas.rows c.args.buffer.now) (g.C.Canvas.rows c.loop-entry.buffer) c.loop-entry-test.true c.entry-item.is c.loop-entry.invariant
 
 pub returns : goal.returns
-returns c =
+returns g c =
     record {
-      painted = c.loop-entry.invariant ∙ ap (λ xs. painted (labels_of c.args.layout c.args.row xs) c.args.buffer.now)
+      painted = c.loop-entry.invariant ∙ ap (λ xs. painted (labels_of c.args.layout c.args.row xs) (g.C.Canvas.rows c.args.buffer.now))
           (take_all c.loop-entry.entry-index c.args.placed.now (omega (arith, c.loop-entry-test.false)));
     }

@@ -9,16 +9,17 @@ use Rattle.snippet_strokes.proofs.PaintOrder.{IsPermutation-painting_order}
 use Rattle.snippet_strokes.proofs.marks.draw_marks.Goals as goal
 
 pub paint_entries-requires-clause-columns : goal.paint_entries-requires-clause-columns
-paint_entries-requires-clause-columns c =
+paint_entries-requires-clause-columns g c =
     let P : PlacedEntry → Type 0 = λ e. e.entry.end.display < 2 ^ 60 in
     let es = c.args.placed.now.items in
     subst (All P) (sym (c.deref.ensures.value ∙ c.in_ok-sort_for_painting.ensures.order))
     (All-permutation P es (painting_order es) (IsPermutation-painting_order es) c.requires.columns)
 
 pub returns : goal.returns
-returns c =
+returns g c =
     record {
       painted = on_ok_weaker c.paint_entries.result (λ drawn_now. drawn_now
-          ∙ ap (λ xs. painted (flat_map (mark_of c.args.layout c.args.row) xs) c.args.buffer.now) c.deref.ensures.value) c.paint_entries.ensures.painted;
+          ∙ ap (λ xs. painted (flat_map (mark_of c.args.layout c.args.row) xs)
+          (g.C.Canvas.rows c.args.buffer.now)) c.deref.ensures.value) c.paint_entries.ensures.painted;
       order = on_ok_weaker c.paint_entries.result (λ _. c.in_ok-sort_for_painting.ensures.order) c.paint_entries.ensures.painted;
     }

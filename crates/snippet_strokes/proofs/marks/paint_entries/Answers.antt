@@ -7,13 +7,13 @@ use Rattle.snippet_strokes.proofs.WriteLemmas.{painted_more}
 use Rattle.snippet_strokes.proofs.marks.paint_entries.Goals as goal
 
 pub loop-entry-preserved : goal.loop-entry-preserved
-loop-entry-preserved c =
+loop-entry-preserved g c =
     c.in_ok-paint_entry.ensures.painted ∙ painted_more (mark_of c.args.layout c.args.row) c.args.placed.now c.loop-entry.entry-index c.entry-item.result
-    c.args.buffer.now c.loop-entry.buffer c.loop-entry-test.true c.entry-item.is c.loop-entry.invariant
+    (g.C.Canvas.rows c.args.buffer.now) (g.C.Canvas.rows c.loop-entry.buffer) c.loop-entry-test.true c.entry-item.is c.loop-entry.invariant
 
 pub returns : goal.returns
-returns c =
+returns g c =
     record {
-      painted = c.loop-entry.invariant ∙ ap (λ xs. painted (flat_map (mark_of c.args.layout c.args.row) xs) c.args.buffer.now)
+      painted = c.loop-entry.invariant ∙ ap (λ xs. painted (flat_map (mark_of c.args.layout c.args.row) xs) (g.C.Canvas.rows c.args.buffer.now))
           (take_all c.loop-entry.entry-index c.args.placed.now (omega (arith, c.loop-entry-test.false)));
     }

@@ -9,50 +9,50 @@ use Rattle.snippet_strokes.proofs.stems.draw_stems.Goals.{then-not-is_stem_cover
 use Rattle.snippet_strokes.proofs.stems.draw_stems.Goals as goal
 
 pub draw_stem-requires : goal.draw_stem-requires
-draw_stem-requires c =
+draw_stem-requires g c =
     record {
       place = subst (λ n. HasPlaceAmong c.args.row n c.index-placed-i.result) (sym c.loop-i.invariant.1)
-          (subst (HasPlaceAmong c.args.row (length c.args.buffer.now)) (sym c.index-placed-i.is)
+          (subst (HasPlaceAmong c.args.row (length (g.C.Canvas.rows c.args.buffer.now))) (sym c.index-placed-i.is)
           (c.requires.places c.loop-i.i c.index-placed-i.result c.loop-i-test.true));
     }
 
 pub loop-i-preserved : goal.loop-i-preserved
-loop-i-preserved c =
+loop-i-preserved g c =
     let layout = c.args.layout in
     let row = c.args.row in
     let es = c.args.placed.now in
     let i = c.loop-i.i in
     let e = c.index-placed-i.result in
     let later = drop (i + 1) es in
-    let mid = c.loop-i.buffer in
+    let mid = (g.C.Canvas.rows c.loop-i.buffer) in
     let whole : take (length es - (i + 1)) later ≡ later = take_all (length es - (i + 1)) later (omega (arith, length-drop (i + 1) es)) in
     let hidden : c.is_stem_covered.result ≡ is_stem_covered e later = c.is_stem_covered.ensures.value ∙ ap (is_stem_covered e) whole in
     let rest : drop i es ≡ e ∷ later = drop_more es i e c.loop-i-test.true ∙ ap (λ x. x ∷ later) (sym c.index-placed-i.is) in
     let so_far = sym (ap (λ xs. painted (stems_of layout row xs) mid) rest) ∙ c.loop-i.invariant.0 in
     let has : HasRows row (length mid) e = subst (λ n. HasRows row n e) (sym c.loop-i.invariant.1)
-    (subst (HasRows row (length c.args.buffer.now)) (sym c.index-placed-i.is) (c.requires.places i e c.loop-i-test.true).rows) in
+    (subst (HasRows row (length (g.C.Canvas.rows c.args.buffer.now))) (sym c.index-placed-i.is) (c.requires.places i e c.loop-i-test.true).rows) in
     elim c.if-not-is_stem_covered.branch [
       | then-not-is_stem_covered+in_ok-draw_stem w ↦
           let shown : is_stem_covered e later ≡ false = sym hidden ∙ cc in (
-            ap (painted (stems_of layout row later)) w.buffer-is
-                ∙ stems_next layout row e later mid w.draw_stem.new.buffer shown (cc w.in_ok-draw_stem.ensures.painted) ∙ so_far,
-            ap length w.buffer-is
+            ap (λ b. painted (stems_of layout row later) (g.C.Canvas.rows b)) w.buffer-is
+                ∙ stems_next layout row e later mid (g.C.Canvas.rows w.draw_stem.new.buffer) shown (cc w.in_ok-draw_stem.ensures.painted) ∙ so_far,
+            ap (λ b. length (g.C.Canvas.rows b)) w.buffer-is
                 ∙ ap length (cc w.in_ok-draw_stem.ensures.painted) ∙ stem_count layout row e mid has ∙ c.loop-i.invariant.1,
           )
       | else-not-is_stem_covered w ↦
           let covered : is_stem_covered e later ≡ true = sym hidden ∙ cc in (
-            ap (painted (stems_of layout row later)) w.buffer-is ∙ stems_skip layout row e later mid covered ∙ so_far,
-            ap length w.buffer-is
+            ap (λ b. painted (stems_of layout row later) (g.C.Canvas.rows b)) w.buffer-is ∙ stems_skip layout row e later mid covered ∙ so_far,
+            ap (λ b. length (g.C.Canvas.rows b)) w.buffer-is
                 ∙ c.loop-i.invariant.1,
           )
     ]
 
 pub returns : goal.returns
-returns c =
+returns g c =
     let layout = c.args.layout in
     let row = c.args.row in
     let none = drop_all c.loop-i.i c.args.placed.now (omega (arith, c.loop-i-test.false)) in
     record {
-      painted = sym (ap (λ xs. painted (stems_of layout row xs) c.loop-i.buffer) none) ∙ c.loop-i.invariant.0
-          ∙ sym (stems_painted layout row c.args.placed.now c.args.buffer.now);
+      painted = sym (ap (λ xs. painted (stems_of layout row xs) (g.C.Canvas.rows c.loop-i.buffer)) none) ∙ c.loop-i.invariant.0
+          ∙ sym (stems_painted layout row c.args.placed.now (g.C.Canvas.rows c.args.buffer.now));
     }

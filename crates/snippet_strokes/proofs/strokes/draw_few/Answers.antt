@@ -1,0 +1,74 @@
+use Rattle.std.proofs.Common.{◌≡◌, ◌+◌, ◌-◌, ◌^◌, ◌≤◌, ◌∙◌, ◌++◌, ◌∷◌, [], List, ap, arith, length, replicate, subst, sym}
+use Rattle.std.proofs.lemmas.Result.{on_ok_weaker}
+use Rattle.snippet_grid.proofs.OutcomeLemmas.{on_ok_two}
+use Rattle.std.specs.List.{flat_map}
+use Rattle.snippet_labels.specs.declared.positions.PlacedEntry.{PlacedEntry}
+use Rattle.snippet_style.specs.Cell.{Cell}
+use Rattle.snippet_style.specs.Separators.{separator_row}
+use Rattle.snippet_strokes.specs.Drawing.{AreEnough}
+use Rattle.snippet_strokes.specs.Painting.{mark_of, painting_order}
+use Rattle.snippet_strokes.specs.SourceRows.{bare_row}
+use Rattle.snippet_strokes.specs.Strokes.{line_strokes, strokes_under_marks}
+use Rattle.snippet_strokes.specs.Writes.{painted}
+use Rattle.snippet_strokes.proofs.Drawn.{marks_of}
+use Rattle.snippet_strokes.proofs.EveryMark.{every_mark}
+use Rattle.snippet_strokes.proofs.EveryStroke.{strokes_painted, under_marks_painted}
+use Rattle.snippet_strokes.proofs.ReadyRows.{begun_enough, begun_long, count_marks, enough_after}
+use Rattle.snippet_strokes.proofs.StrokeWrites.{marks_painted}
+use Rattle.snippet_strokes.proofs.strokes.draw_few.Goals as goal
+
+pub draw_under_marks-requires : goal.draw_under_marks-requires
+draw_under_marks-requires c =
+    let layout = c.args.layout in
+    record {
+      enough = subst (AreEnough layout c.args.place.row (length c.begin_rows.new.buffer)) (sym c.deref.ensures.value)
+          (begun_enough layout c.args.place.row c.args.count c.args.placed.now.items c.args.buffer.now c.begin_rows.new.buffer
+          (separator_row layout.decor layout.gutter) (bare_row layout.decor layout.gutter c.args.place.closes) c.requires.some c.requires.last
+          c.requires.rows c.in_ok-begin_rows.ensures.added c.requires.ready c.in_ok-begin_rows.ensures.small);
+    }
+
+pub draw_marks-requires : goal.draw_marks-requires
+draw_marks-requires c =
+    let layout = c.args.layout in
+    let long = begun_long layout c.args.place.row c.args.count c.args.placed.now.items c.args.buffer.now c.begin_rows.new.buffer
+    (separator_row layout.decor layout.gutter) (bare_row layout.decor layout.gutter c.args.place.closes) c.requires.some c.requires.last c.requires.rows
+    c.in_ok-begin_rows.ensures.added in
+    record {
+      row = omega (arith, long, c.requires.last, c.requires.some, c.in_ok-begin_rows.ensures.small);
+      columns = λ k d within. (c.requires.ready k d within).columns.near;
+    }
+
+pub returns : goal.returns
+returns c =
+    let layout = c.args.layout in
+    let row = c.args.place.row in
+    let placed = c.args.placed.now.items in
+    let old = c.args.buffer.now in
+    let sep = separator_row layout.decor layout.gutter in
+    let end = bare_row layout.decor layout.gutter c.args.place.closes in
+    let begun = c.begin_rows.new.buffer in
+    let under = c.draw_under_marks.new.buffer in
+    let new = c.draw_marks.new.buffer in
+    let after = c.draw_marks.new.placed.items in
+    let order = painting_order placed in
+    let long = begun_long layout row c.args.count placed old begun sep end c.requires.some c.requires.last c.requires.rows c.in_ok-begin_rows.ensures.added in
+    let enough = begun_enough layout row c.args.count placed old begun sep end c.requires.some c.requires.last c.requires.rows
+    c.in_ok-begin_rows.ensures.added c.requires.ready c.in_ok-begin_rows.ensures.small in
+    let below = c.in_ok-draw_under_marks.ensures.painted
+    ∙ ap (λ ps. painted (strokes_under_marks layout row (length begun) ps) begun) c.deref.ensures.value
+    ∙ under_marks_painted layout row (length begun) placed begun in
+    let Drawn : Type 0 = new ≡ painted (marks_of layout (row + 1) order) under in
+    let as_drawn : new ≡ painted (flat_map (mark_of layout (row + 1)) after) under → after ≡ order → Drawn = λ marks ordered.
+    marks ∙ every_mark layout (row + 1) after under ∙ ap (λ ps. painted (marks_of layout (row + 1) ps) under) ordered in
+    let drawn = on_ok_two c.draw_marks.result as_drawn c.draw_marks.ensures.painted c.draw_marks.ensures.order in
+    record {
+      order = c.draw_marks.ensures.order;
+      painted = on_ok_weaker c.draw_marks.result (λ marks. marks_painted layout row (length begun) placed order begun under new below marks
+          ∙ sym (strokes_painted layout row (length begun) placed order begun)
+          ∙ ap (λ n. painted (line_strokes layout row n placed order) begun) long
+          ∙ ap (painted (line_strokes layout row (length old + c.args.count) placed order)) c.in_ok-begin_rows.ensures.added) drawn;
+      small = on_ok_weaker c.draw_marks.result (λ _. subst (λ n. n ≤ 2 ^ 60) long c.in_ok-begin_rows.ensures.small) c.draw_marks.ensures.order;
+      count = on_ok_weaker c.draw_marks.result (λ marks. count_marks under new
+          (enough_after begun under enough c.in_ok-draw_under_marks.ensures.count) order marks
+          ∙ c.in_ok-draw_under_marks.ensures.count ∙ long) drawn;
+    }
