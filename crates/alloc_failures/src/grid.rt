@@ -2,7 +2,7 @@
 
 use crate::retry::again;
 use crate::subject::{print_subject, print_text};
-use annotate_snippets::renderer::parts::{ElementStyle, LevelInner, StyledBuffer};
+use annotate_snippets::renderer::parts::{ElementStyle, LevelInner, StyledBuffer, StyledChar};
 use annotate_snippets::renderer::{AnsiColor, Stylesheet};
 use std::alloc::AllocError;
 use std::io;
@@ -12,6 +12,7 @@ use std::io;
 enum WriteCall {
     Putc,
     Puts,
+    PutPart,
     Append,
     Replace,
     SetStyle,
@@ -23,11 +24,24 @@ enum WriteCall {
 const CALLS: &[(WriteCall, &str)] = &[
     (WriteCall::Putc, "grid: `putc`"),
     (WriteCall::Puts, "grid: `puts`"),
+    (WriteCall::PutPart, "grid: `put_part`"),
     (WriteCall::Append, "grid: `append`"),
     (WriteCall::Replace, "grid: `replace`"),
     (WriteCall::SetStyle, "grid: `set_style`"),
     (WriteCall::SetStyleRange, "grid: `set_style_range`"),
     (WriteCall::Link, "grid: `link`"),
+];
+
+/// What stands in place of the first characters of a row.
+const FRONT: [StyledChar; 2] = [
+    StyledChar {
+        ch: 'a',
+        role: ElementStyle::Quotation,
+    },
+    StyledChar {
+        ch: 'b',
+        role: ElementStyle::Quotation,
+    },
 ];
 
 /// How many rows are written.
@@ -59,7 +73,8 @@ fn make(grid: &mut StyledBuffer<'static>, call: WriteCall, row: u8) -> Result<()
     let row = usize::from(row);
     match call {
         WriteCall::Putc => grid.putc(row, 6, '^', ElementStyle::UnderlinePrimary),
-        WriteCall::Puts => grid.puts(row, 0, "abcd", ElementStyle::Quotation),
+        WriteCall::Puts => grid.puts(row, 0, "yzcd", ElementStyle::Quotation),
+        WriteCall::PutPart => grid.put_part(row, 0, &FRONT, ElementStyle::Quotation),
         WriteCall::Append => grid.append(row, " label", ElementStyle::LabelPrimary),
         WriteCall::Replace => grid.replace(row, 1, 3, "..."),
         WriteCall::SetStyle => grid.set_style(row, 0, ElementStyle::Addition, false),

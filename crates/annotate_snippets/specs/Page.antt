@@ -31,11 +31,12 @@ line_named name = None
 abbrev pub lines_named : List NamedRow → List ℕ
 lines_named rows = filter_map (λ row. line_named row.name) rows
 
--- the line of the patched source that a row is named by, and those that some rows are named by
+-- the line of the patched source that a row is named by
 abbrev pub line_offered : RowName → Option ℕ
 line_offered (OfferedLine j) = Some j
 line_offered name = None
 
+-- the lines of the patched source that some rows are named by, in order
 abbrev pub lines_offered : List NamedRow → List ℕ
 lines_offered rows = filter_map (λ row. line_offered row.name) rows
 

@@ -109,9 +109,11 @@ element_texts (element.Suggestion s) = []
 element_texts (element.Origin o) = []
 element_texts (element.Padding p) = []
 
+-- the texts of a group that the text form shows in order: those of its title, then those of its elements
 abbrev pub group_texts : Group → List (List ℕ)
 group_texts g =
     flat_map (λ title. whole_text (heading_of_title title)) (option_to_list g.title) ++ flat_map element_texts g.elements.items
 
+-- the texts of all groups of a report that the text form shows in order
 abbrev pub report_texts : List Group → List (List ℕ)
 report_texts groups = flat_map group_texts groups

@@ -1,35 +1,47 @@
 -- Codes of which one more is made.
-use Rattle.std.proofs.Common.{◌≡◌, inl, inr, ℕ, ◌<◌, Bool, true, false, if◌then◌else◌, List, [], ◌∷◌, ◌++◌, Option, Some, String, Global}
-use Rattle.std.proofs.Common.{get_or, length, map, string_bytes, sym, ap}
+use Rattle.std.proofs.Common.{◌≡◌, inl, inr, ℕ, ◌<◌, Bool, true, false, if◌then◌else◌, List, [], ◌∷◌, ◌++◌, Option, None, Some, IfSome}
+use Rattle.std.proofs.Common.{get_or, length, map, refl, sym, ap}
 use Rattle.std.proofs.Common.{◌∙◌, arith, append-nil, encode_utf8_all}
 use Rattle.std.proofs.Math.ListN.{set}
 use Rattle.std.proofs.lemmas.Bool.{cases_eq}
 use Rattle.std.proofs.lemmas.List.{get_or-set_same, get_or-set_other, length-set, get_or_default, get_or-map}
 use Rattle.snippet_grid.specs.SheetCodes.{AreOpenings, opening_bytes, style_at, styles_in}
+use Rattle.snippet_grid.specs.UsualCodes.{usual_bytes}
+use Rattle.snippet_grid.specs.declared.usual_codes.UsualCode.{UsualCode}
 use Rattle.std.specs.Prelude.{codes}
-use Rattle.snippet_style.specs.Codes.{code, reset}
-use Rattle.snippet_style.specs.Style.{is_plain_style}
-use Rattle.snippet_style.proofs.CodeLemmas.{reset-bytes}
+use Rattle.snippet_style.specs.Codes.{code, color_code, effect_code, effect_codes, reset}
+use Rattle.snippet_style.specs.Style.{is_plain_style, no_effects, plain_style}
+use Rattle.snippet_style.specs.declared.style.Color.{Color}
+use Rattle.snippet_style.specs.declared.style.Effects.{Effects}
+use Rattle.snippet_style.proofs.CodeLemmas.{encode-opening, reset-bytes}
+use Rattle.snippet_style.proofs.CodeSteps.{bold-alone}
 use Rattle.snippet_style.proofs.StyleLemmas.{plain_is_plain}
 use Rattle.snippet_style.specs.declared.style.Style.{Style}
 use Rattle.snippet_style.specs.declared.stylesheet.Stylesheet.{Stylesheet}
 use Rattle.snippet_grid.proofs.WeaveLemmas.{some_same}
 
--- the code that opens the style at a place was made
-pub openings_set : (codes : List (Option (String Global))) (styles : List Style) (i : ℕ) (code : String Global) (d : Style) → AreOpenings codes styles
-    → i < length styles
-    → string_bytes code ≡ opening_bytes (get_or styles i d) → AreOpenings (set codes i (Some code)) styles
-openings_set codes styles i code d are within is =
+-- the code that opens the style at a place is kept
+pub openings_set : {T : Type 0} (bytes : T → List ℕ) (codes : List (Option T)) (styles : List Style) (i : ℕ) (code : T) (d : Style)
+    → AreOpenings bytes codes styles → i < length styles → bytes code ≡ opening_bytes (get_or styles i d) → AreOpenings bytes (set codes i (Some code)) styles
+openings_set {T} bytes codes styles i code d are within is =
     record {
       count = length-set codes i (Some code) ∙ are.count;
       each = λ k other e s inside reads. elim (cases_eq k i) [
         | inl same ↦
             let read : Some other ≡ Some code = sym reads ∙ ap (λ j. get_or (set codes i (Some code)) j e) same
             ∙ get_or-set_same codes i (Some code) e (omega (arith, are.count, within)) in
-            ap string_bytes (some_same read) ∙ is ∙ ap opening_bytes (get_or_default styles i d s within ∙ ap (λ j. get_or styles j s) (sym same))
+            ap bytes (some_same read) ∙ is ∙ ap opening_bytes (get_or_default styles i d s within ∙ ap (λ j. get_or styles j s) (sym same))
         | inr apart ↦ are.each k other e s inside (sym (get_or-set_other codes i k (Some code) e apart) ∙ reads)
       ];
     }
+
+-- a usual code that is kept opens the style at its place
+pub opening_kept : (codes : List (Option UsualCode)) (o e : Option UsualCode) (sheet seen : Stylesheet) (i : ℕ)
+    → AreOpenings usual_bytes codes (styles_in sheet) → i < 11 → sheet ≡ seen → get_or codes i e ≡ o
+    → IfSome o (λ code. usual_bytes code ≡ opening_bytes (style_at seen i))
+opening_kept codes None e sheet seen i are within same is = tt
+opening_kept codes (Some code) e sheet seen i are within same is =
+    are.each i code e sheet.none within is ∙ ap opening_bytes (ap (λ s. style_at s i) same)
 
 -- the style at a place of a sheet stands there among its styles
 pub style_read : (sheet seen : Stylesheet) (styles : List Style) (i : ℕ) (d : Style) → i < 11 → sheet ≡ seen → styles ≡ styles_in sheet
@@ -52,3 +64,19 @@ reset_plain s old plain =
 -- one code switches any other off
 pub reset_styled : (s : Style) → is_plain_style s ≡ false → 27 ∷ 91 ∷ 48 ∷ 109 ∷ [] ≡ encode_utf8_all (reset s)
 reset_styled s styled = sym (reset-bytes s ∙ ap (λ (b : Bool). if b then [] else code (codes "0")) styled)
+
+-- the style with this foreground colour, in bold type or not, that has nothing else, and its effects
+abbrev bold_effects : Bool → Effects
+bold_effects bold = record no_effects { bold = bold }
+
+abbrev style_with : Bool → Option Color → Style
+style_with bold fg = record plain_style { fg = fg; effects = bold_effects bold }
+
+-- the code of such a style is that of bold type and that of the colour
+pub usual_text : (s : Style) (text : List ℕ) → s ≡ style_with s.effects.bold s.fg
+    → text ≡ effect_code s.effects.bold 1 ++ color_code 0 (codes "38") s.fg → text ≡ opening_bytes s
+usual_text s text same is =
+    let bold = bold_effects s.effects.bold in
+    let color : List ℕ = color_code 0 (codes "38") s.fg in
+    is ∙ ap (λ (l : List ℕ). l ++ color) (sym (bold-alone bold refl)) ∙ sym (append-nil (effect_codes bold ++ color))
+    ∙ sym (encode-opening (style_with s.effects.bold s.fg)) ∙ sym (ap opening_bytes same)

@@ -1,5 +1,5 @@
 -- A result that a function returns as another gave it.
-use Rattle.std.proofs.Common.{◌≡◌, if◌then◌else◌, Result, Ok, Err, IfOk, OnOk, OnErr}
+use Rattle.std.proofs.Common.{◌≡◌, if◌then◌else◌, Result, Ok, Err, IfOk, IfSome, OnOk, OnErr, Option, None, Some}
 use Rattle.std.specs.Result.{is_ok}
 
 -- a fact that holds after either answer
@@ -26,3 +26,8 @@ on_ok_value (Err e) x y z is = tt
 pub if_ok_weaker : {T E : Type 0} {P Q : T → Type 0} (r : Result T E) → ((x : T) → P x → Q x) → IfOk r P → IfOk r Q
 if_ok_weaker (Ok x) f p = f x p
 if_ok_weaker (Err e) f p = tt
+
+-- what follows from a fact of what is there
+pub if_some_weaker : {T : Type 0} {P Q : T → Type 0} (o : Option T) → ((x : T) → P x → Q x) → IfSome o P → IfSome o Q
+if_some_weaker (Some x) f p = f x p
+if_some_weaker None f p = tt

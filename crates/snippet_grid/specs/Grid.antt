@@ -22,7 +22,7 @@ num_cells (row ∷ rows) = length row + num_cells rows
 abbrev pub cells_written : List (List Cell) → ℕ → ℕ → List Cell → List (List Cell)
 cells_written rows r at cells = written [] rows r (written SPACE (row_at rows r) at cells ∷ [])
 
--- the same, read cell by cell
+-- a grid is another after these cells are written in one of its rows from cell `at` on, read cell by cell
 pub record WritesCells (old new : List (List Cell)) (row at : ℕ) (cells : List Cell) : Type 0 where
   -- the written cells are there, and every other cell of the row is as it was
   pub inside : (k : ℕ) → k < length cells → cell_at new row (at + k) ≡ slice_index_or cells k SPACE
@@ -60,10 +60,11 @@ pub record ChangesCells (f : Cell → Cell) (old new : List (List Cell)) (row st
   pub width : length (row_at new row) ≡ length (row_at old row)
   pub count : length new ≡ length old
 
--- the grid after the cells of row r from `start` to before `end` are restyled, and the same read cell by cell
+-- the grid after the cells of row r from `start` to before `end` are restyled
 abbrev pub cells_restyled : List (List Cell) → ℕ → ℕ → ℕ → ElementStyle → Bool → List (List Cell)
 cells_restyled rows r start end role overwrite = cells_changed (restyled role overwrite) rows r start end
 
+-- a grid is another after cells of one of its rows are restyled, read cell by cell
 abbrev pub RestylesCells : List (List Cell) → List (List Cell) → ℕ → ℕ → ℕ → ElementStyle → Bool → Type 0
 RestylesCells old new row start end role overwrite =
     ChangesCells (restyled role overwrite) old new row start end
@@ -72,10 +73,11 @@ RestylesCells old new row start end role overwrite =
 abbrev pub linked : List ℕ → Cell → Cell
 linked url cell = record cell { link = Some url }
 
--- the grid after the cells of row r from `start` to before `end` are linked, and the same read cell by cell
+-- the grid after the cells of row r from `start` to before `end` are linked
 abbrev pub cells_linked : List (List Cell) → ℕ → ℕ → ℕ → List ℕ → List (List Cell)
 cells_linked rows r start end url = cells_changed (linked url) rows r start end
 
+-- a grid is another after cells of one of its rows are linked, read cell by cell
 abbrev pub LinksCells : List (List Cell) → List (List Cell) → ℕ → ℕ → ℕ → List ℕ → Type 0
 LinksCells old new row start end url = ChangesCells (linked url) old new row start end
 
@@ -88,7 +90,7 @@ replaced_within start end new xs =
 abbrev pub cells_replaced : List (List Cell) → ℕ → ℕ → ℕ → List Cell → List (List Cell)
 cells_replaced rows r start end cells = changed_within (replaced_within start end cells) r (r + 1) rows
 
--- the same, read cell by cell
+-- a grid is another after the cells of one of its rows from `start` to before `end` gave their place to these, read cell by cell
 pub record ReplacesCells (old new : List (List Cell)) (row start end : ℕ) (cells : List Cell) : Type 0 where
   -- the new cells are there, and after them those that stood after the stretch
   pub inside : start < end → end ≤ length (row_at old row) → (k : ℕ) → k < length cells → cell_at new row (start + k) ≡ slice_index_or cells k SPACE

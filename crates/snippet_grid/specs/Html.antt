@@ -74,6 +74,7 @@ plain_look = record { class = []; address = [] }
 abbrev pub look_at : LevelInner → ElementStyle → Option (List ℕ) → HtmlLook
 look_at level role link = record { class = class_of level role; address = link_address link }
 
+-- the class and the address of a link that a cell is shown with, in a group of this level
 abbrev pub html_look_of : LevelInner → Cell → HtmlLook
 html_look_of level cell = look_at level cell.role cell.link
 
@@ -135,10 +136,11 @@ cells_html level last (cell ∷ cells) = tags_between last (html_look_of level c
 abbrev pub row_html : LevelInner → List Cell → List HtmlPiece
 row_html level row = cells_html level plain_look row
 
--- rows, each of which stands after a line feed, and rows joined by line feeds
+-- rows of which each stands after a line feed, as pieces of HTML
 abbrev pub further_html : LevelInner → List (List Cell) → List HtmlPiece
 further_html level rows = flat_map (λ row. Text 10 ∷ row_html level row) rows
 
+-- rows joined by line feeds, as pieces of HTML
 abbrev pub rows_html : LevelInner → List (List Cell) → List HtmlPiece
 rows_html level [] = []
 rows_html level (row ∷ rows) = row_html level row ++ further_html level rows

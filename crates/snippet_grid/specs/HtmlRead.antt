@@ -99,7 +99,7 @@ reads tags (InEscape name) (c ∷ cs) =
     if nat_eq c 59 then map (λ ch. (let read : CharInTags = record { ch = ch; tags = tags } in read)) (named name) ++ reads tags InText cs
     else reads tags (InEscape (name ++ c ∷ [])) cs
 
--- those of a whole text, at whose beginning nothing is open
+-- how a reader takes a whole text of HTML, at whose beginning nothing is open
 abbrev pub html_reads : List ℕ → List CharInTags
 html_reads html = reads (record { class = []; address = [] }) InText html
 
@@ -108,10 +108,11 @@ pub record ReadChar : Type 0 where
   pub ch : ℕ
   pub look : HtmlLook
 
--- the same as it is read
+-- the class and the address of a look, as a reader has them: by characters
 abbrev pub tags_in : HtmlLook → InTags
 tags_in look = record { class = chars look.class; address = chars look.address }
 
+-- a character with its look, as a reader has them: the tags that it stands in
 abbrev pub as_read : ReadChar → CharInTags
 as_read read = record { ch = read.ch; tags = tags_in read.look }
 

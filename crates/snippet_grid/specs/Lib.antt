@@ -1,5 +1,4 @@
 pub mod Changes
-pub mod SheetCodes
 pub mod Grid
 pub mod Html
 pub mod HtmlLooks
@@ -10,6 +9,9 @@ pub mod OpenRow
 pub mod Print
 pub mod RunBounds
 pub mod Runs
+pub mod SheetCodes
 pub mod Stored
 pub mod Stretch
+pub mod StyledChars
+pub mod UsualCodes
 pub mod Woven

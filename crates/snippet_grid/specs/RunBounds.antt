@@ -73,11 +73,12 @@ most_after before (cell ∷ cells) =
     (if goes_on before cell then 0 else 1)
     + most_after (if goes_on before cell && is_bare cell then None else Some (look_of cell)) cells
 
--- the fewest runs that can show some rows, and the most
+-- the fewest runs that can show some rows
 abbrev pub fewest_runs : List (List Cell) → ℕ
 fewest_runs [] = 0
 fewest_runs (row ∷ rows) = fewest_after None row + fewest_runs rows
 
+-- the most runs that can show some rows
 abbrev pub most_runs : List (List Cell) → ℕ
 most_runs [] = 0
 most_runs (row ∷ rows) = most_after None row + most_runs rows

@@ -152,9 +152,10 @@ pub record AddsPieces (P : List Piece → Type 0) (old new : List ℕ) : Type 0 
   pub text_is : new ≡ old ++ flat_map piece_text pieces
   pub are : P pieces
 
--- a text grew by a row, and by some rows, printed under a sheet in a group of this level
+-- a text grew by a row, printed under a sheet in a group of this level
 abbrev pub WeavesRow : Stylesheet → LevelInner → List Cell → List ℕ → List ℕ → Type 0
 WeavesRow sheet level row old new = AddsPieces (λ ps. PrintsRow sheet level ps row) old new
 
+-- a text grew by some rows, printed under a sheet in a group of this level
 abbrev pub WeavesRows : Stylesheet → LevelInner → List (List Cell) → List ℕ → List ℕ → Type 0
 WeavesRows sheet level rows old new = AddsPieces (λ ps. PrintsRows sheet level ps rows) old new

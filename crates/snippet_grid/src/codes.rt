@@ -1,13 +1,15 @@
 //! The codes that open a sheet's styles, each made once, when it is first needed.
-ghost use Rattle.std.specs.Prelude.{◌≡◌, ◌≢◌, ◌<◌, ◌++◌, true, false, map, slice_index_or, IfOk, OnOk, string_bytes};
-ghost use Rattle.std.specs.Prelude.{encode_utf8_all};
+ghost use Rattle.std.specs.Prelude.{◌≡◌, ◌≢◌, ◌<◌, ◌++◌, true, false, map, slice_index_or, IfOk, IfSome, OnOk};
+ghost use Rattle.std.specs.Prelude.{encode_utf8_all, string_bytes};
 ghost use Rattle.snippet_grid.specs.SheetCodes.{opening_bytes, style_at, styles_in};
+ghost use Rattle.snippet_grid.specs.UsualCodes.{usual_bytes};
 ghost use Rattle.snippet_style.specs.Codes.{reset};
 ghost use Rattle.snippet_style.specs.Style.{is_plain_style};
 ghost use Rattle.snippet_style.specs.Stylesheet as spec;
 ghost use Rattle.snippet_style.specs.declared.style.Style.{Style};
 ghost use Rattle.snippet_style.specs.declared.stylesheet.Stylesheet.{Stylesheet};
 
+use crate::usual_codes::{UsualCode, usual_opening};
 use snippet_style::{ElementStyle, LevelInner, Style, Stylesheet, write_opening};
 use std::alloc::{AllocError, Global};
 use std::marker::Model;
@@ -20,13 +22,15 @@ pub struct SheetCodes {
     /// The styles of the sheet, in the order of its fields, and whether each is plain.
     styles: [Style; 11],
     plain: [bool; 11],
-    /// The codes that were needed so far, in the same order.
+    /// The codes of usual styles that were needed so far, in the same order, and those of others.
+    usual: [Option<UsualCode>; 11],
     codes: [Option<String>; 11],
 }
 
 impl Model for SheetCodes {
-    ghost use Rattle.std.specs.Prelude.{◌≡◌, map};
+    ghost use Rattle.std.specs.Prelude.{◌≡◌, map, string_bytes};
     ghost use Rattle.snippet_grid.specs.SheetCodes.{AreOpenings, styles_in};
+    ghost use Rattle.snippet_grid.specs.UsualCodes.{usual_bytes};
     ghost use Rattle.snippet_style.specs.Style.{is_plain_style};
     ghost use Rattle.snippet_style.specs.declared.stylesheet.Stylesheet.{Stylesheet};
 
@@ -37,7 +41,8 @@ impl Model for SheetCodes {
     ghost invariant = { λ c. record {
       styles : c.styles ≡ styles_in c.sheet;
       plain : c.plain ≡ map is_plain_style (styles_in c.sheet);
-      codes : AreOpenings c.codes (styles_in c.sheet);
+      usual : AreOpenings usual_bytes c.usual (styles_in c.sheet);
+      codes : AreOpenings string_bytes c.codes (styles_in c.sheet);
     } };
 }
 
@@ -51,6 +56,9 @@ impl SheetCodes {
             sheet: *sheet,
             styles: styles(sheet),
             plain: plain_places(sheet),
+            usual: [
+                None, None, None, None, None, None, None, None, None, None, None,
+            ],
             codes: [
                 None, None, None, None, None, None, None, None, None, None, None,
             ],
@@ -115,9 +123,66 @@ impl SheetCodes {
         if self.is_plain(place) {
             return Ok(());
         }
+        if let Some(code) = self.known(place) {
+            return out.push_str(code.text());
+        }
+        self.push_other(out, place)
+    }
+
+    /// The code that opens the style at a place, if the style is a usual one whose code was needed before.
+    #[inline(always)]
+    fn known(&self, place: usize) -> Option<UsualCode>
+        requires within { place < 11 }
+        ensures bytes { IfSome result (λ code. usual_bytes code ≡ opening_bytes (style_at self.now place)) }
+    {
+        self.usual[place]
+    }
+
+    /// Adds the code that opens the style at a place, which is no usual one, or needed for the first time.
+    #[inline(never)]
+    fn push_other(&mut self, out: &mut String, place: usize) -> Result<(), AllocError>
+        requires within { place < 11 }
+        ensures sheet { self.new ≡ self.old }
+        ensures text { OnOk result (string_bytes out.new ≡ string_bytes out.old
+            ++ opening_bytes (style_at self.old place)) }
+    {
         if let Some(code) = &self.codes[place] {
             return out.push_str(code.as_str());
         }
+        self.push_first(out, place)
+    }
+
+    /// Adds the code that opens the style at a place, for the first time. That of a usual style takes no memory.
+    fn push_first(&mut self, out: &mut String, place: usize) -> Result<(), AllocError>
+        requires within { place < 11 }
+        ensures sheet { self.new ≡ self.old }
+        ensures text { OnOk result (string_bytes out.new ≡ string_bytes out.old
+            ++ opening_bytes (style_at self.old place)) }
+    {
+        let style = self.style_at(place);
+        if let Some(code) = usual_opening(style) {
+            self.know(place, code);
+            return out.push_str(code.text());
+        }
+        self.push_made(out, place)
+    }
+
+    /// Keeps the usual code that opens the style at a place.
+    fn know(&mut self, place: usize, code: UsualCode)
+        requires within { place < 11 }
+        requires opens { usual_bytes code ≡ opening_bytes (style_at self.old place) }
+        ensures sheet { self.new ≡ self.old }
+    {
+        self.usual[place] = Some(code);
+    }
+
+    /// Adds the code that opens the style at a place, which is made and kept.
+    fn push_made(&mut self, out: &mut String, place: usize) -> Result<(), AllocError>
+        requires within { place < 11 }
+        ensures sheet { self.new ≡ self.old }
+        ensures text { OnOk result (string_bytes out.new ≡ string_bytes out.old
+            ++ opening_bytes (style_at self.old place)) }
+    {
         let code = opening(self.alloc, self.style_at(place))?;
         out.push_str(code.as_str())?;
         self.codes[place] = Some(code);
@@ -166,11 +231,10 @@ fn plain_places(sheet: &Stylesheet) -> [bool; 11]
 /// The code that switches any style off.
 const RESET: &str = "\u{1b}[0m";
 
-/// Room for the code of a style of the default sheet, in bytes.
-const ROOM: usize = 12;
+/// Room for the code of a style of two effects and a colour of the 256, in bytes.
+const ROOM: usize = 20;
 
 /// The code that opens a style.
-#[inline(never)]
 fn opening(alloc: Global, style: Style) -> Result<String, AllocError>
     ensures text { IfOk result (λ code. string_bytes code ≡ opening_bytes style) }
 {

@@ -3,11 +3,12 @@
 //! A grid has rows, and a row has cells, both counted from 0. What is written beyond a row's end,
 //! or below the last row, makes the row longer and adds rows, as far as needed and no farther.
 
-ghost use Rattle.std.specs.Prelude.{◌≡◌, ◌+◌, ◌<◌, ◌≤◌, List, [], ◌∷◌, length, ℕ, true, IfOk, OnOk, OnErr, IsOk};
+ghost use Rattle.std.specs.Prelude.{◌≡◌, ◌+◌, ◌<◌, ◌≤◌, List, [], ◌∷◌, length, map, ℕ, true, IfOk, OnOk, OnErr, IsOk};
 ghost use Rattle.std.specs.Prelude.{string_bytes, encode_utf8_all};
 ghost use Rattle.snippet_grid.specs.Grid.{row_at, num_cells, cells_written, WritesCells, cells_restyled, RestylesCells};
 ghost use Rattle.snippet_grid.specs.Grid.{cells_linked, LinksCells, cells_replaced, ReplacesCells};
 ghost use Rattle.snippet_grid.specs.RunBounds.{fewest_runs, most_runs};
+ghost use Rattle.snippet_grid.specs.StyledChars.{ch_of};
 ghost use Rattle.snippet_style.specs.Cell.{text_cells};
 ghost use Rattle.snippet_style.specs.declared.role.ElementStyle.TheVariants.{LineNumber};
 ghost use Rattle.std.specs.Str.{chars};
@@ -24,8 +25,9 @@ use crate::html::push_html_rows;
 use crate::put::Spare;
 use crate::replace::replace_cells;
 use crate::runs::Run;
+use crate::styled_char::StyledChar;
 use crate::weave::weave_rows;
-use crate::words::{fits, write_word};
+use crate::words::{fits, write_part, write_word};
 use snippet_style::{ElementStyle, LevelInner, Stylesheet};
 use std::alloc::{AllocError, Global};
 use std::marker::Model;
@@ -38,7 +40,9 @@ const RUN_BYTES: usize = 16;
 /// A grid of styled cells. It has no row at first.
 ///
 /// Rows and cells are numbered from 0, and each character takes one cell. What writes asks that the number after a
-/// row's and after a cell's fits in a `usize`. A call that fails for running out of memory leaves the grid as it was.
+/// row's and after a cell's fits in a `usize`. A write changes the cells that it names and no other; rows and cells
+/// grow by unstyled spaces, as far as it reaches. A call that fails for running out of memory leaves the grid as it
+/// was.
 ///
 /// ```
 /// let mut grid = StyledBuffer::new(alloc);
@@ -104,9 +108,9 @@ impl<'a> StyledBuffer<'a> {
     /// How many runs of neighbouring cells with one role and one link are kept: as many as are
     /// needed to show the rows, at least, and at most as many as can show them. That is one for
     /// each stretch of cells with one role and one link; only unstyled, unlinked spaces may be
-    /// in a run or in none. A new grid has no run. `putc`, `puts`, `append`, `replace` and
-    /// `set_style` each add at most two; the functions that they call promise it of the list of
-    /// runs.
+    /// in a run or in none. A new grid has no run. `putc`, `puts`, `put_part`, `append`,
+    /// `replace` and `set_style` each add at most two; the functions that they call promise it of the
+    /// list of runs.
     pub fn num_runs(&self) -> usize
         ensures few { result ≤ num_cells self.now }
         ensures enough { fewest_runs self.now ≤ result }
@@ -135,8 +139,8 @@ impl<'a> StyledBuffer<'a> {
             (WritesCells self.old self.new row cell (text_cells role (ch ∷ []))) }
         ensures err { OnErr result (self.new ≡ self.old) }
     {
-        let mut bytes = [0; 4];
-        self.puts(row, cell, ch.encode_utf8(&mut bytes), role)
+        let part = [StyledChar { ch, role }];
+        write_part(&mut self.cells, &mut self.spare, row, cell, &part, role)
     }
 
     /// Writes a text in this row, from this cell on, one cell for each character. An empty text
@@ -168,12 +172,36 @@ impl<'a> StyledBuffer<'a> {
         write_word(&mut self.cells, &mut self.spare, row, cell, text, role)
     }
 
+    /// Writes characters in this row, from this cell on, one in each cell, all in one role. There is one at least.
+    ///
+    /// # Errors
+    ///
+    /// There is no memory for the row or its cells.
+    pub fn put_part(
+        &mut self,
+        row: usize,
+        cell: usize,
+        part: &[StyledChar],
+        role: ElementStyle,
+    ) -> Result<(), AllocError>
+        requires row { HasNext row }
+        requires end { IsUsize (cell + length part.now) }
+        requires some { 0 < length part.now }
+        ensures ok { OnOk result
+            (self.new ≡ cells_written self.old row cell (text_cells role (map ch_of part.now))) }
+        ensures reads { OnOk result
+            (WritesCells self.old self.new row cell (text_cells role (map ch_of part.now))) }
+        ensures err { OnErr result (self.new ≡ self.old) }
+    {
+        write_part(&mut self.cells, &mut self.spare, row, cell, part, role)
+    }
+
     /// Writes a text in this row, after its last cell, one cell for each character. An empty text
     /// does nothing: it makes no row.
     ///
     /// # Errors
     ///
-    /// There is no memory for the row or its cells.
+    /// There is no memory for the row or its cells, or the row would have 2^64 cells or more.
     pub fn append(&mut self, row: usize, text: &str, role: ElementStyle) -> Result<(), AllocError>
         requires row { 0 < length text.now → HasNext row }
         ensures ok { OnOk result (0 < length text.now
@@ -357,7 +385,8 @@ impl<'a> StyledBuffer<'a> {
 
     /// The rows, joined by line feeds, as HTML in a group of this level, after a text that is there: characters that
     /// HTML gives a meaning stand as escapes, each run of cells whose role has a style stands in a `<span>` of the
-    /// class of that style, and in an `<a>` where it links to an address of the web or of mail.
+    /// class of that style, and in an `<a>` where it links to an address of the web or of mail. No tag stands between
+    /// neighbours of one class and one address, and a row begins and ends with nothing open.
     ///
     /// # Errors
     ///

@@ -12,6 +12,8 @@ mod put;
 mod replace;
 mod runs;
 mod spaces;
+pub mod styled_char;
+mod usual_codes;
 mod weave;
 mod words;
 
@@ -19,3 +21,4 @@ pub use codes::SheetCodes;
 pub use grid::StyledBuffer;
 pub use layout::Layout;
 pub use printed_row::PrintedRow;
+pub use styled_char::StyledChar;

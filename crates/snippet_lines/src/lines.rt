@@ -31,7 +31,7 @@ impl EndLine {
     }
 }
 
-/// The lines of a text, each with its end; an empty text has none.
+/// The lines of a text, each with its end; an empty text has none. Joined, the lines and their ends are the text.
 ///
 /// The text is scanned once, as far as lines are asked for. Of `one`, CR, LF, `two` it gives `one` with `EndLine::Crlf`
 /// and `two` with `EndLine::Eof`.

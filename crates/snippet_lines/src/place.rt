@@ -4,10 +4,17 @@ ghost use Rattle.std.specs.Str.{IsCharBoundary};
 ghost use Rattle.snippet_text.specs.Width.{width_of};
 ghost use Rattle.snippet_text.specs.TextBounds.{TextFits};
 
-use snippet_style::char_count;
-use snippet_text::{is_plain, str_width};
+use snippet_text::{char_width, is_plain};
 
-/// A place in a source.
+/// A place in a source, whose lines have numbers from that of the first one on; all else counts from 0.
+///
+/// ```text
+/// source       日    本    ⇥     x     CR    LF    y
+/// byte         0     3     6     7     8     9     10
+/// char         0     1     2     3     4     4     0
+/// display      0     2     4     8     9     9     0
+/// line         1     1     1     1     1     1     2
+/// ```
 #[derive(Clone, Copy, Debug, PartialEq, Eq)]
 pub struct Loc {
     /// The number of its line.
@@ -86,5 +93,21 @@ fn characters_and_columns(text: &str) -> (usize, usize)
     if is_plain(text) {
         return (text.len(), text.len());
     }
-    (char_count(text), str_width(text))
+    walked(text)
+}
+
+/// The same, found character by character.
+fn walked(text: &str) -> (usize, usize)
+    requires fits { TextFits text.now }
+    ensures characters { result.0 ≡ length (chars text.now) }
+    ensures columns { result.1 ≡ width_of (chars text.now) }
+    ensures bound { result.1 ≤ 4 * length text.now }
+{
+    let mut characters = 0;
+    let mut columns = 0;
+    for c in text.chars() {
+        characters += 1;
+        columns += char_width(c);
+    }
+    (characters, columns)
 }

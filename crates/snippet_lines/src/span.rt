@@ -15,10 +15,12 @@ pub enum SpanFault {
     OffBoundary,
 }
 
-/// The first fault of a span of bytes, if it has one.
+/// The first fault of a span of bytes, if it has one: it starts after its end, it ends more than one byte after the
+/// source, or a character lies across its start or its end.
 ///
 /// A span may end, and start, one byte after the source. Of `é`, two bytes, 0..2 and 3..3 have no fault, 2..1 is
 /// `Reversed`, 0..4 `PastEnd` and 1..2 `OffBoundary`.
+#[inline(always)]
 #[tactic(auto, unfolding(crate::specs::Span::span_fault))]
 pub fn check_span(source: &str, span: &Range<usize>) -> Option<SpanFault>
     ensures value { result ≡ span_fault source.now span.now.start span.now.end }
@@ -36,6 +38,7 @@ pub fn check_span(source: &str, span: &Range<usize>) -> Option<SpanFault>
 }
 
 /// Whether a span may start or end at a byte.
+#[inline(always)]
 fn is_border(source: &str, byte: usize) -> bool
     ensures value { result ≡ is_span_border source.now byte }
 {

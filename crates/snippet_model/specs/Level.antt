@@ -1,3 +1,4 @@
+-- The name of a level as it is shown.
 use Rattle.std.specs.Prelude.{ℕ, List, []}
 use Rattle.std.specs.Cow.{cow_str_bytes}
 use Rattle.snippet_style.specs.declared.role.LevelInner.{LevelInner}

@@ -1,3 +1,4 @@
+-- The names of the kinds of levels.
 use Rattle.std.specs.Prelude.{ℕ, List, codes}
 use Rattle.snippet_style.specs.declared.role.LevelInner.{LevelInner}
 use Rattle.snippet_style.specs.declared.role.LevelInner.TheVariants.{Error, Warning, Info, Note, Help}

@@ -162,7 +162,7 @@ range-split a (suc m) n =
     let same : (a + 1) + m ≡ a + suc m = omega arith in
     ap (range_with_len a) more ∙ ap (λ ks. a ∷ ks) (range-split (a + 1) m n ∙ ap (λ b. range_with_len (a + 1) m ++ range_with_len b n) same)
 
-lines-split : (m n : ℕ) → range_with_len 0 (m + n) ≡ range_with_len 0 m ++ range_with_len m n
+pub lines-split : (m n : ℕ) → range_with_len 0 (m + n) ≡ range_with_len 0 m ++ range_with_len m n
 lines-split m n =
     let same : 0 + m ≡ m = omega arith in range-split 0 m n ∙ ap (λ b. range_with_len 0 m ++ range_with_len b n) same
 

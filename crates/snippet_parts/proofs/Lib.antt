@@ -1,3 +1,4 @@
+pub mod AloneLemmas
 pub mod AmongLemmas
 pub mod BarLemmas
 pub mod BestLemmas

@@ -28,7 +28,7 @@ long_entry s a =
     let label = option_map cow_str_bytes a.label in
     record { start = at.0; end = at.1; kind = a.kind; label = label; annotation_type = Singleline; highlight_source = a.highlight_source }
 
--- its place: its bytes, and the numbers of its first and its last line
+-- the place of an annotation of several lines: its bytes, and the numbers of its first and its last line
 abbrev pub long_place : LineAnnotation → LongExtent
 long_place e = record { from = e.start.byte; to = e.end.byte; first = e.start.line; last = e.end.line }
 
@@ -42,10 +42,11 @@ long_spans s marks =
     ordered_by (λ d e. nat_lt d.start.line e.start.line || d.start.line == e.start.line && nat_lt e.end.line d.end.line)
     (map (long_entry s) (filter (is_long s.text) marks))
 
--- the depth of an annotation of several lines, and the greatest one
+-- the depth of an annotation of several lines, among all that are marked
 abbrev pub depth_of : Source → List Annotation → Annotation → ℕ
 depth_of s marks a = depth_among (map long_place (long_spans s marks)) (long_place (long_entry s a))
 
+-- the greatest depth of the annotations of several lines
 abbrev pub deepest : Source → List Annotation → ℕ
 deepest s marks = greatest_depth (map long_place (long_spans s marks))
 
@@ -113,9 +114,11 @@ pub record KeptLine : Type 0 where
   pub parts : List LineAnnotation
   pub keep : Bool
 
+-- a line with its entries, as the equations see it
 abbrev pub seen_kept : AnnotatedLineInfo → KeptLine
 seen_kept info = record { number = info.line_index; text = info.line.now; parts = info.annotations.items; keep = info.keep }
 
+-- line k of a source, with its number, its text, the entries on it, and whether a `Visible` annotation touches it
 abbrev pub kept_line : Source → List Annotation → ℕ → KeptLine
 kept_line s marks k =
     let keep = list_any (λ a. not (is_marking a.kind) && touches s.text a k) marks in

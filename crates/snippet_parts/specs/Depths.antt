@@ -32,10 +32,11 @@ abbrev pub greatest_raw_depth : List LongExtent → ℕ
 greatest_raw_depth [] = 0
 greatest_raw_depth (p ∷ later) = max (raw_depth p later) (greatest_raw_depth later)
 
--- the greatest depth of some spans, and the depth of a span at one of their places: the deepest come first
+-- the greatest depth of some spans of several lines
 abbrev pub greatest_depth : List LongExtent → ℕ
 greatest_depth ps = greatest_raw_depth (places_of ps)
 
+-- the depth of a span of several lines at one of the places of these: the places that are deepest come first
 abbrev pub depth_among : List LongExtent → LongExtent → ℕ
 depth_among ps p = greatest_depth ps - raw_depth_among (places_of ps) p + 1
 

@@ -25,6 +25,10 @@ is_short_span l = is_marking l.annotation.now.kind && l.last == l.first
 abbrev pub is_long_span : LocatedSpan → Bool
 is_long_span l = is_marking l.annotation.now.kind && not (l.last == l.first)
 
+-- whether a span is of a kind that is marked, and stands on line k alone
+abbrev pub is_alone_on : ℕ → LocatedSpan → Bool
+is_alone_on k l = is_short_span l && l.first == k
+
 -- these are the bars of a span of several lines: `end` is the last line of its beginning that isn't trivial, or its first line where
 -- all are, and `closing` tells whether it has one beside the line before its last, if that lies after its beginning and isn't trivial
 pub record AreBars (source : List ℕ) (first last : ℕ) (bars : Bars) : Type 0 where

@@ -15,6 +15,7 @@ use crate::entries::{AnnotatedLineInfo, LineAnnotation};
 use crate::kept::{is_among, kept_lines, seen_lines};
 use crate::located::{LocatedSpan, located_spans};
 use crate::made_entries::made_entries;
+use crate::only_line::{one_line, only_line};
 use crate::source_map::SourceMap;
 use snippet_model::snippet::Annotation;
 use std::alloc::{AllocError, Global};
@@ -40,6 +41,24 @@ pub(crate) fn annotated_lines<'a>(
 
 /// The same of spans whose places are known.
 fn located_lines<'a>(
+    alloc: Global,
+    source: &SourceMap<'a>,
+    located: &[LocatedSpan<'a>],
+    fold: bool,
+) -> Result<(usize, Vec<AnnotatedLineInfo<'a>>), AllocError>
+    requires located { All (IsLocated source.now) located.now }
+    ensures deepest { IfOk result (λ drawn. drawn.0 ≡ spec.deepest source.now (annotations_of located.now)) }
+    ensures lines { IfOk result (λ drawn. map seen_kept drawn.1.items
+        ≡ spec.annotated_lines fold source.now (annotations_of located.now)) }
+{
+    match only_line(located, fold) {
+        Some(line) => one_line(alloc, source, line, located),
+        None => several_lines(alloc, source, located, fold),
+    }
+}
+
+/// The same, where the spans may be on several lines.
+fn several_lines<'a>(
     alloc: Global,
     source: &SourceMap<'a>,
     located: &[LocatedSpan<'a>],

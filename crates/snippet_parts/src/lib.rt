@@ -16,6 +16,7 @@ pub mod location;
 mod long_spans;
 mod made_entries;
 pub mod mark;
+mod only_line;
 pub mod shown_line;
 pub mod snippet_map;
 pub mod source_map;

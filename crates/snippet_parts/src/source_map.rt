@@ -57,6 +57,10 @@ const ALONE: [usize; 1] = [0];
 
 /// A source, cut into lines that have numbers.
 ///
+/// A line has a text and an end: LF, CR LF, or nothing at the end of the source. No text holds an LF, and a CR directly
+/// before an LF belongs to the end. An empty source has one empty line, and one that ends with LF has no line after
+/// that. Joined, the lines and their ends are the source, and no other lines meet this rule.
+///
 /// Where lines start is kept for some lines that follow one another, all of them or those that are shown; any other
 /// line is looked for where it is asked for. Where the lines of a source are lent, none has to be.
 #[derive(Drop)]
@@ -224,6 +228,31 @@ impl<'a> SourceMap<'a> {
 
     /// The greatest depth of spans of several lines, and the lines that are kept, each with its entries.
     ///
+    /// The lines ascend. The first and the last line of each span are among them, and all lines that a `Visible` span
+    /// touches. Their entries stand in the order made: those of spans on one line as given, then of each span of
+    /// several lines its start, its bars and its end. A span has an entry at its end alone where a later span has the
+    /// same place. A span is primary where it is, or one before it of its place.
+    ///
+    /// A depth says in which column a bar stands, from 1. Spans of several lines are taken by first line, then the one
+    /// with the later last line, else as given. Those that share a line and differ in place have different depths, and
+    /// the greatest depth is the length of a longest list of places in which each shares a line with the next. Here
+    /// spans of the lines 1 to 6, 2 to 3 and 4 to 5 have the depths 1, 2 and 2:
+    ///
+    /// ```text
+    /// 1 |    a {
+    ///   |  ____-
+    /// 2 | |   b {
+    ///   | | ____-
+    /// 3 | ||  }
+    ///   | ||__- two
+    /// 4 | |   c {
+    ///   | | ____^
+    /// 5 | ||  }
+    ///   | ||__^ three
+    /// 6 | |  }
+    ///   | |__- one
+    /// ```
+    ///
     /// No span may have a fault, as `check_span` finds it. The one error is that memory ran out.
     pub fn annotated_lines<'b>(
         &self,
@@ -270,6 +299,10 @@ impl<'a> SourceMap<'a> {
     }
 
     /// Where a span of bytes starts and ends. It may have no fault, as `check_span` finds it.
+    ///
+    /// A byte is on the line whose bytes, line end counted, hold it, and one after all of them on the last line. Its
+    /// character and its column are the number and the width of the characters before it in the line's text: in `日本`
+    /// byte 3 is at character 1, column 2.
     ///
     /// The end of an empty span is its start. A start after the end of its line's text, at the line end, counts one
     /// character more than the text has; such an end does too, and one column more, if the span started on an earlier

@@ -50,7 +50,7 @@ fn entry<'a>(span: &LocatedSpan<'a>) -> LineAnnotation<'a>
 }
 
 /// Whether a span stands on one line, and is of a kind that is marked.
-fn is_short(span: &LocatedSpan<'_>) -> bool
+pub(crate) fn is_short(span: &LocatedSpan<'_>) -> bool
     ensures value { result ≡ is_short_span span.now }
 {
     is_marking(span.annotation.kind) && span.last == span.first

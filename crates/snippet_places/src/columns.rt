@@ -34,10 +34,11 @@ pub struct Position {
 
 /// The span of a source from one place to another, in bytes, as annotations and patches take it.
 ///
-/// Of a place that the source doesn't hold it is told, by `clamped`, and what comes closest is taken: the source's
-/// start or end where there is no such line, the end of the line's text where there is no such column, the start of a
-/// character that the column lies inside of. A span that would end before its start is empty. The other way round is
-/// `SourceMap::span_to_locations`.
+/// A place is the byte before which the line's text has one unit less than its column says; characters that count none
+/// belong to what stands before them. Of a place that the source doesn't hold it is told, by `clamped`, and what comes
+/// closest is taken: the source's start or end where there is no such line, the end of the line's text where there is
+/// no such column, the start of a character that the column lies inside of. A span that would end before its start is
+/// empty. The other way round is `SourceMap::span_to_locations`.
 ///
 /// ```
 /// let from = Position { line: 2, column: 5 };

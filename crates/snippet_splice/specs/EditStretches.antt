@@ -157,7 +157,7 @@ replaced_on k line (x ∷ xs) =
     let first = capped (line + x.feeds) in
     taken_on k first x.before x.start x.end (slice_split is_lf x.under) ++ replaced_on k (capped (first + count_by is_lf x.under)) xs
 
--- those of line k after the first that is shown, which the edits replace
+-- the stretches of line k after the first source line that is shown, which the edits replace
 unfoldable pub replaced_stretches : Bool → List ℕ → List Edit → ℕ → List SubstitutionHighlight
 replaced_stretches fold source es k =
     let from = shown_start fold source (first_start (in_order es)) in

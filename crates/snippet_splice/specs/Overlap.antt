@@ -41,5 +41,6 @@ first_overlap_from n [] = None
 first_overlap_from n (e ∷ es) =
     option_or (option_map (λ k. (n, k)) (position_from (overlap e) (n + 1) es)) (first_overlap_from (n + 1) es)
 
+-- the pair of edits that overlap which is named, by their numbers, if any two do
 unfoldable pub first_overlap : List Edit → Option (ℕ × ℕ)
 first_overlap es = first_overlap_from 0 es

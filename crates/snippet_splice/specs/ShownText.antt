@@ -29,11 +29,12 @@ shown_start fold source first =
 abbrev pub shown_rest : Bool → Bool → List ℕ → List ℕ
 shown_rest fold closed rest = if fold then (if closed then [] else text_at (source_lines rest) 0) else rest
 
--- a text without the LF that end it
+-- a byte in front of a text, but nothing where it is a line feed and the text is empty
 abbrev pub unless_lone_line_feed : ℕ → List ℕ → List ℕ
 unless_lone_line_feed b [] = if is_lf b then [] else b ∷ []
 unless_lone_line_feed b (c ∷ cs) = b ∷ c ∷ cs
 
+-- a text without the LF that end it
 abbrev pub without_final_line_feeds : List ℕ → List ℕ
 without_final_line_feeds [] = []
 without_final_line_feeds (b ∷ bs) = unless_lone_line_feed b (without_final_line_feeds bs)

@@ -20,7 +20,7 @@ stands_from source at now (e ∷ es) =
     let from = now + length (slice_range source at e.start) in
     record { from = from; to = from + length e.text } ∷ stands_from source e.end (from + length e.text) es
 
--- the same, from the start of the source on
+-- where the texts of these edits stand in the patched source
 abbrev pub stands : List ℕ → List Edit → List Stand
 stands source es = stands_from source 0 0 es
 
@@ -88,7 +88,7 @@ pub record IsTouched (source : List ℕ) (es : List Edit) (k : ℕ) : Type 0 whe
 abbrev pub lines_of_stand : List ℕ → Stand → LineRange
 lines_of_stand text s = record { first = count_by is_lf (take s.from text); last = count_by is_lf (take s.to text) }
 
--- these lines of the patched source for each trimmed text
+-- for each trimmed text the lines of the patched source from the one on which it begins to the one on which it ends
 abbrev pub line_ranges : List ℕ → List Edit → List LineRange
 line_ranges source es = map (lines_of_stand (patched source es)) (stands source (trimmed_edits source es))
 

@@ -12,6 +12,9 @@ use std::cmp::Ordering;
 use std::ops::Range;
 
 /// A patch trimmed to what it changes.
+///
+/// Trimmed or not, patches give the same source. One with an empty replacement, one that reaches past the source's end,
+/// and one that doesn't keep the original stay as they are.
 #[derive(Clone, Debug, Drop)]
 pub struct TrimmedPatch<'a> {
     /// The bytes of the source that the patch replaces, as it was given.

@@ -32,6 +32,11 @@ pub struct LineRange {
 }
 
 /// The part of a source that is shown with patches applied.
+///
+/// If the source holds no carriage return, and no trimmed patch starts after a final line feed, the text is a part of
+/// the patched source, which is the bytes between the patches and their replacements, joined. Each line that a patch
+/// touches, and that isn't empty, is then one of its lines. Of `a`, LF, `bc` with `x` put in at 0 and `b` deleted it is
+/// `xa`, LF, `c`. In any source a byte inside a line end, or after a final one, counts as one before it.
 #[derive(Debug, Drop)]
 pub struct SplicedLines<'a> {
     /// Its text, without the line feeds that end it.
@@ -40,9 +45,12 @@ pub struct SplicedLines<'a> {
     pub patches: Vec<TrimmedPatch<'a>>,
     /// For each of them the lines of the text on which its replacement stands, counted from 0.
     pub ranges: Vec<LineRange>,
-    /// By lines of the text the stretches that the replacements write anew.
+    /// By lines of the text the stretches that the replacements write anew, in the order of the patches: a replacement
+    /// is cut at its line feeds, and begins at the character at which its patch starts, as far after the one before it
+    /// on that line as in the source.
     pub highlights: Vec<Vec<SubstitutionHighlight>>,
-    /// By lines of the source, from the first that is shown on, the stretches that are replaced.
+    /// By lines of the source, from the first that is shown on, the stretches that are replaced, in the order of the
+    /// patches: each ends at the end of its line's text or where its patch ends.
     pub replaced_highlights: Vec<Vec<SubstitutionHighlight>>,
 }
 

@@ -11,8 +11,9 @@ use Rattle.std.proofs.lemmas.Bool.{cases_lt}
 use Rattle.snippet_style.proofs.CellLemmas.{length-written}
 use Rattle.snippet_grid.proofs.GridLemmas.{cells_written_below, cells_written_last}
 use Rattle.snippet_grid.specs.Grid.{cells_written, row_at}
-use Rattle.snippet_strokes.specs.CellRows.{cell_of, cells_of}
-use Rattle.snippet_strokes.specs.declared.cell_rows.StyledChar.{StyledChar}
+use Rattle.snippet_grid.specs.StyledChars.{cell_of}
+use Rattle.snippet_strokes.specs.CellRows.{cells_of}
+use Rattle.snippet_grid.specs.declared.styled_char.StyledChar.{StyledChar}
 use Rattle.snippet_style.specs.Cell.{Cell, SPACE, text_cells, unlinked_cell, written}
 use Rattle.snippet_style.specs.declared.role.ElementStyle.{ElementStyle}
 

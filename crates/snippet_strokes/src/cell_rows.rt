@@ -12,37 +12,25 @@ ghost use Rattle.std.specs.Prelude.{◌++◌, ◌∷◌, [], All, List, IfOk, On
 ghost use Rattle.std.specs.Prelude.{chars, drop, replicate, string_bytes, true};
 ghost use Rattle.std.specs.List.{slice_index_or};
 ghost use Rattle.snippet_grid.specs.Grid.{cells_written};
-ghost use Rattle.snippet_strokes.specs.CellRows.{cell_of, cells_of};
+ghost use Rattle.snippet_grid.specs.StyledChars.{cell_of};
+ghost use Rattle.snippet_strokes.specs.CellRows.{cells_of};
 ghost use Rattle.snippet_strokes.specs.Writes.{painted, stretch_of};
-ghost use Rattle.snippet_strokes.specs.declared.cell_rows.StyledChar.{StyledChar};
+ghost use Rattle.snippet_grid.specs.declared.styled_char.StyledChar.{StyledChar};
 ghost use Rattle.snippet_style.specs.Bounds.{AreRows, HasNext, IsRowNumber, IsUsize};
 ghost use Rattle.snippet_style.specs.Cell.{SPACE, text_cells, written};
 
 use crate::canvas::Canvas;
-use snippet_grid::StyledBuffer;
+use snippet_grid::{StyledBuffer, StyledChar};
 use snippet_style::ElementStyle;
 use std::alloc::{AllocError, Global};
 use std::marker::Model;
 use std::ops::Range;
 
-/// A character in a role.
-#[derive(Clone, Copy)]
-pub(crate) struct StyledChar {
-    ch: char,
-    role: ElementStyle,
-}
-
-impl StyledChar {
-    /// Whether it is a space of no role, as a row is filled up with.
-    fn is_blank(&self) -> bool
-        ensures value { IsTrue result ↔ (cell_of self.now ≡ SPACE) }
-    {
-        self.ch == ' ' && matches!(self.role, ElementStyle::NoStyle)
-    }
-}
-
 /// The most rows that there may be.
 const MAX_ROWS: usize = (1 << 60) - 1;
+
+/// How many cells a row has room for at first. A longer one grows from there.
+const ROW_ROOM: usize = 64;
 
 /// What a row is filled up with.
 const BLANK: StyledChar = StyledChar {
@@ -93,7 +81,8 @@ impl CellRows {
             return Err(AllocError);
         }
         for _ in self.rows.len()..row + 1 {
-            self.rows.push(Vec::new(self.alloc))?;
+            let fresh = Vec::with_capacity(self.alloc, ROW_ROOM)?;
+            self.rows.push(fresh)?;
         }
         Ok(())
     }
@@ -161,6 +150,7 @@ impl Canvas for CellRows {
 }
 
 /// Fills a row up with blanks to this cell, unless it is longer.
+#[inline(never)]
 fn fill_up(cells: &mut Vec<StyledChar>, at: usize) -> Result<(), AllocError>
     ensures filled { OnOk result (map cell_of cells.new.items ≡ written SPACE (map cell_of cells.old.items) at []) }
 {
@@ -171,6 +161,7 @@ fn fill_up(cells: &mut Vec<StyledChar>, at: usize) -> Result<(), AllocError>
 }
 
 /// Writes a character in a role into a row at this cell.
+#[inline(always)]
 fn write_char(cells: &mut Vec<StyledChar>, at: usize, new: StyledChar) -> Result<(), AllocError>
     ensures written { OnOk result
         (map cell_of cells.new.items ≡ written SPACE (map cell_of cells.old.items) at (cell_of new ∷ [])) }
@@ -228,20 +219,14 @@ fn append_rows(buffer: &mut StyledBuffer, rows: &[Vec<StyledChar>]) -> Result<()
     ensures added { OnOk result (buffer.new ≡ buffer.old ++ map cells_of rows.now) }
     ensures small { OnOk result (0 < length rows.now → AreRows (length buffer.new)) }
 {
-    let mut text = String::new(buffer.allocator());
     for row in rows {
-        append_row(buffer, &mut text, row)?;
+        append_row(buffer, row)?;
     }
     Ok(())
 }
 
-/// Adds a row to a grid, below all that stands in it, with a text for what is written. What this holds before, and
-/// afterwards, means nothing.
-fn append_row(
-    buffer: &mut StyledBuffer,
-    text: &mut String,
-    cells: &[StyledChar],
-) -> Result<(), AllocError>
+/// Adds a row to a grid, below all that stands in it.
+fn append_row(buffer: &mut StyledBuffer, cells: &[StyledChar]) -> Result<(), AllocError>
     requires some { 0 < length cells.now }
     ensures added { OnOk result (buffer.new ≡ buffer.old ++ map cell_of cells.now ∷ []) }
     ensures small { IsRowNumber (length buffer.old) }
@@ -252,15 +237,47 @@ fn append_row(
         let to = stretch_end(cells, from);
         // Blanks between what is written need no word.
         if !cells[from].is_blank() || to == cells.len() {
-            write_part(buffer, text, row, from, &cells[from..to])?;
+            write_part(buffer, row, from, &cells[from..to])?;
         }
         from = to;
     }
     Ok(())
 }
 
-/// Where the cells end that have the role of this one, and are blank if it is, from this one on.
+/// Where the cells end that have the role of this one, and are blank if it is, from this one on. Most cells are blank.
 fn stretch_end(cells: &[StyledChar], from: usize) -> usize
+    requires some { from < length cells.now }
+    ensures more { from < result }
+    ensures within { result ≤ length cells.now }
+    ensures role { (k : ℕ) (d : StyledChar) → from ≤ k → k < result
+        → (slice_index_or cells.now k d).role ≡ (slice_index_or cells.now from d).role }
+    ensures blank { (k : ℕ) (d : StyledChar) → from ≤ k → k < result
+        → cell_of (slice_index_or cells.now from d) ≡ SPACE → cell_of (slice_index_or cells.now k d) ≡ SPACE }
+{
+    if cells[from].is_blank() {
+        return blank_end(cells, from);
+    }
+    alike_end(cells, from)
+}
+
+/// Where the blank cells end, from this one on.
+#[inline(always)]
+fn blank_end(cells: &[StyledChar], from: usize) -> usize
+    requires some { from < length cells.now }
+    requires blank { (d : StyledChar) → cell_of (slice_index_or cells.now from d) ≡ SPACE }
+    ensures more { from < result }
+    ensures within { result ≤ length cells.now }
+    ensures blank { (k : ℕ) (d : StyledChar) → from ≤ k → k < result → cell_of (slice_index_or cells.now k d) ≡ SPACE }
+{
+    let mut to = from + 1;
+    while to < cells.len() && cells[to].is_blank() {
+        to += 1;
+    }
+    to
+}
+
+/// The same, found by comparing each cell with the first.
+fn alike_end(cells: &[StyledChar], from: usize) -> usize
     requires some { from < length cells.now }
     ensures more { from < result }
     ensures within { result ≤ length cells.now }
@@ -278,6 +295,7 @@ fn stretch_end(cells: &[StyledChar], from: usize) -> usize
 }
 
 /// Whether a character has another one's role, and is blank if that is.
+#[inline(always)]
 fn goes_on(first: &StyledChar, next: &StyledChar) -> bool
     ensures role { result ≡ true → next.now.role ≡ first.now.role }
     ensures blank { result ≡ true → cell_of first.now ≡ SPACE → cell_of next.now ≡ SPACE }
@@ -288,7 +306,6 @@ fn goes_on(first: &StyledChar, next: &StyledChar) -> bool
 /// Writes characters in one role into a row of a grid from a cell on.
 fn write_part(
     buffer: &mut StyledBuffer,
-    text: &mut String,
     row: usize,
     cell: usize,
     part: &[StyledChar],
@@ -300,21 +317,5 @@ fn write_part(
         → (slice_index_or part.now k d).role ≡ (slice_index_or part.now 0 d).role }
     ensures written { OnOk result (buffer.new ≡ cells_written buffer.old row cell (map cell_of part.now)) }
 {
-    let first = part[0];
-    if part.len() == 1 {
-        return buffer.putc(row, cell, first.ch, first.role);
-    }
-    spell(text, part)?;
-    buffer.puts(row, cell, text.as_str(), first.role)
-}
-
-/// Puts characters into a text, in place of what it holds.
-fn spell(text: &mut String, part: &[StyledChar]) -> Result<(), AllocError>
-    ensures spelt { OnOk result (chars (string_bytes text.new) ≡ map (λ c. c.ch) part.now) }
-{
-    text.clear();
-    for styled in part {
-        text.push(styled.ch)?;
-    }
-    Ok(())
+    buffer.put_part(row, cell, part, part[0].role)
 }

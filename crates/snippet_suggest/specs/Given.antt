@@ -31,10 +31,11 @@ edits_of s = map (λ (p : Patch). record { start = p.span.start; end = p.span.en
 abbrev pub trimmed_of : Snippet Patch → List Edit
 trimmed_of s = map (trimmed_edit (cow_str_bytes s.source.text)) (in_order (edits_of s))
 
--- the text that is shown of the patched source, and its lines
+-- the text that is shown of the patched source
 abbrev pub given_text : Snippet Patch → List ℕ
 given_text s = shown_text s.fold (cow_str_bytes s.source.text) (edits_of s)
 
+-- the lines of the text that is shown of the patched source
 abbrev pub given_lines : Snippet Patch → List (List ℕ)
 given_lines s = map (λ l. l.0) (lines_of (given_text s))
 
@@ -102,8 +103,8 @@ emptied_lines s =
     let source = cow_str_bytes s.source.text in
     if s.fold then lines_touched source (first_start (in_order (edits_of s))) (first_end (in_order (edits_of s))) else lines_touched source 0 (length source)
 
--- those that are removed where one line stands in their place: from the one on which the first trimmed patch starts to the one on
--- which the last ends, without this if it is the same as the line in their place; but none if no patch touches that
+-- the lines that are removed where one line stands in their place: from the one on which the first trimmed patch starts to the one on which
+-- the last ends, without this if it is the same as the line in their place; but none if no patch touches that
 abbrev pub replaced_lines : Snippet Patch → List ℕ
 replaced_lines s =
     let lines = lines_touched (cow_str_bytes s.source.text) (first_start (trimmed_of s)) (fold (λ before e. e.end) 0 (trimmed_of s)) in

@@ -51,6 +51,7 @@ inner_width c text = if is_blank_text text then c.width else text_width (trim te
 abbrev pub mark_start : List PatchColumns → PatchColumns → List ℕ → ℕ
 mark_start earlier c text = moved c.start earlier (capped (c.start + lead_of text))
 
+-- the column before which the marks of an edit end, below its text in the line as it will be
 abbrev pub patch_mark_end : List PatchColumns → PatchColumns → List ℕ → ℕ
 patch_mark_end earlier c text = moved c.start earlier (capped (capped (c.start + lead_of text) + inner_width c text))
 

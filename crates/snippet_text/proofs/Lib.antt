@@ -2,3 +2,4 @@ pub mod NormLemmas
 pub mod PlainLemmas
 pub mod WidthBounds
 pub mod WidthLemmas
+pub mod WidthRanges

@@ -1,3 +1,4 @@
+//! How long a text may be.
 ghost use Rattle.std.specs.Prelude.{◌↔◌, IsTrue};
 ghost use Rattle.snippet_text.specs.TextBounds.{TextFits};
 

@@ -1,3 +1,4 @@
+//! Which addresses may be links, whoever wrote them.
 ghost use Rattle.std.specs.Prelude.{◌≡◌, map};
 ghost use Rattle.std.specs.Char.{to_ascii_lowercase};
 ghost use Rattle.snippet_text.specs.LinkAddress as spec;

@@ -1,3 +1,4 @@
+//! Which characters are listed, and what is shown in place of each.
 ghost use Rattle.std.specs.Prelude.{◌≡◌, ◌∷◌, false, chars, encode_utf8_all, IfOk, string_bytes, ◌++◌, OnOk};
 ghost use Rattle.std.specs.List.{list_any};
 ghost use Rattle.std.specs.Cow.{cow_str_bytes};
@@ -52,7 +53,8 @@ fn push_shown(out: &mut String, c: char) -> Result<(), AllocError>
 /// A text without listed characters: each is replaced by what is shown in its place, all others are kept.
 ///
 /// A tab becomes four spaces, a control character its control picture (U+2400 and above), a bidirectional control
-/// U+FFFD, and a zero width joiner nothing. The text keeps its width. The one error is that memory ran out.
+/// U+FFFD, and a zero width joiner nothing. The text keeps its width, and normalising it again changes nothing. The one
+/// error is that memory ran out.
 ///
 /// ```text
 /// a, a tab, b, U+001B, [1m     becomes     a    b␛[1m

@@ -1,3 +1,4 @@
+//! Which texts are one line.
 ghost use Rattle.std.specs.Prelude.{◌↔◌, IsTrue};
 ghost use Rattle.snippet_text.specs.OneLine.{IsOneLine};
 

@@ -1,4 +1,5 @@
-ghost use Rattle.std.specs.Prelude.{◌≡◌, ◌≤◌, ◌*◌, length, chars};
+//! How many columns characters and texts take.
+ghost use Rattle.std.specs.Prelude.{◌≡◌, ◌≤◌, ◌*◌, IfSome, length, chars};
 ghost use Rattle.snippet_text.specs.Width as spec;
 ghost use Rattle.snippet_text.specs.TextBounds.{TextFits};
 
@@ -16,6 +17,36 @@ pub fn char_width(c: char) -> usize
     if matches!(c, ' '..='~') {
         return 1;
     }
+    match common_width(c) {
+        Some(width) => width,
+        None => other_width(c),
+    }
+}
+
+/// The width of a character of a block whose characters are all of one width, as most that aren't ASCII: letters with
+/// accents, Greek and Cyrillic, combining marks, kana, ideographs, Hangul, emoji.
+#[inline(always)]
+fn common_width(c: char) -> Option<usize>
+    ensures value { IfSome result (λ width. width ≡ spec.char_width c) }
+    ensures bound { IfSome result (λ width. width ≤ 4) }
+{
+    match c {
+        '\u{ae}'..='\u{2ff}' | '\u{370}'..='\u{482}' => Some(1),
+        '\u{300}'..='\u{337}' | '\u{339}'..='\u{36f}' => Some(0),
+        '\u{3041}'..='\u{3096}' | '\u{309b}'..='\u{30ff}' => Some(2),
+        '\u{3250}'..='\u{a48c}' | '\u{ac00}'..='\u{d7a3}' => Some(2),
+        '\u{ff01}'..='\u{ff60}' => Some(2),
+        '\u{1f442}'..='\u{1f4fc}' | '\u{1f5fb}'..='\u{1f64f}' => Some(2),
+        _ => None,
+    }
+}
+
+/// The width of any character but printable ASCII.
+#[tactic(auto, unfolding(crate::specs::Width::char_width, unicode_width::specs::Width::char_width))]
+fn other_width(c: char) -> usize
+    ensures value { result ≡ spec.char_width c }
+    ensures bound { result ≤ 4 }
+{
     match c {
         '\t' => 4,
         '\u{200d}' => 0,

@@ -49,11 +49,12 @@ is_labelled a = nat_lt 0 (length (label_characters a))
 abbrev pub after_place : List ℕ → List ℕ
 after_place label = if nat_lt 0 (length label) then codes ": " ++ label else []
 
--- whether nothing but whitespace stands before so many characters of a line, and after so many, where it has as many
+-- whether nothing but whitespace stands before so many characters of a line
 abbrev pub is_blank_before : Option (List ℕ) → ℕ → Bool
 is_blank_before None count = false
 is_blank_before (Some line) count = list_all is_whitespace (take count (chars line))
 
+-- whether a line has so many characters, and nothing but whitespace after them
 abbrev pub is_blank_after : Option (List ℕ) → ℕ → Bool
 is_blank_after None count = false
 is_blank_after (Some line) count =
@@ -68,7 +69,7 @@ abbrev pub end_in_file : Bool → Loc → Loc → List ℕ
 end_in_file anonymized start end =
     if start.line == end.line then [] else codes " to " ++ line_name anonymized end.line ++ codes ":" ++ decimal (end.char + 1)
 
--- the same after a place that is named without a path; the column is left out where the line ends there
+-- the end of a span after a place that is named without a path; the column is left out where the line ends there
 abbrev pub end_on_line : Bool → Source → Loc → Loc → List ℕ
 end_on_line anonymized source start end =
     if start.line == end.line then [] else to_line anonymized end.line (column_unless (is_blank_after (line_at source end.line) end.char) end)
@@ -81,12 +82,13 @@ span_place anonymized source None start end =
 span_place anonymized source (Some path) start end =
     place_in_file anonymized path (Some start.line) (Some (start.char + 1)) ++ end_in_file anonymized start end
 
--- an annotation, on a line of its own: after an indent the place of its span, and its label
+-- the line of an annotation: after an indent the place of its span, and its label
 abbrev pub span_text : Bool → Source → List ℕ → Option (List ℕ) → Annotation → List ℕ
 span_text anonymized source indent path a =
     let at = locations_of source a.span.start a.span.end in
     indent ++ span_place anonymized source path at.0 at.1 ++ after_place (label_characters a)
 
+-- an annotation in the text form, on a line of its own
 abbrev pub span_form : Bool → Source → List ℕ → Option (List ℕ) → Annotation → List FormPiece
 span_form anonymized source indent path a = Break ∷ bare (span_text anonymized source indent path a)
 

@@ -54,6 +54,7 @@ id_text_form hidden role address None = []
 id_text_form hidden role address (Some text) =
     bare (before_id hidden) ++ linking role address (norm (chars text))
 
+-- an id in the text form, with what stands before it; nothing where there is none
 abbrev pub id_form : Bool → Bool → ElementStyle → Option Id → List FormPiece
 id_form hyperlink hidden role None = []
 id_form hyperlink hidden role (Some id) =

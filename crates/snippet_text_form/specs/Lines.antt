@@ -46,6 +46,7 @@ span_lines anonymized source path [] = (codes " " ++ place anonymized path sourc
 span_lines anonymized source path (a ∷ others) =
     span_text anonymized source (codes " ") path a ∷ map (span_text anonymized source (further_indent path) None) (filter is_labelled others)
 
+-- the paragraphs of an annotated snippet in the text form: one for each of its lines
 abbrev pub cause_paragraphs : Bool → Snippet Annotation → List (List (List ℕ))
 cause_paragraphs anonymized s =
     map line_paragraph (span_lines anonymized (numbered_source s) (option_map cow_str_bytes s.path) (named_spans s.markers.items))

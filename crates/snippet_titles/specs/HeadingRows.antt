@@ -35,10 +35,11 @@ abbrev pub linked_to : Option (List ℕ) → List Cell → List Cell
 linked_to None cells = cells
 linked_to (Some url) cells = map (linked url) cells
 
--- the brackets around an id's text, which stand where the level's name isn't hidden
+-- the bracket before an id's text, which stands where the level's name isn't hidden
 abbrev pub opening_bracket_of : Bool → List ℕ
 opening_bracket_of hidden = if hidden then [] else codes "["
 
+-- the bracket after an id's text, which stands where the level's name isn't hidden
 abbrev pub closing_bracket_of : Bool → List ℕ
 closing_bracket_of hidden = if hidden then [] else codes "]"
 
@@ -70,7 +71,7 @@ label_cells hyperlink roles heading =
     text_cells roles.label (norm (chars (name_of heading.level))) ++ id_cells hyperlink hidden roles.label heading.id
     ++ text_cells roles.colon (colon_of hidden heading.id)
 
--- its characters: those of an id, and of all of it
+-- an id's characters between its brackets; none where it has no text
 abbrev pub bracketed_text : Bool → Option (List ℕ) → List ℕ
 bracketed_text hidden None = []
 bracketed_text hidden (Some text) = opening_bracket_of hidden ++ norm (chars text) ++ closing_bracket_of hidden

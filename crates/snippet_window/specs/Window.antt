@@ -29,28 +29,31 @@ abbrev pub fitting : ℕ → List ℕ → ℕ
 fitting columns [] = 0
 fitting columns (c ∷ cs) = if nat_le (char_width c) columns then fitting (columns - char_width c) cs + 1 else 0
 
--- where the window of a text begins, and where it ends, in columns, in a room of so many: at these bounds, but a text
--- that fits after its beginning isn't cut at the right
+-- the column at which the window of a text begins: the left bound, or the end of a shorter text
 abbrev pub window_left : ℕ → List ℕ → ℕ
 window_left left text = min left (width_of text)
 
+-- the column at which the window of a text ends, in a room of so many: the right bound, but a text that fits after its beginning isn't cut
+-- at the right
 abbrev pub window_right : ℕ → ℕ → ℕ → List ℕ → ℕ
 window_right room left right text = if nat_le (width_of text - window_left left text) room then width_of text else min (width_of text) right
 
--- the characters left of the window, and those in it
+-- the characters left of the window
 abbrev pub dropped_part : ℕ → List ℕ → List ℕ
 dropped_part left text = take (reaching (window_left left text) text) text
 
+-- the characters in the window
 abbrev pub inner_part : ℕ → ℕ → ℕ → List ℕ → List ℕ
 inner_part room left right text =
     let rest = drop (reaching (window_left left text) text) text in
     take (fitting (window_right room left right text - window_left left text) rest) rest
 
--- where lines are cut on the left, the first characters in the window, as many as reach the width of the placeholder, give
--- their place to it: these are the columns that they take, and the characters after them
+-- where lines are cut on the left, the columns of the first characters in the window that give their place to the placeholder: as many as
+-- reach its width
 abbrev pub covered_columns : ℕ → List ℕ → List ℕ → Option ℕ
 covered_columns left placeholder inner = if left == 0 then None else Some (width_of (take (reaching (width_of placeholder) inner) inner))
 
+-- the characters in the window after those that give their place to the placeholder on the left
 abbrev pub uncovered_part : ℕ → List ℕ → List ℕ → List ℕ
 uncovered_part left placeholder inner = if left == 0 then inner else drop (reaching (width_of placeholder) inner) inner
 

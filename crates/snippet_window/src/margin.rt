@@ -27,7 +27,8 @@ impl Margin {
     ///
     /// `whitespace_left` is the width of the whitespace that all lines begin with, `span_left` and `span_right` are the
     /// least and the greatest column of its spans, `label_right` is the column after its labels, and `max_line_len` the
-    /// width of its widest line.
+    /// width of its widest line. The left bound is never past the right one where `span_left` isn't past `span_right`;
+    /// where it is above 0, it is at least six columns left of the spans.
     pub fn new(
         whitespace_left: usize,
         span_left: usize,

@@ -18,7 +18,8 @@ use Rattle.snippet_wrap.specs.Wrapped.{wrapped}
 abbrev pub room_of_title : ℕ → Title → ℕ
 room_of_title term_width title = term_width - label_width (heading_of_title title)
 
--- the same of a message, which begins after a gutter of so many cells and three more: those of the sign, with a space on either side
+-- the room of the text of a message, which begins after a gutter of so many cells and three more: those of the sign, with a space on either
+-- side
 abbrev pub room_of_message : ℕ → ℕ → Message → ℕ
 room_of_message term_width gutter message = term_width - (gutter + 3 + label_width (heading_of_message message))
 

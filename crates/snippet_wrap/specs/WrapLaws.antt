@@ -16,7 +16,7 @@ is_inside c = not (is_gap c)
 abbrev pub words_of : List ℕ → List (List ℕ)
 words_of cs = slice_split is_gap cs
 
--- its lines
+-- the lines of a text, cut at its line feeds
 abbrev pub lines_in : List ℕ → List (List ℕ)
 lines_in cs = slice_split (λ c. c == 10) cs
 

@@ -41,8 +41,8 @@ abbrev pub row_texts_of_title : Title → List (List ℕ)
 row_texts_of_title title =
     name_of title.level ∷ flat_map (λ (id : Id). option_to_list (option_map cow_str_bytes id.id)) (option_to_list title.id)
 
--- those of an element: the name of a message's level, a path, and the labels of a snippet's spans. Where a message's text, a source, or
--- what a patch puts into one has several lines, each that is shown has a row
+-- the texts of an element that may stand on one line only: the name of a message's level, a path, and the labels of a snippet's spans.
+-- Where a message's text, a source, or what a patch puts into one has several lines, each that is shown has a row
 abbrev pub row_texts_of_element : Element → List (List ℕ)
 row_texts_of_element (element.Message message) = name_of message.level ∷ []
 row_texts_of_element (element.Cause snippet) =

@@ -38,6 +38,6 @@ abbrev pub group_paragraphs : Renderer → List Group → Group → List (List (
 group_paragraphs r groups g =
     title_paragraphs g.title ++ elements_paragraphs r (file_of_group groups g) None (drawn_elements g)
 
--- those of a report
+-- the paragraphs of a report in the text form
 abbrev pub report_paragraphs : Renderer → List Group → List (List (List ℕ))
 report_paragraphs r groups = flat_map (group_paragraphs r groups) groups

@@ -1,6 +1,6 @@
 //! The parts that reports are drawn with, public so that their contracts can be read.
 
-pub use snippet_grid::{SheetCodes, StyledBuffer};
+pub use snippet_grid::{SheetCodes, StyledBuffer, StyledChar};
 pub use snippet_lines::{CursorLines, EndLine, Loc, SpanFault, check_span, newline_count};
 pub use snippet_parts::{
     AnnotatedLineInfo, Label, LineAnnotation, LineAnnotationType, LineInfo, SourceMap,

@@ -55,6 +55,7 @@ fn first_fault(groups: &[Group]) -> Option<RenderError>
 }
 
 /// The first fault of a group's elements.
+#[inline(always)]
 fn first_of_elements(group: usize, elements: &[Element]) -> Option<RenderError>
     ensures value { result ≡ first_of (faults_from (element_faults group) 0 elements.now) }
 {
@@ -67,6 +68,7 @@ fn first_of_elements(group: usize, elements: &[Element]) -> Option<RenderError>
 }
 
 /// The first fault of an element: of its spans, then of patches that overlap, then of its line numbers.
+#[inline(always)]
 fn first_of_element(group: usize, number: usize, element: &Element) -> Option<RenderError>
     ensures value { result ≡ first_of (element_faults group number element.now) }
 {
@@ -78,6 +80,7 @@ fn first_of_element(group: usize, number: usize, element: &Element) -> Option<Re
 }
 
 /// The first fault of an annotated snippet.
+#[inline(always)]
 fn first_of_cause(
     group: usize,
     element: usize,
@@ -117,6 +120,7 @@ fn first_of_suggestion(
 }
 
 /// The fault that the number after that of a source's last line doesn't fit.
+#[inline(always)]
 fn end_fault(
     group: usize,
     element: usize,
@@ -181,6 +185,7 @@ fn missing_number(group: usize, element: usize, end: Option<usize>) -> Option<Re
 }
 
 /// The first fault of the spans of some markers.
+#[inline(always)]
 fn first_of_spans<T: Marker>(
     group: usize,
     element: usize,

@@ -1,65 +1,13 @@
-use Rattle.std.proofs.Common.{◌≡◌, ◌+◌, ◌<◌, ◌||◌, ℕ, [], eqb, length, map, not, refl, ap, sym, subst, ◌∙◌, arith}
-use Rattle.std.specs.List.{All, AllPairs, filter, list_any}
-use Rattle.std.specs.List.Sorted.{IsNonDecreasingBy}
-use Rattle.std.proofs.lemmas.List.{length-map}
-use Rattle.snippet_lines.specs.Lines.{source_lines}
-use Rattle.snippet_parts.specs.declared.entries.LineAnnotation.{LineAnnotation}
-use Rattle.snippet_parts.specs.Annotated.{kept_line, seen_kept}
-use Rattle.snippet_parts.specs.Kept.{keeps}
-use Rattle.snippet_parts.specs.KeptEntries.{line_with}
-use Rattle.snippet_parts.specs.LineStretches.{is_seen}
+use Rattle.std.proofs.Common.{Bool, ap, sym, ◌∙◌}
+use Rattle.std.proofs.lemmas.Result.{IfOk-weaker}
+use Rattle.snippet_parts.specs.Annotated.{annotated_lines}
 use Rattle.snippet_parts.specs.Located.{annotations_of}
-use Rattle.snippet_parts.specs.declared.located.LocatedSpan.{LocatedSpan}
-use Rattle.snippet_parts.proofs.KeptEntryLemmas.{kept-rise, lines_same, whole_again}
-use Rattle.snippet_parts.proofs.KeptLemmas.{among-kept, kept-ascend}
-use Rattle.snippet_parts.proofs.PartLemmas.{list_any-map}
-use Rattle.snippet_parts.proofs.ShownLemmas.{same-kept}
 use Rattle.snippet_parts.proofs.annotated_lines.located_lines.Goals as goal
 
-pub bare_lines-requires : goal.bare_lines-requires
-bare_lines-requires c = record {
-  within = subst (All (λ k. k < length (source_lines c.args.source.now.text))) (sym c.deref.ensures.value) c.in_ok-kept.ensures.within;
-  ascending = subst (IsNonDecreasingBy (λ (k : ℕ). k)) (sym (c.deref-2.ensures.value ∙ c.in_ok-seen.ensures.value))
-      (kept-ascend (λ j. list_any (λ (x : LocatedSpan). is_seen c.args.source.now.text j x.annotation.now) c.args.located.now)
-      (length (source_lines c.args.source.now.text)));
-}
-
-pub add_entries-requires : goal.add_entries-requires
-add_entries-requires c =
-    let s = c.args.source.now in
+pub returns-in-Some : goal.returns-in-Some
+returns-in-Some c =
+    let folded = λ (fold : Bool). annotated_lines fold c.args.source.now (annotations_of c.args.located.now) in
     record {
-      ascending = subst (AllPairs (λ (a b : ℕ). a < b)) (sym (c.deref-3.ensures.value ∙ c.in_ok-kept.ensures.value))
-          (kept-rise (λ k. not c.args.fold || list_any (keeps s.text k) (annotations_of c.args.located.now)) (length (source_lines s.text)));
-      count = omega (
-        arith,
-        ap length c.deref_mut.ensures.value,
-        ap length c.in_ok-lines.ensures.value,
-        length-map c.in_ok-lines.lines.items seen_kept,
-        length-map c.deref.result.now (line_with s c.deref-2.result.now []),
-        ap length c.deref.ensures.value,
-        ap length c.deref-3.ensures.value,
-      );
+      deepest = c.one_line.ensures.deepest;
+      lines = IfOk-weaker c.one_line.result _ _ (λ drawn is. is ∙ sym (ap folded c.in-Some.ensures.folded)) c.one_line.ensures.lines;
     }
-
-pub returns-clause-lines : goal.returns-clause-lines
-returns-clause-lines c =
-    let s = c.args.source.now in
-    let marks = annotations_of c.args.located.now in
-    let seen = c.deref-2.result.now in
-    let n : ℕ = length (source_lines s.text) in
-    let made = c.deref-4.result.now in
-    let bare : map seen_kept c.deref_mut.result.now ≡ map (line_with s seen []) c.deref-3.result.now =
-    ap (map seen_kept) c.deref_mut.ensures.value ∙ c.in_ok-lines.ensures.value
-    ∙ ap (map (line_with s seen [])) (c.deref.ensures.value ∙ sym c.deref-3.ensures.value) in
-    let whole = whole_again c.in_ok-lines.lines.items c.add_entries.new.lines c.in_ok-lines.lines.len (omega (arith, c.in_ok-lines.lines.ok.0))
-    (c.in_ok-add_entries.ensures.count ∙ ap length c.deref_mut.ensures.value) in
-    ap (map seen_kept) whole ∙ c.in_ok-add_entries.ensures.added seen bare
-    ∙ ap (map (line_with s seen made)) c.deref-3.ensures.value
-    ∙ lines_same (line_with s seen made) (kept_line s marks) n c.in_ok-kept.kept.items c.in_ok-kept.ensures.within (λ k within.
-    same-kept _ _ _ _ _ _ _ _ refl refl
-    (ap (λ es. filter (λ (p : LineAnnotation). eqb p.start.line (s.first + k)) (es)) c.deref-4.ensures.value
-    ∙ ap (filter (λ (p : LineAnnotation). eqb p.start.line (s.first + k))) c.in_ok-greatest.ensures.value)
-    (ap (list_any (λ j. eqb j k)) (c.deref-2.ensures.value ∙ c.in_ok-seen.ensures.value)
-    ∙ among-kept (λ j. list_any (λ (x : LocatedSpan). is_seen s.text j x.annotation.now) c.args.located.now) n k within
-    ∙ sym (list_any-map (is_seen s.text k) (λ (x : LocatedSpan). x.annotation.now) c.args.located.now)))
-    ∙ ap (map (kept_line s marks)) c.in_ok-kept.ensures.value

@@ -4,8 +4,8 @@ use Rattle.snippet_grid.specs.Grid.{cells_written}
 use Rattle.snippet_style.proofs.CellLemmas.{length-written}
 use Rattle.snippet_style.specs.Cell.{Cell, SPACE, written}
 use Rattle.snippet_style.specs.declared.role.ElementStyle.TheVariants.{MainHeaderMsg}
-use Rattle.snippet_strokes.specs.CellRows.{cell_of}
-use Rattle.snippet_strokes.specs.declared.cell_rows.StyledChar.{StyledChar}
+use Rattle.snippet_grid.specs.StyledChars.{cell_of}
+use Rattle.snippet_grid.specs.declared.styled_char.StyledChar.{StyledChar}
 use Rattle.snippet_strokes.proofs.CellRowLemmas.{IsBegun, begun_all, begun_blank, begun_more, begun_none, with_row, with_row_written, with_some}
 use Rattle.snippet_strokes.proofs.cell_rows.append_row.Goals as goal
 

@@ -1,6 +1,6 @@
 -- The row is written up to this cell, but for blanks at its end.
 use Rattle.std.proofs.Common.{◌≡◌, ◌-◌, ◌≤◌, List, length, map}
-use Rattle.snippet_strokes.specs.CellRows.{cell_of}
+use Rattle.snippet_grid.specs.StyledChars.{cell_of}
 use Rattle.snippet_style.specs.Cell.{Cell}
 use Rattle.snippet_strokes.proofs.CellRowLemmas.{IsBegun, with_row}
 use Rattle.snippet_strokes.proofs.cell_rows.append_row.Given as goal

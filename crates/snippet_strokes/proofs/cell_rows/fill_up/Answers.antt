@@ -2,7 +2,7 @@ use Rattle.std.proofs.Common.{◌≡◌, ◌∙◌, ◌-◌, ◌++◌, ap, arith
 use Rattle.std.proofs.lemmas.List.{append-nil, take_all}
 use Rattle.std.specs.Vec.{vec_len}
 use Rattle.snippet_style.specs.declared.role.ElementStyle.TheVariants.{NoStyle}
-use Rattle.snippet_strokes.specs.declared.cell_rows.StyledChar.{StyledChar}
+use Rattle.snippet_grid.specs.declared.styled_char.StyledChar.{StyledChar}
 use Rattle.snippet_strokes.proofs.CellRowLemmas.{filled_up}
 use Rattle.snippet_strokes.proofs.cell_rows.fill_up.Goals as goal
 

@@ -1,31 +1,30 @@
-use Rattle.std.proofs.Common.{◌∙◌, ap, arith, inl, inr, refl}
+use Rattle.std.proofs.Common.{◌≡◌, ◌∙◌, ap, arith, refl, sym}
 use Rattle.std.specs.List.{slice_index_or}
-use Rattle.std.proofs.lemmas.Bool.{cases_eq}
 use Rattle.std.proofs.lemmas.List.{get_or_default}
+use Rattle.snippet_grid.specs.StyledChars.{cell_of}
+use Rattle.snippet_grid.specs.declared.styled_char.StyledChar.{StyledChar}
+use Rattle.snippet_style.specs.Cell.{Cell}
 use Rattle.snippet_style.specs.declared.role.ElementStyle.TheVariants.{MainHeaderMsg}
-use Rattle.snippet_strokes.specs.CellRows.{cell_of}
-use Rattle.snippet_strokes.specs.declared.cell_rows.StyledChar.{StyledChar}
 use Rattle.snippet_strokes.proofs.cell_rows.stretch_end.Goals as goal
 
 -- what the code reads past the last one, which it never does
 abbrev FIRST : StyledChar
 FIRST = record { ch = 0; role = MainHeaderMsg }
 
-pub loop-to-preserved : goal.loop-to-preserved
-loop-to-preserved c =
-    let cells = c.args.cells.now in
-    let so_far = c.loop-to.invariant in
+pub blank_end-requires : goal.blank_end-requires
+blank_end-requires c =
     record {
-      more = omega (arith, so_far.more);
-      within = omega (arith, c.loop-to-test.true);
-      role = λ k d low high. elim (cases_eq k c.loop-to.to) [
-        | inl here ↦ ap (λ (x : StyledChar). x.role) (ap (λ i. slice_index_or cells i d) here ∙ get_or_default cells c.loop-to.to d FIRST c.loop-to-test.true)
-            ∙ c.if-goes_on.ensures.role refl
-        | inr before ↦ so_far.role k d low (omega (arith, high, before))
-      ];
-      blank = λ k d low high blank. elim (cases_eq k c.loop-to.to) [
-        | inl here ↦ ap cell_of (ap (λ i. slice_index_or cells i d) here ∙ get_or_default cells c.loop-to.to d FIRST c.loop-to-test.true)
-            ∙ c.if-goes_on.ensures.blank refl blank
-        | inr before ↦ so_far.blank k d low (omega (arith, high, before)) blank
-      ];
+      some = c.requires.some;
+      blank = λ d. ap cell_of (get_or_default c.args.cells.now c.args.from d FIRST c.requires.some) ∙ c.if-is_blank.ensures.value.0 refl;
+    }
+
+pub returns-then-is_blank : goal.returns-then-is_blank
+returns-then-is_blank c =
+    let cells = c.args.cells.now in
+    let blank = c.blank_end.ensures.blank in
+    record {
+      more = c.blank_end.ensures.more;
+      within = c.blank_end.ensures.within;
+      role = λ k d low high. ap (λ (cell : Cell). cell.role) (blank k d low high ∙ sym (blank c.args.from d (omega arith) c.blank_end.ensures.more));
+      blank = λ k d low high is. blank k d low high;
     }

@@ -1,5 +1,5 @@
 use Rattle.std.proofs.Common.{◌∙◌, ap, arith, map}
-use Rattle.snippet_strokes.specs.CellRows.{cell_of}
+use Rattle.snippet_grid.specs.StyledChars.{cell_of}
 use Rattle.snippet_strokes.proofs.CellRowLemmas.{add_cell, set_cell}
 use Rattle.snippet_strokes.proofs.cell_rows.write_char.Goals as goal
 

@@ -1,6 +1,6 @@
 use Rattle.std.proofs.Common.{◌≡◌, ◌∙◌, ◌+◌, ◌-◌, ap, arith, length, map, replicate}
 use Rattle.std.proofs.lemmas.List.{length-replicate, replicate_more}
-use Rattle.snippet_strokes.specs.CellRows.{cell_of}
+use Rattle.snippet_grid.specs.StyledChars.{cell_of}
 use Rattle.snippet_style.specs.Cell.{SPACE, written}
 use Rattle.snippet_strokes.proofs.CellRowLemmas.{more_cells}
 use Rattle.snippet_strokes.proofs.cell_rows.write_stretch.Goals as goal

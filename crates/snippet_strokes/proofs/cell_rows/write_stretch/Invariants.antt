@@ -1,6 +1,6 @@
 -- The cells up to this one are written.
 use Rattle.std.proofs.Common.{◌≡◌, ◌-◌, map, replicate}
-use Rattle.snippet_strokes.specs.CellRows.{cell_of}
+use Rattle.snippet_grid.specs.StyledChars.{cell_of}
 use Rattle.snippet_style.specs.Cell.{SPACE, written}
 use Rattle.snippet_strokes.proofs.cell_rows.write_stretch.Given as goal
 

@@ -4,7 +4,7 @@ use Rattle.std.proofs.lemmas.Iterator.Consumers.{YieldsList-end, YieldsList-turn
 use Rattle.std.proofs.lemmas.List.{length_push, map-id}
 use Rattle.snippet_style.proofs.CellLemmas.{length-text_cells, text_cells-append}
 use Rattle.snippet_style.specs.Cell.{SPACE, text_cells, unlinked_cell, written}
-use Rattle.snippet_strokes.specs.CellRows.{cell_of}
+use Rattle.snippet_grid.specs.StyledChars.{cell_of}
 use Rattle.snippet_strokes.proofs.CellRowLemmas.{more_cells}
 use Rattle.snippet_strokes.proofs.cell_rows.write_text.Goals as goal
 

@@ -1,10 +1,10 @@
 -- The cells so far go on with what the first one is.
 use Rattle.std.proofs.Common.{◌≡◌, ◌-◌, ◌<◌, ◌≤◌, ℕ, length}
 use Rattle.std.specs.List.{slice_index_or}
-use Rattle.snippet_strokes.specs.CellRows.{cell_of}
-use Rattle.snippet_strokes.specs.declared.cell_rows.StyledChar.{StyledChar}
+use Rattle.snippet_grid.specs.StyledChars.{cell_of}
+use Rattle.snippet_grid.specs.declared.styled_char.StyledChar.{StyledChar}
 use Rattle.snippet_style.specs.Cell.{SPACE}
-use Rattle.snippet_strokes.proofs.cell_rows.stretch_end.Given as goal
+use Rattle.snippet_strokes.proofs.cell_rows.alike_end.Given as goal
 
 abbrev pub invariant-loop-to : goal.invariant-loop-to
 invariant-loop-to l =

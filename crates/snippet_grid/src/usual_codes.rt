@@ -1,0 +1,116 @@
+//! The codes of the styles that most sheets have: of bold type, of one of the sixteen colours, or of both.
+ghost use Rattle.std.specs.Prelude.{◌≡◌, ◌+◌, ◌++◌, IfSome, true};
+ghost use Rattle.std.specs.Fmt.{decimal};
+ghost use Rattle.snippet_grid.specs.SheetCodes.{opening_bytes};
+ghost use Rattle.snippet_grid.specs.UsualCodes.{usual_bytes, usual_style};
+ghost use Rattle.snippet_style.specs.Codes as spec;
+ghost use Rattle.snippet_style.specs.Style.{no_effects, plain_style};
+
+use snippet_style::{AnsiColor, Color, Effects, Style};
+
+/// The code of such a style.
+#[derive(Clone, Copy)]
+pub(crate) enum UsualCode {
+    /// Of bold type.
+    Bold,
+    /// Of a colour.
+    Color(AnsiColor),
+    /// Of bold type in a colour.
+    BoldColor(AnsiColor),
+}
+
+impl UsualCode {
+    /// The code as a text, which takes no memory.
+    pub(crate) fn text(self) -> &'static str
+        ensures value { result.now ≡ usual_bytes self }
+    {
+        match self {
+            UsualCode::Bold => "\u{1b}[1m",
+            UsualCode::Color(color) => color_code(color),
+            UsualCode::BoldColor(color) => bold_color_code(color),
+        }
+    }
+}
+
+/// The code that opens a style, if it is one of these.
+pub(crate) fn usual_opening(style: Style) -> Option<UsualCode>
+    ensures bytes { IfSome result (λ code. usual_bytes code ≡ opening_bytes style) }
+{
+    let bold = style.effects.bold;
+    if style != style_with(bold, style.fg) {
+        return None;
+    }
+    usual_code(bold, style.fg)
+}
+
+/// The code of the style of this foreground colour, bold or not, that has nothing else, if it is one of these.
+fn usual_code(bold: bool, fg: Option<Color>) -> Option<UsualCode>
+    ensures style { IfSome result (λ code. usual_style code
+        ≡ record plain_style { fg = fg; effects = record no_effects { bold = bold } }) }
+{
+    match (fg, bold) {
+        (None, true) => Some(UsualCode::Bold),
+        (Some(Color::Ansi(color)), true) => Some(UsualCode::BoldColor(color)),
+        (Some(Color::Ansi(color)), false) => Some(UsualCode::Color(color)),
+        _ => None,
+    }
+}
+
+/// The style with this foreground colour, in bold type or not, that has nothing else.
+fn style_with(bold: bool, fg: Option<Color>) -> Style
+    ensures value { result ≡ record plain_style { fg = fg; effects = record no_effects { bold = bold } } }
+{
+    let effects = Effects {
+        bold,
+        ..Effects::new()
+    };
+    Style::new().fg_color(fg).effects(effects)
+}
+
+/// The code of a colour of the sixteen.
+fn color_code(color: AnsiColor) -> &'static str
+    ensures text { result.now ≡ spec.code (decimal (spec.foreground_number color + 0)) }
+{
+    match color {
+        AnsiColor::Black => "\u{1b}[30m",
+        AnsiColor::Red => "\u{1b}[31m",
+        AnsiColor::Green => "\u{1b}[32m",
+        AnsiColor::Yellow => "\u{1b}[33m",
+        AnsiColor::Blue => "\u{1b}[34m",
+        AnsiColor::Magenta => "\u{1b}[35m",
+        AnsiColor::Cyan => "\u{1b}[36m",
+        AnsiColor::White => "\u{1b}[37m",
+        AnsiColor::BrightBlack => "\u{1b}[90m",
+        AnsiColor::BrightRed => "\u{1b}[91m",
+        AnsiColor::BrightGreen => "\u{1b}[92m",
+        AnsiColor::BrightYellow => "\u{1b}[93m",
+        AnsiColor::BrightBlue => "\u{1b}[94m",
+        AnsiColor::BrightMagenta => "\u{1b}[95m",
+        AnsiColor::BrightCyan => "\u{1b}[96m",
+        AnsiColor::BrightWhite => "\u{1b}[97m",
+    }
+}
+
+/// The code of bold type and a colour of the sixteen.
+fn bold_color_code(color: AnsiColor) -> &'static str
+    ensures text { result.now ≡ spec.effect_code true 1 ++ spec.code (decimal (spec.foreground_number color + 0)) }
+{
+    match color {
+        AnsiColor::Black => "\u{1b}[1m\u{1b}[30m",
+        AnsiColor::Red => "\u{1b}[1m\u{1b}[31m",
+        AnsiColor::Green => "\u{1b}[1m\u{1b}[32m",
+        AnsiColor::Yellow => "\u{1b}[1m\u{1b}[33m",
+        AnsiColor::Blue => "\u{1b}[1m\u{1b}[34m",
+        AnsiColor::Magenta => "\u{1b}[1m\u{1b}[35m",
+        AnsiColor::Cyan => "\u{1b}[1m\u{1b}[36m",
+        AnsiColor::White => "\u{1b}[1m\u{1b}[37m",
+        AnsiColor::BrightBlack => "\u{1b}[1m\u{1b}[90m",
+        AnsiColor::BrightRed => "\u{1b}[1m\u{1b}[91m",
+        AnsiColor::BrightGreen => "\u{1b}[1m\u{1b}[92m",
+        AnsiColor::BrightYellow => "\u{1b}[1m\u{1b}[93m",
+        AnsiColor::BrightBlue => "\u{1b}[1m\u{1b}[94m",
+        AnsiColor::BrightMagenta => "\u{1b}[1m\u{1b}[95m",
+        AnsiColor::BrightCyan => "\u{1b}[1m\u{1b}[96m",
+        AnsiColor::BrightWhite => "\u{1b}[1m\u{1b}[97m",
+    }
+}
