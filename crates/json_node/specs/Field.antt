@@ -36,15 +36,16 @@ abbrev pub may_read : {X : Type 0} → (Data → Option X) → Option Data → O
 may_read reads None = Some None
 may_read reads (Some e) = option_map (λ x. Some x) (reads e)
 
--- the same of the field of a name
+-- what the field of a name holds, as `reads` reads it: `Some None` where it is left out, `None` where something else stands there
 abbrev pub optional_at : {X : Type 0} → (Data → Option X) → List ℕ → Data → Option (Option X)
 optional_at reads name d = may_read reads (given name d)
 
--- the same, where a field that is left out counts as this value
+-- what a field holds, as `reads` reads it, where one that is left out counts as `missing`
 abbrev pub read_or : {X : Type 0} → (Data → Option X) → X → Option Data → Option X
 read_or reads missing None = Some missing
 read_or reads missing (Some e) = reads e
 
+-- what the field of a name holds, as `reads` reads it, where one that is left out counts as `missing`
 abbrev pub given_or : {X : Type 0} → (Data → Option X) → X → List ℕ → Data → Option X
 given_or reads missing name d = read_or reads missing (given name d)
 

@@ -19,10 +19,10 @@ pub record Tells (old new : Standing) : Type 0 where
   pub message : IsMessage line
   pub given : Gets old new (ended_line line)
 
--- the same of what is told where there is no memory to tell more
+-- that there is no memory to tell more is told, and nothing else
 abbrev pub TellsMemory : Standing → Standing → Type 0
 TellsMemory old new = Gets old new (ended_line (codes "redraw: out of memory"))
 
--- the same of what is told of wrong arguments: a text as it may be shown, or that there was no memory for it
+-- one text is told of wrong arguments, as it may be shown, or that there was no memory for it; and nothing else
 abbrev pub TellsOfArguments : Standing → Standing → Type 0
 TellsOfArguments old new = ((text : List ℕ) × Gets old new (ended_line (normalized_text text))) ⊎ TellsMemory old new

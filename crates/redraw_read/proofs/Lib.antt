@@ -1,5 +1,6 @@
 pub mod After
 pub mod AllNext
+pub mod Begun
 pub mod Counting
 pub mod GivenRoles
 pub mod Indexed

@@ -79,6 +79,7 @@ abbrev pub shown_with : List ℕ → List (Vec SuggestedEdit) → ChildSeen → 
 shown_with text [] c = record c { spans = map (place_shown text) c.spans } ∷ []
 shown_with text (edits ∷ more) c = suggestion_shown (way (message_line c.message) text) c
 
+-- what a child becomes, as the text shows it: by its alternatives
 abbrev pub child_shown : List ℕ → ChildSeen → List ChildSeen
 child_shown text c = shown_with text c.alternatives c
 

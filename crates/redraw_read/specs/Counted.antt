@@ -102,9 +102,10 @@ clamped_child hand child = clamped_spans hand child.spans.items + clamped_altern
 abbrev pub undrawn_child : AtHand → Child → ℕ
 undrawn_child hand child = undrawn_alternatives hand child.alternatives.items
 
--- the same of a diagnostic: of its places and of its children
+-- how many places of a diagnostic and of its children aren't in their sources
 abbrev pub clamped_in : AtHand → Diagnostic → ℕ
 clamped_in hand d = clamped_spans hand d.spans.items + sum_by (clamped_child hand) d.children.items
 
+-- how many alternatives of a diagnostic's children aren't drawn
 abbrev pub undrawn_in : AtHand → Diagnostic → ℕ
 undrawn_in hand d = sum_by (undrawn_child hand) d.children.items

@@ -51,7 +51,7 @@ way_by None (Some said) label = Message said
 way_by None None (Some label) = Label label
 way_by None None None = Nowhere
 
--- the same of a message in the lines of a text
+-- how a message is shown in the lines of a text: as a group where it is a title there, else as a message, else as a label; else nowhere
 abbrev pub way : List ℕ → List ℕ → Way
 way message text =
     let lines = slice_split (λ b. b == 10) text in

@@ -70,6 +70,7 @@ abbrev pub code_in : Option Data → Option CodeTold
 code_in None = None
 code_in (Some e) = option_and_then error_code (text_field (codes "code") e)
 
+-- the code of a diagnostic, as its field `code` says it, if it does
 abbrev pub code_told : Data → Option CodeTold
 code_told d = code_in (given (codes "code") d)
 

@@ -6,6 +6,7 @@ ghost use Rattle.std.specs.List.{All, flat_map};
 use crate::json::{given_text, listed, owned};
 use crate::offers::is_attribute;
 use crate::spans::{carried_of, region_of};
+use crate::taken::{LinePlace, TakenParts};
 use json_node::expectation::Expectation;
 use json_node::fault::Fault;
 use json_node::node::Node;
@@ -99,8 +100,11 @@ pub fn alternatives_of(
 {
     let mut alternatives = Vec::new(alloc);
     let mut current: Vec<SuggestedEdit> = Vec::new(alloc);
+    let mut taken = TakenParts::new(alloc);
     for edit in edits {
-        if overlaps_one(&edit, &current) {
+        let begins = overlaps_one(&edit, &current, &taken);
+        take_part(alloc, &mut taken, begins, edit.region)?;
+        if begins {
             alternatives.push(current)?;
             current = Vec::new(alloc);
         }
@@ -112,36 +116,47 @@ pub fn alternatives_of(
     Ok(alternatives)
 }
 
-/// Whether an edit overlaps with one of these.
-fn overlaps_one(edit: &SuggestedEdit, others: &[SuggestedEdit]) -> bool
+/// Whether an edit overlaps with one of these, which change these parts of one file.
+fn overlaps_one(edit: &SuggestedEdit, others: &[SuggestedEdit], taken: &TakenParts) -> bool
     ensures none { others.now ≡ [] → result ≡ false }
 {
-    for other in others {
-        if !are_apart(other, edit) {
-            return true;
-        }
+    match others.first() {
+        Some(first) => !is_apart(edit, first, taken),
+        None => false,
     }
-    false
 }
 
-/// Whether two edits can be made together: they are of one file, and one ends where the other starts, or before it.
-fn are_apart(first: &SuggestedEdit, second: &SuggestedEdit) -> bool {
-    let (Region::Lines(a), Region::Lines(b)) = (first.region, second.region) else {
+/// Whether an edit can be made together with others, of which this is the first: they are of one file, and each ends
+/// where the other starts, or before it.
+fn is_apart(edit: &SuggestedEdit, first: &SuggestedEdit, taken: &TakenParts) -> bool {
+    let (Region::Lines(_), Region::Lines(lines)) = (first.region, edit.region) else {
         return false;
     };
-    let (from, to) = (start_of(a), end_of(a));
-    let (other_from, other_to) = (start_of(b), end_of(b));
-    first.file == second.file
-        && (to <= other_from || other_to <= from)
-        && (from, to) != (other_from, other_to)
+    first.file == edit.file && !taken.meets(start_of(lines), end_of(lines))
+}
+
+/// Adds the part that a region is, to none if an alternative begins with it.
+fn take_part(
+    alloc: Global,
+    taken: &mut TakenParts,
+    begins: bool,
+    region: Region,
+) -> Result<(), AllocError> {
+    if begins {
+        *taken = TakenParts::new(alloc);
+    }
+    if let Region::Lines(lines) = region {
+        taken.add(start_of(lines), end_of(lines))?;
+    }
+    Ok(())
 }
 
 /// The line and column where a region starts.
-fn start_of(region: LineRegion) -> (usize, Option<usize>) {
+fn start_of(region: LineRegion) -> LinePlace {
     (region.start_line, region.start_column)
 }
 
 /// The line and column where a region ends.
-fn end_of(region: LineRegion) -> (usize, Option<usize>) {
+fn end_of(region: LineRegion) -> LinePlace {
     (region.end_line, region.end_column)
 }

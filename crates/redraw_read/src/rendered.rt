@@ -12,10 +12,11 @@ ghost use Rattle.redraw_read.specs.Told.{KeepsHeading};
 ghost use Rattle.redraw_report.specs.Report.{lent};
 
 use crate::columns::show_columns;
+use crate::labels::{EditLabel, put_labels};
 use crate::plain::without_styles;
 use crate::roles::settle_roles;
 use crate::words::{after, after_first, begins_with};
-use redraw_report::diagnostic::{Child, Diagnostic, FileSpan, SuggestedEdit};
+use redraw_report::diagnostic::{Child, Diagnostic};
 use snippet_text::normalized;
 use std::alloc::{AllocError, Global};
 
@@ -129,7 +130,9 @@ fn as_shown(alloc: Global, text: &str, diagnostic: Diagnostic) -> Result<Diagnos
     ensures shown { IfOk result (IsAsShown text.now diagnostic) }
 {
     let mut spans = show_columns(alloc, text, diagnostic.spans)?;
-    let children = shown_children(alloc, text, diagnostic.children, &mut spans)?;
+    let mut told = Vec::new(alloc);
+    let children = shown_children(alloc, text, diagnostic.children, &mut told)?;
+    put_labels(alloc, &mut spans, told)?;
     let spans = settle_roles(alloc, spans)?;
     Ok(Diagnostic {
         severity: diagnostic.severity,
@@ -141,21 +144,21 @@ fn as_shown(alloc: Global, text: &str, diagnostic: Diagnostic) -> Result<Diagnos
     })
 }
 
-/// What children become; a suggestion that is shown as a label joins the places.
+/// What children become; a suggestion that is shown as a label joins those that are told.
 fn shown_children(
     alloc: Global,
     text: &str,
     children: Vec<Child>,
-    spans: &mut Vec<FileSpan>,
+    told: &mut Vec<EditLabel>,
 ) -> Result<Vec<Child>, AllocError>
     ensures each { IfOk result (λ shown. map child_seen shown.items
         ≡ flat_map (child_shown text.now) (map child_seen children.items)) }
     ensures kept { list_any (labels text.now) (map child_seen children.items) ≡ false
-        → OnOk result (spans.new.items ≡ spans.old.items) }
+        → OnOk result (told.new.items ≡ told.old.items) }
 {
     let mut shown = Vec::new(alloc);
     for child in children {
-        show_child(alloc, text, child, spans, &mut shown)?;
+        show_child(alloc, text, child, told, &mut shown)?;
     }
     Ok(shown)
 }
@@ -165,17 +168,17 @@ fn show_child(
     alloc: Global,
     text: &str,
     child: Child,
-    spans: &mut Vec<FileSpan>,
+    told: &mut Vec<EditLabel>,
     shown: &mut Vec<Child>,
 ) -> Result<(), AllocError>
     ensures added { OnOk result (map child_seen shown.new.items
         ≡ map child_seen shown.old.items ++ child_shown text.now (child_seen child)) }
-    ensures kept { labels text.now (child_seen child) ≡ false → OnOk result (spans.new.items ≡ spans.old.items) }
+    ensures kept { labels text.now (child_seen child) ≡ false → OnOk result (told.new.items ≡ told.old.items) }
 {
     if child.alternatives.is_empty() {
         Ok(shown.push(with_columns(alloc, text, child)?)?)
     } else {
-        show_suggestion(alloc, text, child, spans, shown)
+        show_suggestion(alloc, text, child, told, shown)
     }
 }
 
@@ -198,19 +201,19 @@ fn show_suggestion(
     alloc: Global,
     text: &str,
     child: Child,
-    spans: &mut Vec<FileSpan>,
+    told: &mut Vec<EditLabel>,
     shown: &mut Vec<Child>,
 ) -> Result<(), AllocError>
     ensures added { OnOk result (map child_seen shown.new.items ≡ map child_seen shown.old.items
         ++ suggestion_shown (way (message_line (string_bytes child.message)) text.now) (child_seen child)) }
     ensures kept { is_label (way (message_line (string_bytes child.message)) text.now) ≡ false
-        → OnOk result (spans.new.items ≡ spans.old.items) }
+        → OnOk result (told.new.items ≡ told.old.items) }
 {
     let message = first_line(alloc, child.message.as_str())?;
     match manner_of(message.as_str(), text) {
         Manner::Group(title) => Ok(shown.push(retitled(alloc, child, title)?)?),
         Manner::Message(said) => Ok(shown.push(without_edits(alloc, child, said)?)?),
-        Manner::Label(label) => add_label(alloc, label, child, spans),
+        Manner::Label(label) => add_label(alloc, label, child, told),
         Manner::Nowhere => Ok(()),
     }
 }
@@ -276,61 +279,18 @@ fn redrawn(alloc: Global, message: &str, line: &str) -> Result<String, AllocErro
     }
 }
 
-/// Adds the label that a suggestion is shown as, at the place of its edit.
+/// Adds the label that a suggestion is shown as, for the place of its edit.
 fn add_label(
     alloc: Global,
     label: &str,
     child: Child,
-    spans: &mut Vec<FileSpan>,
+    told: &mut Vec<EditLabel>,
 ) -> Result<(), AllocError> {
     let mut alternatives = child.alternatives;
     let mut edits = alternatives.pop().unwrap_or(Vec::new(alloc));
     if let Some(edit) = edits.pop() {
         let label = format!(in alloc; "help: {label}")?;
-        put_label(spans, edit, label)?;
+        told.push(EditLabel { edit, label })?;
     }
     Ok(())
-}
-
-/// Puts a label at the place of an edit: to a primary place there that has none, else as a place of its own.
-fn put_label(
-    spans: &mut Vec<FileSpan>,
-    edit: SuggestedEdit,
-    label: String,
-) -> Result<(), AllocError> {
-    match bare_primary(spans, &edit) {
-        Some(index) => {
-            if let Some(span) = spans.get_mut(index) {
-                span.label = Some(label);
-            }
-        }
-        None => spans.push(label_span(edit, label))?,
-    }
-    Ok(())
-}
-
-/// The index of the primary place of an edit, if there is one without a label.
-fn bare_primary(spans: &[FileSpan], edit: &SuggestedEdit) -> Option<usize> {
-    for (index, span) in spans.iter().enumerate() {
-        if span.is_primary && span.label.is_none() && is_at(span, edit) {
-            return Some(index);
-        }
-    }
-    None
-}
-
-/// Whether a place is that of an edit.
-fn is_at(span: &FileSpan, edit: &SuggestedEdit) -> bool {
-    span.region == edit.region && span.file == edit.file
-}
-
-/// The place of an edit with a label.
-fn label_span(edit: SuggestedEdit, label: String) -> FileSpan {
-    FileSpan {
-        file: edit.file,
-        region: edit.region,
-        label: Some(label),
-        is_primary: false,
-        carried: edit.carried,
-    }
 }

@@ -105,6 +105,7 @@ pub record Section : Type 0 where
   pub title : Option Headed
   pub parts : List Part
 
+-- what can be seen of a group
 abbrev pub section_view : Group → Section
 section_view g =
     record {

@@ -14,10 +14,11 @@ head =
     codes "<!DOCTYPE html>\n<html lang=\"en\">\n<head>\n<meta charset=\"utf-8\">\n<title>redraw</title>\n<style>\n:root { color-scheme: light dark; }\n"
     ++ styles
 
--- what stands before all that is drawn, and what stands after it: where HTML is written, the two ends of a document
+-- what stands before all that is drawn: where HTML is written, the beginning of a document
 abbrev pub html_start : Bool → List ℕ
 html_start is_html = if is_html then head else []
 
+-- what stands after all that is drawn: where HTML is written, the end of a document
 abbrev pub html_end : Bool → List ℕ
 html_end is_html = if is_html then codes "</pre>\n</body>\n</html>\n" else []
 

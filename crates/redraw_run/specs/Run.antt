@@ -137,7 +137,8 @@ AnswersBy {File} {Standard} held app args around old_out old_err out err status 
     ⊎ DrawsAsked File Standard held app args around old_out old_err out err status
     ⊎ IsUnbegun old_out old_err out err status
 
--- the same, where the arguments are read as those of this program
+-- what becomes of a run whose arguments are read as those of this program: help is shown, wrong arguments are told, what was asked for is
+-- drawn, or nothing is begun
 abbrev pub Answers : {File Standard : Type 0} → (File ⊎ Standard → Option (List ℕ)) → List Argument → Surroundings
     → (old_out old_err out err : Standing) → ℕ → Type 0
 Answers held args around old_out old_err out err status =

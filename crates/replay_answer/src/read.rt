@@ -11,20 +11,20 @@ ghost use Rattle.replay_answer.specs.Case as spec;
 ghost use Rattle.replay_read.specs.Report.{AreSourcesOf};
 
 use crate::case::Case;
+use annotate_snippets::Renderer;
 use annotate_snippets::renderer::{DEFAULT_TERM_WIDTH, DecorStyle, Stylesheet};
-use annotate_snippets::{Renderer, SourceLines};
 use json_node::fault::Fault;
 use json_node::node::Node;
 use json_node::place::JsonPath;
 use replay_read::list::parts_at;
 use replay_read::shape::{Shape, has_shape};
 use replay_read::sheet::sheets_of;
-use replay_read::source::sources_of;
+use replay_read::source::{NamedSource, sources_of};
 use serde_json::Value;
 use std::alloc::Global;
 
 /// The sources that the case of a line names: their lines are found here, once.
-pub fn case_sources<'v>(alloc: Global, line: &'v Value) -> Result<Vec<SourceLines<'v>>, Fault>
+pub fn case_sources<'v>(alloc: Global, line: &'v Value) -> Result<Vec<NamedSource<'v>>, Fault>
     ensures value { IfOk result (λ sources. AreSourcesOf (given (codes "sources") (view line.now)) sources.items) }
 {
     sources_of(&whole_line(alloc, line))
@@ -45,7 +45,7 @@ fn whole_line<'v>(alloc: Global, line: &'v Value) -> Node<'v, 'static>
 pub fn case_of<'v>(
     alloc: Global,
     line: &'v Value,
-    sources: &'v [SourceLines<'_>],
+    sources: &'v [NamedSource<'_>],
 ) -> Result<Case<'v>, Fault>
     requires sources { AreSourcesOf (given (codes "sources") (view line.now)) sources.now }
     ensures value { IfOk result (IsCaseOf (view line.now)) }

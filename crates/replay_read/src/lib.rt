@@ -10,3 +10,4 @@ pub mod shape;
 pub mod sheet;
 pub mod source;
 pub mod span;
+mod told;

@@ -9,10 +9,10 @@ ghost use Rattle.json_node.specs.Field.{SaysAt, ListSays, as_whole};
 ghost use Rattle.replay_read.specs.declared.span.SpanUnit.{SpanUnit};
 
 use crate::ruler::Ruler;
+use crate::source::NamedSource;
 use json_node::expectation::Expectation;
 use json_node::fault::Fault;
 use json_node::node::Node;
-use snippet_lines::SourceLines;
 
 /// What an item of a list may be read as.
 pub trait Read<'v> {
@@ -37,7 +37,7 @@ pub trait ReadPart<'v> {
     ghost fits: { Self → Type 0 };
 
     /// What the item is read as; a fault where it isn't what is expected.
-    fn read(node: &Node<'v, '_>, sources: &'v [SourceLines<'_>]) -> Result<Self, Fault>
+    fn read(node: &Node<'v, '_>, sources: &'v [NamedSource<'_>]) -> Result<Self, Fault>
         ensures value { IfOk result (says sources.now (view node.now.value.now)) }
         ensures fits { IfOk result fits };
 }
@@ -78,18 +78,6 @@ impl<'v> Read<'v> for &'v str {
     }
 }
 
-/// A source, whose lines are found once.
-impl<'v> Read<'v> for SourceLines<'v> {
-    ghost says = { λ d source. as_str d ≡ Some source };
-
-    ghost fits = { TextFits };
-
-    fn read(node: &Node<'v, '_>) -> Result<Self, Fault> {
-        let source = node.as_text()?;
-        Ok(SourceLines::new(node.alloc, source)?)
-    }
-}
-
 /// What the items of the list are read as, in order.
 pub fn items_of<'v, T: Read<'v> + Drop>(list: &Node<'v, '_>) -> Result<Vec<T>, Fault>
     ensures value { IfOk result (λ xs. ListSays T.says (view list.now.value.now) xs.items) }
@@ -117,7 +105,7 @@ pub fn list_at<'v, T: Read<'v> + Drop>(object: &Node<'v, '_>, name: &str) -> Res
 pub fn parts_at<'v, T: ReadPart<'v> + Drop>(
     object: &Node<'v, '_>,
     name: &str,
-    sources: &'v [SourceLines<'_>],
+    sources: &'v [NamedSource<'_>],
 ) -> Result<Vec<T>, Fault>
     ensures value { IfOk result (λ xs.
         SaysAt (ListSays (T.says sources.now)) name.now (view object.now.value.now) xs.items) }
@@ -129,7 +117,7 @@ pub fn parts_at<'v, T: ReadPart<'v> + Drop>(
 /// What the items of a list are read as, in order, by these sources.
 fn parts_of<'v, T: ReadPart<'v> + Drop>(
     list: &Node<'v, '_>,
-    sources: &'v [SourceLines<'_>],
+    sources: &'v [NamedSource<'_>],
 ) -> Result<Vec<T>, Fault>
     ensures value { IfOk result (λ xs. ListSays (T.says sources.now) (view list.now.value.now) xs.items) }
     ensures fits { IfOk result (λ xs. All T.fits xs.items) }

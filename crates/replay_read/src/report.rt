@@ -15,13 +15,13 @@ ghost use Rattle.replay_read.specs.Kinds.{kind_name, mark_name};
 use crate::list::{ReadMarker, ReadPart, markers_of, parts_at};
 use crate::ruler::Ruler;
 use crate::shape::{FormatValue, Shape, has_shape};
-use crate::source::source_in;
-use crate::span::{has_many_places, span_of, unit_in};
+use crate::source::{NamedSource, SnippetSource, source_in};
+use crate::span::{SpanUnit, places_in, span_of, unit_in};
+use crate::told::are_many;
 use json_node::expectation::Expectation;
 use json_node::fault::Fault;
 use json_node::node::Node;
 use json_node::scalars::lent;
-use snippet_lines::SourceLines;
 use snippet_model::level::LevelName;
 use snippet_model::{
     Annotation, AnnotationKind, Element, Group, Id, Level, Message, Origin, Padding, Patch,
@@ -35,7 +35,7 @@ impl<'v> ReadPart<'v> for Group<'v> {
 
     ghost fits = { GroupFits };
 
-    fn read(node: &Node<'v, '_>, sources: &'v [SourceLines<'_>]) -> Result<Self, Fault> {
+    fn read(node: &Node<'v, '_>, sources: &'v [NamedSource<'_>]) -> Result<Self, Fault> {
         has_shape(node, Shape::Group)?;
         let title = title_or_null(&node.needed("title", FormatValue::ObjectOrNull)?)?;
         let elements = parts_at(node, "elements", sources)?;
@@ -169,7 +169,7 @@ impl<'v> ReadPart<'v> for Element<'v> {
 
     ghost fits = { ElementFits };
 
-    fn read(node: &Node<'v, '_>, sources: &'v [SourceLines<'_>]) -> Result<Self, Fault> {
+    fn read(node: &Node<'v, '_>, sources: &'v [NamedSource<'_>]) -> Result<Self, Fault> {
         has_shape(node, Shape::Element)?;
         if let Some(message) = node.only_field("message") {
             return Ok(Element::Message(message_of(&message)?));
@@ -221,7 +221,7 @@ fn snippet_of<'v, T: ReadMarker<'v> + Drop>(
     node: &Node<'v, '_>,
     shape: Shape,
     markers: &str,
-    sources: &'v [SourceLines<'_>],
+    sources: &'v [NamedSource<'_>],
 ) -> Result<Snippet<'v, T>, Fault>
     ensures value { IfOk result (IsSnippetOf T.says shape markers.now sources.now (view node.now.value.now)) }
     ensures fits { IfOk result (SnippetFits T.fits) }
@@ -230,9 +230,9 @@ fn snippet_of<'v, T: ReadMarker<'v> + Drop>(
     let source = source_in(node, sources)?;
     let path = node.optional_text("path")?;
     let (line_start, line_numbering, fold) = lines_of(node)?;
-    let markers = marked_in(node, markers, source.as_str())?;
+    let markers = marked_in(node, markers, &source)?;
     Ok(Snippet {
-        source,
+        source: source.text,
         path: lent(path),
         line_start,
         line_numbering,
@@ -245,15 +245,30 @@ fn snippet_of<'v, T: ReadMarker<'v> + Drop>(
 fn marked_in<'v, T: ReadMarker<'v> + Drop>(
     snippet: &Node<'v, '_>,
     name: &str,
-    source: &str,
+    source: &SnippetSource<'_, '_>,
 ) -> Result<Vec<T>, Fault>
-    ensures value { IfOk result (λ xs. AreMarkersOf T.says source.now name.now (view snippet.now.value.now) xs.items) }
+    ensures value { IfOk result (λ xs. AreMarkersOf T.says (cow_str_bytes source.now.text.text) name.now
+        (view snippet.now.value.now) xs.items) }
     ensures fits { IfOk result (λ xs. All T.fits xs.items) }
 {
     let unit = unit_in(snippet)?;
     let markers = snippet.needed(name, Expectation::List)?;
-    let ruler = Ruler::new(snippet.alloc, source, unit, has_many_places(&markers, unit))?;
-    markers_of(&markers, &ruler)
+    match source.named {
+        Some(named) => markers_of(&markers, named.ruler(unit)),
+        None => {
+            let many = has_many_places(&markers, unit);
+            let ruler = Ruler::new(snippet.alloc, source.text.as_str(), unit, many)?;
+            markers_of(&markers, &ruler)
+        }
+    }
+}
+
+/// Whether so many places are looked for by markers in this list that it is worth measuring their source first.
+fn has_many_places(list: &Node<'_, '_>, unit: Option<SpanUnit>) -> bool {
+    match list.value.as_array() {
+        Some(markers) => are_many(places_in(markers, unit)),
+        None => false,
+    }
 }
 
 /// How the lines of a snippet are shown: the number of the first, whether they have numbers, and whether some are left

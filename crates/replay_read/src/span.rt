@@ -12,6 +12,7 @@ use crate::shape::{FormatValue, Shape, has_shape};
 use json_node::expectation::Expectation;
 use json_node::fault::Fault;
 use json_node::node::Node;
+use serde_json::Value;
 use snippet_places::Position;
 use std::ops::Range;
 
@@ -48,18 +49,15 @@ fn unit_of(node: &Node<'_, '_>) -> Result<SpanUnit, Fault>
     }
 }
 
-/// How many markers a snippet may have for which its source isn't measured.
-const FEW_MARKERS: usize = 8;
-
-/// Whether so many places are looked for by markers in this list that it is worth measuring their source first. It says
-/// what reading costs, and nothing of what is read.
-pub fn has_many_places(list: &Node<'_, '_>, unit: Option<SpanUnit>) -> bool {
-    let Some(markers) = list.value.as_array() else {
-        return false;
-    };
-    FEW_MARKERS < markers.len()
-        && (matches!(unit, Some(SpanUnit::Char | SpanUnit::Utf16))
-            || markers.iter().any(|marker| marker.get("from").is_some()))
+/// How many places are looked for by these markers, beyond those that are bytes as they are told.
+pub fn places_in(markers: &[Value], unit: Option<SpanUnit>) -> usize {
+    if matches!(unit, Some(SpanUnit::Char | SpanUnit::Utf16))
+        || markers.iter().any(|marker| marker.get("from").is_some())
+    {
+        markers.len()
+    } else {
+        0
+    }
 }
 
 /// The span of a marker in the source.

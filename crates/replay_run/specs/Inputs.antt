@@ -34,6 +34,7 @@ AsksAnswers args way names = AsksFor args (answers way names)
 abbrev pub AsksComparison : List Argument → List Argument → Type 0
 AsksComparison args files = AsksFor args (Checks files)
 
+-- the arguments ask for a comparison of some files
 abbrev pub Compares : List Argument → Type 0
 Compares args = (files : List Argument) × AsksComparison args files
 

@@ -23,11 +23,11 @@ ghost use Rattle.replay_run.specs.Problem.{IsFault, IsFinal, IsMisread, IsProble
 ghost use Rattle.replay_answer.specs.declared.outcome.Outcome.{Outcome};
 
 use crate::problem::{InputLine, Problem, fault_words, wrong_line};
-use annotate_snippets::SourceLines;
 use replay_answer::answer::{answer_json, told_json};
 use replay_answer::case::Case;
 use replay_answer::outcome::{Outcome, outcome_of};
 use replay_answer::read::{case_of, case_sources};
+use replay_read::source::NamedSource;
 use serde_json::{Error, Value};
 use std::alloc::{AllocError, Global};
 use std::io;
@@ -326,7 +326,7 @@ pub fn numbered_sources<'v>(
     alloc: Global,
     value: &'v Value,
     number: u64,
-) -> Result<Vec<SourceLines<'v>>, Problem>
+) -> Result<Vec<NamedSource<'v>>, Problem>
     ensures value { IfOk result (λ sources. AreSourcesOf (given (codes "sources") (view value.now)) sources.items) }
     ensures misread { IfErr result (IsMisread (InputLine.Case number)) }
 {
@@ -340,7 +340,7 @@ pub fn numbered_sources<'v>(
 pub fn numbered_case<'v>(
     alloc: Global,
     value: &'v Value,
-    sources: &'v [SourceLines<'_>],
+    sources: &'v [NamedSource<'_>],
     number: u64,
 ) -> Result<Case<'v>, Problem>
     requires sources { AreSourcesOf (given (codes "sources") (view value.now)) sources.now }

@@ -7,6 +7,6 @@ pub loop-child-preserved : goal.loop-child-preserved
 loop-child-preserved c = record {
   each = shown-next c.args.text.now c.loop-child.yielded c.in-Some.child (map child_seen c.loop-child.shown.items)
       (map child_seen c.show_child.new.shown.items) c.loop-child.invariant.each c.in_ok-show_child.ensures.added;
-  kept = kept-next c.args.text.now c.loop-child.yielded c.in-Some.child c.args.spans.now.items c.loop-child.spans.items c.show_child.new.spans.items
+  kept = kept-next c.args.text.now c.loop-child.yielded c.in-Some.child c.args.told.now.items c.loop-child.told.items c.show_child.new.told.items
       c.loop-child.invariant.kept c.in_ok-show_child.ensures.kept;
 }

@@ -1,4 +1,4 @@
--- The children so far are what those become that were taken; and the places are as they were, where none of these becomes a label.
+-- The children so far are what those become that were taken; and the labels are as they were, where none of these becomes a label.
 use Rattle.std.proofs.Common.{◌≡◌, false, map}
 use Rattle.std.specs.List.{flat_map, list_any}
 use Rattle.redraw_read.specs.AsShown.{child_seen, child_shown, labels}
@@ -8,5 +8,5 @@ abbrev pub invariant-loop-child : goal.invariant-loop-child
 invariant-loop-child l =
     record {
       each : map child_seen l.shown.items ≡ flat_map (child_shown l.text) (map child_seen l.yielded);
-      kept : list_any (labels l.text) (map child_seen l.yielded) ≡ false → l.spans.items ≡ l.initial.spans.items;
+      kept : list_any (labels l.text) (map child_seen l.yielded) ≡ false → l.told.items ≡ l.initial.told.items;
     }

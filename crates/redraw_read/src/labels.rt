@@ -1,0 +1,127 @@
+//! The labels that suggestions are shown as, at the places of their edits.
+
+ghost use Rattle.std.specs.Prelude.{◌≡◌, [], OnOk};
+
+use redraw_report::diagnostic::{FileSpan, Region, SuggestedEdit};
+use std::alloc::{AllocError, Global};
+use std::collections::BTreeSet;
+
+/// A label, and the edit that it tells of.
+#[derive(Drop)]
+pub struct EditLabel {
+    pub edit: SuggestedEdit,
+    pub label: String,
+}
+
+/// Puts labels at the places of their edits: each to the first primary place there that has none yet, else as a place
+/// of its own.
+pub fn put_labels(
+    alloc: Global,
+    spans: &mut Vec<FileSpan>,
+    labels: Vec<EditLabel>,
+) -> Result<(), AllocError>
+    ensures kept { labels.items ≡ [] → OnOk result (spans.new.items ≡ spans.old.items) }
+{
+    if labels.is_empty() {
+        return Ok(());
+    }
+    let targets = targets_of(alloc, spans, &labels)?;
+    put_each(spans, labels, &targets)
+}
+
+/// Puts each label to the place of its index, where it has one.
+fn put_each(
+    spans: &mut Vec<FileSpan>,
+    labels: Vec<EditLabel>,
+    targets: &[Option<usize>],
+) -> Result<(), AllocError> {
+    let mut index = 0;
+    for label in labels {
+        put_label(spans, label, target_at(targets, index))?;
+        index = index.saturating_add(1);
+    }
+    Ok(())
+}
+
+/// The target with this index; none past the last one.
+fn target_at(targets: &[Option<usize>], index: usize) -> Option<usize> {
+    match targets.get(index) {
+        Some(target) => *target,
+        None => None,
+    }
+}
+
+/// Puts a label to the place of this index, or as a place of its own.
+fn put_label(
+    spans: &mut Vec<FileSpan>,
+    told: EditLabel,
+    target: Option<usize>,
+) -> Result<(), AllocError> {
+    match target {
+        Some(index) => {
+            if let Some(span) = spans.get_mut(index) {
+                span.label = Some(told.label);
+            }
+        }
+        None => spans.push(label_span(told.edit, told.label))?,
+    }
+    Ok(())
+}
+
+/// The place of an edit with a label.
+fn label_span(edit: SuggestedEdit, label: String) -> FileSpan {
+    FileSpan {
+        file: edit.file,
+        region: edit.region,
+        label: Some(label),
+        is_primary: false,
+        carried: edit.carried,
+    }
+}
+
+/// A part of a file, and the index of a place there.
+type PlaceAt<'a> = (Region, &'a str, usize);
+
+/// Of each label the index of the place that it goes to. Of several at one place each goes to another.
+fn targets_of(
+    alloc: Global,
+    spans: &[FileSpan],
+    labels: &[EditLabel],
+) -> Result<Vec<Option<usize>>, AllocError> {
+    let mut bare = bare_primaries(alloc, spans)?;
+    let mut targets = Vec::new(alloc);
+    for label in labels {
+        targets.push(take_first(&mut bare, &label.edit))?;
+    }
+    Ok(targets)
+}
+
+/// The primary places without a label.
+fn bare_primaries<'a>(
+    alloc: Global,
+    spans: &'a [FileSpan],
+) -> Result<BTreeSet<PlaceAt<'a>>, AllocError> {
+    let mut bare = BTreeSet::new(alloc);
+    for (index, span) in spans.iter().enumerate() {
+        if span.is_primary && span.label.is_none() {
+            bare.insert((span.region, span.file.as_str(), index))?;
+        }
+    }
+    Ok(bare)
+}
+
+/// Takes the first of some places that is that of an edit.
+fn take_first<'a>(bare: &mut BTreeSet<PlaceAt<'a>>, edit: &'a SuggestedEdit) -> Option<usize> {
+    let place = first_at(bare, edit)?;
+    let _was_there = bare.remove(&place);
+    Some(place.2)
+}
+
+/// The first of some places that is that of an edit.
+fn first_at<'a>(bare: &BTreeSet<PlaceAt<'a>>, edit: &'a SuggestedEdit) -> Option<PlaceAt<'a>> {
+    let least = (edit.region, edit.file.as_str(), 0);
+    match bare.range(least..).next() {
+        Some(place) if place.0 == edit.region && place.1 == edit.file.as_str() => Some(*place),
+        _ => None,
+    }
+}
