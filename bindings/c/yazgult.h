@@ -1,4 +1,4 @@
-/* Draws diagnostic reports as compilers print them.
+/* Draws diagnostic reports as compilers print them. What a report is made of is put together by the calls of yazgult_report.h.
  *
  * Each function fills `output` as snprintf does: with as many bytes of its answer as there is room for, and it returns how many the
  * answer has. Where that is more than `output_length`, call it again with so much room. It writes nothing else, no end of a string

@@ -1,12 +1,13 @@
-"""Draws the first report of the README."""
+"""Draws the first report of the README, in colours where it is printed on a terminal."""
+
+import sys
 
 import yazgult
 
-MARKS = [
-    {"kind": "primary", "start": 29, "end": 34, "label": "expected `i32`, found `&str`"},
-    {"kind": "context", "start": 23, "end": 26, "label": "expected due to this"},
-]
-CAUSE = {"source": 'fn main() {\n    let x: i32 = "one";\n}\n', "path": "src/main.rs", "annotations": MARKS}
-TITLE = {"level": {"kind": "error"}, "text": "mismatched types", "primary": True, "id": "E0308"}
+SOURCE = 'fn main() {\n    let x: i32 = "one";\n}\n'
 
-print(yazgult.render([{"title": TITLE, "elements": [{"cause": CAUSE}]}]))
+report = yazgult.Report()
+snippet = report.group("error", "mismatched types", id="E0308").snippet(SOURCE, "src/main.rs")
+snippet.mark(29, 34, "expected `i32`, found `&str`")
+snippet.mark(23, 26, "expected due to this", kind="context")
+report.print_report(sys.stdout)

@@ -1,13 +1,10 @@
 //! The form of a report as bytes, as `docs/BINDINGS.md` has it.
 
+use crate::grow::{put, reserve, Written};
 use crate::level::{Level, Name};
 use crate::renderer::{Color, DecorStyle, Effects, RenderError, Renderer, Style, Stylesheet};
 use crate::snippet::{Annotation, Element, Group, Id, Message, Origin, Patch, Snippet, Title};
-use std::borrow::Cow;
 use std::ops::Range;
-
-/// Whether a part was written: it isn't where there is no memory for it.
-type Written = Result<(), RenderError>;
 
 /// The bytes of a report, drawn by this renderer under these sheets.
 pub(crate) fn report(renderer: &Renderer, sheets: &[Stylesheet], groups: &[Group<'_>]) -> Result<Vec<u8>, RenderError> {
@@ -17,17 +14,6 @@ pub(crate) fn report(renderer: &Renderer, sheets: &[Stylesheet], groups: &[Group
     list(sheets, sheet, &mut out)?;
     list(groups, group, &mut out)?;
     Ok(out)
-}
-
-/// Makes room for so many more members.
-pub(crate) fn reserve<T>(count: usize, out: &mut Vec<T>) -> Written {
-    out.try_reserve(count).map_err(|_| RenderError::Memory)
-}
-
-fn put(bytes: &[u8], out: &mut Vec<u8>) -> Written {
-    reserve(bytes.len(), out)?;
-    out.extend_from_slice(bytes);
-    Ok(())
 }
 
 fn byte(byte: impl Into<u8>, out: &mut Vec<u8>) -> Written {
@@ -51,13 +37,9 @@ fn text(text: &str, out: &mut Vec<u8>) -> Written {
     Ok(())
 }
 
-fn cow(cow: &Cow<'_, str>, out: &mut Vec<u8>) -> Written {
-    text(cow, out)
-}
-
-fn option<T>(value: &Option<T>, write: fn(&T, &mut Vec<u8>) -> Written, out: &mut Vec<u8>) -> Written {
+fn option<T: ?Sized>(value: Option<&T>, write: fn(&T, &mut Vec<u8>) -> Written, out: &mut Vec<u8>) -> Written {
     byte(value.is_some(), out)?;
-    value.as_ref().map_or(Ok(()), |value| write(value, out))
+    value.map_or(Ok(()), |value| write(value, out))
 }
 
 fn list<T>(values: &[T], write: fn(&T, &mut Vec<u8>) -> Written, out: &mut Vec<u8>) -> Written {
@@ -86,10 +68,39 @@ fn sheet(s: &Stylesheet, out: &mut Vec<u8>) -> Written {
     levels.iter().chain(&parts).try_for_each(|each| style(each, out))
 }
 
+/// The effects that the library draws, in the order of the form.
+const EFFECTS: [Effects; 8] = [
+    Effects::BOLD,
+    Effects::DIMMED,
+    Effects::ITALIC,
+    Effects::UNDERLINE,
+    Effects::BLINK,
+    Effects::INVERT,
+    Effects::HIDDEN,
+    Effects::STRIKETHROUGH,
+];
+
 fn style(style: &Style, out: &mut Vec<u8>) -> Written {
-    option(&style.get_fg_color(), color, out)?;
-    option(&style.get_bg_color(), color, out)?;
-    put(&Effects::ALL.map(|effect| u8::from(style.get_effects().contains(effect))), out)
+    // most styles of most sheets: neither colour, and none of the effects
+    if style.is_plain() {
+        return put(&[0; 2 + EFFECTS.len()], out);
+    }
+    option(style.get_fg_color().as_ref(), color, out)?;
+    option(style.get_bg_color().as_ref(), color, out)?;
+    let effects = drawn_effects(style.get_effects());
+    put(&EFFECTS.map(|effect| u8::from(effects.contains(effect))), out)
+}
+
+/// The effects that the library draws for these: it has one kind of underlines.
+fn drawn_effects(effects: Effects) -> Effects {
+    let others =
+        Effects::DOUBLE_UNDERLINE | Effects::CURLY_UNDERLINE | Effects::DOTTED_UNDERLINE | Effects::DASHED_UNDERLINE;
+    let rest = effects - others;
+    if rest == effects {
+        rest
+    } else {
+        rest | Effects::UNDERLINE
+    }
 }
 
 fn color(color: &Color, out: &mut Vec<u8>) -> Written {
@@ -102,13 +113,13 @@ fn color(color: &Color, out: &mut Vec<u8>) -> Written {
 
 fn group(g: &Group<'_>, out: &mut Vec<u8>) -> Written {
     byte(g.level.kind as u8, out)?;
-    option(&g.title, title, out)?;
+    option(g.title.as_ref(), title, out)?;
     list(&g.elements, element, out)
 }
 
 fn title(t: &Title<'_>, out: &mut Vec<u8>) -> Written {
     level(&t.level, out)?;
-    option(&t.id, id, out)?;
+    option(t.id.as_ref(), id, out)?;
     text(&t.text, out)?;
     byte(t.allows_styling, out)
 }
@@ -126,8 +137,8 @@ fn level(l: &Level<'_>, out: &mut Vec<u8>) -> Written {
 }
 
 fn id(i: &Id<'_>, out: &mut Vec<u8>) -> Written {
-    option(&i.id, cow, out)?;
-    option(&i.url, cow, out)
+    option(i.id.as_deref(), text, out)?;
+    option(i.url.as_deref(), text, out)
 }
 
 fn element(e: &Element<'_>, out: &mut Vec<u8>) -> Written {
@@ -154,7 +165,7 @@ fn message(m: &Message<'_>, out: &mut Vec<u8>) -> Written {
 }
 
 fn snippet<T>(s: &Snippet<'_, T>, marker: fn(&T, &mut Vec<u8>) -> Written, out: &mut Vec<u8>) -> Written {
-    option(&s.path, cow, out)?;
+    option(s.path.as_deref(), text, out)?;
     number(s.line_start, out)?;
     text(&s.source, out)?;
     list(&s.markers, marker, out)?;
@@ -169,7 +180,7 @@ fn span(s: &Range<usize>, out: &mut Vec<u8>) -> Written {
 
 fn annotation(a: &Annotation<'_>, out: &mut Vec<u8>) -> Written {
     span(&a.span, out)?;
-    option(&a.label, cow, out)?;
+    option(a.label.as_deref(), text, out)?;
     byte(a.kind as u8, out)?;
     byte(a.highlight_source, out)
 }
@@ -182,6 +193,6 @@ fn patch(p: &Patch<'_>, out: &mut Vec<u8>) -> Written {
 fn origin(o: &Origin<'_>, out: &mut Vec<u8>) -> Written {
     text(&o.path, out)?;
     let write = |n: &usize, out: &mut Vec<u8>| number(*n, out);
-    option(&o.line, write, out)?;
-    option(&o.char_column, write, out)
+    option(o.line.as_ref(), write, out)?;
+    option(o.char_column.as_ref(), write, out)
 }

@@ -1,27 +1,19 @@
-//! Draws reports about source text as compilers print them: titles, source lines with marked spans, and labels.
-//!
-//! The names and signatures are those of annotate-snippets 0.12.17. The drawing is done by a static library that is proved to keep
-//! what it promises; this crate builds a report, hands it over as bytes, and takes the text.
-//!
-//! ```
-//! use yazgult::{AnnotationKind, Level, Renderer, Snippet};
-//!
-//! let mark = AnnotationKind::Primary.span(4..5).label("never read");
-//! let snippet = Snippet::source("let x = 1;\n").path("src/main.rs").annotation(mark);
-//! let report = &[Level::ERROR.primary_title("unused variable").element(snippet)];
-//! assert_eq!(
-//!     Renderer::plain().render(report),
-//!     "error: unused variable\n --> src/main.rs:1:5\n  |\n1 | let x = 1;\n  |     ^ never read"
-//! );
-//! ```
+#![doc = include_str!("../README.md")]
+#![deny(missing_docs, missing_debug_implementations, unsafe_code, unsafe_op_in_unsafe_fn)]
+#![deny(rustdoc::broken_intra_doc_links)]
 
+mod answer;
 mod bytes;
-mod call;
+mod grow;
+mod json;
+#[allow(unsafe_code)]
+mod library;
 mod normalize;
 mod snippet;
 
 pub mod level;
 pub mod renderer;
+pub mod text;
 
 #[doc(inline)]
 pub use level::Level;
@@ -29,5 +21,6 @@ pub use normalize::normalize_untrusted_str;
 #[doc(inline)]
 pub use renderer::Renderer;
 pub use snippet::{
-    Annotation, AnnotationKind, Element, Group, Message, OptionCow, Origin, Padding, Patch, Report, Snippet, Title,
+    Annotation, AnnotationKind, Element, Group, Message, OptionCow, Origin, Padding, Patch, Report, Snippet,
+    SourceLines, Title,
 };

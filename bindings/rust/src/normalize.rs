@@ -1,5 +1,13 @@
 /// A text without the characters that could change how a terminal shows what stands around them: each has another text in its place,
 /// as the library draws it, and all other characters are kept.
+///
+/// It is for texts that are drawn as they are, as a message's, and come from anyone.
+///
+/// ```
+/// use yazgult::normalize_untrusted_str;
+///
+/// assert_eq!(normalize_untrusted_str("a\tb\x1b[31m"), "a    b␛[31m");
+/// ```
 pub fn normalize_untrusted_str(s: &str) -> String {
     let mut out = String::with_capacity(s.len());
     for c in s.chars() {

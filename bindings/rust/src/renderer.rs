@@ -1,58 +1,77 @@
 //! The settings that reports are drawn with, and the styles of their parts.
+//!
+//! Styles are those of the crate [anstyle](https://docs.rs/anstyle), whose names stand here too.
+//!
+//! ```
+//! use yazgult::renderer::{AnsiColor, DecorStyle};
+//! use yazgult::{Level, Renderer};
+//!
+//! const RENDERER: Renderer = Renderer::styled().decor_style(DecorStyle::Unicode).error(AnsiColor::Red.on_default());
+//! let text = RENDERER.render(&[Level::ERROR.primary_title("no room").element(Level::NOTE.message("it is full"))]);
+//! assert!(text.starts_with("\x1b[31merror\x1b[0m"));
+//! ```
 
-mod codes;
-mod color;
-mod effects;
+mod defaults;
 mod error;
-mod style;
+mod settings;
+mod styles;
 mod stylesheet;
 
-pub use color::{Ansi256Color, AnsiColor, Color, RgbColor};
-pub use effects::{EffectIter, Effects};
+pub mod parts;
+
+pub use anstyle::*;
+pub use defaults::*;
 pub use error::RenderError;
-pub use style::{Reset, Style};
 pub use stylesheet::Stylesheet;
 
-use crate::bytes;
-use crate::call;
 use crate::snippet::Report;
+use crate::{answer, bytes, json, library};
 
-/// The width that lines are cut to where no other is set, in columns.
-pub const DEFAULT_TERM_WIDTH: usize = 140;
-
-const BRIGHT_BLUE: Style = AnsiColor::BrightBlue.on_default();
-
-/// An error's level, its primary marks and their labels.
-pub const DEFAULT_ERROR_STYLE: Style = AnsiColor::BrightRed.on_default().effects(Effects::BOLD);
-/// A warning's level, its primary marks and their labels.
-pub const DEFAULT_WARNING_STYLE: Style = AnsiColor::Yellow.on_default().effects(Effects::BOLD);
-/// An info's level, its primary marks and their labels.
-pub const DEFAULT_INFO_STYLE: Style = BRIGHT_BLUE.effects(Effects::BOLD);
-/// A note's level, its primary marks and their labels.
-pub const DEFAULT_NOTE_STYLE: Style = AnsiColor::BrightGreen.on_default().effects(Effects::BOLD);
-/// A help's level, its primary marks and their labels.
-pub const DEFAULT_HELP_STYLE: Style = AnsiColor::BrightCyan.on_default().effects(Effects::BOLD);
-/// Line numbers and the strokes of the gutter.
-pub const DEFAULT_LINE_NUM_STYLE: Style = BRIGHT_BLUE.effects(Effects::BOLD);
-/// The text of a title that stands out.
-pub const DEFAULT_EMPHASIS_STYLE: Style = Style::new().effects(Effects::BOLD);
-/// Everything that has no style of its own.
-pub const DEFAULT_NONE_STYLE: Style = Style::new();
-/// Marks and labels of context.
-pub const DEFAULT_CONTEXT_STYLE: Style = BRIGHT_BLUE.effects(Effects::BOLD);
-/// Text that a suggestion adds.
-pub const DEFAULT_ADDITION_STYLE: Style = AnsiColor::BrightGreen.on_default();
-/// Text that a suggestion removes.
-pub const DEFAULT_REMOVAL_STYLE: Style = AnsiColor::BrightRed.on_default();
+/// A stylesheet for what [`Renderer::render_html`] gives: the default styles in colours that can be read on a light page, and on a dark
+/// one where the reader prefers that. It goes into a `<style>`, and may be changed rule by rule: each class has one.
+///
+/// ```
+/// use yazgult::renderer::HTML_STYLESHEET;
+/// use yazgult::{Level, Renderer};
+///
+/// let page = Renderer::plain().render_html(&[Level::ERROR.primary_title("a < b").elements([Level::NOTE.message("so it is")])])?;
+/// let document = format!("<!doctype html><style>{HTML_STYLESHEET}</style><pre>{page}</pre>");
+/// assert!(document.contains(".snippet-error {") && page.contains("snippet-error"));
+/// # Ok::<(), yazgult::renderer::RenderError>(())
+/// ```
+pub const HTML_STYLESHEET: &str = include_str!("renderer/html_stylesheet.css");
 
 /// The characters that strokes are drawn with.
+///
+/// ```
+/// use yazgult::renderer::DecorStyle;
+/// use yazgult::{AnnotationKind, Level, Renderer, Snippet};
+///
+/// let snippet = Snippet::source("ab").annotation(AnnotationKind::Primary.span(0..1).label("here"));
+/// let report = &[Level::ERROR.primary_title("e").element(snippet)];
+/// let text = Renderer::plain().decor_style(DecorStyle::Unicode).render(report);
+/// assert_eq!(text, "error: e\n  ╭▸ \n1 │ ab\n  ╰╴━ here");
+/// ```
 #[derive(Debug, Clone, Copy, PartialEq, Eq)]
 pub enum DecorStyle {
+    /// Those of ASCII: `|`, `_`, `^`, `-`.
     Ascii,
+    /// Those that Unicode has for drawing boxes.
     Unicode,
 }
 
 /// Draws reports, with these settings.
+///
+/// What a terminal can do is for the program to find out: whether it shows styles and links ([`styled`](Renderer::styled) or
+/// [`plain`](Renderer::plain)), how wide it is ([`term_width`](Renderer::term_width)), and whether it shows Unicode
+/// ([`decor_style`](Renderer::decor_style)).
+///
+/// ```
+/// use yazgult::{Level, Origin, Renderer};
+///
+/// let report = &[Level::ERROR.primary_title("no such file").element(Origin::path("a.conf"))];
+/// println!("{}", Renderer::styled().term_width(100).render(report));
+/// ```
 #[derive(Clone, Debug)]
 pub struct Renderer {
     pub(crate) anonymized_origin_line_numbers: bool,
@@ -71,6 +90,13 @@ pub struct Renderer {
 
 impl Renderer {
     /// A renderer that writes no style codes.
+    ///
+    /// ```
+    /// use yazgult::{Group, Level, Renderer};
+    ///
+    /// let report = &[Group::with_title(Level::ERROR.primary_title("no room"))];
+    /// assert_eq!(Renderer::plain().render(report), "error: no room");
+    /// ```
     pub const fn plain() -> Self {
         Renderer {
             anonymized_origin_line_numbers: false,
@@ -89,75 +115,27 @@ impl Renderer {
     }
 
     /// A renderer that writes the codes of the `DEFAULT_*_STYLE` constants, and links.
+    ///
+    /// ```
+    /// use yazgult::renderer::DEFAULT_ERROR_STYLE;
+    /// use yazgult::{Group, Level, Renderer};
+    ///
+    /// let report = &[Group::with_title(Level::ERROR.primary_title("no room"))];
+    /// let style = DEFAULT_ERROR_STYLE;
+    /// assert!(Renderer::styled().render(report).starts_with(&format!("{style}error{style:#}")));
+    /// ```
     pub const fn styled() -> Self {
         Renderer { stylesheet: Stylesheet::styled(), hyperlink: true, ..Renderer::plain() }
     }
 
-    /// Whether a report is written without graphics, for speech and Braille; where it is, `short_message` isn't looked at.
-    pub const fn no_graphics(mut self, no_graphics: bool) -> Self {
-        self.no_graphics = no_graphics;
-        self
-    }
-
-    /// Whether line feeds of labels, paths, identifiers and level names are shown, as `␊`, and in the text form those of replacements, so
-    /// that no such text can begin a line of the report. They are drawn as they are unless this says otherwise.
-    pub const fn show_line_feeds(mut self, show_line_feeds: bool) -> Self {
-        self.show_line_feeds = show_line_feeds;
-        self
-    }
-
-    /// How many lines before and after each line that is shown for its spans are shown too, in the graphic form. There are none unless
-    /// this says otherwise.
-    pub const fn context_lines(mut self, before: usize, after: usize) -> Self {
-        self.context_before = before;
-        self.context_after = after;
-        self
-    }
-
-    /// Whether a line of a title or message that is wider than the room right of where it begins is broken at the last blank before
-    /// that. It is drawn as it is unless this says otherwise.
-    pub const fn wrap(mut self, wrap: bool) -> Self {
-        self.wrap = wrap;
-        self
-    }
-
-    /// Whether a report is drawn on one line, for editors and logs. Such a report needs a group, and its first group a title.
-    pub const fn short_message(mut self, short_message: bool) -> Self {
-        self.short_message = short_message;
-        self
-    }
-
-    /// The width that lines are cut to, in columns.
-    pub const fn term_width(mut self, term_width: usize) -> Self {
-        self.term_width = term_width;
-        self
-    }
-
-    /// The characters that strokes are drawn with.
-    pub const fn decor_style(mut self, decor_style: DecorStyle) -> Self {
-        self.decor_style = decor_style;
-        self
-    }
-
-    /// Whether the numbers of lines in snippets are shown as `LL`.
-    pub const fn anonymized_snippet_line_numbers(mut self, yes: bool) -> Self {
-        self.anonymized_snippet_line_numbers = yes;
-        self
-    }
-
-    /// The same as [`anonymized_snippet_line_numbers`](Renderer::anonymized_snippet_line_numbers).
-    #[deprecated(note = "replaced with `Renderer::anonymized_snippet_line_numbers`")]
-    pub const fn anonymized_line_numbers(self, yes: bool) -> Self {
-        self.anonymized_snippet_line_numbers(yes)
-    }
-
-    /// Whether the numbers of lines after paths are shown as `LL`.
-    pub const fn anonymized_origin_line_numbers(mut self, yes: bool) -> Self {
-        self.anonymized_origin_line_numbers = yes;
-        self
-    }
-
     /// The text of a report.
+    ///
+    /// ```
+    /// use yazgult::{Level, Origin, Renderer};
+    ///
+    /// let report = &[Level::ERROR.primary_title("no such file").element(Origin::path("a.conf"))];
+    /// assert_eq!(Renderer::plain().render(report), "error: no such file\n--> a.conf");
+    /// ```
     ///
     /// # Panics
     ///
@@ -167,86 +145,61 @@ impl Renderer {
     }
 
     /// The text of a report, or why there is none. Where memory is refused, that is told as any other refusal.
+    ///
+    /// ```
+    /// use yazgult::renderer::RenderError;
+    /// use yazgult::{AnnotationKind, Level, Renderer, Snippet};
+    ///
+    /// let snippet = Snippet::source("è").annotation(AnnotationKind::Primary.span(1..2));
+    /// let refused = Renderer::plain().try_render(&[Level::ERROR.primary_title("e").element(snippet)]);
+    /// assert_eq!(refused, Err(RenderError::SpanOffBoundary { group: 0, element: 0, marker: 0 }));
+    /// ```
     pub fn try_render(&self, groups: Report<'_>) -> Result<String, RenderError> {
         let sheet = std::slice::from_ref(&self.stylesheet);
-        call::draw_one(&bytes::report(self, sheet, groups)?)
+        answer::only_text(library::draw(&bytes::report(self, sheet, groups)?)?)
     }
 
     /// The texts of a report, one under each of these sheets, in order; the renderer's own sheet isn't looked at. They differ in
     /// their codes alone.
+    ///
+    /// ```
+    /// use yazgult::renderer::Stylesheet;
+    /// use yazgult::{Level, Origin, Renderer};
+    ///
+    /// let report = &[Level::ERROR.primary_title("no such file").element(Origin::path("a.conf"))];
+    /// let texts = Renderer::plain().render_sheets(report, &[Stylesheet::styled(), Stylesheet::plain()])?;
+    /// assert_eq!(texts[1], "error: no such file\n--> a.conf");
+    /// # Ok::<(), yazgult::renderer::RenderError>(())
+    /// ```
     pub fn render_sheets(&self, groups: Report<'_>, sheets: &[Stylesheet]) -> Result<Vec<String>, RenderError> {
-        call::draw(&bytes::report(self, sheets, groups)?)
+        answer::texts(&library::draw(&bytes::report(self, sheets, groups)?)?)
     }
 
-    /// The style of an error's level, of its primary marks and their labels.
-    pub const fn error(mut self, style: Style) -> Self {
-        self.stylesheet.error = style;
-        self
+    /// The page of a report's graphic form as HTML, for `<pre>`. `short_message`, `no_graphics` and the sheet aren't looked at; what has
+    /// a style stands in a `<span>` of a class, for which [`HTML_STYLESHEET`] has the colours.
+    ///
+    /// `&`, `<`, `>`, `"` and `'` stand as references, so no text of the report is taken for a tag. Where
+    /// [`hyperlink`](Renderer::hyperlink) is set, an id links to its address if that begins with `http:`, `https:` or `mailto:` and
+    /// holds ASCII characters that are seen and nothing else.
+    ///
+    /// ```
+    /// use yazgult::{AnnotationKind, Level, Renderer, Snippet};
+    ///
+    /// let snippet = Snippet::source("a < b").annotation(AnnotationKind::Primary.span(2..3));
+    /// let page = Renderer::plain().render_html(&[Level::ERROR.primary_title("e").element(snippet)])?;
+    /// assert!(page.contains("</span> a &lt; b\n"));
+    /// assert!(page.ends_with("<span class=\"snippet-error\">^</span>"));
+    /// # Ok::<(), yazgult::renderer::RenderError>(())
+    /// ```
+    pub fn render_html(&self, groups: Report<'_>) -> Result<String, RenderError> {
+        let answer = library::draw_json(&json::html_line(self, groups)?)?;
+        answer::only_json_text(&answer)?.ok_or_else(|| self.refusal_as_html(groups))
     }
 
-    /// The style of a warning's level, of its primary marks and their labels.
-    pub const fn warning(mut self, style: Style) -> Self {
-        self.stylesheet.warning = style;
-        self
-    }
-
-    /// The style of an info's level, of its primary marks and their labels.
-    pub const fn info(mut self, style: Style) -> Self {
-        self.stylesheet.info = style;
-        self
-    }
-
-    /// The style of a note's level, of its primary marks and their labels.
-    pub const fn note(mut self, style: Style) -> Self {
-        self.stylesheet.note = style;
-        self
-    }
-
-    /// The style of a help's level, of its primary marks and their labels.
-    pub const fn help(mut self, style: Style) -> Self {
-        self.stylesheet.help = style;
-        self
-    }
-
-    /// The style of line numbers and of the strokes of the gutter.
-    pub const fn line_num(mut self, style: Style) -> Self {
-        self.stylesheet.line_num = style;
-        self
-    }
-
-    /// The style of the text of a title that stands out.
-    pub const fn emphasis(mut self, style: Style) -> Self {
-        self.stylesheet.emphasis = style;
-        self
-    }
-
-    /// The style of marks and labels of context.
-    pub const fn context(mut self, style: Style) -> Self {
-        self.stylesheet.context = style;
-        self
-    }
-
-    /// The style of text that a suggestion adds.
-    pub const fn addition(mut self, style: Style) -> Self {
-        self.stylesheet.addition = style;
-        self
-    }
-
-    /// The style of text that a suggestion removes.
-    pub const fn removal(mut self, style: Style) -> Self {
-        self.stylesheet.removal = style;
-        self
-    }
-
-    /// The style of everything that has none of its own.
-    pub const fn none(mut self, style: Style) -> Self {
-        self.stylesheet.none = style;
-        self
-    }
-
-    /// Whether the identifiers of titles link to their addresses.
-    pub const fn hyperlink(mut self, hyperlink: bool) -> Self {
-        self.hyperlink = hyperlink;
-        self
+    /// Why a report gave no HTML: it is refused as in the graphic form, else there was no memory.
+    fn refusal_as_html(&self, groups: Report<'_>) -> RenderError {
+        let graphic = self.clone().short_message(false).no_graphics(false);
+        // under no sheets a report is judged and gives no text
+        graphic.render_sheets(groups, &[]).err().unwrap_or(RenderError::Memory)
     }
 }

@@ -1,11 +1,13 @@
-//! The calls of annotate-snippets 0.12.17, each with every kind of argument that it takes: what compiles here, a program may write.
+//! The calls of annotate-snippets 0.12.17, each with every kind of argument that it takes: what compiles here, a program may write. And
+//! those that it hasn't, beside what they stand for.
 
 use std::borrow::Cow;
 use yazgult::renderer::*;
+use yazgult::text::is_link_address;
 use yazgult::{level, normalize_untrusted_str};
 use yazgult::{
     Annotation, AnnotationKind, Element, Group, Level, Message, OptionCow, Origin, Padding, Patch, Renderer, Report,
-    Snippet, Title,
+    Snippet, SourceLines, Title,
 };
 
 /// A type of each kind that converts to a text: lent, owned, and either.
@@ -45,7 +47,8 @@ fn names_labels_and_paths_take_what_may_be_missing() {
         Some(owned.clone()).into(),
         None::<Cow<'_, str>>.into(),
     ];
-    let marks: Vec<Annotation<'_>> = names.into_iter().map(|name| AnnotationKind::Context.span(0..1).label(name)).collect();
+    let marks: Vec<Annotation<'_>> =
+        names.into_iter().map(|name| AnnotationKind::Context.span(0..1).label(name)).collect();
     let named = Level::ERROR.with_name(&owned).with_name(None::<&str>).with_name(Some(either.clone())).no_name();
     let snippet: Snippet<'_, Annotation<'_>> = Snippet::source(&owned)
         .path(lent)
@@ -124,4 +127,43 @@ fn renderers_are_made_in_constants() {
 fn levels_are_ordered_by_their_names_and_then_as_they_are_severe() {
     assert!(Level::ERROR < Level::WARNING && Level::NOTE < Level::HELP);
     assert!(Level::HELP < Level::ERROR.no_name() && Level::HELP.no_name() < Level::ERROR.with_name("a"));
+}
+
+#[test]
+fn a_kept_source_is_drawn_as_its_text() {
+    let source = "a\nb\n";
+    let lines = SourceLines::new(source.to_owned());
+    let drawn = |snippet: Snippet<'_, Annotation<'static>>| {
+        let snippet = snippet.path("a.rs").annotation(AnnotationKind::Primary.span(2..3).label("here"));
+        Renderer::plain().render(&[Level::ERROR.primary_title("t").element(snippet)])
+    };
+    assert_eq!(drawn(Snippet::indexed(&lines)), drawn(Snippet::source(source)));
+    assert_eq!(format!("{lines:?}"), format!("{source:?}"));
+    let edited: Snippet<'_, Patch<'_>> = Snippet::indexed(&lines).patch(Patch::new(0..1, "b"));
+    assert!(Renderer::plain().try_render(&[Level::HELP.secondary_title("t").element(edited)]).is_ok());
+}
+
+#[test]
+fn html_is_of_the_graphic_form() {
+    let snippet = Snippet::source("ab").annotation(AnnotationKind::Primary.span(0..1));
+    let report = &[Level::ERROR.primary_title("t").element(snippet)];
+    let page = Renderer::plain().render_html(report).expect("it is drawn");
+    assert!(page.starts_with("<span class=\"snippet-error\">error</span>"));
+    assert_eq!(Renderer::styled().short_message(true).no_graphics(true).render_html(report), Ok(page));
+    assert_eq!(Renderer::plain().short_message(true).render_html(&[]), Ok(String::new()));
+    let wrong = Snippet::source("ab").annotation(AnnotationKind::Primary.span(0..4));
+    let refused = Renderer::plain().render_html(&[Level::ERROR.primary_title("t").element(wrong)]);
+    assert_eq!(refused, Err(RenderError::SpanPastEnd { group: 0, element: 0, marker: 0 }));
+}
+
+#[test]
+fn addresses_of_the_web_and_of_mail_may_be_links() {
+    for address in ["http:", "HTTPS://a", "mailto:a@b.example", "https://a.example/?x&y#\"'<>"] {
+        assert!(is_link_address(address), "{address:?}");
+    }
+    for address in
+        ["", "http", "javascript:f()", " https://a", "https://a b", "https://a\n", "https://a\u{7f}", "https://é", "é"]
+    {
+        assert!(!is_link_address(address), "{address:?}");
+    }
 }

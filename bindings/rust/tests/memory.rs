@@ -1,4 +1,4 @@
-//! Where memory is refused, `try_render` and `render_sheets` say so, whichever request it is.
+//! Where memory is refused, `try_render`, `render_sheets` and `render_html` say so, whichever request it is.
 
 use std::alloc::{GlobalAlloc, Layout, System};
 use std::cell::Cell;
@@ -57,8 +57,12 @@ fn report(lines: usize) -> Vec<Group<'static>> {
     let mark = AnnotationKind::Primary.span(4..5).label("never read");
     let patch = Patch::new(4..5, "_x");
     vec![
-        Level::ERROR.primary_title("unused variable").id("E1").element(Snippet::source(source.clone()).path("a.rs").annotation(mark)),
-        Group::with_title(Level::HELP.with_name("hint").secondary_title("rename it")).element(Snippet::source(source).patch(patch)),
+        Level::ERROR
+            .primary_title("unused variable")
+            .id("E1")
+            .element(Snippet::source(source.clone()).path("a.rs").annotation(mark)),
+        Group::with_title(Level::HELP.with_name("hint").secondary_title("rename it"))
+            .element(Snippet::source(source).patch(patch)),
     ]
 }
 
@@ -77,6 +81,13 @@ fn no_request_of_several_texts_ends_the_program() {
     let sheets = [Stylesheet::plain(), Stylesheet::styled()];
     // the same, and those of the list and of each text in it
     assert!(refuse_each(|| Renderer::plain().render_sheets(&report, &sheets)) >= 5);
+}
+
+#[test]
+fn no_request_of_html_ends_the_program() {
+    let report = report(100);
+    // the line of the report, the answer, and the text in it
+    assert!(refuse_each(|| Renderer::plain().render_html(&report)) >= 3);
 }
 
 #[test]

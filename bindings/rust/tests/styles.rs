@@ -1,4 +1,4 @@
-//! The codes that a style is as a text are those that the library writes for it.
+//! The codes that a style of anstyle is as a text are those that the library writes for it.
 
 use yazgult::renderer::{Ansi256Color, AnsiColor, Color, Effects, Reset, RgbColor, Style};
 use yazgult::{Group, Level, Renderer};
@@ -12,7 +12,11 @@ fn styles() -> Vec<Style> {
         let color = Ansi256Color(index).into_ansi().expect("one of the sixteen");
         styles.extend([color.on_default(), AnsiColor::Red.on(color), Color::from(index).on(color)]);
     }
-    styles.extend([RgbColor(1, 20, 255).on((3, 2, 1)), Style::new() | all, AnsiColor::Green.on_default() | Effects::BOLD]);
+    styles.extend([
+        RgbColor(1, 20, 255).on((3, 2, 1)),
+        Style::new() | all,
+        AnsiColor::Green.on_default() | Effects::BOLD,
+    ]);
     styles
 }
 
@@ -26,6 +30,22 @@ fn codes_are_those_that_are_drawn() {
 }
 
 #[test]
+fn all_underlines_are_drawn_as_one_kind() {
+    let kinds = [
+        Effects::DOUBLE_UNDERLINE,
+        Effects::CURLY_UNDERLINE,
+        Effects::DOTTED_UNDERLINE,
+        Effects::DASHED_UNDERLINE,
+        Effects::UNDERLINE | Effects::CURLY_UNDERLINE,
+    ];
+    let report = &[Group::with_title(Level::ERROR.secondary_title("t"))];
+    for kind in kinds {
+        let style = Style::new().effects(kind).underline_color(Some(AnsiColor::Red.into())).bold();
+        assert_eq!(Renderer::plain().error(style).render(report), "\x1b[1m\x1b[4merror\x1b[0m: t", "{kind:?}");
+    }
+}
+
+#[test]
 fn codes_of_some_styles() {
     let style = AnsiColor::BrightRed.on(Ansi256Color(5)).effects(Effects::BOLD | Effects::UNDERLINE);
     assert_eq!(style.render().to_string(), "\x1b[1m\x1b[4m\x1b[91m\x1b[48;5;5m");
@@ -33,6 +53,14 @@ fn codes_of_some_styles() {
     assert_eq!(AnsiColor::Black.render_bg().to_string(), "\x1b[40m");
     assert_eq!((format!("{:#}", Style::new()), format!("{}", Style::new())), (String::new(), String::new()));
     assert_eq!(Reset.to_string(), "\x1b[0m");
+    let curly = Style::new().effects(Effects::CURLY_UNDERLINE).underline_color(Some(AnsiColor::Red.into()));
+    assert_eq!(curly.to_string(), "\x1b[4:3m\x1b[58;5;1m");
+}
+
+#[test]
+fn styles_are_of_the_crate_anstyle() {
+    const ERROR: anstyle::Style = yazgult::renderer::DEFAULT_ERROR_STYLE;
+    assert_eq!(ERROR, anstyle::AnsiColor::BrightRed.on_default() | anstyle::Effects::BOLD);
 }
 
 #[test]

@@ -156,7 +156,8 @@ impl Reader<'_> {
                 if (0xd800..0xdc00).contains(&unit) {
                     self.at += 2;
                     let low = self.unit();
-                    return char::from_u32(0x10000 + ((unit - 0xd800) << 10) + (low - 0xdc00)).expect("a pair of surrogates");
+                    return char::from_u32(0x10000 + ((unit - 0xd800) << 10) + (low - 0xdc00))
+                        .expect("a pair of surrogates");
                 }
                 char::from_u32(unit).expect("a character")
             }

@@ -11,7 +11,7 @@ use json::Json;
 use report::Parts;
 use std::process::ExitCode;
 use std::time::Instant;
-use yazgult::renderer::Stylesheet;
+use yazgult::renderer::{RenderError, Stylesheet};
 use yazgult::Renderer;
 
 fn main() -> ExitCode {
@@ -50,12 +50,21 @@ fn check(files: &[&str]) -> ExitCode {
     ExitCode::from(u8::from(failed > 0))
 }
 
+/// What becomes of a case: a text under each of its sheets, or its HTML.
+fn outcome(case: &Json) -> Result<Vec<String>, RenderError> {
+    let (renderer, groups) = (report::renderer(case), report::built(&report::parts(case)));
+    if case.flag("html", false) {
+        return Ok(vec![renderer.render_html(&groups)?]);
+    }
+    renderer.render_sheets(&groups, &report::sheets(case))
+}
+
 /// Whether what is expected becomes of a case.
 fn is_met(expected: &Json, case: &Json) -> bool {
-    let (renderer, sheets, groups) = (report::renderer(case), report::sheets(case), report::built(&report::parts(case)));
-    match renderer.render_sheets(&groups, &sheets) {
+    match outcome(case) {
         Ok(texts) => {
-            let wanted = expected.list("ok").iter().map(|it| if let Json::Text(text) = it { text.as_str() } else { "" });
+            let wanted =
+                expected.list("ok").iter().map(|it| if let Json::Text(text) = it { text.as_str() } else { "" });
             expected.get("ok").is_some() && wanted.eq(texts.iter().map(String::as_str))
         }
         Err(refusal) => {

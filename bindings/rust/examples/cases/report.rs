@@ -1,6 +1,8 @@
 //! Cases as the API's values.
 
 use crate::json::Json;
+use std::ops::Range;
+use yazgult::renderer::parts::{span_at, ColumnUnit, Position};
 use yazgult::renderer::{Ansi256Color, AnsiColor, Color, DecorStyle, Effects, RgbColor, Style, Stylesheet};
 use yazgult::{
     Annotation, AnnotationKind, Element, Group, Level, Message, Origin, Padding, Patch, Renderer, Snippet, Title,
@@ -191,10 +193,10 @@ fn level(holder: &Json) -> Level<'_> {
 
 fn part(e: &Json) -> Part<'_> {
     if let Some(s) = e.get("cause") {
-        return Part::Cause(snippet(s), s.list("annotations").iter().map(annotation).collect());
+        return Part::Cause(snippet(s), s.list("annotations").iter().map(|it| annotation(it, s)).collect());
     }
     if let Some(s) = e.get("suggestion") {
-        return Part::Suggestion(snippet(s), s.list("patches").iter().map(patch).collect());
+        return Part::Suggestion(snippet(s), s.list("patches").iter().map(|it| patch(it, s)).collect());
     }
     Part::Whole(match (e.get("message"), e.get("origin")) {
         (Some(m), _) => message(m).into(),
@@ -215,19 +217,37 @@ fn snippet<T: Clone>(s: &Json) -> Snippet<'_, T> {
         .fold(s.flag("fold", true))
 }
 
-fn annotation(a: &Json) -> Annotation<'_> {
+/// The span of a marker, in a snippet: by bytes, or by lines and columns.
+fn span(marker: &Json, snippet: &Json) -> Range<usize> {
+    let (Some(from), Some(to)) = (marker.get("from"), marker.get("to")) else {
+        return marker.number("start").expect("a start")..marker.number("end").expect("an end");
+    };
+    let unit = match snippet.text("unit") {
+        None | Some("char") => ColumnUnit::Chars,
+        Some("utf16") => ColumnUnit::Utf16,
+        Some(other) => panic!("columns aren't counted in {other} here"),
+    };
+    let source = snippet.text("source").expect("a source");
+    let at = span_at(source, position(from), position(to), unit);
+    assert!(!at.clamped, "{from:?} to {to:?} is in the source");
+    at.span
+}
+
+fn position(place: &Json) -> Position {
+    Position { line: place.number("line").expect("a line"), column: place.number("column").expect("a column") }
+}
+
+fn annotation<'a>(a: &'a Json, snippet: &Json) -> Annotation<'a> {
     let kind = match a.text("kind").expect("a kind of annotation") {
         "primary" => AnnotationKind::Primary,
         "context" => AnnotationKind::Context,
         _ => AnnotationKind::Visible,
     };
-    let span = a.number("start").expect("a start")..a.number("end").expect("an end");
-    kind.span(span).label(a.text("label")).highlight_source(a.flag("highlight_source", false))
+    kind.span(span(a, snippet)).label(a.text("label")).highlight_source(a.flag("highlight_source", false))
 }
 
-fn patch(p: &Json) -> Patch<'_> {
-    let span = p.number("start").expect("a start")..p.number("end").expect("an end");
-    Patch::new(span, p.text("text").expect("a text"))
+fn patch<'a>(p: &'a Json, snippet: &Json) -> Patch<'a> {
+    Patch::new(span(p, snippet), p.text("text").expect("a text"))
 }
 
 fn origin(o: &Json) -> Origin<'_> {

@@ -1,7 +1,20 @@
 use std::error::Error;
 use std::fmt;
 
-/// Why a report gives no text. Groups, elements and markers are numbered from 0.
+/// Why a report gives no text.
+///
+/// Groups, elements and markers are numbered from 0; a marker is an annotation or a patch. Of several faults the first is named: groups,
+/// elements and markers in order, then an element's patches that overlap, then its line numbers.
+///
+/// ```
+/// use yazgult::renderer::RenderError;
+/// use yazgult::{AnnotationKind, Level, Renderer, Snippet};
+///
+/// let snippet = Snippet::source("ab").annotation(AnnotationKind::Primary.span(0..4));
+/// let refused = Renderer::plain().try_render(&[Level::ERROR.primary_title("e").element(snippet)]).unwrap_err();
+/// assert_eq!(refused, RenderError::SpanPastEnd { group: 0, element: 0, marker: 0 });
+/// assert_eq!(refused.to_string(), "group 0, element 0, marker 0: span ends past the source");
+/// ```
 #[derive(Clone, Copy, Debug, PartialEq, Eq)]
 pub enum RenderError {
     /// The short form was asked for, and the report is empty.
@@ -9,16 +22,51 @@ pub enum RenderError {
     /// The short form was asked for, and the first group has no title.
     NoTitle,
     /// A span starts after its end.
-    SpanReversed { group: usize, element: usize, marker: usize },
+    SpanReversed {
+        /// The group.
+        group: usize,
+        /// The element of it.
+        element: usize,
+        /// The marker of that.
+        marker: usize,
+    },
     /// A span ends more than one byte after the source.
-    SpanPastEnd { group: usize, element: usize, marker: usize },
+    SpanPastEnd {
+        /// The group.
+        group: usize,
+        /// The element of it.
+        element: usize,
+        /// The marker of that.
+        marker: usize,
+    },
     /// A span starts or ends inside a character.
-    SpanOffBoundary { group: usize, element: usize, marker: usize },
-    /// Two patches of a snippet overlap.
-    PatchesOverlap { group: usize, element: usize, first: usize, second: usize },
-    /// The number after that of a snippet's last line is too large.
-    LineNumberTooLarge { group: usize, element: usize },
-    /// There was no memory.
+    SpanOffBoundary {
+        /// The group.
+        group: usize,
+        /// The element of it.
+        element: usize,
+        /// The marker of that.
+        marker: usize,
+    },
+    /// Two patches of a snippet overlap: in the order by start, then end, else as given, the one ends after the start of the other.
+    PatchesOverlap {
+        /// The group.
+        group: usize,
+        /// The element of it.
+        element: usize,
+        /// One of the patches.
+        first: usize,
+        /// The other one, whose number is greater.
+        second: usize,
+    },
+    /// The number after that of a snippet's last line doesn't fit in a `usize`.
+    LineNumberTooLarge {
+        /// The group.
+        group: usize,
+        /// The element of it.
+        element: usize,
+    },
+    /// A growth of memory was refused.
     Memory,
 }
 

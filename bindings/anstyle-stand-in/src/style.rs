@@ -1,8 +1,9 @@
-//! Styles: the part of the crate anstyle that reports need, under its names.
+//! Styles.
 
-use super::codes::Codes;
-use super::{Ansi256Color, AnsiColor, Color, Effects, RgbColor};
+use crate::codes::Codes;
+use crate::{Ansi256Color, AnsiColor, Color, Effects, RgbColor};
 use std::fmt::{self, Display};
+#[cfg(feature = "std")]
 use std::io::{self, Write};
 use std::ops::{BitOr, BitOrAssign, Sub, SubAssign};
 
@@ -11,7 +12,7 @@ use std::ops::{BitOr, BitOrAssign, Sub, SubAssign};
 /// As a text it is its codes, and by `{:#}` the code that ends it:
 ///
 /// ```
-/// use yazgult::renderer::{AnsiColor, Effects, Style};
+/// use anstyle::{AnsiColor, Effects, Style};
 ///
 /// const LOUD: Style = AnsiColor::Magenta.on_default().effects(Effects::BOLD);
 /// assert_eq!(format!("{LOUD}dyn{LOUD:#} Any"), "\x1b[1m\x1b[35mdyn\x1b[0m Any");
@@ -20,13 +21,14 @@ use std::ops::{BitOr, BitOrAssign, Sub, SubAssign};
 pub struct Style {
     fg: Option<Color>,
     bg: Option<Color>,
+    underline: Option<Color>,
     effects: Effects,
 }
 
 impl Style {
     /// The plain style.
     pub const fn new() -> Self {
-        Style { fg: None, bg: None, effects: Effects::new() }
+        Style { fg: None, bg: None, underline: None, effects: Effects::new() }
     }
 
     /// The style with this colour of the text.
@@ -38,6 +40,12 @@ impl Style {
     /// The style with this background colour.
     pub const fn bg_color(mut self, bg: Option<Color>) -> Self {
         self.bg = bg;
+        self
+    }
+
+    /// The style with this colour of underlines.
+    pub const fn underline_color(mut self, underline: Option<Color>) -> Self {
+        self.underline = underline;
         self
     }
 
@@ -105,6 +113,11 @@ impl Style {
         self.bg
     }
 
+    /// The colour of underlines.
+    pub const fn get_underline_color(self) -> Option<Color> {
+        self.underline
+    }
+
     /// The effects.
     pub const fn get_effects(self) -> Effects {
         self.effects
@@ -112,7 +125,7 @@ impl Style {
 
     /// Whether there is neither a colour nor an effect.
     pub const fn is_plain(self) -> bool {
-        self.fg.is_none() && self.bg.is_none() && self.effects.is_plain()
+        self.fg.is_none() && self.bg.is_none() && self.underline.is_none() && self.effects.is_plain()
     }
 
     /// The codes that begin it.
@@ -126,11 +139,13 @@ impl Style {
     }
 
     /// Writes the codes that begin it.
+    #[cfg(feature = "std")]
     pub fn write_to(self, write: &mut dyn Write) -> io::Result<()> {
         write!(write, "{}", self.render())
     }
 
     /// Writes the code that ends it.
+    #[cfg(feature = "std")]
     pub fn write_reset_to(self, write: &mut dyn Write) -> io::Result<()> {
         write!(write, "{}", self.render_reset())
     }

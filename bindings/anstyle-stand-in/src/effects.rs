@@ -1,28 +1,48 @@
-//! Effects, under the names of the crate anstyle.
+//! Effects.
 
 use std::fmt;
 use std::ops::{BitOr, BitOrAssign, Sub, SubAssign};
 
 /// Effects, each on or off.
 #[derive(Clone, Copy, Default, PartialEq, Eq, PartialOrd, Ord, Hash)]
-pub struct Effects(u8);
+pub struct Effects(u16);
 
 impl Effects {
+    /// Bold.
     pub const BOLD: Self = Effects(1);
+    /// Dimmed.
     pub const DIMMED: Self = Effects(1 << 1);
+    /// Italic.
     pub const ITALIC: Self = Effects(1 << 2);
+    /// Underlined.
     pub const UNDERLINE: Self = Effects(1 << 3);
-    pub const BLINK: Self = Effects(1 << 4);
-    pub const INVERT: Self = Effects(1 << 5);
-    pub const HIDDEN: Self = Effects(1 << 6);
-    pub const STRIKETHROUGH: Self = Effects(1 << 7);
+    /// Underlined twice.
+    pub const DOUBLE_UNDERLINE: Self = Effects(1 << 4);
+    /// Underlined by a wave.
+    pub const CURLY_UNDERLINE: Self = Effects(1 << 5);
+    /// Underlined by dots.
+    pub const DOTTED_UNDERLINE: Self = Effects(1 << 6);
+    /// Underlined by dashes.
+    pub const DASHED_UNDERLINE: Self = Effects(1 << 7);
+    /// Blinking.
+    pub const BLINK: Self = Effects(1 << 8);
+    /// With the colours exchanged.
+    pub const INVERT: Self = Effects(1 << 9);
+    /// Hidden.
+    pub const HIDDEN: Self = Effects(1 << 10);
+    /// Struck through.
+    pub const STRIKETHROUGH: Self = Effects(1 << 11);
 
-    /// Each effect, in the order of the form as bytes.
-    pub(crate) const ALL: [Self; 8] = [
+    /// Each effect, in order.
+    const ALL: [Self; 12] = [
         Self::BOLD,
         Self::DIMMED,
         Self::ITALIC,
         Self::UNDERLINE,
+        Self::DOUBLE_UNDERLINE,
+        Self::CURLY_UNDERLINE,
+        Self::DOTTED_UNDERLINE,
+        Self::DASHED_UNDERLINE,
         Self::BLINK,
         Self::INVERT,
         Self::HIDDEN,
@@ -75,7 +95,7 @@ impl Effects {
 
     /// The codes that turn them on.
     pub fn render(self) -> impl fmt::Display + Copy {
-        super::codes::Codes::of(self.into())
+        crate::codes::Codes::of(self.into())
     }
 
     /// The name of the constant of one effect.
@@ -85,6 +105,10 @@ impl Effects {
             Self::DIMMED => "DIMMED",
             Self::ITALIC => "ITALIC",
             Self::UNDERLINE => "UNDERLINE",
+            Self::DOUBLE_UNDERLINE => "DOUBLE_UNDERLINE",
+            Self::CURLY_UNDERLINE => "CURLY_UNDERLINE",
+            Self::DOTTED_UNDERLINE => "DOTTED_UNDERLINE",
+            Self::DASHED_UNDERLINE => "DASHED_UNDERLINE",
             Self::BLINK => "BLINK",
             Self::INVERT => "INVERT",
             Self::HIDDEN => "HIDDEN",

@@ -1,4 +1,4 @@
-// Draws reports by a `replay` that is kept open. Run it by itself to draw one: node clients/replay.js crates/replay/out/replay
+// Draws reports by a `replay` that is kept open. Run it by itself to draw one: node bindings/clients/replay.js crates/replay/out/replay
 "use strict";
 
 const { spawn } = require("node:child_process");

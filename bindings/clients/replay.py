@@ -1,4 +1,4 @@
-"""Draws reports by a `replay` that is kept open. Run it by itself to draw one: python3 clients/replay.py crates/replay/out/replay"""
+"""Draws reports by a `replay` that is kept open. Run it by itself to draw one: python3 bindings/clients/replay.py crates/replay/out/replay"""
 
 import json
 import subprocess

@@ -1,24 +1,23 @@
-//! The codes that a terminal takes for a style, for texts that a program styles itself, as a message's. The library writes those of
-//! its sheets on its own.
+//! The codes that a terminal takes for a style.
 
-use super::{Color, Effects, Style};
+use crate::{Color, Effects, Style};
 use std::fmt::{Display, Formatter, Result};
 
 /// The codes that begin a style, or the one that ends it.
 #[derive(Clone, Copy)]
-pub(super) struct Codes {
+pub(crate) struct Codes {
     style: Style,
     resets: bool,
 }
 
 impl Codes {
     /// The codes that begin it.
-    pub(super) const fn of(style: Style) -> Self {
+    pub(crate) const fn of(style: Style) -> Self {
         Codes { style, resets: false }
     }
 
     /// The code that ends it: none of a plain style.
-    pub(super) const fn reset(style: Style) -> Self {
+    pub(crate) const fn reset(style: Style) -> Self {
         Codes { style, resets: true }
     }
 }
@@ -34,27 +33,35 @@ impl Display for Codes {
         if let Some(color) = self.style.get_fg_color() {
             color_code(color, 30, f)?;
         }
-        match self.style.get_bg_color() {
-            Some(color) => color_code(color, 40, f),
+        if let Some(color) = self.style.get_bg_color() {
+            color_code(color, 40, f)?;
+        }
+        match self.style.get_underline_color() {
+            Some(Color::Ansi(color)) => color_code(Color::from(color as u8), 50, f),
+            Some(color) => color_code(color, 50, f),
             None => Ok(()),
         }
     }
 }
 
-fn effect_code(effect: Effects) -> u8 {
+fn effect_code(effect: Effects) -> &'static str {
     match effect {
-        Effects::BOLD => 1,
-        Effects::DIMMED => 2,
-        Effects::ITALIC => 3,
-        Effects::UNDERLINE => 4,
-        Effects::BLINK => 5,
-        Effects::INVERT => 7,
-        Effects::HIDDEN => 8,
-        _ => 9,
+        Effects::BOLD => "1",
+        Effects::DIMMED => "2",
+        Effects::ITALIC => "3",
+        Effects::UNDERLINE => "4",
+        Effects::DOUBLE_UNDERLINE => "21",
+        Effects::CURLY_UNDERLINE => "4:3",
+        Effects::DOTTED_UNDERLINE => "4:4",
+        Effects::DASHED_UNDERLINE => "4:5",
+        Effects::BLINK => "5",
+        Effects::INVERT => "7",
+        Effects::HIDDEN => "8",
+        _ => "9",
     }
 }
 
-/// Writes the code of a colour. The codes of the dark colours of the theme begin at `first`.
+/// Writes the code of a colour. The codes of the dark colours of the theme begin at `first`; underlines have none of these.
 fn color_code(color: Color, first: u8, f: &mut Formatter<'_>) -> Result {
     let palette = first + 8;
     match color {

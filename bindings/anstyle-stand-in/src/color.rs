@@ -1,14 +1,17 @@
-//! Colours, under the names of the crate anstyle.
+//! Colours.
 
-use super::codes::Codes;
-use super::Style;
+use crate::codes::Codes;
+use crate::Style;
 use std::fmt::Display;
 
 /// A colour.
 #[derive(Clone, Copy, Debug, PartialEq, Eq, PartialOrd, Ord, Hash)]
 pub enum Color {
+    /// One of the terminal's theme.
     Ansi(AnsiColor),
+    /// One of the palette of 256.
     Ansi256(Ansi256Color),
+    /// Any.
     Rgb(RgbColor),
 }
 
@@ -68,21 +71,37 @@ impl From<(u8, u8, u8)> for Color {
 #[derive(Clone, Copy, Debug, PartialEq, Eq, PartialOrd, Ord, Hash)]
 #[repr(u8)]
 pub enum AnsiColor {
+    /// Number 0.
     Black,
+    /// Number 1.
     Red,
+    /// Number 2.
     Green,
+    /// Number 3.
     Yellow,
+    /// Number 4.
     Blue,
+    /// Number 5.
     Magenta,
+    /// Number 6.
     Cyan,
+    /// Number 7.
     White,
+    /// Number 8.
     BrightBlack,
+    /// Number 9.
     BrightRed,
+    /// Number 10.
     BrightGreen,
+    /// Number 11.
     BrightYellow,
+    /// Number 12.
     BrightBlue,
+    /// Number 13.
     BrightMagenta,
+    /// Number 14.
     BrightCyan,
+    /// Number 15.
     BrightWhite,
 }
 

@@ -1,0 +1,77 @@
+"""Finds libyazgult, once it is needed, and calls it."""
+
+from __future__ import annotations
+
+import ctypes
+import functools
+import os
+from pathlib import Path
+from typing import Any, List
+
+from .errors import LibraryNotFound
+
+# What names the library's file, before all other places.
+VARIABLE = "YAZGULT_LIBRARY"
+NAMES = ("libyazgult.so.1", "libyazgult.so")
+FUNCTIONS = {"yazgult_draw_json": 2, "yazgult_version": 1}
+HOW = f"Install the wheel of yazgult, which holds the library, or name its file in the environment variable {VARIABLE}."
+
+# How much room an answer gets before its length is known, in bytes.
+ROOM = 1 << 16
+# Rooms that no call uses now.
+spare: List[Any] = []
+
+
+def places() -> List[str]:
+    """Where the library is looked for: where the variable says, or beside this package, in the lib folder of the prefix that the
+    package is installed under, and where the system has its libraries."""
+    named = os.environ.get(VARIABLE)
+    if named:
+        return [named]
+    here = Path(__file__).resolve().parent
+    beside = [folder / name for folder in (here, here.parent.parent) for name in NAMES]
+    # A file that is there is the one, so that what is wrong with it is told.
+    return [str(it) for it in beside if it.is_file()][:1] or list(NAMES)
+
+
+@functools.lru_cache(maxsize=None)
+def library() -> ctypes.CDLL:
+    """The library, loaded once. Where that fails, the next call tries again."""
+    why = ""
+    for place in places():
+        try:
+            loaded = ctypes.CDLL(place)
+        except OSError as error:
+            why = why or str(error)
+            continue
+        for name, count in FUNCTIONS.items():
+            function = getattr(loaded, name, None)
+            if function is None:
+                raise LibraryNotFound(f"{place} is another library: it has no {name}. {HOW}")
+            function.argtypes = [ctypes.c_char_p, ctypes.c_size_t] * count
+            function.restype = ctypes.c_size_t
+        return loaded
+    raise LibraryNotFound(f"The library of yazgult can't be loaded: {why}. {HOW}")
+
+
+def free_room() -> Any:
+    """A room that no other call uses until it is put back."""
+    try:
+        return spare.pop()
+    except IndexError:
+        return ctypes.create_string_buffer(ROOM)
+
+
+def call(name: str, *inputs: bytes) -> bytes:
+    """What a function of the library answers, in as much room as that takes. Any thread may call at any time."""
+    function = getattr(library(), name)
+    given = [it for each in inputs for it in (each, len(each))]
+    room = free_room()
+    length: int = function(*given, room, ROOM)
+    answer = ctypes.string_at(room, min(length, ROOM))
+    spare.append(room)
+    while length > len(answer):
+        larger = ctypes.create_string_buffer(length)
+        length = function(*given, larger, len(larger))
+        answer = ctypes.string_at(larger, min(length, len(larger)))
+    return answer
