@@ -96,7 +96,8 @@ fn characters_and_columns(text: &str) -> (usize, usize)
     walked(text)
 }
 
-/// The same, found character by character.
+/// The same, found character by character: out of the way of its callers, since most texts are plain.
+#[inline(never)]
 fn walked(text: &str) -> (usize, usize)
     requires fits { TextFits text.now }
     ensures characters { result.0 ≡ length (chars text.now) }
