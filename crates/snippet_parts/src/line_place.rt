@@ -8,6 +8,7 @@ ghost use Rattle.snippet_text.specs.TextBounds.{IsInText, IsOffset};
 
 use crate::source_map::{LineInfo, SourceMap};
 use snippet_lines::place::Loc;
+use std::marker::Model;
 use std::ops::Range;
 
 /// The place of a byte, with the line on which it stands.
@@ -15,6 +16,59 @@ use std::ops::Range;
 pub(crate) struct LinePlace<'a> {
     pub(crate) line: LineInfo<'a>,
     pub(crate) at: Loc,
+}
+
+/// Looks for where spans of a source start and end, each from where the one before it starts.
+#[derive(Drop)]
+pub struct SpanFinder<'m, 'a> {
+    source: &'m SourceMap<'a>,
+    /// Where the last span that was looked for starts.
+    known: Option<LinePlace<'a>>,
+}
+
+impl<'m, 'a> Model for SpanFinder<'m, 'a> {
+    ghost use Rattle.std.specs.Prelude.{IfSome};
+    ghost use Rattle.snippet_lines.specs.Lines.{Source};
+    ghost use Rattle.snippet_parts.specs.LinePlaces.{IsLinePlace};
+
+    ghost Value = { Source };
+
+    ghost view = { λ finder. finder.source.now };
+
+    ghost invariant = { λ finder. IfSome finder.known (IsLinePlace finder.source.now) };
+}
+
+impl<'m, 'a> SpanFinder<'m, 'a> {
+    /// One that knows no place yet.
+    pub fn new(source: &'m SourceMap<'a>) -> SpanFinder<'m, 'a>
+        ensures source { result ≡ source.now }
+    {
+        SpanFinder {
+            source,
+            known: None,
+        }
+    }
+
+    /// The source whose spans are looked for.
+    pub fn source(&self) -> &'m SourceMap<'a>
+        ensures source { result.now ≡ self.now }
+    {
+        self.source
+    }
+
+    /// Where a span of bytes starts and ends, as `SourceMap::span_to_locations` tells. It may have no fault, as
+    /// `check_span` finds it.
+    ///
+    /// Of many spans on one line the line is looked for once, and what lies between one and the next is walked once.
+    pub fn find(&mut self, span: Range<usize>) -> (Loc, Loc)
+        requires span { IsSpan self.old.text span.start span.end }
+        ensures source { self.new ≡ self.old }
+        ensures value { result ≡ locations_of self.old span.start span.end }
+        ensures start_char { IsOffset result.0.char }
+        ensures end_char { IsOffset result.1.char }
+    {
+        locations_near(self.source, &mut self.known, span)
+    }
 }
 
 /// Where a span of bytes starts and ends, as `SourceMap::span_to_locations` tells. A place before it may be known; the

@@ -6,6 +6,7 @@ ghost use Rattle.std.specs.List.{flat_map, list_all};
 ghost use Rattle.std.specs.Cow.{cow_str_bytes};
 ghost use Rattle.std.specs.Option.{option_copied, option_map};
 ghost use Rattle.std.specs.Ordering.{nat_cmp, ordering_then};
+ghost use Rattle.snippet_lines.specs.Place.{locations_of};
 ghost use Rattle.snippet_lines.specs.Span.{IsSpan};
 ghost use Rattle.snippet_text_form.specs.Cause.{cause_form, end_in_file, end_on_line, is_labelled, kind_rank};
 ghost use Rattle.snippet_text_form.specs.Cause.{span_form, span_place, spans_form};
@@ -21,7 +22,7 @@ use crate::position::{
 };
 use snippet_lines::Loc;
 use snippet_model::snippet::{Annotation, AnnotationKind, Snippet};
-use snippet_parts::{SourceMap, is_marking};
+use snippet_parts::{SourceMap, SpanFinder, is_marking};
 use snippet_style::char_count;
 use snippet_text::{CowStr, normalized};
 use std::alloc::{AllocError, Global};
@@ -59,6 +60,14 @@ struct NamedSpan<'a> {
     annotation: &'a Annotation<'a>,
 }
 
+/// An annotation, where it starts and ends, and its label, which may be empty.
+#[derive(Drop)]
+struct PlacedSpan<'a> {
+    annotation: &'a Annotation<'a>,
+    ends: SpanEnds,
+    label: CowStr<'a>,
+}
+
 /// Adds the spans of a snippet, in order; where there are none, the place where its source begins.
 fn add_spans<'a>(
     alloc: Global,
@@ -81,14 +90,31 @@ fn add_spans<'a>(
         map: source,
         anonymized,
     };
+    let mut finder = SpanFinder::new(source);
     let start = LineStart { indent: " ", path };
     let label = label_of(alloc, first.annotation)?;
-    add_span(alloc, form, &named, start, first.annotation, label)?;
+    let placed = PlacedSpan {
+        annotation: first.annotation,
+        ends: ends_of(&mut finder, first.annotation),
+        label,
+    };
+    add_span(alloc, form, &named, start, placed)?;
     let indent = further_indent(path);
     for span in others {
-        add_further_span(alloc, form, anonymized, source, indent, span.annotation)?;
+        add_further_span(alloc, form, &named, &mut finder, indent, span.annotation)?;
     }
     Ok(())
+}
+
+/// Where an annotation starts and ends.
+fn ends_of(finder: &mut SpanFinder<'_, '_>, annotation: &Annotation<'_>) -> SpanEnds
+    requires span { IsSpan finder.old.text annotation.now.span.start annotation.now.span.end }
+    ensures source { finder.new ≡ finder.old }
+    ensures at { (result.start, result.end)
+        ≡ locations_of finder.old annotation.now.span.start annotation.now.span.end }
+{
+    let (start, end) = finder.find(annotation.span.start..annotation.span.end);
+    SpanEnds { start, end }
 }
 
 /// What stands before a span after the first: it stands below the first one's path, where there is one.
@@ -162,20 +188,27 @@ fn label_of<'a>(alloc: Global, annotation: &'a Annotation<'a>) -> Result<CowStr<
 fn add_further_span<'a>(
     alloc: Global,
     form: &mut TextForm<'a>,
-    anonymized: bool,
-    map: &SourceMap<'a>,
+    source: &NamedSource<'_, 'a>,
+    finder: &mut SpanFinder<'_, 'a>,
     indent: &'a str,
     span: &'a Annotation<'a>,
 ) -> Result<(), AllocError>
-    requires span { IsSpan map.now.text span.now.span.start span.now.span.end }
+    requires finder { finder.old ≡ source.now.map.now }
+    requires span { IsSpan source.now.map.now.text span.now.span.start span.now.span.end }
+    ensures finder { finder.new ≡ finder.old }
     ensures added { OnOk result (form.new ≡ form.old
-        ++ flat_map (span_form anonymized map.now (chars indent.now) None) (filter is_labelled (span.now ∷ []))) }
+        ++ flat_map (span_form source.now.anonymized source.now.map.now (chars indent.now) None)
+        (filter is_labelled (span.now ∷ []))) }
 {
     let label = label_of(alloc, span)?;
     if is_shown(&label) {
-        let named = NamedSource { map, anonymized };
         let start = LineStart { indent, path: None };
-        add_span(alloc, form, &named, start, span, label)?;
+        let placed = PlacedSpan {
+            annotation: span,
+            ends: ends_of(finder, span),
+            label,
+        };
+        add_span(alloc, form, source, start, placed)?;
     }
     Ok(())
 }
@@ -193,22 +226,18 @@ fn add_span<'a>(
     form: &mut TextForm<'a>,
     source: &NamedSource<'_, 'a>,
     start: LineStart<'a>,
-    span: &'a Annotation<'a>,
-    label: CowStr<'a>,
+    placed: PlacedSpan<'a>,
 ) -> Result<(), AllocError>
-    requires span { IsSpan source.now.map.now.text span.now.span.start span.now.span.end }
-    requires label { chars (cow_str_bytes label) ≡ spec.label_characters span.now }
+    requires at { (placed.ends.start, placed.ends.end) ≡ locations_of source.now.map.now
+        placed.annotation.now.span.start placed.annotation.now.span.end }
+    requires label { chars (cow_str_bytes placed.label) ≡ spec.label_characters placed.annotation.now }
     ensures added { OnOk result (form.new ≡ form.old ++ span_form source.now.anonymized source.now.map.now
-        (chars start.entry.indent.now) (option_copied start.entry.path) span.now) }
+        (chars start.entry.indent.now) (option_copied start.entry.path) placed.entry.annotation.now) }
 {
     form.add_break()?;
     form.add_text(start.indent)?;
-    let (from, to) = source.map.span_to_locations(span.span.start..span.span.end);
-    let ends = SpanEnds {
-        start: from,
-        end: to,
-    };
-    add_span_place(alloc, form, source, start.path, ends)?;
+    add_span_place(alloc, form, source, start.path, placed.ends)?;
+    let label = placed.label;
     if is_shown(&label) {
         form.add_text(": ")?;
         form.add_shown(label)?;

@@ -24,7 +24,7 @@ pub add_further_span-requires : goal.add_further_span-requires
 add_further_span-requires c =
     let P : NamedSpan → Type 0 = λ s. IsSpan c.args.source.now.text s.annotation.now.span.start s.annotation.now.span.end in
     let rest : All P c.in-Some.others.now = All-tail P c.in-Some.first.now c.in-Some.others.now (subst (All P) c.in-Some.ensures.cases.0 c.requires.spans) in
-    record { span = subst P (sym c.span-item.is) (rest c.loop-span.span-index c.span-item.result c.loop-span-test.true) }
+    record { finder = c.loop-span.invariant.finder; span = subst P (sym c.span-item.is) (rest c.loop-span.span-index c.span-item.result c.loop-span-test.true) }
 
 pub returns : goal.returns
 unfolding chars
@@ -34,5 +34,5 @@ returns c =
       added = spans-added c.args.anonymized c.args.source.now (option_copied c.args.path)
           c.args.form.now c.add_span.new.form c.loop-span.form c.args.spans.now c.in-Some.others.now _ c.in-Some.first.now
           (chars c.further_indent-indent.result.now)
-          c.in-Some.ensures.cases.0 c.in_ok-add_span.ensures.added c.further_indent-indent.ensures.value all c.loop-span.invariant;
+          c.in-Some.ensures.cases.0 c.in_ok-add_span.ensures.added c.further_indent-indent.ensures.value all c.loop-span.invariant.added;
     }

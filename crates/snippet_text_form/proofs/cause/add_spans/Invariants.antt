@@ -1,4 +1,4 @@
--- Of the further spans so far those with a label stand after the first.
+-- Of the further spans so far those with a label stand after the first; spans are looked for in the source.
 use Rattle.std.proofs.Common.{◌≡◌, ◌++◌, None, filter, map, take, chars}
 use Rattle.std.specs.List.{flat_map}
 use Rattle.snippet_text_form.specs.Cause.{is_labelled, span_form}
@@ -7,5 +7,8 @@ use Rattle.snippet_text_form.proofs.cause.add_spans.Given as goal
 
 abbrev pub invariant-loop-span : goal.invariant-loop-span
 invariant-loop-span l =
-    l.form ≡ l.initial.form ++ flat_map (span_form l.anonymized l.source (chars l.indent) None)
-    (filter is_labelled (map annotation_of (take l.span-index l.others)))
+    record {
+      finder : l.finder ≡ l.source;
+      added : l.form ≡ l.initial.form ++ flat_map (span_form l.anonymized l.source (chars l.indent) None)
+          (filter is_labelled (map annotation_of (take l.span-index l.others)));
+    }
