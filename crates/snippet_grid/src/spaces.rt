@@ -25,6 +25,10 @@ pub(crate) fn push_spaces(out: &mut String, count: usize) -> Result<(), AllocErr
     ensures text { OnOk result (string_bytes out.new ≡ string_bytes out.old ++ replicate count 32) }
     ensures grows { BeginsWith (string_bytes out.old) (string_bytes out.new) }
 {
+    // Strokes often stand one cell apart.
+    if count == 1 {
+        return out.push(' ');
+    }
     let mut left = count;
     while left > 64 {
         push_part(out, SPACES, 64)?;

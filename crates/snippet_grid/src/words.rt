@@ -43,7 +43,7 @@ pub(crate) fn fits(text: &str, room: usize) -> bool
 /// What the smallest reports take: the first write makes room for so much at once.
 const FIRST_BYTES: usize = 384;
 
-const FIRST_RUNS: usize = 14;
+const FIRST_RUNS: usize = 24;
 
 const FIRST_ROWS: usize = 16;
 

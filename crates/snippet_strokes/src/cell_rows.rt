@@ -30,7 +30,7 @@ use std::ops::Range;
 const MAX_ROWS: usize = (1 << 60) - 1;
 
 /// How many cells a row has room for at first. A longer one grows from there.
-const ROW_ROOM: usize = 64;
+const ROW_ROOM: usize = 128;
 
 /// What a row is filled up with.
 const BLANK: StyledChar = StyledChar {
