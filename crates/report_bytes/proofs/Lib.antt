@@ -1,1 +1,4 @@
+pub mod Again
+pub mod Members
+pub mod Texts
 pub mod Whole

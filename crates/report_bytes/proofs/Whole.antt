@@ -4,12 +4,12 @@ use Rattle.std.specs.Prelude.{IsOkUnless}
 use Rattle.std.specs.List.{AllByRecursion}
 use Rattle.report_bytes.specs.Request.{IsReport, after_request, request_bytes}
 use Rattle.report_bytes.specs.declared.request.DrawRequest.{DrawRequest}
-use Rattle.report_fields.specs.Bytes.{element_then, group_then, list_then, settings_then, sheet_then}
-use Rattle.report_fields.specs.Reading.{after_element, after_group, after_list, after_settings, after_sheet, Gives}
-use Rattle.report_fields.specs.Report.{IsElement, IsGroup}
-use Rattle.report_fields.specs.declared.fault.ReadError.{ReadError}
-use Rattle.report_fields.specs.declared.fault.ReadError.TheVariants as errors
-use Rattle.report_fields.proofs.Again.{Any, clash, group_again, list_again, seq, settings_again, sheet_again}
+use Rattle.report_bytes.specs.Bytes.{element_then, group_then, list_then, settings_then, sheet_then}
+use Rattle.report_bytes.specs.Reading.{after_element, after_group, after_list, after_settings, after_sheet, Gives}
+use Rattle.report_bytes.specs.Report.{IsElement, IsGroup}
+use Rattle.report_bytes.specs.declared.fault.ReadError.{ReadError}
+use Rattle.report_bytes.specs.declared.fault.ReadError.TheVariants as errors
+use Rattle.report_bytes.proofs.Again.{Any, clash, group_again, list_again, seq, settings_again, sheet_again}
 
 any_all : {X : Type 0} (xs : List X) → AllByRecursion Any xs
 any_all [] = tt

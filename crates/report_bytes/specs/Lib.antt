@@ -1,1 +1,4 @@
+pub mod Bytes
+pub mod Reading
+pub mod Report
 pub mod Request

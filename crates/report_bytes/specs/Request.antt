@@ -1,11 +1,11 @@
 -- A whole report as bytes, and how it is read.
 use Rattle.std.specs.Prelude.{ℕ, ◌^◌, ◌<◌, List, [], ◌∷◌, length, Result, Ok, Err}
 use Rattle.report_bytes.specs.declared.request.DrawRequest.{DrawRequest}
-use Rattle.report_fields.specs.Bytes.{group_then, list_then, settings_then, sheet_then}
-use Rattle.report_fields.specs.Reading.{◌>>=◌, after_group, after_list, after_settings, after_sheet, fault_at}
-use Rattle.report_fields.specs.Report.{IsGroup, IsListOf}
-use Rattle.report_fields.specs.declared.fault.ByteFault.{ByteFault}
-use Rattle.report_fields.specs.declared.fault.Wrong.TheVariants.{Trailing}
+use Rattle.report_bytes.specs.Bytes.{group_then, list_then, settings_then, sheet_then}
+use Rattle.report_bytes.specs.Reading.{◌>>=◌, after_group, after_list, after_settings, after_sheet, fault_at}
+use Rattle.report_bytes.specs.Report.{IsGroup, IsListOf}
+use Rattle.report_bytes.specs.declared.fault.ByteFault.{ByteFault}
+use Rattle.report_bytes.specs.declared.fault.Wrong.TheVariants.{Trailing}
 
 -- the bytes of a report: its settings, its sheets, its groups, and nothing else
 abbrev pub request_bytes : DrawRequest → List ℕ

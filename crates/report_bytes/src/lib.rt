@@ -1,6 +1,18 @@
-//! Reports as bytes: the form in which a program in another language hands one over, and its reader.
+//! Reports as bytes: the form in which a program in another language hands one over, and its reader. `part` has how
+//! options and lists are read, `request` the whole.
 #![tactic(auto)]
 
+mod fault;
+mod field;
+mod group;
+mod kind;
+mod part;
 mod request;
+mod settings;
+mod sheet;
+mod snippet;
+mod title;
 
+pub use fault::{ByteFault, ReadError, Wrong};
 pub use request::{DrawRequest, read};
+pub use settings::Settings;

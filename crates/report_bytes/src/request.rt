@@ -4,10 +4,12 @@ ghost use Rattle.std.specs.Prelude.{◌≡◌, [], IfOk, IsOkUnless};
 ghost use Rattle.snippet_model.specs.Fits.{ReportFits};
 ghost use Rattle.report_bytes.specs.Request.{IsReport, after_request, request_bytes};
 ghost use Rattle.report_bytes.specs.declared.request.DrawRequest.{DrawRequest};
-ghost use Rattle.report_fields.specs.Reading.{Gives};
-ghost use Rattle.report_fields.specs.declared.fault.ReadError.TheVariants.{Memory};
+ghost use Rattle.report_bytes.specs.Reading.{Gives};
+ghost use Rattle.report_bytes.specs.declared.fault.ReadError.TheVariants.{Memory};
 
-use report_fields::{ReadError, Settings, Wrong, list, settings_at};
+use crate::fault::{ReadError, Wrong};
+use crate::part::list;
+use crate::settings::{Settings, settings_at};
 use snippet_model::Group;
 use snippet_style::Stylesheet;
 use std::alloc::Global;

@@ -12,10 +12,10 @@ use Rattle.annotate_snippets.specs.declared.renderer.Renderer.{Renderer}
 use Rattle.annotate_snippets.specs.declared.renderer.error.RenderError.{RenderError}
 use Rattle.annotate_snippets.specs.declared.renderer.error.RenderError.TheVariants as refusal
 use Rattle.report_bytes.specs.Request.{after_request, request_bytes}
-use Rattle.report_fields.specs.declared.fault.Wrong.{Wrong}
-use Rattle.report_fields.specs.declared.fault.Wrong.TheVariants.{Short, Flag, Kind, Long, NotText, Trailing}
+use Rattle.report_bytes.specs.declared.fault.Wrong.{Wrong}
+use Rattle.report_bytes.specs.declared.fault.Wrong.TheVariants.{Short, Flag, Kind, Long, NotText, Trailing}
 use Rattle.report_bytes.specs.declared.request.DrawRequest.{DrawRequest}
-use Rattle.report_fields.specs.declared.settings.Settings.{Settings}
+use Rattle.report_bytes.specs.declared.settings.Settings.{Settings}
 use Rattle.replay_answer.specs.Line.{AnswersAlone}
 use Rattle.yazgult_c.specs.declared.answer.Answer.{Answer}
 use Rattle.yazgult_c.specs.declared.answer.Answer.TheVariants.{Texts, Refused, NoReport, Memory}

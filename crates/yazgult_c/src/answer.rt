@@ -6,8 +6,7 @@ ghost use Rattle.yazgult_c.specs.AnswerBytes.{IsAnswerTo, IsDrawn, answer_of_res
 
 use annotate_snippets::Renderer;
 use annotate_snippets::renderer::{RenderError, Stylesheet};
-use report_bytes::{DrawRequest, read};
-use report_fields::{ReadError, Settings, Wrong};
+use report_bytes::{DrawRequest, ReadError, Settings, Wrong, read};
 use std::alloc::Global;
 
 /// What becomes of the bytes of a report.

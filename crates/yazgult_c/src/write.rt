@@ -7,7 +7,7 @@ ghost use Rattle.yazgult_c.specs.AnswerBytes.{refusal_bytes, refusal_fields, tex
 
 use crate::answer::Answer;
 use annotate_snippets::renderer::RenderError;
-use report_fields::Wrong;
+use report_bytes::Wrong;
 use std::alloc::{AllocError, Global};
 
 /// The answer that there was no memory.

@@ -3,8 +3,8 @@
 ghost use Rattle.std.specs.Prelude.{◌≡◌, IfOk};
 ghost use Rattle.snippet_model.specs.Fits.{IdFits, LevelFits, MessageFits, TextFits, TitleFits};
 ghost use Rattle.snippet_style.specs.declared.role.LevelInner.{LevelInner};
-ghost use Rattle.report_fields.specs.Bytes.{id_then, level_then, message_then, name_then, title_then};
-ghost use Rattle.report_fields.specs.Reading.{Gives, after_id, after_level, after_message, after_name, after_title};
+ghost use Rattle.report_bytes.specs.Bytes.{id_then, level_then, message_then, name_then, title_then};
+ghost use Rattle.report_bytes.specs.Reading.{Gives, after_id, after_level, after_message, after_name, after_title};
 
 use crate::fault::ReadError;
 use crate::field::{flag, kind, text};

@@ -2,11 +2,11 @@
 use Rattle.std.specs.Prelude.{◌≡◌, ℕ, zero, suc, ◌^◌, Bool, true, false, List, [], ◌∷◌, length, take, drop, Result, Ok, Err, nat_lt, if◌then◌else◌}
 use Rattle.std.specs.Int.{w64, from_le_bytes}
 use Rattle.std.specs.Str.{is_utf8}
-use Rattle.report_fields.specs.declared.fault.ByteFault.{ByteFault}
-use Rattle.report_fields.specs.declared.fault.Wrong.{Wrong}
-use Rattle.report_fields.specs.declared.fault.Wrong.TheVariants.{Short, Flag, Kind, Long, NotText, Trailing}
-use Rattle.report_fields.specs.declared.fault.ReadError.{ReadError}
-use Rattle.report_fields.specs.declared.fault.ReadError.TheVariants as errors
+use Rattle.report_bytes.specs.declared.fault.ByteFault.{ByteFault}
+use Rattle.report_bytes.specs.declared.fault.Wrong.{Wrong}
+use Rattle.report_bytes.specs.declared.fault.Wrong.TheVariants.{Short, Flag, Kind, Long, NotText, Trailing}
+use Rattle.report_bytes.specs.declared.fault.ReadError.{ReadError}
+use Rattle.report_bytes.specs.declared.fault.ReadError.TheVariants as errors
 
 infixl 10 ◌>>=◌
 -- the next step, where there was no fault

@@ -3,9 +3,9 @@
 ghost use Rattle.std.specs.Prelude.{◌≡◌, ℕ, List, Result, All, IfOk, IfSome, length};
 ghost use Rattle.std.specs.Cow.{cow_str_bytes};
 ghost use Rattle.snippet_model.specs.Fits.{TextFits};
-ghost use Rattle.report_fields.specs.Bytes.{list_then, members_then, number_then, option_then, text_then};
-ghost use Rattle.report_fields.specs.Reading.{Gives, after_list, after_members, after_number, after_option, after_text};
-ghost use Rattle.report_fields.specs.declared.fault.ByteFault.{ByteFault};
+ghost use Rattle.report_bytes.specs.Bytes.{list_then, members_then, number_then, option_then, text_then};
+ghost use Rattle.report_bytes.specs.Reading.{Gives, after_list, after_members, after_number, after_option, after_text};
+ghost use Rattle.report_bytes.specs.declared.fault.ByteFault.{ByteFault};
 
 use crate::fault::ReadError;
 use crate::field::{flag, number, text};

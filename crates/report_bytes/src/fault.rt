@@ -1,7 +1,7 @@
 //! Why bytes are no report.
 
 ghost use Rattle.std.specs.Prelude.{◌≡◌};
-ghost use Rattle.report_fields.specs.declared.fault.ReadError.TheVariants.{Memory};
+ghost use Rattle.report_bytes.specs.declared.fault.ReadError.TheVariants.{Memory};
 
 use std::alloc::{AllocError, AllocFailed};
 
@@ -41,8 +41,8 @@ pub enum ReadError {
 }
 
 impl ReadError {
-    ghost use Rattle.report_fields.specs.Reading.{fault_at};
-    ghost use Rattle.report_fields.specs.declared.fault.ReadError.TheVariants as errors;
+    ghost use Rattle.report_bytes.specs.Reading.{fault_at};
+    ghost use Rattle.report_bytes.specs.declared.fault.ReadError.TheVariants as errors;
 
     /// That this is wrong where these bytes are left.
     pub fn at(wrong: Wrong, left: &[u8]) -> ReadError

@@ -1,9 +1,9 @@
 //! How sheets and their styles are read.
 
 ghost use Rattle.std.specs.Prelude.{◌≡◌, ◌∷◌, IfOk};
-ghost use Rattle.report_fields.specs.Bytes.{color_then, effects_then, sheet_then, style_then};
-ghost use Rattle.report_fields.specs.Reading.{Gives, after_byte, after_color, after_effects, after_levels};
-ghost use Rattle.report_fields.specs.Reading.{after_parts, after_sheet, after_style};
+ghost use Rattle.report_bytes.specs.Bytes.{color_then, effects_then, sheet_then, style_then};
+ghost use Rattle.report_bytes.specs.Reading.{Gives, after_byte, after_color, after_effects, after_levels};
+ghost use Rattle.report_bytes.specs.Reading.{after_parts, after_sheet, after_style};
 
 use crate::fault::{ReadError, Wrong};
 use crate::field::{flag, kind};

@@ -1,8 +1,8 @@
 //! The settings of a report, and how they are read.
 
 ghost use Rattle.std.specs.Prelude.{◌≡◌, IfOk};
-ghost use Rattle.report_fields.specs.Bytes.{settings_then};
-ghost use Rattle.report_fields.specs.Reading.{Gives, after_settings};
+ghost use Rattle.report_bytes.specs.Bytes.{settings_then};
+ghost use Rattle.report_bytes.specs.Reading.{Gives, after_settings};
 
 use crate::fault::ReadError;
 use crate::field::{flag, kind, number};

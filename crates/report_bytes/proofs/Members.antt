@@ -2,11 +2,11 @@
 use Rattle.std.proofs.Common.{◌≡◌, ℕ, suc, ◌+◌, ◌-◌, ◌<◌, ◌≤◌, List, [], ◌∷◌, ◌++◌, length, All, Result, Ok, Err, refl, sym, ap, subst, ◌∙◌, arith}
 use Rattle.std.proofs.lemmas.List.{length-append}
 use Rattle.std.proofs.lemmas.List.Elements.{All-push}
-use Rattle.report_fields.specs.Bytes.{members_then}
-use Rattle.report_fields.specs.Reading.{Fails, after_members}
-use Rattle.report_fields.specs.declared.fault.ByteFault.{ByteFault}
-use Rattle.report_fields.specs.declared.fault.ReadError.{ReadError}
-use Rattle.report_fields.specs.declared.fault.ReadError.TheVariants as errors
+use Rattle.report_bytes.specs.Bytes.{members_then}
+use Rattle.report_bytes.specs.Reading.{Fails, after_members}
+use Rattle.report_bytes.specs.declared.fault.ByteFault.{ByteFault}
+use Rattle.report_bytes.specs.declared.fault.ReadError.{ReadError}
+use Rattle.report_bytes.specs.declared.fault.ReadError.TheVariants as errors
 
 -- one member more
 pub members_more : {X : Type 0} (f : X → List ℕ → List ℕ) (xs : List X) (x : X) (rest : List ℕ)

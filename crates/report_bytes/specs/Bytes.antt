@@ -32,7 +32,7 @@ use Rattle.snippet_model.specs.declared.snippet.Origin.{Origin}
 use Rattle.snippet_model.specs.declared.snippet.Patch.{Patch}
 use Rattle.snippet_model.specs.declared.snippet.Snippet.{Snippet}
 use Rattle.snippet_model.specs.declared.snippet.Title.{Title}
-use Rattle.report_fields.specs.declared.settings.Settings.{Settings}
+use Rattle.report_bytes.specs.declared.settings.Settings.{Settings}
 
 -- ---- numbers, texts, what may be missing, lists
 

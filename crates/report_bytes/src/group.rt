@@ -3,8 +3,8 @@
 ghost use Rattle.std.specs.Prelude.{◌≡◌, IfOk};
 ghost use Rattle.std.specs.Cow.{cow_str_bytes};
 ghost use Rattle.snippet_model.specs.Fits.{ElementFits, GroupFits, TextFits};
-ghost use Rattle.report_fields.specs.Bytes.{element_then, group_then, origin_then};
-ghost use Rattle.report_fields.specs.Reading.{Gives, after_element, after_group, after_origin};
+ghost use Rattle.report_bytes.specs.Bytes.{element_then, group_then, origin_then};
+ghost use Rattle.report_bytes.specs.Reading.{Gives, after_element, after_group, after_origin};
 
 use crate::fault::ReadError;
 use crate::field::{kind, text};

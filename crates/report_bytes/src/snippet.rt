@@ -2,8 +2,8 @@
 
 ghost use Rattle.std.specs.Prelude.{◌≡◌, IfOk};
 ghost use Rattle.snippet_model.specs.Fits.{AnnotationFits, PatchFits, SnippetFits};
-ghost use Rattle.report_fields.specs.Bytes.{annotation_then, patch_then, snippet_then, span_then};
-ghost use Rattle.report_fields.specs.Reading.{Gives, after_annotation, after_patch, after_snippet, after_span};
+ghost use Rattle.report_bytes.specs.Bytes.{annotation_then, patch_then, snippet_then, span_then};
+ghost use Rattle.report_bytes.specs.Reading.{Gives, after_annotation, after_patch, after_snippet, after_span};
 
 use crate::fault::ReadError;
 use crate::field::{flag, kind, number, text};

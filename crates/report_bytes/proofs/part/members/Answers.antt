@@ -1,7 +1,7 @@
 use Rattle.std.proofs.lemmas.Result.{err_from_is_err_and}
-use Rattle.report_fields.specs.Reading.{after_members}
-use Rattle.report_fields.proofs.Members.{all_more, count_more, spelled_more, goes_on, ends, is_done}
-use Rattle.report_fields.proofs.part.members.Goals as goal
+use Rattle.report_bytes.specs.Reading.{after_members}
+use Rattle.report_bytes.proofs.Members.{all_more, count_more, spelled_more, goes_on, ends, is_done}
+use Rattle.report_bytes.proofs.part.members.Goals as goal
 
 pub returns-in_err-part-clause-left : goal.returns-in_err-part-clause-left
 returns-in_err-part-clause-left g c =

@@ -15,23 +15,23 @@ use Rattle.snippet_style.specs.declared.role.LevelInner.TheVariants as severity
 use Rattle.snippet_style.specs.declared.style.AnsiColor.{AnsiColor}
 use Rattle.snippet_style.specs.declared.style.AnsiColor.TheVariants as ansi
 use Rattle.snippet_style.specs.declared.style.Color.TheVariants.{Ansi, Ansi256, Rgb}
-use Rattle.report_fields.specs.Bytes.{number_then, flag_then, text_then, option_then, members_then, list_then, severity_number, mark_number, decor_number}
-use Rattle.report_fields.specs.Bytes.{ansi_number, settings_then, color_then, effects_then, style_then, sheet_then, name_then, level_then, id_then}
-use Rattle.report_fields.specs.Bytes.{title_then, message_then, span_then, annotation_then, patch_then, snippet_then, origin_then, element_then, group_then}
-use Rattle.report_fields.specs.Reading.{◌>>=◌, fault_at, read_number, after_number, after_flag, after_kind, after_text, after_option, after_members, after_list}
-use Rattle.report_fields.specs.Reading.{after_settings, after_color, after_effects, after_style, after_levels, after_parts, after_sheet, after_name}
-use Rattle.report_fields.specs.Reading.{after_level, after_id, after_title, after_message, after_span, after_annotation, after_patch, after_snippet}
-use Rattle.report_fields.specs.Reading.{after_origin, after_element, after_group}
-use Rattle.report_fields.specs.Report.{IsText, IsListOf, IsName, IsId, IsTitle, IsAnnotation, IsPatch, IsSnippet, IsElement, IsGroup}
-use Rattle.report_fields.specs.declared.fault.ByteFault.{ByteFault}
-use Rattle.report_fields.specs.declared.fault.Wrong.TheVariants.{Short}
-use Rattle.report_fields.specs.declared.fault.ReadError.{ReadError}
-use Rattle.report_fields.specs.declared.fault.ReadError.TheVariants as errors
+use Rattle.report_bytes.specs.Bytes.{number_then, flag_then, text_then, option_then, members_then, list_then, severity_number, mark_number, decor_number}
+use Rattle.report_bytes.specs.Bytes.{ansi_number, settings_then, color_then, effects_then, style_then, sheet_then, name_then, level_then, id_then}
+use Rattle.report_bytes.specs.Bytes.{title_then, message_then, span_then, annotation_then, patch_then, snippet_then, origin_then, element_then, group_then}
+use Rattle.report_bytes.specs.Reading.{◌>>=◌, fault_at, read_number, after_number, after_flag, after_kind, after_text, after_option, after_members, after_list}
+use Rattle.report_bytes.specs.Reading.{after_settings, after_color, after_effects, after_style, after_levels, after_parts, after_sheet, after_name}
+use Rattle.report_bytes.specs.Reading.{after_level, after_id, after_title, after_message, after_span, after_annotation, after_patch, after_snippet}
+use Rattle.report_bytes.specs.Reading.{after_origin, after_element, after_group}
+use Rattle.report_bytes.specs.Report.{IsText, IsListOf, IsName, IsId, IsTitle, IsAnnotation, IsPatch, IsSnippet, IsElement, IsGroup}
+use Rattle.report_bytes.specs.declared.fault.ByteFault.{ByteFault}
+use Rattle.report_bytes.specs.declared.fault.Wrong.TheVariants.{Short}
+use Rattle.report_bytes.specs.declared.fault.ReadError.{ReadError}
+use Rattle.report_bytes.specs.declared.fault.ReadError.TheVariants as errors
 use Rattle.snippet_model.specs.declared.level.LevelName.TheVariants.{Standard, Hidden, Own}
 use Rattle.snippet_model.specs.declared.snippet.AnnotationKind.{AnnotationKind}
 use Rattle.snippet_model.specs.declared.snippet.AnnotationKind.TheVariants as mark
 use Rattle.snippet_model.specs.declared.snippet.Element.TheVariants as element
-use Rattle.report_fields.proofs.Texts.{a_text}
+use Rattle.report_bytes.proofs.Texts.{a_text}
 
 -- a thing's bytes are read as such a thing, and what follows is left
 abbrev pub Again : {X : Type 0} → (X → List ℕ → List ℕ) → (List ℕ → Result (List ℕ) ByteFault) → (X → Type 0) → Type 0

@@ -1,7 +1,7 @@
 //! Kinds by their numbers.
 
 ghost use Rattle.std.specs.Prelude.{◌≡◌, ◌<◌};
-ghost use Rattle.report_fields.specs.Bytes.{ansi_number, decor_number, mark_number, severity_number};
+ghost use Rattle.report_bytes.specs.Bytes.{ansi_number, decor_number, mark_number, severity_number};
 
 use snippet_model::AnnotationKind;
 use snippet_style::{AnsiColor, DecorStyle, LevelInner};

@@ -3,8 +3,8 @@
 ghost use Rattle.std.specs.Prelude.{◌≡◌, ◌<◌, ◌∷◌, ◌++◌, IfOk, length};
 ghost use Rattle.std.specs.Cow.{cow_str_bytes};
 ghost use Rattle.snippet_model.specs.Fits.{TextFits};
-ghost use Rattle.report_fields.specs.Bytes.{flag_then, number_then, text_then};
-ghost use Rattle.report_fields.specs.Reading.{Gives, after_text, read_flag, read_kind, read_number, read_text_of};
+ghost use Rattle.report_bytes.specs.Bytes.{flag_then, number_then, text_then};
+ghost use Rattle.report_bytes.specs.Reading.{Gives, after_text, read_flag, read_kind, read_number, read_text_of};
 
 use crate::fault::{ReadError, Wrong};
 use snippet_text::CowStr;

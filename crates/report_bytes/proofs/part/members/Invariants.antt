@@ -1,7 +1,7 @@
 use Rattle.std.proofs.Common.{◌≡◌, ◌-◌, length, All}
-use Rattle.report_fields.specs.Bytes.{members_then}
-use Rattle.report_fields.specs.Reading.{after_members}
-use Rattle.report_fields.proofs.part.members.Given as goal
+use Rattle.report_bytes.specs.Bytes.{members_then}
+use Rattle.report_bytes.specs.Reading.{after_members}
+use Rattle.report_bytes.proofs.part.members.Given as goal
 
 -- so many members were read, with the bytes that they have, and the others are still to be read
 abbrev pub invariant-loop : goal.invariant-loop
