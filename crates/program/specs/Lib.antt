@@ -2,3 +2,4 @@ pub mod Stream
 pub mod Arguments
 pub mod Message
 pub mod Lent
+pub mod OptionSettings

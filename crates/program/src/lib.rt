@@ -1,5 +1,5 @@
-//! What the programs share: the arguments of the command line, what a file holds, lines that are written whole or cut
-//! short, and the status.
+//! What the programs share: the arguments of the command line, the options by which reports are drawn, what a file
+//! holds, lines that are written whole or cut short, and the status.
 #![tactic(auto)]
 
 pub mod exit;
@@ -7,4 +7,5 @@ pub mod input;
 pub mod lent;
 pub mod line;
 pub mod message;
+pub mod options;
 pub mod standing_in;

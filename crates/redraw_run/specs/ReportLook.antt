@@ -5,8 +5,8 @@ use Rattle.redraw_command.specs.Look.{has_colors, has_links}
 use Rattle.redraw_command.specs.declared.terminal.Look.{Look}
 use Rattle.redraw_command.specs.declared.terminal.Surroundings.{Surroundings}
 use Rattle.redraw_run.specs.declared.look.ReportRenderer.{ReportRenderer}
-use Rattle.report_options.specs.OptionSettings.{settings_of}
-use Rattle.report_options.specs.declared.options.Options.{Options}
+use Rattle.program.specs.OptionSettings.{settings_of}
+use Rattle.program.specs.declared.options.Options.{Options}
 
 -- the options that the library's programs share, as a look has them in some surroundings: in HTML no report is of one line
 abbrev pub shared_options : Look → Surroundings → Options

@@ -3,8 +3,8 @@ ghost use Rattle.std.specs.Prelude.{◌≡◌};
 ghost use Rattle.redraw_run.specs.ReportLook.{looks};
 
 use annotate_snippets::Renderer;
+use program::options::{Options, renderer_of};
 use redraw_command::terminal::{Look, Surroundings};
-use report_options::options::{Options, renderer_of};
 
 /// What draws reports: the library's renderer, and what else of the form of all that is printed matters.
 #[derive(Drop)]

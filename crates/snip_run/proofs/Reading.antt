@@ -4,7 +4,7 @@ use Rattle.std.specs.Prelude.{codes, bytes_eq}
 use Rattle.std.specs.List.{flat_map}
 use Rattle.std.specs.Option.{option_to_list}
 use Rattle.std.proofs.lemmas.List.Elements.{All-head, All-tail, All-cons}
-use Rattle.report_options.specs.declared.options.Options.{Options}
+use Rattle.program.specs.declared.options.Options.{Options}
 use Rattle.snip_run.specs.declared.arguments.SnipCommand.{SnipCommand}
 use Rattle.snip_run.specs.Arguments.{Argument, Setting, Unicode, Text, Short, Styled, Width, arguments_of, option_names, IsSound, no_options, options_with}
 use Rattle.snip_run.specs.Arguments.{CommandLine}

@@ -4,7 +4,7 @@ use Rattle.std.specs.Borrow.{Bor}
 use Rattle.std.specs.List.{flat_map}
 use Rattle.std.specs.Option.{option_map, option_to_list}
 use Rattle.std.specs.Str.Parse.{IsNumeral, digits_value}
-use Rattle.report_options.specs.declared.options.Options.{Options}
+use Rattle.program.specs.declared.options.Options.{Options}
 pub use Rattle.program.specs.Arguments.{Argument, arguments_at}
 use Rattle.snip_run.specs.declared.arguments.SnipCommand.{SnipCommand}
 use Rattle.snip_run.specs.declared.arguments.Operands.{Operands}

@@ -14,7 +14,7 @@ use Rattle.annotate_snippets.specs.Levels.{error_level}
 use Rattle.annotate_snippets.specs.Fault.{first_refusal}
 use Rattle.annotate_snippets.specs.Laws.Forms.{HasLaws}
 use Rattle.annotate_snippets.specs.Forms.{ShowsReport}
-use Rattle.report_options.specs.OptionSettings.{settings_of}
+use Rattle.program.specs.OptionSettings.{settings_of}
 use Rattle.snip_run.specs.declared.arguments.SnipCommand.{SnipCommand}
 
 -- the title of a command's report: an error with the text that the command gives

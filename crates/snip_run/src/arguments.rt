@@ -8,7 +8,7 @@ ghost use Rattle.snip_run.specs.Arguments.{no_options, CommandLine, operands_of,
 ghost use Rattle.snip_run.specs.Arguments.{AreLine, IsCommandLine};
 ghost use Rattle.snip_run.specs.Arguments.{IsCommandOf, TakesOption, Says};
 
-use report_options::options::Options;
+use program::options::Options;
 
 /// What a command line asks for.
 #[derive(Clone, Copy, Debug, PartialEq, Eq)]

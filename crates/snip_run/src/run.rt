@@ -17,7 +17,7 @@ use annotate_snippets::text::text_fits;
 use annotate_snippets::{AnnotationKind, Element, Group, OptionCow, Snippet};
 use program::lent::LentStream;
 use program::message::message_text;
-use report_options::options::renderer_of;
+use program::options::renderer_of;
 use std::alloc::{AllocError, Global};
 use std::io::Write;
 use std::str;

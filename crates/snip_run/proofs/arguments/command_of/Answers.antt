@@ -3,7 +3,7 @@ use Rattle.std.proofs.Common.{subst, arith}
 use Rattle.std.proofs.lemmas.List.{take_all, length-drop}
 use Rattle.std.proofs.lemmas.List.Elements.{All-nil}
 use Rattle.std.proofs.lemmas.Grind.{common_steps}
-use Rattle.report_options.specs.declared.options.Options.{Options}
+use Rattle.program.specs.declared.options.Options.{Options}
 use Rattle.snip_run.specs.declared.arguments.SnipCommand.{SnipCommand}
 use Rattle.snip_run.specs.declared.arguments.Operands.{Operands}
 use Rattle.snip_run.specs.Arguments.{Argument, arguments_at, arguments_of, no_options, CommandLine, operands_of, line_without_options, HasOperands, AreLine}

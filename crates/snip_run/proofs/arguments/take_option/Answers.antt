@@ -1,5 +1,5 @@
 use Rattle.std.proofs.Common.{◌≡◌, ℕ, ◌≤◌, List, [], ◌∷◌, Bor, Some, length, get_or, drop, ap, arith}
-use Rattle.report_options.specs.declared.options.Options.{Options}
+use Rattle.program.specs.declared.options.Options.{Options}
 use Rattle.snip_run.specs.Arguments.{Argument, arguments_at, Width}
 use Rattle.snip_run.proofs.arguments.take_option.Goals as goal
 

@@ -1,6 +1,6 @@
 //! How a report is drawn, as the arguments of a command line say it.
 ghost use Rattle.std.specs.Prelude.{◌≡◌};
-ghost use Rattle.report_options.specs.OptionSettings.{settings_of};
+ghost use Rattle.program.specs.OptionSettings.{settings_of};
 
 use annotate_snippets::Renderer;
 use annotate_snippets::renderer::{DEFAULT_TERM_WIDTH, DecorStyle};

@@ -3,7 +3,7 @@ use Rattle.std.specs.Prelude.{unwrap_or, if◌then◌else◌}
 use Rattle.annotate_snippets.specs.declared.renderer.DecorStyle.TheVariants.{Ascii, Unicode}
 use Rattle.annotate_snippets.specs.declared.renderer.Renderer.{Renderer}
 use Rattle.annotate_snippets.specs.Settings.{plain_settings, styled_settings}
-use Rattle.report_options.specs.declared.options.Options.{Options}
+use Rattle.program.specs.declared.options.Options.{Options}
 
 -- the settings that options ask for: those of `styled` or of `plain`, but for the form, the strokes and the width
 abbrev pub settings_of : Options → Renderer
