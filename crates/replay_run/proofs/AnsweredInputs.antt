@@ -16,7 +16,7 @@ use Rattle.replay_run.specs.WrittenAnswer.{AnswersLines, Numbered, first_after}
 use Rattle.replay_run.specs.Answered.{AnswersInputs, AnswersReader, AppendsFirst, AreRead, IsEndProblem, StopsAfter, StopsAt, StopsAtInput, StopsFor}
 use Rattle.replay_run.specs.Answered.{StopsInputs, StopsReader}
 use Rattle.replay_run.specs.Problem.{IsWrite}
-use Rattle.replay_command.specs.Arguments.{Argument, hyphen, arguments_at}
+use Rattle.replay_run.specs.Arguments.{Argument, hyphen, arguments_at}
 use Rattle.replay_run.specs.Inputs.{NamedInput, held_by, input_name}
 use Rattle.replay_run.specs.declared.problem.Problem.{Problem}
 use Rattle.replay_run.specs.declared.lines.Way.{Way}

@@ -9,9 +9,9 @@ use Rattle.clap.specs.declared.error.Error.{Error}
 use Rattle.clap.specs.declared.error.kind.ErrorKind.{ErrorKind}
 use Rattle.clap.specs.declared.error.kind.ErrorKind.TheVariants.{DisplayHelp, DisplayVersion, OutOfMemory}
 use Rattle.written.specs.Standing.{Standing}
-use Rattle.replay_command.specs.Arguments.{AsksToShow, Checks, IsCommandLine, Task, Argument, asked, replay_app, task_of, arguments_at}
-use Rattle.replay_command.specs.declared.command.ReplayCommand.{ReplayCommand}
-use Rattle.replay_command.specs.declared.command.ReplayCommand.TheVariants.{Answer, Check, Repeat}
+use Rattle.replay_run.specs.Arguments.{AsksToShow, Checks, IsCommandLine, Task, Argument, asked, replay_app, task_of, arguments_at}
+use Rattle.replay_run.specs.declared.command.ReplayCommand.{ReplayCommand}
+use Rattle.replay_run.specs.declared.command.ReplayCommand.TheVariants.{Answer, Check, Repeat}
 use Rattle.replay_run.specs.Compared.{EndsComparison}
 use Rattle.replay_run.specs.Inputs.{IfAnswers, IfComparison, IsComparison, answers, are_texts, form_asked, way_of}
 use Rattle.replay_run.specs.declared.lines.AnswerForm.{AnswerForm}

@@ -1,7 +1,9 @@
 mod NotStopped
 pub mod AnsweredInputs
 pub mod AnsweredLines
+pub mod Asking
 pub mod Checking
+pub mod CommandLines
 pub mod Commands
 pub mod Ending
 pub mod Growing

@@ -1,9 +1,9 @@
 -- What a command line has replay do, and what is read for it.
 use Rattle.std.specs.Prelude.{◌≡◌, ◌⊎◌, ℕ, Bool, true, false, List, Option, codes, if◌then◌else◌, bytes_eq}
 use Rattle.std.proofs.Common.{inl, inr}
-use Rattle.replay_command.specs.Arguments.{Answers, AsksFor, Checks, Task, Argument, hyphen, arguments_at}
-use Rattle.replay_command.specs.declared.command.ReplayCommand.{ReplayCommand}
-use Rattle.replay_command.specs.declared.command.ReplayCommand.TheVariants.{Answer, Check, Repeat}
+use Rattle.replay_run.specs.Arguments.{Answers, AsksFor, Checks, Task, Argument, hyphen, arguments_at}
+use Rattle.replay_run.specs.declared.command.ReplayCommand.{ReplayCommand}
+use Rattle.replay_run.specs.declared.command.ReplayCommand.TheVariants.{Answer, Check, Repeat}
 use Rattle.replay_run.specs.declared.lines.AnswerForm.{AnswerForm}
 use Rattle.replay_run.specs.declared.lines.AnswerForm.TheVariants.{Json, Texts}
 use Rattle.replay_run.specs.declared.lines.Way.{Way}

@@ -1,3 +1,4 @@
+pub mod Arguments
 pub mod WrittenAnswer
 pub mod Answered
 pub mod Compared

@@ -13,7 +13,7 @@ use Rattle.replay_run.specs.declared.problem.InputLine.{InputLine}
 use Rattle.replay_run.specs.declared.problem.InputLine.TheVariants.{Case, Expected}
 use Rattle.replay_run.specs.declared.problem.Problem.{Problem}
 use Rattle.replay_run.specs.declared.problem.Problem.TheVariants.{NotText, NotJson, Wrong, Unpaired, TooManyLines, NotCases, Read, Clock, Write, Memory}
-use Rattle.replay_command.specs.Arguments.{Argument}
+use Rattle.replay_run.specs.Arguments.{Argument}
 
 -- a line, by its number
 abbrev pub line_label : InputLine → List ℕ

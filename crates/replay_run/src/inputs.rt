@@ -3,7 +3,7 @@
 ghost use Rattle.std.specs.Prelude.{◌≡◌, ◌⊎◌, OnOk, IfErr, IfOk};
 ghost use Rattle.std.specs.Io.Buffered.{reader_inner, reader_remaining};
 ghost use Rattle.written.specs.Standing.{known};
-ghost use Rattle.replay_command.specs.Arguments.{arguments_at};
+ghost use Rattle.replay_run.specs.Arguments.{arguments_at};
 ghost use Rattle.replay_run.specs.Answered.{AnswersInputs, AnswersReader, StopsAt, StopsAtInput, StopsInputs};
 ghost use Rattle.replay_run.specs.Checked.{CountsLines};
 ghost use Rattle.replay_run.specs.Growth.{Grows};

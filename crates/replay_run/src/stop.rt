@@ -6,13 +6,13 @@ ghost use Rattle.program.specs.Stream.{Receives};
 ghost use Rattle.replay_run.specs.Problem as spec;
 ghost use Rattle.replay_run.specs.Problem.{TellsMemory, TellsStop, TellsUsageError, stop_text};
 
+use crate::arguments::matches_of;
+use crate::command::command_of;
 use crate::problem::{Problem, words_of};
 use annotate_snippets::text::normalize_untrusted_str;
 use clap::error::ErrorKind;
 use program::line::write_line;
 use program::message::{lines_of, message_text};
-use replay_command::arguments::matches_of;
-use replay_command::command::command_of;
 use std::alloc::{AllocError, Global};
 use std::io::Write;
 use written::Stream;

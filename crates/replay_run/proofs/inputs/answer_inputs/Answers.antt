@@ -1,5 +1,5 @@
 use Rattle.std.proofs.Common.{◌≡◌, ◌∙◌, List, [], ◌∷◌, ◌++◌, ap, arith, length, subst, sym, take}
-use Rattle.replay_command.specs.Arguments.{Argument, arguments_at}
+use Rattle.replay_run.specs.Arguments.{Argument, arguments_at}
 use Rattle.replay_run.specs.Answered.{AnswersInputs}
 use Rattle.replay_run.specs.Inputs.{held_by}
 use Rattle.replay_run.proofs.AnsweredInputs.{HaveAnswered, names_all, names_at, names_more, none_answered, one_more_answered, stops_next}

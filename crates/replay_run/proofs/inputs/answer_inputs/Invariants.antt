@@ -1,5 +1,5 @@
 use Rattle.std.proofs.Common.{take}
-use Rattle.replay_command.specs.Arguments.{arguments_at}
+use Rattle.replay_run.specs.Arguments.{arguments_at}
 use Rattle.replay_run.specs.Inputs.{held_by}
 use Rattle.replay_run.proofs.AnsweredInputs.{HaveAnswered}
 use Rattle.written.specs.Standing.{known}

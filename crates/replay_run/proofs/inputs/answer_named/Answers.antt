@@ -1,7 +1,7 @@
 use Rattle.std.proofs.Common.{◌≡◌, ◌∙◌, sym}
 use Rattle.std.specs.Cmp.Lexicographic.{same_text}
 use Rattle.std.proofs.lemmas.Result.{IfOk-weaker}
-use Rattle.replay_command.specs.Arguments.{hyphen}
+use Rattle.replay_run.specs.Arguments.{hyphen}
 use Rattle.replay_run.proofs.AnsweredInputs.{file_answered, file_stops, if_err, no_hyphen, standard_answered, standard_stops}
 use Rattle.replay_run.proofs.inputs.answer_named.Goals as goal
 

@@ -1,5 +1,5 @@
 use Rattle.std.proofs.Common.{List, codes, inr, refl, sym, subst}
-use Rattle.replay_command.specs.Arguments.{Argument, arguments_at}
+use Rattle.replay_run.specs.Arguments.{Argument, arguments_at}
 use Rattle.replay_run.specs.Answered.{StopsInputs}
 use Rattle.replay_run.specs.Inputs.{held_by}
 use Rattle.replay_run.specs.declared.problem.Problem.{Problem}

@@ -1,5 +1,5 @@
 use Rattle.std.proofs.Common.{◌∙◌, ap, arith, inl, inr, sym}
-use Rattle.replay_command.specs.Arguments.{asked, arguments_at}
+use Rattle.replay_run.specs.Arguments.{asked, arguments_at}
 use Rattle.replay_run.proofs.Commands.{memory_mistake, memory_only, mistake_told, nothing_asked, nothing_shown}
 use Rattle.replay_run.proofs.run.run.Goals as goal
 

@@ -1,6 +1,6 @@
 use Rattle.std.proofs.Common.{◌∙◌, Some, ap, false, inl, inr, length, refl}
 use Rattle.clap.specs.Words.{found_of, rows_of}
-use Rattle.replay_command.specs.Arguments.{Checks, asked, task_of}
+use Rattle.replay_run.specs.Arguments.{Checks, asked, task_of}
 use Rattle.replay_run.specs.Answered.{AnswersInputs, StopsInputs}
 use Rattle.replay_run.specs.Compared.{EndsComparison}
 use Rattle.replay_run.specs.Inputs.{answers, held_by}

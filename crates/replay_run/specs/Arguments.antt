@@ -13,8 +13,8 @@ use Rattle.clap.specs.Walk.{Row, Rule, all_of, first_of}
 use Rattle.clap.specs.declared.builder.action.ArgAction.TheVariants.{Append, Set, SetTrue}
 use Rattle.clap.specs.declared.error.kind.ErrorKind.TheVariants.{DisplayHelp, DisplayVersion}
 pub use Rattle.program.specs.Arguments.{Argument, arguments_at}
-use Rattle.replay_command.specs.declared.command.ReplayCommand.{ReplayCommand}
-use Rattle.replay_command.specs.declared.command.ReplayCommand.TheVariants.{Answer, Check, Repeat}
+use Rattle.replay_run.specs.declared.command.ReplayCommand.{ReplayCommand}
+use Rattle.replay_run.specs.declared.command.ReplayCommand.TheVariants.{Answer, Check, Repeat}
 
 -- the argument that names standard input
 abbrev pub hyphen : Argument

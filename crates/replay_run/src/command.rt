@@ -3,8 +3,8 @@
 ghost use Rattle.std.specs.Prelude.{◌≡◌, ◌≢◌, ◌⊎◌, Some, None, IfErr, IfOk, option_map};
 ghost use Rattle.clap.specs.Words.{found_of, kind_of, rows_of};
 ghost use Rattle.clap.specs.declared.error.kind.ErrorKind.TheVariants as kind;
-ghost use Rattle.replay_command.specs.Arguments as spec;
-ghost use Rattle.replay_command.specs.Arguments.{files_in, task_in, task_of, was_given, arguments_at};
+ghost use Rattle.replay_run.specs.Arguments as spec;
+ghost use Rattle.replay_run.specs.Arguments.{files_in, task_in, task_of, was_given, arguments_at};
 
 use crate::usage_error::{UsageError, error_of};
 use clap::{ArgMatches, Error};

@@ -1,8 +1,8 @@
 use Rattle.std.proofs.Common.{codes, sym, ◌∙◌}
 use Rattle.clap.proofs.WalkLemmas.{first_value-rows}
 use Rattle.clap.specs.Words.{found_of, rows_of}
-use Rattle.replay_command.proofs.Asking.{asked_with_check, asked_without}
-use Rattle.replay_command.proofs.command.asked.Goals as goal
+use Rattle.replay_run.proofs.Asking.{asked_with_check, asked_without}
+use Rattle.replay_run.proofs.command.asked.Goals as goal
 
 pub returns-then-has : goal.returns-then-has
 returns-then-has c =

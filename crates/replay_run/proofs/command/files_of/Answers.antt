@@ -2,9 +2,9 @@ use Rattle.std.proofs.Common.{List, Option, [], ap, codes, ◌∙◌}
 use Rattle.std.specs.Prelude.{unwrap_or}
 use Rattle.clap.proofs.WalkLemmas.{raw_values-rows}
 use Rattle.clap.specs.Words.{found_of}
-use Rattle.replay_command.proofs.Asking.{arguments_or_none}
-use Rattle.replay_command.specs.Arguments.{Argument}
-use Rattle.replay_command.proofs.command.files_of.Goals as goal
+use Rattle.replay_run.proofs.Asking.{arguments_or_none}
+use Rattle.replay_run.specs.Arguments.{Argument}
+use Rattle.replay_run.proofs.command.files_of.Goals as goal
 
 pub returns : goal.returns
 returns c =

@@ -7,7 +7,7 @@ use Rattle.clap.specs.Faults.{fault_of, is_simple_and_free}
 use Rattle.clap.specs.Kinds.{Kinds}
 use Rattle.clap.specs.Simple.{matches_of}
 use Rattle.clap.specs.Walk.{is_empty}
-use Rattle.replay_command.specs.Arguments.{Answers, AsksFor, AsksToShow, Checks, Repeats, Task, Argument, asked, hyphen, replay_app}
+use Rattle.replay_run.specs.Arguments.{Answers, AsksFor, AsksToShow, Checks, Repeats, Task, Argument, asked, hyphen, replay_app}
 
 -- what clap says of arguments it says of the arguments of this command
 pub simple : is_simple_and_free replay_app ≡ true

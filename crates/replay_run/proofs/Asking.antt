@@ -9,7 +9,7 @@ use Rattle.std.proofs.lemmas.Bool.{lt-ltb, ltb-true}
 use Rattle.clap.proofs.WalkLemmas.{both}
 use Rattle.clap.specs.ValueTests.{is_numeral}
 use Rattle.clap.specs.Walk.{Row, first_of}
-use Rattle.replay_command.specs.Arguments.{Argument, asked, asked_to_check, asked_to_draw, files_in, number_of, was_given, arguments_at}
+use Rattle.replay_run.specs.Arguments.{Argument, asked, asked_to_check, asked_to_draw, files_in, number_of, was_given, arguments_at}
 
 -- ---- numbers
 

@@ -1,6 +1,6 @@
 use Rattle.std.proofs.Common.{ap, ap₂, true, ◌∙◌}
 use Rattle.clap.specs.Simple.{App, app_of_fields, on_top, with_rule}
-use Rattle.replay_command.proofs.arguments.parser.Goals as goal
+use Rattle.replay_run.proofs.arguments.parser.Goals as goal
 
 abbrev versioned : App → App
 versioned = on_top (λ s. record s { has_version = true })

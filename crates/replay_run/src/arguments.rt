@@ -3,7 +3,7 @@
 ghost use Rattle.std.specs.Prelude.{◌≡◌, false, IfOk};
 ghost use Rattle.clap.specs.Words.{FailsBy, app_of, fault_of, found_of, rows_of, rule_of};
 ghost use Rattle.clap.specs.Simple.{matches_of as rows_for};
-ghost use Rattle.replay_command.specs.Arguments.{flag_rule, files_rule, repeat_rule, replay_app, arguments_at};
+ghost use Rattle.replay_run.specs.Arguments.{flag_rule, files_rule, repeat_rule, replay_app, arguments_at};
 
 use clap::{Arg, ArgAction, ArgMatches, Command, Error};
 use std::alloc::{AllocError, Global};
