@@ -1,3 +1,2 @@
-pub mod GivenBytes
 pub mod Part
 pub mod Standing

@@ -1,15 +1,12 @@
-//! Bytes that are written whole, or up to where a write failed, to a writer or to a stream that keeps whether one did;
-//! and bytes that are given as far as there is room.
+//! Bytes that are written whole, or up to where a write failed, to a writer or to a stream that keeps whether one did.
 #![tactic(auto)]
 
 ghost use Rattle.std.specs.Prelude.{◌≤◌, IfOk, OnErr, OnOk, length, take};
 ghost use Rattle.std.specs.Io.KnownBytes.{Appends, Keeps};
 ghost use Rattle.written.specs.Part.{AppendsPart};
 
-mod room;
 mod stream;
 
-pub use room::give;
 use std::io::{self, ErrorKind, Write};
 pub use stream::Stream;
 

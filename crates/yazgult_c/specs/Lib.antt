@@ -1,1 +1,2 @@
 pub mod AnswerBytes
+pub mod GivenBytes

@@ -4,17 +4,18 @@
 
 ghost use Rattle.std.specs.Prelude.{ℕ, List, codes};
 ghost use Rattle.yazgult_c.specs.AnswerBytes.{IsAnswerTo, IsLineAnswerTo, answer_bytes};
-ghost use Rattle.written.specs.GivenBytes.{IsGiven};
+ghost use Rattle.yazgult_c.specs.GivenBytes.{IsGiven};
 ghost use Rattle.yazgult_c.specs.declared.answer.Answer.{Answer};
 
 mod answer;
+mod room;
 mod write;
 
 use answer::answer_to;
 use replay_answer::line::line_answer;
+use room::give;
 use std::alloc::Global;
 use write::{NO_MEMORY, written};
-use written::give;
 
 /// Draws the report that stands in `input`, in the form of `docs/BINDINGS.md`, and gives the answer: texts, or why
 /// there are none.

@@ -1,6 +1,6 @@
 //! Handing bytes to a caller who has only so much room.
 
-ghost use Rattle.written.specs.GivenBytes.{IsGiven};
+ghost use Rattle.yazgult_c.specs.GivenBytes.{IsGiven};
 
 /// Fills the output with as many of the bytes as there is room for, and answers how many there are.
 pub fn give(bytes: &[u8], output: &mut [u8]) -> usize
