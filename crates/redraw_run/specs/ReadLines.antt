@@ -1,7 +1,7 @@
 -- Lines that are read, the last line that is told, and texts that are printed.
 use Rattle.std.specs.Prelude.{◌≡◌, ℕ, ◌<◌, ◌≤◌, ◌-◌, ◌^◌, ◌⊎◌, ◌||◌, Bool, true, false, List, [], ◌∷◌, Option, Some, IfSome, Result, Ok, Err, length}
 use Rattle.std.specs.Io.BufRead.{drop_through, take_through}
-pub use Rattle.line_reader.specs.TakenLine.{TakesLine, TakesNext}
+pub use Rattle.json_lines.specs.TakenLine.{TakesLine, TakesNext}
 use Rattle.written.specs.Standing.{Adds, BreaksOff, Standing}
 use Rattle.redraw_command.specs.Tally.{is_empty}
 use Rattle.redraw_command.specs.Told.{Tells}

@@ -23,7 +23,7 @@ use crate::look::ReportRenderer;
 use crate::text::drawn_of;
 use crate::write::{pass, print};
 use annotate_snippets::renderer::RenderError;
-use json_node::fault::Fault;
+use json_lines::fault::Fault;
 use redraw_command::choice::{Choice, OutputForm, is_sum};
 use redraw_command::relative::make_relative;
 use redraw_command::seen::{Names, SeenDiagnostics};

@@ -15,8 +15,8 @@ use crate::json_value::json_of;
 use crate::kind::{Kind, kind_of};
 use crate::report::{cargo_message, sarif_log};
 use json::Scratch;
-use json_node::node::Node;
-use json_node::place::JsonPath;
+use json_lines::node::Node;
+use json_lines::place::JsonPath;
 use redraw_command::line::{Line, is_utf16, line_of};
 use redraw_command::stop::Stop;
 use redraw_read::rustc::diagnostic_of;
@@ -433,7 +433,7 @@ fn next_line<B: BufRead + Drop>(input: &mut B, line: &mut Vec<u8>) -> Result<boo
     ensures next { IfOk result (λ is. TakesNext is (B.remaining input.old) (B.remaining input.new) line.new.items) }
     ensures unread { IfErr result IsUnreadable }
 {
-    match line_reader::line::next_line(input, line) {
+    match json_lines::line::next_line(input, line) {
         Ok(is_more) => Ok(is_more),
         Err(error) => Err(Stop::Unreadable(error)),
     }

@@ -5,7 +5,7 @@ ghost use Rattle.serde_json.specs.View.{view};
 ghost use Rattle.redraw_run.specs.Fates.{IsWithoutEnd, Reads};
 
 use json::Scratch;
-use json_quick::quick::quick_value;
+use json_lines::quick::quick_value;
 use serde_json::Value;
 use std::alloc::{AllocError, Global};
 

@@ -1,6 +1,6 @@
 //! What a value of JSON is, by its fields.
 ghost use Rattle.std.specs.Prelude.{◌≡◌, ◌↔◌, Some, false, IsTrue, codes};
-ghost use Rattle.json_node.specs.Field.{flag_field};
+ghost use Rattle.json_lines.specs.Field.{flag_field};
 ghost use Rattle.serde_json.specs.View.{view};
 ghost use Rattle.redraw_run.specs.Fates.{IsCargoKind, IsOfKind};
 

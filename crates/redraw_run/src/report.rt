@@ -6,8 +6,8 @@ ghost use Rattle.std.specs.Prelude.{◌≡◌};
 
 use crate::draw::Drawing;
 use crate::sarif::draw_runs;
-use json_node::expectation::Expectation;
-use json_node::node::Node;
+use json_lines::expectation::Expectation;
+use json_lines::node::Node;
 use redraw_command::stop::Stop;
 use redraw_read::cargo::packaged_diagnostic_of;
 use redraw_read::json::listed;

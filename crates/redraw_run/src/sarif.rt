@@ -6,8 +6,8 @@ ghost use Rattle.redraw_run.specs.Fates.{AreRuns, Each, IsResult, IsLogRun};
 ghost use Rattle.written.specs.Standing.{known};
 
 use crate::draw::Drawing;
-use json_node::lenient::{LenientNode, List, Problems};
-use json_node::place::JsonPath;
+use json_lines::lenient::{LenientNode, List, Problems};
+use json_lines::place::JsonPath;
 use redraw_command::stop::Stop;
 use redraw_read::sources::SourceFiles;
 use redraw_sarif::sarif::SarifRun;

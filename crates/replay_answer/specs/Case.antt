@@ -6,7 +6,7 @@ use Rattle.annotate_snippets.specs.declared.renderer.DecorStyle.TheVariants.{Asc
 use Rattle.annotate_snippets.specs.declared.renderer.Renderer.{Renderer}
 use Rattle.serde_json.specs.Data.{Data}
 use Rattle.serde_json.specs.Find.{as_bool}
-use Rattle.json_node.specs.Field.{SaysAt, ListSays, as_whole, given, given_or, text_field}
+use Rattle.json_lines.specs.Field.{SaysAt, ListSays, as_whole, given, given_or, text_field}
 use Rattle.replay_read.specs.Report.{AreSourcesOf, IsGroupOf}
 use Rattle.replay_read.specs.Sheet.{AreSheetsOf}
 use Rattle.replay_read.specs.Shape.{HasShape}

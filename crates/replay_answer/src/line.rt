@@ -14,7 +14,7 @@ use crate::answer::{answer_json, column_words, told_json};
 use crate::case::Case;
 use crate::outcome::outcome_of;
 use crate::read::{case_of, case_sources};
-use json_node::fault::Fault;
+use json_lines::fault::Fault;
 use serde_json::{Error, Value};
 use std::alloc::{AllocError, Global};
 

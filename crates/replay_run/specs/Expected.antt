@@ -3,7 +3,7 @@ use Rattle.std.specs.Prelude.{◌≡◌, ℕ, List, Some, codes, map, string_byt
 use Rattle.std.specs.Borrow.{Bor}
 use Rattle.serde_json.specs.Data.{Data}
 use Rattle.serde_json.specs.Find.{as_str}
-use Rattle.json_node.specs.Field.{ListSays, SaysAt, text_field}
+use Rattle.json_lines.specs.Field.{ListSays, SaysAt, text_field}
 use Rattle.replay_read.specs.Shape.{HasShape}
 use Rattle.replay_read.specs.declared.shape.Shape.TheVariants as shape
 use Rattle.replay_answer.specs.Outcome.{refusal_name}

@@ -5,9 +5,9 @@ ghost use Rattle.serde_json.specs.View.{view};
 ghost use Rattle.replay_run.specs.Expected.{IsExpectedOf, IsMet, IsWanted, IsWantedOf, texts_lent};
 
 use crate::lines::write_line;
-use json_node::fault::Fault;
-use json_node::node::Node;
-use json_node::place::JsonPath;
+use json_lines::fault::Fault;
+use json_lines::node::Node;
+use json_lines::place::JsonPath;
 use replay_answer::outcome::{Outcome, name_of};
 use replay_read::list::list_at;
 use replay_read::shape::{Shape, has_shape};

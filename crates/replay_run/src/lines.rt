@@ -18,7 +18,7 @@ ghost use Rattle.replay_run.specs.Answered.{AnswersReader, StopsFor, StopsLine, 
 ghost use Rattle.replay_answer.specs.Outcome.{IsOutcomeOf};
 ghost use Rattle.replay_answer.specs.Case.{IsCaseOf};
 ghost use Rattle.replay_read.specs.Report.{AreSourcesOf};
-ghost use Rattle.json_node.specs.Field.{given};
+ghost use Rattle.json_lines.specs.Field.{given};
 ghost use Rattle.replay_run.specs.Problem.{IsFault, IsFinal, IsMisread, IsProblemWith};
 ghost use Rattle.replay_answer.specs.declared.outcome.Outcome.{Outcome};
 

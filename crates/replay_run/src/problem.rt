@@ -4,7 +4,7 @@ ghost use Rattle.std.specs.Prelude.{◌≡◌, ◌⊎◌, ℕ, List, Some, IfErr
 ghost use Rattle.replay_run.specs.Problem.{IsFault, IsFinal, IsMisread, json_text, line_label, problem_text};
 ghost use Rattle.replay_run.specs.Problem.{unpaired_text};
 
-use json_node::fault::Fault;
+use json_lines::fault::Fault;
 use replay_answer::answer::column_words;
 use std::alloc::{AllocError, AllocFailed, Global};
 use std::{fmt, io};

@@ -1,0 +1,3 @@
+pub mod Field
+pub mod Quick
+pub mod TakenLine

@@ -1,4 +1,0 @@
-pub mod Fuel
-pub mod Loops
-pub mod Numbers
-pub mod Taken

@@ -1,5 +1,0 @@
-use Rattle.line_reader.proofs.Through.{ends_first}
-use Rattle.line_reader.proofs.line.add_line.Goals as goal
-
-pub returns-in-Ok-clause-ends : goal.returns-in-Ok-clause-ends
-returns-in-Ok-clause-ends c = λ some. ends_first _ _ c.in-Some.ensures

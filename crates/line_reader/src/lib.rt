@@ -1,4 +1,0 @@
-//! Lines of an input, taken one after another.
-#![tactic(auto)]
-
-pub mod line;
