@@ -1,7 +1,7 @@
 -- What rustc's JSON tells of a place: its file, its lines and columns, its label, and whether it is the point of the report.
 use Rattle.std.specs.Prelude.{◌≡◌, ℕ, Bool, List, Option, Some, codes, string_bytes}
 use Rattle.std.specs.Option.{option_map}
-use Rattle.json_node.specs.Field.{number_field, text_field}
+use Rattle.json_lines.specs.Field.{number_field, text_field}
 use Rattle.serde_json.specs.Data.{Data}
 use Rattle.redraw_report.specs.declared.diagnostic.FileSpan.{FileSpan}
 use Rattle.redraw_report.specs.declared.diagnostic.LineRegion.{LineRegion}

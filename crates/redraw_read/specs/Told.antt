@@ -4,7 +4,7 @@ use Rattle.std.specs.Prelude.{string_bytes, if◌then◌else◌}
 use Rattle.std.specs.List.{list_all}
 use Rattle.std.specs.Option.{option_and_then, option_map, option_map_or}
 use Rattle.std.specs.Str.{bytes_eq}
-use Rattle.json_node.specs.Field.{given, text_field}
+use Rattle.json_lines.specs.Field.{given, text_field}
 use Rattle.serde_json.specs.Data.{Data}
 use Rattle.redraw_report.specs.declared.diagnostic.Code.{Code}
 use Rattle.redraw_report.specs.declared.diagnostic.Diagnostic.{Diagnostic}

@@ -2,8 +2,8 @@
 
 use crate::expansion::{call_text, told_call};
 use crate::spans::{at_value, file_span, region_of};
-use json_node::fault::Fault;
-use json_node::node::Node;
+use json_lines::fault::Fault;
+use json_lines::node::Node;
 use redraw_report::diagnostic::{FileSpan, LineRegion, Region};
 use std::alloc::{AllocError, Global};
 use std::collections::BTreeSet;

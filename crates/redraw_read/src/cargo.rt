@@ -2,9 +2,9 @@
 
 use crate::json::{given, given_text, owned};
 use crate::rustc::diagnostic_of;
-use json_node::expectation::Expectation;
-use json_node::fault::Fault;
-use json_node::node::Node;
+use json_lines::expectation::Expectation;
+use json_lines::fault::Fault;
+use json_lines::node::Node;
 use redraw_report::diagnostic::Diagnostic;
 
 /// The diagnostic in a message of cargo, with the files of the package that it is of.

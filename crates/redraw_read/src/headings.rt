@@ -10,8 +10,8 @@ ghost use Rattle.serde_json.specs.View.{view};
 
 use crate::json::{LEVEL, given, owned};
 use crate::words::after;
-use json_node::fault::Fault;
-use json_node::node::Node;
+use json_lines::fault::Fault;
+use json_lines::node::Node;
 use redraw_report::diagnostic::{Code, Severity};
 use serde_json::Value;
 use std::alloc::{AllocError, Global};

@@ -1,15 +1,15 @@
 //! Fields of JSON, which may be missing or null in what other tools write.
 
 ghost use Rattle.std.specs.Prelude.{◌≡◌, Some, IfOk, option_map, string_bytes};
-ghost use Rattle.json_node.specs.Field.{given_or, lent_text, optional_at};
+ghost use Rattle.json_lines.specs.Field.{given_or, lent_text, optional_at};
 ghost use Rattle.serde_json.specs.Data.{no_items};
-ghost use Rattle.json_node.specs.Field as spec;
+ghost use Rattle.json_lines.specs.Field as spec;
 ghost use Rattle.serde_json.specs.Find.{as_array, as_str};
 ghost use Rattle.serde_json.specs.View.{items_view, view};
 
-use json_node::expectation::Expectation;
-use json_node::fault::Fault;
-use json_node::node::Node;
+use json_lines::expectation::Expectation;
+use json_lines::fault::Fault;
+use json_lines::node::Node;
 use serde_json::Value;
 use std::alloc::{AllocError, Global};
 

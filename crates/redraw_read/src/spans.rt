@@ -1,7 +1,7 @@
 //! The places of a diagnostic of rustc, or of one of its children.
 
 ghost use Rattle.std.specs.Prelude.{◌≡◌, Some, IfOk, codes, option_map, string_bytes, ℕ, List, Option};
-ghost use Rattle.json_node.specs.Field.{flag_field, lent_text, number_field, optional_at};
+ghost use Rattle.json_lines.specs.Field.{flag_field, lent_text, number_field, optional_at};
 ghost use Rattle.redraw_read.specs.Spans.{SaysPlace, IsRegionOf, IsSpanIn};
 ghost use Rattle.serde_json.specs.Find.{as_str};
 ghost use Rattle.serde_json.specs.View.{view};
@@ -12,9 +12,9 @@ use crate::expansion::shown_place;
 use crate::json::{given, given_text, listed, owned, values_of};
 use crate::order::settle_order;
 use crate::roles::settle_roles;
-use json_node::expectation::Expectation;
-use json_node::fault::Fault;
-use json_node::node::Node;
+use json_lines::expectation::Expectation;
+use json_lines::fault::Fault;
+use json_lines::node::Node;
 use redraw_report::diagnostic::{Carried, FileSpan, LineRegion, Region, Unit};
 use serde_json::Value;
 use std::alloc::{AllocError, Global};

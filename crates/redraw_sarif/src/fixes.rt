@@ -4,7 +4,7 @@ use crate::location::Context;
 use crate::message::part_text_in;
 use crate::region::{carried_in, region_of};
 use crate::uri::path_in;
-use json_node::lenient::{LenientNode, List, Problems};
+use json_lines::lenient::{LenientNode, List, Problems};
 use redraw_report::diagnostic::{
     Carried, Child, LineRegion, Region, Severity, SuggestedEdit, Unit,
 };

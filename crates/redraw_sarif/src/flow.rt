@@ -2,7 +2,7 @@
 
 use crate::location::{Context, message_at, place_at};
 use crate::steps::{left_out, shown_steps, step_label};
-use json_node::lenient::{LenientNode, List, Problems};
+use json_lines::lenient::{LenientNode, List, Problems};
 use redraw_report::diagnostic::{Child, FileSpan, Severity};
 use std::alloc::AllocError;
 

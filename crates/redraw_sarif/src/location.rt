@@ -4,7 +4,7 @@ use crate::message::part_text_in;
 use crate::region::{carried_of, region_of};
 use crate::rule::SarifRule;
 use crate::uri::path_in;
-use json_node::lenient::{LenientNode, List, Problems};
+use json_lines::lenient::{LenientNode, List, Problems};
 use redraw_report::diagnostic::{FileSpan, Region, Unit};
 use serde_json::Value;
 use std::alloc::{AllocError, Global};

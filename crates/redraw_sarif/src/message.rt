@@ -5,7 +5,7 @@ use crate::links::without_links;
 use crate::location::Context;
 use crate::placeholders::filled;
 use crate::rule::SarifRule;
-use json_node::lenient::{LenientNode, Problems};
+use json_lines::lenient::{LenientNode, Problems};
 use serde_json::Value;
 use std::alloc::{AllocError, Global};
 use std::cell::Cell;

@@ -1,7 +1,7 @@
 //! The regions of files, and what a log itself holds of them.
 
 use crate::expectation::SarifExpectation;
-use json_node::lenient::{LenientNode, Problems};
+use json_lines::lenient::{LenientNode, Problems};
 use redraw_report::diagnostic::{Carried, LineRegion, Region, Unit};
 use serde_json::Value;
 use std::alloc::{AllocError, Global};

@@ -2,7 +2,7 @@
 
 use crate::expectation::SarifExpectation;
 use crate::rules::RunRules;
-use json_node::lenient::{LenientNode, Problems, field_at, text_at};
+use json_lines::lenient::{LenientNode, Problems, field_at, text_at};
 use redraw_report::diagnostic::{Code, Severity};
 use serde_json::Value;
 use std::alloc::{AllocError, Global};

@@ -1,6 +1,6 @@
 //! The rules of the parts of a tool, by their ids.
 
-use json_node::lenient::{field_at, text_field};
+use json_lines::lenient::{field_at, text_field};
 use serde_json::Value;
 use std::alloc::{AllocError, Global};
 use std::collections::{BTreeMap, BTreeSet};

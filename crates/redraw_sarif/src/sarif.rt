@@ -8,7 +8,7 @@ use crate::message::{MOST_BYTES, text_in};
 use crate::primary::choose_primary;
 use crate::rule::{SarifRule, code_of, rule_of, severity_of};
 use crate::rules::RunRules;
-use json_node::lenient::{LenientNode, List, Problems};
+use json_lines::lenient::{LenientNode, List, Problems};
 use redraw_report::diagnostic::{Diagnostic, FileSpan, Unit};
 use serde_json::Value;
 use std::alloc::{AllocError, Global};

@@ -1,7 +1,7 @@
 //! The files that a log names by addresses.
 
 use crate::expectation::SarifExpectation;
-use json_node::lenient::{LenientNode, Problems, field_at, item_at, text_at, text_field};
+use json_lines::lenient::{LenientNode, Problems, field_at, item_at, text_at, text_field};
 use percent_encoding::percent_decode;
 use serde_json::Value;
 use std::alloc::{AllocError, Global};

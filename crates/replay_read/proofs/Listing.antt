@@ -6,7 +6,7 @@ use Rattle.std.proofs.lemmas.Slice.Zip.{all_zipped_more}
 use Rattle.serde_json.specs.Data.{Data}
 use Rattle.serde_json.specs.View.{view}
 use Rattle.serde_json.specs.declared.value.Value.{Value}
-use Rattle.json_node.specs.Field.{ListSays}
+use Rattle.json_lines.specs.Field.{ListSays}
 
 -- one item more says one more
 pub items_more : {X : Type 0} (Says : Data → X → Type 0) (values : List Value) (i : ℕ) (v : Value) (xs : List X) (x : X) → i < length values

@@ -5,7 +5,7 @@ use Rattle.std.specs.Prelude.{option_and_then, option_map, if◌then◌else◌}
 use Rattle.std.specs.declared.ops.Range.{Range}
 use Rattle.serde_json.specs.Data.{Data}
 use Rattle.serde_json.specs.Find.{as_str}
-use Rattle.json_node.specs.Field.{SaysAt, given, number_field}
+use Rattle.json_lines.specs.Field.{SaysAt, given, number_field}
 use Rattle.snippet_places.specs.Places.{place_from}
 use Rattle.snippet_places.specs.TextLines.{start_bytes}
 use Rattle.snippet_places.specs.declared.clamp.Place.{Place}

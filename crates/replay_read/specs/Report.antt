@@ -19,7 +19,7 @@ use Rattle.snippet_model.specs.declared.snippet.Snippet.{Snippet}
 use Rattle.snippet_model.specs.declared.snippet.Title.{Title}
 use Rattle.serde_json.specs.Data.{Data}
 use Rattle.serde_json.specs.Find.{as_bool, as_null, as_str, get}
-use Rattle.json_node.specs.Field.{SaysAt, MaySayAt, OnlySays, OrNull, ListSays, as_whole, flag_field, given_or, optional_at, text_field}
+use Rattle.json_lines.specs.Field.{SaysAt, MaySayAt, OnlySays, OrNull, ListSays, as_whole, flag_field, given_or, optional_at, text_field}
 use Rattle.replay_read.specs.Kinds.{kind_name, mark_name}
 use Rattle.replay_read.specs.Shape.{HasShape}
 use Rattle.replay_read.specs.MarkerSpan.{IsSpanOf, IsUnit}

@@ -1,7 +1,7 @@
 -- The names of the fields that the objects of the format have.
 use Rattle.std.specs.Prelude.{ℕ, List, [], ◌∷◌, codes}
 use Rattle.serde_json.specs.Data.{Data}
-use Rattle.json_node.specs.Field.{HasOnly}
+use Rattle.json_lines.specs.Field.{HasOnly}
 use Rattle.replay_read.specs.declared.shape.Shape.{Shape}
 use Rattle.replay_read.specs.declared.shape.Shape.TheVariants as shape
 

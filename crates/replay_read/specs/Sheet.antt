@@ -12,7 +12,7 @@ use Rattle.snippet_style.specs.Style.{joined_effects, no_effects, plain_style}
 use Rattle.snippet_style.specs.Stylesheet.{plain_sheet, default_sheet}
 use Rattle.serde_json.specs.Data.{Data}
 use Rattle.serde_json.specs.Find.{as_str}
-use Rattle.json_node.specs.Field.{MaySayAt, ListSays, OnlySays, as_whole, given}
+use Rattle.json_lines.specs.Field.{MaySayAt, ListSays, OnlySays, as_whole, given}
 use Rattle.replay_read.specs.Shape.{HasShape}
 use Rattle.replay_read.specs.declared.shape.Shape.TheVariants as shape
 use Rattle.replay_read.specs.declared.effect.EffectName.{EffectName}

@@ -5,14 +5,14 @@ ghost use Rattle.snippet_model.specs.Fits.{TextFits};
 ghost use Rattle.serde_json.specs.Data.{Data};
 ghost use Rattle.serde_json.specs.Find.{as_str};
 ghost use Rattle.serde_json.specs.View.{view};
-ghost use Rattle.json_node.specs.Field.{SaysAt, ListSays, as_whole};
+ghost use Rattle.json_lines.specs.Field.{SaysAt, ListSays, as_whole};
 ghost use Rattle.replay_read.specs.declared.span.SpanUnit.{SpanUnit};
 
 use crate::ruler::Ruler;
 use crate::source::NamedSource;
-use json_node::expectation::Expectation;
-use json_node::fault::Fault;
-use json_node::node::Node;
+use json_lines::expectation::Expectation;
+use json_lines::fault::Fault;
+use json_lines::node::Node;
 
 /// What an item of a list may be read as.
 pub trait Read<'v> {

@@ -6,7 +6,7 @@ ghost use Rattle.snippet_model.specs.Fits.{GroupFits, IdFits, TitleFits, LevelFi
 ghost use Rattle.snippet_model.specs.Fits.{AnnotationFits, PatchFits, SnippetFits, TextFits};
 ghost use Rattle.serde_json.specs.Find.{as_bool, as_str, get};
 ghost use Rattle.serde_json.specs.View.{view};
-ghost use Rattle.json_node.specs.Field.{OrNull, SaysAt, as_whole, given_or, lent_text};
+ghost use Rattle.json_lines.specs.Field.{OrNull, SaysAt, as_whole, given_or, lent_text};
 ghost use Rattle.replay_read.specs.Report.{AreMarkersOf, IsAnnotationOf, IsElementOf, IsGroupOf, IsLevelOf};
 ghost use Rattle.replay_read.specs.Report.{IsMessageOf, IsNameOf};
 ghost use Rattle.replay_read.specs.Report.{IsOriginOf, IsPatchOf, IsSnippetOf, IsTitleOf};
@@ -18,10 +18,10 @@ use crate::shape::{FormatValue, Shape, has_shape};
 use crate::source::{NamedSource, SnippetSource, source_in};
 use crate::span::{SpanUnit, places_in, span_of, unit_in};
 use crate::told::are_many;
-use json_node::expectation::Expectation;
-use json_node::fault::Fault;
-use json_node::node::Node;
-use json_node::scalars::lent;
+use json_lines::expectation::Expectation;
+use json_lines::fault::Fault;
+use json_lines::node::Node;
+use json_lines::scalars::lent;
 use snippet_model::level::LevelName;
 use snippet_model::{
     Annotation, AnnotationKind, Element, Group, Id, Level, Message, Origin, Padding, Patch,

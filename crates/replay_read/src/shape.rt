@@ -2,11 +2,11 @@
 
 ghost use Rattle.std.specs.Prelude.{◌≡◌, OnOk};
 ghost use Rattle.serde_json.specs.View.{view};
-ghost use Rattle.json_node.specs.Field.{lent_texts};
+ghost use Rattle.json_lines.specs.Field.{lent_texts};
 ghost use Rattle.replay_read.specs.Shape.{HasShape, names_of};
 
-use json_node::fault::Fault;
-use json_node::node::Node;
+use json_lines::fault::Fault;
+use json_lines::node::Node;
 use std::fmt;
 
 /// The fields of the settings.

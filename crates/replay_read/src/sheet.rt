@@ -3,7 +3,7 @@
 ghost use Rattle.std.specs.Prelude.{◌≡◌, [], ◌∷◌, Some, IfOk, codes};
 ghost use Rattle.serde_json.specs.Find.{as_str};
 ghost use Rattle.serde_json.specs.View.{view};
-ghost use Rattle.json_node.specs.Field.{MaySayAt, given};
+ghost use Rattle.json_lines.specs.Field.{MaySayAt, given};
 ghost use Rattle.replay_read.specs.Sheet.{AreBytes, AreEffectsOf, AreSheetsOf, IsColorOf, IsOwnSheetOf, IsSheetOf};
 ghost use Rattle.replay_read.specs.Sheet.{IsStyleOf, MayBeEffects, MayBeStyle};
 ghost use Rattle.replay_read.specs.Sheet as spec;
@@ -11,9 +11,9 @@ ghost use Rattle.replay_read.specs.Sheet as spec;
 use crate::effect::{EFFECTS, EffectName};
 use crate::list::{Read, items_of};
 use crate::shape::{FormatValue, Shape, has_shape};
-use json_node::expectation::Expectation;
-use json_node::fault::Fault;
-use json_node::node::Node;
+use json_lines::expectation::Expectation;
+use json_lines::fault::Fault;
+use json_lines::node::Node;
 use snippet_style::{AnsiColor, Color, Effects, Style, Stylesheet};
 
 /// The sheets of a case: the plain one where none are given.

@@ -4,7 +4,7 @@ ghost use Rattle.std.specs.Prelude.{◌≡◌, IfOk, IfSome, codes, map, option_
 ghost use Rattle.std.specs.Cow.{cow_str_bytes};
 ghost use Rattle.snippet_model.specs.Fits.{TextFits};
 ghost use Rattle.serde_json.specs.View.{view};
-ghost use Rattle.json_node.specs.Field.{SaysAt, given};
+ghost use Rattle.json_lines.specs.Field.{SaysAt, given};
 ghost use Rattle.replay_read.specs.Report.{AreSourcesOf, IsSourceOf};
 
 use crate::list::items_of;
@@ -12,8 +12,8 @@ use crate::ruler::Ruler;
 use crate::shape::FormatValue;
 use crate::span::SpanUnit;
 use crate::told::{ToldPlaces, are_many};
-use json_node::fault::Fault;
-use json_node::node::Node;
+use json_lines::fault::Fault;
+use json_lines::node::Node;
 use snippet_lines::SourceLines;
 use snippet_model::SourceText;
 use snippet_text::{CowStr, text_fits};

@@ -3,15 +3,15 @@
 ghost use Rattle.std.specs.Prelude.{◌≡◌, ◌≤◌, IfOk, IfSome, IsTrue, OnOk, None, codes, length};
 ghost use Rattle.std.specs.Str.{IsCharBoundary};
 ghost use Rattle.serde_json.specs.View.{view};
-ghost use Rattle.json_node.specs.Field.{MaySayAt, SaysAt, given};
+ghost use Rattle.json_lines.specs.Field.{MaySayAt, SaysAt, given};
 ghost use Rattle.replay_read.specs.MarkerSpan.{IsCountedSpan, IsPlaceOf, IsPlacedSpan, IsSpanOf, IsUnit};
 ghost use Rattle.replay_read.specs.MarkerSpan as spec;
 
 use crate::ruler::Ruler;
 use crate::shape::{FormatValue, Shape, has_shape};
-use json_node::expectation::Expectation;
-use json_node::fault::Fault;
-use json_node::node::Node;
+use json_lines::expectation::Expectation;
+use json_lines::fault::Fault;
+use json_lines::node::Node;
 use serde_json::Value;
 use snippet_places::Position;
 use std::ops::Range;

@@ -2,7 +2,7 @@ use Rattle.std.proofs.Common.{◌≡◌, ◌∙◌, ap, map, Some, List, ℕ, op
 use Rattle.serde_json.specs.Data.{Data}
 use Rattle.serde_json.specs.Find.{as_str}
 use Rattle.serde_json.specs.View.{view}
-use Rattle.json_node.specs.Field.{ListSays}
+use Rattle.json_lines.specs.Field.{ListSays}
 use Rattle.replay_read.specs.Report.{AreSourcesOf}
 use Rattle.replay_read.proofs.Listing.{texts-said}
 use Rattle.replay_read.proofs.source.sources_of.Goals as goal
