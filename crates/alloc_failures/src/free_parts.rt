@@ -82,10 +82,29 @@ fn feeds() -> bool {
     newline_count("one\r\ntwo") == 1 && newline_count("one\n") == 0 && bytes == 3
 }
 
-/// Whether a line of 60 columns is cut around its one marked column.
+/// Whether lines are cut where they have to be.
 fn bounds() -> bool {
-    let margin = Margin::new(0, 30, 31, 31, 16, 60);
-    margin.was_cut_left() && margin.left(60) == 23 && margin.right(60) == 39
+    // One marked column of 60 in 16 columns: it stands in the middle, and both ends are cut.
+    is_bounded(Margin::new(0, 30, 31, 31, 16, 60), 60, (true, 23, 39))
+        // 40 marked columns in 16: the span alone is more than the room holds, and no end is cut.
+        && is_bounded(Margin::new(0, 0, 40, 40, 16, 40), 40, (false, 0, 40))
+        // 30 spaces before a marked column: 22 of them stay.
+        && is_bounded(Margin::new(30, 30, 31, 31, 136, 36), 36, (true, 8, 36))
+        // Sums stop at the greatest number.
+        && is_bounded(
+            Margin::new(0, 0, usize::MAX, usize::MAX, usize::MAX, 1),
+            1,
+            (false, 0, 1),
+        )
+}
+
+/// Whether lines are cut on the left, and one of this width is shown from the first column to before the second.
+fn is_bounded(margin: Margin, width: usize, bounds: (bool, usize, usize)) -> bool {
+    (
+        margin.was_cut_left(),
+        margin.left(width),
+        margin.right(width),
+    ) == bounds
 }
 
 /// Whether a new grid has neither rows nor runs.

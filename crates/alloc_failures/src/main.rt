@@ -4,12 +4,8 @@
 //! A line is printed for each subject that came out right, the same whatever was refused. Before the line `what follows
 //! takes memory` no call takes any but those that build reports; `scripts/alloc-failures` runs the program with each
 //! request refused in turn, and with all refused after the first line.
-//!
-//! Given an argument, it then makes each call of the library that no case of `replay` makes, and whose answer isn't
-//! compared above, and prints what it answers. No memory is refused then.
 #![tactic(auto)]
 
-mod calls;
 mod drawn;
 mod free;
 mod free_model;
@@ -29,9 +25,8 @@ use annotate_snippets::renderer::parts::{SourceMap, newline_count};
 use annotate_snippets::text::text_fits;
 use retry::again;
 use std::alloc::AllocError;
+use std::io;
 use std::process::ExitCode;
-use std::rt::Env;
-use std::{env, io};
 
 /// The status of a run that is out of memory, or whose output can't be written.
 const STOPPED: u8 = 2;
@@ -60,28 +55,10 @@ fn print_taking(rt: &(impl Print + AllocGlobal)) -> io::Result<()> {
     grid::print(rt)
 }
 
-/// Whether the program is given an argument.
-fn has_argument(rt: &(impl Env + AllocGlobal)) -> io::Result<bool> {
-    Ok(env::args(rt)?.nth(1).is_some())
-}
-
-/// Prints what the calls answer whose answers aren't compared, where the program is given an argument.
-fn print_calls(rt: &(impl Print + Env + AllocGlobal)) -> io::Result<()> {
-    let asked = match has_argument(rt) {
-        Ok(asked) => asked,
-        Err(_) => has_argument(rt)?,
-    };
-    if asked {
-        calls::print(rt)?;
-    }
-    Ok(())
-}
-
 /// Makes all calls.
-fn print_all(rt: &(impl Print + Env + AllocGlobal)) -> io::Result<()> {
+fn print_all(rt: &(impl Print + AllocGlobal)) -> io::Result<()> {
     print_free(rt)?;
-    print_taking(rt)?;
-    print_calls(rt)
+    print_taking(rt)
 }
 
 fn main(rt: HostRuntime) -> ExitCode {

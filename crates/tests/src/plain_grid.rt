@@ -1,7 +1,7 @@
 //! Plain rows of cells, and their text: what a grid is compared with. They share no code with it but the codes of a
 //! style.
 
-use crate::calls::grid::Call;
+use crate::grid_calls::Call;
 use annotate_snippets::renderer::parts::{ElementStyle, LevelInner};
 use annotate_snippets::renderer::{Style, Stylesheet, open_code, reset_code};
 use std::alloc::{AllocError, Global};

@@ -1,12 +1,11 @@
 //! Lists of calls from a fixed sequence, made of a grid and of plain rows of cells, whose texts are then compared.
 
-use crate::calls::grid::{Call, make};
-use crate::calls::output::print_heading;
-use crate::calls::plain::PlainGrid;
+use crate::grid_calls::{Call, make};
+use crate::plain_grid::PlainGrid;
 use annotate_snippets::renderer::parts::{ElementStyle, LevelInner, SheetCodes, StyledBuffer};
 use annotate_snippets::renderer::{AnsiColor, Stylesheet};
 use std::alloc::{AllocError, Global};
-use std::io;
+use std::test::Fail;
 
 /// How many lists there are.
 const LISTS: u64 = 1000;
@@ -110,14 +109,6 @@ fn sheet() -> Stylesheet {
     }
 }
 
-/// What was seen of the lists.
-#[derive(Clone, Copy, Default)]
-struct CountedLists {
-    lists: u64,
-    other_texts: u64,
-    too_many_runs: u64,
-}
-
 /// Makes a call of a grid and of plain rows of cells, and says whether it adds no more runs to the grid than it may.
 fn make_of_both(
     alloc: Global,
@@ -182,26 +173,13 @@ fn is_same_twice(
     Ok(twice == wanted)
 }
 
-/// Counts what is seen of the lists.
-fn count_lists(alloc: Global) -> Result<CountedLists, AllocError> {
+#[test]
+fn holds_what_plain_rows_hold(rt: HostRuntime) -> Result<(), Fail> {
     let mut numbers = Numbers { state: 1 };
-    let mut seen = CountedLists::default();
     for _ in 0..LISTS {
-        let (few, same) = list(alloc, &mut numbers)?;
-        seen.lists = seen.lists.saturating_add(1);
-        seen.other_texts = seen.other_texts.saturating_add(u64::from(!same));
-        seen.too_many_runs = seen.too_many_runs.saturating_add(u64::from(!few));
+        let (few, same) = list(rt.alloc(), &mut numbers)?;
+        assert!(rt; few);
+        assert!(rt; same);
     }
-    Ok(seen)
-}
-
-/// Prints in how many lists of calls a grid differs from plain rows of cells.
-pub fn print(rt: &(impl Print + AllocGlobal)) -> io::Result<()> {
-    print_heading(rt, "a thousand lists of calls, beside plain rows of cells")?;
-    let CountedLists {
-        lists,
-        other_texts,
-        too_many_runs,
-    } = count_lists(rt.alloc())?;
-    println!(rt; "lists: {lists}, other texts: {other_texts}, too many runs: {too_many_runs}")
+    Ok(())
 }
