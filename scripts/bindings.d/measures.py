@@ -1,0 +1,56 @@
+"""Measures calls of the library: the stack that they take, and the instructions and the time of reports through the Rust crate."""
+
+import shutil
+import subprocess
+from pathlib import Path
+
+from cases import json_lines, report_files
+from facts import Trouble, run
+from through_c import compiled, framed
+from through_rust import Crate
+
+
+def stack(room, yazgult, report_bytes, pairs):
+    """Says how many bytes of stack the calls take."""
+    compiled(room, "stack", "-lpthread")
+    depth, line = nested(yazgult)
+    told = {
+        f"{len(pairs)} cases, as bytes": ([], [report_bytes.bytes_of(case) for case, _ in pairs]),
+        f"{len(pairs)} cases, as JSON": (["json"], [it.encode() for it in json_lines(pairs)]),
+        f"JSON that is nested {depth} lists deep": (["json"], [line]),
+    }
+    for what, (words, inputs) in told.items():
+        found = [int(it) for it in run([f"{room}/stack", *words], input=framed(inputs)).split()]
+        print(f"bindings: {what}: at most {max(found) / 1024:.1f} KiB of stack")
+
+
+def nested(yazgult):
+    """A line of JSON that is nested as deep as it is read: deeper ones are told as not valid."""
+    for depth in range(1000, 0, -1):
+        line = '{"id": ' + "[" * depth + "]" * depth + "}"
+        if "not valid JSON" not in yazgult.answer_json(line):
+            return depth, line.encode()
+    raise Trouble("no nested JSON is read")
+
+
+def bench(room, anstyle, names):
+    if not shutil.which("valgrind"):
+        raise Trouble("there is no valgrind on this machine")
+    files = report_files(names)
+    program = Crate(room, anstyle).examples() / "cases"
+    for file in files:
+        # Reading the file is in both counts.
+        once, often = (counted([program, "draw", str(times), str(file)], room) for times in (1, 11))
+        if once is None or often is None:
+            print(f"{file.stem}: a case of it is refused", flush=True)
+            continue
+        told = run([program, "draw", "200", file]).decode().strip()
+        print(f"{file.stem}: {(often - once) // 10:,} instructions a round; without valgrind: {told}", flush=True)
+
+
+def counted(words, room):
+    """The instructions that a run takes, as valgrind counts them; nothing where the program fails."""
+    out = Path(room, "callgrind.out")
+    ran = subprocess.run(["valgrind", "--tool=callgrind", f"--callgrind-out-file={out}", *words], capture_output=True)
+    found = [it for it in out.read_text().splitlines() if it.startswith(("summary:", "totals:"))]
+    return int(found[-1].split()[1]) if ran.returncode == 0 else None
