@@ -55,6 +55,24 @@ fn what_comes_closest_is_taken_of_other_places() {
 }
 
 #[test]
+fn columns_are_as_wide_as_a_report_shows_them() {
+    let source = "a\né=😀\t日\r\nb\u{200d}c\u{301}\u{1b}\r";
+    let columns = |from, to| between(source, from, to, ColumnUnit::Columns);
+    assert_eq!(columns((2, 1), (2, 2)), exact(2..4));
+    assert_eq!(columns((2, 3), (2, 5)), exact(5..9));
+    assert_eq!(columns((2, 5), (2, 9)), exact(9..10));
+    assert_eq!(columns((2, 4), (2, 6)), clamped(5..9));
+    assert_eq!(columns((2, 9), (2, 10)), clamped(10..10));
+    assert_eq!(columns((2, 11), (2, 12)), clamped(13..13));
+    // what takes no column belongs to what stands before it
+    assert_eq!(columns((3, 1), (3, 2)), exact(15..19));
+    assert_eq!(columns((3, 2), (3, 4)), exact(19..23));
+    assert_eq!(columns((3, 5), (3, usize::MAX)), clamped(24..24));
+    assert_eq!(between("", (1, 1), (1, 2), ColumnUnit::Columns), clamped(0..0));
+    assert_eq!(between(&"日".repeat(9000), (1, 16001), (1, 16003), ColumnUnit::Columns), exact(24000..24003));
+}
+
+#[test]
 fn lines_start_after_line_feeds_but_for_the_last() {
     for (source, starts) in
         [("", &[0][..]), ("\n", &[0]), ("a\nb", &[0, 2]), ("a\n\n\n", &[0, 2, 3]), ("\u{2028}a", &[0])]

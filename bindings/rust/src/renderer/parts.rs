@@ -13,6 +13,7 @@
 //! );
 //! ```
 
+use crate::{level, AnnotationKind, Group, Renderer, Snippet};
 use std::ops::Range;
 
 /// What columns are counted in.
@@ -23,24 +24,17 @@ use std::ops::Range;
 /// let (from, to) = (Position { line: 1, column: 3 }, Position { line: 1, column: 4 });
 /// assert_eq!(span_at("😀ab", from, to, ColumnUnit::Chars).span, 5..6);
 /// assert_eq!(span_at("😀ab", from, to, ColumnUnit::Utf16).span, 4..5);
+/// assert_eq!(span_at("日ab", from, to, ColumnUnit::Columns).span, 3..4);
 /// ```
 #[derive(Clone, Copy, Debug, PartialEq, Eq)]
-#[non_exhaustive]
 pub enum ColumnUnit {
     /// Characters: Unicode scalar values.
     Chars,
     /// Units of UTF-16: a character outside of the basic plane is two, each other one.
     Utf16,
-}
-
-impl ColumnUnit {
-    /// How many units a character counts.
-    fn of(self, character: char) -> usize {
-        match self {
-            ColumnUnit::Chars => 1,
-            ColumnUnit::Utf16 => character.len_utf16(),
-        }
-    }
+    /// Columns of a terminal, in which a character is as wide as a report shows it. How wide that is the library alone knows, and is
+    /// asked by drawings of the line: some ten for each place.
+    Columns,
 }
 
 /// A place by line and column, each counted from 1.
@@ -90,6 +84,10 @@ pub struct SpanAt {
 /// let (from, to) = (Position { line: 2, column: 5 }, Position { line: 2, column: 6 });
 /// assert_eq!(span_at("a\nlet é = 1;\n", from, to, ColumnUnit::Chars), SpanAt { span: 6..8, clamped: false });
 /// ```
+///
+/// # Panics
+///
+/// By columns of a terminal, where memory is refused.
 pub fn span_at(source: &str, from: Position, to: Position, unit: ColumnUnit) -> SpanAt {
     let from = place_of(source, from, unit);
     let to = place_of(source, to, unit);
@@ -134,13 +132,42 @@ fn line_text(text: &str) -> &str {
 
 /// The place before which a line has this many units.
 fn place_after(line: &str, units: usize, unit: ColumnUnit) -> Place {
+    match unit {
+        ColumnUnit::Chars => place_by(line, units, |_| 1),
+        ColumnUnit::Utf16 => place_by(line, units, char::len_utf16),
+        ColumnUnit::Columns => place_by_columns(line, units),
+    }
+}
+
+/// The same, where each character counts for itself.
+fn place_by(line: &str, units: usize, units_of: fn(char) -> usize) -> Place {
     let mut left = units;
     for (byte, character) in line.char_indices() {
-        let count = unit.of(character);
+        let count = units_of(character);
         if left < count {
             return Place { byte, exact: left == 0 };
         }
         left -= count;
     }
     Place { byte: line.len(), exact: left == 0 }
+}
+
+/// The same by columns: the last border of characters before which there are no more of them.
+fn place_by_columns(line: &str, columns: usize) -> Place {
+    let borders: Vec<usize> = line.char_indices().map(|(byte, _)| byte).chain([line.len()]).collect();
+    let within = borders.partition_point(|byte| columns_of(&line[..*byte]) <= columns);
+    let byte = borders[within - 1];
+    Place { byte, exact: columns_of(&line[..byte]) == columns }
+}
+
+/// How many columns a part of a line takes: as many as stand before a mark after it.
+fn columns_of(text: &str) -> usize {
+    if text.is_empty() {
+        return 0;
+    }
+    let mark = AnnotationKind::Primary.span(text.len()..text.len());
+    let snippet = Snippet::source(text).line_numbering(false).annotation(mark);
+    let page = Renderer::plain().term_width(usize::MAX).render(&[Group::with_level(level::ERROR).element(snippet)]);
+    // the last row has three characters of the gutter before the columns, and the mark after them
+    page.rsplit('\n').next().map_or(0, |row| row.len() - 4)
 }
