@@ -89,6 +89,11 @@ class Terminal(unittest.TestCase):
             yazgult.Report(REPORT).print_report()
             self.assertEqual(file.getvalue(), 2 * PLAIN)
 
+    def test_nothing_is_printed_where_there_is_no_standard_error(self):
+        with around(), contextlib.redirect_stderr(None):
+            yazgult.print_report(REPORT)
+            yazgult.Report(REPORT).print_report()
+
     def test_a_file_of_another_encoding_gets_escapes(self):
         with around(), tempfile.TemporaryFile("w+", encoding="ascii") as file:
             yazgult.print_report(REPORT, file)

@@ -4,6 +4,7 @@ import copy
 import datetime
 import enum
 import json
+import pickle
 import random
 import re
 import unittest
@@ -197,6 +198,28 @@ class Values(unittest.TestCase):
                 values = ["abc", 1, 1, 1, 2]
                 values[at:at + 1] = [make()]
                 self.told(lambda: yazgult.span(*values[:5], unit=make() if at == 5 else "byte"))
+
+    def test_any_value_as_what_is_added_to_and_as_what_is_printed_into(self):
+        for make in [*(make for make, _ in NOT_JSON.values()), *OTHERS]:
+            if make is Strange:
+                continue
+            self.told(lambda: Report(make()).group("error", "t"))
+            self.told(lambda: Group(None, make()).message("note", "m").origin("o").snippet("s"))
+            self.told(lambda: Snippet("abc", None, make(), make()).mark(0, 1))
+            self.told(lambda: Snippet("abc", None, make(), make()).patch(0, 1, ""))
+            self.told(lambda: yazgult.print_report(dicts(), make(), sources=["abc"], term_width=80))
+        self.assertEqual(self.told(lambda: Report(7).group("error", "t")), "groups: expected a list, found a value of type int")
+        grown = Group(None, (Message("note", "m"),)).message("note", "n")
+        self.assertEqual([it.text for it in grown.elements], ["m", "n"])
+
+    def test_exceptions_come_over_from_another_process(self):
+        wrong = [Group(Title("error", "t"), [Snippet("abc").mark(0, 9)])]
+        for groups in (wrong, 7):
+            with self.assertRaises(yazgult.Error) as raised:
+                yazgult.render(groups)
+            came = pickle.loads(pickle.dumps(raised.exception))
+            self.assertEqual((type(came), str(came), vars(came)), (type(raised.exception), str(raised.exception), vars(raised.exception)))
+            self.assertEqual(str(copy.copy(raised.exception)), str(raised.exception))
 
     def test_unknown_fields_and_settings_are_told(self):
         groups = dicts()

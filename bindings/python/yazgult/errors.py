@@ -2,7 +2,7 @@
 
 from __future__ import annotations
 
-from typing import Dict, Type
+from typing import Any, Dict, Tuple, Type
 
 # How long the words of an exception are at most, and how much of their end is kept where they are longer.
 LONGEST, END = 300, 100
@@ -34,6 +34,11 @@ class NotDrawable(Error, ValueError):
         super().__init__(short(words))
 
 
+def with_words(kind: Type[Refused], *words: str) -> Refused:
+    """A refusal of a kind, by its words as they are."""
+    return kind.__new__(kind, *words)
+
+
 class Refused(Error):
     """A report gives no text. Each kind of refusal is a class of its own, with the numbers that it names, from 0, as fields; `path` is the
     field that it is about, as `groups[0].elements[1].cause.annotations[0]`, and `words` what the library says of it."""
@@ -46,6 +51,10 @@ class Refused(Error):
         super().__init__(f"{path}: {words.rpartition(': ')[2]}")
         self.path, self.words = path, words
         self.__dict__.update(numbers)
+
+    def __reduce__(self) -> Tuple[Any, ...]:
+        # What another process raises comes over with all of its fields.
+        return with_words, (type(self), *self.args), vars(self)
 
 
 class NoGroup(Refused):

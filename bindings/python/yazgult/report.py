@@ -6,6 +6,8 @@ import sys
 from dataclasses import dataclass, field
 from typing import Any, Dict, List, Mapping, Optional, Sequence, TextIO, Tuple, Union
 
+from .errors import NotDrawable
+
 # A place in a source: how many characters (or bytes) stand before it, or its line and its column, both from 1.
 Place = Union[int, Tuple[int, int]]
 Fields = Dict[str, Any]
@@ -17,6 +19,16 @@ class Part:
     def as_json(self) -> Fields:
         """The fields of the part, by the names that docs/REPORTS.md has."""
         return vars(self)
+
+
+def added(held: Any, name: str, member: Any) -> Any:
+    """A field that is a list with one member more: the list itself, if it is one that can grow."""
+    if isinstance(held, list):
+        held.append(member)
+        return held
+    if isinstance(held, tuple):
+        return [*held, member]
+    raise NotDrawable(f"{name}: expected a list, found a value of type {type(held).__name__}")
 
 
 class Element(Part):
@@ -129,12 +141,12 @@ class Snippet(Element):
 
     def mark(self, start: Place, end: Place, label: Optional[str] = None, kind: str = "primary", highlight_source: bool = False) -> Snippet:
         """Adds a mark from one place to the one after it, and returns the snippet."""
-        self.annotations.append(Annotation(kind, start, end, label, highlight_source))
+        self.annotations = added(self.annotations, "annotations", Annotation(kind, start, end, label, highlight_source))
         return self
 
     def patch(self, start: Place, end: Place, text: str) -> Snippet:
         """Adds a text in the place of what stands there, and returns the snippet. A snippet has marks or patches, and not both."""
-        self.patches.append(Patch(start, end, text))
+        self.patches = added(self.patches, "patches", Patch(start, end, text))
         return self
 
     def name(self) -> str:
@@ -195,20 +207,29 @@ class Group(Part):
     elements: List[Union[Element, Mapping[str, Any]]] = field(default_factory=list)
     level: Optional[Union[Level, str]] = None
 
-    def snippet(self, source: Union[str, int], path: Optional[str] = None, **fields: Any) -> Snippet:
+    def snippet(
+        self,
+        source: Union[str, int],
+        path: Optional[str] = None,
+        *,
+        line_start: int = 1,
+        line_numbering: bool = True,
+        fold: bool = True,
+        unit: Optional[str] = None,
+    ) -> Snippet:
         """Adds a snippet, and returns it, so that it can be marked."""
-        added = Snippet(source, path, **fields)
-        self.elements.append(added)
-        return added
+        snippet = Snippet(source, path, line_start=line_start, line_numbering=line_numbering, fold=fold, unit=unit)
+        self.elements = added(self.elements, "elements", snippet)
+        return snippet
 
     def message(self, level: Union[Level, str], text: str) -> Group:
         """Adds a message, and returns the group."""
-        self.elements.append(Message(level, text))
+        self.elements = added(self.elements, "elements", Message(level, text))
         return self
 
     def origin(self, path: str, line: Optional[int] = None, column: Optional[int] = None) -> Group:
         """Adds an origin, and returns the group."""
-        self.elements.append(Origin(path, line, column))
+        self.elements = added(self.elements, "elements", Origin(path, line, column))
         return self
 
     def as_json(self) -> Fields:
@@ -225,9 +246,9 @@ class Report:
 
     def group(self, level: Union[Level, str], text: str, primary: bool = True, id: Optional[str] = None, url: Optional[str] = None) -> Group:
         """Adds a group with this title, and returns it."""
-        added = Group(Title(level, text, primary, id, url))
-        self.groups.append(added)
-        return added
+        group = Group(Title(level, text, primary, id, url))
+        self.groups = added(self.groups, "groups", group)
+        return group
 
     # What draws takes a report, so it is imported where it is used.
 

@@ -7,6 +7,7 @@ import sys
 from typing import TYPE_CHECKING, Any, Optional, Sequence, TextIO, Union
 
 from .drawing import Settings, Sheet, render
+from .errors import NotDrawable
 from .report import Groups, Report
 
 if TYPE_CHECKING:
@@ -28,14 +29,19 @@ def print_report(
     itself. It is as wide as the variable `COLUMNS` says, or else as the terminal is, unless `term_width` is given. A character that the
     file's encoding doesn't have is written as an escape. The rest is as of `render`.
     """
-    target = sys.stderr if file is None else file
+    target: Any = sys.stderr if file is None else file
+    if target is not None and not callable(getattr(target, "write", None)):
+        raise NotDrawable(f"file: expected one that can be written, found a value of type {type(target).__name__}")
     on_terminal = is_terminal(target)
     width = width_of(target, on_terminal)
     if width is not None:
         settings.setdefault("term_width", width)
     if sheet is None:
         sheet = "default" if on_terminal and has_colours() else "plain"
-    target.write(writable(render(report, sheet, spans=spans, sources=sources, **settings), target) + "\n")
+    text = render(report, sheet, spans=spans, sources=sources, **settings)
+    # A program without a console has no standard error.
+    if target is not None:
+        target.write(writable(text, target) + "\n")
 
 
 def is_terminal(file: Any) -> bool:
@@ -57,7 +63,7 @@ def width_of(file: Any, on_terminal: bool) -> Optional[int]:
     try:
         # A terminal that knows no width says 0.
         return os.get_terminal_size(file.fileno()).columns or None if on_terminal else None
-    except (AttributeError, OSError, ValueError):
+    except (AttributeError, OSError, TypeError, ValueError):
         return None
 
 
