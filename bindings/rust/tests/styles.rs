@@ -1,6 +1,9 @@
-//! The codes that a style of anstyle is as a text are those that the library writes for it.
+//! The codes that a style of anstyle is as a text are those that the library writes for it; and each name that programs may use of that
+//! crate is there, for constants too.
 
-use yazgult::renderer::{Ansi256Color, AnsiColor, Color, Effects, Reset, RgbColor, Style};
+use std::fmt::{Debug, Display};
+use std::hash::Hash;
+use yazgult::renderer::{Ansi256Color, AnsiColor, Color, EffectIter, Effects, Reset, RgbColor, Style};
 use yazgult::{Group, Level, Renderer};
 
 /// Each effect, each colour of the theme as text and as background, and some others.
@@ -78,4 +81,95 @@ fn colors_have_their_bright_forms() {
     assert_eq!(AnsiColor::BrightRed.bright(false), AnsiColor::Red);
     assert!(AnsiColor::BrightBlack.is_bright() && !AnsiColor::White.is_bright());
     assert_eq!(Ansi256Color::from(AnsiColor::BrightWhite).index(), 15);
+}
+
+/// What may be asked of a value in a constant.
+const STYLE: Style = Color::Ansi(AnsiColor::Red)
+    .on_default()
+    .fg_color(Some(Color::Ansi256(Ansi256Color(3))))
+    .bg_color(Some(Color::Rgb(RgbColor(1, 2, 3))))
+    .underline_color(None)
+    .effects(Effects::new().insert(Effects::BOLD).remove(Effects::DIMMED).set(Effects::ITALIC, true))
+    .bold()
+    .dimmed()
+    .italic()
+    .underline()
+    .blink()
+    .invert()
+    .hidden()
+    .strikethrough();
+const COLORS: (Option<Color>, Option<Color>, Option<Color>) =
+    (STYLE.get_fg_color(), STYLE.get_bg_color(), STYLE.get_underline_color());
+const ANSWERS: [bool; 5] = [
+    STYLE.is_plain(),
+    STYLE.get_effects().is_plain(),
+    STYLE.get_effects().contains(Effects::BLINK),
+    Effects::BOLD.clear().is_plain(),
+    AnsiColor::Red.bright(true).is_bright(),
+];
+const STYLES: [Style; 3] =
+    [AnsiColor::Red.on_default(), Ansi256Color(3).on_default(), RgbColor(RgbColor(7, 8, 9).r(), 8, 9).on_default()];
+const INDEX: (u8, Option<AnsiColor>, Ansi256Color, u8, u8) = (
+    Ansi256Color(3).index(),
+    Ansi256Color(16).into_ansi(),
+    Ansi256Color::from_ansi(AnsiColor::Blue),
+    RgbColor(7, 8, 9).g(),
+    RgbColor(7, 8, 9).b(),
+);
+
+#[test]
+fn values_may_be_asked_for_in_constants() {
+    assert_eq!(COLORS, (Some(Color::from(3)), Some(Color::from((1, 2, 3))), None));
+    assert_eq!(ANSWERS, [false, false, true, true, true]);
+    let styles: [Style; 3] = [AnsiColor::Red.into(), Ansi256Color::from(3).into(), RgbColor::from((7, 8, 9)).into()];
+    assert_eq!(STYLES, styles);
+    assert_eq!(INDEX, (3, None, Ansi256Color(4), 8, 9));
+}
+
+/// A text that may be copied, as codes are.
+fn text(codes: impl Display + Copy) -> String {
+    let copied = codes;
+    format!("{codes}{copied}")
+}
+
+#[test]
+fn codes_may_be_copied_and_written() {
+    let codes = [
+        text(AnsiColor::Red.render_fg()) + &text(AnsiColor::Red.render_bg()),
+        text(Ansi256Color(3).render_fg()) + &text(Ansi256Color(3).render_bg()),
+        text(RgbColor(1, 2, 3).render_fg()) + &text(RgbColor(1, 2, 3).render_bg()),
+        text(Color::Ansi(AnsiColor::Red).render_fg()) + &text(Color::Ansi(AnsiColor::Red).render_bg()),
+        text(Effects::BOLD.render()) + &text(Reset.render()),
+        text(STYLE.render()) + &text(STYLE.render_reset()),
+    ];
+    assert!(codes.iter().all(|it| it.starts_with("\x1b[") && it.ends_with('m')), "{codes:?}");
+    let mut written = Vec::new();
+    STYLE.write_to(&mut written).expect("a list takes all");
+    STYLE.write_reset_to(&mut written).expect("a list takes all");
+    assert_eq!(written, format!("{STYLE}{STYLE:#}").into_bytes());
+}
+
+#[test]
+fn types_have_the_traits_of_values() {
+    fn is_value<T: Copy + Ord + Hash + Debug + Send + Sync + 'static>() {}
+    fn is_whole<T: Default + Display>() {}
+    is_value::<Style>();
+    is_value::<Color>();
+    is_value::<AnsiColor>();
+    is_value::<Ansi256Color>();
+    is_value::<RgbColor>();
+    is_value::<Effects>();
+    is_value::<Reset>();
+    is_whole::<Style>();
+    is_whole::<Reset>();
+    let each: EffectIter = Effects::default().iter();
+    assert_eq!(each.clone(), each);
+    let mut style = Style::from(Color::from(AnsiColor::Red)) | Effects::BOLD | Effects::BLINK;
+    style |= Effects::ITALIC;
+    style -= Effects::BLINK;
+    assert_eq!(style - Effects::ITALIC, AnsiColor::Red.on_default().bold());
+    let mut effects = Effects::BOLD;
+    effects |= Effects::ITALIC;
+    effects -= Effects::BOLD;
+    assert_eq!(effects, Effects::ITALIC);
 }
