@@ -161,7 +161,7 @@ def draws_in_c(what, words, env=None):
 
 
 def try_c(prefix):
-    """A program in C by pkg-config, over the shared library, and over the archive; and the examples are compiled."""
+    """A program in C by pkg-config, over the shared library, and over the archive; and the examples, of which the first draws."""
     if shutil.which("pkg-config"):
         flags = ran(["pkg-config", "--cflags", "--libs", "yazgult"], env={"PKG_CONFIG_PATH": str(prefix / "lib/pkgconfig")}).split()
     else:
@@ -173,9 +173,9 @@ def try_c(prefix):
         fail("the program over the archive asks for the shared library")
     examples = sorted((prefix / "share/doc/yazgult/examples").glob("*.c"))
     for example in examples:
-        ran(["cc", example, *flags, "-o", ROOM / "example"])
-    if not examples:
-        fail("there are no examples in C")
+        ran(["cc", example, *flags, "-o", ROOM / example.stem])
+    if "example" not in [it.stem for it in examples] or not ran([ROOM / "example"]).startswith("error: mismatched types\n"):
+        fail("the example in C isn't there, or draws something else")
 
 
 def try_tarball():
