@@ -94,6 +94,12 @@ class Terminal(unittest.TestCase):
             yazgult.print_report(REPORT)
             yazgult.Report(REPORT).print_report()
 
+    def test_a_file_of_bytes_or_none_at_all_is_told(self):
+        for file, told in ((io.BytesIO(), "file: it takes no text, as one of bytes: "), (7, "file: expected one that can be written, ")):
+            with around(), self.assertRaises(yazgult.NotDrawable) as raised:
+                yazgult.print_report(REPORT, file)
+            self.assertTrue(str(raised.exception).startswith(told), raised.exception)
+
     def test_a_file_of_another_encoding_gets_escapes(self):
         with around(), tempfile.TemporaryFile("w+", encoding="ascii") as file:
             yazgult.print_report(REPORT, file)

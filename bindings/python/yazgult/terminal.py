@@ -41,7 +41,15 @@ def print_report(
     text = render(report, sheet, spans=spans, sources=sources, **settings)
     # A program without a console has no standard error.
     if target is not None:
-        target.write(writable(text, target) + "\n")
+        put(writable(text, target) + "\n", target)
+
+
+def put(text: str, file: Any) -> None:
+    """Writes a text into a file."""
+    try:
+        file.write(text)
+    except TypeError as error:
+        raise NotDrawable(f"file: it takes no text, as one of bytes: {error}") from error
 
 
 def is_terminal(file: Any) -> bool:
