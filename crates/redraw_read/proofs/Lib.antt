@@ -1,9 +1,13 @@
 pub mod After
 pub mod AllNext
+pub mod Begins
 pub mod Begun
 pub mod Counting
 pub mod GivenRoles
 pub mod Indexed
+pub mod KnownManners
+pub mod LeastNumber
+pub mod LineNumbers
 pub mod Nested
 pub mod Loading
 pub mod NotCounted

@@ -8,5 +8,6 @@ pub mod Order
 pub mod Placed
 pub mod Rendered
 pub mod Roles
+pub mod ShownLines
 pub mod Spans
 pub mod Told

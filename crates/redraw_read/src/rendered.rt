@@ -7,12 +7,13 @@ ghost use Rattle.redraw_read.specs.AsShown.{IsAsShown, child_seen, child_shown, 
 ghost use Rattle.redraw_read.specs.AsShown.{labels, place_shown};
 ghost use Rattle.redraw_read.specs.AsShown.{message_line, suggestion_shown, with_first_line};
 ghost use Rattle.redraw_read.specs.Rendered as spec;
-ghost use Rattle.redraw_read.specs.Rendered.{way, way_of};
+ghost use Rattle.redraw_read.specs.Rendered.{way, way_by, way_of};
 ghost use Rattle.redraw_read.specs.Told.{KeepsHeading};
 ghost use Rattle.redraw_report.specs.Report.{lent};
 
 use crate::columns::show_columns;
 use crate::labels::{EditLabel, put_labels};
+use crate::manners::Manners;
 use crate::plain::without_styles;
 use crate::roles::settle_roles;
 use crate::words::{after, after_first, begins_with};
@@ -35,7 +36,7 @@ pub enum Manner<'t> {
 
 /// Where in a line the message of a suggestion stands.
 #[derive(Clone, Copy)]
-enum Stand {
+pub enum Stand {
     /// After `help: `, with which the line begins.
     Title,
     /// After blanks and `= help: `.
@@ -60,6 +61,22 @@ pub fn manner_of<'t>(message: &str, text: &'t str) -> Manner<'t>
     }
 }
 
+/// How a suggestion is shown of which a text shows this as a title, as a message or as a label.
+pub fn manner_by<'t>(
+    title: Option<&'t str>,
+    said: Option<&'t str>,
+    label: Option<&'t str>,
+) -> Manner<'t>
+    ensures value { way_of result ≡ way_by (lent title.entry) (lent said.entry) (lent label.entry) }
+{
+    match (title, said, label) {
+        (Some(title), _, _) => Manner::Group(title),
+        (None, Some(said), _) => Manner::Message(said),
+        (None, None, Some(label)) => Manner::Label(label),
+        (None, None, None) => Manner::Nowhere,
+    }
+}
+
 /// What the first line of a text that shows this message there shows of it.
 fn first_shown<'t>(place: Stand, message: &str, text: &'t str) -> Option<&'t str>
     ensures value { lent result ≡ spec.first_shown place message.now (slice_split (λ b. b == 10) text.now) }
@@ -73,7 +90,7 @@ fn first_shown<'t>(place: Stand, message: &str, text: &'t str) -> Option<&'t str
 }
 
 /// What a line shows of this message there, if it does.
-fn shown_in<'t>(place: Stand, message: &str, line: &'t str) -> Option<&'t str>
+pub fn shown_in<'t>(place: Stand, message: &str, line: &'t str) -> Option<&'t str>
     ensures value { lent result ≡ spec.shown_in place message.now line.now }
 {
     match stands_in(place, line) {
@@ -94,7 +111,7 @@ fn begun<'t>(message: &str, text: &'t str) -> Option<&'t str>
 }
 
 /// What stands in a line where a message may stand.
-fn stands_in<'t>(place: Stand, line: &'t str) -> Option<&'t str>
+pub fn stands_in<'t>(place: Stand, line: &'t str) -> Option<&'t str>
     ensures value { lent result ≡ spec.stands_in place line.now }
 {
     match place {
@@ -130,8 +147,9 @@ fn as_shown(alloc: Global, text: &str, diagnostic: Diagnostic) -> Result<Diagnos
     ensures shown { IfOk result (IsAsShown text.now diagnostic) }
 {
     let mut spans = show_columns(alloc, text, diagnostic.spans)?;
+    let mut manners = Manners::new(alloc, text, suggestion_count(&diagnostic.children))?;
     let mut told = Vec::new(alloc);
-    let children = shown_children(alloc, text, diagnostic.children, &mut told)?;
+    let children = shown_children(alloc, &mut manners, diagnostic.children, &mut told)?;
     put_labels(alloc, &mut spans, told)?;
     let spans = settle_roles(alloc, spans)?;
     Ok(Diagnostic {
@@ -144,21 +162,29 @@ fn as_shown(alloc: Global, text: &str, diagnostic: Diagnostic) -> Result<Diagnos
     })
 }
 
+/// How many of some children are suggestions.
+fn suggestion_count(children: &[Child]) -> usize {
+    children
+        .iter()
+        .filter(|child| !child.alternatives.is_empty())
+        .count()
+}
+
 /// What children become; a suggestion that is shown as a label joins those that are told.
 fn shown_children(
     alloc: Global,
-    text: &str,
+    manners: &mut Manners<'_>,
     children: Vec<Child>,
     told: &mut Vec<EditLabel>,
 ) -> Result<Vec<Child>, AllocError>
     ensures each { IfOk result (λ shown. map child_seen shown.items
-        ≡ flat_map (child_shown text.now) (map child_seen children.items)) }
-    ensures kept { list_any (labels text.now) (map child_seen children.items) ≡ false
+        ≡ flat_map (child_shown manners.old.text.now) (map child_seen children.items)) }
+    ensures kept { list_any (labels manners.old.text.now) (map child_seen children.items) ≡ false
         → OnOk result (told.new.items ≡ told.old.items) }
 {
     let mut shown = Vec::new(alloc);
     for child in children {
-        show_child(alloc, text, child, told, &mut shown)?;
+        show_child(alloc, manners, child, told, &mut shown)?;
     }
     Ok(shown)
 }
@@ -166,19 +192,21 @@ fn shown_children(
 /// Adds what a child becomes.
 fn show_child(
     alloc: Global,
-    text: &str,
+    manners: &mut Manners<'_>,
     child: Child,
     told: &mut Vec<EditLabel>,
     shown: &mut Vec<Child>,
 ) -> Result<(), AllocError>
+    ensures text { manners.new.text.now ≡ manners.old.text.now }
     ensures added { OnOk result (map child_seen shown.new.items
-        ≡ map child_seen shown.old.items ++ child_shown text.now (child_seen child)) }
-    ensures kept { labels text.now (child_seen child) ≡ false → OnOk result (told.new.items ≡ told.old.items) }
+        ≡ map child_seen shown.old.items ++ child_shown manners.old.text.now (child_seen child)) }
+    ensures kept { labels manners.old.text.now (child_seen child) ≡ false
+        → OnOk result (told.new.items ≡ told.old.items) }
 {
     if child.alternatives.is_empty() {
-        Ok(shown.push(with_columns(alloc, text, child)?)?)
+        Ok(shown.push(with_columns(alloc, manners.text, child)?)?)
     } else {
-        show_suggestion(alloc, text, child, told, shown)
+        show_suggestion(alloc, manners, child, told, shown)
     }
 }
 
@@ -199,18 +227,19 @@ fn with_columns(alloc: Global, text: &str, child: Child) -> Result<Child, AllocE
 /// Adds what a suggestion becomes.
 fn show_suggestion(
     alloc: Global,
-    text: &str,
+    manners: &mut Manners<'_>,
     child: Child,
     told: &mut Vec<EditLabel>,
     shown: &mut Vec<Child>,
 ) -> Result<(), AllocError>
+    ensures text { manners.new.text.now ≡ manners.old.text.now }
     ensures added { OnOk result (map child_seen shown.new.items ≡ map child_seen shown.old.items
-        ++ suggestion_shown (way (message_line (string_bytes child.message)) text.now) (child_seen child)) }
-    ensures kept { is_label (way (message_line (string_bytes child.message)) text.now) ≡ false
+        ++ suggestion_shown (way (message_line (string_bytes child.message)) manners.old.text.now) (child_seen child)) }
+    ensures kept { is_label (way (message_line (string_bytes child.message)) manners.old.text.now) ≡ false
         → OnOk result (told.new.items ≡ told.old.items) }
 {
     let message = first_line(alloc, child.message.as_str())?;
-    match manner_of(message.as_str(), text) {
+    match manners.manner_of(message)? {
         Manner::Group(title) => Ok(shown.push(retitled(alloc, child, title)?)?),
         Manner::Message(said) => Ok(shown.push(without_edits(alloc, child, said)?)?),
         Manner::Label(label) => add_label(alloc, label, child, told),

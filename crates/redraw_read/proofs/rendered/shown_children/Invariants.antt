@@ -7,6 +7,7 @@ use Rattle.redraw_read.proofs.rendered.shown_children.Given as goal
 abbrev pub invariant-loop-child : goal.invariant-loop-child
 invariant-loop-child l =
     record {
-      each : map child_seen l.shown.items ≡ flat_map (child_shown l.text) (map child_seen l.yielded);
-      kept : list_any (labels l.text) (map child_seen l.yielded) ≡ false → l.told.items ≡ l.initial.told.items;
+      text : l.manners.text.now ≡ l.initial.manners.text.now;
+      each : map child_seen l.shown.items ≡ flat_map (child_shown l.initial.manners.text.now) (map child_seen l.yielded);
+      kept : list_any (labels l.initial.manners.text.now) (map child_seen l.yielded) ≡ false → l.told.items ≡ l.initial.told.items;
     }
