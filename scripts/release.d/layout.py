@@ -15,6 +15,8 @@ from libraries import LINK, SHARED, STATIC
 BINDINGS = ROOT / "bindings"
 # The examples in C and Python, with what they read.
 EXAMPLES = {"c": ("example.c", "compiler.c", "prices.calc"), "python": ("example.py",)}
+# What makes `cargo redraw` a command of cargo.
+OF_CARGO = Path(__file__).with_name("cargo-redraw")
 # The files of the Python package that are the module itself.
 OF_PYTHON = {".py", ".pyi", ".typed"}
 
@@ -64,7 +66,7 @@ def write(text, file):
 
 
 def lay_programs(root, places, built):
-    """The programs, a page of each, and what shells complete."""
+    """The programs, a page of each, what shells complete, and the command of cargo."""
     for program in PROGRAMS:
         put(built.programs / program, root / places.bin, INSTALLED_AS.get(program))
         told = commands.command(program, built.programs / program)
@@ -72,6 +74,7 @@ def lay_programs(root, places, built):
         write(pages.for_bash(told), root / places.bash / told.name)
         write(pages.for_zsh(told), root / places.zsh / f"_{told.name}")
         write(pages.for_fish(told), root / places.fish / f"{told.name}.fish")
+    put(OF_CARGO, root / places.bin)
 
 
 def lay_shared(root, places, built):

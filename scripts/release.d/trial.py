@@ -119,8 +119,23 @@ def try_programs(folder):
     draws("redraw", ran([folder / "redraw", "--quiet"], status=1, cwd=place, input=json.dumps(MESSAGE).encode() + b"\n"), EVERYDAY)
     draws("yazgult-tidy", ran([folder / "yazgult-tidy", "a.rs"], status=1, cwd=place), TAB)
     names = sorted(it.name for it in folder.iterdir())
-    if names != ["redraw", "replay", "snip", "yazgult-tidy"]:
+    if names != ["cargo-redraw", "redraw", "replay", "snip", "yazgult-tidy"]:
         fail(f"the programs are {names}")
+    try_cargo_redraw(folder, place)
+
+
+def try_cargo_redraw(folder, place):
+    """It draws what cargo writes, here one that is played, and ends with cargo's status, or with 2 if redraw fails."""
+    played = place / "played"
+    played.mkdir(exist_ok=True)
+    (played / "message.json").write_text(json.dumps({"reason": "compiler-message", "message": MESSAGE}) + "\n")
+    (played / "cargo").write_text(f'#!/bin/sh\n[ "$1 $2 $3" = "check --message-format=json -q" ] && cat {played}/message.json\nexit "$CARGO"\n')
+    (played / "cargo").chmod(0o755)
+    for options, status, ends in (("--quiet", 0, 0), ("--quiet", 101, 101), ("--no-such-option", 0, 2)):
+        env = {"PATH": f"{played}:{folder}:/usr/bin:/bin", "CARGO": str(status), "REDRAW_OPTIONS": options, "COLUMNS": "140"}
+        told = ran([folder / "cargo-redraw", "redraw", "check", "-q"], status=ends, cwd=place, env=env)
+        if ends != 2:
+            draws(f"cargo redraw, where cargo ends with {status}", told, EVERYDAY)
 
 
 def try_pages(share, zsh):
