@@ -1,4 +1,4 @@
-"""Tries the first programs of the README, in each language."""
+"""Tries the programs that pages show in C, Python and Rust."""
 
 import os
 import re
@@ -21,28 +21,47 @@ FIRST_TEXT = """error[E0308]: mismatched types
 
 
 def block(page, language, word):
-    """The one block of the README in a language that has this word."""
-    found = [text for named, text in re.findall(r"^```(\w+)\n(.*?)^```$", page, re.M | re.S) if named == language and word in text]
+    """The one block of a page in a language that has this word."""
+    text = (ROOT / page).read_text(encoding="utf-8")
+    found = [it for named, it in re.findall(r"^```(\w+)\n(.*?)^```$", text, re.M | re.S) if named == language and word in it]
     if len(found) != 1:
-        raise Trouble(f"README.md: {len(found)} blocks in {language} have {word}")
+        raise Trouble(f"{page}: {len(found)} blocks in {language} have {word}")
     return found[0]
 
 
+# The programs that pages show: the page, the language, a word of the block, and the page and a word of the text that it prints.
+SHOWN = (
+    ("README.md", "c", "yazgult_report_new", "README.md", "never read"),
+    ("README.md", "python", "import yazgult", "README.md", "never read"),
+    ("README.md", "rust", "fn main() {", "README.md", "never read"),
+    ("docs/BINDINGS.md", "c", "yazgult_report_new", "README.md", "never read"),
+    ("docs/BINDINGS.md", "python", "import yazgult", "docs/BINDINGS.md", "nothing reads it"),
+    ("docs/MOVING.md", "rust", "let report = &[", "docs/MOVING.md", "texts aren't read as numbers"),
+)
+
+
 def check(room, crate):
-    """The first programs of the README in C, Python and Rust print the report that it shows."""
-    page = (ROOT / "README.md").read_text(encoding="utf-8")
-    wanted = block(page, "text", "never read")
+    """The programs that pages show in C, Python and Rust print what the pages say."""
     room = Path(room, "readme")
     room.mkdir()
-    (room / "main.c").write_text(block(page, "c", "yazgult_report_new"), encoding="utf-8")
-    run(["cc", *STRICT, f"-I{ROOT}/bindings/c", "-o", room / "main", room / "main.c", room.parent / "libyazgult.a"])
-    (room / "main.py").write_text(block(page, "python", "import yazgult"), encoding="utf-8")
-    # the name under which the README's line in Cargo.toml has the crate
-    alias = "use yazgult as annotate_snippets;\n"
-    (crate.folder / "examples" / "first.rs").write_text(alias + block(page, "rust", "fn main() {"), encoding="utf-8")
-    programs = {"C": [room / "main"], "Python": [sys.executable, room / "main.py"], "Rust": [crate.examples() / "first"]}
-    for language, words in programs.items():
+    for at, (page, language, word, told, of_text) in enumerate(SHOWN):
+        text, wanted = block(page, language, word), block(told, "text", of_text)
+        words = program_of(room, crate, language, text, f"shown_{at}")
         ran = subprocess.run(words, capture_output=True, text=True, env={**os.environ, "PYTHONPATH": str(ROOT / "bindings" / "python")})
         if ran.returncode or ran.stdout + ran.stderr != wanted.rstrip("\n") + "\n":
-            raise Trouble(f"the program of the README in {language} prints {ran.stdout + ran.stderr!r}")
-    print(f"bindings: README: the programs in {', '.join(programs)} print its report", flush=True)
+            raise Trouble(f"the program of {page} in {language} prints {ran.stdout + ran.stderr!r}")
+    print(f"bindings: {len(SHOWN)} programs in C, Python and Rust print what the pages say", flush=True)
+
+
+def program_of(room, crate, language, text, name):
+    """Makes a program of its text, and returns how it is run."""
+    if language == "c":
+        (room / f"{name}.c").write_text(text, encoding="utf-8")
+        run(["cc", *STRICT, f"-I{ROOT}/bindings/c", "-o", room / name, room / f"{name}.c", room.parent / "libyazgult.a"])
+        return [room / name]
+    if language == "python":
+        (room / f"{name}.py").write_text(text, encoding="utf-8")
+        return [sys.executable, room / f"{name}.py"]
+    # the name under which a line in Cargo.toml has the crate
+    (crate.folder / "examples" / f"{name}.rs").write_text("use yazgult as annotate_snippets;\n" + text, encoding="utf-8")
+    return [crate.examples() / name]
