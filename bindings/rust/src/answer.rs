@@ -14,14 +14,21 @@ pub(crate) fn texts(answer: &[u8]) -> Result<Vec<String>, RenderError> {
     }
 }
 
-/// The text of an answer in bytes to a report under one sheet, or why there is none.
+/// What an answer in bytes with one text begins with: its kind, and the number of texts. The length of the text follows, and the text.
+const ONE_TEXT: [u8; 9] = [0, 1, 0, 0, 0, 0, 0, 0, 0];
+const BEFORE_TEXT: usize = 17;
+
+/// The text of an answer in bytes to a report under one sheet, or why there is none. It has room for twice its bytes at most: out of an
+/// answer with more room it is copied, so that who keeps a text doesn't keep the room that was guessed for it.
 pub(crate) fn only_text(mut answer: Vec<u8>) -> Result<String, RenderError> {
-    // the bytes of one text are their kind, the number of texts, the length of the text, and the text
-    if answer.starts_with(&[0, 1]) {
-        answer.drain(..17);
-        return Ok(String::from_utf8(answer).expect("texts are UTF-8"));
+    if !answer.starts_with(&ONE_TEXT) {
+        return Ok(texts(&answer)?.remove(0));
     }
-    Ok(texts(&answer)?.remove(0))
+    if answer.capacity() > 2 * (answer.len() - BEFORE_TEXT) {
+        return Answer { bytes: &answer[ONE_TEXT.len()..] }.text();
+    }
+    answer.drain(..BEFORE_TEXT);
+    Ok(String::from_utf8(answer).expect("texts are UTF-8"))
 }
 
 /// What stands around the one text of an answer in JSON to a report without a name.

@@ -167,3 +167,16 @@ fn addresses_of_the_web_and_of_mail_may_be_links() {
         assert!(!is_link_address(address), "{address:?}");
     }
 }
+
+#[test]
+fn a_text_has_room_for_twice_its_bytes_at_most() {
+    for lines in [1, 10, 1000, 40_000] {
+        let source = "let x = 1;\n".repeat(lines);
+        for marks in [1, lines.min(1000)] {
+            let marks = (0..marks).map(|line| AnnotationKind::Primary.span(11 * line + 4..11 * line + 5));
+            let report = [Level::ERROR.primary_title("t").element(Snippet::source(&source).annotations(marks))];
+            let text = Renderer::plain().render(&report);
+            assert!(text.capacity() <= 2 * text.len(), "{} bytes in room for {}", text.len(), text.capacity());
+        }
+    }
+}
