@@ -35,7 +35,7 @@ pub fn print(rt: &(impl Print + AllocGlobal)) -> io::Result<()> {
     Ok(())
 }
 
-/// The same of one report.
+/// Draws one report in each form and under two sheets, and prints what came out right.
 fn print_subject(
     rt: &(impl Print + AllocGlobal),
     subject: Subject,
@@ -162,7 +162,7 @@ fn under_sheets(
     renderer.render_sheets(alloc, groups, &sheets)
 }
 
-/// The same, drawn once more where that is out of memory.
+/// The texts of a report under the plain and the default sheet, drawn once more if that is out of memory.
 fn drawn_under_sheets(
     alloc: Global,
     groups: Report<'_>,

@@ -68,7 +68,7 @@ fn shared_title() -> Title<'static> {
         .id_url_cow(CowStr::Borrowed("u"))
 }
 
-/// The same of texts that they are given as copies on write.
+/// Whether titles and messages have the texts that they are given as copies on write.
 fn shared_headings() -> bool {
     is_heading(ERROR.primary_title_cow(CowStr::Borrowed("e")), "e", false)
         && is_heading(ERROR.secondary_title_cow(CowStr::Borrowed("t")), "t", true)

@@ -62,7 +62,7 @@ fn html_of(alloc: Global, groups: Report<'_>, renderer: &Renderer) -> Result<Str
     renderer.render_html(alloc, groups)
 }
 
-/// The same, given once more where that is out of memory.
+/// A report as HTML, given once more if that is out of memory.
 fn given(alloc: Global, groups: Report<'_>, renderer: &Renderer) -> Result<String, RenderError>
     requires fits { ReportFits groups.now }
 {

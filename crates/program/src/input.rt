@@ -13,7 +13,7 @@ pub fn given_arguments(rt: &(impl Env + AllocGlobal)) -> io::Result<Vec<String>>
     Ok(args)
 }
 
-/// The same for a program whose arguments are UTF-8: there are none where one of them isn't.
+/// The arguments of a program, as UTF-8: there are none where one of them isn't.
 pub fn given_texts(rt: &(impl Env + AllocGlobal)) -> Result<Vec<String>, AllocError> {
     match given_arguments(rt) {
         Ok(args) => Ok(args),

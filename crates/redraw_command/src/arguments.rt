@@ -25,7 +25,7 @@ pub struct RedrawRequest<'w, 'a> {
     pub root: Option<&'a str>,
     /// Whether no files but those below the folder are read for lines of rustc and cargo.
     pub confines_lines: bool,
-    /// The same for SARIF logs.
+    /// Whether only files below the folder are read for SARIF logs.
     pub confines_logs: bool,
     /// Which findings are drawn, and in which form.
     pub choice: Choice<'a>,

@@ -27,7 +27,7 @@ pub fn folder_of(
     }
 }
 
-/// The same of a folder that is given.
+/// The path of a folder that is given, from the root of the machine.
 fn given_folder(
     alloc: Global,
     root: &str,
@@ -127,7 +127,7 @@ pub fn make_relative(
     Ok(())
 }
 
-/// The same of a child.
+/// Names each file of a child that lies below this folder by its path from there.
 fn make_child_relative(alloc: Global, child: &mut Child, folder: &str) -> Result<(), AllocError> {
     for span in &mut child.spans {
         shorten(alloc, &mut span.file, folder)?;

@@ -64,7 +64,7 @@ pub fn tell_error<V: Write>(alloc: Global, args: &[&str], error: &clap::Error, e
     }
 }
 
-/// The same as it may be shown, without the line's end; unless it is that there was no memory to read them.
+/// What is wrong with arguments, as it may be shown, without the line's end; unless there was no memory to read them.
 fn shown_error(alloc: Global, args: &[&str], error: &clap::Error) -> Result<String, AllocError>
     ensures shown { IfOk result (λ text. (said : List ℕ) × (string_bytes text ≡ spec.normalized_text said)) }
     ensures memory { kind_of error.now ≡ ErrorKind.OutOfMemory → IsErr result }

@@ -46,7 +46,7 @@ fn named_command(alloc: Global, name: &str, diagnostic: &Diagnostic) -> Result<S
     normalize_untrusted_str(alloc, line.as_str())
 }
 
-/// The same before what is listed in it is replaced.
+/// The command of this name for a finding, before what is listed in it is replaced.
 fn raw_line(
     alloc: Global,
     name: &str,

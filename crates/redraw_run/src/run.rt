@@ -207,7 +207,7 @@ fn draw_inputs<'r, R: Files + Input + AllocGlobal, S: SourceFiles + Drop, W: Wri
     }
 }
 
-/// The same of inputs that are named, or of standard input where none is.
+/// Draws what inputs hold that are named, or standard input where none is.
 fn draw_given<'r, R: Files + Input + AllocGlobal, S: SourceFiles + Drop, W: Write, V: Write>(
     rt: &R,
     names: &[&'r str],
@@ -231,7 +231,7 @@ fn draw_given<'r, R: Files + Input + AllocGlobal, S: SourceFiles + Drop, W: Writ
     }
 }
 
-/// The same of the inputs of these names.
+/// Draws what the inputs of these names hold.
 fn draw_each<'r, R: Files + Input + AllocGlobal, S: SourceFiles + Drop, W: Write, V: Write>(
     rt: &R,
     names: &[&'r str],
@@ -256,14 +256,14 @@ fn draw_each<'r, R: Files + Input + AllocGlobal, S: SourceFiles + Drop, W: Write
     Ok(is_whole)
 }
 
-/// Whether both hold.
+/// Whether both hold. It is a function for the prover alone.
 fn both(one: bool, other: bool) -> bool
     ensures value { result ≡ one && other }
 {
     one && other
 }
 
-/// The same of one input, by its name.
+/// Draws what one input holds, by its name.
 fn draw_named<'r, R: Files + Input + AllocGlobal, S: SourceFiles + Drop, W: Write, V: Write>(
     rt: &R,
     name: &'r str,
@@ -288,7 +288,7 @@ fn draw_named<'r, R: Files + Input + AllocGlobal, S: SourceFiles + Drop, W: Writ
     }
 }
 
-/// The same of standard input.
+/// Draws what standard input holds.
 fn draw_standard<R: Files + Input + AllocGlobal, S: SourceFiles + Drop, W: Write, V: Write>(
     rt: &R,
     drawing: &mut Drawing<'_, S>,
@@ -306,7 +306,7 @@ fn draw_standard<R: Files + Input + AllocGlobal, S: SourceFiles + Drop, W: Write
     draw_opened(opened_standard(rt), drawing, out, err)
 }
 
-/// The same of one file.
+/// Draws what one file holds.
 fn draw_file<R: Files + AllocGlobal, S: SourceFiles + Drop, W: Write, V: Write>(
     rt: &R,
     name: &str,
@@ -343,7 +343,7 @@ fn opened_standard<R: Input + AllocGlobal>(rt: &R) -> io::Result<BufReader<R::Re
     BufReader::new(rt.alloc(), rt.reader())
 }
 
-/// The same of an input that could be opened or not.
+/// Draws what an input holds that could be opened or not.
 pub fn draw_opened<B: BufRead + Drop, S: SourceFiles + Drop, W: Write, V: Write>(
     input: io::Result<B>,
     drawing: &mut Drawing<'_, S>,

@@ -164,7 +164,7 @@ pub fn told_json(alloc: Global, words: &str, number: u64) -> Result<String, Allo
     Ok(line)
 }
 
-/// The same as a value.
+/// What tells that the line of this number is no case, in these words, as a value.
 fn told_value(alloc: Global, words: &str, number: u64) -> Result<Value, AllocError>
     ensures value { IfOk result (λ value. view value ≡ told_of number words.now) }
 {

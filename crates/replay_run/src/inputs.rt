@@ -80,7 +80,7 @@ fn answer_named<R: Files + Input + AllocGlobal, W: Write>(
     }
 }
 
-/// The same of standard input.
+/// Answers the cases of standard input, and tells whether a line was no case.
 fn answer_standard<R: Input + AllocGlobal, W: Write>(
     rt: &R,
     way: Way,
@@ -99,7 +99,7 @@ fn answer_standard<R: Input + AllocGlobal, W: Write>(
     }
 }
 
-/// The same of one file.
+/// Answers the cases of one file, and tells whether a line was no case.
 fn answer_file<R: Files + AllocGlobal, W: Write>(
     rt: &R,
     way: Way,

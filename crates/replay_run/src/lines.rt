@@ -93,7 +93,7 @@ pub fn answer_lines<B: BufRead + Drop, W: Write>(
     Ok(told)
 }
 
-/// Whether one of two things is so.
+/// Whether one of two things is so. It is a function for the prover alone.
 pub fn either(one: bool, other: bool) -> bool
     ensures value { result ≡ one || other }
 {
@@ -208,7 +208,7 @@ fn told_line(
     }
 }
 
-/// The same as a line of JSON.
+/// What tells that the line of this number is no case, in these words, as a line of JSON.
 fn told_as_json(alloc: Global, words: &str, number: u64) -> Result<Vec<u8>, AllocError>
     ensures text { IfOk result (λ text. text.items ≡ told_text AnswerForm.Json true number words.now) }
 {
@@ -219,7 +219,7 @@ fn told_as_json(alloc: Global, words: &str, number: u64) -> Result<Vec<u8>, Allo
     }
 }
 
-/// The same as a text.
+/// What tells that the line of this number is no case, in these words, as a text.
 fn told_as_text(
     alloc: Global,
     words: &str,
@@ -425,7 +425,7 @@ fn write_report<W: Write>(outcome: Outcome, is_first: bool, out: &mut W) -> Resu
     write_texts(&outcome, is_first, out).map_err(Problem::Write)
 }
 
-/// The same, of texts that stay.
+/// Writes the texts of a report that stay, after a blank line if they aren't the first.
 fn write_texts<W: Write>(outcome: &Outcome, is_first: bool, out: &mut W) -> io::Result<()>
     ensures text { OnOk result (Appends (W.contents out.old) (W.contents out.new)
         (gap is_first ++ outcome_text outcome.now)) }

@@ -76,7 +76,7 @@ pub fn run<'w, R: Files + Input + Clock + AllocGlobal, W: Write, V: Write>(
     }
 }
 
-/// The same, by what the arguments are matched with.
+/// Runs what the arguments ask for, by what they are matched with.
 fn run_matched<R: Files + Input + Clock + AllocGlobal, W: Write, V: Write>(
     rt: &R,
     args: &[&str],

@@ -61,7 +61,7 @@ pub fn error_of(alloc: Global, usage_error: &UsageError<'_>) -> Error
     }
 }
 
-/// The same, where there is memory for it.
+/// What is wrong, told as clap tells it, where there is memory for it.
 fn told(alloc: Global, usage_error: &UsageError<'_>) -> Result<Error, AllocError>
     ensures mistake { IfOk result (λ error.
         (kind_of error ≢ ErrorKind.DisplayHelp) × (kind_of error ≢ ErrorKind.DisplayVersion)) }

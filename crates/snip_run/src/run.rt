@@ -196,7 +196,7 @@ fn run_lent<W: Write, V: Write>(
     ensures status { result ≤ 2 }
     ensures usage { (result ≡ 2) ↔ (IsCommandLine (arguments_at args.now) → ⊥) }
 
-    // The same cases, of streams that keep whether a write failed: only then is a line cut short.
+    // The cases of [`run`], of streams that keep whether a write failed: only then is a line cut short.
     ensures ends { Ends (arguments_at args.now) (option_copied file.entry) result
         (Receives W.contents (stream_of out.old) (stream_of out.new))
         (Receives V.contents (stream_of err.old) (stream_of err.new)) }

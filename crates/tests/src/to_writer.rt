@@ -25,7 +25,7 @@ fn report(alloc: Global) -> Result<[Group<'static>; 2], AllocError> {
     Ok([unused, mended])
 }
 
-/// The same, written to a writer.
+/// A report of two groups, written to a writer.
 fn written(alloc: Global, out: &mut Slow) -> Result<(), RenderToError> {
     let groups: [Group<'static>; 2] = report(alloc).map_err(RenderError::Memory)?;
     if report_fits(&groups) {

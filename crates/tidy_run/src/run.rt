@@ -105,7 +105,7 @@ fn rendered<'a>(
     drawn(alloc, &groups, sheets)
 }
 
-/// The same under the sheets that the command asks for: with LOG there are two.
+/// The texts of what rules find in a file under the sheets that the command asks for: with LOG there are two.
 fn rendered_for<'a>(
     alloc: Global,
     rules: &[Box<dyn Rule>],
@@ -294,7 +294,7 @@ fn run_lent<W: Write, V: Write, L: Write>(
     ensures status { result ≤ 2 }
     ensures usage { command_line_of (arguments_at args.now) ≡ None → result ≡ 2 }
 
-    // The same cases, of streams that keep whether a write failed: only then is a line cut short.
+    // The cases of [`run`], of streams that keep whether a write failed: only then is a line cut short.
     ensures ends { Ends (arguments_at args.now) (option_copied file.entry)
         (λ source. flat_map (λ rule. told_of (title_of rule) (findings_of (finds rule source) source)) rules.now) result
         (Receives W.contents (stream_of out.old) (stream_of out.new))
