@@ -8,6 +8,12 @@ from facts import run
 RELR = ("GLIBC_ABI_DT_RELR", (2, 36))
 
 
+def is_elf(path):
+    """Whether a file is a program or a library of the machine, and no script."""
+    with open(path, "rb") as file:
+        return file.read(4) == b"\x7fELF"
+
+
 def least_glibc(path):
     """The least version of the GNU C library that has all that a program or a shared library asks for."""
     asked = run(["readelf", "-V", "-W", path]).decode()

@@ -227,7 +227,7 @@ def try_debian():
     try_programs(root / "usr/bin")
     try_pages(root / "usr/share", root / "usr/share/zsh/vendor-completions")
     if shutil.which("dpkg-shlibdeps"):
-        try_depends(root, found["yazgult"], sorted((root / "usr/bin").iterdir()))
+        try_depends(root, found["yazgult"], [it for it in sorted((root / "usr/bin").iterdir()) if it.name != "cargo-redraw"])
         try_depends(root, found["libyazgult1"], [libraries / "libyazgult.so.1"])
     if "ldconfig" not in ran(["dpkg-deb", "-I", found["libyazgult1"], "triggers"]):
         fail("the package of the library doesn't have ldconfig run")
