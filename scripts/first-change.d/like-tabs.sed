@@ -10,4 +10,5 @@ s/ 9\([) ]\)/ 12\1/g
 s/TabLemmas/FormFeedLemmas/g
 s/Tabs/FormFeeds/g
 s/\btabs\b/form_feeds/g
-s/\btab/form_feed/g
+s/\btab/feed/g
+s/\(let is : .* ≡ 12\) = subst/\1 =\n    subst/
