@@ -12,7 +12,7 @@ use Rattle.snippet_model.specs.declared.snippet.Patch.{Patch}
 use Rattle.snippet_model.specs.declared.snippet.Snippet.{Snippet}
 use Rattle.snippet_parts.specs.Located.{HasTextLabel}
 use Rattle.snippet_suggest.specs.Given.{given_text}
-use Rattle.annotate_snippets.specs.Around.{drawn_elements}
+use Rattle.annotate_snippets.specs.ElementContext.{drawn_elements}
 use Rattle.annotate_snippets.specs.PreparedReport.{IsElementPrepared, IsGroupPrepared, element_of}
 use Rattle.annotate_snippets.specs.declared.renderer.preprocess.PreparedElement.{PreparedElement}
 use Rattle.annotate_snippets.specs.declared.renderer.preprocess.PreparedElement.TheVariants as prepared

@@ -7,9 +7,9 @@ use Rattle.std.proofs.lemmas.Bool.Decides.{nat_tests}
 use Rattle.snippet_model.specs.declared.snippet.Element.{Element}
 use Rattle.snippet_model.specs.declared.snippet.Element.TheVariants.{Cause, Message, Origin, Padding, Suggestion}
 use Rattle.snippet_suggest.specs.declared.SuggestionStart.TheVariants.{Next, Opening, Path}
-use Rattle.annotate_snippets.specs.Around.{CanStandIn, begins_in_row_above, first_two_share, is_end, is_next_start, next_of}
+use Rattle.annotate_snippets.specs.ElementContext.{CanStandIn, begins_in_row_above, first_two_share, is_end, is_next_start, next_of}
 use Rattle.annotate_snippets.specs.TextForm.{is_other_file}
-use Rattle.annotate_snippets.specs.Around.{path_bytes, share_file, context_at}
+use Rattle.annotate_snippets.specs.ElementContext.{path_bytes, share_file, context_at}
 use Rattle.annotate_snippets.specs.declared.renderer.element_context.GroupPosition.{GroupPosition}
 
 -- whether the element of this number begins in the last row of the one before

@@ -13,7 +13,7 @@ use Rattle.snippet_model.specs.declared.snippet.Group.{Group}
 use Rattle.snippet_model.specs.declared.snippet.Patch.{Patch}
 use Rattle.snippet_model.specs.declared.snippet.Snippet.{Snippet}
 use Rattle.snippet_model.specs.declared.snippet.Title.{Title}
-use Rattle.snippet_settings.specs.AsSet.{IsAnnotationAsSet, IsElementAsSet, IsGroupAsSet, IsSnippetAsSet, IsTitleAsSet}
+use Rattle.snippet_shown.specs.AsSet.{IsAnnotationAsSet, IsElementAsSet, IsGroupAsSet, IsSnippetAsSet, IsTitleAsSet}
 use Rattle.snippet_splice.specs.Edits.{Edit, edit_of}
 use Rattle.snippet_splice.specs.Overlap.{first_overlap}
 use Rattle.annotate_snippets.specs.Fault.{added_lines, element_faults, faults_from}

@@ -23,8 +23,8 @@ use Rattle.snippet_model.specs.declared.snippet.Group.{Group}
 use Rattle.snippet_model.specs.declared.snippet.Id.{Id}
 use Rattle.snippet_model.specs.declared.snippet.Snippet.{Snippet}
 use Rattle.snippet_model.specs.declared.snippet.Title.{Title}
-use Rattle.snippet_settings.specs.AsSet.{IsAnnotationAsSet, IsElementAsSet, IsGroupAsSet, IsIdAsSet, IsNameAsSet, IsSnippetAsSet, IsTitleAsSet}
-use Rattle.snippet_settings.specs.LineFeeds.{IsOptionAsSet, IsTextAsSet, picture_of, with_line_feeds_shown}
+use Rattle.snippet_shown.specs.AsSet.{IsAnnotationAsSet, IsElementAsSet, IsGroupAsSet, IsIdAsSet, IsNameAsSet, IsSnippetAsSet, IsTitleAsSet}
+use Rattle.snippet_shown.specs.LineFeeds.{IsOptionAsSet, IsTextAsSet, picture_of, with_line_feeds_shown}
 use Rattle.snippet_style.specs.declared.role.LevelInner.{LevelInner}
 use Rattle.snippet_style.specs.declared.role.LevelInner.TheVariants.{Error, Warning, Info, Note, Help}
 use Rattle.snippet_style.specs.declared.stylesheet.Stylesheet.{Stylesheet}

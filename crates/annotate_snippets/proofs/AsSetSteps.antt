@@ -2,10 +2,10 @@
 use Rattle.std.proofs.Common.{◌≡◌, ◌∙◌, ℕ, ◌&&◌, Bool, true, false, not, List, [], ◌∷◌, ◌++◌, All, refl, sym, ap, ap₂, subst, take}
 use Rattle.std.specs.List.{AllZip, flat_map}
 use Rattle.std.proofs.lemmas.List.Elements.{All-cons, All-head, All-nil, All-tail}
-use Rattle.snippet_context.specs.WithContext.{IsGroupWithContext}
+use Rattle.snippet_shown.specs.WithContext.{IsGroupWithContext}
 use Rattle.snippet_model.specs.declared.snippet.Group.{Group}
-use Rattle.snippet_settings.specs.AsSet.{IsGroupAsSet}
-use Rattle.snippet_wrap.specs.AsWrapped.{AreGroupsWrapped}
+use Rattle.snippet_shown.specs.AsSet.{IsGroupAsSet}
+use Rattle.snippet_shown.specs.AsWrapped.{AreGroupsWrapped}
 use Rattle.annotate_snippets.specs.AsSet.{AreWithContext, AreWrapped, IsAsSet, IsRemade, IsShownFor, adds_context, shows_as_given, wraps}
 use Rattle.annotate_snippets.specs.Gutter.{gutter_of_report}
 use Rattle.annotate_snippets.specs.declared.renderer.Renderer.{Renderer}

@@ -9,9 +9,9 @@ use Rattle.std.specs.Prelude.{IfSome}
 use Rattle.std.specs.declared.borrow.CowStr.{CowStr}
 use Rattle.std.specs.declared.alloc.Global.{Global}
 use Rattle.std.specs.declared.ops.Range.{Range}
-use Rattle.snippet_context.specs.Context.{context_spans, visible_mark}
-use Rattle.snippet_context.specs.WithContext.{IsElementSound, IsElementWithContext, IsGroupSound, IsGroupWithContext, HoldsSpan}
-use Rattle.snippet_context.specs.WithContext.{IsSnippetWithContext}
+use Rattle.snippet_shown.specs.Context.{context_spans, visible_mark}
+use Rattle.snippet_shown.specs.WithContext.{IsElementSound, IsElementWithContext, IsGroupSound, IsGroupWithContext, HoldsSpan}
+use Rattle.snippet_shown.specs.WithContext.{IsSnippetWithContext}
 use Rattle.snippet_lines.proofs.LinesLemmas.{length-source_lines}
 use Rattle.snippet_model.specs.Source.{SourceSeen}
 use Rattle.snippet_model.specs.Fits.{AnnotationFits, ElementFits, GroupFits, ReportFits, TextFits, TitleFits}

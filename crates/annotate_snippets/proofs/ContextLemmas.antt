@@ -15,7 +15,7 @@ use Rattle.annotate_snippets.specs.declared.renderer.preprocess.PreparedElement.
 use Rattle.annotate_snippets.specs.declared.renderer.element_context.GroupPosition.{GroupPosition}
 use Rattle.annotate_snippets.specs.declared.renderer.element_context.Next.{Next}
 use Rattle.annotate_snippets.specs.declared.renderer.element_context.ElementContext.{ElementContext}
-use Rattle.annotate_snippets.specs.Around.{context_at, file_of_element, first_two_share, next_of, suggestion_start}
+use Rattle.annotate_snippets.specs.ElementContext.{context_at, file_of_element, first_two_share, next_of, suggestion_start}
 use Rattle.annotate_snippets.specs.PreparedReport.{AreAround, element_of}
 
 -- whether an element is of a file

@@ -6,9 +6,9 @@ use Rattle.std.proofs.lemmas.List.Elements.{filter_agree, filter_map-append}
 use Rattle.std.specs.Cow.{cow_str_bytes}
 use Rattle.std.specs.List.{AllZip, filter, list_any, range_with_len, slice_get, slice_index_or}
 use Rattle.std.specs.declared.ops.Range.{Range}
-use Rattle.snippet_context.proofs.KeptAround.{keeps-around}
-use Rattle.snippet_context.specs.Context.{lines_around}
-use Rattle.snippet_context.specs.WithContext.{IsElementWithContext, IsGroupWithContext, IsSnippetWithContext}
+use Rattle.snippet_shown.proofs.KeptAround.{keeps-around}
+use Rattle.snippet_shown.specs.Context.{lines_around}
+use Rattle.snippet_shown.specs.WithContext.{IsElementWithContext, IsGroupWithContext, IsSnippetWithContext}
 use Rattle.snippet_grid.proofs.WeaveLemmas.{some_same}
 use Rattle.snippet_grid.specs.Layout.{Layout}
 use Rattle.snippet_lines.specs.Lines.{source_lines}
@@ -20,10 +20,10 @@ use Rattle.snippet_model.specs.declared.snippet.Element.TheVariants.{Message, Ca
 use Rattle.snippet_model.specs.declared.snippet.Group.{Group}
 use Rattle.snippet_model.specs.declared.snippet.Snippet.{Snippet}
 use Rattle.snippet_parts.specs.Kept.{kept_lines, keeps, with_between}
-use Rattle.snippet_settings.specs.AsSet.{IsAnnotationAsSet, IsElementAsSet, IsGroupAsSet, IsSnippetAsSet}
+use Rattle.snippet_shown.specs.AsSet.{IsAnnotationAsSet, IsElementAsSet, IsGroupAsSet, IsSnippetAsSet}
 use Rattle.snippet_style.specs.Cell.{Cell}
-use Rattle.annotate_snippets.specs.Around.{context_at, drawn_elements, file_of_group, is_drawn, position_of_group}
-use Rattle.snippet_wrap.specs.AsWrapped.{AreGroupsWrapped, IsElementWrapped, IsGroupWrapped}
+use Rattle.annotate_snippets.specs.ElementContext.{context_at, drawn_elements, file_of_group, is_drawn, position_of_group}
+use Rattle.snippet_shown.specs.AsWrapped.{AreGroupsWrapped, IsElementWrapped, IsGroupWrapped}
 use Rattle.annotate_snippets.specs.AsSet.{AreWithContext, AreWrapped, IsAsSet, IsRemade, adds_context, wraps}
 use Rattle.annotate_snippets.specs.Gutter.{gutter_of_report}
 use Rattle.annotate_snippets.specs.Laws.Context.{ShowsLinesAround, lines_with_context}

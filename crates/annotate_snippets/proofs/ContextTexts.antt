@@ -7,8 +7,8 @@ use Rattle.std.specs.Prelude.{IfSome}
 use Rattle.std.specs.declared.alloc.Global.{Global}
 use Rattle.std.specs.declared.borrow.CowStr.{CowStr}
 use Rattle.std.specs.declared.ops.Range.{Range}
-use Rattle.snippet_context.specs.Context.{context_spans, visible_mark}
-use Rattle.snippet_context.specs.WithContext.{IsElementWithContext, IsGroupWithContext, IsSnippetWithContext}
+use Rattle.snippet_shown.specs.Context.{context_spans, visible_mark}
+use Rattle.snippet_shown.specs.WithContext.{IsElementWithContext, IsGroupWithContext, IsSnippetWithContext}
 use Rattle.snippet_model.specs.Trusted.{trusted_of_element, trusted_of_title, trusted_texts}
 use Rattle.snippet_model.specs.declared.snippet.Annotation.{Annotation}
 use Rattle.snippet_model.specs.declared.snippet.Element.{Element}
@@ -17,7 +17,7 @@ use Rattle.snippet_model.specs.declared.snippet.Group.{Group}
 use Rattle.snippet_model.specs.declared.snippet.Snippet.{Snippet}
 use Rattle.snippet_model.specs.declared.snippet.Title.{Title}
 use Rattle.snippet_titles.specs.Title.{id_links}
-use Rattle.annotate_snippets.specs.Around.{path_bytes}
+use Rattle.annotate_snippets.specs.ElementContext.{path_bytes}
 use Rattle.annotate_snippets.specs.Laws.Feeds.{HasOneLineTexts}
 use Rattle.annotate_snippets.specs.Forms.{links_in}
 use Rattle.annotate_snippets.specs.ShownPage.{report_links}

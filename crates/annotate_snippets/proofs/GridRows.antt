@@ -12,7 +12,7 @@ use Rattle.snippet_parts.proofs.PartLemmas.{All-unmapped}
 use Rattle.snippet_style.specs.declared.role.LevelInner.{LevelInner}
 use Rattle.snippet_style.specs.declared.glyphs.DecorStyle.{DecorStyle}
 use Rattle.snippet_style.specs.declared.stylesheet.Stylesheet.{Stylesheet}
-use Rattle.annotate_snippets.specs.Around.{drawn_elements, file_of_group, position_of_group}
+use Rattle.annotate_snippets.specs.ElementContext.{drawn_elements, file_of_group, position_of_group}
 use Rattle.annotate_snippets.specs.DrawnReport.{HasRoomFor, code_after}
 use Rattle.annotate_snippets.specs.GraphicForm.{graphic_form, group_page}
 use Rattle.annotate_snippets.proofs.PageWords.{PrintsIn, PrintsIn-from_page, PrintsPage-from_levels, depth_of_group, page_at}

@@ -23,7 +23,7 @@ use Rattle.snippet_model.specs.FreeRows.{IsFree, IsFreeCell}
 use Rattle.snippet_titles.specs.Title.{id_links, title_rows}
 use Rattle.snippet_titles.proofs.HeadFacts.{message_rows-unlinked}
 use Rattle.snippet_titles.proofs.LinkLemmas.{title_rows-links}
-use Rattle.annotate_snippets.specs.Around.{begins_in_row_above, drawn_elements, is_drawn, is_end, next_of, context_at}
+use Rattle.annotate_snippets.specs.ElementContext.{begins_in_row_above, drawn_elements, is_drawn, is_end, next_of, context_at}
 use Rattle.annotate_snippets.specs.DrawnReport.{HasRoomFor}
 use Rattle.annotate_snippets.proofs.PageWords.{found_at}
 use Rattle.annotate_snippets.specs.GraphicForm.{element_rows}

@@ -27,7 +27,7 @@ use Rattle.snippet_titles.proofs.HeadFacts.{origin_row-text}
 use Rattle.snippet_titles.proofs.OriginFree.{closing_row-free, origin_row-free, padding_row-free}
 use Rattle.snippet_titles.proofs.PlaceLemmas.{heading_rows-places}
 use Rattle.snippet_titles.proofs.TextLemmas.{heading_rows-texts}
-use Rattle.annotate_snippets.specs.Around.{closes_after, is_end}
+use Rattle.annotate_snippets.specs.ElementContext.{closes_after, is_end}
 use Rattle.annotate_snippets.specs.Page.{NamedRow, cells_of, others}
 use Rattle.annotate_snippets.specs.RowsWithoutSource.{origin_layout, origin_rows}
 use Rattle.annotate_snippets.proofs.PageWords.{message_rows, message_style, origin_start, place_given}

@@ -9,7 +9,7 @@ use Rattle.snippet_model.specs.declared.snippet.Element.{Element}
 use Rattle.snippet_model.specs.declared.snippet.Element.TheVariants.{Cause}
 use Rattle.snippet_model.specs.declared.snippet.Group.{Group}
 use Rattle.snippet_model.specs.declared.snippet.Snippet.{Snippet}
-use Rattle.snippet_context.specs.Context.{lines_around}
+use Rattle.snippet_shown.specs.Context.{lines_around}
 use Rattle.snippet_lines.specs.Lines.{source_lines, start_of}
 use Rattle.snippet_lines.specs.Place.{line_of}
 use Rattle.snippet_parts.specs.Kept.{kept_lines, with_between}

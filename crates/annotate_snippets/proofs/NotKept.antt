@@ -22,7 +22,7 @@ use Rattle.snippet_lines.specs.Place.{line_of, place_of}
 use Rattle.snippet_parts.specs.Kept.{shown_lines}
 use Rattle.snippet_window.specs.Window.{chars_at}
 use Rattle.annotate_snippets.specs.Page.{Elision, RowName, OfferedLine, RemovedLine, SourceRow, Other, NamedRow, lines_named, others}
-use Rattle.annotate_snippets.specs.Around.{closes_with}
+use Rattle.annotate_snippets.specs.ElementContext.{closes_with}
 use Rattle.annotate_snippets.specs.RowsWithoutSource.{cause_head, rows_after_cause}
 use Rattle.annotate_snippets.specs.Settings.{plain_settings}
 use Rattle.annotate_snippets.specs.declared.renderer.element_context.ElementContext.{ElementContext}

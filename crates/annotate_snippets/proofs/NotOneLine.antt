@@ -9,7 +9,7 @@ use Rattle.std.proofs.lemmas.Bool.{false≢true}
 use Rattle.std.proofs.lemmas.List.Elements.{All-contains}
 use Rattle.snippet_grid.specs.Print.{row_text}
 use Rattle.snippet_model.specs.declared.snippet.Group.{Group}
-use Rattle.snippet_settings.specs.LineFeeds.{IsTextAsSet, with_line_feeds_shown}
+use Rattle.snippet_shown.specs.LineFeeds.{IsTextAsSet, with_line_feeds_shown}
 use Rattle.snippet_style.specs.declared.stylesheet.Stylesheet.{Stylesheet}
 use Rattle.snippet_style.specs.Cell.{Cell, SPACE, text_cells}
 use Rattle.snippet_style.specs.Separators.{separator_row}

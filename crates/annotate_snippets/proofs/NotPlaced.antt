@@ -24,7 +24,7 @@ use Rattle.std.proofs.lemmas.Fmt.{decimal_digit}
 use Rattle.snippet_grid.specs.Print.{row_text}
 use Rattle.snippet_lines.specs.Number.{set_right}
 use Rattle.snippet_style.specs.declared.glyphs.DecorStyle.{DecorStyle}
-use Rattle.annotate_snippets.specs.Around.{is_end, suggestion_rows}
+use Rattle.annotate_snippets.specs.ElementContext.{is_end, suggestion_rows}
 use Rattle.annotate_snippets.specs.Gutter.{number_text}
 use Rattle.annotate_snippets.specs.declared.renderer.Renderer.{Renderer}
 use Rattle.annotate_snippets.specs.Page.{NamedRow, RemovedLine, Other, RowName, cells_of, others}

@@ -30,7 +30,7 @@ use Rattle.snippet_window.specs.Window.{chars_at, stands_whole}
 use Rattle.snippet_strokes.specs.EntryMarks.{IsMarkCell, is_mark_role}
 use Rattle.snippet_style.specs.Separators.{separator_row}
 use Rattle.annotate_snippets.specs.Page.{Elision, RowName, OfferedLine, RemovedLine, SourceRow, Other, NamedRow, lines_named, others}
-use Rattle.annotate_snippets.specs.Around.{closes_with}
+use Rattle.annotate_snippets.specs.ElementContext.{closes_with}
 use Rattle.annotate_snippets.specs.RowsWithoutSource.{cause_head, rows_after_cause}
 use Rattle.annotate_snippets.specs.Settings.{plain_settings}
 use Rattle.snippet_grid.specs.Layout.{Layout}

@@ -17,7 +17,7 @@ use Rattle.snippet_suggest.specs.RowOrder.{Ends}
 use Rattle.snippet_suggest.specs.Suggested.{body_cells, suggested_cells as row_cells, suggestion_cells}
 use Rattle.snippet_suggest.proofs.CellExamples.{ascii, put_in_cells, stroke, unfolded_cells}
 use Rattle.snippet_suggest.proofs.Examples.{text_put_in, third_unfolded}
-use Rattle.annotate_snippets.specs.Around.{is_end}
+use Rattle.annotate_snippets.specs.ElementContext.{is_end}
 use Rattle.annotate_snippets.specs.Gutter.{line_numbers}
 use Rattle.annotate_snippets.specs.DrawnReport.{suggestion_layout, suggestion_lines}
 use Rattle.annotate_snippets.proofs.PageWords.{under_of}

@@ -37,7 +37,7 @@ use Rattle.snippet_style.specs.declared.glyphs.DecorStyle.{DecorStyle}
 use Rattle.snippet_style.specs.declared.glyphs.DecorStyle.TheVariants.{Ascii}
 use Rattle.snippet_titles.specs.ShownHeading.{heading_texts}
 use Rattle.snippet_titles.specs.declared.style.TitleStyle.TheVariants as style
-use Rattle.annotate_snippets.specs.Around.{closes_with, is_before_message, is_end, is_first_of_several, context_at}
+use Rattle.annotate_snippets.specs.ElementContext.{closes_with, is_before_message, is_end, is_first_of_several, context_at}
 use Rattle.annotate_snippets.specs.Gutter.{number_text}
 use Rattle.annotate_snippets.specs.Levels.{error_level}
 use Rattle.annotate_snippets.specs.Page.{Elision, NamedRow, OfferedLine, Other, RemovedLine, RowName, SourceRow, cells_of, line_named, lines_named, others}

@@ -11,7 +11,7 @@ use Rattle.snippet_model.specs.declared.snippet.Title.{Title}
 use Rattle.snippet_style.specs.declared.stylesheet.Stylesheet.{Stylesheet}
 use Rattle.snippet_text.proofs.WidthLemmas.{unicode_width}
 use Rattle.snippet_text.specs.Width.{char_width, width_of}
-use Rattle.snippet_wrap.specs.WrapLaws.{AreWithin, IsRewrapped, lines_in, words_of}
+use Rattle.snippet_shown.specs.WrapLaws.{AreWithin, IsRewrapped, lines_in, words_of}
 use Rattle.annotate_snippets.specs.AsSet.{wraps}
 use Rattle.annotate_snippets.specs.Fault.{form_of}
 use Rattle.annotate_snippets.specs.Laws.Forms.{HasLaws}

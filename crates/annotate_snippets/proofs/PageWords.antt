@@ -33,7 +33,7 @@ use Rattle.snippet_titles.specs.declared.origin.FileStart.TheVariants.{Alone, Se
 use Rattle.snippet_titles.specs.declared.origin.OriginLocation.{OriginLocation}
 use Rattle.snippet_titles.specs.declared.style.TitleStyle.{TitleStyle}
 use Rattle.snippet_titles.specs.declared.style.TitleStyle.TheVariants as style
-use Rattle.annotate_snippets.specs.Around.{file_of_group, is_end, position_of_group}
+use Rattle.annotate_snippets.specs.ElementContext.{file_of_group, is_end, position_of_group}
 use Rattle.annotate_snippets.specs.DrawnReport.{last_row}
 use Rattle.annotate_snippets.specs.GraphicForm.{element_rows, group_page}
 use Rattle.annotate_snippets.specs.Gutter.{depth_of_element, layout_of_group}

@@ -24,7 +24,7 @@ use Rattle.snippet_titles.specs.HeadingRows.{heading_rows}
 use Rattle.snippet_titles.specs.Title.{title_rows}
 use Rattle.snippet_titles.specs.PrintedHeading.{IsPlainHeading}
 use Rattle.snippet_titles.specs.declared.style.TitleStyle.{TitleStyle}
-use Rattle.annotate_snippets.specs.Around.{CanStandIn, begins_in_row_above, context_at, drawn_elements, is_end, next_of}
+use Rattle.annotate_snippets.specs.ElementContext.{CanStandIn, begins_in_row_above, context_at, drawn_elements, is_end, next_of}
 use Rattle.annotate_snippets.specs.DrawnReport.{last_row, shared_row}
 use Rattle.annotate_snippets.proofs.PageWords.{found_at, message_rows, message_style}
 use Rattle.annotate_snippets.specs.GraphicForm.{drawn_rows, element_rows, group_page}

@@ -21,7 +21,7 @@ use Rattle.snippet_model.specs.Trusted.{trusted_texts}
 use Rattle.snippet_model.specs.declared.snippet.Group.{Group}
 use Rattle.annotate_snippets.specs.declared.renderer.Renderer.{Renderer}
 use Rattle.annotate_snippets.specs.declared.renderer.graphic.GroupGrid.{GroupGrid}
-use Rattle.annotate_snippets.specs.Around.{drawn_elements, file_of_group, next_of, position_of_group}
+use Rattle.annotate_snippets.specs.ElementContext.{drawn_elements, file_of_group, next_of, position_of_group}
 use Rattle.annotate_snippets.specs.Fault.{IsWithinBounds, first_fault, first_refusal, form_of, missing_title}
 use Rattle.annotate_snippets.specs.GraphicForm.{graphic_form}
 use Rattle.annotate_snippets.proofs.PageWords.{ArePrinted, Page, PrintsIn, page_at}

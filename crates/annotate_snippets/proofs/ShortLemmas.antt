@@ -28,7 +28,7 @@ use Rattle.snippet_text.specs.Normalized.{norm}
 use Rattle.snippet_text.proofs.NormLemmas.{length-norm}
 use Rattle.snippet_titles.specs.Origin.{column_text, line_name, line_text, origin_text}
 use Rattle.snippet_titles.specs.declared.origin.OriginLocation.{OriginLocation}
-use Rattle.annotate_snippets.specs.Around.{path_bytes}
+use Rattle.annotate_snippets.specs.ElementContext.{path_bytes}
 use Rattle.annotate_snippets.specs.Gutter.{numbered_source}
 use Rattle.annotate_snippets.specs.PreparedReport.{IsDrawable, IsElementDrawable, IsGroupDrawable}
 use Rattle.annotate_snippets.specs.ShortForm.{first_cause, joined_labels, place_named, place_of_cause, place_of_path, primary_labels, short_label}

@@ -43,7 +43,7 @@ use Rattle.snippet_suggest.proofs.OrderLaws.{IsRowOf}
 use Rattle.annotate_snippets.specs.declared.renderer.Renderer.{Renderer}
 use Rattle.annotate_snippets.specs.declared.renderer.element_context.ElementContext.{ElementContext}
 use Rattle.snippet_grid.specs.Layout.{Layout}
-use Rattle.annotate_snippets.specs.Around.{path_bytes, suggestion_rows}
+use Rattle.annotate_snippets.specs.ElementContext.{path_bytes, suggestion_rows}
 use Rattle.annotate_snippets.proofs.AreTexts.{IsTextSuggestion}
 use Rattle.annotate_snippets.specs.DrawnReport.{suggestion_layout, suggestion_lines}
 use Rattle.annotate_snippets.proofs.PageWords.{patch_place, suggestion_head_at, under_of}

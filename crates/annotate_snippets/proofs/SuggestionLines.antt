@@ -28,7 +28,7 @@ use Rattle.snippet_suggest.specs.Suggested.{body_cells, suggested_cells as row_c
 use Rattle.snippet_suggest.specs.SuggestionRows.{HasGutter, IsEdgeRow, IsUnder, Shows, begin_glyph, beside_gutter, end_glyph, is_stroke}
 use Rattle.snippet_suggest.proofs.BareLemmas.{stroke_led}
 use Rattle.snippet_suggest.proofs.BodyLaws.{body_shows, last_shows, zip_append}
-use Rattle.annotate_snippets.specs.Around.{begins_in_row_above, first_two_share, is_end, is_next_start, share_file, suggestion_rows}
+use Rattle.annotate_snippets.specs.ElementContext.{begins_in_row_above, first_two_share, is_end, is_next_start, share_file, suggestion_rows}
 use Rattle.annotate_snippets.specs.DrawnReport.{HasRoomFor, last_row, suggestion_layout, suggestion_lines}
 use Rattle.annotate_snippets.proofs.PageWords.{found_at, under_of}
 use Rattle.annotate_snippets.specs.declared.renderer.Renderer.{Renderer}

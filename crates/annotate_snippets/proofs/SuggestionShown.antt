@@ -28,7 +28,7 @@ use Rattle.snippet_suggest.proofs.OrderLaws.{IsRowOf, rows-offer, rows-own, rows
 use Rattle.snippet_suggest.proofs.TouchLaws.{touched-offered}
 use Rattle.snippet_titles.specs.Origin.{primary_start}
 use Rattle.snippet_titles.proofs.OriginFree.{origin_row-free}
-use Rattle.annotate_snippets.specs.Around.{begins_in_row_above, is_end, path_bytes, suggestion_rows}
+use Rattle.annotate_snippets.specs.ElementContext.{begins_in_row_above, is_end, path_bytes, suggestion_rows}
 use Rattle.annotate_snippets.specs.DrawnReport.{HasRoomFor, suggestion_layout, suggestion_lines}
 use Rattle.annotate_snippets.specs.GraphicForm.{element_rows, name_of_row}
 use Rattle.annotate_snippets.proofs.PageWords.{under_of}

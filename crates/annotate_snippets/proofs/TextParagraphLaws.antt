@@ -21,7 +21,7 @@ use Rattle.snippet_model.specs.declared.snippet.Patch.{Patch}
 use Rattle.snippet_model.specs.declared.snippet.Snippet.{Snippet}
 use Rattle.snippet_model.specs.declared.snippet.Title.{Title}
 use Rattle.snippet_parts.specs.Numbered.{numbered_source}
-use Rattle.snippet_settings.specs.LineFeeds.{picture_of, with_line_feeds_shown}
+use Rattle.snippet_shown.specs.LineFeeds.{picture_of, with_line_feeds_shown}
 use Rattle.snippet_splice.specs.Edits.{Edit}
 use Rattle.snippet_splice.specs.ShownText.{without_final_line_feeds}
 use Rattle.snippet_suggest.specs.Given.{trimmed_of}
@@ -46,7 +46,7 @@ use Rattle.snippet_text_form.proofs.PlaceParts.{PathIs, before_added-each, befor
 use Rattle.snippet_text_form.proofs.PlaceParts.{edit_place-each, further_indent-each, is_odd, known-each, place-each, place_in_file-each}
 use Rattle.snippet_text_form.proofs.PlaceParts.{span_text-each}
 use Rattle.snippet_titles.specs.HeadingRows.{colon_of, heading_lines, is_set, shown_text}
-use Rattle.annotate_snippets.specs.Around.{drawn_elements, file_of_group, first_two_share, is_drawn, path_bytes}
+use Rattle.annotate_snippets.specs.ElementContext.{drawn_elements, file_of_group, first_two_share, is_drawn, path_bytes}
 use Rattle.annotate_snippets.specs.Laws.Feeds.{HasOneLineTexts, text_lines}
 use Rattle.annotate_snippets.specs.Laws.TextLines.{element_paragraphs, elements_paragraphs, group_paragraphs, report_paragraphs, title_paragraphs}
 use Rattle.annotate_snippets.specs.TextForm.{PreviousSuggestion, before_next, element_form, elements_form, group_form, suggestion_place}

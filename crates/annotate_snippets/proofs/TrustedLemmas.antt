@@ -20,7 +20,7 @@ use Rattle.snippet_titles.specs.Title.{title_rows}
 use Rattle.snippet_titles.specs.declared.style.TitleStyle.TheVariants as style
 use Rattle.snippet_titles.proofs.FreeLemmas.{heading_rows-free}
 use Rattle.snippet_titles.proofs.OriginFree.{closing_row-free, separator_row-free}
-use Rattle.annotate_snippets.specs.Around.{is_before_message}
+use Rattle.annotate_snippets.specs.ElementContext.{is_before_message}
 use Rattle.annotate_snippets.specs.Page.{NamedRow, cells_of}
 use Rattle.annotate_snippets.specs.RowsWithoutSource.{rows_after_title, title_part}
 use Rattle.annotate_snippets.specs.Laws.Free.{IsFreeBut, IsFreeElement}

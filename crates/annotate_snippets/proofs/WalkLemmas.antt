@@ -9,7 +9,7 @@ use Rattle.snippet_model.specs.declared.snippet.Annotation.{Annotation}
 use Rattle.snippet_model.specs.declared.snippet.Origin.{Origin as PlaceGiven}
 use Rattle.snippet_model.specs.declared.snippet.Snippet.{Snippet}
 use Rattle.snippet_model.specs.declared.snippet.Group.{Group}
-use Rattle.annotate_snippets.specs.Around.{file_of_element, primary_path}
+use Rattle.annotate_snippets.specs.ElementContext.{file_of_element, primary_path}
 
 -- what the rest of a list gives, one item on
 pub filter_map-rest : {X Y : Type 0} (h : X → Option Y) (xs : List X) (i : ℕ) (x : X) → i < length xs → x ≡ get_or xs i x

@@ -4,15 +4,15 @@ use Rattle.std.specs.Cow.{cow_str_bytes}
 use Rattle.std.specs.List.{AllZip}
 use Rattle.std.specs.declared.alloc.Global.{Global}
 use Rattle.std.specs.declared.borrow.CowStr.{CowStr}
-use Rattle.snippet_context.specs.WithContext.{IsElementWithContext, IsGroupWithContext}
+use Rattle.snippet_shown.specs.WithContext.{IsElementWithContext, IsGroupWithContext}
 use Rattle.snippet_model.specs.Same.{SameOption}
 use Rattle.snippet_model.specs.declared.snippet.Element.{Element}
 use Rattle.snippet_model.specs.declared.snippet.Element.TheVariants.{Message, Cause, Suggestion, Origin, Padding}
 use Rattle.snippet_model.specs.declared.snippet.Group.{Group}
 use Rattle.snippet_model.specs.declared.snippet.Title.{Title}
-use Rattle.snippet_settings.specs.AsSet.{IsElementAsSet, IsGroupAsSet, IsTitleAsSet}
-use Rattle.snippet_wrap.specs.AsWrapped.{AreGroupsWrapped}
-use Rattle.snippet_wrap.specs.WrapLaws.{IsRewrapped}
+use Rattle.snippet_shown.specs.AsSet.{IsElementAsSet, IsGroupAsSet, IsTitleAsSet}
+use Rattle.snippet_shown.specs.AsWrapped.{AreGroupsWrapped}
+use Rattle.snippet_shown.specs.WrapLaws.{IsRewrapped}
 use Rattle.annotate_snippets.specs.AsSet.{AreWithContext, AreWrapped, IsAsSet, IsRemade, adds_context, wraps}
 use Rattle.annotate_snippets.specs.Gutter.{gutter_of_report}
 use Rattle.annotate_snippets.specs.Laws.Wrapped.{AreRewrapped, IsElementRewrapped, IsGroupRewrapped, IsTextRewrapped, IsTitleRewrapped}

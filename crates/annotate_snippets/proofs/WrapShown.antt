@@ -28,10 +28,10 @@ use Rattle.snippet_titles.specs.ShownHeading.{heading_texts}
 use Rattle.snippet_titles.specs.declared.style.MessageContext.{MessageContext}
 use Rattle.snippet_titles.specs.declared.style.TitleStyle.TheVariants as style
 use Rattle.snippet_titles.specs.Title.{id_links}
-use Rattle.snippet_wrap.specs.AsWrapped.{AreGroupsWrapped, IsElementWrapped, IsGroupWrapped, IsTextWrapped, IsTitleWrapped, room_of_message, room_of_title}
-use Rattle.snippet_wrap.specs.WrapLaws.{AreWithin, IsAmong, IsRewrapped, lines_in}
-use Rattle.snippet_wrap.proofs.DrawnLemmas.{message-within, title-within}
-use Rattle.snippet_wrap.proofs.LawLemmas.{wrapped-laws}
+use Rattle.snippet_shown.specs.AsWrapped.{AreGroupsWrapped, IsElementWrapped, IsGroupWrapped, IsTextWrapped, IsTitleWrapped, room_of_message, room_of_title}
+use Rattle.snippet_shown.specs.WrapLaws.{AreWithin, IsAmong, IsRewrapped, lines_in}
+use Rattle.snippet_shown.proofs.DrawnLemmas.{message-within, title-within}
+use Rattle.snippet_shown.proofs.LawLemmas.{wrapped-laws}
 use Rattle.annotate_snippets.specs.Fault.{element_faults, faults_from, first_fault, first_of, group_faults, missing_title, refusal_in}
 use Rattle.annotate_snippets.specs.Laws.Feeds.{HasOneLineTexts}
 use Rattle.annotate_snippets.specs.Forms.{links_in}

@@ -1,10 +1,10 @@
 -- The report that is shown in place of one, as a renderer is set.
 use Rattle.std.specs.Prelude.{◌≡◌, ℕ, ◌==◌, ◌&&◌, Bool, true, false, not, List}
 use Rattle.std.specs.List.{AllZip}
-use Rattle.snippet_context.specs.WithContext.{IsGroupWithContext}
+use Rattle.snippet_shown.specs.WithContext.{IsGroupWithContext}
 use Rattle.snippet_model.specs.declared.snippet.Group.{Group}
-use Rattle.snippet_settings.specs.AsSet.{IsGroupAsSet}
-use Rattle.snippet_wrap.specs.AsWrapped.{AreGroupsWrapped}
+use Rattle.snippet_shown.specs.AsSet.{IsGroupAsSet}
+use Rattle.snippet_shown.specs.AsWrapped.{AreGroupsWrapped}
 use Rattle.annotate_snippets.specs.Gutter.{gutter_of_report}
 use Rattle.annotate_snippets.specs.declared.renderer.Renderer.{Renderer}
 use Rattle.annotate_snippets.specs.declared.renderer.form.Form.{Form}

@@ -15,7 +15,7 @@ use Rattle.snippet_style.specs.Separators.{separator_row}
 use Rattle.annotate_snippets.specs.declared.renderer.Renderer.{Renderer}
 use Rattle.snippet_grid.specs.Layout.{Layout}
 use Rattle.annotate_snippets.specs.declared.renderer.element_context.ElementContext.{ElementContext}
-use Rattle.annotate_snippets.specs.Around.{is_end}
+use Rattle.annotate_snippets.specs.ElementContext.{is_end}
 use Rattle.annotate_snippets.specs.Gutter.{depth_of_element, line_numbers, width_wanted}
 use Rattle.snippet_model.specs.declared.snippet.Title.{Title}
 use Rattle.annotate_snippets.specs.ShortForm.{short_form}

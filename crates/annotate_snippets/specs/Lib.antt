@@ -1,4 +1,4 @@
-pub mod Around
+pub mod ElementContext
 pub mod AsSet
 pub mod DrawnReport
 pub mod Fault

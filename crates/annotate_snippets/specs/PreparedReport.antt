@@ -20,7 +20,7 @@ use Rattle.annotate_snippets.specs.declared.renderer.preprocess.PreparedElement.
 use Rattle.annotate_snippets.specs.declared.renderer.preprocess.PreparedGroup.{PreparedGroup}
 use Rattle.annotate_snippets.specs.declared.renderer.element_context.GroupPosition.{GroupPosition}
 use Rattle.annotate_snippets.specs.declared.renderer.element_context.ElementContext.{ElementContext}
-use Rattle.annotate_snippets.specs.Around.{drawn_elements, context_at}
+use Rattle.annotate_snippets.specs.ElementContext.{drawn_elements, context_at}
 use Rattle.annotate_snippets.specs.Gutter.{numbered_source}
 use Rattle.snippet_text.specs.TextBounds.{TextFits}
 use Rattle.snippet_style.specs.Bounds.{IsCount, IsUsize}

@@ -7,7 +7,7 @@ use Rattle.snippet_model.specs.declared.snippet.Element.{Element}
 use Rattle.snippet_style.specs.Cell.{Cell}
 use Rattle.snippet_style.specs.declared.role.LevelInner.{LevelInner}
 use Rattle.snippet_style.specs.declared.stylesheet.Stylesheet.{Stylesheet}
-use Rattle.annotate_snippets.specs.Around.{context_at}
+use Rattle.annotate_snippets.specs.ElementContext.{context_at}
 use Rattle.annotate_snippets.specs.DrawnReport.{last_row}
 use Rattle.annotate_snippets.specs.GraphicForm.{element_rows}
 use Rattle.annotate_snippets.specs.Page.{NamedRow}

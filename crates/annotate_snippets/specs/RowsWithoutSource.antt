@@ -24,7 +24,7 @@ use Rattle.snippet_titles.specs.declared.origin.FileStart.TheVariants.{Alone, Se
 use Rattle.snippet_titles.specs.declared.origin.OriginLayout.{OriginLayout}
 use Rattle.snippet_titles.specs.declared.origin.OriginLocation.{OriginLocation}
 use Rattle.snippet_titles.specs.declared.style.TitleStyle.TheVariants as style
-use Rattle.annotate_snippets.specs.Around.{closes_after, is_before_message, is_end, is_first_of_several}
+use Rattle.annotate_snippets.specs.ElementContext.{closes_after, is_before_message, is_end, is_first_of_several}
 use Rattle.annotate_snippets.specs.Gutter.{numbered_source}
 use Rattle.annotate_snippets.specs.declared.renderer.Renderer.{Renderer}
 use Rattle.snippet_grid.specs.Layout.{Layout}

@@ -19,7 +19,7 @@ use Rattle.snippet_style.specs.Cell.{Cell}
 use Rattle.snippet_text.specs.Normalized.{norm}
 use Rattle.snippet_titles.specs.Origin.{origin_text}
 use Rattle.snippet_titles.specs.ShortRows.{short_rows}
-use Rattle.annotate_snippets.specs.Around.{path_bytes}
+use Rattle.annotate_snippets.specs.ElementContext.{path_bytes}
 use Rattle.annotate_snippets.specs.Gutter.{numbered_source}
 use Rattle.annotate_snippets.specs.RowsWithoutSource.{place_found}
 use Rattle.annotate_snippets.specs.declared.renderer.Renderer.{Renderer}

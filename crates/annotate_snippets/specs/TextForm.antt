@@ -16,7 +16,7 @@ use Rattle.snippet_text_form.specs.declared.heading.HeadingKind.TheVariants.{Tit
 use Rattle.snippet_text_form.specs.declared.suggestion.SuggestionContext.{SuggestionContext}
 use Rattle.snippet_text_form.specs.declared.suggestion.SuggestionSettings.{SuggestionSettings}
 use Rattle.snippet_titles.specs.HeadingRows.{shown_text}
-use Rattle.annotate_snippets.specs.Around.{drawn_elements, file_of_group, first_two_share, is_same_file, path_bytes}
+use Rattle.annotate_snippets.specs.ElementContext.{drawn_elements, file_of_group, first_two_share, is_same_file, path_bytes}
 use Rattle.annotate_snippets.specs.declared.renderer.Renderer.{Renderer}
 use Rattle.annotate_snippets.specs.declared.renderer.text_form.PreviousSuggestion as code
 

@@ -4,7 +4,7 @@ use Rattle.std.specs.Io.KnownBytes.{Appends}
 use Rattle.snippet_grid.specs.Woven.{Prints}
 use Rattle.snippet_model.specs.declared.snippet.Group.{Group}
 use Rattle.snippet_style.specs.declared.stylesheet.Stylesheet.{Stylesheet}
-use Rattle.written.specs.Part.{AppendsPart}
+use Rattle.output_stream.specs.Part.{AppendsPart}
 use Rattle.annotate_snippets.specs.Laws.Forms.{IsTextUnder}
 use Rattle.annotate_snippets.specs.Forms.{ShowsForm}
 use Rattle.annotate_snippets.specs.declared.renderer.Renderer.{Renderer}

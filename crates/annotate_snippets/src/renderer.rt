@@ -22,7 +22,7 @@ mod printing;
 mod report_writer;
 mod settings;
 mod short;
-mod shown;
+mod shown_report;
 pub mod style;
 mod suggestions;
 mod text_form;
@@ -291,7 +291,7 @@ impl Renderer {
         text_in_form(alloc, self, form, groups, sheet).map_err(RenderError::Memory)
     }
 
-    /// The same, as the one of a list.
+    /// The text of a report under a sheet, where it isn't refused, as the one of a list.
     fn one_text(
         &self,
         alloc: Global,

@@ -3,8 +3,8 @@ use Rattle.std.proofs.Common.{◌≡◌, ◌≢◌, ◌⊎◌, ℕ, List, [], �
 use Rattle.std.specs.Io.KnownBytes.{Appends}
 use Rattle.program.specs.Lent.{IsLentFor}
 use Rattle.program.specs.Stream.{CutShort, Silent, Told, Whole, ended_line}
-use Rattle.written.specs.Standing.{Gets, Standing}
-use Rattle.written.specs.declared.stream.Stream.{Stream}
+use Rattle.output_stream.specs.Standing.{Gets, Standing}
+use Rattle.output_stream.specs.declared.stream.Stream.{Stream}
 
 -- what it holds grows by a first part of this, and that leaves the rest
 abbrev AddsFirst : Option (List ℕ) → Option (List ℕ) → List ℕ → List ℕ → Type 0

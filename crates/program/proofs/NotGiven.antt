@@ -1,9 +1,9 @@
 -- What a stream isn't given.
 use Rattle.std.proofs.Common.{◌≡◌, ℕ, true, false, List, [], ◌∷◌, ◌++◌, Option, Some, arith, inl, inr, refl, length, ap, length-append}
 use Rattle.program.specs.Stream.{Receives, Whole, CutShort, Told, ended_line}
-use Rattle.written.specs.Standing.{Standing}
-use Rattle.written.specs.declared.stream.Stream.{Stream}
-use Rattle.written.proofs.Writing.{gets_stays}
+use Rattle.output_stream.specs.Standing.{Standing}
+use Rattle.output_stream.specs.declared.stream.Stream.{Stream}
+use Rattle.output_stream.proofs.Writing.{gets_stays}
 
 -- a stream whose writer holds this, and to which no write has failed, or one has
 abbrev pub sound : List ℕ → Stream (Option (List ℕ))

@@ -2,7 +2,7 @@
 use Rattle.std.specs.Prelude.{ℕ, Bool, false, List, Option}
 use Rattle.program.specs.Stream.{Output, Receives}
 use Rattle.program.specs.declared.lent.LentStream.{LentStream}
-use Rattle.written.specs.declared.stream.Stream.{Stream}
+use Rattle.output_stream.specs.declared.stream.Stream.{Stream}
 
 -- the stream that a stream over a lent writer is
 abbrev pub stream_of : {W : Type 0} → LentStream W → Stream W

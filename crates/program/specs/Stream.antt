@@ -1,7 +1,7 @@
 -- What a run writes to a stream.
 use Rattle.std.specs.Prelude.{◌≡◌, ℕ, List, [], ◌∷◌, ◌++◌, Option}
-use Rattle.written.specs.Standing.{Adds, BreaksOffBefore, Gets, known}
-use Rattle.written.specs.declared.stream.Stream.{Stream}
+use Rattle.output_stream.specs.Standing.{Adds, BreaksOffBefore, Gets, known}
+use Rattle.output_stream.specs.declared.stream.Stream.{Stream}
 
 -- a text and a line feed
 abbrev pub ended_line : List ℕ → List ℕ

@@ -2,13 +2,13 @@
 
 ghost use Rattle.std.specs.Prelude.{◌≡◌, OnErr, OnOk, false};
 ghost use Rattle.std.specs.Bool.{OnFalse, OnTrue};
-ghost use Rattle.written.specs.Standing.{Adds, BreaksOffBefore, known};
+ghost use Rattle.output_stream.specs.Standing.{Adds, BreaksOffBefore, known};
 ghost use Rattle.program.specs.Stream.{Receives, Whole, CutShort, Told};
 ghost use Rattle.program.specs.Lent.{stream_of};
 
 use crate::line::LINE_END;
+use output_stream::write_whole;
 use std::io::{self, ErrorKind, Write};
-use written::write_whole;
 
 /// A stream over a writer that is lent for one run. Once a write to it has failed nothing more is written to it.
 ///

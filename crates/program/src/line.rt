@@ -3,8 +3,8 @@
 ghost use Rattle.std.specs.Bool.{OnFalse, OnTrue};
 ghost use Rattle.program.specs.Stream.{Receives, Whole, CutShort, Told};
 
+use output_stream::Stream;
 use std::io::Write;
-use written::Stream;
 
 /// The bytes that end a line.
 pub(crate) const LINE_END: &[u8] = b"\n";

@@ -1,6 +1,7 @@
 //! Reads what other tools report, and prints what the library draws of it: `redraw [OPTIONS] [FILE]...`.
 #![tactic(auto)]
 
+use output_stream::Stream;
 use program::exit::exit_code;
 use program::input::given_arguments;
 use program::standing_in::stand_in;
@@ -11,7 +12,6 @@ use std::env;
 use std::io::{self, BufWriter, IsTerminal};
 use std::process::ExitCode;
 use std::rt::Env;
-use written::Stream;
 
 /// What a variable of the environment is set to, where it is set to UTF-8.
 fn variable(rt: &(impl Env + AllocGlobal), name: &str) -> Option<String> {

@@ -3,7 +3,7 @@ use Rattle.std.proofs.Common.{◌≡◌, ◌++◌, ℕ, List, [], ◌∷◌, Som
 use Rattle.std.specs.Io.KnownBytes.{Appends}
 use Rattle.redraw_report.specs.declared.diagnostic.Severity.TheVariants.{Warning}
 use Rattle.redraw_command.specs.Tally.{one_more, status_of, tallied}
-use Rattle.written.specs.Standing.{Gets, Standing}
+use Rattle.output_stream.specs.Standing.{Gets, Standing}
 use Rattle.program.specs.Stream.{ended_line}
 use Rattle.redraw_command.specs.Told.{Tells}
 use Rattle.redraw_command.specs.Workflow.{escape}

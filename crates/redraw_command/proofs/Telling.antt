@@ -1,6 +1,6 @@
 -- What is told.
 use Rattle.std.proofs.Common.{◌≡◌, ℕ, List, codes, inl, inr, refl, subst}
-use Rattle.written.specs.Standing.{Gets, Standing}
+use Rattle.output_stream.specs.Standing.{Gets, Standing}
 use Rattle.program.specs.Stream.{ended_line}
 use Rattle.redraw_command.specs.Told.{IsMessage, Tells, TellsMemory, TellsOfArguments, normalized_text}
 

@@ -1,6 +1,6 @@
 -- What is told on standard error.
 use Rattle.std.specs.Prelude.{◌≡◌, ℕ, ◌⊎◌, List, ◌++◌, codes}
-use Rattle.written.specs.Standing.{Gets, Standing}
+use Rattle.output_stream.specs.Standing.{Gets, Standing}
 use Rattle.program.specs.Stream.{ended_line}
 pub use Rattle.program.specs.Message.{message_text, normalized_text}
 use Rattle.redraw_command.specs.Unheeded.{apart}

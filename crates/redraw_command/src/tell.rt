@@ -1,6 +1,6 @@
 //! Messages to the user.
 ghost use Rattle.std.specs.Prelude.{◌≡◌, ℕ, List, IfOk, string_bytes};
-ghost use Rattle.written.specs.Standing.{known};
+ghost use Rattle.output_stream.specs.Standing.{known};
 ghost use Rattle.redraw_command.specs.Told as spec;
 ghost use Rattle.redraw_command.specs.Told.{Tells, TellsMemory, TellsOfArguments};
 ghost use Rattle.std.specs.Prelude.{IsErr};
@@ -9,13 +9,13 @@ ghost use Rattle.clap.specs.Words.{kind_of};
 use crate::arguments::matches_of;
 use crate::unheeded::apart;
 use clap::error::ErrorKind;
+use output_stream::Stream;
 use program::line::write_line;
 use program::message::{lines_of, message_text};
 use snippet_text::normalize_untrusted_str;
 use std::alloc::{AllocError, Global};
 use std::fmt;
 use std::io::Write;
-use written::Stream;
 
 /// What is told where there is no memory to tell more.
 const OUT_OF_MEMORY: &str = "redraw: out of memory";

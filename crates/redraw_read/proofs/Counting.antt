@@ -7,9 +7,9 @@ use Rattle.std.specs.Str.{bytes_eq}
 use Rattle.std.proofs.lemmas.Bool.{cases_Bool, cases_lt, le-leb, leb-true}
 use Rattle.std.proofs.lemmas.Bool.Decides.{nat_tests}
 use Rattle.std.proofs.lemmas.List.Sums.{sum_by_more}
-use Rattle.snippet_places.specs.Places.{IsSpanBetween, begins_char}
-use Rattle.snippet_places.specs.declared.clamp.Place.{Place}
-use Rattle.snippet_places.specs.declared.clamp.SpanAt.{SpanAt}
+use Rattle.snippet_lines.specs.Places.{IsSpanBetween, begins_char}
+use Rattle.snippet_lines.specs.declared.clamp.Place.{Place}
+use Rattle.snippet_lines.specs.declared.clamp.SpanAt.{SpanAt}
 use Rattle.redraw_report.specs.declared.diagnostic.SuggestedEdit.{SuggestedEdit}
 use Rattle.redraw_report.specs.declared.diagnostic.Region.{Region}
 use Rattle.redraw_report.specs.declared.diagnostic.Region.TheVariants as region

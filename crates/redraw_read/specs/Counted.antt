@@ -4,8 +4,8 @@ use Rattle.std.specs.Global.{Vec}
 use Rattle.std.specs.List.{count_by, list_all, sum_by}
 use Rattle.std.specs.Str.{bytes_eq}
 use Rattle.redraw_report.specs.Region.{end_place, start_bytes, start_place}
-use Rattle.snippet_places.specs.Places.{is_border}
-use Rattle.snippet_places.specs.declared.clamp.Place.{Place}
+use Rattle.snippet_lines.specs.Places.{is_border}
+use Rattle.snippet_lines.specs.declared.clamp.Place.{Place}
 use Rattle.redraw_report.specs.declared.diagnostic.Child.{Child}
 use Rattle.redraw_report.specs.declared.diagnostic.Diagnostic.{Diagnostic}
 use Rattle.redraw_report.specs.declared.diagnostic.SuggestedEdit.{SuggestedEdit}

@@ -22,7 +22,7 @@ use Rattle.redraw_report.specs.declared.finding.Offer.{Offer}
 use Rattle.redraw_report.specs.declared.finding.Remark.{Remark}
 use Rattle.redraw_report.specs.declared.finding.Shown.{Shown}
 use Rattle.redraw_report.specs.Region.{IsSpanBetween, end_place, start_bytes, start_place}
-use Rattle.snippet_places.specs.declared.clamp.SpanAt.{SpanAt}
+use Rattle.snippet_lines.specs.declared.clamp.SpanAt.{SpanAt}
 use Rattle.redraw_report.specs.Report.{edited_of, lent}
 pub use Rattle.redraw_report.specs.Sight.{Sight, Lines, Nothing, Blank, sight_of}
 use Rattle.redraw_report.specs.SameSource.{same_source}

@@ -9,7 +9,7 @@ ghost use Rattle.redraw_report.specs.Region as region;
 ghost use Rattle.redraw_report.specs.Report.{lent};
 
 use crate::source::Source;
-use redraw_report::lines::first_line;
+use redraw_report::text_lines::first_line;
 
 /// Whether a source has these lines, from the one of this number on.
 pub fn has_lines(source: &Source, first_line: usize, lines: &str) -> bool

@@ -253,7 +253,7 @@ fn attribute_at<'a>(
     }
 }
 
-/// The same in a text, where the line that it stands above has this number.
+/// The offer of an edit that puts an attribute above the line of this number, in a text.
 fn attribute_if<'a>(
     alloc: Global,
     text: &'a str,

@@ -3,7 +3,7 @@
 ghost use Rattle.std.specs.Prelude.{◌≡◌, IfOk};
 ghost use Rattle.redraw_report.specs.Region.{start_bytes as starts_of};
 
-use redraw_report::lines::line_starts;
+use redraw_report::text_lines::line_starts;
 use snippet_lines::SourceLines;
 use snippet_text::CowStr;
 use std::alloc::{AllocError, Global};

@@ -12,9 +12,9 @@ use crate::hand::{Extract, Hand, lines_for};
 use crate::source::Source;
 use redraw_report::diagnostic::{Carried, Region};
 use redraw_report::finding::{Content, Shown};
-use redraw_report::lines::line_starts;
 use redraw_report::locate::{Lookup, locate};
 use redraw_report::shown_text::ShownText;
+use redraw_report::text_lines::line_starts;
 use std::alloc::{AllocError, Global};
 
 /// A source and a part of it.

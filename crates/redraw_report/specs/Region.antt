@@ -8,9 +8,9 @@ use Rattle.redraw_report.specs.declared.diagnostic.Unit as unit_type
 use Rattle.redraw_report.specs.declared.diagnostic.Unit.TheVariants.{Utf16, CodePoints}
 use Rattle.redraw_report.specs.declared.locate.OnLine.{OnLine}
 use Rattle.redraw_report.specs.declared.locate.OnLine.TheVariants as on_line
-use Rattle.snippet_places.specs.declared.clamp.Place.{Place}
-pub use Rattle.snippet_places.specs.Places.{IsHeld, IsSpanBetween}
-pub use Rattle.snippet_places.specs.TextLines.{line_start_after, starts_after, start_bytes, begins_with_feed, ends_line, line_length, before_line_end}
+use Rattle.snippet_lines.specs.declared.clamp.Place.{Place}
+pub use Rattle.snippet_lines.specs.Places.{IsHeld, IsSpanBetween}
+pub use Rattle.snippet_lines.specs.TextLines.{line_start_after, starts_after, start_bytes, begins_with_feed, ends_line, line_length, before_line_end}
 
 -- whether some bytes are a line's end and nothing else
 abbrev pub is_line_end : List ℕ → Bool

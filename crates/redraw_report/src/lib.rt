@@ -12,4 +12,4 @@ pub mod shown_text;
 mod source_key;
 mod titles;
 
-pub use snippet_places::lines;
+pub use snippet_lines::text_lines;

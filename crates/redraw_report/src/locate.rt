@@ -5,8 +5,8 @@ ghost use Rattle.redraw_report.specs.Region.{place_on};
 ghost use Rattle.redraw_report.specs.Region as spec;
 
 use crate::diagnostic::{Region, Unit};
-use snippet_places::lines::{first_line, line_length};
-use snippet_places::{Place, SpanAt, between};
+use snippet_lines::text_lines::{first_line, line_length};
+use snippet_lines::{Place, SpanAt, between};
 
 /// Where on a line a place is.
 #[derive(Clone, Copy)]
@@ -120,7 +120,7 @@ fn place_on_line(lookup: Lookup<'_>, line: usize, at: OnLine, unit: Unit) -> Pla
     }
 }
 
-/// The same in the line that starts at this byte.
+/// Where a place is in the line that starts at this byte.
 fn place_from_start(text: &str, start: usize, at: OnLine, unit: Unit) -> Place
     ensures value { result ≡ on_line_from unit text.now at start }
 {

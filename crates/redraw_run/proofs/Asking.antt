@@ -5,7 +5,7 @@ use Rattle.clap.specs.Faults.{fault_of}
 use Rattle.clap.specs.Simple.{App}
 use Rattle.clap.specs.declared.error.kind.ErrorKind.{ErrorKind}
 use Rattle.clap.specs.declared.error.kind.ErrorKind.TheVariants.{DisplayHelp, DisplayVersion, OutOfMemory}
-use Rattle.written.specs.Standing.{Standing}
+use Rattle.output_stream.specs.Standing.{Standing}
 use Rattle.redraw_command.specs.Told.{TellsMemory, TellsOfArguments}
 use Rattle.redraw_command.specs.Arguments.{AsksToShow, Argument}
 use Rattle.redraw_command.specs.declared.terminal.Surroundings.{Surroundings}

@@ -4,8 +4,8 @@ use Rattle.std.specs.Prelude.{Result, Ok, Err, IsErrAnd}
 use Rattle.std.specs.List.{flat_map}
 use Rattle.std.proofs.lemmas.List.Concat.{flat_map-append}
 use Rattle.redraw_run.specs.declared.look.ReportRenderer.{ReportRenderer}
-use Rattle.written.specs.Standing.{Adds, BreaksOff, Gets, Standing}
-use Rattle.written.proofs.Writing.{adds_breaks, adds_none, adds_twice, gets_twice}
+use Rattle.output_stream.specs.Standing.{Adds, BreaksOff, Gets, Standing}
+use Rattle.output_stream.proofs.Writing.{adds_breaks, adds_none, adds_twice, gets_twice}
 use Rattle.redraw_command.specs.Tally.{tallied}
 use Rattle.redraw_command.specs.Choice.{is_sum}
 use Rattle.redraw_command.specs.declared.choice.Choice.{Choice}

@@ -8,9 +8,9 @@ use Rattle.std.proofs.lemmas.List.Concat.{flat_map-append}
 use Rattle.std.proofs.Math.Dec.{eqb-suc-zero}
 use Rattle.redraw_run.specs.declared.look.ReportRenderer.{ReportRenderer}
 use Rattle.annotate_snippets.specs.declared.renderer.error.RenderError.{RenderError}
-use Rattle.written.specs.Standing.{Adds, BreaksOff, Gets, Standing}
+use Rattle.output_stream.specs.Standing.{Adds, BreaksOff, Gets, Standing}
 use Rattle.program.specs.Stream.{ended_line}
-use Rattle.written.proofs.Writing.{adds_breaks, adds_none, adds_twice, breaks_stays, gets_twice}
+use Rattle.output_stream.proofs.Writing.{adds_breaks, adds_none, adds_twice, breaks_stays, gets_twice}
 use Rattle.redraw_command.specs.Tally.{is_empty, one_more}
 use Rattle.redraw_command.specs.Told.{Tells}
 use Rattle.redraw_command.specs.Workflow.{command}

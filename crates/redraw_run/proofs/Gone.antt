@@ -4,7 +4,7 @@ use Rattle.std.proofs.Common.{length, length-append, refl, subst, sym, true}
 use Rattle.std.specs.Prelude.{IfErr, IfOk, OnOk, Result, Ok, Err}
 use Rattle.std.specs.declared.io.Error.{Error}
 use Rattle.redraw_run.specs.declared.look.ReportRenderer.{ReportRenderer}
-use Rattle.written.specs.Standing.{Standing}
+use Rattle.output_stream.specs.Standing.{Standing}
 use Rattle.redraw_command.specs.Tally.{no_tally, status_of}
 use Rattle.redraw_command.specs.declared.tally.Tally.{Tally}
 use Rattle.redraw_command.specs.Told.{Tells, TellsMemory}

@@ -2,8 +2,8 @@
 use Rattle.std.proofs.Common.{◌≡◌, ◌⊎◌, ◌++◌, ℕ, Bool, List, [], ◌∷◌, Option, Some, ap, arith, codes, length, length-append, subst, sym, true}
 use Rattle.std.specs.Io.KnownBytes.{Appends}
 use Rattle.std.specs.List.{flat_map}
-use Rattle.written.specs.Standing.{Adds, Standing}
-use Rattle.written.proofs.Writing.{adds_twice}
+use Rattle.output_stream.specs.Standing.{Adds, Standing}
+use Rattle.output_stream.proofs.Writing.{adds_twice}
 use Rattle.redraw_run.specs.Deeds.{State, printed}
 use Rattle.redraw_run.specs.HtmlDocument.{html_end, handed, html_start}
 use Rattle.redraw_run.specs.Run.{Finishes}

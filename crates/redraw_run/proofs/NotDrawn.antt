@@ -15,12 +15,12 @@ use Rattle.snippet_text.specs.Normalized.{norm}
 use Rattle.snippet_text_form.specs.Form.{FormPiece, form_bytes}
 use Rattle.snippet_text_form.specs.HeadingForm.{heading_form}
 use Rattle.snippet_text_form.specs.declared.heading.HeadingKind.TheVariants as kind
-use Rattle.annotate_snippets.specs.Around.{drawn_elements, file_of_group}
+use Rattle.annotate_snippets.specs.ElementContext.{drawn_elements, file_of_group}
 use Rattle.annotate_snippets.specs.Settings.{plain_settings}
 use Rattle.annotate_snippets.specs.TextForm.{elements_form, group_form, text_form}
 use Rattle.annotate_snippets.specs.declared.renderer.Renderer.{Renderer}
 use Rattle.annotate_snippets.proofs.AsSetLemmas.{unset-shows}
-use Rattle.written.specs.Standing.{Standing}
+use Rattle.output_stream.specs.Standing.{Standing}
 use Rattle.redraw_command.specs.Workflow.{command}
 use Rattle.redraw_command.specs.declared.choice.Choice.{Choice}
 use Rattle.redraw_command.specs.declared.choice.OutputForm.TheVariants.{Report}

@@ -6,7 +6,7 @@ use Rattle.clap.specs.Kinds.{IsAmong, Kinds}
 use Rattle.clap.specs.Simple.{App}
 use Rattle.clap.specs.declared.error.kind.ErrorKind.{ErrorKind}
 use Rattle.clap.specs.declared.error.kind.ErrorKind.TheVariants.{DisplayHelp, DisplayVersion}
-use Rattle.written.specs.Standing.{Standing}
+use Rattle.output_stream.specs.Standing.{Standing}
 use Rattle.redraw_command.specs.Tally.{status_of}
 use Rattle.redraw_command.specs.declared.choice.Choice.{Choice}
 use Rattle.redraw_command.specs.declared.terminal.Surroundings.{Surroundings}

@@ -1,7 +1,7 @@
 -- What no run does: what wrong bodies do about small inputs contradicts what becomes of lines and of runs.
 use Rattle.std.proofs.Common.{◌≡◌, ◌⊎◌, ◌++◌, ◌∙◌, ◌||◌, ℕ, Bool, List, [], ◌∷◌, Option, None, Some, ap, false, if◌then◌else◌, inl, inr, refl, subst, sym, true}
 use Rattle.serde_json.specs.Data.{Data}
-use Rattle.written.specs.Standing.{Standing}
+use Rattle.output_stream.specs.Standing.{Standing}
 use Rattle.redraw_command.specs.Choice.{is_sum}
 use Rattle.redraw_command.specs.Line.{begins_object}
 use Rattle.redraw_command.specs.Tally.{no_tally, status_of, tallied}

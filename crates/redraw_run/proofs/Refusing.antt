@@ -2,7 +2,7 @@
 use Rattle.std.proofs.Common.{◌≡◌, ◌≢◌, ◌++◌, List, [], ◌∷◌, ap, inl, inr, refl, subst, sym}
 use Rattle.std.specs.Global.{Global}
 use Rattle.std.specs.Prelude.{IfErr, IfOk, OnOk, Result, Ok, Err, String, alloc_error, map, string_bytes}
-use Rattle.written.specs.Standing.{Adds, Standing}
+use Rattle.output_stream.specs.Standing.{Adds, Standing}
 use Rattle.redraw_command.specs.declared.choice.OutputForm.TheVariants.{Report}
 use Rattle.redraw_command.specs.declared.stop.Stop.{Stop}
 use Rattle.redraw_command.specs.declared.tally.Tally.{Tally}

@@ -2,7 +2,7 @@
 use Rattle.std.specs.Prelude.{◌≡◌, ℕ, ◌⊎◌, true, List, [], ◌∷◌, ◌++◌, Some, Result, Ok, Err}
 use Rattle.std.specs.List.{flat_map}
 use Rattle.annotate_snippets.specs.declared.renderer.error.RenderError.{RenderError}
-use Rattle.written.specs.Standing.{Adds, BreaksOff, Gets, Standing}
+use Rattle.output_stream.specs.Standing.{Adds, BreaksOff, Gets, Standing}
 use Rattle.program.specs.Stream.{ended_line}
 use Rattle.redraw_command.specs.Choice.{is_sum}
 use Rattle.redraw_command.specs.Tally.{one_more, tallied}

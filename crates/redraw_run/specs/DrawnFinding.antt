@@ -9,7 +9,7 @@ use Rattle.annotate_snippets.specs.declared.renderer.error.RenderError.{RenderEr
 use Rattle.annotate_snippets.specs.declared.renderer.error.RenderError.TheVariants.{Memory}
 use Rattle.annotate_snippets.specs.declared.renderer.form.Form.TheVariants.{Graphic}
 use Rattle.annotate_snippets.specs.declared.snippet.Group.{Group}
-use Rattle.written.specs.Standing.{Adds, Standing}
+use Rattle.output_stream.specs.Standing.{Adds, Standing}
 use Rattle.redraw_command.specs.Choice.{is_sum}
 use Rattle.redraw_command.specs.Tally.{one_more, tallied}
 use Rattle.redraw_command.specs.Workflow.{command}

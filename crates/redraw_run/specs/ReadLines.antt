@@ -2,7 +2,7 @@
 use Rattle.std.specs.Prelude.{◌≡◌, ℕ, ◌<◌, ◌≤◌, ◌-◌, ◌^◌, ◌⊎◌, ◌||◌, Bool, true, false, List, [], ◌∷◌, Option, Some, IfSome, Result, Ok, Err, length}
 use Rattle.std.specs.Io.BufRead.{drop_through, take_through}
 pub use Rattle.json_lines.specs.TakenLine.{TakesLine, TakesNext}
-use Rattle.written.specs.Standing.{Adds, BreaksOff, Standing}
+use Rattle.output_stream.specs.Standing.{Adds, BreaksOff, Standing}
 use Rattle.redraw_command.specs.Tally.{is_empty}
 use Rattle.redraw_command.specs.Told.{Tells}
 use Rattle.redraw_command.specs.declared.tally.Tally.{Tally}

@@ -1,7 +1,7 @@
 -- What a run does about its inputs, and how it ends.
 use Rattle.std.specs.Prelude.{◌≡◌, ◌⊎◌, ℕ, Bool, false, List, Option, Result, Ok, Err}
 use Rattle.std.specs.declared.io.Error.{Error}
-use Rattle.written.specs.Standing.{Adds, BreaksOff, Standing}
+use Rattle.output_stream.specs.Standing.{Adds, BreaksOff, Standing}
 use Rattle.clap.specs.Simple.{App}
 use Rattle.redraw_command.specs.Tally.{no_tally, status_of}
 use Rattle.redraw_command.specs.Told.{Tells, TellsMemory, TellsOfArguments}

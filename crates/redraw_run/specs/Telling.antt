@@ -1,6 +1,6 @@
 -- What is told of a finding that is drawn as a report, beside its report.
 use Rattle.std.specs.Prelude.{◌≡◌, ◌==◌, ◌⊎◌, ℕ, zero, suc, Bool, List, length}
-use Rattle.written.specs.Standing.{Standing}
+use Rattle.output_stream.specs.Standing.{Standing}
 use Rattle.redraw_command.specs.Told.{Tells}
 use Rattle.redraw_read.specs.Counted.{clamped_in, undrawn_in}
 use Rattle.redraw_read.specs.Loaded.{Loads, named_files}

@@ -16,7 +16,7 @@ ghost use Rattle.redraw_read.specs.Loaded.{texts_of};
 ghost use Rattle.serde_json.specs.View.{view};
 ghost use Rattle.redraw_read.specs.declared.sources.File.{File};
 ghost use Rattle.redraw_command.specs.declared.choice.OutputForm.TheVariants.{Report, Workflow};
-ghost use Rattle.written.specs.Standing.{Adds, Standing, known};
+ghost use Rattle.output_stream.specs.Standing.{Adds, Standing, known};
 
 use crate::html::escaped;
 use crate::look::ReportRenderer;
@@ -24,6 +24,7 @@ use crate::text::drawn_of;
 use crate::write::{pass, print};
 use annotate_snippets::renderer::RenderError;
 use json_lines::fault::Fault;
+use output_stream::Stream;
 use redraw_command::choice::{Choice, OutputForm, is_sum};
 use redraw_command::relative::make_relative;
 use redraw_command::seen::{Names, SeenDiagnostics};
@@ -39,7 +40,6 @@ use serde_json::Value;
 use std::alloc::{AllocError, Global};
 use std::fmt;
 use std::io::Write;
-use written::Stream;
 
 /// What is drawn from, and what was drawn so far.
 #[derive(Drop)]

@@ -3,12 +3,12 @@ ghost use Rattle.std.specs.Prelude.{◌≡◌, ◌++◌, [], IfOk, OnOk};
 ghost use Rattle.redraw_run.specs.HtmlDocument as spec;
 ghost use Rattle.redraw_run.specs.ReadLines.{PrintsBytes};
 ghost use Rattle.snippet_grid.specs.Html as html;
-ghost use Rattle.written.specs.Standing.{known};
+ghost use Rattle.output_stream.specs.Standing.{known};
 
 use annotate_snippets::renderer::HTML_STYLESHEET;
+use output_stream::Stream;
 use std::alloc::{AllocError, Global};
 use std::io::{self, Write};
-use written::Stream;
 
 /// What stands before the stylesheet of reports: the page is light or dark as its reader prefers.
 const HEAD: &str = "<!DOCTYPE html>

@@ -8,7 +8,7 @@ ghost use Rattle.redraw_run.specs.Fates.{Advances, Halts, IsDocumentLine, IsInpu
 ghost use Rattle.redraw_run.specs.Fates.{IsEndOfInput, IsSoFar, IsTextOf, IsUnknown, IsValue, IsWhole};
 ghost use Rattle.redraw_run.specs.Fates.{LeavesOpen, Reads, document_of};
 ghost use Rattle.redraw_run.specs.ReadLines.{AreAllOf, AreFirstOf, TakesNext, TellsUnless};
-ghost use Rattle.written.specs.Standing.{Standing, known};
+ghost use Rattle.output_stream.specs.Standing.{Standing, known};
 
 use crate::draw::Drawing;
 use crate::json_value::json_of;
@@ -17,6 +17,7 @@ use crate::report::{cargo_message, sarif_log};
 use json::Scratch;
 use json_lines::node::Node;
 use json_lines::place::JsonPath;
+use output_stream::Stream;
 use redraw_command::line::{Line, is_utf16, line_of};
 use redraw_command::stop::Stop;
 use redraw_read::rustc::diagnostic_of;
@@ -25,7 +26,6 @@ use serde_json::Value;
 use std::alloc::Global;
 use std::io::{BufRead, Write};
 use std::str;
-use written::Stream;
 
 /// What an input has been so far.
 #[derive(Drop)]

@@ -1,20 +1,20 @@
 //! Values that hold what they report: a message of cargo, and a SARIF log.
 ghost use Rattle.redraw_run.specs.Deeds.{Happens, standing};
 ghost use Rattle.redraw_run.specs.Fates.{IsLog, IsReported};
-ghost use Rattle.written.specs.Standing.{Standing, known};
+ghost use Rattle.output_stream.specs.Standing.{Standing, known};
 ghost use Rattle.std.specs.Prelude.{◌≡◌};
 
 use crate::draw::Drawing;
 use crate::sarif::draw_runs;
 use json_lines::expectation::Expectation;
 use json_lines::node::Node;
+use output_stream::Stream;
 use redraw_command::stop::Stop;
 use redraw_read::cargo::packaged_diagnostic_of;
 use redraw_read::json::listed;
 use redraw_read::sources::SourceFiles;
 use std::io::Write;
 use std::mem;
-use written::Stream;
 
 /// Takes cargo's message, which has a diagnostic of rustc in it.
 pub fn cargo_message<S: SourceFiles + Drop, W: Write, V: Write>(

@@ -13,7 +13,7 @@ ghost use Rattle.redraw_run.specs.Inputs.{IsDrawnOf, asked_names, given_names, h
 ghost use Rattle.redraw_run.specs.ReadLines.{IsTextPrinted, SumsUp};
 ghost use Rattle.redraw_run.specs.Run.{Answers, ArePartlyPrinted, AreInputsPrinted, Draws, EndsInput};
 ghost use Rattle.std.specs.Io.Buffered.{reader_inner, reader_remaining};
-ghost use Rattle.written.specs.Standing.{known};
+ghost use Rattle.output_stream.specs.Standing.{known};
 
 use crate::draw::Drawing;
 use crate::files::FilesUnder;
@@ -21,6 +21,7 @@ use crate::html;
 use crate::input::draw_input;
 use crate::look::renderer_for;
 use crate::write::pass;
+use output_stream::Stream;
 use redraw_command::arguments::{RedrawRequest, matches_of, request_of};
 use redraw_command::relative::folder_of;
 use redraw_command::seen::{Names, SeenDiagnostics};
@@ -34,7 +35,6 @@ use std::cell::Cell;
 use std::fs;
 use std::io::{self, BufRead, BufReader, Write};
 use std::rt::Files;
-use written::Stream;
 
 /// Runs what the arguments ask for, and answers the status to end with.
 pub fn run<'w, R: Files + Input + AllocGlobal, W: Write, V: Write>(

@@ -3,17 +3,17 @@ ghost use Rattle.std.specs.Prelude.{◌≡◌, IfErr, OnOk, map};
 ghost use Rattle.serde_json.specs.View.{view};
 ghost use Rattle.redraw_run.specs.Deeds.{Does, Happens, TellsAll, standing};
 ghost use Rattle.redraw_run.specs.Fates.{AreRuns, Each, IsResult, IsLogRun};
-ghost use Rattle.written.specs.Standing.{known};
+ghost use Rattle.output_stream.specs.Standing.{known};
 
 use crate::draw::Drawing;
 use json_lines::lenient::{LenientNode, List, Problems};
 use json_lines::place::JsonPath;
+use output_stream::Stream;
 use redraw_command::stop::Stop;
 use redraw_read::sources::SourceFiles;
 use redraw_sarif::sarif::SarifRun;
 use serde_json::Value;
 use std::io::Write;
-use written::Stream;
 
 /// Draws what the results of a log's runs tell, each before the next is read.
 pub fn draw_runs<S: SourceFiles + Drop, W: Write, V: Write>(

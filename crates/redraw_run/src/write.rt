@@ -1,11 +1,11 @@
 //! What goes to standard output.
 ghost use Rattle.std.specs.Prelude.{◌++◌, [], ◌∷◌, OnOk};
 ghost use Rattle.redraw_run.specs.Deeds.{Writes};
-ghost use Rattle.written.specs.Standing.{Adds, known};
+ghost use Rattle.output_stream.specs.Standing.{Adds, known};
 
+use output_stream::Stream;
 use redraw_command::stop::Stop;
 use std::io::Write;
-use written::Stream;
 
 /// The bytes that end a line.
 const LINE_END: &[u8] = b"\n";

@@ -61,7 +61,7 @@ fn add_piece(text: &mut String, c: char, after: &[char]) -> Result<usize, AllocE
     }
 }
 
-/// The same for a bracket, with which a link may begin.
+/// Adds what is shown for a bracket, with which a link may begin, and returns how many characters go with it.
 fn add_link(text: &mut String, c: char, after: &[char]) -> Result<usize, AllocError>
     ensures added { OnOk result (string_bytes text.new
         ≡ string_bytes text.old ++ encode_utf8_all (link_piece c after.now).shown) }
@@ -78,7 +78,7 @@ fn add_link(text: &mut String, c: char, after: &[char]) -> Result<usize, AllocEr
     }
 }
 
-/// The same for a backslash.
+/// Adds what is shown for a backslash, and returns how many characters go with it.
 fn add_backslash(text: &mut String, c: char, after: &[char]) -> Result<usize, AllocError>
     ensures added { OnOk result (string_bytes text.new
         ≡ string_bytes text.old ++ encode_utf8_all (backslash_piece c after.now).shown) }

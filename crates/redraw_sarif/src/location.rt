@@ -87,7 +87,7 @@ pub fn place_at(
     }
 }
 
-/// The same in this file.
+/// The place of a location in this file, as one of context of which nothing is said.
 fn place_in(
     file: String,
     physical: &LenientNode<'_, '_>,

@@ -29,7 +29,7 @@ pub fn text_in(
     }
 }
 
-/// The same of a part of a result, as a place: where there is no more room for it, it is left out, which is reported.
+/// The text of the message of a part of a result, as a place: where there is no more room for it, it is left out, which
 pub fn part_text_in(
     object: &LenientNode<'_, '_>,
     name: &str,

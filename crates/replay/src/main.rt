@@ -4,13 +4,13 @@
 //! `replay --repeat N [FILE ..]`
 #![tactic(auto)]
 
+use output_stream::Stream;
 use program::exit::exit_code;
 use program::input::given_arguments;
 use program::standing_in::stand_in;
 use replay_run::run::run;
 use std::io::{self, BufWriter};
 use std::process::ExitCode;
-use written::Stream;
 
 /// The status of a run that was stopped before it began.
 const STOPPED: u8 = 2;

@@ -5,14 +5,14 @@ use Rattle.std.specs.Str.{IsCharBoundary, IsUtf8}
 use Rattle.std.proofs.lemmas.Bool.Decides.{nat_tests}
 use Rattle.std.proofs.lemmas.List.{length-drop}
 use Rattle.std.proofs.lemmas.Str.{IsCharBoundary-after_ascii, IsCharBoundary-from_rest, IsCharBoundary-start}
-use Rattle.snippet_places.specs.TextLines.{start_bytes, starts_after}
+use Rattle.snippet_lines.specs.TextLines.{start_bytes, starts_after}
 use Rattle.std.specs.Borrow.{Bor}
 use Rattle.std.specs.List.{HoldsAt}
 use Rattle.std.specs.Option.{MatchOption}
 use Rattle.std.specs.Prelude.{option_and_then, option_map, slice_range, unwrap_or, ◌||◌}
 use Rattle.std.specs.declared.ops.Range.{Range}
 use Rattle.std.proofs.lemmas.Option.{slice_get_past, slice_get_read}
-use Rattle.snippet_places.specs.declared.columns.Position.{Position}
+use Rattle.snippet_lines.specs.declared.columns.Position.{Position}
 use Rattle.replay_read.specs.MarkerSpan.{byte_after, byte_at, byte_in_line, placed, until_feed}
 use Rattle.replay_read.specs.Stops.{IsPart, line_range}
 use Rattle.replay_read.specs.declared.span.SpanUnit.{SpanUnit}

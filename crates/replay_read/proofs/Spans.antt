@@ -2,7 +2,7 @@
 use Rattle.std.proofs.Common.{◌≡◌, ℕ, List, [], ◌∷◌, Some, None, refl}
 use Rattle.std.specs.Str.{chars}
 use Rattle.replay_read.specs.MarkerSpan.{span_between, counted, placed}
-use Rattle.snippet_places.specs.declared.columns.Position.{Position}
+use Rattle.snippet_lines.specs.declared.columns.Position.{Position}
 use Rattle.replay_read.specs.declared.span.SpanUnit.TheVariants.{Byte, Char, Utf16}
 
 -- `aé😀`, a line feed, `b`

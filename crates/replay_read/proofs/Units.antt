@@ -11,10 +11,10 @@ use Rattle.std.proofs.lemmas.List.{drop-drop, length-drop, length-take, length-t
 use Rattle.std.proofs.lemmas.List.Sums.{sum_by-append, sum_by-cons, sum_by-le-sum_by}
 use Rattle.std.proofs.lemmas.Str.{IsCharBoundary-past_char, IsCharBoundary-start, IsUtf8-between, IsUtf8-drop, IsUtf8-take, chars-append, chars-nil}
 use Rattle.std.proofs.lemmas.Str.{chars_past_char, drop_past_char, encodes-chars, length-encode, len_utf8_bounds}
-use Rattle.snippet_places.specs.Places.{place_from, units_of}
-use Rattle.snippet_places.specs.declared.clamp.Place.{Place}
-use Rattle.snippet_places.specs.declared.columns.ColumnUnit.{ColumnUnit}
-use Rattle.snippet_places.specs.declared.columns.ColumnUnit.TheVariants as column
+use Rattle.snippet_lines.specs.Places.{place_from, units_of}
+use Rattle.snippet_lines.specs.declared.clamp.Place.{Place}
+use Rattle.snippet_lines.specs.declared.columns.ColumnUnit.{ColumnUnit}
+use Rattle.snippet_lines.specs.declared.columns.ColumnUnit.TheVariants as column
 use Rattle.replay_read.specs.MarkerSpan.{byte_after, byte_of}
 use Rattle.replay_read.specs.Stops.{IsStop, size_of, units_in}
 use Rattle.replay_read.specs.declared.ruler.Stop.{Stop}

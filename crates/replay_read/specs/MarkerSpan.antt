@@ -1,16 +1,16 @@
 -- Where the span of a marker lies in its source: its bytes, by numbers that count units, or by lines and columns. Where lines start, and how
--- units are counted, is as in `snippet_places`, which takes what comes closest; here there is none where the source has no such place.
+-- units are counted, is as in `snippet_lines`, which takes what comes closest; here there is none where the source has no such place.
 use Rattle.std.specs.Prelude.{◌≡◌, ◌⊎◌, ℕ, ◌+◌, ◌-◌, nat_le, nat_lt, ◌==◌, ◌||◌, List, [], ◌∷◌, Option, Some, None, chars, codes, drop, length, slice_get}
 use Rattle.std.specs.Prelude.{option_and_then, option_map, if◌then◌else◌}
 use Rattle.std.specs.declared.ops.Range.{Range}
 use Rattle.serde_json.specs.Data.{Data}
 use Rattle.serde_json.specs.Find.{as_str}
 use Rattle.json_lines.specs.Field.{SaysAt, given, number_field}
-use Rattle.snippet_places.specs.Places.{place_from}
-use Rattle.snippet_places.specs.TextLines.{start_bytes}
-use Rattle.snippet_places.specs.declared.clamp.Place.{Place}
-use Rattle.snippet_places.specs.declared.columns.ColumnUnit.TheVariants as column
-use Rattle.snippet_places.specs.declared.columns.Position.{Position}
+use Rattle.snippet_lines.specs.Places.{place_from}
+use Rattle.snippet_lines.specs.TextLines.{start_bytes}
+use Rattle.snippet_lines.specs.declared.clamp.Place.{Place}
+use Rattle.snippet_lines.specs.declared.columns.ColumnUnit.TheVariants as column
+use Rattle.snippet_lines.specs.declared.columns.Position.{Position}
 use Rattle.replay_read.specs.Shape.{HasShape}
 use Rattle.replay_read.specs.declared.shape.Shape.TheVariants as shape
 use Rattle.replay_read.specs.declared.span.SpanUnit.{SpanUnit}

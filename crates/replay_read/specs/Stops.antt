@@ -3,7 +3,7 @@ use Rattle.std.specs.Prelude.{◌≡◌, ℕ, ◌+◌, ◌≤◌, nat_lt, List, 
 use Rattle.std.specs.Char.{len_utf8}
 use Rattle.std.specs.Str.{IsCharBoundary}
 use Rattle.std.specs.declared.ops.Range.{Range}
-use Rattle.snippet_places.specs.TextLines.{start_bytes}
+use Rattle.snippet_lines.specs.TextLines.{start_bytes}
 use Rattle.replay_read.specs.MarkerSpan.{until_feed}
 use Rattle.replay_read.specs.declared.ruler.Stop.{Stop}
 use Rattle.replay_read.specs.declared.span.SpanUnit.{SpanUnit}

@@ -8,15 +8,15 @@ ghost use Rattle.std.specs.Prelude.{◌≡◌, ◌<◌, ◌≤◌, ◌+◌, ◌-
 ghost use Rattle.std.specs.Prelude.{slice_range, take, true, unwrap_or};
 ghost use Rattle.std.specs.Char.{len_utf8};
 ghost use Rattle.std.specs.Str.{IsCharBoundary, is_utf8};
-ghost use Rattle.snippet_places.specs.TextLines.{start_bytes};
+ghost use Rattle.snippet_lines.specs.TextLines.{start_bytes};
 ghost use Rattle.replay_read.specs.MarkerSpan as spec;
 ghost use Rattle.replay_read.specs.Stops.{IsPart, IsStop, line_range, units_in};
 ghost use Rattle.replay_read.specs.Stops as stops_spec;
 ghost use Rattle.replay_read.specs.declared.span.SpanUnit.TheVariants.{Char};
 
 use crate::span::SpanUnit;
-use snippet_places::lines::line_starts;
-use snippet_places::{ColumnUnit, Place, Position, line_start, place_after};
+use snippet_lines::text_lines::line_starts;
+use snippet_lines::{ColumnUnit, Place, Position, line_start, place_after};
 use std::alloc::{AllocError, Global};
 use std::ops::Range;
 
@@ -116,7 +116,7 @@ impl<'s> Ruler<'s> {
         }
     }
 
-    /// The same where it is known where lines start.
+    /// The line of an index, from 0, without its line feed, where it is known where lines start.
     fn known_line(&self, index: usize) -> Option<Range<usize>>
         requires known { 0 < length self.now.starts.items }
         ensures value { result ≡ line_range self.now.source.now index }

@@ -13,7 +13,7 @@ use json_lines::expectation::Expectation;
 use json_lines::fault::Fault;
 use json_lines::node::Node;
 use serde_json::Value;
-use snippet_places::Position;
+use snippet_lines::Position;
 use std::ops::Range;
 
 /// What is counted in a source.

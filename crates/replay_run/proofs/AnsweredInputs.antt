@@ -10,8 +10,8 @@ use Rattle.std.proofs.KnownBytes.{Keeps-trans}
 use Rattle.std.proofs.lemmas.List.{append-nil, map-append, map_more, take_all}
 use Rattle.std.proofs.lemmas.List.Concat.{flat_map-append}
 use Rattle.std.proofs.lemmas.List.Elements.{All-push}
-use Rattle.written.specs.Standing.{Gets, Standing, StaysFailed}
-use Rattle.written.proofs.Writing.{gets_none, gets_stays}
+use Rattle.output_stream.specs.Standing.{Gets, Standing, StaysFailed}
+use Rattle.output_stream.proofs.Writing.{gets_none, gets_stays}
 use Rattle.replay_run.specs.WrittenAnswer.{AnswersLines, Numbered, first_after}
 use Rattle.replay_run.specs.Answered.{AnswersInputs, AnswersReader, AppendsFirst, AreRead, IsEndProblem, StopsAfter, StopsAt, StopsAtInput, StopsFor}
 use Rattle.replay_run.specs.Answered.{StopsInputs, StopsReader}

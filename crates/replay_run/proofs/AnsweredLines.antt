@@ -10,7 +10,7 @@ use Rattle.std.specs.List.{concat}
 use Rattle.std.specs.declared.alloc.Global.{Global}
 use Rattle.std.proofs.lemmas.List.{append-nil, length_push}
 use Rattle.std.proofs.lemmas.List.Folds.{concat-append}
-use Rattle.written.specs.Standing.{Standing}
+use Rattle.output_stream.specs.Standing.{Standing}
 use Rattle.replay_run.specs.WrittenAnswer.{AnswersLine, AnswersLines, AreFirstLines, AreNumberedLines, Numbered, first_after, following_number}
 use Rattle.replay_run.specs.Answered.{AnswersReader, AppendsFirst, AreFirstRead, AreRead, StopsAfter, StopsLine, StopsReader, following_line}
 use Rattle.replay_run.specs.Checked.{most}

@@ -1,7 +1,7 @@
 -- How a comparison ends.
 use Rattle.std.proofs.Common.{ℕ, List, [], ◌++◌, Option, inl}
-use Rattle.written.specs.Standing.{Adds, Standing}
-use Rattle.written.proofs.Writing.{gets_none}
+use Rattle.output_stream.specs.Standing.{Adds, Standing}
+use Rattle.output_stream.proofs.Writing.{gets_none}
 use Rattle.replay_run.specs.Compared.{EndsComparison, count_line}
 use Rattle.replay_run.proofs.Growing.{appends_kept}
 

@@ -2,7 +2,7 @@
 use Rattle.std.proofs.Common.{List, ℕ, [], ◌++◌, Option, Some, None, ap, refl, sym, ◌∙◌, append_assoc}
 use Rattle.std.specs.Io.KnownBytes.{Appends, Keeps}
 use Rattle.std.proofs.lemmas.List.{append-nil}
-use Rattle.written.specs.Standing.{Adds, BreaksOff, Standing}
+use Rattle.output_stream.specs.Standing.{Adds, BreaksOff, Standing}
 use Rattle.replay_run.specs.Answered.{AppendsFirst}
 use Rattle.replay_run.specs.Growth.{Grows}
 

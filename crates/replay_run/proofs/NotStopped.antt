@@ -9,7 +9,7 @@ use Rattle.replay_run.specs.Answered.{AppendsFirst, StopsAfter, StopsFor, StopsR
 use Rattle.replay_answer.specs.Answer.{not_json_text}
 use Rattle.replay_run.specs.Problem.{IsWrite, TellsStop, TellsUsageError, message_text, normalized_text, stop_text}
 use Rattle.replay_run.specs.Arguments.{Argument}
-use Rattle.written.specs.Standing.{Standing}
+use Rattle.output_stream.specs.Standing.{Standing}
 use Rattle.program.specs.Stream.{Output, Receives}
 use Rattle.program.proofs.NotGiven.{sound, told_nothing}
 use Rattle.std.specs.declared.io.Error.{Error}

@@ -6,7 +6,7 @@ use Rattle.std.specs.Prelude.{string_bytes}
 use Rattle.std.specs.Io.KnownBytes.{Appends, Keeps}
 use Rattle.std.specs.declared.alloc.Global.{Global}
 use Rattle.std.specs.List.{concat, flat_map}
-use Rattle.written.specs.Standing.{Standing}
+use Rattle.output_stream.specs.Standing.{Standing}
 use Rattle.serde_json.specs.Data.{Data}
 use Rattle.serde_json.specs.Read.{read}
 use Rattle.replay_run.specs.WrittenAnswer.{AreFirstLines, AreNumberedLines, AnswersLine, AnswersLines, Numbered, first_after, following_number}

@@ -1,7 +1,7 @@
 -- What a comparison of files ends with.
 use Rattle.std.specs.Prelude.{◌≡◌, ◌↔◌, ℕ, ◌/◌, List, [], ◌++◌, Option, codes, decimal}
 use Rattle.std.specs.Io.KnownBytes.{Appends}
-use Rattle.written.specs.Standing.{Standing}
+use Rattle.output_stream.specs.Standing.{Standing}
 use Rattle.replay_run.specs.WrittenAnswer.{ended_line}
 use Rattle.replay_run.specs.Checked.{CountsFiles}
 use Rattle.replay_run.specs.declared.check.Counts.{Counts}

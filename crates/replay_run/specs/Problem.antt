@@ -5,7 +5,7 @@ use Rattle.std.specs.declared.alloc.Global.{Global}
 use Rattle.std.specs.declared.io.Error.{Error}
 pub use Rattle.program.specs.Message.{message_text, normalized_text}
 use Rattle.program.specs.Stream.{Output, Told}
-use Rattle.written.specs.Standing.{Standing}
+use Rattle.output_stream.specs.Standing.{Standing}
 use Rattle.serde_json.specs.Data.{Data}
 use Rattle.serde_json.specs.Read.{read}
 use Rattle.replay_answer.specs.Answer.{not_json_text}

@@ -2,7 +2,7 @@
 
 ghost use Rattle.std.specs.Prelude.{◌≡◌, ◌+◌, ◌^◌, ◌<◌, ◌↔◌, if◌then◌else◌, min, true, IsTrue, IfOk, IsOkAnd, OnOk};
 ghost use Rattle.std.specs.Prelude.{string_bytes};
-ghost use Rattle.written.specs.Standing.{known};
+ghost use Rattle.output_stream.specs.Standing.{known};
 ghost use Rattle.serde_json.specs.View.{view};
 ghost use Rattle.replay_run.specs.Expected.{IsExpectedOf, IsMet};
 ghost use Rattle.replay_run.specs.Growth.{Grows};
@@ -11,12 +11,12 @@ ghost use Rattle.replay_run.specs.Checked.{CountsLines, ChecksCase, ChecksLine, 
 use crate::expected::{Expected, expected_of, write_wanted};
 use crate::lines::{numbered_case, numbered_sources, print, value_of, write_line, write_outcome};
 use crate::problem::{InputLine, Problem, wrong_line};
+use output_stream::Stream;
 use replay_answer::outcome::{Outcome, outcome_of};
 use serde_json::Value;
 use std::alloc::Global;
 use std::io;
 use std::io::{BufRead, Write};
-use written::Stream;
 
 /// How many cases became what is expected, and how many didn't.
 #[derive(Clone, Copy)]

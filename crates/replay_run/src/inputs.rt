@@ -2,7 +2,7 @@
 
 ghost use Rattle.std.specs.Prelude.{◌≡◌, ◌⊎◌, OnOk, IfErr, IfOk};
 ghost use Rattle.std.specs.Io.Buffered.{reader_inner, reader_remaining};
-ghost use Rattle.written.specs.Standing.{known};
+ghost use Rattle.output_stream.specs.Standing.{known};
 ghost use Rattle.replay_run.specs.Arguments.{arguments_at};
 ghost use Rattle.replay_run.specs.Answered.{AnswersInputs, AnswersReader, StopsAt, StopsAtInput, StopsInputs};
 ghost use Rattle.replay_run.specs.Checked.{CountsLines};
@@ -16,10 +16,10 @@ use crate::lines::{Way, answer_lines, either};
 use crate::problem::Problem;
 use crate::repeat::{TimedTally, repeat_lines};
 use crate::stop::StopAt;
+use output_stream::Stream;
 use std::fs;
 use std::io::{BufRead, BufReader, Write};
 use std::rt::{Clock, Files};
-use written::Stream;
 
 /// How standard input is called where something is told of it.
 const INPUT: &str = "standard input";

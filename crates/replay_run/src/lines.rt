@@ -4,7 +4,7 @@ ghost use Rattle.std.specs.Prelude.{◌≡◌, ◌⊎◌, ℕ, Bool, ◌||◌, t
 ghost use Rattle.std.specs.Prelude.{codes, string_bytes};
 ghost use Rattle.std.specs.Io.KnownBytes.{Appends};
 ghost use Rattle.annotate_snippets.specs.Fits.{ReportFits};
-ghost use Rattle.written.specs.Standing.{known};
+ghost use Rattle.output_stream.specs.Standing.{known};
 ghost use Rattle.serde_json.specs.Errors.{IsMemory};
 ghost use Rattle.serde_json.specs.Read.{read};
 ghost use Rattle.serde_json.specs.View.{view};
@@ -23,6 +23,7 @@ ghost use Rattle.replay_run.specs.Problem.{IsFault, IsFinal, IsMisread, IsProble
 ghost use Rattle.replay_answer.specs.declared.outcome.Outcome.{Outcome};
 
 use crate::problem::{InputLine, Problem, fault_words, wrong_line};
+use output_stream::Stream;
 use replay_answer::answer::{answer_json, told_json};
 use replay_answer::case::Case;
 use replay_answer::outcome::{Outcome, outcome_of};
@@ -32,7 +33,6 @@ use serde_json::{Error, Value};
 use std::alloc::{AllocError, Global};
 use std::io;
 use std::io::{BufRead, Write};
-use written::Stream;
 
 /// The bytes that end a line.
 const LINE_END: &[u8] = b"\n";

@@ -5,13 +5,13 @@ ghost use Rattle.annotate_snippets.specs.Fits.{ReportFits};
 use crate::lines::{numbered_case, numbered_sources, print_line, value_of};
 use crate::problem::{InputLine, Problem};
 use annotate_snippets::renderer::RenderError;
+use output_stream::Stream;
 use replay_answer::case::Case;
 use replay_answer::outcome::texts_of;
 use std::alloc::Global;
 use std::io::{BufRead, Write};
 use std::rt::Clock;
 use std::time::{Duration, Instant};
-use written::Stream;
 
 /// What was drawn, and in which time.
 #[derive(Clone, Copy, Default)]

@@ -5,7 +5,7 @@ ghost use Rattle.std.specs.Prelude.{OnOk};
 ghost use Rattle.std.specs.Io.KnownBytes.{Appends};
 ghost use Rattle.clap.specs.Words.{found_of, kind_of, rows_of};
 ghost use Rattle.clap.specs.declared.error.kind.ErrorKind.TheVariants as kind;
-ghost use Rattle.written.specs.Standing.{known};
+ghost use Rattle.output_stream.specs.Standing.{known};
 ghost use Rattle.program.specs.Stream.{Receives};
 ghost use Rattle.replay_run.specs.Arguments.{AsksToShow, Checks, IsCommandLine, Argument, asked, arguments_at};
 ghost use Rattle.replay_run.specs.Answered.{AnswersInputs, StopsInputs};
@@ -27,10 +27,10 @@ use crate::problem::Problem;
 use crate::repeat::{TimedTally, print_tally};
 use crate::stop::{StopAt, or_stop, tell_stop, tell_usage_error};
 use clap::ArgMatches;
+use output_stream::Stream;
 use std::alloc::Global;
 use std::io::Write;
 use std::rt::{Clock, Files};
-use written::Stream;
 
 /// The status of a run that did all that was asked, and found nothing that differs.
 const DONE: u8 = 0;

@@ -11,11 +11,11 @@ use crate::command::command_of;
 use crate::problem::{Problem, words_of};
 use annotate_snippets::text::normalize_untrusted_str;
 use clap::error::ErrorKind;
+use output_stream::Stream;
 use program::line::write_line;
 use program::message::{lines_of, message_text};
 use std::alloc::{AllocError, Global};
 use std::io::Write;
-use written::Stream;
 
 /// What is told where there is no memory to tell more.
 const OUT_OF_MEMORY: &str = "replay: out of memory";

@@ -3,7 +3,7 @@ use Rattle.std.proofs.Common.{◌≡◌, ◌++◌, ℕ, Bool, List, [], ◌∷�
 use Rattle.std.specs.Str.{chars}
 use Rattle.snippet_text.specs.Normalized.{norm}
 use Rattle.program.specs.Stream.{Output, Silent, Told, Receives, ended_line}
-use Rattle.written.specs.declared.stream.Stream.{Stream}
+use Rattle.output_stream.specs.declared.stream.Stream.{Stream}
 use Rattle.program.proofs.NotGiven.{cut_unfailed, sound, told_nothing}
 use Rattle.snip_run.specs.Run.{End, Ends, Failed, MayEnd, BadUsage, Printed, Unprinted, err_of, message, out_of, status_of, usage}
 use Rattle.snip_run.specs.declared.run.SnipFailure.TheVariants.{Unreadable}

@@ -1,3 +1,4 @@
+pub mod Borders
 pub mod BoundsLemmas
 pub mod CountLemmas
 pub mod CursorLemmas
@@ -8,3 +9,6 @@ pub mod NumberLemmas
 pub mod OrderLemmas
 pub mod PlaceLemmas
 pub mod StartLemmas
+pub mod TextLinesLemmas
+pub mod UnitLemmas
+pub mod Walk

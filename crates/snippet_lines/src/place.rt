@@ -96,7 +96,7 @@ fn characters_and_columns(text: &str) -> (usize, usize)
     walked(text)
 }
 
-/// The same, found character by character: out of the way of its callers, since most texts are plain.
+/// How many characters a text has, and how many columns it takes, found character by character.
 #[inline(never)]
 fn walked(text: &str) -> (usize, usize)
     requires fits { TextFits text.now }

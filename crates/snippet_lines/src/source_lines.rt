@@ -46,7 +46,7 @@ impl<'a> SourceLines<'a> {
         SourceLines::new_cow(alloc, CowStr::Borrowed(source))
     }
 
-    /// The same of a source that may be owned. The one error is that memory ran out.
+    /// Finds the lines of a source that may be owned. The one error is that memory ran out.
     pub fn new_cow(alloc: Global, source: CowStr<'a>) -> Result<SourceLines<'a>, AllocError>
         ensures ok { IfOk result (λ lines. lines ≡ cow_str_bytes source.entry) }
     {

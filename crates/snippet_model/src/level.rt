@@ -261,7 +261,7 @@ impl<'a> Level<'a> {
         self.primary_title_cow(CowStr::Borrowed(text))
     }
 
-    /// The same from a text that may be owned.
+    /// A title as [`primary_title`](Level::primary_title) makes it, from a text that may be owned.
     pub fn primary_title_cow(self, text: CowStr<'a>) -> Title<'a>
         ensures level { result.level ≡ self.entry }
         ensures text { result.text ≡ text.entry }
@@ -287,7 +287,7 @@ impl<'a> Level<'a> {
         self.secondary_title_cow(CowStr::Borrowed(text))
     }
 
-    /// The same from a text that may be owned.
+    /// A title as [`secondary_title`](Level::secondary_title) makes it, from a text that may be owned.
     pub fn secondary_title_cow(self, text: CowStr<'a>) -> Title<'a>
         ensures level { result.level ≡ self.entry }
         ensures text { result.text ≡ text.entry }
@@ -311,7 +311,7 @@ impl<'a> Level<'a> {
         self.message_cow(CowStr::Borrowed(text))
     }
 
-    /// The same from a text that may be owned.
+    /// A message as [`message`](Level::message) makes it, from a text that may be owned.
     pub fn message_cow(self, text: CowStr<'a>) -> Message<'a>
         ensures level { result.level ≡ self.entry }
         ensures text { result.text ≡ text.entry }

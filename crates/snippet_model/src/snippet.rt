@@ -154,7 +154,7 @@ impl<'a, T> Snippet<'a, T> {
         Snippet::source_cow(alloc, CowStr::Borrowed(source))
     }
 
-    /// The same of a source that may be owned.
+    /// A snippet as [`source`](Snippet::source) makes it, of a source that may be owned.
     pub fn source_cow(alloc: Global, source: CowStr<'a>) -> Snippet<'a, T>
         ensures source { result.source ≡ unindexed source.entry }
         ensures path { result.path ≡ None }
@@ -166,7 +166,7 @@ impl<'a, T> Snippet<'a, T> {
         Snippet::of(alloc, SourceText::new(source))
     }
 
-    /// The same of a source whose lines were found before: drawing it looks for no line again. It takes no memory.
+    /// A snippet of a source whose lines were found before: drawing it looks for no line again. It takes no memory.
     pub fn indexed(alloc: Global, lines: &'a SourceLines<'_>) -> Snippet<'a, T>
         ensures source { cow_str_bytes result.source.text ≡ lines.now }
         ensures lines { result.source.is_indexed ≡ true }
@@ -179,7 +179,7 @@ impl<'a, T> Snippet<'a, T> {
         Snippet::of(alloc, SourceText::indexed(lines))
     }
 
-    /// The same of any source.
+    /// A snippet of any source: no path, no markers, its first line has number 1, lines are numbered and folded.
     fn of(alloc: Global, source: SourceText<'a>) -> Snippet<'a, T>
         ensures source { result.source ≡ source.entry }
         ensures path { result.path ≡ None }
@@ -207,7 +207,7 @@ impl<'a, T> Snippet<'a, T> {
         self
     }
 
-    /// The same of a borrowed path.
+    /// The path of the file that the source is of, from a borrowed text.
     pub fn path_str(self, path: &'a str) -> Snippet<'a, T>
         ensures changed { result ≡ record self.entry { path = Some (Borrowed path.entry) } }
     {
@@ -264,7 +264,7 @@ impl<'a> Annotation<'a> {
         self
     }
 
-    /// The same of a borrowed text.
+    /// What is said of the span, from a borrowed text.
     pub fn label_str(self, label: &'a str) -> Annotation<'a>
         ensures changed { result ≡ record self.entry { label = Some (Borrowed label.entry) } }
     {
@@ -385,7 +385,7 @@ impl<'a> Patch<'a> {
         Patch::new_cow(span, CowStr::Borrowed(replacement))
     }
 
-    /// The same of a text that may be owned.
+    /// The edit that puts this text, which may be owned, in place of the bytes of this span.
     pub fn new_cow(span: Range<usize>, replacement: CowStr<'a>) -> Patch<'a>
         ensures span { result.span ≡ span }
         ensures replacement { result.replacement ≡ replacement.entry }

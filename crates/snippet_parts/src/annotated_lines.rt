@@ -39,7 +39,7 @@ pub(crate) fn annotated_lines<'a>(
     located_lines(alloc, source, &located, fold)
 }
 
-/// The same of spans whose places are known.
+/// The greatest depth, and the lines that are kept with their entries, of spans whose places are known.
 fn located_lines<'a>(
     alloc: Global,
     source: &SourceMap<'a>,
@@ -57,7 +57,7 @@ fn located_lines<'a>(
     }
 }
 
-/// The same, where the spans may be on several lines.
+/// The greatest depth, and the lines that are kept with their entries, where the spans may be on several lines.
 fn several_lines<'a>(
     alloc: Global,
     source: &SourceMap<'a>,

@@ -23,7 +23,7 @@ pub struct LineAnnotation<'a> {
 }
 
 impl<'a> LineAnnotation<'a> {
-    /// The same entry once more.
+    /// This entry once more.
     pub fn copied(&self) -> LineAnnotation<'a>
         ensures value { result ≡ self.now }
     {

@@ -183,7 +183,7 @@ fn held_lines(
     merged_lines(alloc, &stretches, count)
 }
 
-/// The same of stretches that are sorted by their first lines.
+/// The lines of a source that one of some stretches holds, which are sorted by their first lines.
 fn merged_lines(
     alloc: Global,
     stretches: &[Stretch],

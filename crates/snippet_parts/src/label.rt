@@ -34,7 +34,7 @@ impl<'a> Label<'a> {
         self.text
     }
 
-    /// The same label once more.
+    /// This label once more.
     pub fn copied(&self) -> Label<'a>
         ensures value { result ≡ self.now }
     {

@@ -79,7 +79,7 @@ fn located_span<'a>(
     }
 }
 
-/// A label is a text, so its bytes are those of its characters.
+/// For the prover alone: a label is a text, so its bytes are those of its characters.
 fn reveal_text(label: &Option<CowStr<'_>>)
     ensures utf8 { IfSome label.now (λ t. IsUtf8 (cow_str_bytes t)) }
 {

@@ -81,7 +81,7 @@ fn first_primary(annotations: &[Annotation<'_>]) -> Option<usize>
     least
 }
 
-/// The same of those that are marked.
+/// The least byte at which one of some spans starts that are marked, if there are any.
 fn first_marked(annotations: &[Annotation<'_>]) -> Option<usize>
     ensures value { result ≡ least (marked_starts annotations.now) }
 {

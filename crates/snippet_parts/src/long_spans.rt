@@ -68,7 +68,7 @@ pub(crate) fn long_spans<'a>(
     Ok(spans)
 }
 
-/// The same as given.
+/// The spans of several lines that are marked, as given.
 fn given_long_spans<'a>(
     alloc: Global,
     located: &[LocatedSpan<'a>],

@@ -109,7 +109,7 @@ impl<'a> SourceMap<'a> {
         SourceMap::near(alloc, source, line_start, 0..source.len())
     }
 
-    /// The same map, which keeps where the lines start from the one that holds the start of a range of bytes to the one
+    /// The map that keeps where the lines start from the one that holds the start of a range of bytes to the one
     /// that holds its end: it is cheaper where no others are asked for.
     ///
     /// The one error is that memory ran out.
@@ -151,7 +151,7 @@ impl<'a> SourceMap<'a> {
         })
     }
 
-    /// The same map of a source whose lines were found before. It takes no memory.
+    /// The map of a source whose lines were found before. It takes no memory.
     pub fn indexed(alloc: Global, lines: &'a SourceLines<'_>, line_start: usize) -> SourceMap<'a>
         requires fits { TextFits lines.now }
         requires numbers { HasNext (line_start + newline_count lines.now) }
@@ -160,7 +160,7 @@ impl<'a> SourceMap<'a> {
         SourceMap::with_starts(alloc, lines.source(), lines.starts(), line_start)
     }
 
-    /// The same, of the source's text and the bytes at which its lines start.
+    /// The map of a source's text and the bytes at which its lines start.
     pub(crate) fn with_starts(
         alloc: Global,
         source: &'a str,
@@ -460,7 +460,7 @@ impl<'a> SourceMap<'a> {
         }
     }
 
-    /// The same, where it is kept.
+    /// The byte at which line `index` starts, where it is kept.
     fn kept_start(&self, index: usize) -> Option<usize>
         ensures value { IfSome result (λ start. start ≡ start_of (source_lines self.now.text) index) }
     {

@@ -79,7 +79,7 @@ fn push_with_line_feeds(out: &mut String, text: &str) -> Result<(), AllocError>
     }
 }
 
-/// The same of a text that may have some.
+/// Adds a text that may have carriage returns and line feeds, with a line feed in place of each such pair.
 fn push_converted(out: &mut String, text: &str) -> Result<(), AllocError>
     ensures written { IfOk result (λ _. string_bytes out.new ≡ string_bytes out.old ++ with_line_feeds text.now) }
 {

@@ -240,7 +240,7 @@ fn draw_side(
     draw_parts(buffer, layout, row, side, part.as_str())
 }
 
-/// The same, given the text of the part.
+/// Draws bars that stand side by side in each row from this one on, given the text of their part.
 fn draw_parts(
     buffer: &mut StyledBuffer,
     layout: Layout,

@@ -276,7 +276,7 @@ fn blank_end(cells: &[StyledChar], from: usize) -> usize
     to
 }
 
-/// The same, found by comparing each cell with the first.
+/// Where the cells end that are like this one, found by comparing each with the first.
 fn alike_end(cells: &[StyledChar], from: usize) -> usize
     requires some { from < length cells.now }
     ensures more { from < result }

@@ -23,8 +23,8 @@ use Rattle.snippet_suggest.specs.declared.kind.DisplaySuggestion.{DisplaySuggest
 use Rattle.snippet_suggest.specs.declared.kind.DisplaySuggestion.TheVariants.{Add, Diff, Plain, Underline}
 use Rattle.snippet_suggest.specs.declared.layout.SuggestionLayout.{SuggestionLayout}
 use Rattle.snippet_suggest.specs.declared.layout.SuggestionStart.{SuggestionStart}
-use Rattle.snippet_suggest.specs.declared.shown.SuggestionLine.{SuggestionLine}
-use Rattle.snippet_suggest.specs.declared.shown.SuggestionLine.TheVariants.{Gap, Line}
+use Rattle.snippet_suggest.specs.declared.shown_lines.SuggestionLine.{SuggestionLine}
+use Rattle.snippet_suggest.specs.declared.shown_lines.SuggestionLine.TheVariants.{Gap, Line}
 use Rattle.snippet_suggest.specs.Cells.{end_cells, left_out_cells, on_last}
 use Rattle.snippet_suggest.specs.Given.{edits_of, emptied_lines, first_end, first_given, given_lines, given_ranges, is_left_out, last_reached, lines_touched}
 use Rattle.snippet_suggest.specs.Given.{removed_lines, replaced_lines, shown_kind, trimmed_of}

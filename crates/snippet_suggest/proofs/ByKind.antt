@@ -7,8 +7,8 @@ use Rattle.snippet_splice.specs.Edits.{Edit}
 use Rattle.snippet_splice.specs.Trim.{sandwich}
 use Rattle.snippet_suggest.specs.declared.kind.DisplaySuggestion.{DisplaySuggestion}
 use Rattle.snippet_suggest.specs.declared.kind.DisplaySuggestion.TheVariants.{Underline, Diff}
-use Rattle.snippet_suggest.specs.declared.shown.SuggestionLine.{SuggestionLine}
-use Rattle.snippet_suggest.specs.declared.shown.SuggestionLine.TheVariants.{Line, Gap}
+use Rattle.snippet_suggest.specs.declared.shown_lines.SuggestionLine.{SuggestionLine}
+use Rattle.snippet_suggest.specs.declared.shown_lines.SuggestionLine.TheVariants.{Line, Gap}
 use Rattle.snippet_suggest.specs.Kind.{is_blank_text, is_under_text, takes_away, text_under}
 use Rattle.snippet_suggest.specs.RowOrder.{Offers, Skips, SuggestionRow}
 

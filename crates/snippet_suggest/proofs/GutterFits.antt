@@ -23,7 +23,7 @@ use Rattle.snippet_splice.proofs.EditLemmas.{trimmed_edit-shrunk}
 use Rattle.snippet_suggest.specs.declared.kind.DisplaySuggestion.{DisplaySuggestion}
 use Rattle.snippet_suggest.specs.declared.kind.DisplaySuggestion.TheVariants.{Underline, Diff, Plain, Add}
 use Rattle.snippet_suggest.specs.declared.layout.SuggestionLayout.{SuggestionLayout}
-use Rattle.snippet_suggest.specs.declared.shown.SuggestionLine.TheVariants.{Line}
+use Rattle.snippet_suggest.specs.declared.shown_lines.SuggestionLine.TheVariants.{Line}
 use Rattle.snippet_suggest.specs.Given.{counted_line, edits_of, first_end, first_given, given_lines, given_text, shown_kind, trimmed_of}
 use Rattle.snippet_suggest.proofs.ByKind.{counted_folded}
 use Rattle.snippet_suggest.specs.Kind.{kind_of, takes_away}

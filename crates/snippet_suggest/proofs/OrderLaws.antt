@@ -10,8 +10,8 @@ use Rattle.snippet_splice.specs.declared.splice.LineRange.{LineRange}
 use Rattle.snippet_suggest.specs.declared.kind.DisplaySuggestion.{DisplaySuggestion}
 use Rattle.snippet_suggest.specs.declared.kind.DisplaySuggestion.TheVariants.{Add, Diff, Plain, Underline}
 use Rattle.snippet_suggest.specs.declared.layout.SuggestionStart.{SuggestionStart}
-use Rattle.snippet_suggest.specs.declared.shown.SuggestionLine.{SuggestionLine}
-use Rattle.snippet_suggest.specs.declared.shown.SuggestionLine.TheVariants.{Gap, Line}
+use Rattle.snippet_suggest.specs.declared.shown_lines.SuggestionLine.{SuggestionLine}
+use Rattle.snippet_suggest.specs.declared.shown_lines.SuggestionLine.TheVariants.{Gap, Line}
 use Rattle.snippet_suggest.specs.Given.{emptied_lines, given_lines, given_ranges, given_text, is_left_out, last_reached, numbers_given}
 use Rattle.snippet_suggest.proofs.ByKind.{counted_folded, removed_of, row_of_shown, rows_where}
 use Rattle.snippet_suggest.specs.Given.{numbers_of, removed_lines, replaced_lines, shown_kind, trimmed_of}

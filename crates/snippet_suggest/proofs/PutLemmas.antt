@@ -27,7 +27,7 @@ use Rattle.snippet_suggest.specs.declared.layout.SuggestionStart.TheVariants.{Ne
 use Rattle.snippet_suggest.specs.Cells.{begin_cells, opened_cells, end_cells, gap_cells, line_cells, lines_shown, offered_cells, put, removed_cells, row_shown}
 use Rattle.snippet_suggest.specs.Cells.{sign_of, with_stretches}
 use Rattle.snippet_suggest.specs.declared.lines.SuggestedText.{SuggestedText}
-use Rattle.snippet_suggest.specs.declared.shown.SuggestionLine.TheVariants.{Line}
+use Rattle.snippet_suggest.specs.declared.shown_lines.SuggestionLine.TheVariants.{Line}
 use Rattle.snippet_splice.specs.EditStretches.{line_stretches}
 use Rattle.std.specs.List.{slice_index_or}
 use Rattle.snippet_suggest.specs.SuggestionRows.{end_glyph}

@@ -21,8 +21,8 @@ use Rattle.snippet_suggest.specs.declared.kind.DisplaySuggestion.TheVariants.{Ad
 use Rattle.snippet_suggest.specs.declared.layout.SuggestionLayout.{SuggestionLayout}
 use Rattle.snippet_suggest.specs.declared.layout.SuggestionStart.{SuggestionStart}
 use Rattle.snippet_suggest.specs.declared.layout.SuggestionStart.TheVariants.{Next, Opening, Path}
-use Rattle.snippet_suggest.specs.declared.shown.SuggestionLine.{SuggestionLine}
-use Rattle.snippet_suggest.specs.declared.shown.SuggestionLine.TheVariants.{Gap, Line}
+use Rattle.snippet_suggest.specs.declared.shown_lines.SuggestionLine.{SuggestionLine}
+use Rattle.snippet_suggest.specs.declared.shown_lines.SuggestionLine.TheVariants.{Gap, Line}
 use Rattle.snippet_suggest.specs.Cells.{begin_cells, diff_cells, emptied_cells, end_cells, gone_of, left_out_cells, offered_cells, on_last, removed_cells}
 use Rattle.snippet_suggest.specs.Cells.{taken_cells, with_stretches, suggestion_row}
 use Rattle.snippet_suggest.specs.Given.{edits_of, first_given, given_lines, given_ranges, is_left_out, last_reached, last_removed, shown_kind, trimmed_of}

@@ -11,7 +11,7 @@ use Rattle.snippet_lines.specs.Place.{line_of}
 use Rattle.snippet_splice.specs.ShownText.{first_start}
 use Rattle.snippet_suggest.specs.declared.kind.DisplaySuggestion.TheVariants.{Diff}
 use Rattle.snippet_suggest.specs.declared.layout.SuggestionStart.{SuggestionStart}
-use Rattle.snippet_suggest.specs.declared.shown.SuggestionLine.TheVariants.{Line, Gap}
+use Rattle.snippet_suggest.specs.declared.shown_lines.SuggestionLine.TheVariants.{Line, Gap}
 use Rattle.snippet_suggest.specs.Given.{first_given, given_lines, given_ranges, is_left_out, last_reached, removed_lines, shown_kind, trimmed_of}
 use Rattle.snippet_suggest.specs.SuggestedLines.{is_touched, shown_from}
 

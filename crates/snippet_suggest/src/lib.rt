@@ -11,7 +11,7 @@ mod prepared;
 mod removed;
 mod roles;
 mod row;
-mod shown;
+mod shown_lines;
 mod suggestion;
 
 pub use kind::{DisplaySuggestion, is_blank, overwrites};

@@ -5,7 +5,7 @@ ghost use Rattle.std.specs.List.{slice_index_or};
 ghost use Rattle.snippet_lines.specs.Lines.{lines_of};
 ghost use Rattle.snippet_splice.specs.Spliced.{texts_of};
 ghost use Rattle.snippet_suggest.specs.Cells.{sign_alone, sign_among, sign_of, row_shown};
-ghost use Rattle.snippet_suggest.specs.declared.shown.SuggestionLine.TheVariants.{Line};
+ghost use Rattle.snippet_suggest.specs.declared.shown_lines.SuggestionLine.TheVariants.{Line};
 ghost use Rattle.snippet_suggest.specs.SuggestedLines.{is_touched, shown_from};
 ghost use Rattle.snippet_window.specs.Margin.{capped_sum};
 
@@ -13,7 +13,7 @@ use crate::kind::DisplaySuggestion;
 use crate::layout::SuggestionLayout;
 use crate::roles::{are_in_order, paint_stretches, put_stretches, stretches_of};
 use crate::row::{begin_line, draw_gap, draw_line};
-use crate::shown::{SuggestionLine, shown_lines};
+use crate::shown_lines::{SuggestionLine, shown_lines};
 use snippet_grid::StyledBuffer;
 use snippet_lines::CursorLines;
 use snippet_splice::{LineRange, SubstitutionHighlight};

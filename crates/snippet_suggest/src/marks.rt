@@ -49,7 +49,7 @@ impl Shift {
         Shift { right: 0, left: 0 }
     }
 
-    /// The same with what one more patch makes the line longer or shorter.
+    /// The shift with what one more patch makes the line longer or shorter.
     fn with(self, columns: PatchColumns) -> Shift
         ensures value { (earlier : List PatchColumns) → self ≡ shift_of earlier → result
             ≡ shift_of (earlier ++ columns ∷ []) }

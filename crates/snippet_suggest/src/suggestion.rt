@@ -25,7 +25,7 @@ use crate::marks::draw_marks;
 use crate::prepared::{PreparedSuggestion, first_number};
 use crate::removed::draw_removed_lines;
 use crate::roles::stretches_of;
-use crate::shown::is_touched;
+use crate::shown_lines::is_touched;
 use snippet_grid::StyledBuffer;
 use snippet_parts::SourceMap;
 use snippet_splice::TrimmedPatch;

@@ -76,7 +76,7 @@ pub fn normalize_untrusted_str(alloc: Global, text: &str) -> Result<String, Allo
     Ok(out)
 }
 
-/// The same text, borrowed where nothing in it is listed.
+/// A text without listed characters, borrowed where nothing in it is listed.
 pub fn normalized<'a>(alloc: Global, text: &'a str) -> Result<CowStr<'a>, AllocError>
     ensures value { IfOk result (λ t. chars (cow_str_bytes t) ≡ spec.norm (chars text.now)) }
     ensures borrowed { list_any spec.is_listed (chars text.now) ≡ false

@@ -19,7 +19,7 @@ use Rattle.snippet_model.specs.declared.snippet.Patch.{Patch}
 use Rattle.snippet_model.specs.declared.snippet.Snippet.{Snippet}
 use Rattle.snippet_splice.specs.Edits.{Edit}
 use Rattle.snippet_splice.specs.ShownText.{without_final_line_feeds}
-use Rattle.snippet_settings.specs.LineFeeds.{picture_of, with_line_feeds_shown}
+use Rattle.snippet_shown.specs.LineFeeds.{picture_of, with_line_feeds_shown}
 use Rattle.snippet_style.specs.declared.role.ElementStyle.{ElementStyle}
 use Rattle.snippet_style.specs.declared.role.ElementStyle.TheVariants.{Addition}
 use Rattle.snippet_suggest.specs.Given as given

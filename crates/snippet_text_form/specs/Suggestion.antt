@@ -17,7 +17,7 @@ use Rattle.snippet_splice.specs.ShownText.{without_final_line_feeds}
 use Rattle.snippet_style.specs.declared.role.ElementStyle.TheVariants.{Addition}
 use Rattle.snippet_suggest.specs.Given.{trimmed_of}
 use Rattle.snippet_parts.specs.Numbered.{numbered_source}
-use Rattle.snippet_settings.specs.LineFeeds.{with_line_feeds_shown}
+use Rattle.snippet_shown.specs.LineFeeds.{with_line_feeds_shown}
 use Rattle.snippet_suggest.specs.Kind.{is_blank_text, is_under_text, text_under}
 use Rattle.snippet_text.specs.Normalized.{norm}
 use Rattle.snippet_text_form.specs.Cause.{column_unless}

@@ -347,7 +347,7 @@ fn is_blank_before(line: Option<&str>, count: usize) -> bool
     }
 }
 
-/// The same of a line that is there.
+/// Whether this many characters at the start of a line that is there are whitespace.
 fn is_blank_to(line: &str, count: usize) -> bool
     ensures value { result ≡ spec.is_blank_before (Some line.now) count }
 {

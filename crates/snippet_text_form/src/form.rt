@@ -111,7 +111,7 @@ impl<'a> TextForm<'a> {
         self.text.push_str(text)
     }
 
-    /// The same with a text that may have been made for this form.
+    /// Adds a text without codes that may have been made for this form.
     pub fn add_shown(&mut self, text: CowStr<'a>) -> Result<(), AllocError>
         ensures added { OnOk result (self.new ≡ self.old ++ bare (chars (cow_str_bytes text.entry))) }
     {

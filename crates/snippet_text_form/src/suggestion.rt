@@ -19,7 +19,7 @@ use crate::position::{LineStart, SpanEnds, add_place, add_to_line};
 use snippet_lines::{Loc, newline_count};
 use snippet_model::snippet::{Patch, Snippet};
 use snippet_parts::SourceMap;
-use snippet_settings::shown_on_one_line;
+use snippet_shown::shown_on_one_line;
 use snippet_splice::TrimmedPatch;
 use snippet_style::ElementStyle;
 use snippet_suggest::{PreparedSuggestion, is_blank, overwrites};

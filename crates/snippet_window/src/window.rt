@@ -133,7 +133,7 @@ pub(crate) fn reaching_end(text: &str, columns: usize) -> (usize, usize)
     (plain + at, plain + width)
 }
 
-/// The same, found character by character.
+/// Where the fewest characters end that reach this many columns, or all, found character by character.
 fn walked_reaching(text: &str, columns: usize) -> (usize, usize)
     requires few { IsColumn columns }
     ensures bytes { let cs = chars text.now in result.0 ≡ bytes_of (take (reaching columns cs) cs) }
@@ -177,7 +177,7 @@ pub(crate) fn fitting_end(text: &str, columns: usize) -> (usize, usize)
     }
 }
 
-/// The same, found character by character.
+/// Where the last of the characters ends that fit in this many columns, found character by character.
 fn walked_end(text: &str, columns: usize) -> (usize, usize)
     ensures bytes { let cs = chars text.now in result.0 ≡ bytes_of (take (fitting columns cs) cs) }
     ensures width { let cs = chars text.now in result.1 ≡ width_of (take (fitting columns cs) cs) }

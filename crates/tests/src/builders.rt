@@ -51,7 +51,7 @@ fn cause(alloc: Global) -> Result<Snippet<'static, Annotation<'static>>, AllocEr
         .annotations([labelled, unlabelled()])
 }
 
-/// The same, given one by one, with its texts as they are borrowed.
+/// The cause, given one by one, with its texts as they are borrowed.
 fn cause_one_by_one(alloc: Global) -> Result<Snippet<'static, Annotation<'static>>, AllocError> {
     let labelled = AnnotationKind::Primary
         .span(4..5)
@@ -80,7 +80,7 @@ fn suggestion(alloc: Global) -> Result<Snippet<'static, Patch<'static>>, AllocEr
     owned_line(alloc)?.patches([Patch::new(4..5, "y"), insertion])
 }
 
-/// The same, given one by one.
+/// The suggestion, given one by one.
 fn suggestion_one_by_one(alloc: Global) -> Result<Snippet<'static, Patch<'static>>, AllocError> {
     owned_line(alloc)?
         .patch(Patch::new(4..5, "y"))?
@@ -117,7 +117,7 @@ fn whole(alloc: Global) -> Result<Group<'static>, AllocError> {
         .elements(alloc, elements)
 }
 
-/// The same, each element given by a builder for its kind.
+/// The whole group, each element given by a builder for its kind.
 fn whole_by_kind(alloc: Global) -> Result<Group<'static>, AllocError> {
     let remark = NOTE.with_name(OptionCow::from("remark"));
     ERROR
@@ -142,14 +142,14 @@ fn title_copy() -> Result<Title<'static>, AllocError> {
     HELP.secondary_title("t").clone()
 }
 
-/// The same group, its elements given one by one below a copy of the title.
+/// The pair, its elements given one by one below a copy of the title.
 fn pair_one_by_one(alloc: Global) -> Result<Group<'static>, AllocError> {
     title_copy()?
         .element(alloc, Element::from(Padding))?
         .element(Element::from(Origin::path("b.rs")))
 }
 
-/// The same group, its elements given by kind.
+/// The pair, its elements given by kind.
 fn pair_by_kind(alloc: Global) -> Result<Group<'static>, AllocError> {
     HELP.secondary_title("t")
         .padding(alloc)?
@@ -161,7 +161,7 @@ fn shows(alloc: Global, group: &Group<'_>, shown: &str) -> Result<bool, AllocErr
     Ok(format!(in alloc; "{group:?}")?.as_str() == shown)
 }
 
-/// The same of a group that was made for this.
+/// Whether a report of a group that was made for this is shown so.
 fn is_made(alloc: Global, group: Group<'static>, shown: &str) -> Result<bool, AllocError> {
     shows(alloc, &group, shown)
 }

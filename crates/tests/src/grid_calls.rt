@@ -80,7 +80,7 @@ const STYLED_LINKS: &str = concat!(
     "\u{1b}]8;;v\u{1b}\\c\u{1b}]8;;\u{1b}\\",
 );
 
-/// The same without the colour.
+/// The links without the colour.
 const PLAIN_LINKS: &str =
     "a\u{1b}]8;;u\u{1b}\\b\u{1b}]8;;\u{1b}\\\u{1b}]8;;v\u{1b}\\c\u{1b}]8;;\u{1b}\\";
 

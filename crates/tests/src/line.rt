@@ -1,9 +1,9 @@
 //! Lines that are written to writers which take a byte at a time, are interrupted or fail.
 use crate::slow::Slow;
+use output_stream::Stream;
 use program::line::write_line;
 use std::io;
 use std::io::Write;
-use written::Stream;
 
 #[test]
 fn writes_a_line_whole_or_a_first_part_of_it(rt: HostRuntime) {

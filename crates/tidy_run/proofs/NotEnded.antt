@@ -4,7 +4,7 @@ use Rattle.std.proofs.lemmas.Slice.Zip.{AllZip-long}
 use Rattle.std.specs.Str.{chars}
 use Rattle.snippet_text.specs.Normalized.{norm}
 use Rattle.program.specs.Stream.{Output, Silent, Whole, Receives}
-use Rattle.written.specs.declared.stream.Stream.{Stream}
+use Rattle.output_stream.specs.declared.stream.Stream.{Stream}
 use Rattle.program.proofs.NotGiven.{cut_unfailed, sound, told_nothing}
 use Rattle.tidy_run.specs.Report.{Told}
 use Rattle.tidy_run.specs.Run.{Clean, End, Ends, Failed, Found, MayEnd, BadUsage, Unlogged, Unprinted, err_of, log_of, message, message_text}

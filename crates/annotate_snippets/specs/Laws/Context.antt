@@ -2,14 +2,14 @@
 use Rattle.std.specs.Prelude.{◌≡◌, ℕ, List, [], Some, length}
 use Rattle.std.specs.Cow.{cow_str_bytes}
 use Rattle.std.specs.List.{slice_get, slice_index_or}
-use Rattle.snippet_context.specs.Context.{lines_around}
+use Rattle.snippet_shown.specs.Context.{lines_around}
 use Rattle.snippet_lines.specs.Lines.{source_lines}
 use Rattle.snippet_model.specs.declared.snippet.Annotation.{Annotation}
 use Rattle.snippet_model.specs.declared.snippet.Element.TheVariants.{Cause}
 use Rattle.snippet_model.specs.declared.snippet.Group.{Group}
 use Rattle.snippet_model.specs.declared.snippet.Snippet.{Snippet}
 use Rattle.snippet_parts.specs.Kept.{kept_lines, with_between}
-use Rattle.annotate_snippets.specs.Around.{drawn_elements}
+use Rattle.annotate_snippets.specs.ElementContext.{drawn_elements}
 use Rattle.annotate_snippets.specs.Page.{GroupPage, lines_named}
 
 -- the lines of a snippet that are shown with so many before and after each that it keeps: the lines near one of these, each once and in

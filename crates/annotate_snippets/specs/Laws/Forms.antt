@@ -24,7 +24,7 @@ use Rattle.snippet_text_form.specs.TextOrder.{StandInOrder}
 use Rattle.snippet_titles.specs.Origin.{origin_text}
 use Rattle.snippet_titles.specs.ShortRows.{short_texts}
 use Rattle.snippet_titles.specs.ShownHeading.{IsFreeButText}
-use Rattle.annotate_snippets.specs.Around.{path_bytes}
+use Rattle.annotate_snippets.specs.ElementContext.{path_bytes}
 use Rattle.annotate_snippets.specs.AsSet.{IsAsSet, adds_context, wraps}
 use Rattle.annotate_snippets.specs.Laws.Context.{ShowsLinesAround}
 use Rattle.annotate_snippets.specs.Fault.{form_of}

@@ -9,7 +9,7 @@ use Rattle.annotate_snippets.specs.declared.renderer.Renderer.{Renderer}
 use Rattle.snippet_grid.specs.Layout.{Layout}
 use Rattle.annotate_snippets.specs.declared.renderer.element_context.GroupPosition.{GroupPosition}
 use Rattle.annotate_snippets.specs.declared.renderer.element_context.ElementContext.{ElementContext}
-use Rattle.annotate_snippets.specs.Around.{drawn_elements, file_of_group, is_end, next_of, position_of_group, context_at}
+use Rattle.annotate_snippets.specs.ElementContext.{drawn_elements, file_of_group, is_end, next_of, position_of_group, context_at}
 use Rattle.annotate_snippets.specs.DrawnReport.{last_row}
 use Rattle.annotate_snippets.specs.Gutter.{layout_of_group}
 use Rattle.annotate_snippets.specs.Page.{NamedRow, others, GroupPage}

@@ -23,7 +23,7 @@ use Rattle.snippet_style.specs.Glyphs.{suggestion_glyph_of}
 use Rattle.annotate_snippets.specs.declared.renderer.Renderer.{Renderer}
 use Rattle.snippet_grid.specs.Layout.{Layout}
 use Rattle.annotate_snippets.specs.declared.renderer.element_context.ElementContext.{ElementContext}
-use Rattle.annotate_snippets.specs.Around.{suggestion_rows}
+use Rattle.annotate_snippets.specs.ElementContext.{suggestion_rows}
 use Rattle.annotate_snippets.specs.DrawnReport.{suggestion_lines}
 use Rattle.annotate_snippets.specs.GraphicForm.{name_of_row}
 use Rattle.annotate_snippets.specs.Gutter.{line_numbers, number_text}

@@ -9,7 +9,7 @@ use Rattle.snippet_model.specs.declared.snippet.Group.{Group}
 use Rattle.snippet_model.specs.declared.snippet.Title.{Title as TitleGiven}
 use Rattle.snippet_text_form.specs.Lines.{cause_paragraphs, heading_paragraph, origin_paragraph, suggestion_paragraphs}
 use Rattle.snippet_text_form.specs.declared.heading.HeadingKind.TheVariants.{Title, Message}
-use Rattle.annotate_snippets.specs.Around.{drawn_elements, file_of_group, first_two_share}
+use Rattle.annotate_snippets.specs.ElementContext.{drawn_elements, file_of_group, first_two_share}
 use Rattle.annotate_snippets.specs.TextForm.{PreviousSuggestion, before_next, suggestion_place, suggestion_settings}
 use Rattle.annotate_snippets.specs.declared.renderer.Renderer.{Renderer}
 

@@ -11,7 +11,7 @@ use Rattle.snippet_grid.specs.Layout.{Layout}
 use Rattle.annotate_snippets.specs.declared.renderer.element_context.GroupPosition.{GroupPosition}
 use Rattle.annotate_snippets.specs.declared.renderer.element_context.Next.{Next}
 use Rattle.annotate_snippets.specs.declared.renderer.element_context.ElementContext.{ElementContext}
-use Rattle.annotate_snippets.specs.Around.{is_end}
+use Rattle.annotate_snippets.specs.ElementContext.{is_end}
 use Rattle.annotate_snippets.specs.Page.{NamedRow, cells_of, others}
 use Rattle.annotate_snippets.specs.RowsWithoutSource.{rows_after_title}
 use Rattle.snippet_model.specs.declared.snippet.Message as message

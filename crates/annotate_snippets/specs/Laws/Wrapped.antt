@@ -14,9 +14,9 @@ use Rattle.snippet_model.specs.declared.snippet.Title.{Title}
 use Rattle.snippet_titles.specs.ShownHeading.{heading_texts}
 use Rattle.snippet_titles.specs.declared.style.MessageContext.{MessageContext}
 use Rattle.snippet_titles.specs.declared.style.TitleStyle.TheVariants as style
-use Rattle.snippet_wrap.specs.AsWrapped.{room_of_message, room_of_title}
-use Rattle.snippet_wrap.specs.WrapLaws.{AreWithin, IsRewrapped}
-use Rattle.snippet_wrap.specs.Wrapped.{least_room}
+use Rattle.snippet_shown.specs.AsWrapped.{room_of_message, room_of_title}
+use Rattle.snippet_shown.specs.WrapLaws.{AreWithin, IsRewrapped}
+use Rattle.snippet_shown.specs.Wrapped.{least_room}
 use Rattle.annotate_snippets.specs.Gutter.{gutter_of_report}
 use Rattle.annotate_snippets.specs.declared.renderer.Renderer.{Renderer}
 

@@ -1,8 +1,8 @@
 //! What stands around an element, as far as its rows depend on it.
 ghost use Rattle.std.specs.Prelude.{◌≡◌, IfOk, map};
 ghost use Rattle.std.specs.Option.{option_copied};
-ghost use Rattle.annotate_snippets.specs.Around as spec;
-ghost use Rattle.annotate_snippets.specs.Around.{is_end, is_before_message, is_first_group, position_of_group};
+ghost use Rattle.annotate_snippets.specs.ElementContext as spec;
+ghost use Rattle.annotate_snippets.specs.ElementContext.{is_end, is_before_message, is_first_group, position_of_group};
 ghost use Rattle.annotate_snippets.specs.PreparedReport.{AreAround, element_of};
 
 use crate::renderer::paths::{is_same_file, path_of};

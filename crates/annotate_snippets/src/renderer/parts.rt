@@ -1,11 +1,13 @@
 //! The parts that reports are drawn with, public so that their contracts can be read.
 
 pub use snippet_grid::{SheetCodes, StyledBuffer, StyledChar};
-pub use snippet_lines::{CursorLines, EndLine, Loc, SpanFault, check_span, newline_count};
+pub use snippet_lines::{
+    ColumnUnit, CursorLines, EndLine, Loc, Position, SpanAt, SpanFault, check_span, newline_count,
+    span_at,
+};
 pub use snippet_parts::{
     AnnotatedLineInfo, Label, LineAnnotation, LineAnnotationType, LineInfo, SourceMap,
 };
-pub use snippet_places::{ColumnUnit, Position, SpanAt, span_at};
 pub use snippet_splice::{
     LineRange, SplicedLines, SubstitutionHighlight, TrimmedPatch, as_substr, check_patches,
 };

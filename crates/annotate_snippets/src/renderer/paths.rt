@@ -2,8 +2,8 @@
 ghost use Rattle.std.specs.Prelude.{◌≡◌};
 ghost use Rattle.std.specs.List.{filter_map, slice_get};
 ghost use Rattle.std.specs.Option.{option_copied};
-ghost use Rattle.annotate_snippets.specs.Around as spec;
-ghost use Rattle.annotate_snippets.specs.Around.{path_bytes};
+ghost use Rattle.annotate_snippets.specs.ElementContext as spec;
+ghost use Rattle.annotate_snippets.specs.ElementContext.{path_bytes};
 
 use snippet_model::snippet::{Element, Group, Patch, Snippet};
 use snippet_text::CowStr;

@@ -2,11 +2,11 @@
 
 ghost use Rattle.std.specs.Prelude.{◌≡◌, OnErr, OnOk, false, true};
 ghost use Rattle.std.specs.Io.KnownBytes.{Appends};
-ghost use Rattle.written.specs.Part.{AppendsPart};
+ghost use Rattle.output_stream.specs.Part.{AppendsPart};
 ghost use Rattle.annotate_snippets.specs.Lent.{held};
 
+use output_stream::write_whole;
 use std::io::{self, Write};
-use written::write_whole;
 
 /// A writer that is lent for one report, and whether a write to it has failed.
 ///

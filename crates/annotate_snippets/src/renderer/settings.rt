@@ -59,7 +59,7 @@ impl Renderer {
         self
     }
 
-    /// The same switch as [`anonymized_snippet_line_numbers`](Renderer::anonymized_snippet_line_numbers).
+    /// The switch [`anonymized_snippet_line_numbers`](Renderer::anonymized_snippet_line_numbers), by another name.
     pub fn anonymized_line_numbers(self, anonymized: bool) -> Renderer
         ensures changed { result ≡ record self { anonymized_snippet_line_numbers = anonymized } }
     {

@@ -16,7 +16,7 @@ ghost use Rattle.snippet_suggest.specs.PreparedSuggestion.{IsPrepared};
 ghost use Rattle.annotate_snippets.specs.Gutter.{numbered_source};
 ghost use Rattle.annotate_snippets.specs.DrawnReport.{shared_row};
 ghost use Rattle.annotate_snippets.specs.GraphicForm.{drawn_rows};
-ghost use Rattle.annotate_snippets.specs.Around.{HasPathFor, begins_in_row_above};
+ghost use Rattle.annotate_snippets.specs.ElementContext.{HasPathFor, begins_in_row_above};
 ghost use Rattle.annotate_snippets.specs.RowsWithoutSource as spec;
 
 use crate::renderer::Renderer;

@@ -7,13 +7,13 @@
 ghost use Rattle.std.specs.Prelude.{◌≡◌, ◌≢◌, ◌++◌, ◌∷◌, [], All, List, None, IfOk, IfSome, OnOk, filter};
 ghost use Rattle.std.specs.Prelude.{true};
 ghost use Rattle.std.specs.Option.{option_copied};
-ghost use Rattle.annotate_snippets.specs.Around as around;
+ghost use Rattle.annotate_snippets.specs.ElementContext as around;
 ghost use Rattle.annotate_snippets.specs.PreparedReport.{IsDrawable, IsElementDrawable, IsGroupDrawable};
 ghost use Rattle.annotate_snippets.specs.TextForm as spec;
 ghost use Rattle.annotate_snippets.specs.TextForm.{before_seen, element_form, elements_form, group_form};
 ghost use Rattle.snippet_model.specs.declared.snippet.Element.TheVariants.{Suggestion};
 ghost use Rattle.snippet_model.specs.declared.snippet.Group.{Group};
-ghost use Rattle.annotate_snippets.specs.Around.{file_of_group};
+ghost use Rattle.annotate_snippets.specs.ElementContext.{file_of_group};
 ghost use Rattle.snippet_model.specs.Fits.{MessageFits, TitleFits};
 ghost use Rattle.snippet_suggest.specs.PreparedSuggestion.{IsSuggestible};
 ghost use Rattle.snippet_model.specs.Heading.{heading_of_message, heading_of_title};

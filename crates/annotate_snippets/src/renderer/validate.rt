@@ -137,7 +137,7 @@ fn end_fault(
     missing_number(group, element, end_number(line_start, source))
 }
 
-/// The same of a source with patches, which may add lines.
+/// The fault that the number after the last line's doesn't fit, of a source with patches, which may add lines.
 fn patched_end_fault(
     group: usize,
     element: usize,
@@ -244,7 +244,7 @@ fn line_count(source: &SourceText<'_>) -> usize
     }
 }
 
-/// The same with the lines that some patches may add.
+/// The number after the last line of a source, with the lines that some patches may add.
 fn patched_end_number(
     line_start: usize,
     source: &SourceText<'_>,

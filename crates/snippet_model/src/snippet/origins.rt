@@ -22,7 +22,7 @@ impl<'a> Origin<'a> {
         Origin::path_cow(CowStr::Borrowed(path))
     }
 
-    /// The same of a path that may be owned.
+    /// The place of the file with this path, which may be owned.
     pub fn path_cow(path: CowStr<'a>) -> Origin<'a>
         ensures path { result.path ≡ path.entry }
         ensures line { result.line ≡ None }

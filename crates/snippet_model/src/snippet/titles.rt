@@ -58,7 +58,7 @@ impl<'a> Title<'a> {
         self.id_cow(CowStr::Borrowed(id))
     }
 
-    /// The same from a text that may be owned.
+    /// The title with this identifier, as [`id`](Title::id) makes it, from a text that may be owned.
     pub fn id_cow(self, id: CowStr<'a>) -> Title<'a>
         ensures changed { result ≡ record self.entry {
           id = Some (record { id = Some id.entry; url = option_and_then (λ had. had.url) self.entry.id });
@@ -82,7 +82,7 @@ impl<'a> Title<'a> {
         self.id_url_cow(CowStr::Borrowed(url))
     }
 
-    /// The same from an address that may be owned.
+    /// The title with this address, as [`id_url`](Title::id_url) makes it, from a text that may be owned.
     pub fn id_url_cow(self, url: CowStr<'a>) -> Title<'a>
         ensures changed { result ≡ record self.entry {
           id = Some (record { id = option_and_then (λ had. had.id) self.entry.id; url = Some url.entry });

@@ -1,6 +1,6 @@
 use Rattle.std.proofs.Common.{inr, subst}
-use Rattle.written.specs.Standing.{Adds, BreaksOffBefore}
-use Rattle.written.proofs.Writing.{end_of_line, text_of_line}
+use Rattle.output_stream.specs.Standing.{Adds, BreaksOffBefore}
+use Rattle.output_stream.proofs.Writing.{end_of_line, text_of_line}
 use Rattle.program.proofs.line.write_line.Goals as goal
 
 pub returns-in-Err-write-clause-cut : goal.returns-in-Err-write-clause-cut

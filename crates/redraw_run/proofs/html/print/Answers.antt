@@ -1,5 +1,5 @@
 use Rattle.std.proofs.Common.{[], ◌∙◌, append-nil, subst, sym}
-use Rattle.written.specs.Standing.{BreaksOff}
+use Rattle.output_stream.specs.Standing.{BreaksOff}
 use Rattle.redraw_run.proofs.Done.{prints_then}
 use Rattle.redraw_run.proofs.html.print.Goals as goal
 

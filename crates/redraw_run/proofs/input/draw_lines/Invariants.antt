@@ -2,7 +2,7 @@ use Rattle.std.proofs.Common.{None, ◌≡◌}
 use Rattle.redraw_run.specs.Deeds.{standing}
 use Rattle.redraw_run.specs.Fates.{document_of}
 use Rattle.redraw_run.proofs.Lined.{ReadSoFar}
-use Rattle.written.specs.Standing.{known}
+use Rattle.output_stream.specs.Standing.{known}
 use Rattle.redraw_run.proofs.input.draw_lines.Given as goal
 
 -- what becomes of the lines so far

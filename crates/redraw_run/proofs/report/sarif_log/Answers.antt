@@ -1,5 +1,5 @@
 use Rattle.std.proofs.Common.{subst, sym}
-use Rattle.written.specs.Standing.{Standing, known}
+use Rattle.output_stream.specs.Standing.{Standing, known}
 use Rattle.redraw_run.specs.Deeds.{Happens, State}
 use Rattle.redraw_run.specs.Fates.{IsLog}
 use Rattle.redraw_run.specs.Deeds.{standing}

@@ -3,7 +3,7 @@ use Rattle.redraw_run.specs.Deeds.{State}
 use Rattle.redraw_run.specs.Inputs.{asked_names, held_by}
 use Rattle.redraw_run.specs.Run.{Runs}
 use Rattle.redraw_run.proofs.Gone.{cut_run, finishes_by, run_from, unbegun, unwritten}
-use Rattle.written.specs.Standing.{known}
+use Rattle.output_stream.specs.Standing.{known}
 use Rattle.redraw_run.proofs.run.draw_all.Goals as goal
 
 pub returns-in_default-clause-draws : goal.returns-in_default-clause-draws

@@ -2,7 +2,7 @@ use Rattle.std.specs.Prelude.{Err, None, Some}
 use Rattle.redraw_command.specs.declared.stop.Stop.TheVariants.{Unreadable}
 use Rattle.redraw_run.specs.Deeds.{standing}
 use Rattle.redraw_run.proofs.Gone.{came, came_unread, ended, held_err, held_ok}
-use Rattle.written.specs.Standing.{known}
+use Rattle.output_stream.specs.Standing.{known}
 use Rattle.redraw_run.proofs.run.draw_opened.Goals as goal
 
 pub returns-in-Ok : goal.returns-in-Ok

@@ -1,6 +1,6 @@
 use Rattle.std.proofs.Common.{sym, ◌∙◌}
 use Rattle.redraw_run.proofs.Done.{sums_by_one, sums_nothing}
-use Rattle.written.specs.Standing.{known}
+use Rattle.output_stream.specs.Standing.{known}
 use Rattle.redraw_run.proofs.run.finish.Goals as goal
 
 pub returns-then-has_no_sum-clause-last : goal.returns-then-has_no_sum-clause-last

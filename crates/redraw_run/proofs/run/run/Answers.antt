@@ -4,7 +4,7 @@ use Rattle.clap.specs.Words.{kind_of}
 use Rattle.redraw_command.specs.Arguments.{IsRequestOf, arguments_at}
 use Rattle.redraw_run.specs.Inputs.{held_by}
 use Rattle.redraw_run.proofs.Asking.{answers_error}
-use Rattle.written.specs.Standing.{known}
+use Rattle.output_stream.specs.Standing.{known}
 use Rattle.redraw_run.proofs.run.run.Goals as goal
 
 pub returns-in-Ok-clause-answers : goal.returns-in-Ok-clause-answers

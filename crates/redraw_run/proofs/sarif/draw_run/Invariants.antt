@@ -1,6 +1,6 @@
 use Rattle.redraw_run.specs.Deeds.{Does, standing}
 use Rattle.redraw_run.specs.Fates.{IsLogRun}
-use Rattle.written.specs.Standing.{known}
+use Rattle.output_stream.specs.Standing.{known}
 use Rattle.redraw_run.proofs.sarif.draw_run.Given as goal
 
 -- what is done of the run so far

@@ -3,7 +3,7 @@ use Rattle.serde_json.specs.Data.{Data}
 use Rattle.serde_json.specs.View.{view}
 use Rattle.redraw_run.specs.Deeds.{Does, standing}
 use Rattle.redraw_run.specs.Fates.{Each, IsLogRun}
-use Rattle.written.specs.Standing.{known}
+use Rattle.output_stream.specs.Standing.{known}
 use Rattle.redraw_run.proofs.sarif.draw_runs.Given as goal
 
 -- what is done of the runs so far

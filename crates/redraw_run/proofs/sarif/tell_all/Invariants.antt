@@ -1,5 +1,5 @@
 use Rattle.redraw_run.specs.Deeds.{TellsAll}
-use Rattle.written.specs.Standing.{known}
+use Rattle.output_stream.specs.Standing.{known}
 use Rattle.redraw_run.proofs.sarif.tell_all.Given as goal
 
 -- what is told so far

@@ -2,7 +2,7 @@ use Rattle.std.proofs.Common.{◌≡◌, ◌+◌}
 use Rattle.std.specs.Io.Iter.{lines_known_bytes}
 use Rattle.replay_run.specs.Growth.{Grows}
 use Rattle.replay_run.proofs.Checking.{HaveCheckedKnown}
-use Rattle.written.specs.Standing.{known}
+use Rattle.output_stream.specs.Standing.{known}
 use Rattle.replay_run.proofs.check.check_lines.Given as goal
 
 -- each line so far is checked and counted, and what is written was added

@@ -3,7 +3,7 @@ use Rattle.replay_run.specs.Arguments.{Argument, arguments_at}
 use Rattle.replay_run.specs.Answered.{AnswersInputs}
 use Rattle.replay_run.specs.Inputs.{held_by}
 use Rattle.replay_run.proofs.AnsweredInputs.{HaveAnswered, names_all, names_at, names_more, none_answered, one_more_answered, stops_next}
-use Rattle.written.specs.Standing.{known}
+use Rattle.output_stream.specs.Standing.{known}
 use Rattle.replay_run.proofs.inputs.answer_inputs.Goals as goal
 
 pub loop-name-init : goal.loop-name-init

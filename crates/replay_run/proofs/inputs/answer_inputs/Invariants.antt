@@ -2,7 +2,7 @@ use Rattle.std.proofs.Common.{take}
 use Rattle.replay_run.specs.Arguments.{arguments_at}
 use Rattle.replay_run.specs.Inputs.{held_by}
 use Rattle.replay_run.proofs.AnsweredInputs.{HaveAnswered}
-use Rattle.written.specs.Standing.{known}
+use Rattle.output_stream.specs.Standing.{known}
 use Rattle.replay_run.proofs.inputs.answer_inputs.Given as goal
 
 -- each input so far is answered

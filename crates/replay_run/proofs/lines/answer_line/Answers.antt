@@ -1,6 +1,6 @@
 use Rattle.std.proofs.Common.{inl, refl, subst}
 use Rattle.std.specs.Io.KnownBytes.{Appends}
-use Rattle.written.specs.Standing.{BreaksOff, known}
+use Rattle.output_stream.specs.Standing.{BreaksOff, known}
 use Rattle.replay_run.proofs.Growing.{first_part}
 use Rattle.replay_run.proofs.Checking.{ok_and}
 use Rattle.replay_run.proofs.lines.answer_line.Goals as goal

@@ -2,8 +2,8 @@ use Rattle.std.proofs.Common.{ap, refl, ◌∙◌}
 use Rattle.std.specs.Io.Iter.{lines_known_bytes}
 use Rattle.std.proofs.KnownBytes.{Keeps-refl}
 use Rattle.replay_run.proofs.AnsweredLines.{answered_all, answered_none, answered_step, stops_after, stops_within}
-use Rattle.written.specs.Standing.{known}
-use Rattle.written.proofs.Writing.{gets_none}
+use Rattle.output_stream.specs.Standing.{known}
+use Rattle.output_stream.proofs.Writing.{gets_none}
 use Rattle.replay_run.proofs.lines.answer_lines.Goals as goal
 
 pub loop-line-init : goal.loop-line-init

@@ -1,6 +1,6 @@
 use Rattle.std.specs.Io.Iter.{lines_known_bytes}
 use Rattle.replay_run.proofs.AnsweredLines.{HaveAnswered}
-use Rattle.written.specs.Standing.{known}
+use Rattle.output_stream.specs.Standing.{known}
 use Rattle.replay_run.proofs.lines.answer_lines.Given as goal
 
 -- each line so far is answered

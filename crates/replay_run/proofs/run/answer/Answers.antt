@@ -6,7 +6,7 @@ use Rattle.replay_run.specs.declared.problem.Problem.{Problem}
 use Rattle.replay_run.specs.declared.problem.Problem.TheVariants.{NotCases}
 use Rattle.replay_run.proofs.AnsweredInputs.{all_stop, if_err}
 use Rattle.replay_run.proofs.Growing.{kept_same}
-use Rattle.written.specs.Standing.{known}
+use Rattle.output_stream.specs.Standing.{known}
 use Rattle.replay_run.proofs.run.answer.Goals as goal
 
 pub returns-in-Ok-clause-stops : goal.returns-in-Ok-clause-stops

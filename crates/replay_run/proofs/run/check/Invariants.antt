@@ -1,7 +1,7 @@
 use Rattle.std.proofs.Common.{◌≡◌}
 use Rattle.replay_run.specs.Growth.{Grows}
 use Rattle.replay_run.specs.Checked.{CountsFiles}
-use Rattle.written.specs.Standing.{known}
+use Rattle.output_stream.specs.Standing.{known}
 use Rattle.replay_run.proofs.run.check.Given as goal
 
 -- the pairs so far are counted, and what is written was added

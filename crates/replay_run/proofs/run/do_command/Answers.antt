@@ -4,7 +4,7 @@ use Rattle.replay_run.specs.Answered.{AnswersInputs, StopsInputs}
 use Rattle.replay_run.specs.Inputs.{held_by}
 use Rattle.replay_run.proofs.AnsweredInputs.{if_err, on_ok}
 use Rattle.replay_run.proofs.Commands.{answers_done, comparison_done}
-use Rattle.written.specs.Standing.{known}
+use Rattle.output_stream.specs.Standing.{known}
 use Rattle.replay_run.proofs.run.do_command.Goals as goal
 
 pub returns-in-Answer-clause-answers : goal.returns-in-Answer-clause-answers

@@ -6,8 +6,8 @@ use Rattle.replay_run.proofs.AnsweredInputs.{all_stop, answers_kept, stops_kept}
 use Rattle.replay_run.specs.declared.problem.Problem.TheVariants.{Write}
 use Rattle.replay_run.proofs.Commands.{if_answers, if_comparison}
 use Rattle.replay_run.proofs.Ending.{ends_kept}
-use Rattle.written.specs.Standing.{known}
-use Rattle.written.proofs.Writing.{gets_none}
+use Rattle.output_stream.specs.Standing.{known}
+use Rattle.output_stream.proofs.Writing.{gets_none}
 use Rattle.replay_run.proofs.run.finish.Goals as goal
 
 pub returns-in-Ok-flush-clause-compares : goal.returns-in-Ok-flush-clause-compares

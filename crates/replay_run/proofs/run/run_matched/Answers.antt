@@ -6,7 +6,7 @@ use Rattle.replay_run.specs.Compared.{EndsComparison}
 use Rattle.replay_run.specs.Inputs.{answers, held_by}
 use Rattle.replay_run.proofs.Commands.{answers_asked, comparison_asked, files_compared, memory_asked, same_task}
 use Rattle.replay_run.proofs.Commands.{something_asked}
-use Rattle.written.specs.Standing.{known}
+use Rattle.output_stream.specs.Standing.{known}
 use Rattle.replay_run.proofs.run.run_matched.Goals as goal
 
 pub returns-in-Ok-finish-clause-usage : goal.returns-in-Ok-finish-clause-usage

@@ -1,5 +1,5 @@
 use Rattle.std.proofs.Common.{◌∙◌, ◌++◌, ap, map, List}
-use Rattle.snippet_suggest.specs.declared.shown.SuggestionLine.{SuggestionLine}
+use Rattle.snippet_suggest.specs.declared.shown_lines.SuggestionLine.{SuggestionLine}
 use Rattle.snippet_suggest.specs.Cells.{row_shown}
 use Rattle.snippet_suggest.proofs.lines.draw_lines.Goals as goal
 

@@ -2,7 +2,7 @@ use Rattle.std.proofs.Common.{◌≡◌, ◌∙◌, List, ap, subst, sym}
 use Rattle.std.proofs.lemmas.Result.{IfOk-weaker}
 use Rattle.std.specs.List.{AllZip}
 use Rattle.snippet_model.specs.declared.snippet.Group.{Group}
-use Rattle.snippet_settings.specs.AsSet.{IsGroupAsSet}
+use Rattle.snippet_shown.specs.AsSet.{IsGroupAsSet}
 use Rattle.annotate_snippets.specs.AsSet.{adds_context}
 use Rattle.annotate_snippets.proofs.AsSetFaults.{fault-same}
 use Rattle.annotate_snippets.proofs.ContextFaults.{fault-with, groups-sound}

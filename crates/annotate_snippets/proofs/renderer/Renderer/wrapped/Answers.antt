@@ -1,7 +1,7 @@
 use Rattle.std.proofs.Common.{◌≡◌, ◌∙◌, ℕ, All, List, ap, subst, sym}
 use Rattle.std.proofs.lemmas.Result.{IfOk-weaker}
 use Rattle.snippet_model.specs.declared.snippet.Group.{Group}
-use Rattle.snippet_wrap.specs.AsWrapped.{AreGroupsWrapped}
+use Rattle.snippet_shown.specs.AsWrapped.{AreGroupsWrapped}
 use Rattle.annotate_snippets.specs.Gutter.{gutter_of_report}
 use Rattle.annotate_snippets.specs.PreparedReport.{IsGroupDrawable}
 use Rattle.annotate_snippets.proofs.FaultLemmas.{groups-drawable}

@@ -1,7 +1,7 @@
 use Rattle.std.proofs.Common.{◌≡◌, ◌∙◌, List, ap, map, sym}
 use Rattle.std.specs.Option.{option_copied}
 use Rattle.snippet_model.specs.declared.snippet.Element.{Element}
-use Rattle.annotate_snippets.specs.Around.{next_of}
+use Rattle.annotate_snippets.specs.ElementContext.{next_of}
 use Rattle.annotate_snippets.specs.PreparedReport.{element_of}
 use Rattle.annotate_snippets.specs.RowsWithoutSource.{title_part}
 use Rattle.annotate_snippets.proofs.ElementRows.{group_drawn, title_drawn}

@@ -1,7 +1,7 @@
 -- No group so far has a path.
 use Rattle.std.proofs.Common.{◌≡◌, drop}
 use Rattle.std.specs.List.{filter_map}
-use Rattle.annotate_snippets.specs.Around.{primary_path}
+use Rattle.annotate_snippets.specs.ElementContext.{primary_path}
 use Rattle.annotate_snippets.proofs.renderer.paths.report_file.Given as goal
 
 abbrev pub invariant-loop-group : goal.invariant-loop-group

@@ -8,7 +8,7 @@ use Rattle.snippet_model.specs.Fits.{TextFits}
 use Rattle.snippet_parts.specs.Annotated.{annotated_lines}
 use Rattle.snippet_titles.specs.Origin.{origin_text}
 use Rattle.snippet_titles.specs.declared.origin.OriginLocation.{OriginLocation}
-use Rattle.annotate_snippets.specs.Around.{path_bytes}
+use Rattle.annotate_snippets.specs.ElementContext.{path_bytes}
 use Rattle.annotate_snippets.specs.Gutter.{numbered_source}
 use Rattle.annotate_snippets.specs.ShortForm.{place_named}
 use Rattle.annotate_snippets.proofs.ShortLemmas.{PlaceFits, place-added, place-of_none, origin_text-place_of_cause, place-short}

@@ -1,7 +1,7 @@
 use Rattle.std.proofs.Common.{arith, length, ap, refl, sym, ◌∙◌}
-use Rattle.written.specs.Standing.{known}
-use Rattle.written.proofs.Writing.{failed_before, first_failure}
-use Rattle.written.proofs.Parts.{some_left}
+use Rattle.output_stream.specs.Standing.{known}
+use Rattle.output_stream.proofs.Writing.{failed_before, first_failure}
+use Rattle.output_stream.proofs.Parts.{some_left}
 use Rattle.program.specs.Lent.{stream_of}
 use Rattle.program.proofs.lent.LentStream.write.Goals as goal
 

@@ -1,7 +1,7 @@
 use Rattle.std.proofs.Common.{inl, inr}
 use Rattle.redraw_run.specs.Fates.{IsDrawing, IsShown, IsWritten}
 use Rattle.redraw_run.proofs.Doing.{goes_as}
-use Rattle.written.specs.Standing.{known}
+use Rattle.output_stream.specs.Standing.{known}
 use Rattle.redraw_run.proofs.draw.Drawing.draw.Goals as goal
 
 pub returns-in-Report-clause-does : goal.returns-in-Report-clause-does

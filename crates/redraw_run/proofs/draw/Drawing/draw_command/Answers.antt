@@ -4,7 +4,7 @@ use Rattle.redraw_command.specs.Workflow.{command}
 use Rattle.redraw_run.specs.Fates.{IsWritten}
 use Rattle.redraw_run.proofs.Doing.{does_as, does_nothing, goes_err, stops_none}
 use Rattle.redraw_run.proofs.Done.{does_same, goes_commanded, on_ok}
-use Rattle.written.specs.Standing.{Adds, known}
+use Rattle.output_stream.specs.Standing.{Adds, known}
 use Rattle.redraw_run.proofs.draw.Drawing.draw_command.Goals as goal
 
 pub returns-in_ok-count-in-Some-clause-draws : goal.returns-in_ok-count-in-Some-clause-draws

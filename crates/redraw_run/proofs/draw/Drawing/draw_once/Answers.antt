@@ -16,7 +16,7 @@ use Rattle.redraw_run.specs.Fates.{IsChosen, IsDrawing}
 use Rattle.redraw_run.proofs.Doing.{does_as, goes_after, goes_as, goes_err, stops_none}
 use Rattle.redraw_run.proofs.Done.{does_repeated, does_same}
 use Rattle.redraw_run.proofs.Fated.{chosen_again}
-use Rattle.written.specs.Standing.{Standing}
+use Rattle.output_stream.specs.Standing.{Standing}
 use Rattle.redraw_run.proofs.draw.Drawing.draw_once.Goals as goal
 
 pub returns-in_err-is_seen-clause-does : goal.returns-in_err-is_seen-clause-does

@@ -9,7 +9,7 @@ use Rattle.redraw_run.proofs.Done.{does_same}
 use Rattle.redraw_run.proofs.Fated.{messages_then, shown_part, shown_some, shown_then}
 use Rattle.redraw_run.proofs.Refusing.{draws_as, draws_report}
 use Rattle.redraw_run.proofs.Telling.{done_so, same_files, same_unread, tells_about, tells_of}
-use Rattle.written.specs.Standing.{known}
+use Rattle.output_stream.specs.Standing.{known}
 use Rattle.redraw_run.proofs.draw.Drawing.draw_report.Goals as goal
 
 pub returns-in_err-load_files-clause-does : goal.returns-in_err-load_files-clause-does

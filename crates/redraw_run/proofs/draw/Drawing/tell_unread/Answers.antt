@@ -1,7 +1,7 @@
 use Rattle.std.proofs.Common.{refl}
 use Rattle.redraw_run.proofs.Done.{does_tell_all}
 use Rattle.redraw_run.proofs.Telling.{many_all, many_more}
-use Rattle.written.specs.Standing.{known}
+use Rattle.output_stream.specs.Standing.{known}
 use Rattle.redraw_run.proofs.draw.Drawing.tell_unread.Goals as goal
 
 pub loop-name-preserved : goal.loop-name-preserved

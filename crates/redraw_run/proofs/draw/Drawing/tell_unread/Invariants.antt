@@ -1,5 +1,5 @@
 use Rattle.redraw_run.specs.Telling.{TellsMany}
-use Rattle.written.specs.Standing.{known}
+use Rattle.output_stream.specs.Standing.{known}
 use Rattle.redraw_run.proofs.draw.Drawing.tell_unread.Given as goal
 
 -- one message is told of each name so far

@@ -1,7 +1,7 @@
 use Rattle.std.proofs.Common.{ap, sym, ◌∙◌}
 use Rattle.redraw_run.specs.Fates.{document_of}
 use Rattle.redraw_run.proofs.Lined.{advances_document, none_of, some_of}
-use Rattle.written.specs.Standing.{known}
+use Rattle.output_stream.specs.Standing.{known}
 use Rattle.redraw_run.proofs.input.Reading.line.Goals as goal
 
 pub returns-then-is_some : goal.returns-then-is_some

@@ -3,7 +3,7 @@ use Rattle.serde_json.specs.View.{view}
 use Rattle.redraw_run.specs.Fates.{IsFateOfLine, IsHandedOn, IsValue, Reads}
 use Rattle.redraw_run.proofs.Doing.{goes_as}
 use Rattle.redraw_run.proofs.Done.{does_same}
-use Rattle.written.specs.Standing.{known}
+use Rattle.output_stream.specs.Standing.{known}
 use Rattle.redraw_run.proofs.Lined.{advances_alone, advances_err, advances_open, line_handed, line_value, match_err, match_ok, no_document}
 use Rattle.redraw_run.proofs.input.Reading.object.Goals as goal
 

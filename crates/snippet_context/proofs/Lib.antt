@@ -1,3 +1,0 @@
-pub mod SpanLemmas
-pub mod KeptAround
-pub mod WithLemmas

@@ -1,0 +1,12 @@
+-- The line that is looked for is that of the lines left, from here on.
+use Rattle.std.proofs.Common.{◌≡◌, ◌∷◌, drop, slice_get}
+use Rattle.std.specs.Str.{IsCharBoundary}
+use Rattle.snippet_lines.specs.TextLines.{start_bytes, starts_after}
+use Rattle.snippet_lines.proofs.columns.line_start.Given as goal
+
+abbrev pub invariant-loop-at : goal.invariant-loop-at
+invariant-loop-at l =
+    record {
+      found : slice_get (l.start ∷ starts_after l.at (drop l.at l.source)) l.left ≡ slice_get (start_bytes l.source) l.index;
+      border : IsCharBoundary l.source l.start;
+    }

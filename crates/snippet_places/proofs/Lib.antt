@@ -1,4 +1,0 @@
-pub mod Borders
-pub mod LineLemmas
-pub mod UnitLemmas
-pub mod Walk

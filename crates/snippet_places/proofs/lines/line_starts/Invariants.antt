@@ -1,7 +1,0 @@
-use Rattle.std.proofs.Common.{◌≡◌, ◌++◌, drop}
-use Rattle.snippet_places.specs.TextLines.{start_bytes, starts_after}
-use Rattle.snippet_places.proofs.lines.line_starts.Given as goal
-
--- the starts so far, and those after the bytes that are left, are all
-abbrev pub invariant-loop-at : goal.invariant-loop-at
-invariant-loop-at l = l.starts.items ++ starts_after l.at (drop l.at l.text) ≡ start_bytes l.text

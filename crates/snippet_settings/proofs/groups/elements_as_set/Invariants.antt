@@ -1,7 +1,0 @@
-use Rattle.std.proofs.Common.{take}
-use Rattle.std.specs.List.{AllZip}
-use Rattle.snippet_settings.specs.AsSet.{IsElementAsSet}
-use Rattle.snippet_settings.proofs.groups.elements_as_set.Given as goal
-
-abbrev pub invariant-loop-element : goal.invariant-loop-element
-invariant-loop-element l = AllZip (IsElementAsSet l.feeds) (take l.element-index l.elements) l.set.items

@@ -1,6 +1,0 @@
-use Rattle.std.proofs.Common.{sym, chars}
-use Rattle.snippet_settings.proofs.LineFeedLemmas.{shown-feedless}
-use Rattle.snippet_settings.proofs.line_feeds.with_line_feeds_shown.Goals as goal
-
-pub returns-else-has_line_feed-clause-value : goal.returns-else-has_line_feed-clause-value
-returns-else-has_line_feed-clause-value c = sym (shown-feedless (chars c.args.text.now) (cc c.has_line_feed.ensures.value))

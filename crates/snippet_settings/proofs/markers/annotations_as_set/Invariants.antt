@@ -1,7 +1,0 @@
-use Rattle.std.proofs.Common.{take}
-use Rattle.std.specs.List.{AllZip}
-use Rattle.snippet_settings.specs.AsSet.{IsAnnotationAsSet}
-use Rattle.snippet_settings.proofs.markers.annotations_as_set.Given as goal
-
-abbrev pub invariant-loop-annotation : goal.invariant-loop-annotation
-invariant-loop-annotation l = AllZip (IsAnnotationAsSet l.feeds) (take l.annotation-index l.annotations) l.set.items

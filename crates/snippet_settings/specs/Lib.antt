@@ -1,2 +1,0 @@
-pub mod LineFeeds
-pub mod AsSet

@@ -1,0 +1,11 @@
+pub mod LineFeedLemmas
+pub mod SpanLemmas
+pub mod KeptAround
+pub mod WithLemmas
+pub mod BreakLemmas
+pub mod DrawnLemmas
+pub mod EndLemmas
+pub mod FitLemmas
+pub mod JoinLemmas
+pub mod LawLemmas
+pub mod ReportLemmas

@@ -1,0 +1,41 @@
+-- What showing line feeds makes of a text.
+use Rattle.std.proofs.Common.{◌≡◌, ℕ, ◌==◌, chars, encode_utf8, encode_utf8_all, Bool, true, false, if◌then◌else◌, List, [], ◌∷◌, ◌++◌, map, refl, sym, ap, ◌∙◌}
+use Rattle.std.specs.List.{list_any}
+use Rattle.std.specs.Str.{IsUtf8}
+use Rattle.std.proofs.lemmas.Str.{chars_from_encodes, encodes-append}
+use Rattle.std.proofs.lemmas.List.{append-nil, map-id}
+use Rattle.std.proofs.lemmas.Bool.{false≢true}
+use Rattle.snippet_shown.specs.LineFeeds.{picture_of, with_line_feeds_shown}
+
+-- one more character
+pub shown-push : (cs : List ℕ) (c : ℕ) → with_line_feeds_shown (cs ++ c ∷ []) ≡ with_line_feeds_shown cs ++ picture_of c ∷ []
+shown-push [] c = refl
+shown-push (d ∷ cs) c = ap (λ (t : List ℕ). picture_of d ∷ t) (shown-push cs c)
+
+-- a text without line feeds is shown as it is
+same_after : (c : ℕ) (cs : List ℕ) (feed : Bool) → (c == 10) ≡ feed → list_any (λ d. d == 10) (c ∷ cs) ≡ false
+    → (list_any (λ d. d == 10) cs ≡ false → with_line_feeds_shown cs ≡ cs) → with_line_feeds_shown (c ∷ cs) ≡ c ∷ cs
+same_after c cs true is none below =
+    let yes : list_any (λ d. d == 10) (c ∷ cs) ≡ true = rw is in absurd (false≢true (sym none ∙ yes))
+same_after c cs false is none below =
+    let rest : list_any (λ d. d == 10) cs ≡ false = rw is at none in
+    ap (λ (t : Bool). (if t then 0x240A else c) ∷ with_line_feeds_shown cs) is ∙ ap (λ (t : List ℕ). c ∷ t) (below rest)
+
+pub shown-feedless : (cs : List ℕ) → list_any (λ c. c == 10) cs ≡ false → with_line_feeds_shown cs ≡ cs
+shown-feedless [] none = refl
+shown-feedless (c ∷ cs) none = same_after c cs (c == 10) refl none (shown-feedless cs)
+
+-- one more character is written
+pub shown-written : (old new cs : List ℕ) (c p : ℕ) → new ≡ old ++ encode_utf8 p → old ≡ encode_utf8_all (with_line_feeds_shown cs) → p ≡ picture_of c
+    → new ≡ encode_utf8_all (with_line_feeds_shown (cs ++ c ∷ []))
+shown-written old new cs c p written before is =
+    written ∙ ap (λ t. t ++ encode_utf8 p) before ∙ ap (λ t. encode_utf8_all (with_line_feeds_shown cs) ++ t) (sym (append-nil (encode_utf8 p)))
+    ∙ sym (encodes-append (with_line_feeds_shown cs) (p ∷ []))
+    ∙ ap (λ q. encode_utf8_all (with_line_feeds_shown cs ++ q ∷ [])) is
+    ∙ ap encode_utf8_all (sym (shown-push cs c))
+
+-- bytes that spell what is shown for some characters have these characters
+pub shown-spelled : (bytes cs ds : List ℕ) → IsUtf8 bytes → bytes ≡ encode_utf8_all (with_line_feeds_shown cs) → map (λ x. x) cs ≡ ds
+    → chars bytes ≡ with_line_feeds_shown ds
+shown-spelled bytes cs ds utf8 spelled all =
+    sym (chars_from_encodes (with_line_feeds_shown cs) bytes utf8 (sym spelled)) ∙ ap with_line_feeds_shown (sym (map-id cs) ∙ all)

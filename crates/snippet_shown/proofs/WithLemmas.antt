@@ -1,0 +1,30 @@
+-- A snippet with the lines around those that it keeps, where lines are folded and where they aren't.
+use Rattle.std.proofs.Common.{◌≡◌, ◌∙◌, ℕ, ◌++◌, true, false, All, List, [], map, refl, sym, ap, subst, append-nil}
+use Rattle.std.proofs.lemmas.Bool.{cond-false}
+use Rattle.std.proofs.lemmas.List.Elements.{All-nil}
+use Rattle.std.specs.Cow.{cow_str_bytes}
+use Rattle.std.specs.declared.ops.Range.{Range}
+use Rattle.snippet_model.specs.declared.snippet.Annotation.{Annotation}
+use Rattle.snippet_model.specs.declared.snippet.Snippet.{Snippet}
+use Rattle.snippet_parts.specs.Kept.{kept_lines}
+use Rattle.snippet_shown.specs.Context.{context_spans, span_around, visible_mark}
+use Rattle.snippet_shown.specs.WithContext.{HoldsSpan, IsSnippetWithContext}
+
+-- where lines aren't folded no span is added
+unfolded-spans : (before after : ℕ) (s : Snippet Annotation) → s.fold ≡ false → context_spans before after s ≡ []
+unfolded-spans before after s none =
+    cond-false s.fold (map (span_around before after (cow_str_bytes s.source.text)) (kept_lines true (cow_str_bytes s.source.text) s.markers.items)) [] none
+
+-- so the snippet stays
+pub unfolded-with : (before after : ℕ) (s : Snippet Annotation) → s.fold ≡ false → IsSnippetWithContext before after s s
+unfolded-with before after s none =
+    let empty : context_spans before after s ≡ [] = unfolded-spans before after s none in
+    record {
+      path = refl;
+      line_start = refl;
+      source = refl;
+      line_numbering = refl;
+      fold = refl;
+      markers = sym (append-nil s.markers.items) ∙ sym (ap (λ (spans : List (Range ℕ)). s.markers.items ++ map visible_mark spans) empty);
+      spans = subst (All (HoldsSpan (cow_str_bytes s.source.text))) (sym empty) (All-nil (HoldsSpan (cow_str_bytes s.source.text)));
+    }

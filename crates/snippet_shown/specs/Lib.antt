@@ -1,0 +1,7 @@
+pub mod LineFeeds
+pub mod AsSet
+pub mod Context
+pub mod WithContext
+pub mod Wrapped
+pub mod AsWrapped
+pub mod WrapLaws

@@ -1,0 +1,10 @@
+//! The report that settings show in place of the one given: line feeds as signs, lines around spans, rows that fit.
+#![tactic(auto)]
+
+mod as_set;
+mod context;
+mod wrap;
+
+pub use as_set::{groups_as_set, shown_on_one_line};
+pub use context::groups_with_context;
+pub use wrap::{groups_wrapped, wrapped};

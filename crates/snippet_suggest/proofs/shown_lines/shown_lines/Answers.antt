@@ -1,0 +1,44 @@
+use Rattle.std.proofs.Common.{◌≡◌, ◌+◌, ◌<◌, ◌∙◌, false, length, get_or, sym, subst, arith, ℕ, Vec, Global}
+use Rattle.std.proofs.lemmas.List.{get_or_default}
+use Rattle.snippet_suggest.specs.declared.shown_lines.SuggestionLine.{SuggestionLine}
+use Rattle.snippet_suggest.specs.SuggestedLines.{is_touched, shown_from}
+use Rattle.snippet_suggest.proofs.RisingLemmas.{shown_all}
+use Rattle.snippet_suggest.proofs.ShownLemmas.{touched_step, untouched_step}
+use Rattle.snippet_suggest.proofs.shown_lines.shown_lines.Invariants.{Shows}
+use Rattle.snippet_suggest.proofs.shown_lines.shown_lines.Goals as goal
+use Rattle.snippet_suggest.proofs.shown_lines.shown_lines.Goals.{then-index+in_ok-push_run+in_ok-push, else-index}
+
+pub loop-line-preserved : goal.loop-line-preserved
+loop-line-preserved c =
+    let touched = is_touched c.args.fold c.args.ranges.now in
+    let l = c.loop-line in
+    let count = c.args.count in
+    let next = c.if-index in
+    let at : touched l.line ≡ get_or c.in_ok-touched.touched.items l.line false = sym (c.in_ok-touched.ensures.value l.line c.loop-line-test.true) in
+    let within : l.line < length c.in_ok-touched.touched.items = omega (arith, c.loop-line-test.true, c.in_ok-touched.ensures.size) in
+    let told : touched l.line ≡ c.index.result.now = at ∙ get_or_default c.in_ok-touched.touched.items l.line false c.index.result.now within
+    ∙ sym c.index.ensures in
+    elim c.if-index.branch [
+      | then-index+in_ok-push_run+in_ok-push w ↦
+          subst (λ (b : ℕ). Shows touched count b (l.line + 1) next.shown.items) (sym w.after-is)
+          (subst (λ (v : Vec SuggestionLine Global). Shows touched count (l.line + 1) (l.line + 1) v.items) (sym w.shown-is) (record {
+            before = omega arith;
+            whole = touched_step touched l.shown.items w.push_run.new.shown.items w.push.new.self.items _ l.after l.line count c.loop-line-test.true
+                (told ∙ w.if-index.true) w.in_ok-push_run.ensures.added w.in_ok-push.ensures.items l.invariant.whole;
+          }))
+      | else-index w ↦
+          subst (λ (b : ℕ). Shows touched count b (l.line + 1) next.shown.items) (sym w.after-is)
+          (subst (λ (v : Vec SuggestionLine Global). Shows touched count l.after (l.line + 1) v.items) (sym w.shown-is) (record {
+            before = omega (arith, l.invariant.before);
+            whole = untouched_step touched l.shown.items _ l.after l.line count c.loop-line-test.true (told ∙ w.if-index.false) l.invariant.whole;
+          }))
+    ]
+
+pub returns : goal.returns
+returns c =
+    let touched = is_touched c.args.fold c.args.ranges.now in
+    let l = c.loop-line in
+    record {
+      value = shown_all touched l.shown.items (shown_from touched 0 0 c.args.count) l.after l.line c.args.count
+          (omega (arith, c.loop-line-test.false)) l.invariant.whole;
+    }

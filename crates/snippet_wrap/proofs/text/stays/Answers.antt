@@ -1,7 +1,0 @@
-use Rattle.std.proofs.Common.{◌∙◌, chars, sym}
-use Rattle.snippet_wrap.proofs.LawLemmas.{wrapped-same}
-use Rattle.snippet_wrap.proofs.text.stays.Goals as goal
-
-pub returns-else-room-lt-LEAST_ROOM-clause-yes : goal.returns-else-room-lt-LEAST_ROOM-clause-yes
-returns-else-room-lt-LEAST_ROOM-clause-yes c fit =
-    wrapped-same c.args.room (chars c.args.text.now) (sym c.fits.ensures.value ∙ fit)

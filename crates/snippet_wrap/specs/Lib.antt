@@ -1,3 +1,0 @@
-pub mod AsWrapped
-pub mod WrapLaws
-pub mod Wrapped
