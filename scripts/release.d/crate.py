@@ -4,6 +4,7 @@ import shutil
 
 import layout
 import packing
+import repository
 from facts import ROOT, TRIPLE, version
 from libraries import STATIC
 
@@ -26,10 +27,12 @@ def files():
     return sorted(found)
 
 
-def make(room, built, licences, seconds, out):
+def make(room, built, licences, seconds, out, address=None):
     """Makes the crate's file, and returns it."""
     for path in files():
         layout.put(path, (room / path.relative_to(HOME)).parent)
+    manifest = (HOME / "Cargo.toml").read_text(encoding="utf-8")
+    layout.write(repository.in_manifest(manifest, address), room / "Cargo.toml")
     layout.put(built.libraries / STATIC, room / "lib" / TRIPLE)
     shutil.copy(licences, room / "LICENCES.md")
     for path in sorted(ROOT.glob("LICENSE-*")):

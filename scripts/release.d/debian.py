@@ -10,6 +10,7 @@ from typing import List
 import elf
 import layout
 import packing
+import repository
 from facts import DEBIAN_MACHINE, PROGRAMS, ROOT, run, version
 from libraries import SHARED
 
@@ -75,20 +76,21 @@ def lay_beside(package, root, licences):
     (doc / "changelog.gz").write_bytes(gzip.compress((ROOT / "CHANGELOG.md").read_bytes(), 9, mtime=0))
 
 
-def control(package, root):
+def control(package, root, address=None):
     """The file that tells a system what the package is and asks for."""
     size = sum(it.stat().st_size for it in root.rglob("*") if it.is_file() and not it.is_symlink())
     lines = {"Package": package.name, "Version": version(), "Architecture": package.machine, "Maintainer": MAINTAINER}
     lines |= {"Installed-Size": -(-size // 1024), "Depends": ", ".join(package.depends), "Section": package.section, "Priority": "optional"}
-    return "".join(f"{name}: {it}\n" for name, it in lines.items()) + package.more + f"Description: {package.about}\n{LONG}"
+    more = package.more + repository.in_debian(address)
+    return "".join(f"{name}: {it}\n" for name, it in lines.items()) + more + f"Description: {package.about}\n{LONG}"
 
 
-def make(package, room, built, licences, seconds, out):
+def make(package, room, built, licences, seconds, out, address=None):
     """Makes a package in a folder of its own, and returns its file."""
     root = room / package.name
     lay(package, root / "usr", built)
     lay_beside(package, root / "usr", licences)
-    told = {"control": control(package, root)}
+    told = {"control": control(package, root, address)}
     sums = [(hashlib.md5(it.read_bytes()).hexdigest(), it.relative_to(root)) for it in packing.members(root) if it.is_file() and not it.is_symlink()]
     told["md5sums"] = "".join(f"{sum}  {path}\n" for sum, path in sums)
     if package.name == "libyazgult1":

@@ -1,6 +1,7 @@
 """Tells of a release in words: which commit it is of, what proved it, and how anyone makes it again."""
 
 import elf
+import repository
 from facts import PROGRAMS, TRIPLE, commit, run, said, version
 from libraries import SHARED, STATIC
 
@@ -21,7 +22,7 @@ With that kit on the `PATH`, in a clone of that commit, and SUMS the file SHA256
 
 ```sh
 rt ci
-scripts/release
+scripts/release{option}
 (cd dist && sha256sum --check SUMS)
 ```
 
@@ -38,7 +39,7 @@ def glibc(paths):
     return "glibc {}.{} or later".format(*max(map(elf.least_glibc, paths)))
 
 
-def page(built):
+def page(built, address=None):
     name, is_whole = commit()
     words = said("rt", "version").split()
     asked = sorted(elf.wanted(built.libraries / STATIC))
@@ -49,6 +50,7 @@ def page(built):
         kit=words[0],
         logic=words[words.index("logic") + 1],
         triple=TRIPLE,
+        option=repository.option(address),
         programs=glibc([built.programs / it for it in PROGRAMS]),
         library=glibc([built.libraries / SHARED]),
         archive=STATIC,

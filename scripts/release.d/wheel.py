@@ -8,6 +8,7 @@ import shutil
 import elf
 import layout
 import packing
+import repository
 from facts import ROOT, Trouble, version
 from libraries import SHARED
 
@@ -32,7 +33,7 @@ def list_of(text, name):
     return re.findall(r'"([^"]*)"', found[1]) if found else []
 
 
-def metadata():
+def metadata(address=None):
     text = PROJECT.read_text(encoding="utf-8") if PROJECT.exists() else ""
     given = field_of(text, "version", version())
     if given != version():
@@ -41,7 +42,7 @@ def metadata():
     lines += [f"Summary: {field_of(text, 'description', 'Draws diagnostic reports as compilers print them')}"]
     lines += ["License: MIT OR Apache-2.0", f"Requires-Python: {field_of(text, 'requires-python', '>=3.8')}"]
     lines += [f"Keywords: {','.join(list_of(text, 'keywords'))}"] * bool(list_of(text, "keywords"))
-    lines += [f"Classifier: {it}" for it in list_of(text, "classifiers")]
+    lines += [f"Classifier: {it}" for it in list_of(text, "classifiers")] + repository.in_wheel(address)
     pages = [it for it in (PROJECT.parent / "README.md",) if it.exists()]
     body = "".join(it.read_text(encoding="utf-8") for it in pages)
     return "\n".join(lines + ["Description-Content-Type: text/markdown"] * bool(body)) + "\n" + (f"\n{body}" if body else "")
@@ -51,7 +52,7 @@ def sum_of(path):
     return "sha256=" + base64.urlsafe_b64encode(hashlib.sha256(path.read_bytes()).digest()).rstrip(b"=").decode()
 
 
-def make(room, built, licences, seconds, out):
+def make(room, built, licences, seconds, out, address=None):
     """Makes the wheel, and returns its file."""
     room.mkdir()
     for file, path in layout.module_files():
@@ -60,7 +61,7 @@ def make(room, built, licences, seconds, out):
     layout.put(built.libraries / SHARED, beside)
     told = room / f"yazgult-{version()}.dist-info"
     tags = tag(built.libraries / SHARED)
-    layout.write(metadata(), told / "METADATA")
+    layout.write(metadata(address), told / "METADATA")
     layout.write(f"Wheel-Version: 1.0\nGenerator: yazgult\nRoot-Is-Purelib: false\nTag: {tags}\n", told / "WHEEL")
     shutil.copy(licences, told / "LICENCES.md")
     listed = [it for it in packing.members(room) if it.is_file()]
