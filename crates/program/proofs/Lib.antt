@@ -1,3 +1,4 @@
 pub mod NotGiven
 pub mod Shown
 pub mod Lending
+pub mod Ended

@@ -1,5 +1,5 @@
 -- Texts as they are shown: without listed characters, and on one line.
-use Rattle.std.specs.Prelude.{ℕ, ◌==◌, List, chars, encode_utf8_all, if◌then◌else◌, map}
+use Rattle.std.specs.Prelude.{ℕ, ◌==◌, List, ◌++◌, chars, codes, encode_utf8_all, if◌then◌else◌, map}
 use Rattle.snippet_text.specs.Normalized.{norm}
 
 -- a text as it may be shown: what is listed in it is replaced
@@ -17,3 +17,7 @@ on_one_line cs = map picture_of cs
 -- a text as a message shows it: on one line, and what is listed in it is replaced
 abbrev pub message_text : List ℕ → List ℕ
 message_text text = encode_utf8_all (norm (on_one_line (chars text)))
+
+-- the message of a program of this name that it can't do this to the file of that name, such as `snip: cannot read a.rs`
+abbrev pub cannot : (program verb name : List ℕ) → List ℕ
+cannot program verb name = program ++ (codes ": cannot " ++ (verb ++ (codes " " ++ message_text name)))

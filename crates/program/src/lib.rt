@@ -8,4 +8,5 @@ pub mod lent;
 pub mod line;
 pub mod message;
 pub mod options;
+pub mod source;
 pub mod standing_in;

@@ -19,6 +19,18 @@ pub fn message_text(alloc: Global, text: &str) -> Result<String, AllocError>
     normalize_untrusted_str(alloc, line.as_str())
 }
 
+/// The message of the program of this name that it can't do this to the file of that name.
+///
+/// ```text
+/// snip, read, a.rs        snip: cannot read a.rs
+/// ```
+pub fn cannot(alloc: Global, program: &str, verb: &str, name: &str) -> Result<String, AllocError>
+    ensures value { IfOk result (λ text. string_bytes text ≡ spec.cannot program.now verb.now name.now) }
+{
+    let shown = message_text(alloc, name)?;
+    format!(in alloc; "{program}: cannot {verb} {shown}")
+}
+
 /// A text with `␊` in place of each line feed.
 pub fn on_one_line(alloc: Global, text: &str) -> Result<String, AllocError>
     ensures value { IfOk result (λ line. chars (string_bytes line) ≡ spec.on_one_line (chars text.now)) }

@@ -5,7 +5,7 @@ use Rattle.std.specs.Option.{option_map, option_to_list}
 use Rattle.std.proofs.lemmas.List.Elements.{All-contains, Contains-append_right}
 use Rattle.snip_run.specs.declared.arguments.SnipCommand.{SnipCommand}
 use Rattle.snip_run.specs.Arguments.{Argument, CommandLine, AreLine, Says, no_options, operands_of, arguments_of}
-use Rattle.snip_run.specs.Text.{TextFits}
+use Rattle.annotate_snippets.specs.Fits.{TextFits}
 
 -- an operand is one of the arguments
 operand_fits : (args : List Argument) (line : CommandLine) → AreLine args line → All TextFits args → (argument : Argument)

@@ -1,4 +1,3 @@
 pub mod Arguments
 pub mod Report
 pub mod Run
-pub mod Text

@@ -1,14 +1,14 @@
 //! A run of the program, over the bytes of a file and two writers.
-ghost use Rattle.std.specs.Prelude.{◌≡◌, ◌≤◌, ◌↔◌, ◌⊎◌, [], ◌∷◌, IsTrue, IsNone, IfErr, IfOk, IfSome, MatchOption};
-ghost use Rattle.std.specs.Prelude.{SomeIff, All, alloc_error, codes, string_bytes};
+ghost use Rattle.std.specs.Prelude.{◌≡◌, ◌≤◌, ◌↔◌, ◌⊎◌, [], ◌∷◌, IsTrue, IfErr, IfOk, IfSome, All, alloc_error, codes};
+ghost use Rattle.std.specs.Prelude.{string_bytes};
 ghost use Rattle.std.specs.Option.{option_copied};
-ghost use Rattle.annotate_snippets.specs.Fits.{ReportFits};
+ghost use Rattle.annotate_snippets.specs.Fits.{ReportFits, TextFits};
+ghost use Rattle.program.specs.Ending.{Ends};
 ghost use Rattle.program.specs.Lent.{IsLentFor, stream_of};
 ghost use Rattle.program.specs.Stream.{Receives, Told};
 ghost use Rattle.snip_run.specs.Report.{IsReportFor, RefusesCommand, ShowsCommand};
-ghost use Rattle.snip_run.specs.Run.{Ends, Fails, ShowsFile, message};
+ghost use Rattle.snip_run.specs.Run.{MaySnip, ShowsFile, SnipFails, snip_end, snip_message};
 ghost use Rattle.snip_run.specs.Arguments.{arguments_at, IsCommandLine, IsCommandOf};
-ghost use Rattle.snip_run.specs.Text.{TextFits, IsShownText};
 
 use crate::arguments::{SnipCommand, command_of};
 use annotate_snippets::level::ERROR;
@@ -16,11 +16,11 @@ use annotate_snippets::renderer::RenderError;
 use annotate_snippets::text::text_fits;
 use annotate_snippets::{AnnotationKind, Element, Group, OptionCow, Snippet};
 use program::lent::LentStream;
-use program::message::message_text;
+use program::message::cannot;
 use program::options::renderer_of;
+use program::source::source_of;
 use std::alloc::{AllocError, Global};
 use std::io::Write;
-use std::str;
 
 /// How the arguments are to be written.
 const USAGE: &str =
@@ -43,15 +43,6 @@ enum SnipFailure {
     Unreadable,
     /// The report is refused, or a growth of memory was.
     Refused(RenderError),
-}
-
-/// The file's text; `None` where it can't be read, isn't UTF-8 or is too long.
-fn source_of(file: Option<&[u8]>) -> Option<&str>
-    ensures value { MatchOption (option_copied file.entry) (IsNone result)
-        (λ bytes. SomeIff (option_copied result) (IsShownText bytes) bytes) }
-{
-    let source = str::from_utf8(file?).ok()?;
-    text_fits(source).then_some(source)
 }
 
 /// Whether each argument is within the library's limit.
@@ -110,7 +101,7 @@ fn report_text<'a>(
     requires command { IsCommandOf (arguments_at args.now) command.now }
     ensures shows { IfOk result (λ text.
         ShowsFile (arguments_at args.now) (option_copied file.entry) command.now (string_bytes text)) }
-    ensures fails { IfErr result (Fails (arguments_at args.now) (option_copied file.entry) command.now) }
+    ensures fails { IfErr result (SnipFails (arguments_at args.now) (option_copied file.entry) command.now) }
 {
     let Some(source) = source_of(file) else {
         return Err(SnipFailure::Unreadable);
@@ -126,13 +117,10 @@ fn report_text<'a>(
 
 /// What is told of a failure, where FILE has this name.
 fn message_of(alloc: Global, failure: &SnipFailure, name: &str) -> Result<String, AllocError>
-    ensures message { IfOk result (λ text. string_bytes text ≡ message name.now failure.now) }
+    ensures message { IfOk result (λ text. string_bytes text ≡ snip_message name.now failure.now) }
 {
     match failure {
-        SnipFailure::Unreadable => {
-            let shown = message_text(alloc, name)?;
-            format!(in alloc; "snip: cannot read {shown}")
-        }
+        SnipFailure::Unreadable => cannot(alloc, "snip", "read", name),
         SnipFailure::Refused(refusal) => format!(in alloc; "snip: {}", refusal.words()),
     }
 }
@@ -140,7 +128,8 @@ fn message_of(alloc: Global, failure: &SnipFailure, name: &str) -> Result<String
 /// Tells a failure, or that there was no memory for that.
 fn tell<V: Write>(alloc: Global, failure: &SnipFailure, name: &str, err: &mut LentStream<'_, V>)
     ensures same_reference { err.new.target.ghost_name ≡ err.old.target.ghost_name }
-    ensures told { Receives V.contents (stream_of err.old) (stream_of err.new) (Told (message name.now failure.now))
+    ensures told { Receives V.contents (stream_of err.old) (stream_of err.new)
+        (Told (snip_message name.now failure.now))
         ⊎ Receives V.contents (stream_of err.old) (stream_of err.new) (Told (codes "snip: out of memory")) }
 {
     match message_of(alloc, failure, name) {
@@ -175,7 +164,7 @@ pub fn run<W: Write, V: Write>(
     ensures usage { (result ≡ 2) ↔ (IsCommandLine (arguments_at args.now) → ⊥) }
 
     // By cases: which status, what each writer is given, and when that is so.
-    ensures ends { Ends (arguments_at args.now) (option_copied file.entry) result
+    ensures ends { Ends (MaySnip (arguments_at args.now) (option_copied file.entry)) snip_end result
         (IsLentFor W.contents out.old out.new) (IsLentFor V.contents err.old err.new) }
 {
     let mut lent_out = LentStream::new(out);
@@ -197,7 +186,7 @@ fn run_lent<W: Write, V: Write>(
     ensures usage { (result ≡ 2) ↔ (IsCommandLine (arguments_at args.now) → ⊥) }
 
     // The cases of [`run`], of streams that keep whether a write failed: only then is a line cut short.
-    ensures ends { Ends (arguments_at args.now) (option_copied file.entry) result
+    ensures ends { Ends (MaySnip (arguments_at args.now) (option_copied file.entry)) snip_end result
         (Receives W.contents (stream_of out.old) (stream_of out.new))
         (Receives V.contents (stream_of err.old) (stream_of err.new)) }
 {

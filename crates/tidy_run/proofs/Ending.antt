@@ -1,15 +1,14 @@
 -- How a run ends.
-use Rattle.std.proofs.Common.{Bor, String, Global, chars, encode_utf8_all, string_bytes, ◌≡◌, ◌⊎◌, ℕ, List, [], ◌∷◌, Option, Some, None, IfSome, IsSomeAnd}
+use Rattle.std.proofs.Common.{Bor, ◌≡◌, ◌⊎◌, ℕ, List, [], ◌∷◌, Option, Some, None, IfSome, IsSomeAnd}
 use Rattle.std.proofs.Common.{MatchOption, length, inl, inr, refl, sym, ap, ◌∙◌, subst}
 use Rattle.std.specs.Option.{option_to_list}
 use Rattle.std.proofs.lemmas.Slice.Zip.{AllZip-long}
-use Rattle.std.proofs.lemmas.Str.{IsUtf8-string_bytes, encodes-chars}
 use Rattle.annotate_snippets.specs.Fits.{TextFits}
-use Rattle.annotate_snippets.specs.Normalized.{norm}
+use Rattle.program.specs.Source.{IsSource}
 use Rattle.program.specs.Stream.{Output, Silent, Whole, CutShort, Told as Tells}
 use Rattle.tidy_run.specs.Report.{Told}
-use Rattle.tidy_run.specs.Run.{AreGiven, AreKept, AreTextsOf, End, Ends, Failed, Fails, Found, IsReport, IsSource, MayEnd, BadUsage, Reads, ShowsTold, Unlogged}
-use Rattle.tidy_run.specs.Run.{Unprinted, all_logged, err_of, log_of, message, out_of, sheets_for, status_of, usage}
+use Rattle.tidy_run.specs.Run.{AreGiven, AreKept, AreTextsOf, BadUsage, Failed, Found, IsReport, MayTidy, MayTidyFor, Reads, ShowsTold, TidyEnds, TidyFails}
+use Rattle.tidy_run.specs.Run.{TidyWay, Unlogged, Unprinted, all_logged, log_of, sheets_for, tidy_end, tidy_message, tidy_usage}
 use Rattle.tidy_run.specs.Arguments.{CommandLine, Argument, command_line_of}
 use Rattle.tidy_run.specs.declared.run.TidyFailure.{TidyFailure}
 use Rattle.tidy_run.specs.declared.run.TidyFailure.TheVariants.{Memory, Unwritable}
@@ -92,36 +91,40 @@ kept_texts log name Out Log (shown ∷ plain ∷ more ∷ texts) kept = absurd k
 
 -- a run for arguments that aren't of the form
 pub ends_bad_usage : (args : List Argument) (file : Option (List ℕ)) (tells : List ℕ → List Told) (Out Err Log : Output → Type 0) → None ≡ command_line_of args
-    → Out Silent → Err (Tells usage) → Log Silent → Ends args file tells 2 Out Err Log
+    → Out Silent → Err (Tells tidy_usage) → Log Silent → TidyEnds args file tells 2 Out Err Log
 ends_bad_usage args file tells Out Err Log is out err log =
     record {
-      end = BadUsage;
-      may = subst (λ o. MatchOption o (BadUsage ≡ BadUsage) (λ l. MayEnd l file tells BadUsage)) is refl;
-      status_is = refl;
-      out = out;
-      err = err;
+      ends = record {
+        way = BadUsage;
+        may = subst (λ o. MatchOption o (BadUsage ≡ BadUsage) (λ l. MayTidy l file tells BadUsage)) is refl;
+        status_is = refl;
+        out = out;
+        err = err;
+      };
       log = log;
     }
 
 -- a run that ends in some way for a line, where the arguments are that line
 module _ (args : List Argument) (file : Option (List ℕ)) (tells : List ℕ → List Told) (line : CommandLine) (is : Some line ≡ command_line_of args)
     (Out Err Log : Output → Type 0) where
-  of_line : (end : End) → MayEnd line file tells end → MatchOption (command_line_of args) (end ≡ BadUsage) (λ l. MayEnd l file tells end)
-  of_line end may = subst (λ o. MatchOption o (end ≡ BadUsage) (λ l. MayEnd l file tells end)) is may
+  of_line : (end : TidyWay) → MayTidy line file tells end → MayTidyFor args file tells end
+  of_line end may = subst (λ o. MatchOption o (end ≡ BadUsage) (λ l. MayTidy l file tells end)) is may
 
-  pub ends_as : (end : End) → MayEnd line file tells end → Out (out_of end) → Err (err_of end) → Log (log_of end)
-      → Ends args file tells (status_of end) Out Err Log
-  ends_as end may out err log = record { end = end; may = of_line end may; status_is = refl; out = out; err = err; log = log }
+  pub ends_as : (end : TidyWay) → MayTidy line file tells end → Out (tidy_end end).out → Err (tidy_end end).err → Log (log_of end)
+      → TidyEnds args file tells (tidy_end end).status Out Err Log
+  ends_as end may out err log =
+      record { ends = record { way = end; may = of_line end may; status_is = refl; out = out; err = err }; log = log }
 
   -- a failure is told, or that there was no memory for that
-  pub ends_failed : (failure : TidyFailure) → Fails line file failure → Out Silent → Err (Tells (message failure)) ⊎ Err (Tells (message Memory)) → Log Silent
-      → Ends args file tells 2 Out Err Log
+  pub ends_failed : (failure : TidyFailure) → TidyFails line file failure → Out Silent → Err (Tells (tidy_message failure)) ⊎ Err (Tells (tidy_message Memory))
+      → Log Silent → TidyEnds args file tells 2 Out Err Log
   ends_failed failure fails out (inl told) log = ends_as (Failed failure) fails out told log
   ends_failed failure fails out (inr told) log = ends_as (Failed Memory) tt out told log
 
   pub ends_unlogged : (name : Bor Argument) (read texts : List (List ℕ)) → read ≡ texts → IsSomeAnd file (Reads line file)
       → IfSome file (λ source. AreTextsOf line.file source (tells source) (sheets_for line.log) texts)
-      → AreKept line.log name.now Out Log read → Err (Tells (message (Unwritable name))) ⊎ Err (Tells (message Memory)) → Ends args file tells 2 Out Err Log
+      → AreKept line.log name.now Out Log read → Err (Tells (tidy_message (Unwritable name))) ⊎ Err (Tells (tidy_message Memory))
+      → TidyEnds args file tells 2 Out Err Log
   ends_unlogged name read texts same_texts reads are kept (inl told) =
       let (shown, plain, same, log_is, out, log) = kept_texts line.log name.now Out Log texts (subst (AreKept line.log name.now Out Log) same_texts kept) in
       ends_as (Unlogged shown plain (Unwritable name)) (report_of_texts line file tells texts shown (Some plain) reads are same, log_is) out told log
@@ -131,7 +134,7 @@ module _ (args : List Argument) (file : Option (List ℕ)) (tells : List ℕ →
 
   pub ends_found : (read texts : List (List ℕ)) → read ≡ texts → IsSomeAnd file (Reads line file)
       → IfSome file (λ source. AreTextsOf line.file source (tells source) (sheets_for line.log) texts)
-      → AreGiven line.log (λ shown. Out (Whole shown)) Log read → Err Silent → Ends args file tells 1 Out Err Log
+      → AreGiven line.log (λ shown. Out (Whole shown)) Log read → Err Silent → TidyEnds args file tells 1 Out Err Log
   ends_found read texts same_texts reads are given err =
       let (shown, logged, same, out, log) = given_texts line.log (λ shown.
       Out (Whole shown)) Log texts (subst (AreGiven line.log (λ shown. Out (Whole shown)) Log) same_texts given) in
@@ -139,8 +142,24 @@ module _ (args : List Argument) (file : Option (List ℕ)) (tells : List ℕ →
 
   pub ends_unprinted : (read texts : List (List ℕ)) → read ≡ texts → IsSomeAnd file (Reads line file)
       → IfSome file (λ source. AreTextsOf line.file source (tells source) (sheets_for line.log) texts)
-      → AreGiven line.log (λ shown. Out (CutShort shown)) Log read → Err Silent → Ends args file tells 2 Out Err Log
+      → AreGiven line.log (λ shown. Out (CutShort shown)) Log read → Err Silent → TidyEnds args file tells 2 Out Err Log
   ends_unprinted read texts same_texts reads are given err =
       let (shown, logged, same, out, log) = given_texts line.log (λ shown.
       Out (CutShort shown)) Log texts (subst (AreGiven line.log (λ shown. Out (CutShort shown)) Log) same_texts given) in
       ends_as (Unprinted shown logged) (report_of_texts line file tells texts shown logged reads are same) out err log
+
+-- a run that gives three writers what they are given gives it to all that is given what they are
+pub tidy_ends_for : (args : List Argument) (file : Option (List ℕ)) (tells : List ℕ → List Told) (status : ℕ) (Out Err Log ToOut ToErr ToLog : Output → Type 0)
+    → TidyEnds args file tells status Out Err Log → ((output : Output) → Out output → ToOut output) → ((output : Output) → Err output → ToErr output)
+    → ((output : Output) → Log output → ToLog output) → TidyEnds args file tells status ToOut ToErr ToLog
+tidy_ends_for args file tells status Out Err Log ToOut ToErr ToLog ends to_out to_err to_log =
+    record {
+      ends = record {
+        way = ends.ends.way;
+        may = ends.ends.may;
+        status_is = ends.ends.status_is;
+        out = to_out (tidy_end ends.ends.way).out ends.ends.out;
+        err = to_err (tidy_end ends.ends.way).err ends.ends.err;
+      };
+      log = to_log (log_of ends.ends.way) ends.log;
+    }

@@ -1,6 +1,6 @@
 -- What holds of a text holds of the file that it is.
 use Rattle.std.proofs.Common.{◌≡◌, ℕ, List, Option, Some, None, IfSome, MatchOption, subst}
-use Rattle.tidy_run.specs.Run.{IsSource}
+use Rattle.program.specs.Source.{IsSource}
 
 -- what holds of the source holds of the file, where there is one
 pub for-file : (file : Option (List ℕ)) → (source : List ℕ) → (P : List ℕ → Type 0) → (N : Type 0)

@@ -1,26 +1,23 @@
 -- How a run ends, and what it writes.
-use Rattle.std.specs.Prelude.{◌≡◌, ◌≢◌, ℕ, List, [], ◌∷◌, ◌++◌, Option, Some, None, MatchOption, codes}
+use Rattle.std.specs.Prelude.{◌≡◌, ◌≢◌, ℕ, List, [], ◌∷◌, Option, Some, None, MatchOption, codes}
 use Rattle.std.specs.List.{AllZip}
 use Rattle.std.specs.Option.{option_to_list}
-use Rattle.std.specs.Str.{IsUtf8}
 use Rattle.annotate_snippets.specs.declared.renderer.style.Stylesheet.{Stylesheet}
 use Rattle.annotate_snippets.specs.declared.snippet.Group.{Group}
 use Rattle.annotate_snippets.specs.Fits.{TextFits}
 use Rattle.annotate_snippets.specs.Laws.Forms.{HasLaws}
 use Rattle.annotate_snippets.specs.Forms.{TextsShown}
 use Rattle.annotate_snippets.specs.Settings.{plain_settings, styled_settings}
-pub use Rattle.program.specs.Message.{message_text}
-use Rattle.program.specs.Stream.{Output, Silent, Whole, CutShort, Told as Tells}
+use Rattle.program.specs.Ending.{End, Ends, printing, telling}
+use Rattle.program.specs.Message.{cannot}
+use Rattle.program.specs.Source.{IsSource}
+use Rattle.program.specs.Stream.{Output, Silent, Whole, CutShort}
 use Rattle.tidy_run.specs.Report.{IsReportOf, Told, tidy_settings}
 use Rattle.tidy_run.specs.Arguments.{CommandLine, Argument, command_line_of}
 use Rattle.tidy_run.specs.declared.run.TidyFailure.{TidyFailure}
 use Rattle.tidy_run.specs.declared.run.TidyFailure.TheVariants.{Unreadable, Unwritable, Memory}
 use Rattle.tidy_run.specs.declared.run.WriteOutcome.{WriteOutcome}
 use Rattle.tidy_run.specs.declared.run.WriteOutcome.TheVariants as written
-
--- what a file has to hold so that it is looked through: UTF-8 within the library's limit
-abbrev pub IsSource : List ℕ → Type 0
-IsSource bytes = IsUtf8 bytes × TextFits bytes
 
 -- the sheets under which a report is drawn: that of standard output, which is plain where there is no LOG; and that of LOG
 abbrev pub sheets_for : Option Argument → List Stylesheet
@@ -53,10 +50,10 @@ pub record IsReport (line : CommandLine) (file : Option (List ℕ)) (tells : Lis
   pub shows : ShowsTold line.file source (tells source) (sheets_for line.log) (shown ∷ option_to_list logged)
 
 -- there is no report, for this reason: FILE of this name holds no source that can be looked through, or memory is refused
-abbrev pub Fails : CommandLine → Option (List ℕ) → TidyFailure → Type 0
-Fails line file (Unreadable name) = (name.now ≡ line.file) × ((source : List ℕ) → Reads line file source → ⊥)
-Fails line file (Unwritable name) = ⊥
-Fails line file Memory = Unit {0}
+abbrev pub TidyFails : CommandLine → Option (List ℕ) → TidyFailure → Type 0
+TidyFails line file (Unreadable name) = (name.now ≡ line.file) × ((source : List ℕ) → Reads line file source → ⊥)
+TidyFails line file (Unwritable name) = ⊥
+TidyFails line file Memory = Unit {0}
 
 -- what is told where LOG can't be written: that, by its name, or that there was no memory for that
 abbrev pub Unlogs : CommandLine → TidyFailure → Type 0
@@ -65,59 +62,54 @@ Unlogs line (Unwritable name) = line.log ≡ Some name.now
 Unlogs line Memory = Unit {0}
 
 -- how the arguments are to be written
-abbrev pub usage : List ℕ
-usage = codes "usage: tidy [--log LOG] FILE"
+abbrev pub tidy_usage : List ℕ
+tidy_usage = codes "usage: tidy [--log LOG] FILE"
 
 -- what is told of a failure
-abbrev pub message : TidyFailure → List ℕ
-message (Unreadable name) = codes "tidy: cannot read " ++ message_text name.now
-message (Unwritable name) = codes "tidy: cannot write " ++ message_text name.now
-message Memory = codes "tidy: out of memory"
+abbrev pub tidy_message : TidyFailure → List ℕ
+tidy_message (Unreadable name) = cannot (codes "tidy") (codes "read") name.now
+tidy_message (Unwritable name) = cannot (codes "tidy") (codes "write") name.now
+tidy_message Memory = codes "tidy: out of memory"
 
--- how a run ends: nothing is told; the report is printed, once it is in LOG where that is given; it couldn't be printed; it couldn't be
--- written to LOG; there is none, for this reason; or the arguments aren't of the form
-pub data End : Type 0 where
-  Clean : End
-  Found : (shown : List ℕ) (logged : Option (List ℕ)) → End
-  Unprinted : (shown : List ℕ) (logged : Option (List ℕ)) → End
-  Unlogged : (shown plain : List ℕ) (failure : TidyFailure) → End
-  Failed : (failure : TidyFailure) → End
-  BadUsage : End
+-- the ways in which a run ends: nothing is told; the report is printed, once it is in LOG where that is given; it couldn't be printed; it
+-- couldn't be written to LOG; there is none, for this reason; or the arguments aren't of the form
+pub data TidyWay : Type 0 where
+  Clean : TidyWay
+  Found : (shown : List ℕ) (logged : Option (List ℕ)) → TidyWay
+  Unprinted : (shown : List ℕ) (logged : Option (List ℕ)) → TidyWay
+  Unlogged : (shown plain : List ℕ) (failure : TidyFailure) → TidyWay
+  Failed : (failure : TidyFailure) → TidyWay
+  BadUsage : TidyWay
 
 -- whether a run for a line may end so, over what FILE holds and by what rules tell of a source
-abbrev pub MayEnd : CommandLine → Option (List ℕ) → (List ℕ → List Told) → End → Type 0
-MayEnd line file tells Clean = (source : List ℕ) × Reads line file source × (tells source ≡ [])
-MayEnd line file tells (Found shown logged) = IsReport line file tells shown logged
-MayEnd line file tells (Unprinted shown logged) = IsReport line file tells shown logged
-MayEnd line file tells (Unlogged shown plain failure) = IsReport line file tells shown (Some plain) × Unlogs line failure
-MayEnd line file tells (Failed failure) = Fails line file failure
-MayEnd line file tells BadUsage = ⊥
+abbrev pub MayTidy : CommandLine → Option (List ℕ) → (List ℕ → List Told) → TidyWay → Type 0
+MayTidy line file tells Clean = (source : List ℕ) × Reads line file source × (tells source ≡ [])
+MayTidy line file tells (Found shown logged) = IsReport line file tells shown logged
+MayTidy line file tells (Unprinted shown logged) = IsReport line file tells shown logged
+MayTidy line file tells (Unlogged shown plain failure) = IsReport line file tells shown (Some plain) × Unlogs line failure
+MayTidy line file tells (Failed failure) = TidyFails line file failure
+MayTidy line file tells BadUsage = ⊥
 
--- the status that it ends with
-abbrev pub status_of : End → ℕ
-status_of Clean = 0
-status_of (Found shown logged) = 1
-status_of (Unprinted shown logged) = 2
-status_of (Unlogged shown plain failure) = 2
-status_of (Failed failure) = 2
-status_of BadUsage = 2
+-- the same of a run for these arguments, which is misused where they aren't of the form
+abbrev pub MayTidyFor : List Argument → Option (List ℕ) → (List ℕ → List Told) → TidyWay → Type 0
+MayTidyFor args file tells way = MatchOption (command_line_of args) (way ≡ BadUsage) (λ line. MayTidy line file tells way)
 
--- what standard output is given
-abbrev pub out_of : End → Output
-out_of Clean = Silent
-out_of (Found shown logged) = Whole shown
-out_of (Unprinted shown logged) = CutShort shown
-out_of (Unlogged shown plain failure) = Silent
-out_of (Failed failure) = Silent
-out_of BadUsage = Silent
+-- the end that it is then
+abbrev pub tidy_end : TidyWay → End
+tidy_end Clean = printing Silent 0
+tidy_end (Found shown logged) = printing (Whole shown) 1
+tidy_end (Unprinted shown logged) = printing (CutShort shown) 2
+tidy_end (Unlogged shown plain failure) = telling (tidy_message failure) 2
+tidy_end (Failed failure) = telling (tidy_message failure) 2
+tidy_end BadUsage = telling tidy_usage 2
 
 -- what LOG is given where its text is written, which there is none of without LOG
 abbrev pub all_logged : Option (List ℕ) → Output
 all_logged None = Silent
 all_logged (Some plain) = Whole plain
 
--- what LOG is given
-abbrev pub log_of : End → Output
+-- what LOG is given then
+abbrev pub log_of : TidyWay → Output
 log_of Clean = Silent
 log_of (Found shown logged) = all_logged logged
 log_of (Unprinted shown logged) = all_logged logged
@@ -125,23 +117,10 @@ log_of (Unlogged shown plain failure) = CutShort plain
 log_of (Failed failure) = Silent
 log_of BadUsage = Silent
 
--- what standard error is given
-abbrev pub err_of : End → Output
-err_of Clean = Silent
-err_of (Found shown logged) = Silent
-err_of (Unprinted shown logged) = Silent
-err_of (Unlogged shown plain failure) = Tells (message failure)
-err_of (Failed failure) = Tells (message failure)
-err_of BadUsage = Tells usage
-
--- a run of these arguments ends with this status, and gives the three writers what they are given
-pub record Ends (args : List Argument) (file : Option (List ℕ)) (tells : List ℕ → List Told) (status : ℕ) (Out Err Log : Output → Type 0) : Type 0 where
-  pub end : End
-  pub may : MatchOption (command_line_of args) (end ≡ BadUsage) (λ line. MayEnd line file tells end)
-  pub status_is : status ≡ status_of end
-  pub out : Out (out_of end)
-  pub err : Err (err_of end)
-  pub log : Log (log_of end)
+-- a run of these arguments ends with this status, and gives the two streams what they are given, and LOG too
+pub record TidyEnds (args : List Argument) (file : Option (List ℕ)) (tells : List ℕ → List Told) (status : ℕ) (Out Err Log : Output → Type 0) : Type 0 where
+  pub ends : Ends (MayTidyFor args file tells) tidy_end status Out Err
+  pub log : Log (log_of ends.way)
 
 -- what is written of texts: the first goes to standard output, and with LOG the second to that, all of it
 abbrev pub AreGiven : Option Argument → (List ℕ → Type 0) → (Output → Type 0) → List (List ℕ) → Type 0

@@ -1,6 +1,6 @@
 //! A run of the program, over the bytes of a file and three writers.
-ghost use Rattle.std.specs.Prelude.{◌≡◌, ◌≢◌, ◌≤◌, ◌⊎◌, [], ◌++◌, None, IsOk, IsNone, IfErr, IfOk, IfSome, IsSomeAnd};
-ghost use Rattle.std.specs.Prelude.{MatchOption, SomeIff, codes, length, map, string_bytes};
+ghost use Rattle.std.specs.Prelude.{◌≡◌, ◌≢◌, ◌≤◌, ◌⊎◌, [], None, IsOk, IfErr, IfOk, IfSome, IsSomeAnd, length, map};
+ghost use Rattle.std.specs.Prelude.{string_bytes};
 ghost use Rattle.std.specs.List.{AllZip, flat_map};
 ghost use Rattle.std.specs.Option.{option_copied};
 ghost use Rattle.annotate_snippets.specs.Fault.{IsWithinBounds};
@@ -11,8 +11,7 @@ ghost use Rattle.program.specs.Lent.{IsLentFor, stream_of};
 ghost use Rattle.program.specs.Stream.{Receives, Told};
 ghost use Rattle.tidy_run.specs.Findings.{findings_of};
 ghost use Rattle.tidy_run.specs.Report.{tidy_settings, told_of};
-ghost use Rattle.tidy_run.specs.Run.{AreTextsOf, Becomes, Ends, Fails, IsSource, Reads, message, sheets_for};
-ghost use Rattle.tidy_run.specs.Run as spec;
+ghost use Rattle.tidy_run.specs.Run.{AreTextsOf, Becomes, Reads, TidyEnds, TidyFails, sheets_for, tidy_message};
 ghost use Rattle.tidy_run.specs.Arguments.{command_line_of, said, arguments_at};
 
 use crate::arguments::{TidyCommand, command_of};
@@ -24,10 +23,10 @@ use annotate_snippets::renderer::style::Stylesheet;
 use annotate_snippets::text::text_fits;
 use annotate_snippets::{Group, Renderer};
 use program::lent::LentStream;
-use program::message::message_text;
+use program::message::cannot;
+use program::source::source_of;
 use std::alloc::{AllocError, Global};
 use std::io::Write;
-use std::str;
 
 /// How the arguments are to be written.
 const USAGE: &str = "usage: tidy [--log LOG] FILE";
@@ -51,15 +50,6 @@ enum TidyFailure<'a> {
     Unwritable(&'a str),
     /// A growth of memory was refused.
     Memory,
-}
-
-/// The file's text; `None` where it can't be read, isn't UTF-8 or is too long.
-fn source_of(file: Option<&[u8]>) -> Option<&str>
-    ensures value { MatchOption (option_copied file.entry) (IsNone result)
-        (λ bytes. SomeIff (option_copied result) (IsSource bytes) bytes) }
-{
-    let source = str::from_utf8(file?).ok()?;
-    text_fits(source).then_some(source)
 }
 
 /// The texts of a report within bounds, one under each sheet; none where there are no groups.
@@ -140,7 +130,7 @@ fn texts_of<'a>(
         AreTextsOf command.now.file.now source
         (flat_map (λ rule. told_of (title_of rule) (findings_of (finds rule source) source)) rules.now)
         (sheets_for (said command.now).log) (map string_bytes texts.items))) }
-    ensures fails { IfErr result (Fails (said command.now) (option_copied file.entry)) }
+    ensures fails { IfErr result (TidyFails (said command.now) (option_copied file.entry)) }
 {
     let Some(source) = source_of(file) else {
         return Err(TidyFailure::Unreadable(command.file));
@@ -198,29 +188,20 @@ fn write_texts<'a, W: Write, L: Write>(
 
 /// What is told of a failure.
 fn message_of(alloc: Global, failure: TidyFailure<'_>) -> Result<String, AllocError>
-    ensures message { IfOk result (λ text. string_bytes text ≡ message failure.entry) }
+    ensures message { IfOk result (λ text. string_bytes text ≡ tidy_message failure.entry) }
 {
     match failure {
-        TidyFailure::Unreadable(name) => cannot(alloc, "read", name),
-        TidyFailure::Unwritable(name) => cannot(alloc, "write", name),
+        TidyFailure::Unreadable(name) => cannot(alloc, "tidy", "read", name),
+        TidyFailure::Unwritable(name) => cannot(alloc, "tidy", "write", name),
         TidyFailure::Memory => Err(AllocError),
     }
-}
-
-/// What is told where this can't be done to the file of this name.
-fn cannot(alloc: Global, verb: &str, name: &str) -> Result<String, AllocError>
-    ensures message { IfOk result (λ text.
-        string_bytes text ≡ codes "tidy: cannot " ++ (verb.now ++ (codes " " ++ spec.message_text name.now))) }
-{
-    let shown = message_text(alloc, name)?;
-    format!(in alloc; "tidy: cannot {verb} {shown}")
 }
 
 /// Tells a failure, or that there was no memory for that.
 fn tell<V: Write>(alloc: Global, failure: TidyFailure<'_>, err: &mut LentStream<'_, V>)
     ensures same_reference { err.new.target.ghost_name ≡ err.old.target.ghost_name }
-    ensures told { Receives V.contents (stream_of err.old) (stream_of err.new) (Told (message failure.entry))
-        ⊎ Receives V.contents (stream_of err.old) (stream_of err.new) (Told (message TidyFailure.Memory)) }
+    ensures told { Receives V.contents (stream_of err.old) (stream_of err.new) (Told (tidy_message failure.entry))
+        ⊎ Receives V.contents (stream_of err.old) (stream_of err.new) (Told (tidy_message TidyFailure.Memory)) }
 {
     match message_of(alloc, failure) {
         Ok(message) => err.write_line(message.as_str()),
@@ -259,7 +240,7 @@ pub fn run<W: Write, V: Write, L: Write>(
     ensures usage { command_line_of (arguments_at args.now) ≡ None → result ≡ 2 }
 
     // By cases: which status, what each writer is given, and when that is so.
-    ensures ends { Ends (arguments_at args.now) (option_copied file.entry)
+    ensures ends { TidyEnds (arguments_at args.now) (option_copied file.entry)
         (λ source. flat_map (λ rule. told_of (title_of rule) (findings_of (finds rule source) source)) rules.now) result
         (IsLentFor W.contents out.old out.new) (IsLentFor V.contents err.old err.new)
         (IsLentFor L.contents log.old log.new) }
@@ -295,7 +276,7 @@ fn run_lent<W: Write, V: Write, L: Write>(
     ensures usage { command_line_of (arguments_at args.now) ≡ None → result ≡ 2 }
 
     // The cases of [`run`], of streams that keep whether a write failed: only then is a line cut short.
-    ensures ends { Ends (arguments_at args.now) (option_copied file.entry)
+    ensures ends { TidyEnds (arguments_at args.now) (option_copied file.entry)
         (λ source. flat_map (λ rule. told_of (title_of rule) (findings_of (finds rule source) source)) rules.now) result
         (Receives W.contents (stream_of out.old) (stream_of out.new))
         (Receives V.contents (stream_of err.old) (stream_of err.new))

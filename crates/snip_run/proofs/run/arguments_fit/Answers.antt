@@ -6,7 +6,7 @@ use Rattle.std.proofs.lemmas.Iterator.Search.{true_from_All}
 use Rattle.std.proofs.lemmas.List.{get_or-map, length-map}
 use Rattle.std.proofs.lemmas.List.Elements.{All-map, All-from_all_within}
 use Rattle.snip_run.specs.Arguments.{Argument, arguments_at}
-use Rattle.snip_run.specs.Text.{TextFits}
+use Rattle.annotate_snippets.specs.Fits.{TextFits}
 use Rattle.snip_run.proofs.run.arguments_fit.Goals as goal
 
 -- a reference leads to a text that fits, or to one that doesn't
