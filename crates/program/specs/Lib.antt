@@ -1,5 +1,7 @@
 pub mod Stream
 pub mod Arguments
+pub mod Numbers
+pub mod CommandLine
 pub mod Message
 pub mod Lent
 pub mod Ending

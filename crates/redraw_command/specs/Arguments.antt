@@ -1,21 +1,20 @@
 -- What the arguments of a command line ask for.
-use Rattle.std.specs.Prelude.{◌≡◌, ◌≢◌, ◌⊎◌, ℕ, ◌^◌, Bool, true, false, ◌&&◌, ◌||◌, List, [], ◌∷◌, Option, Some, None, codes}
-use Rattle.std.specs.Prelude.{if◌then◌else◌, bytes_eq, nat_lt, not, option_map}
+use Rattle.std.specs.Prelude.{◌≡◌, ◌≢◌, Bool, true, ◌&&◌, ◌||◌, List, [], ◌∷◌, Option, Some, None, codes}
+use Rattle.std.specs.Prelude.{if◌then◌else◌, bytes_eq, not, option_map}
 use Rattle.std.specs.Borrow.{Bor}
-use Rattle.std.specs.Option.{option_and_then, option_map_or}
-use Rattle.std.specs.Str.Parse.{digits_value, without_leading_plus}
+use Rattle.std.specs.Option.{option_and_then}
 use Rattle.clap.specs.Faults.{fault_of}
 use Rattle.clap.specs.Kinds.{IsAmong}
-use Rattle.clap.specs.Lexer.{usize_max}
-use Rattle.clap.specs.Simple.{App, matches_of, new_app, new_rule, on_top, with_rule}
-use Rattle.clap.specs.ValueTests.{is_numeral}
+use Rattle.clap.specs.Simple.{App, matches_of, new_app, on_top, with_rule}
 use Rattle.clap.specs.Walk.{Row, Rule, all_of, first_of}
-use Rattle.clap.specs.declared.builder.action.ArgAction.TheVariants.{Append, Set, SetTrue}
 use Rattle.clap.specs.declared.builder.value_parser.ValueParser.{ValueParser}
 use Rattle.clap.specs.declared.builder.value_parser.ValueParser.TheVariants.{Names, NonEmptyString, Unsigned}
 use Rattle.clap.specs.declared.error.kind.ErrorKind.{ErrorKind}
 use Rattle.clap.specs.declared.error.kind.ErrorKind.TheVariants.{DisplayHelp, DisplayVersion}
 pub use Rattle.program.specs.Arguments.{Argument, arguments_at}
+pub use Rattle.program.specs.CommandLine.{AsksToShow}
+use Rattle.program.specs.CommandLine.{files_rule, flag_rule, valued_rule, was_given}
+use Rattle.program.specs.Numbers.{number_after_plus}
 use Rattle.redraw_command.specs.declared.choice.Choice.{Choice}
 use Rattle.redraw_command.specs.declared.choice.OutputForm.{OutputForm}
 use Rattle.redraw_command.specs.declared.choice.OutputForm.TheVariants.{Report, Workflow}
@@ -28,26 +27,9 @@ use Rattle.redraw_command.specs.declared.arguments.RedrawRequest.{RedrawRequest}
 
 -- ---- what may be written, as clap reads it
 
--- an option that stands alone: two hyphens and this name
-abbrev pub flag_rule : Argument → Rule
-flag_rule name = record (new_rule name) { long = Some name; action = Some SetTrue }
-
 -- an option that has a value after it, which has to be such a one
-abbrev pub valued_rule : Argument → ValueParser → Rule
-valued_rule name parser = record (new_rule name) {
-  long = Some name;
-  action = Some Set;
-  value_names = 1;
-  parser = Some parser;
-}
-
--- the files: as many as there are
-abbrev pub inputs_rule : Rule
-inputs_rule = record (new_rule (codes "inputs")) {
-  action = Some Append;
-  range = Some (record { start_inclusive = 0; end_inclusive = usize_max });
-  value_names = 1;
-}
+abbrev pub parsed_rule : Argument → ValueParser → Rule
+parsed_rule name parser = record (valued_rule name) { parser = Some parser }
 
 -- the options that say in which form reports are written, and that stand alone
 abbrev pub form_rules : List Rule
@@ -71,9 +53,9 @@ level_words = codes "error" ∷ codes "warning" ∷ codes "note" ∷ []
 -- the options that have a value after them, where these are the words for two of them
 abbrev pub valued_rules : (colors levels : Bor (List (Bor Argument))) → List Rule
 valued_rules colors levels =
-    valued_rule (codes "color") (Names colors) ∷ valued_rule (codes "width") (Unsigned 0 18446744073709551615)
-    ∷ valued_rule (codes "root") NonEmptyString ∷ valued_rule (codes "level") (Names levels)
-    ∷ valued_rule (codes "path") NonEmptyString ∷ []
+    parsed_rule (codes "color") (Names colors) ∷ parsed_rule (codes "width") (Unsigned 0 18446744073709551615)
+    ∷ parsed_rule (codes "root") NonEmptyString ∷ parsed_rule (codes "level") (Names levels)
+    ∷ parsed_rule (codes "path") NonEmptyString ∷ []
 
 -- a command with more options
 abbrev pub with_rules : App → List Rule → App
@@ -88,7 +70,7 @@ bare_app = on_top (λ s. record s { no_binary_name = true; has_version = true; a
 -- the command, where these are the words for two of its options
 abbrev pub redraw_app : (colors levels : Bor (List (Bor Argument))) → App
 redraw_app colors levels =
-    with_rule (with_rules (with_rules (with_rules bare_app form_rules) flag_rules) (valued_rules colors levels)) inputs_rule
+    with_rule (with_rules (with_rules (with_rules bare_app form_rules) flag_rules) (valued_rules colors levels)) (files_rule (codes "inputs"))
 
 -- that command. Where in memory the words for two of its options stand is left open
 pub record IsRedraw (app : App) : Type 0 where
@@ -100,10 +82,6 @@ pub record IsRedraw (app : App) : Type 0 where
 
 -- ---- what is asked for, by what clap finds
 
--- an option that stands alone was given
-abbrev pub was_given : Argument → List Row → Bool
-was_given name found = option_map_or (λ value. bytes_eq value (codes "true")) (first_of name found) false
-
 -- when colours are written where `--color` isn't given: always with `--styled`, else on a terminal that shows them
 abbrev pub otherwise : Bool → When
 otherwise is_styled = if is_styled then Always else Auto
@@ -113,12 +91,6 @@ abbrev pub when_of : Option Argument → Bool → When
 when_of None is_styled = otherwise is_styled
 when_of (Some argument) is_styled =
     if bytes_eq argument (codes "always") then Always else (if bytes_eq argument (codes "never") then Never else otherwise is_styled)
-
--- the number that decimal digits write, after a plus or without, where it fits in 64 bits
-abbrev pub number_of : Argument → Option ℕ
-number_of argument =
-    let digits = without_leading_plus argument in
-    if is_numeral digits && nat_lt (digits_value 10 digits) (2 ^ 64) then Some (digits_value 10 digits) else None
 
 -- the least level that is drawn, by the argument after `--level`, if that is given
 abbrev pub least_of : Option Argument → Least
@@ -144,7 +116,7 @@ look_of found = record {
   github = was_given (codes "github") found;
   colors = when_of (first_of (codes "color") found) (was_given (codes "styled") found);
   links = was_given (codes "links") found;
-  width = option_and_then number_of (first_of (codes "width") found);
+  width = option_and_then number_after_plus (first_of (codes "width") found);
 }
 
 -- which findings are drawn, and in which form, by what is found
@@ -173,10 +145,6 @@ pub record IsRequestOf (found : List Row) (r : RedrawRequest) : Type 0 where
 pub record AsksFor (app : App) (args : List Argument) (r : RedrawRequest) : Type 0 where
   pub clean : fault_of app args ≡ []
   pub is : IsRequestOf (matches_of app args) r
-
--- the arguments ask for the help or the version: that is what ends clap's reading
-abbrev pub AsksToShow : App → List Argument → Type 0
-AsksToShow app args = IsAmong DisplayHelp (fault_of app args) ⊎ IsAmong DisplayVersion (fault_of app args)
 
 -- the arguments are wrong: something other than these ends clap's reading
 pub record AreWrong (app : App) (args : List Argument) : Type 0 where

@@ -1,7 +1,7 @@
 -- When colours and links are written.
 use Rattle.std.specs.Prelude.{ℕ, Bool, true, false, ◌&&◌, ◌||◌, List, [], ◌∷◌, Option, Some, None, bytes_eq, codes, not, zero, suc}
 use Rattle.std.specs.Option.{option_and_then}
-use Rattle.redraw_command.specs.Arguments.{number_of}
+use Rattle.program.specs.Numbers.{number_after_plus}
 use Rattle.redraw_command.specs.declared.terminal.Look.{Look}
 use Rattle.redraw_command.specs.declared.terminal.Surroundings.{Surroundings}
 use Rattle.redraw_command.specs.declared.terminal.When.{When}
@@ -49,4 +49,4 @@ some_columns (suc n) = Some (suc n)
 
 -- the width of the terminal, by what `COLUMNS` is set to
 abbrev pub columns_of : Option (List ℕ) → Option ℕ
-columns_of value = option_and_then some_columns (option_and_then number_of value)
+columns_of value = option_and_then some_columns (option_and_then number_after_plus value)

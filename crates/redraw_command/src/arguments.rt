@@ -5,15 +5,18 @@ ghost use Rattle.clap.specs.Words.{FailsBy, app_of, fault_of, found_of, rows_of,
 ghost use Rattle.clap.specs.Walk.{all_of, first_of};
 ghost use Rattle.clap.specs.Simple.{matches_of as rows_for};
 ghost use Rattle.std.specs.Option.{option_and_then};
+ghost use Rattle.program.specs.Numbers as numbers;
 ghost use Rattle.redraw_command.specs.Arguments as spec;
-ghost use Rattle.redraw_command.specs.Arguments.{IsChoiceOf, IsRedraw, IsRequestOf, flag_rule, form_rules};
-ghost use Rattle.redraw_command.specs.Arguments.{flag_rules, inputs_rule, names_at, valued_rule, valued_rules};
-ghost use Rattle.redraw_command.specs.Arguments.{was_given, when_of, with_rules, argument_at, arguments_at};
+ghost use Rattle.redraw_command.specs.Arguments.{IsChoiceOf, IsRedraw, IsRequestOf, form_rules, flag_rules, names_at};
+ghost use Rattle.redraw_command.specs.Arguments.{parsed_rule, valued_rules, when_of, with_rules};
+ghost use Rattle.redraw_command.specs.Arguments.{argument_at, arguments_at};
 
 use crate::choice::{Choice, Least, OutputForm};
 use crate::terminal::{Look, When};
 use clap::builder::ValueParser;
-use clap::{Arg, ArgAction, ArgMatches, Command, Error};
+use clap::{Arg, ArgMatches, Command, Error};
+use program::command_line::{files, flag, valued, was_given};
+use program::number::number_after_plus;
 use std::alloc::{AllocError, Global};
 
 /// What a command line asks for.
@@ -67,7 +70,7 @@ fn command<'a>(alloc: Global) -> Result<Command<'a>, AllocError>
     let formed = with_forms(alloc, command)?;
     let flagged = with_flags(alloc, formed)?;
     let valued = with_values(alloc, flagged)?;
-    let whole = valued.arg(inputs(alloc))?;
+    let whole = valued.arg(files(alloc, "inputs", INPUTS))?;
     Ok(whole)
 }
 
@@ -145,35 +148,35 @@ fn with_values<'a>(alloc: Global, command: Command<'a>) -> Result<Command<'a>, A
 {
     let colors = color_words();
     let levels = level_words();
-    let color = valued(
+    let color = parsed(
         alloc,
         "color",
         "WHEN",
         ValueParser::Names(colors),
         "When colors are written: auto is on a terminal",
     );
-    let width = valued(
+    let width = parsed(
         alloc,
         "width",
         "COLUMNS",
         ValueParser::Unsigned(0, u64::MAX),
         "The width that lines are cut to; else that of COLUMNS, else 140",
     );
-    let root = valued(
+    let root = parsed(
         alloc,
         "root",
         "DIR",
         ValueParser::NonEmptyString,
         "The folder that files are read below, and that paths are shown from",
     );
-    let level = valued(
+    let level = parsed(
         alloc,
         "level",
         "LEVEL",
         ValueParser::Names(levels),
         "Draw only what is of this level or above",
     );
-    let path = valued(
+    let path = parsed(
         alloc,
         "path",
         "TEXT",
@@ -189,46 +192,18 @@ fn with_values<'a>(alloc: Global, command: Command<'a>) -> Result<Command<'a>, A
     Ok(valued)
 }
 
-/// An option that stands alone.
-fn flag<'a>(alloc: Global, name: &'a str, help: &'a str) -> Arg<'a>
-    ensures rule { rule_of result ≡ flag_rule name.entry.now }
-    ensures local { result.global ≡ false }
-{
-    Arg::new(alloc, name)
-        .long(name)
-        .help(help)
-        .action(ArgAction::SetTrue)
-}
-
-/// An option that has a value after it.
-fn valued<'a>(
+/// An option that has a value after it, which has to be such a one.
+fn parsed<'a>(
     alloc: Global,
     name: &'a str,
     value: &'a str,
     parser: ValueParser<'a>,
     help: &'a str,
 ) -> Arg<'a>
-    ensures rule { rule_of result ≡ valued_rule name.entry.now parser.entry }
+    ensures rule { rule_of result ≡ parsed_rule name.entry.now parser.entry }
     ensures local { result.global ≡ false }
 {
-    Arg::new(alloc, name)
-        .long(name)
-        .value_name(value)
-        .value_parser(parser)
-        .help(help)
-        .action(ArgAction::Set)
-}
-
-/// The files.
-fn inputs<'a>(alloc: Global) -> Arg<'a>
-    ensures rule { rule_of result ≡ inputs_rule }
-    ensures local { result.global ≡ false }
-{
-    Arg::new(alloc, "inputs")
-        .value_name("FILE")
-        .help(INPUTS)
-        .action(ArgAction::Append)
-        .num_args(0..)
+    valued(alloc, name, value, help).value_parser(parser)
 }
 
 /// What the arguments are matched with, or what is to be told in place of that: what is wrong with them, the help or
@@ -248,8 +223,11 @@ pub fn request_of<'w, 'a>(matches: &'w ArgMatches<'a>) -> RedrawRequest<'w, 'a>
     RedrawRequest {
         look: look_of(matches),
         root: argument_after(matches, "root"),
-        confines_lines: has(matches, "confined"),
-        confines_logs: confines_logs(has(matches, "confined"), has(matches, "unconfined")),
+        confines_lines: was_given(matches, "confined"),
+        confines_logs: confines_logs(
+            was_given(matches, "confined"),
+            was_given(matches, "unconfined"),
+        ),
         choice: choice_of(matches),
         inputs: inputs_of(matches),
     }
@@ -260,16 +238,6 @@ fn confines_logs(is_confined: bool, is_unconfined: bool) -> bool
     ensures value { result ≡ is_confined || not is_unconfined }
 {
     is_confined || !is_unconfined
-}
-
-/// Whether an option that stands alone was given.
-fn has(matches: &ArgMatches<'_>, name: &str) -> bool
-    ensures value { result ≡ was_given name.now (rows_of (found_of matches.now)) }
-{
-    match matches.get_str(name) {
-        Some(value) => value == "true",
-        None => false,
-    }
 }
 
 /// The argument after an option, if that was given.
@@ -293,13 +261,13 @@ fn look_of(matches: &ArgMatches<'_>) -> Look
     let color = argument_after(matches, "color");
     let width = argument_after(matches, "width");
     Look {
-        unicode: has(matches, "unicode"),
-        text: has(matches, "text"),
-        short: has(matches, "short"),
-        html: is_html(has(matches, "html"), has(matches, "github")),
-        github: has(matches, "github"),
-        colors: colors_of(color, has(matches, "styled")),
-        links: has(matches, "links"),
+        unicode: was_given(matches, "unicode"),
+        text: was_given(matches, "text"),
+        short: was_given(matches, "short"),
+        html: is_html(was_given(matches, "html"), was_given(matches, "github")),
+        github: was_given(matches, "github"),
+        colors: colors_of(color, was_given(matches, "styled")),
+        links: was_given(matches, "links"),
         width: width_of(width),
     }
 }
@@ -324,16 +292,9 @@ fn colors_of(argument: Option<&str>, is_styled: bool) -> When
 
 /// The width that lines are cut to, if one is given.
 fn width_of(argument: Option<&str>) -> Option<usize>
-    ensures value { result ≡ option_and_then spec.number_of (argument_at argument.entry) }
+    ensures value { result ≡ option_and_then numbers.number_after_plus (argument_at argument.entry) }
 {
-    number_of(argument?)
-}
-
-/// The number that an argument of decimal digits writes; `None` for another argument, and where the number doesn't fit.
-pub fn number_of(argument: &str) -> Option<usize>
-    ensures value { result ≡ spec.number_of argument.now }
-{
-    argument.parse().ok()
+    number_after_plus(argument?)
 }
 
 /// Which findings are to be drawn, and in which form.
@@ -341,11 +302,11 @@ fn choice_of<'a>(matches: &ArgMatches<'a>) -> Choice<'a>
     ensures asked { IsChoiceOf (rows_of (found_of matches.now)) result }
 {
     Choice {
-        form: form_of(has(matches, "github")),
+        form: form_of(was_given(matches, "github")),
         least: least_of(argument_after(matches, "level")),
         path: argument_after(matches, "path"),
-        has_duplicates: has(matches, "duplicates"),
-        is_quiet: has(matches, "quiet"),
+        has_duplicates: was_given(matches, "duplicates"),
+        is_quiet: was_given(matches, "quiet"),
     }
 }
 

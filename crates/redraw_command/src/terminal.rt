@@ -3,7 +3,7 @@ ghost use Rattle.std.specs.Prelude.{◌≡◌};
 ghost use Rattle.redraw_command.specs.Arguments.{argument_at};
 ghost use Rattle.redraw_command.specs.Look as spec;
 
-use crate::arguments::number_of;
+use program::number::number_after_plus;
 
 /// When colors are written.
 #[derive(Clone, Copy, PartialEq, Eq)]
@@ -99,7 +99,7 @@ fn is_dumb(name: Option<&str>) -> bool
 pub fn columns_of(value: Option<&str>) -> Option<usize>
     ensures value { result ≡ spec.columns_of (argument_at value.entry) }
 {
-    match number_of(value?) {
+    match number_after_plus(value?) {
         Some(0) => None,
         columns => columns,
     }

@@ -1,21 +1,13 @@
 -- What the arguments of a command line say.
-use Rattle.std.specs.Prelude.{◌≡◌, ℕ, ◌^◌, ◌<◌, ◌≤◌, true, false, List, [], ◌∷◌, ◌++◌, Option, Some, None, fold, codes, length, drop, All, Contains}
+use Rattle.std.specs.Prelude.{◌≡◌, ℕ, ◌<◌, ◌≤◌, true, false, List, [], ◌∷◌, ◌++◌, Option, Some, None, fold, codes, length, drop, All, Contains}
 use Rattle.std.specs.Borrow.{Bor}
 use Rattle.std.specs.List.{flat_map}
 use Rattle.std.specs.Option.{option_map, option_to_list}
-use Rattle.std.specs.Str.Parse.{IsNumeral, digits_value}
 use Rattle.program.specs.declared.options.Options.{Options}
 pub use Rattle.program.specs.Arguments.{Argument, arguments_at}
+use Rattle.program.specs.Numbers.{IsNumber, number_in}
 use Rattle.snip_run.specs.declared.arguments.SnipCommand.{SnipCommand}
 use Rattle.snip_run.specs.declared.arguments.Operands.{Operands}
-
--- decimal digits alone, one or more, whose number fits in 64 bits
-abbrev pub IsNumber : Argument → Type 0
-IsNumber argument = IsNumeral 10 argument × (digits_value 10 argument < 2 ^ 64)
-
--- the number that an argument of decimal digits writes
-abbrev pub number_in : Argument → ℕ
-number_in argument = digits_value 10 argument
 
 -- an option as it is given: one argument, or `--width` and the argument after it
 pub data Setting : Type 0 where

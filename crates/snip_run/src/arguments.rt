@@ -2,12 +2,13 @@
 
 ghost use Rattle.std.specs.Prelude.{◌≡◌, ◌↔◌, ◌++◌, IsTrue, IsSome, IsNone, IfSome, IsSomeAnd, SomeIff, Contains, List};
 ghost use Rattle.std.specs.Prelude.{is_some};
-ghost use Rattle.snip_run.specs.Arguments.{Argument, arguments_at, IsNumber, number_in, Setting, arguments_of};
+ghost use Rattle.snip_run.specs.Arguments.{Argument, arguments_at, Setting, arguments_of};
 ghost use Rattle.snip_run.specs.Arguments.{option_names, IsSound};
 ghost use Rattle.snip_run.specs.Arguments.{no_options, CommandLine, operands_of, line_without_options, HasOperands};
 ghost use Rattle.snip_run.specs.Arguments.{AreLine, IsCommandLine};
 ghost use Rattle.snip_run.specs.Arguments.{IsCommandOf, TakesOption, Says};
 
+use program::number::number_of;
 use program::options::Options;
 
 /// What a command line asks for.
@@ -45,17 +46,6 @@ fn is_option_name(argument: &str) -> bool
         argument,
         "--unicode" | "--text" | "--short" | "--styled" | "--width"
     )
-}
-
-/// The number that an argument of decimal digits alone writes; `None` for another one, and where the number doesn't
-/// fit.
-fn number_of(argument: &str) -> Option<usize>
-    ensures value { SomeIff result (IsNumber argument.now) (number_in argument.now) }
-{
-    match argument.as_bytes() {
-        [b'+', ..] => None,
-        _ => argument.parse().ok(),
-    }
 }
 
 /// The options with the one that the arguments begin with, and how many arguments give it; `None` where they begin

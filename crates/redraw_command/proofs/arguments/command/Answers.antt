@@ -26,7 +26,7 @@ returns c =
         levels = levels;
         color_words = color_words;
         level_words = level_words;
-        is = c.in_ok-whole.ensures.shape c.inputs.ensures.local
-            ∙ ap₂ with_rule (valued ∙ ap (λ (app : App). with_rules app (valued_rules colors levels)) flagged) c.inputs.ensures.rule;
+        is = c.in_ok-whole.ensures.shape c.files.ensures.local
+            ∙ ap₂ with_rule (valued ∙ ap (λ (app : App). with_rules app (valued_rules colors levels)) flagged) c.files.ensures.rule;
       };
     }

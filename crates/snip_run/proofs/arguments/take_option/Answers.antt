@@ -14,9 +14,9 @@ pub returns-in_ok-number_of-in-text-5-clause-taken : goal.returns-in_ok-number_o
 returns-in_ok-number_of-in-text-5-clause-taken c =
     record {
       setting = Width _;
-      sound = c.in_ok-number_of-in-text-5.ensures.value.0;
+      sound = c.in_ok-number_of-in-text-5.ensures.digits.0;
       begins = two_arguments c.args.args.now _ _ c.in-text-5.len_at_least c.in-text-5.is-text;
       some = omega arith;
       within = c.in-text-5.len_at_least;
-      options = ap (λ (n : ℕ). let o : Options = record c.args.options { width = Some n } in o) c.in_ok-number_of-in-text-5.ensures.value.1;
+      options = ap (λ (n : ℕ). let o : Options = record c.args.options { width = Some n } in o) c.in_ok-number_of-in-text-5.ensures.digits.1;
     }

@@ -2,7 +2,7 @@ use Rattle.std.proofs.Common.{Bool, List, Option, ap, bytes_eq, codes, false, �
 use Rattle.std.specs.Option.{option_map_or}
 use Rattle.clap.specs.Words.{found_of}
 use Rattle.clap.proofs.WalkLemmas.{first_value-rows}
-use Rattle.redraw_command.proofs.arguments.has.Goals as goal
+use Rattle.program.proofs.command_line.was_given.Goals as goal
 
 abbrev is_true : Option (List ℕ) → Bool
 is_true value = option_map_or (λ text. bytes_eq text (codes "true")) value false
