@@ -1,6 +1,9 @@
 //! The arguments of the command line, and what files hold.
 
-use std::alloc::AllocError;
+ghost use Rattle.std.specs.Prelude.{◌≡◌, IfOk, map, string_bytes};
+ghost use Rattle.program.specs.Arguments.{arguments_at};
+
+use std::alloc::{AllocError, Global};
 use std::rt::{Env, Files};
 use std::{env, fs, io};
 
@@ -20,6 +23,17 @@ pub fn given_texts(rt: &(impl Env + AllocGlobal)) -> Result<Vec<String>, AllocEr
         Err(error) if error.kind() == io::ErrorKind::InvalidData => Ok(Vec::new(rt.alloc())),
         Err(_) => Err(AllocError),
     }
+}
+
+/// These texts, lent: a reference to each, in order.
+pub fn texts_lent<'a>(alloc: Global, texts: &'a [String]) -> Result<Vec<&'a str>, AllocError>
+    ensures texts { IfOk result (λ lent. arguments_at lent.items ≡ map string_bytes texts.now) }
+{
+    let mut lent = Vec::new(alloc);
+    for text in texts {
+        lent.push(text.as_str())?;
+    }
+    Ok(lent)
 }
 
 /// What the file of this path holds; `None` where it can't be read, or there is no path.

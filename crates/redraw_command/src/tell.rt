@@ -10,6 +10,7 @@ use crate::arguments::matches_of;
 use crate::unheeded::apart;
 use clap::error::ErrorKind;
 use output_stream::Stream;
+use program::input::texts_lent;
 use program::line::write_line;
 use program::message::{lines_of, message_text};
 use snippet_text::normalize_untrusted_str;
@@ -80,7 +81,7 @@ fn shown_error(alloc: Global, args: &[&str], error: &clap::Error) -> Result<Stri
 /// that have these pictures in place of line feeds. No name of an option has either, so what is wrong is the same.
 fn quoting_lines(alloc: Global, args: &[&str], error: &clap::Error) -> Result<String, AllocError> {
     let lines = lines_of(alloc, args)?;
-    let shown: Vec<&str> = lines.iter().map(|line| line.as_str()).collect(alloc)?;
+    let shown = texts_lent(alloc, &lines)?;
     match matches_of(alloc, &shown) {
         Ok(_matches) => format!(in alloc; "{error}"),
         Err(told) => told_or(alloc, &told, error),

@@ -5,7 +5,7 @@
 #![tactic(auto)]
 
 use program::exit::exit_code;
-use program::input::{file_bytes, given_texts};
+use program::input::{file_bytes, given_texts, texts_lent};
 use program::standing_in::stand_in;
 use std::alloc::AllocError;
 use std::process::ExitCode;
@@ -24,10 +24,7 @@ const STOPPED: u8 = 2;
 fn answer(rt: &HostRuntime) -> Result<u8, AllocError> {
     let alloc = rt.alloc();
     let given = given_texts(rt)?;
-    let args: Vec<&str> = given
-        .iter()
-        .map(|argument| argument.as_str())
-        .collect(alloc)?;
+    let args = texts_lent(alloc, &given)?;
     let bytes = file_bytes(rt, file_word(&args));
     let file = bytes.as_ref().map(|bytes| bytes.as_slice());
     let mut rules: Vec<Box<dyn Rule>> = Vec::new(alloc);
