@@ -1,6 +1,7 @@
 pub mod Stream
 pub mod Arguments
 pub mod Numbers
+pub mod Inputs
 pub mod CommandLine
 pub mod Message
 pub mod Lent

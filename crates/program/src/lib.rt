@@ -5,6 +5,7 @@
 pub mod command_line;
 pub mod exit;
 pub mod input;
+pub mod inputs;
 pub mod lent;
 pub mod line;
 pub mod message;

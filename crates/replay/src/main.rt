@@ -6,7 +6,7 @@
 
 use output_stream::Stream;
 use program::exit::exit_code;
-use program::input::given_arguments;
+use program::input::{given_arguments, texts_lent};
 use program::standing_in::stand_in;
 use replay_run::run::run;
 use std::io::{self, BufWriter};
@@ -19,10 +19,7 @@ const STOPPED: u8 = 2;
 fn answer(rt: &HostRuntime) -> io::Result<u8> {
     let alloc = rt.alloc();
     let given = given_arguments(rt)?;
-    let args: Vec<&str> = given
-        .iter()
-        .map(|argument| argument.as_str())
-        .collect(alloc)?;
+    let args = texts_lent(alloc, &given)?;
     let mut out = Stream::new(BufWriter::new(alloc, rt.stdout())?);
     let mut err = Stream::new(rt.stderr());
     Ok(run(rt, &args, &mut out, &mut err))

@@ -2,8 +2,7 @@
 use Rattle.std.proofs.Common.{◌≡◌, ◌⊎◌, ℕ, zero, suc, ◌+◌, ◌<◌, Bool, true, false, ◌||◌, List, [], ◌∷◌, ◌++◌, Bor, Option, arith, codes, length, take}
 use Rattle.std.proofs.Common.{slice_index_or, refl}
 use Rattle.std.proofs.Common.{sym, ap, ◌∙◌, subst, inl, inr}
-use Rattle.std.specs.Prelude.{IfErr, OnErr, OnOk, Result, Ok, Err, bytes_eq}
-use Rattle.std.proofs.lemmas.Bool.{false≢true}
+use Rattle.std.specs.Prelude.{IfErr, OnErr, OnOk, Result, Ok, Err}
 use Rattle.std.specs.Io.KnownBytes.{Appends, Keeps}
 use Rattle.std.specs.List.{concat, flat_map}
 use Rattle.std.proofs.KnownBytes.{Keeps-trans}
@@ -12,12 +11,13 @@ use Rattle.std.proofs.lemmas.List.Concat.{flat_map-append}
 use Rattle.std.proofs.lemmas.List.Elements.{All-push}
 use Rattle.output_stream.specs.Standing.{Gets, Standing, StaysFailed}
 use Rattle.output_stream.proofs.Writing.{gets_none, gets_stays}
+use Rattle.program.specs.Inputs.{IsNamed, input_name}
 use Rattle.replay_run.specs.WrittenAnswer.{AnswersLines, Numbered, first_after}
-use Rattle.replay_run.specs.Answered.{AnswersInputs, AnswersReader, AppendsFirst, AreRead, IsEndProblem, StopsAfter, StopsAt, StopsAtInput, StopsFor}
+use Rattle.replay_run.specs.Answered.{AnswersInputs, AnswersReader, AppendsFirst, AreRead, IsEndProblem, StopsAfter, StopsAtInput, StopsFor}
 use Rattle.replay_run.specs.Answered.{StopsInputs, StopsReader}
 use Rattle.replay_run.specs.Problem.{IsWrite}
-use Rattle.replay_run.specs.Arguments.{Argument, hyphen, arguments_at}
-use Rattle.replay_run.specs.Inputs.{NamedInput, held_by, input_name}
+use Rattle.replay_run.specs.Arguments.{Argument, arguments_at}
+use Rattle.replay_run.specs.Inputs.{NamedInput}
 use Rattle.replay_run.specs.declared.problem.Problem.{Problem}
 use Rattle.replay_run.specs.declared.lines.Way.{Way}
 use Rattle.replay_run.proofs.AnsweredLines.{answered_twice, first_twice, written_twice}
@@ -33,13 +33,13 @@ lines_push inputs input lines =
     flat_map-append (λ r. r.1) inputs ((input, lines) ∷ []) ∙ ap (λ (l : List Numbered). lines_of inputs ++ l) (append-nil lines)
 
 -- the inputs of these names are answered, and still_first tells whether still nothing is written
-pub record HaveAnswered (File Standard : Type 0) (held : NamedInput File Standard → Option (List ℕ)) (way : Way) (told : Bool) (names : List Argument)
+pub record HaveAnswered (File Standard : Type 0) (held : File ⊎ Standard → Option (List ℕ)) (way : Way) (told : Bool) (names : List Argument)
     (still_first : Bool) (old new : Standing) : Type 0 where
   pub all : AnswersInputs File Standard held way told names old new
   pub still : still_first ≡ first_after true (lines_of all.inputs)
 
 -- before any input is read nothing is answered
-pub none_answered : {File Standard : Type 0} (held : NamedInput File Standard → Option (List ℕ)) (way : Way) (old : Standing)
+pub none_answered : {File Standard : Type 0} (held : File ⊎ Standard → Option (List ℕ)) (way : Way) (old : Standing)
     → HaveAnswered File Standard held way false [] true old old
 none_answered held way old =
     record {
@@ -55,10 +55,10 @@ none_answered held way old =
     }
 
 -- with one more input that is answered the inputs so far are answered
-pub one_more_answered : {File Standard : Type 0} (held : NamedInput File Standard → Option (List ℕ)) (way : Way) (told here both : Bool) (names : List Argument)
+pub one_more_answered : {File Standard : Type 0} (held : File ⊎ Standard → Option (List ℕ)) (way : Way) (told here both : Bool) (names : List Argument)
     (is_first still_first : Bool) (old mid new : Standing) (input : NamedInput File Standard)
     → HaveAnswered File Standard held way told names is_first old mid
-    → AnswersReader way here is_first still_first (held input) mid new → both ≡ told || here
+    → AnswersReader way here is_first still_first (held input.source) mid new → both ≡ told || here
     → HaveAnswered File Standard held way both (names ++ input.name ∷ []) still_first old new
 one_more_answered held way told here both names is_first still_first old mid new input h one either =
     let so_far = lines_of h.all.inputs in
@@ -73,7 +73,7 @@ one_more_answered held way told here both names is_first still_first old mid new
       all = record {
         inputs = h.all.inputs ++ (input, one.lines) ∷ [];
         named = map-append (λ i. i.0.name) h.all.inputs ((input, one.lines) ∷ []) ∙ ap (λ (l : List Argument). l ++ input.name ∷ []) h.all.named;
-        read = All-push (λ r. AreRead (held r.0) r.1) h.all.inputs (input, one.lines) h.all.read one.read;
+        read = All-push (λ r. AreRead (held r.0.source) r.1) h.all.inputs (input, one.lines) h.all.read one.read;
         texts = h.all.texts ++ one.texts;
         answered = subst (λ l. AnswersLines way both true l (h.all.texts ++ one.texts)) (sym pushed) all;
         written = written_twice old.held mid.held new.held h.all.texts one.texts h.all.written one.written;
@@ -82,7 +82,7 @@ one_more_answered held way told here both names is_first still_first old mid new
     }
 
 -- a flush afterwards changes nothing
-pub answers_kept : {File Standard : Type 0} (held : NamedInput File Standard → Option (List ℕ)) (way : Way) (told : Bool) (names : List Argument)
+pub answers_kept : {File Standard : Type 0} (held : File ⊎ Standard → Option (List ℕ)) (way : Way) (told : Bool) (names : List Argument)
     (old mid new : Standing) → AnswersInputs File Standard held way told names old mid → Keeps mid.held new.held
     → AnswersInputs File Standard held way told names old new
 answers_kept held way told names old mid new h kept =
@@ -157,13 +157,13 @@ stopped_kept way is_first held old mid new problem h kept =
       written = part_kept way held old mid new h.lines (concat h.texts) problem h.written kept;
     }
 
-at_kept : {File Standard : Type 0} (held : NamedInput File Standard → Option (List ℕ)) (name : Argument) (way : Way) (is_first : Bool)
+at_kept : {File Standard : Type 0} (held : File ⊎ Standard → Option (List ℕ)) (name : Argument) (way : Way) (is_first : Bool)
     (old mid new : Standing) (problem : Problem) → StopsAtInput File Standard held name way is_first old mid problem → Gets mid new []
     → StopsAtInput File Standard held name way is_first old new problem
 at_kept held name way is_first old mid new problem (inl h) kept =
     inl (Keeps-trans old.held mid.held new.held h.0 (gets_none mid new kept), h.1)
 at_kept held name way is_first old mid new problem (inr h) kept =
-    inr (h.0, h.1, stopped_kept way is_first (held h.0) old mid new problem h.2 kept)
+    inr (h.0, h.1, stopped_kept way is_first (held h.0.source) old mid new problem h.2 kept)
 
 -- the names before a place, the one there, and those after it
 pub names_at : (refs : List (Bor Argument)) (i : ℕ) (d : Bor Argument) → i < length refs
@@ -184,7 +184,7 @@ pub names_all : (refs : List (Bor Argument)) (i : ℕ) → i ≡ length refs →
 names_all refs i all = ap arguments_at (take_all i refs (omega (arith, all)))
 
 -- with the inputs of the first names answered it stops at the next
-pub stops_next : {File Standard : Type 0} (held : NamedInput File Standard → Option (List ℕ)) (way : Way) (told : Bool) (names before after : List Argument)
+pub stops_next : {File Standard : Type 0} (held : File ⊎ Standard → Option (List ℕ)) (way : Way) (told : Bool) (names before after : List Argument)
     (name called : Argument) (is_first : Bool) (old mid new : Standing) (problem : Problem)
     → HaveAnswered File Standard held way told before is_first old mid → names ≡ before ++ name ∷ after → called ≡ input_name name
     → StopsAtInput File Standard held name way is_first mid new problem → StopsInputs File Standard held way names old new called problem
@@ -198,7 +198,7 @@ stops_next {File} {Standard} held way told names before after name called is_fir
     }
 
 -- it stops where all inputs are answered: as the last flush fails, or as a line was no case
-pub all_stop : {File Standard : Type 0} (held : NamedInput File Standard → Option (List ℕ)) (way : Way) (told : Bool) (names : List Argument)
+pub all_stop : {File Standard : Type 0} (held : File ⊎ Standard → Option (List ℕ)) (way : Way) (told : Bool) (names : List Argument)
     (old mid new : Standing) (problem : Problem) → AnswersInputs File Standard held way told names old mid
     → Keeps mid.held new.held → IsEndProblem told new problem → StopsInputs File Standard held way names old new (codes "standard output") problem
 all_stop held way told names old mid new problem h kept end =
@@ -214,7 +214,7 @@ end_kept : (told : Bool) (mid new : Standing) (problem : Problem) → IsEndProbl
 end_kept told mid new problem (inl write) stays = inl (write_kept mid new problem write stays)
 end_kept told mid new problem (inr other) stays = inr other
 
-pub stops_kept : {File Standard : Type 0} (held : NamedInput File Standard → Option (List ℕ)) (way : Way) (names : List Argument)
+pub stops_kept : {File Standard : Type 0} (held : File ⊎ Standard → Option (List ℕ)) (way : Way) (names : List Argument)
     (old mid new : Standing) (called : Argument) (problem : Problem) → StopsInputs File Standard held way names old mid called problem → Gets mid new []
     → StopsInputs File Standard held way names old new called problem
 stops_kept {File} {Standard} held way names old mid new called problem h kept = kept_at h.stops
@@ -245,39 +245,19 @@ stops_kept {File} {Standard} held way names old mid new called problem h kept = 
           );
         }
 
--- ---- of an input that is a file, or standard input
+-- ---- of an input that is opened by its name
 
--- an argument that a test tells from a hyphen is none
-pub no_hyphen : (name : Argument) → bytes_eq name hyphen ≡ false → name ≡ hyphen → ⊥
-no_hyphen name differs is = false≢true (sym differs ∙ ap (λ (argument : Argument). bytes_eq argument hyphen) is)
+-- what is answered of it is answered of the input of its name
+pub named_answered : {File Standard : Type 0} (held : File ⊎ Standard → Option (List ℕ)) (name : Argument) (source : File ⊎ Standard) (bytes : Option (List ℕ))
+    (way : Way) (told is_first still_first : Bool) (old new : Standing) → IsNamed name source → bytes ≡ held source
+    → AnswersReader way told is_first still_first bytes old new
+    → (input : NamedInput File Standard) × (input.name ≡ name) × AnswersReader way told is_first still_first (held input.source) old new
+named_answered held name source bytes way told is_first still_first old new named holds answered =
+    (record { name = name; source = source; is = named }, refl, answered_same way told is_first still_first bytes (held source) old new holds answered)
 
--- what is answered of a file is answered of the input of its name, which is no hyphen
-pub file_answered : {File Standard : Type 0} (file : File → Option (List ℕ)) (standard : Standard → Option (List ℕ)) (name : Argument) (way : Way)
-    (told is_first still_first : Bool) (old new : Standing) → (name ≡ hyphen → ⊥)
-    → (source : File) × AnswersReader way told is_first still_first (file source) old new
-    → (input : NamedInput File Standard) × (input.name ≡ name) × AnswersReader way told is_first still_first (held_by file standard input) old new
-file_answered file standard name way told is_first still_first old new other (source, answered) =
-    (record { name = name; source = inl source; is = other }, refl, answered)
-
--- the same of standard input, whose name is one
-pub standard_answered : {File Standard : Type 0} (file : File → Option (List ℕ)) (standard : Standard → Option (List ℕ)) (name : Argument) (way : Way)
-    (told is_first still_first : Bool) (old new : Standing) → name ≡ hyphen
-    → (source : Standard) × AnswersReader way told is_first still_first (standard source) old new
-    → (input : NamedInput File Standard) × (input.name ≡ name) × AnswersReader way told is_first still_first (held_by file standard input) old new
-standard_answered file standard name way told is_first still_first old new is (source, answered) =
-    (record { name = name; source = inr source; is = is }, refl, answered)
-
--- where it stops at a file it stops at the input of its name
-pub file_stops : {File Standard : Type 0} (file : File → Option (List ℕ)) (standard : Standard → Option (List ℕ)) (name : Argument) (way : Way)
-    (is_first : Bool) (old new : Standing) (problem : Problem) → (name ≡ hyphen → ⊥) → StopsAt File file way is_first old new problem
-    → StopsAtInput File Standard (held_by file standard) name way is_first old new problem
-file_stops file standard name way is_first old new problem other (inl h) = inl h
-file_stops file standard name way is_first old new problem other (inr h) =
-    inr (record { name = name; source = inl h.0; is = other }, refl, h.1)
-
-pub standard_stops : {File Standard : Type 0} (file : File → Option (List ℕ)) (standard : Standard → Option (List ℕ)) (name : Argument) (way : Way)
-    (is_first : Bool) (old new : Standing) (problem : Problem) → name ≡ hyphen → StopsAt Standard standard way is_first old new problem
-    → StopsAtInput File Standard (held_by file standard) name way is_first old new problem
-standard_stops file standard name way is_first old new problem is (inl h) = inl h
-standard_stops file standard name way is_first old new problem is (inr h) =
-    inr (record { name = name; source = inr h.0; is = is }, refl, h.1)
+-- where it stops within it, it stops at the input of its name
+pub named_stops : {File Standard : Type 0} (held : File ⊎ Standard → Option (List ℕ)) (name : Argument) (source : File ⊎ Standard) (bytes : Option (List ℕ))
+    (way : Way) (is_first : Bool) (old new : Standing) (problem : Problem) → IsNamed name source → bytes ≡ held source
+    → StopsReader way is_first bytes old new problem → StopsAtInput File Standard held name way is_first old new problem
+named_stops held name source bytes way is_first old new problem named holds stopped =
+    inr (record { name = name; source = source; is = named }, refl, stopped_same way is_first bytes (held source) old new problem holds stopped)

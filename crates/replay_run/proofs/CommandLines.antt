@@ -7,7 +7,9 @@ use Rattle.clap.specs.Faults.{fault_of, is_simple_and_free}
 use Rattle.clap.specs.Kinds.{Kinds}
 use Rattle.clap.specs.Simple.{matches_of}
 use Rattle.clap.specs.Walk.{is_empty}
-use Rattle.replay_run.specs.Arguments.{Answers, AsksFor, AsksToShow, Checks, Repeats, Task, Argument, asked, hyphen, replay_app}
+use Rattle.program.specs.CommandLine.{AsksToShow}
+use Rattle.program.specs.Inputs.{hyphen}
+use Rattle.replay_run.specs.Arguments.{Answers, AsksFor, Checks, Repeats, Task, Argument, asked, replay_app}
 
 -- what clap says of arguments it says of the arguments of this command
 pub simple : is_simple_and_free replay_app ≡ true
@@ -58,15 +60,15 @@ unfolding clap_on_literals
 file_of_this_name = (refl, refl)
 
 -- `--help`, `-h` and `--version`
-pub help : AsksToShow (codes "--help" ∷ [])
+pub help : AsksToShow replay_app (codes "--help" ∷ [])
 unfolding clap_on_literals
 help = inl (inl refl)
 
-pub help_in_short : AsksToShow (codes "a" ∷ codes "-h" ∷ [])
+pub help_in_short : AsksToShow replay_app (codes "a" ∷ codes "-h" ∷ [])
 unfolding clap_on_literals
 help_in_short = inl (inl refl)
 
-pub version : AsksToShow (codes "--version" ∷ [])
+pub version : AsksToShow replay_app (codes "--version" ∷ [])
 unfolding clap_on_literals
 version = inr (inl refl)
 

@@ -9,7 +9,8 @@ use Rattle.clap.specs.declared.error.Error.{Error}
 use Rattle.clap.specs.declared.error.kind.ErrorKind.{ErrorKind}
 use Rattle.clap.specs.declared.error.kind.ErrorKind.TheVariants.{DisplayHelp, DisplayVersion, OutOfMemory}
 use Rattle.output_stream.specs.Standing.{Standing}
-use Rattle.replay_run.specs.Arguments.{AsksToShow, Checks, IsCommandLine, Task, Argument, asked, replay_app, task_of, arguments_at}
+use Rattle.program.specs.CommandLine.{AsksToShow}
+use Rattle.replay_run.specs.Arguments.{Checks, IsCommandLine, Task, Argument, asked, replay_app, task_of, arguments_at}
 use Rattle.replay_run.specs.declared.command.ReplayCommand.{ReplayCommand}
 use Rattle.replay_run.specs.declared.command.ReplayCommand.TheVariants.{Answer, Check, Repeat}
 use Rattle.replay_run.specs.Compared.{EndsComparison}
@@ -100,7 +101,7 @@ nothing_asked args None is sound neither = refl
 nothing_asked args (Some task) is sound neither = absurd (neither (inl (task, (sound, sym is))))
 
 -- arguments with which clap finds nothing wrong don't ask for the help or the version
-pub nothing_shown : (args : List Argument) → fault_of replay_app args ≡ [] → AsksToShow args → ⊥
+pub nothing_shown : (args : List Argument) → fault_of replay_app args ≡ [] → AsksToShow replay_app args → ⊥
 nothing_shown args sound (inl help) = subst (λ (kinds : Kinds). IsAmong DisplayHelp kinds) sound help
 nothing_shown args sound (inr version) = subst (λ (kinds : Kinds). IsAmong DisplayVersion kinds) sound version
 

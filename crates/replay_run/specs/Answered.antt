@@ -9,10 +9,11 @@ use Rattle.std.specs.List.{concat, flat_map}
 use Rattle.output_stream.specs.Standing.{Standing}
 use Rattle.serde_json.specs.Data.{Data}
 use Rattle.serde_json.specs.Read.{read}
+use Rattle.program.specs.Inputs.{input_name}
 use Rattle.replay_run.specs.WrittenAnswer.{AreFirstLines, AreNumberedLines, AnswersLine, AnswersLines, Numbered, first_after, following_number}
 use Rattle.replay_run.specs.Problem.{IsFinal, IsRead, IsProblemWith, IsWrite}
 use Rattle.replay_run.specs.Arguments.{Argument}
-use Rattle.replay_run.specs.Inputs.{NamedInput, input_name}
+use Rattle.replay_run.specs.Inputs.{NamedInput}
 use Rattle.replay_run.specs.declared.lines.Way.{Way}
 use Rattle.replay_run.specs.declared.problem.InputLine.{InputLine}
 use Rattle.replay_run.specs.declared.problem.InputLine.TheVariants.{Case}
@@ -35,11 +36,11 @@ pub record AnswersReader (way : Way) (told : Bool) (is_first still_first : Bool)
 
 -- the inputs of these names are answered, by what each of them holds: to what a writer held, the texts that answer their lines are added, of
 -- one input after another, and nothing else. The first text is the first that is written
-pub record AnswersInputs (File Standard : Type 0) (held : NamedInput File Standard → Option (List ℕ)) (way : Way) (told : Bool) (names : List Argument)
+pub record AnswersInputs (File Standard : Type 0) (held : File ⊎ Standard → Option (List ℕ)) (way : Way) (told : Bool) (names : List Argument)
     (old new : Standing) : Type 0 where
   pub inputs : List (NamedInput File Standard × List Numbered)
   pub named : map (λ input. input.0.name) inputs ≡ names
-  pub read : All (λ input. AreRead (held input.0) input.1) inputs
+  pub read : All (λ input. AreRead (held input.0.source) input.1) inputs
   pub texts : List (List ℕ)
   pub answered : AnswersLines way told true (flat_map (λ input. input.1) inputs) texts
   pub written : Appends old.held new.held (concat texts)
@@ -99,17 +100,12 @@ pub record StopsReader (way : Way) (is_first : Bool) (held : Option (List ℕ)) 
   pub written : (IsWrite new problem × AppendsFirst old new (concat texts))
       ⊎ (Appends old.held new.held (concat texts) × StopsAfter held lines problem × StopsFor way problem)
 
--- answering stops at a reader that can't be had, or within it
-abbrev pub StopsAt : (Reader : Type 0) → (Reader → Option (List ℕ)) → Way → Bool → Standing → Standing → Problem → Type 0
-StopsAt Reader bytes way is_first old new problem =
-    (Keeps old.held new.held × IsRead problem) ⊎ ((reader : Reader) × StopsReader way is_first (bytes reader) old new problem)
-
 -- answering stops at the input of this name, which can't be had, or within it
-abbrev pub StopsAtInput : (File Standard : Type 0) → (NamedInput File Standard → Option (List ℕ)) → Argument → Way → Bool → Standing → Standing
+abbrev pub StopsAtInput : (File Standard : Type 0) → (File ⊎ Standard → Option (List ℕ)) → Argument → Way → Bool → Standing → Standing
     → Problem → Type 0
 StopsAtInput File Standard held name way is_first old new problem =
     (Keeps old.held new.held × IsRead problem)
-    ⊎ ((input : NamedInput File Standard) × (input.name ≡ name) × StopsReader way is_first (held input) old new problem)
+    ⊎ ((input : NamedInput File Standard) × (input.name ≡ name) × StopsReader way is_first (held input.source) old new problem)
 
 -- the problem with inputs that are all answered: what was written can't be handed on, or an answer tells that its line is no case
 abbrev pub IsEndProblem : Bool → Standing → Problem → Type 0
@@ -117,7 +113,7 @@ IsEndProblem told new problem = IsWrite new problem ⊎ (IsTrue told × (problem
 
 -- answering the inputs of these names stops with what is called so: those of the first names are answered, each to its end, and it stops at
 -- the next; or all are answered, and there is problem with that
-pub record StopsInputs (File Standard : Type 0) (held : NamedInput File Standard → Option (List ℕ)) (way : Way) (names : List Argument)
+pub record StopsInputs (File Standard : Type 0) (held : File ⊎ Standard → Option (List ℕ)) (way : Way) (names : List Argument)
     (old new : Standing) (called : Argument) (problem : Problem) : Type 0 where
   pub before : List Argument
   pub mid : Standing

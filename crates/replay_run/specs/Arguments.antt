@@ -1,54 +1,29 @@
 -- What the arguments of a command line ask for.
-use Rattle.std.specs.Prelude.{◌≡◌, ◌⊎◌, ℕ, ◌%◌, ◌^◌, ◌==◌, Bool, true, false, ◌&&◌, ◌||◌, List, [], ◌∷◌, Option, Some, None, Result, Ok, Err, codes, length}
-use Rattle.std.specs.Prelude.{if◌then◌else◌, bytes_eq, is_some, nat_lt, option_map, unwrap_or}
-use Rattle.std.specs.Borrow.{Bor}
-use Rattle.std.specs.Option.{option_map_or}
-use Rattle.std.specs.Str.Parse.{digits_value}
+use Rattle.std.specs.Prelude.{◌≡◌, ◌⊎◌, ℕ, ◌%◌, ◌==◌, Bool, true, ◌&&◌, ◌||◌, List, [], ◌∷◌, Option, Some, None, Result, Ok, Err, codes, length}
+use Rattle.std.specs.Prelude.{if◌then◌else◌, is_some, nat_lt, option_map, unwrap_or}
 use Rattle.clap.specs.Faults.{fault_of}
-use Rattle.clap.specs.Kinds.{IsAmong}
-use Rattle.clap.specs.Lexer.{usize_max}
-use Rattle.clap.specs.Simple.{App, matches_of, new_rule, new_shape}
-use Rattle.clap.specs.ValueTests.{is_numeral}
+use Rattle.clap.specs.Simple.{App, matches_of, new_shape}
 use Rattle.clap.specs.Walk.{Row, Rule, all_of, first_of}
-use Rattle.clap.specs.declared.builder.action.ArgAction.TheVariants.{Append, Set, SetTrue}
-use Rattle.clap.specs.declared.error.kind.ErrorKind.TheVariants.{DisplayHelp, DisplayVersion}
 pub use Rattle.program.specs.Arguments.{Argument, arguments_at}
+use Rattle.program.specs.CommandLine.{AsksToShow, files_rule, flag_rule, valued_rule, was_given}
+use Rattle.program.specs.Inputs.{hyphen}
+use Rattle.program.specs.Numbers.{number_of}
 use Rattle.replay_run.specs.declared.command.ReplayCommand.{ReplayCommand}
 use Rattle.replay_run.specs.declared.command.ReplayCommand.TheVariants.{Answer, Check, Repeat}
 
--- the argument that names standard input
-abbrev pub hyphen : Argument
-hyphen = codes "-"
-
 -- ---- what may be written, as clap reads it
 
--- an option that stands alone: two hyphens and this name
-abbrev pub flag_rule : Argument → Rule
-flag_rule name = record (new_rule name) { long = Some name; action = Some SetTrue }
-
--- the option that has an argument after it, its number
-abbrev pub repeat_rule : Rule
-repeat_rule = record (new_rule (codes "repeat")) {
-  long = Some (codes "repeat");
-  action = Some Set;
-  value_names = 1;
-}
-
 -- the files: as many as there are, and standard input where there is none
-abbrev pub files_rule : Rule
-files_rule = record (new_rule (codes "files")) {
-  action = Some Append;
-  range = Some (record { start_inclusive = 0; end_inclusive = usize_max });
-  value_names = 1;
-  defaults = hyphen ∷ [];
-}
+abbrev pub inputs_rule : Rule
+inputs_rule = record (files_rule (codes "files")) { defaults = hyphen ∷ [] }
 
 -- the command: these options and files, beside help and a version. The program's name isn't among its arguments, and an option that is given
 -- again counts as it is given last
 abbrev pub replay_app : App
 replay_app = record {
   top = record (new_shape (codes "replay")) {
-    rules = flag_rule (codes "text") ∷ flag_rule (codes "keep-going") ∷ flag_rule (codes "check") ∷ repeat_rule ∷ files_rule ∷ [];
+    rules = flag_rule (codes "text") ∷ flag_rule (codes "keep-going") ∷ flag_rule (codes "check") ∷ valued_rule (codes "repeat")
+        ∷ inputs_rule ∷ [];
     no_binary_name = true;
     has_version = true;
     args_override_self = true;
@@ -65,18 +40,9 @@ pub data Task : Type 0 where
   Checks : (files : List Argument) → Task
   Repeats : (times : ℕ) → (inputs : List Argument) → Task
 
--- an option that stands alone was given
-abbrev pub was_given : Argument → List Row → Bool
-was_given name found = option_map_or (λ value. bytes_eq value (codes "true")) (first_of name found) false
-
 -- the files that were named, in order
 abbrev pub files_in : List Row → List Argument
 files_in found = unwrap_or (all_of (codes "files") found) []
-
--- the number that decimal digits write, one or more and nothing else, where it fits in 64 bits
-abbrev pub number_of : Argument → Option ℕ
-number_of argument =
-    if is_numeral argument && nat_lt (digits_value 10 argument) (2 ^ 64) then Some (digits_value 10 argument) else None
 
 -- one pair or more
 abbrev pub are_pairs : List Argument → Bool
@@ -110,13 +76,9 @@ asked found =
 abbrev pub AsksFor : List Argument → Task → Type 0
 AsksFor args task = (fault_of replay_app args ≡ []) × (asked (matches_of replay_app args) ≡ Some task)
 
--- the arguments ask for the help or the version: that is what ends clap's reading
-abbrev pub AsksToShow : List Argument → Type 0
-AsksToShow args = IsAmong DisplayHelp (fault_of replay_app args) ⊎ IsAmong DisplayVersion (fault_of replay_app args)
-
 -- the arguments are of the form
 abbrev pub IsCommandLine : List Argument → Type 0
-IsCommandLine args = ((task : Task) × AsksFor args task) ⊎ AsksToShow args
+IsCommandLine args = ((task : Task) × AsksFor args task) ⊎ AsksToShow replay_app args
 
 -- what a command does, by its arguments
 abbrev pub task_of : ReplayCommand → Task

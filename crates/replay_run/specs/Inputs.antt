@@ -1,7 +1,7 @@
 -- What a command line has replay do, and what is read for it.
-use Rattle.std.specs.Prelude.{◌≡◌, ◌⊎◌, ℕ, Bool, true, false, List, Option, codes, if◌then◌else◌, bytes_eq}
-use Rattle.std.proofs.Common.{inl, inr}
-use Rattle.replay_run.specs.Arguments.{Answers, AsksFor, Checks, Task, Argument, hyphen, arguments_at}
+use Rattle.std.specs.Prelude.{◌⊎◌, Bool, true, false, List, if◌then◌else◌}
+use Rattle.program.specs.Inputs.{IsNamed}
+use Rattle.replay_run.specs.Arguments.{Answers, AsksFor, Checks, Task, Argument, arguments_at}
 use Rattle.replay_run.specs.declared.command.ReplayCommand.{ReplayCommand}
 use Rattle.replay_run.specs.declared.command.ReplayCommand.TheVariants.{Answer, Check, Repeat}
 use Rattle.replay_run.specs.declared.lines.AnswerForm.{AnswerForm}
@@ -58,26 +58,8 @@ IfAnswers (Repeat times inputs) P = Unit {0}
 
 -- ---- what is read
 
--- what an argument names: standard input where it is a hyphen, and a file where it isn't
-abbrev pub IsNamed : {File Standard : Type 0} → Argument → File ⊎ Standard → Type 0
-IsNamed argument (inl file) = argument ≡ hyphen → ⊥
-IsNamed argument (inr standard) = argument ≡ hyphen
-
 -- an input, by the argument that names it
 pub record NamedInput (File Standard : Type 0) : Type 0 where
   pub name : Argument
   pub source : File ⊎ Standard
   pub is : IsNamed name source
-
--- what a file or standard input holds
-abbrev pub source_held : {File Standard : Type 0} → (File → Option (List ℕ)) → (Standard → Option (List ℕ)) → File ⊎ Standard → Option (List ℕ)
-source_held file standard (inl source) = file source
-source_held file standard (inr source) = standard source
-
--- what an input holds
-abbrev pub held_by : {File Standard : Type 0} → (File → Option (List ℕ)) → (Standard → Option (List ℕ)) → NamedInput File Standard → Option (List ℕ)
-held_by file standard input = source_held file standard input.source
-
--- how an input is called where something is told of it
-abbrev pub input_name : Argument → Argument
-input_name argument = if bytes_eq argument hyphen then codes "standard input" else argument

@@ -1,11 +1,12 @@
 //! The arguments of the command line, without the program's name.
 
-ghost use Rattle.std.specs.Prelude.{◌≡◌, false, IfOk};
+ghost use Rattle.std.specs.Prelude.{◌≡◌, IfOk, false};
 ghost use Rattle.clap.specs.Words.{FailsBy, app_of, fault_of, found_of, rows_of, rule_of};
 ghost use Rattle.clap.specs.Simple.{matches_of as rows_for};
-ghost use Rattle.replay_run.specs.Arguments.{flag_rule, files_rule, repeat_rule, replay_app, arguments_at};
+ghost use Rattle.replay_run.specs.Arguments.{arguments_at, inputs_rule, replay_app};
 
-use clap::{Arg, ArgAction, ArgMatches, Command, Error};
+use clap::{Arg, ArgMatches, Command, Error};
+use program::command_line::{files, flag, valued};
 use std::alloc::{AllocError, Global};
 
 /// What the program is for, as its help says it.
@@ -38,6 +39,12 @@ pub fn parser<'a>(alloc: Global) -> Result<Command<'a>, AllocError>
         "check",
         "Compare: each first file has the answers that are expected of the next one",
     );
+    let repeat = valued(
+        alloc,
+        "repeat",
+        "N",
+        "Draw each report this many times, and print how long it took",
+    );
     let command = Command::new(alloc, "replay")
         .about(ABOUT)
         .version("1.0.0")
@@ -47,45 +54,17 @@ pub fn parser<'a>(alloc: Global) -> Result<Command<'a>, AllocError>
         .arg(text)?
         .arg(keep_going)?
         .arg(check)?
-        .arg(repeat(alloc))?
-        .arg(files(alloc))?;
+        .arg(repeat)?
+        .arg(inputs(alloc))?;
     Ok(command)
 }
 
-/// An option that stands alone.
-fn flag<'a>(alloc: Global, name: &'a str, help: &'a str) -> Arg<'a>
-    ensures rule { rule_of result ≡ flag_rule name.entry.now }
+/// The files: as many as there are, and standard input where there is none.
+fn inputs<'a>(alloc: Global) -> Arg<'a>
+    ensures rule { rule_of result ≡ inputs_rule }
     ensures local { result.global ≡ false }
 {
-    Arg::new(alloc, name)
-        .long(name)
-        .help(help)
-        .action(ArgAction::SetTrue)
-}
-
-/// The option that has a number after it.
-fn repeat<'a>(alloc: Global) -> Arg<'a>
-    ensures rule { rule_of result ≡ repeat_rule }
-    ensures local { result.global ≡ false }
-{
-    Arg::new(alloc, "repeat")
-        .long("repeat")
-        .value_name("N")
-        .help("Draw each report this many times, and print how long it took")
-        .action(ArgAction::Set)
-}
-
-/// The files.
-fn files<'a>(alloc: Global) -> Arg<'a>
-    ensures rule { rule_of result ≡ files_rule }
-    ensures local { result.global ≡ false }
-{
-    Arg::new(alloc, "files")
-        .value_name("FILE")
-        .help(FILES)
-        .action(ArgAction::Append)
-        .num_args(0..)
-        .default_value("-")
+    files(alloc, "files", FILES).default_value("-")
 }
 
 /// What the arguments are matched with, or what is to be told in place of that: what is wrong with them, the help or

@@ -4,10 +4,12 @@ ghost use Rattle.std.specs.Prelude.{◌≡◌, ◌≢◌, ◌⊎◌, Some, None,
 ghost use Rattle.clap.specs.Words.{found_of, kind_of, rows_of};
 ghost use Rattle.clap.specs.declared.error.kind.ErrorKind.TheVariants as kind;
 ghost use Rattle.replay_run.specs.Arguments as spec;
-ghost use Rattle.replay_run.specs.Arguments.{files_in, task_in, task_of, was_given, arguments_at};
+ghost use Rattle.replay_run.specs.Arguments.{files_in, task_in, task_of, arguments_at};
 
 use crate::usage_error::{UsageError, error_of};
 use clap::{ArgMatches, Error};
+use program::command_line::was_given;
+use program::number::number_of;
 use std::alloc::Global;
 
 /// What a command line asks for. Inputs are files, or standard input by the name `-`.
@@ -27,7 +29,7 @@ pub enum ReplayCommand<'w, 'a> {
     },
     /// Draws each case of these inputs this many times.
     Repeat {
-        times: u64,
+        times: usize,
         inputs: &'w [&'a str],
     },
 }
@@ -53,24 +55,14 @@ pub fn command_of<'w, 'a>(
 fn asked<'w, 'a>(matches: &'w ArgMatches<'a>) -> Result<ReplayCommand<'w, 'a>, UsageError<'a>>
     ensures value { task_in result ≡ spec.asked (rows_of (found_of matches.now)) }
 {
-    let texts = has(matches, "text");
-    let keep_going = has(matches, "keep-going");
+    let texts = was_given(matches, "text");
+    let keep_going = was_given(matches, "keep-going");
     let repeat = matches.get_str("repeat");
     let files = files_of(matches);
-    if has(matches, "check") {
+    if was_given(matches, "check") {
         check_of(texts, keep_going, repeat, files)
     } else {
         draw_of(texts, keep_going, repeat, files)
-    }
-}
-
-/// Whether an option that stands alone was given.
-fn has(matches: &ArgMatches<'_>, name: &str) -> bool
-    ensures value { result ≡ was_given name.now (rows_of (found_of matches.now)) }
-{
-    match matches.get_str(name) {
-        Some(value) => value == "true",
-        None => false,
     }
 }
 
@@ -149,16 +141,5 @@ fn repeat_of<'w, 'a>(
     match number_of(argument) {
         Some(times) => Ok(ReplayCommand::Repeat { times, inputs }),
         None => Err(UsageError::NotNumber(argument)),
-    }
-}
-
-/// The number that an argument of decimal digits alone writes; `None` for another one, and where the number doesn't
-/// fit.
-fn number_of(argument: &str) -> Option<u64>
-    ensures value { result ≡ spec.number_of argument.now }
-{
-    match argument.as_bytes() {
-        [b'+', ..] => None,
-        _ => argument.parse().ok(),
     }
 }

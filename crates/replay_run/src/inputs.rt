@@ -1,15 +1,14 @@
 //! Inputs, which are files and standard input: what is done with the lines of each.
 
-ghost use Rattle.std.specs.Prelude.{◌≡◌, ◌⊎◌, OnOk, IfErr, IfOk};
+ghost use Rattle.std.specs.Prelude.{◌≡◌, OnOk, IfErr, IfOk};
 ghost use Rattle.std.specs.Io.Buffered.{reader_inner, reader_remaining};
 ghost use Rattle.output_stream.specs.Standing.{known};
+ghost use Rattle.program.specs.Inputs.{held_by};
 ghost use Rattle.replay_run.specs.Arguments.{arguments_at};
-ghost use Rattle.replay_run.specs.Answered.{AnswersInputs, AnswersReader, StopsAt, StopsAtInput, StopsInputs};
+ghost use Rattle.replay_run.specs.Answered.{AnswersInputs, AnswersReader, StopsAtInput, StopsInputs};
 ghost use Rattle.replay_run.specs.Checked.{CountsLines};
 ghost use Rattle.replay_run.specs.Growth.{Grows};
-ghost use Rattle.replay_run.specs.Problem.{IsRead};
-ghost use Rattle.replay_run.specs.Inputs as spec;
-ghost use Rattle.replay_run.specs.Inputs.{NamedInput, held_by};
+ghost use Rattle.replay_run.specs.Inputs.{NamedInput};
 
 use crate::check::{Counts, check_lines};
 use crate::lines::{Way, answer_lines, either};
@@ -17,19 +16,9 @@ use crate::problem::Problem;
 use crate::repeat::{TimedTally, repeat_lines};
 use crate::stop::StopAt;
 use output_stream::Stream;
-use std::fs;
-use std::io::{BufRead, BufReader, Write};
+use program::inputs::{input_name, opened, opened_file};
+use std::io::{BufReader, Write};
 use std::rt::{Clock, Files};
-
-/// How standard input is called where something is told of it.
-const INPUT: &str = "standard input";
-
-/// How an input is called where something is told of it.
-pub fn shown_name<'a>(name: &'a str) -> &'a str
-    ensures value { result.now ≡ spec.input_name name.now }
-{
-    if name == "-" { INPUT } else { name }
-}
 
 /// Answers the cases of each input, one input after another, and tells whether one of their lines was no case.
 pub fn answer_inputs<'a, R: Files + Input + AllocGlobal, W: Write>(
@@ -50,7 +39,7 @@ pub fn answer_inputs<'a, R: Files + Input + AllocGlobal, W: Write>(
             Ok(here) => told = either(told, here),
             Err(problem) => {
                 return Err(StopAt {
-                    file: shown_name(*name),
+                    file: input_name(*name),
                     problem,
                 });
             }
@@ -68,79 +57,23 @@ fn answer_named<R: Files + Input + AllocGlobal, W: Write>(
     out: &mut Stream<W>,
 ) -> Result<bool, Problem>
     ensures answers { IfOk result (λ told. (input : NamedInput R.File R.Reader) × (input.name ≡ name.now)
-        × AnswersReader way told is_first.old is_first.new (held_by R.File.remaining R.Reader.remaining input)
+        × AnswersReader way told is_first.old is_first.new (held_by R.File.remaining R.Reader.remaining input.source)
         (known W.contents out.old) (known W.contents out.new)) }
     ensures stops { IfErr result (StopsAtInput R.File R.Reader (held_by R.File.remaining R.Reader.remaining) name.now
         way is_first.old (known W.contents out.old) (known W.contents out.new)) }
 {
-    if name == "-" {
-        answer_standard(rt, way, is_first, out)
-    } else {
-        answer_file(rt, way, name, is_first, out)
-    }
-}
-
-/// Answers the cases of standard input, and tells whether a line was no case.
-fn answer_standard<R: Input + AllocGlobal, W: Write>(
-    rt: &R,
-    way: Way,
-    is_first: &mut bool,
-    out: &mut Stream<W>,
-) -> Result<bool, Problem>
-    ensures answers { IfOk result (λ told. (input : R.Reader)
-        × AnswersReader way told is_first.old is_first.new (R.Reader.remaining input)
-        (known W.contents out.old) (known W.contents out.new)) }
-    ensures stops { IfErr result (StopsAt R.Reader R.Reader.remaining way is_first.old (known W.contents out.old)
-        (known W.contents out.new)) }
-{
-    match opened_standard(rt) {
+    match opened(rt, name) {
         Ok(input) => answer_lines(rt.alloc(), input, way, is_first, out),
-        Err(problem) => Err(problem),
-    }
-}
-
-/// Answers the cases of one file, and tells whether a line was no case.
-fn answer_file<R: Files + AllocGlobal, W: Write>(
-    rt: &R,
-    way: Way,
-    file: &str,
-    is_first: &mut bool,
-    out: &mut Stream<W>,
-) -> Result<bool, Problem>
-    ensures answers { IfOk result (λ told. (input : R.File)
-        × AnswersReader way told is_first.old is_first.new (R.File.remaining input)
-        (known W.contents out.old) (known W.contents out.new)) }
-    ensures stops { IfErr result (StopsAt R.File R.File.remaining way is_first.old (known W.contents out.old)
-        (known W.contents out.new)) }
-{
-    match opened(rt, file) {
-        Ok(input) => answer_lines(rt.alloc(), input, way, is_first, out),
-        Err(problem) => Err(problem),
-    }
-}
-
-/// The bytes of a file.
-fn opened<R: Files + AllocGlobal>(rt: &R, file: &str) -> Result<BufReader<R::File>, Problem>
-    ensures bytes { IfOk result (λ reader.
-        reader_remaining R.File.remaining reader ≡ R.File.remaining (reader_inner reader)) }
-    ensures unread { IfErr result IsRead }
-{
-    match fs::open(rt, file) {
-        Ok(input) => match BufReader::new(rt.alloc(), input) {
-            Ok(reader) => Ok(reader),
-            Err(error) => Err(Problem::Read(error)),
-        },
         Err(error) => Err(Problem::Read(error)),
     }
 }
 
-/// The bytes of standard input.
-fn opened_standard<R: Input + AllocGlobal>(rt: &R) -> Result<BufReader<R::Reader>, Problem>
+/// The bytes of a file.
+fn reader_of<R: Files + AllocGlobal>(rt: &R, file: &str) -> Result<BufReader<R::File>, Problem>
     ensures bytes { IfOk result (λ reader.
-        reader_remaining R.Reader.remaining reader ≡ R.Reader.remaining (reader_inner reader)) }
-    ensures unread { IfErr result IsRead }
+        reader_remaining R.File.remaining reader ≡ R.File.remaining (reader_inner reader)) }
 {
-    match BufReader::new(rt.alloc(), rt.reader()) {
+    match opened_file(rt, file) {
         Ok(reader) => Ok(reader),
         Err(error) => Err(Problem::Read(error)),
     }
@@ -158,23 +91,18 @@ pub fn check_pair<R: Files + AllocGlobal, W: Write>(
     ensures added { OnOk result (Grows (known W.contents out.old) (known W.contents out.new)) }
     ensures silent { IfOk result (λ counts. counts.failed ≡ 0 → out.new ≡ out.old) }
 {
-    let expected = opened(rt, expected)?;
-    let cases = opened(rt, cases)?;
+    let expected = reader_of(rt, expected)?;
+    let cases = reader_of(rt, cases)?;
     check_lines(rt.alloc(), expected, cases, out)
 }
 
 /// Draws each case of an input this many times.
 pub fn repeat_named<R: Files + Input + Clock + AllocGlobal>(
     rt: &R,
-    times: u64,
+    times: usize,
     name: &str,
     tally: &mut TimedTally,
 ) -> Result<(), Problem> {
-    if name == "-" {
-        let input = opened_standard(rt)?;
-        repeat_lines(rt, rt.alloc(), input, times, tally)
-    } else {
-        let input = opened(rt, name)?;
-        repeat_lines(rt, rt.alloc(), input, times, tally)
-    }
+    let input = opened(rt, name).map_err(Problem::Read)?;
+    repeat_lines(rt, rt.alloc(), input, times, tally)
 }

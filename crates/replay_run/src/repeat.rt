@@ -26,7 +26,7 @@ pub fn repeat_lines<K: Clock, B: BufRead + Drop>(
     clock: &K,
     alloc: Global,
     input: B,
-    times: u64,
+    times: usize,
     tally: &mut TimedTally,
 ) -> Result<(), Problem> {
     let mut number = 0u64;
@@ -45,7 +45,7 @@ fn repeat_case<K: Clock>(
     clock: &K,
     alloc: Global,
     case: &Case<'_>,
-    times: u64,
+    times: usize,
     tally: TimedTally,
 ) -> Result<TimedTally, Problem>
     requires fits { ReportFits case.now.groups.items }
@@ -65,7 +65,7 @@ fn repeat_case<K: Clock>(
 fn draw_often(
     alloc: Global,
     case: &Case<'_>,
-    times: u64,
+    times: usize,
     tally: TimedTally,
 ) -> Result<TimedTally, RenderError>
     requires fits { ReportFits case.now.groups.items }

@@ -6,28 +6,31 @@ ghost use Rattle.std.specs.Io.KnownBytes.{Appends};
 ghost use Rattle.clap.specs.Words.{found_of, kind_of, rows_of};
 ghost use Rattle.clap.specs.declared.error.kind.ErrorKind.TheVariants as kind;
 ghost use Rattle.output_stream.specs.Standing.{known};
+ghost use Rattle.program.specs.CommandLine.{AsksToShow};
+ghost use Rattle.program.specs.Inputs.{held_by};
 ghost use Rattle.program.specs.Stream.{Receives};
-ghost use Rattle.replay_run.specs.Arguments.{AsksToShow, Checks, IsCommandLine, Argument, asked, arguments_at};
+ghost use Rattle.replay_run.specs.Arguments.{Checks, IsCommandLine, Argument, asked, arguments_at, replay_app};
 ghost use Rattle.replay_run.specs.Answered.{AnswersInputs, StopsInputs};
 ghost use Rattle.replay_run.specs.Compared.{EndsComparison, count_line};
 ghost use Rattle.replay_run.specs.Growth.{Grows};
 ghost use Rattle.replay_run.specs.Problem.{TellsMemory, TellsStop, TellsUsageError};
 ghost use Rattle.replay_run.specs.Inputs as spec;
 ghost use Rattle.replay_run.specs.Inputs.{AsksAnswers, AsksComparison, Compares, IfAnswers, IfComparison, IsComparison};
-ghost use Rattle.replay_run.specs.Inputs.{answers, held_by};
+ghost use Rattle.replay_run.specs.Inputs.{answers};
 ghost use Rattle.replay_run.specs.declared.lines.Way.{Way};
 ghost use Rattle.replay_run.specs.declared.problem.Problem.{Problem};
 
 use crate::arguments::matches_of;
 use crate::check::Counts;
 use crate::command::{ReplayCommand, command_of};
-use crate::inputs::{answer_inputs, check_pair, repeat_named, shown_name};
+use crate::inputs::{answer_inputs, check_pair, repeat_named};
 use crate::lines::{AnswerForm, Way, print, print_line};
 use crate::problem::Problem;
 use crate::repeat::{TimedTally, print_tally};
 use crate::stop::{StopAt, or_stop, tell_stop, tell_usage_error};
 use clap::ArgMatches;
 use output_stream::Stream;
+use program::inputs::input_name;
 use std::alloc::Global;
 use std::io::Write;
 use std::rt::{Clock, Files};
@@ -67,7 +70,7 @@ pub fn run<'w, R: Files + Input + Clock + AllocGlobal, W: Write, V: Write>(
         ⊎ ((name : Argument) × (problem : Problem) × TellsStop name problem (Receives V.contents err.old err.new)
         × StopsInputs R.File R.Reader (held_by R.File.remaining R.Reader.remaining) way names
         (known W.contents out.old) (known W.contents out.new) name problem) }
-    ensures help { result ≡ 0 → AsksToShow (arguments_at args.now)
+    ensures help { result ≡ 0 → AsksToShow replay_app (arguments_at args.now)
         → Grows (known W.contents out.old) (known W.contents out.new) }
 {
     match matches_of(rt.alloc(), args) {
@@ -319,7 +322,7 @@ fn print_counts<W: Write>(alloc: Global, counts: Counts, out: &mut Stream<W>) ->
 /// Draws each case of the inputs this many times, and prints how long it took.
 fn repeat<'a, R: Files + Input + Clock + AllocGlobal, W: Write>(
     rt: &R,
-    times: u64,
+    times: usize,
     names: &[&'a str],
     out: &mut Stream<W>,
 ) -> Result<u8, StopAt<'a>>
@@ -327,7 +330,7 @@ fn repeat<'a, R: Files + Input + Clock + AllocGlobal, W: Write>(
 {
     let mut tally = TimedTally::default();
     for name in names {
-        or_stop(shown_name(*name), repeat_named(rt, times, name, &mut tally))?;
+        or_stop(input_name(*name), repeat_named(rt, times, name, &mut tally))?;
     }
     or_stop(OUTPUT, print_tally(rt.alloc(), &tally, out))?;
     Ok(DONE)

@@ -12,6 +12,7 @@ use crate::problem::{Problem, words_of};
 use annotate_snippets::text::normalize_untrusted_str;
 use clap::error::ErrorKind;
 use output_stream::Stream;
+use program::input::texts_lent;
 use program::line::write_line;
 use program::message::{lines_of, message_text};
 use std::alloc::{AllocError, Global};
@@ -92,7 +93,7 @@ fn shown_error(alloc: Global, args: &[&str], error: &clap::Error) -> Result<Stri
 /// that have these pictures in place of line feeds. No name of an option has either, so what is wrong is the same.
 fn quoting_lines(alloc: Global, args: &[&str], error: &clap::Error) -> Result<String, AllocError> {
     let lines = lines_of(alloc, args)?;
-    let shown: Vec<&str> = lines.iter().map(|line| line.as_str()).collect(alloc)?;
+    let shown = texts_lent(alloc, &lines)?;
     match usage_error(alloc, &shown) {
         Some(told) => told_or(alloc, &told, error),
         None => format!(in alloc; "{error}"),

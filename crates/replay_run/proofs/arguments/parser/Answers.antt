@@ -19,7 +19,7 @@ returns c =
     let one = c.in_ok-arg.ensures.shape c.flag-text.ensures.local ∙ ap₂ with_rule base c.flag-text.ensures.rule in
     let two = c.in_ok-arg-2.ensures.shape c.flag-keep_going.ensures.local ∙ ap₂ with_rule one c.flag-keep_going.ensures.rule in
     let three = c.in_ok-arg-3.ensures.shape c.flag-check.ensures.local ∙ ap₂ with_rule two c.flag-check.ensures.rule in
-    let four = c.in_ok-arg-4.ensures.shape c.repeat.ensures.local ∙ ap₂ with_rule three c.repeat.ensures.rule in
+    let four = c.in_ok-arg-4.ensures.shape c.valued-repeat.ensures.local ∙ ap₂ with_rule three c.valued-repeat.ensures.rule in
     record {
-      app = c.in_ok-command.ensures.shape c.files.ensures.local ∙ ap₂ with_rule four c.files.ensures.rule;
+      app = c.in_ok-command.ensures.shape c.inputs.ensures.local ∙ ap₂ with_rule four c.inputs.ensures.rule;
     }

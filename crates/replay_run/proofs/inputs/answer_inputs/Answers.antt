@@ -1,7 +1,7 @@
 use Rattle.std.proofs.Common.{◌≡◌, ◌∙◌, List, [], ◌∷◌, ◌++◌, ap, arith, length, subst, sym, take}
 use Rattle.replay_run.specs.Arguments.{Argument, arguments_at}
 use Rattle.replay_run.specs.Answered.{AnswersInputs}
-use Rattle.replay_run.specs.Inputs.{held_by}
+use Rattle.program.specs.Inputs.{held_by}
 use Rattle.replay_run.proofs.AnsweredInputs.{HaveAnswered, names_all, names_at, names_more, none_answered, one_more_answered, stops_next}
 use Rattle.output_stream.specs.Standing.{known}
 use Rattle.replay_run.proofs.inputs.answer_inputs.Goals as goal
@@ -24,7 +24,7 @@ pub returns-in-Err-clause-stops : goal.returns-in-Err-clause-stops
 returns-in-Err-clause-stops g c =
     let (after, split) = names_at c.args.names.now c.loop-name.name-index _ (omega (arith, c.loop-name-test.true)) in
     stops_next (held_by g.R.File.Read.remaining g.R.Reader.Read.remaining) c.args.way c.loop-name.told _ _ after _ _ _ _ _ _ _ c.loop-name.invariant split
-    c.shown_name.ensures.value c.in-Err.ensures.stops
+    c.input_name.ensures.value c.in-Err.ensures.stops
 
 pub returns-clause-answers : goal.returns-clause-answers
 returns-clause-answers g c =

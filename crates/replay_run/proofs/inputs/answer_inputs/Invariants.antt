@@ -1,6 +1,6 @@
 use Rattle.std.proofs.Common.{take}
 use Rattle.replay_run.specs.Arguments.{arguments_at}
-use Rattle.replay_run.specs.Inputs.{held_by}
+use Rattle.program.specs.Inputs.{held_by}
 use Rattle.replay_run.proofs.AnsweredInputs.{HaveAnswered}
 use Rattle.output_stream.specs.Standing.{known}
 use Rattle.replay_run.proofs.inputs.answer_inputs.Given as goal

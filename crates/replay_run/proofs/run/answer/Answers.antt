@@ -1,7 +1,7 @@
 use Rattle.std.proofs.Common.{List, codes, inr, refl, sym, subst}
 use Rattle.replay_run.specs.Arguments.{Argument, arguments_at}
 use Rattle.replay_run.specs.Answered.{StopsInputs}
-use Rattle.replay_run.specs.Inputs.{held_by}
+use Rattle.program.specs.Inputs.{held_by}
 use Rattle.replay_run.specs.declared.problem.Problem.{Problem}
 use Rattle.replay_run.specs.declared.problem.Problem.TheVariants.{NotCases}
 use Rattle.replay_run.proofs.AnsweredInputs.{all_stop, if_err}

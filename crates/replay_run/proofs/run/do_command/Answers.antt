@@ -1,7 +1,7 @@
 use Rattle.std.proofs.Common.{false}
 use Rattle.std.proofs.lemmas.Result.{IfOk-weaker}
 use Rattle.replay_run.specs.Answered.{AnswersInputs, StopsInputs}
-use Rattle.replay_run.specs.Inputs.{held_by}
+use Rattle.program.specs.Inputs.{held_by}
 use Rattle.replay_run.proofs.AnsweredInputs.{if_err, on_ok}
 use Rattle.replay_run.proofs.Commands.{answers_done, comparison_done}
 use Rattle.output_stream.specs.Standing.{known}

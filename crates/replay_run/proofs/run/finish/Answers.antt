@@ -1,7 +1,7 @@
 use Rattle.std.proofs.Common.{false, codes, inl, length, refl}
 use Rattle.replay_run.specs.Answered.{AnswersInputs, StopsInputs}
 use Rattle.replay_run.specs.Compared.{EndsComparison}
-use Rattle.replay_run.specs.Inputs.{held_by}
+use Rattle.program.specs.Inputs.{held_by}
 use Rattle.replay_run.proofs.AnsweredInputs.{all_stop, answers_kept, stops_kept}
 use Rattle.replay_run.specs.declared.problem.Problem.TheVariants.{Write}
 use Rattle.replay_run.proofs.Commands.{if_answers, if_comparison}

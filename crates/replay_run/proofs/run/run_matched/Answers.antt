@@ -3,7 +3,8 @@ use Rattle.clap.specs.Words.{found_of, rows_of}
 use Rattle.replay_run.specs.Arguments.{Checks, asked, task_of}
 use Rattle.replay_run.specs.Answered.{AnswersInputs, StopsInputs}
 use Rattle.replay_run.specs.Compared.{EndsComparison}
-use Rattle.replay_run.specs.Inputs.{answers, held_by}
+use Rattle.program.specs.Inputs.{held_by}
+use Rattle.replay_run.specs.Inputs.{answers}
 use Rattle.replay_run.proofs.Commands.{answers_asked, comparison_asked, files_compared, memory_asked, same_task}
 use Rattle.replay_run.proofs.Commands.{something_asked}
 use Rattle.output_stream.specs.Standing.{known}
