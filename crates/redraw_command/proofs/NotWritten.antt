@@ -2,7 +2,7 @@
 use Rattle.std.proofs.Common.{◌≡◌, ◌++◌, ℕ, List, [], ◌∷◌, Some, false, ap, arith, codes, encode_utf8_all, inl, inr, length, length-append}
 use Rattle.std.specs.Io.KnownBytes.{Appends}
 use Rattle.redraw_report.specs.declared.diagnostic.Severity.TheVariants.{Warning}
-use Rattle.redraw_command.specs.Tally.{one_more, status_of, tallied}
+use Rattle.redraw_command.specs.Tally.{one_more, tally_status, tallied}
 use Rattle.output_stream.specs.Standing.{Gets, Standing}
 use Rattle.program.specs.Stream.{ended_line}
 use Rattle.redraw_command.specs.Told.{Tells}
@@ -20,7 +20,7 @@ pub text_printed_twice : Appends (Some []) (Some (97 ∷ 97 ∷ 10 ∷ [])) (cod
 text_printed_twice added = absurd (omega (arith, ap length added))
 
 -- the status 0 of a run that didn't read all of its inputs
-pub unread_input_is_clean : (t : Tally) → 0 ≡ status_of t false → ⊥
+pub unread_input_is_clean : (t : Tally) → 0 ≡ tally_status t false → ⊥
 unread_input_is_clean t same = absurd (omega (arith, same))
 
 -- no warning counted, where there was none before a finding that is one

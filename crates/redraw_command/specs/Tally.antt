@@ -58,5 +58,5 @@ is_empty t = has_none t && (t.duplicates == 0 && t.wrong == 0)
 
 -- the status of a run: 2 where not all of its inputs could be read and are of a form that is known, else 1 where an error was drawn
 -- or a build failed, else 0
-abbrev pub status_of : Tally → Bool → ℕ
-status_of t is_whole = if is_whole then (if t.has_error || t.has_failed then 1 else 0) else 2
+abbrev pub tally_status : Tally → Bool → ℕ
+tally_status t is_whole = if is_whole then (if t.has_error || t.has_failed then 1 else 0) else 2

@@ -6,12 +6,12 @@ pub use Rattle.program.specs.Message.{message_text, normalized_text}
 use Rattle.redraw_command.specs.Unheeded.{apart}
 
 -- what is told where this is said: the program's name, and that on one line as it may be shown, without the start of a command of GitHub
-abbrev pub message : List ℕ → List ℕ
-message said = codes "redraw: " ++ apart (message_text said)
+abbrev pub told_line : List ℕ → List ℕ
+told_line said = codes "redraw: " ++ apart (message_text said)
 
 -- a line that is told: a message, or that there was no memory for one
 abbrev pub IsMessage : List ℕ → Type 0
-IsMessage line = ((said : List ℕ) × (line ≡ message said)) ⊎ (line ≡ codes "redraw: out of memory")
+IsMessage line = ((said : List ℕ) × (line ≡ told_line said)) ⊎ (line ≡ codes "redraw: out of memory")
 
 -- one message is told, and nothing else: all of it and a line feed, or, only where a write failed, a first part
 pub record Tells (old new : Standing) : Type 0 where

@@ -71,7 +71,7 @@ impl Tally {
 
     /// The status of a run that drew this, and read all of its inputs or not.
     pub fn status(&self, is_whole: bool) -> u8
-        ensures status { result ≡ spec.status_of self.now is_whole }
+        ensures status { result ≡ spec.tally_status self.now is_whole }
     {
         if !is_whole {
             FAILED

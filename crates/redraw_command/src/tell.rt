@@ -43,7 +43,7 @@ pub fn tell_memory<V: Write>(err: &mut Stream<V>)
 
 /// A message as it may be shown.
 fn shown<D: fmt::Display + Drop>(alloc: Global, message: D) -> Result<String, AllocError>
-    ensures message { IfOk result (λ text. (said : List ℕ) × (string_bytes text ≡ spec.message said)) }
+    ensures message { IfOk result (λ text. (said : List ℕ) × (string_bytes text ≡ spec.told_line said)) }
 {
     let said = format!(in alloc; "{message}")?;
     let said = message_text(alloc, said.as_str())?;

@@ -5,7 +5,7 @@ use Rattle.std.specs.Prelude.{IfErr, IfOk, OnOk, Result, Ok, Err}
 use Rattle.std.specs.declared.io.Error.{Error}
 use Rattle.redraw_run.specs.declared.look.ReportRenderer.{ReportRenderer}
 use Rattle.output_stream.specs.Standing.{Standing}
-use Rattle.redraw_command.specs.Tally.{no_tally, status_of}
+use Rattle.redraw_command.specs.Tally.{no_tally, tally_status}
 use Rattle.redraw_command.specs.declared.tally.Tally.{Tally}
 use Rattle.redraw_command.specs.Told.{Tells, TellsMemory}
 use Rattle.redraw_command.specs.declared.choice.Choice.{Choice}
@@ -290,7 +290,7 @@ input_cut file input name (Err e) a b same (Some source, h) = (Some (inr source)
 -- it ends as it was summed up
 pub finishes : {File Standard : Type 0} (held : File ⊎ Standard → Option (List ℕ)) (names : List (List ℕ)) (a b : State) (is_whole : Bool)
     (err : Standing) (status : ℕ) → AreInputsPrinted File Standard held names is_whole a b
-    → SumsUp a.choice.is_quiet b.tally b.err err → status ≡ status_of b.tally is_whole → Runs held names a b.out err status
+    → SumsUp a.choice.is_quiet b.tally b.err err → status ≡ tally_status b.tally is_whole → Runs held names a b.out err status
 finishes held names a b is_whole err status drawn sum ends =
     inl record { is_whole = is_whole; end = b; drawn = drawn; printed = refl; sum = sum; ends = ends }
 
@@ -311,7 +311,7 @@ run_from P r looked c t out err is none h =
 -- what sums up a run by what is asked for at its end
 pub finishes_by : {File Standard : Type 0} (held : File ⊎ Standard → Option (List ℕ)) (names : List (List ℕ)) (a b : State) (is_whole : Bool)
     (err : Standing) (status : ℕ) → AreInputsPrinted File Standard held names is_whole a b
-    → SumsUp b.choice.is_quiet b.tally b.err err → status ≡ status_of b.tally is_whole → Runs held names a b.out err status
+    → SumsUp b.choice.is_quiet b.tally b.err err → status ≡ tally_status b.tally is_whole → Runs held names a b.out err status
 finishes_by held names a b is_whole err status drawn sum ends =
     let same : b.choice ≡ a.choice = ap (λ (s : State). s.choice) drawn.is ∙ drawn.drawn.does.choice in
     finishes held names a b is_whole err status drawn (subst (λ (c : Choice). SumsUp c.is_quiet b.tally b.err err) same sum) ends

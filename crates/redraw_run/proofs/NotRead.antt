@@ -7,7 +7,7 @@ use Rattle.clap.specs.Simple.{App}
 use Rattle.clap.specs.declared.error.kind.ErrorKind.{ErrorKind}
 use Rattle.clap.specs.declared.error.kind.ErrorKind.TheVariants.{DisplayHelp, DisplayVersion}
 use Rattle.output_stream.specs.Standing.{Standing}
-use Rattle.redraw_command.specs.Tally.{status_of}
+use Rattle.redraw_command.specs.Tally.{tally_status}
 use Rattle.redraw_command.specs.declared.choice.Choice.{Choice}
 use Rattle.redraw_command.specs.declared.terminal.Surroundings.{Surroundings}
 use Rattle.redraw_command.proofs.CommandLines.{no_arguments}
@@ -43,7 +43,7 @@ unread_and_clean held name names a out err run =
     let drawn = run.drawn.drawn in
     let partial : run.is_whole ≡ false = sym drawn.whole
     ∙ unread_all held drawn.inputs name names a.choice drawn.does.deeds drawn.named drawn.does.fit in
-    let two : ◌≡◌ {A = ℕ} 0 2 = run.ends ∙ ap (λ (whole : Bool). status_of run.end.tally whole) partial in
+    let two : ◌≡◌ {A = ℕ} 0 2 = run.ends ∙ ap (λ (whole : Bool). tally_status run.end.tally whole) partial in
     cc two
 
 unread_run : (held : Nothing → Option (List ℕ)) (names : List (List ℕ)) (name : List ℕ) (rest : List (List ℕ)) (a : State) (out err : Standing)

@@ -4,7 +4,7 @@ use Rattle.serde_json.specs.Data.{Data}
 use Rattle.output_stream.specs.Standing.{Standing}
 use Rattle.redraw_command.specs.Choice.{is_sum}
 use Rattle.redraw_command.specs.Line.{begins_object}
-use Rattle.redraw_command.specs.Tally.{no_tally, status_of, tallied}
+use Rattle.redraw_command.specs.Tally.{no_tally, tally_status, tallied}
 use Rattle.redraw_command.specs.declared.choice.Choice.{Choice}
 use Rattle.redraw_command.specs.declared.tally.Tally.{Tally}
 use Rattle.redraw_report.specs.declared.diagnostic.Diagnostic.{Diagnostic}
@@ -140,7 +140,7 @@ noise_told c part (text, inl is, inl h) = cc h.1
 noise_told c part (text, inl is, inr h) = cc (ap begins_object is, h.0)
 noise_told c part (text, inr is, h) = cc is
 
-no_clean : (t : Tally) (whole : Bool) → t.has_error ≡ true → 0 ≡ status_of t whole → ⊥
+no_clean : (t : Tally) (whole : Bool) → t.has_error ≡ true → 0 ≡ tally_status t whole → ⊥
 no_clean t true error none =
     let one : ◌≡◌ {A = ℕ} 0 1 = none ∙ ap (λ (e : Bool). if e || t.has_failed then 1 else 0) error in
     cc one

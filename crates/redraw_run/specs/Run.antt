@@ -3,7 +3,7 @@ use Rattle.std.specs.Prelude.{◌≡◌, ◌⊎◌, ℕ, Bool, false, List, Opti
 use Rattle.std.specs.declared.io.Error.{Error}
 use Rattle.output_stream.specs.Standing.{Adds, BreaksOff, Standing}
 use Rattle.clap.specs.Simple.{App}
-use Rattle.redraw_command.specs.Tally.{no_tally, status_of}
+use Rattle.redraw_command.specs.Tally.{no_tally, tally_status}
 use Rattle.redraw_command.specs.Told.{Tells, TellsMemory, TellsOfArguments}
 use Rattle.redraw_command.specs.Arguments.{AreWrong, AsksFor, AsksToShow, IsRedraw, Argument}
 use Rattle.redraw_command.specs.declared.choice.Choice.{Choice}
@@ -76,7 +76,7 @@ pub record Finishes (File Standard : Type 0) (held : File ⊎ Standard → Optio
   pub drawn : AreInputsPrinted File Standard held names is_whole a end
   pub printed : out ≡ end.out
   pub sum : SumsUp a.choice.is_quiet end.tally end.err err
-  pub ends : status ≡ status_of end.tally is_whole
+  pub ends : status ≡ tally_status end.tally is_whole
 
 -- a run ends where standard output can't be written: one message may tell why, and the status is 2
 pub record EndsCut (File Standard : Type 0) (held : File ⊎ Standard → Option (List ℕ)) (names : List (List ℕ)) (a : State)

@@ -4,7 +4,7 @@ ghost use Rattle.clap.specs.Values.{kind_of};
 ghost use Rattle.clap.specs.declared.error.kind.ErrorKind.TheVariants as kind;
 ghost use Rattle.std.specs.IoError.{error_kind};
 ghost use Rattle.std.specs.declared.io.ErrorKind.TheVariants.{BrokenPipe};
-ghost use Rattle.redraw_command.specs.Tally.{is_empty, status_of};
+ghost use Rattle.redraw_command.specs.Tally.{is_empty, tally_status};
 ghost use Rattle.redraw_command.specs.Told.{Tells, TellsMemory, TellsOfArguments};
 ghost use Rattle.redraw_command.specs.Arguments.{arguments_at};
 ghost use Rattle.redraw_run.specs.Deeds.{standing};
@@ -404,7 +404,7 @@ fn finish<V: Write>(
     is_whole: bool,
     err: &mut Stream<V>,
 ) -> u8
-    ensures status { result ≡ status_of summary.tally is_whole }
+    ensures status { result ≡ tally_status summary.tally is_whole }
     ensures quiet { is_quiet ≡ true → err.new ≡ err.old }
     ensures last { SumsUp is_quiet summary.tally (known V.contents err.old) (known V.contents err.new) }
 {
