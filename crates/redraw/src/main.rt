@@ -3,7 +3,7 @@
 
 use output_stream::Stream;
 use program::exit::exit_code;
-use program::input::given_arguments;
+use program::input::{given_arguments, texts_lent};
 use program::standing_in::stand_in;
 use redraw_command::tally::FAILED;
 use redraw_command::terminal::{Surroundings, columns_of, is_colorless};
@@ -27,10 +27,7 @@ fn text_of(text: &Option<String>) -> Option<&str> {
 fn answer(rt: &HostRuntime) -> io::Result<u8> {
     let alloc = rt.alloc();
     let given = given_arguments(rt)?;
-    let args: Vec<&str> = given
-        .iter()
-        .map(|argument| argument.as_str())
-        .collect(alloc)?;
+    let args = texts_lent(alloc, &given)?;
     let no_color = variable(rt, "NO_COLOR");
     let term = variable(rt, "TERM");
     let columns = variable(rt, "COLUMNS");

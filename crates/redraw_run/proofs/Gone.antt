@@ -1,7 +1,7 @@
 -- What becomes of inputs, one after another, and of a run.
 use Rattle.std.proofs.Common.{◌≡◌, ◌⊎◌, ◌++◌, ◌∙◌, ◌&&◌, ◌+◌, ℕ, Bool, List, [], ◌∷◌, Option, None, Some, ap, ap₂, append-nil, arith, false, inl, inr}
 use Rattle.std.proofs.Common.{length, length-append, refl, subst, sym, true}
-use Rattle.std.specs.Prelude.{IfErr, IfOk, OnOk, Result, Ok, Err}
+use Rattle.std.specs.Prelude.{IfErr, IfOk, OnOk, Result, Ok, Err, option_map}
 use Rattle.std.specs.declared.io.Error.{Error}
 use Rattle.redraw_run.specs.declared.look.ReportRenderer.{ReportRenderer}
 use Rattle.output_stream.specs.Standing.{Standing}
@@ -14,8 +14,9 @@ use Rattle.redraw_command.specs.declared.stop.Stop.TheVariants.{Memory, Unwritab
 use Rattle.redraw_command.specs.Line.{begins_utf16}
 use Rattle.redraw_run.specs.Deeds.{State, Deed, Does, IsCutShort, IsPartOfDeeds, IsUnreadable, Stops}
 use Rattle.redraw_run.specs.Fates.{AreNone, Each, Halts, IsHalted, IsOfUtf16, IsInput, IsEndOfInput, IsNextIn, IsSoFar, IsTelling, Then}
-use Rattle.redraw_run.specs.Inputs.{AreAllIn, AreCut, AreDrawn, AreFirstIn, Input, IsCutFrom, IsCutIn, IsInputCut, IsDrawnFrom, IsDrawnIn, IsDrawnOf}
-use Rattle.redraw_run.specs.Inputs.{IsOf, are_whole, held_by, held_in, names_of, standard}
+use Rattle.program.specs.Inputs.{IsNamed}
+use Rattle.redraw_run.specs.Inputs.{AreAllIn, AreCut, AreDrawn, AreFirstIn, Input, IsCutFrom, IsInputCut, IsDrawnFrom, IsDrawnOf, IsOf, IsSourceOf}
+use Rattle.redraw_run.specs.Inputs.{are_whole, held_in, names_of}
 use Rattle.redraw_run.specs.ReadLines.{AreAllOf, AreFirstOf, SumsUp}
 use Rattle.redraw_run.specs.Run.{ArePartlyPrinted, AreInputsPrinted, EndsInput, Runs, nothing_begun}
 use Rattle.redraw_run.proofs.Doing.{cut_then, does_as, does_nothing, does_then, stops_as, stops_then}
@@ -100,10 +101,6 @@ and_swap true y z = refl
 and_swap false true z = refl
 and_swap false false z = refl
 
-and_true : (x : Bool) → x && true ≡ x
-and_true true = refl
-and_true false = refl
-
 whole_more : {File Standard : Type 0} (inputs : List (Input File Standard)) (input : Input File Standard)
     → are_whole (inputs ++ input ∷ []) ≡ input.is_whole && are_whole inputs
 whole_more [] input = refl
@@ -124,12 +121,6 @@ drawn_more held names name whole is a b c p (input, named, known, q) =
       whole = whole_more p.inputs input ∙ ap₂ (λ (x y : Bool). x && y) known p.whole;
       does = does_as (each_more (IsOf held) input a.choice p.inputs) (does_then {P = Each (IsOf held) p.inputs} {Q = IsOf held input} p.does q);
     }
-
--- one input alone
-pub drawn_one : {File Standard : Type 0} (held : File ⊎ Standard → Option (List ℕ)) (name : List ℕ) (is : Bool) (a b : State) → Does AreNone a a
-    → IsDrawnOf held name is a b → AreDrawn File Standard held (name ∷ []) is a b
-drawn_one {File} {Standard} held name is a b none q =
-    subst (λ (w : Bool). AreDrawn File Standard held (name ∷ []) w a b) (and_true is) (drawn_more held [] name true is a a b (drawn_none held a none) q)
 
 -- it is cut short at the next one
 pub drawn_cut : {File Standard : Type 0} (held : File ⊎ Standard → Option (List ℕ)) (names : List (List ℕ)) (name : List ℕ) (later : List (List ℕ))
@@ -227,63 +218,32 @@ held_err {B} remaining input error result a b is h =
     subst (λ (i : Result B Error). IfOk result (λ is. IsDrawnFrom (held_in remaining i) is a b) × IfErr result (λ e. IsCutFrom (held_in remaining i) a b))
     (sym is) h
 
--- what becomes of what could be opened or not becomes of a file or standard input
-pub opened_drawn : {B X : Type 0} (remaining : B → Option (List ℕ)) (held : X → Option (List ℕ)) (inner : B → X) (input : Result B Error)
-    (result : Result Bool Error) (a b : State) → IfOk input (λ reader. remaining reader ≡ held (inner reader))
-    → IfOk result (λ is. IsDrawnFrom (held_in remaining input) is a b) → IfOk result (λ is. IsDrawnIn held is a b)
-opened_drawn {B} {X} remaining held inner (Ok reader) result a b bytes h =
-    IfOk-weaker result (λ is. IsDrawnFrom (Some (remaining reader)) is a b) (λ is. IsDrawnIn held is a b)
-    (λ is d. (Some (inner reader), subst (λ (o : Option (List ℕ)). IsDrawnFrom (Some o) is a b) bytes d)) h
-opened_drawn {B} {X} remaining held inner (Err error) result a b bytes h =
-    IfOk-weaker result (λ is. IsDrawnFrom None is a b) (λ is. IsDrawnIn held is a b)
-    (λ is d. (None, d)) h
+-- what becomes of what an argument names becomes of the input of that name
+named_of : {File Standard : Type 0} (held : File ⊎ Standard → Option (List ℕ)) (name : List ℕ) (source : Option (File ⊎ Standard)) (is : Bool) (a b : State)
+    → IsSourceOf name source → IsDrawnFrom (option_map held source) is a b → IsDrawnOf held name is a b
+named_of held name source is a b named (lines, d) =
+    (record { name = name; source = source; lines = lines; is_whole = is }, refl, refl, does_as (λ ds h. (named, h)) d)
 
-pub opened_cut : {B X : Type 0} (remaining : B → Option (List ℕ)) (held : X → Option (List ℕ)) (inner : B → X) (input : Result B Error)
-    (result : Result Bool Error) (a b : State) → IfOk input (λ reader. remaining reader ≡ held (inner reader))
-    → IfErr result (λ error. IsCutFrom (held_in remaining input) a b) → IfErr result (λ error. IsCutIn held a b)
-opened_cut {B} {X} remaining held inner (Ok reader) result a b bytes h =
-    if_err_as (λ error. IsCutFrom (Some (remaining reader)) a b) (λ error. IsCutIn held a b) result
-    (λ error d. (Some (inner reader), subst (λ (o : Option (List ℕ)). IsCutFrom (Some o) a b) bytes d)) h
-opened_cut {B} {X} remaining held inner (Err error) result a b bytes h =
-    if_err_as (λ error. IsCutFrom None a b) (λ error. IsCutIn held a b) result (λ e d. (None, d)) h
+-- so it is where that could be opened to be read, and where it couldn't
+pub named_drawn : {B File Standard : Type 0} (remaining : B → Option (List ℕ)) (held : File ⊎ Standard → Option (List ℕ)) (source : B → File ⊎ Standard)
+    (name : List ℕ) (input : Result B Error) (result : Result Bool Error) (a b : State) → IfOk input (λ reader. IsNamed name (source reader))
+    → IfOk input (λ reader. remaining reader ≡ held (source reader)) → IfOk result (λ is. IsDrawnFrom (held_in remaining input) is a b)
+    → IfOk result (λ is. IsDrawnOf held name is a b)
+named_drawn remaining held source name (Ok reader) result a b named bytes h =
+    IfOk-weaker result (λ is. IsDrawnFrom (Some (remaining reader)) is a b) (λ is. IsDrawnOf held name is a b)
+    (λ is d. named_of held name (Some (source reader)) is a b named (subst (λ (o : Option (List ℕ)). IsDrawnFrom (Some o) is a b) bytes d)) h
+named_drawn remaining held source name (Err error) result a b named bytes h =
+    IfOk-weaker result (λ is. IsDrawnFrom None is a b) (λ is. IsDrawnOf held name is a b) (λ is d. named_of held name None is a b tt d) h
 
--- of a file by its name, which isn't that of standard input
-file_of : {File Standard : Type 0} (file : File → Option (List ℕ)) (input : Standard → Option (List ℕ)) (name : List ℕ) (is : Bool) (a b : State)
-    → (name ≡ standard → ⊥) → IsDrawnIn file is a b → IsDrawnOf (held_by file input) name is a b
-file_of {File} {Standard} file input name is a b other (None, (lines, d)) =
-    (record { name = name; source = None; lines = lines; is_whole = is }, refl, refl, does_as (λ ds h. (tt, h)) d)
-file_of {File} {Standard} file input name is a b other (Some source, (lines, d)) =
-    (record { name = name; source = Some (inl source); lines = lines; is_whole = is }, refl, refl, does_as (λ ds h. (other, h)) d)
-
-pub file_drawn : {File Standard : Type 0} (file : File → Option (List ℕ)) (input : Standard → Option (List ℕ)) (name : List ℕ) (result : Result Bool Error)
-    (a b : State) → (name ≡ standard → ⊥) → IfOk result (λ is. IsDrawnIn file is a b) → IfOk result (λ is. IsDrawnOf (held_by file input) name is a b)
-file_drawn file input name (Ok is) a b other h = file_of file input name is a b other h
-file_drawn file input name (Err e) a b other h = tt
-
-pub file_cut : {File Standard : Type 0} (file : File → Option (List ℕ)) (input : Standard → Option (List ℕ)) (name : List ℕ) (result : Result Bool Error)
-    (a b : State) → (name ≡ standard → ⊥) → IfErr result (λ error. IsCutIn file a b) → IfErr result (λ error. IsInputCut (held_by file input) name a b)
-file_cut file input name (Ok is) a b other h = tt
-file_cut file input name (Err e) a b other (None, h) = (None, tt, h)
-file_cut file input name (Err e) a b other (Some source, h) = (Some (inl source), other, h)
-
--- of standard input by its name
-input_of : {File Standard : Type 0} (file : File → Option (List ℕ)) (input : Standard → Option (List ℕ)) (name : List ℕ) (is : Bool) (a b : State)
-    → name ≡ standard → IsDrawnIn input is a b → IsDrawnOf (held_by file input) name is a b
-input_of {File} {Standard} file input name is a b same (None, (lines, d)) =
-    (record { name = name; source = None; lines = lines; is_whole = is }, refl, refl, does_as (λ ds h. (tt, h)) d)
-input_of {File} {Standard} file input name is a b same (Some source, (lines, d)) =
-    (record { name = name; source = Some (inr source); lines = lines; is_whole = is }, refl, refl, does_as (λ ds h. (same, h)) d)
-
-pub input_drawn : {File Standard : Type 0} (file : File → Option (List ℕ)) (input : Standard → Option (List ℕ)) (name : List ℕ) (result : Result Bool Error)
-    (a b : State) → name ≡ standard → IfOk result (λ is. IsDrawnIn input is a b) → IfOk result (λ is. IsDrawnOf (held_by file input) name is a b)
-input_drawn file input name (Ok is) a b same h = input_of file input name is a b same h
-input_drawn file input name (Err e) a b same h = tt
-
-pub input_cut : {File Standard : Type 0} (file : File → Option (List ℕ)) (input : Standard → Option (List ℕ)) (name : List ℕ) (result : Result Bool Error)
-    (a b : State) → name ≡ standard → IfErr result (λ error. IsCutIn input a b) → IfErr result (λ error. IsInputCut (held_by file input) name a b)
-input_cut file input name (Ok is) a b same h = tt
-input_cut file input name (Err e) a b same (None, h) = (None, tt, h)
-input_cut file input name (Err e) a b same (Some source, h) = (Some (inr source), same, h)
+pub named_cut : {B File Standard : Type 0} (remaining : B → Option (List ℕ)) (held : File ⊎ Standard → Option (List ℕ)) (source : B → File ⊎ Standard)
+    (name : List ℕ) (input : Result B Error) (result : Result Bool Error) (a b : State) → IfOk input (λ reader. IsNamed name (source reader))
+    → IfOk input (λ reader. remaining reader ≡ held (source reader)) → IfErr result (λ error. IsCutFrom (held_in remaining input) a b)
+    → IfErr result (λ error. IsInputCut held name a b)
+named_cut remaining held source name (Ok reader) result a b named bytes h =
+    if_err_as (λ error. IsCutFrom (Some (remaining reader)) a b) (λ error. IsInputCut held name a b) result
+    (λ error d. (Some (source reader), named, subst (λ (o : Option (List ℕ)). IsCutFrom (Some o) a b) bytes d)) h
+named_cut remaining held source name (Err error) result a b named bytes h =
+    if_err_as (λ error. IsCutFrom None a b) (λ error. IsInputCut held name a b) result (λ e d. (None, tt, d)) h
 
 -- ---- a run
 
@@ -320,17 +280,6 @@ finishes_by held names a b is_whole err status drawn sum ends =
 pub unwritten : {K : Type 0} (old new : Standing) → (K → new ≡ old) → K ⊎ Tells old new → (new ≡ old) ⊎ Tells old new
 unwritten old new silent (inl closed) = inl (silent closed)
 unwritten old new silent (inr told) = inr told
-
--- one input alone is gone through, or cut short
-pub one_drawn : {File Standard : Type 0} (held : File ⊎ Standard → Option (List ℕ)) (name : List ℕ) (r : Result Bool Error) (a b : State)
-    → IfOk r (λ is. IsDrawnOf held name is a b) → IfOk r (λ is. AreDrawn File Standard held (name ∷ []) is a b)
-one_drawn held name (Ok is) a b h = drawn_one held name is a b (does_nothing a) h
-one_drawn held name (Err e) a b h = tt
-
-pub one_cut : {File Standard : Type 0} (held : File ⊎ Standard → Option (List ℕ)) (name : List ℕ) (r : Result Bool Error) (a b : State)
-    → IfErr r (λ error. IsInputCut held name a b) → IfErr r (λ error. AreCut File Standard held (name ∷ []) a b)
-one_cut held name (Ok is) a b h = tt
-one_cut held name (Err e) a b h = drawn_cut held [] name [] true a a b (drawn_none held a (does_nothing a)) h
 
 -- what holds of an error anyway
 pub if_err_any : {T E : Type 0} (P : Type 0) (r : Result T E) → P → IfErr r (λ error. P)

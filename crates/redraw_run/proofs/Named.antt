@@ -1,9 +1,10 @@
 -- The names of inputs, up to one of them.
 use Rattle.std.proofs.Common.{◌≡◌, ◌+◌, ◌<◌, ◌++◌, ◌==◌, false, true, ℕ, zero, suc, Bor, List, [], ◌∷◌, ap, arith, length, map, refl}
-use Rattle.std.proofs.Common.{bytes_eq, slice_index_or, subst, take}
+use Rattle.std.proofs.Common.{slice_index_or, take}
 use Rattle.std.proofs.Math.Dec.{eqb-suc-zero}
 use Rattle.std.proofs.lemmas.List.{map_more, take_all}
-use Rattle.redraw_run.specs.Inputs.{given_names, standard}
+use Rattle.program.specs.Inputs.{hyphen}
+use Rattle.redraw_run.specs.Inputs.{given_names}
 
 -- the texts of names
 abbrev pub texts : List (Bor (List ℕ)) → List (List ℕ)
@@ -23,7 +24,7 @@ pub given_some : (names : List (Bor (List ℕ))) → false ≡ (length names == 
 given_some [] h = cc h
 given_some (n ∷ names) h = refl
 
-pub given_none : (names : List (Bor (List ℕ))) → true ≡ (length names == 0) → standard ∷ [] ≡ given_names names
+pub given_none : (names : List (Bor (List ℕ))) → true ≡ (length names == 0) → hyphen ∷ [] ≡ given_names names
 given_none [] h = refl
 given_none (n ∷ names) h = let e = eqb-suc-zero (length names) in cc (h, e)
 
@@ -35,9 +36,3 @@ texts_split (n ∷ names) zero d within = (texts names, refl)
 texts_split (n ∷ names) (suc i) d within =
     let (after, split) = texts_split names i d (omega (arith, within)) in
     (after, ap (λ (l : List (List ℕ)). n.now ∷ l) split)
-
--- a name that isn't that of standard input
-pub not_standard : (name : List ℕ) → bytes_eq name standard ≡ false → name ≡ standard → ⊥
-not_standard name differ same =
-    let none : bytes_eq standard standard ≡ false = subst (λ (n : List ℕ). bytes_eq n standard ≡ false) same differ in
-    cc none

@@ -13,7 +13,8 @@ use Rattle.redraw_command.specs.declared.terminal.Surroundings.{Surroundings}
 use Rattle.redraw_command.proofs.CommandLines.{no_arguments}
 use Rattle.redraw_run.specs.Deeds.{Deed, State}
 use Rattle.redraw_run.specs.Fates.{Each}
-use Rattle.redraw_run.specs.Inputs.{AreAllIn, Input, IsOf, are_whole, asked_names, given_names, names_of, standard}
+use Rattle.program.specs.Inputs.{hyphen}
+use Rattle.redraw_run.specs.Inputs.{AreAllIn, Input, IsOf, are_whole, asked_names, given_names, names_of}
 use Rattle.redraw_run.specs.Run.{Answers, AnswersBy, Finishes, Runs}
 
 -- no file and no standard input can be opened
@@ -55,11 +56,11 @@ unread_run held names name rest a out err are (inr (inr none)) = let two : ◌�
 
 -- some input is always asked for
 some_given : (names : List (Bor (List ℕ))) → (name : List ℕ) × (rest : List (List ℕ)) × (given_names names ≡ name ∷ rest)
-some_given [] = (standard, [], refl)
+some_given [] = (hyphen, [], refl)
 some_given (name ∷ names) = (name.now, map (λ (n : Bor (List ℕ)). n.now) names, refl)
 
 some_asked : (names : Option (Bor (List (Bor (List ℕ))))) → (name : List ℕ) × (rest : List (List ℕ)) × (asked_names names ≡ name ∷ rest)
-some_asked None = (standard, [], refl)
+some_asked None = (hyphen, [], refl)
 some_asked (Some names) = some_given names.now
 
 no_kind : (kind : ErrorKind) (kinds : Kinds) → kinds ≡ [] → IsAmong kind kinds → ⊥

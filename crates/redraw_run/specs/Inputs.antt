@@ -1,8 +1,8 @@
 -- What becomes of inputs: of standard input and of files, each by the argument that names it.
-use Rattle.std.specs.Prelude.{◌≡◌, ◌⊎◌, ℕ, ◌&&◌, ◌++◌, Bool, true, false, List, [], ◌∷◌, Option, Some, None, Result, Ok, Err, codes, map, option_map}
+use Rattle.std.specs.Prelude.{◌≡◌, ◌⊎◌, ℕ, ◌&&◌, ◌++◌, Bool, true, false, List, [], ◌∷◌, Option, Some, None, Result, Ok, Err, map, option_map}
 use Rattle.std.specs.declared.io.Error.{Error}
 use Rattle.std.specs.Borrow.{Bor}
-use Rattle.std.proofs.Common.{inl, inr}
+use Rattle.program.specs.Inputs.{IsNamed, hyphen}
 use Rattle.redraw_command.specs.declared.choice.Choice.{Choice}
 use Rattle.redraw_run.specs.Deeds.{State, Deed, Does, IsCutShort}
 use Rattle.redraw_run.specs.Fates.{Each, IsHalted, IsInput, IsTelling, Then}
@@ -10,24 +10,10 @@ use Rattle.redraw_run.specs.ReadLines.{AreFirstOf, AreAllOf}
 
 -- ---- where lines come from
 
--- the argument that names standard input
-abbrev pub standard : List ℕ
-standard = codes "-"
-
--- what an argument names: standard input where it is a hyphen, and a file where it isn't
-abbrev pub IsNamed : {File Standard : Type 0} → List ℕ → File ⊎ Standard → Type 0
-IsNamed name (inl file) = name ≡ standard → ⊥
-IsNamed name (inr input) = name ≡ standard
-
--- the same of what could be opened, if it could
+-- what an argument names, if that could be opened
 abbrev pub IsSourceOf : {File Standard : Type 0} → List ℕ → Option (File ⊎ Standard) → Type 0
 IsSourceOf name None = Unit {0}
 IsSourceOf name (Some source) = IsNamed name source
-
--- what a file or standard input holds, where that is known
-abbrev pub held_by : {File Standard : Type 0} → (File → Option (List ℕ)) → (Standard → Option (List ℕ)) → File ⊎ Standard → Option (List ℕ)
-held_by file input (inl source) = file source
-held_by file input (inr source) = input source
 
 -- what is held by what could be opened, if it could
 abbrev pub held_in : {B : Type 0} → (B → Option (List ℕ)) → Result B Error → Option (Option (List ℕ))
@@ -69,13 +55,6 @@ IsDrawnFrom held is_whole a b = (lines : List (List ℕ)) × Does (AreOf held li
 abbrev pub IsCutFrom : Option (Option (List ℕ)) → State → State → Type 0
 IsCutFrom held a b = (lines : List (List ℕ)) × AreFirstIn held lines × IsCutShort (IsHalted lines) a b
 
--- the same of something of a kind, if it could be opened
-abbrev pub IsDrawnIn : {X : Type 0} → (X → Option (List ℕ)) → Bool → State → State → Type 0
-IsDrawnIn {X} held is_whole a b = (source : Option X) × IsDrawnFrom (option_map held source) is_whole a b
-
-abbrev pub IsCutIn : {X : Type 0} → (X → Option (List ℕ)) → State → State → Type 0
-IsCutIn {X} held a b = (source : Option X) × IsCutFrom (option_map held source) a b
-
 -- an input: the argument that names it; the file or standard input that it is, if that could be opened; the lines that were read of it; and
 -- whether all of it could be read and is of a form that is known
 pub record Input (File Standard : Type 0) : Type 0 where
@@ -111,12 +90,12 @@ names_of {File} {Standard} inputs = map (λ (input : Input File Standard). input
 
 -- some given names; the one of standard input where none is given
 abbrev pub given_names : List (Bor (List ℕ)) → List (List ℕ)
-given_names [] = standard ∷ []
+given_names [] = hyphen ∷ []
 given_names (name ∷ names) = name.now ∷ map (λ (n : Bor (List ℕ)). n.now) names
 
 -- the names of the inputs that are to be read: those that are given, or standard input where none is
 abbrev pub asked_names : Option (Bor (List (Bor (List ℕ)))) → List (List ℕ)
-asked_names None = standard ∷ []
+asked_names None = hyphen ∷ []
 asked_names (Some names) = given_names names.now
 
 -- the inputs of these names are gone through, each read in their order, and all are whole or not

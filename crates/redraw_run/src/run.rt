@@ -4,15 +4,15 @@ ghost use Rattle.clap.specs.Values.{kind_of};
 ghost use Rattle.clap.specs.declared.error.kind.ErrorKind.TheVariants as kind;
 ghost use Rattle.std.specs.IoError.{error_kind};
 ghost use Rattle.std.specs.declared.io.ErrorKind.TheVariants.{BrokenPipe};
+ghost use Rattle.program.specs.Inputs.{held_by};
 ghost use Rattle.redraw_command.specs.Tally.{is_empty, tally_status};
 ghost use Rattle.redraw_command.specs.Told.{Tells, TellsMemory, TellsOfArguments};
 ghost use Rattle.redraw_command.specs.Arguments.{arguments_at};
 ghost use Rattle.redraw_run.specs.Deeds.{standing};
-ghost use Rattle.redraw_run.specs.Inputs.{AreCut, AreDrawn, IsCutFrom, IsCutIn, IsInputCut, IsDrawnFrom, IsDrawnIn};
-ghost use Rattle.redraw_run.specs.Inputs.{IsDrawnOf, asked_names, given_names, held_by, held_in};
+ghost use Rattle.redraw_run.specs.Inputs as spec;
+ghost use Rattle.redraw_run.specs.Inputs.{AreCut, AreDrawn, IsCutFrom, IsInputCut, IsDrawnFrom, IsDrawnOf, held_in};
 ghost use Rattle.redraw_run.specs.ReadLines.{IsTextPrinted, SumsUp};
 ghost use Rattle.redraw_run.specs.Run.{Answers, ArePartlyPrinted, AreInputsPrinted, Draws, EndsInput};
-ghost use Rattle.std.specs.Io.Buffered.{reader_inner, reader_remaining};
 ghost use Rattle.output_stream.specs.Standing.{known};
 
 use crate::draw::Drawing;
@@ -22,6 +22,7 @@ use crate::input::draw_input;
 use crate::look::renderer_for;
 use crate::write::pass;
 use output_stream::Stream;
+use program::inputs::{STANDARD_INPUT, input_name, opened};
 use redraw_command::arguments::{RedrawRequest, matches_of, request_of};
 use redraw_command::relative::folder_of;
 use redraw_command::seen::{Names, SeenDiagnostics};
@@ -32,8 +33,7 @@ use redraw_command::terminal::Surroundings;
 use redraw_read::sources::{SourceFiles, Sources};
 use std::alloc::{AllocError, Global};
 use std::cell::Cell;
-use std::fs;
-use std::io::{self, BufRead, BufReader, Write};
+use std::io::{self, BufRead, Write};
 use std::rt::Files;
 
 /// Runs what the arguments ask for, and answers the status to end with.
@@ -137,7 +137,7 @@ fn draw_all<'w, R: Files + Input + AllocGlobal, W: Write, V: Write>(
         tally,
         seen: SeenDiagnostics::new(alloc),
         files: Names::new(alloc),
-        input: INPUT,
+        input: STANDARD_INPUT,
         line: 0,
     };
     match draw_document(rt, request.inputs, &mut drawing, out, err) {
@@ -165,11 +165,11 @@ fn draw_document<'r, R: Files + Input + AllocGlobal, S: SourceFiles + Drop, W: W
     err: &mut Stream<V>,
 ) -> io::Result<bool>
     ensures drawn { IfOk result (λ is_whole. AreInputsPrinted R.File R.Reader
-        (held_by R.File.remaining R.Reader.remaining) (asked_names names.entry) is_whole
+        (held_by R.File.remaining R.Reader.remaining) (spec.asked_names names.entry) is_whole
         (standing drawing.old (known W.contents out.old) (known V.contents err.old))
         (standing drawing.new (known W.contents out.new) (known V.contents err.new))) }
     ensures cut { IfErr result (λ error. ArePartlyPrinted (held_by R.File.remaining R.Reader.remaining)
-        (asked_names names.entry)
+        (spec.asked_names names.entry)
         (standing drawing.old (known W.contents out.old) (known V.contents err.old))
         (standing drawing.new (known W.contents out.new) (known V.contents err.new))) }
 {
@@ -179,9 +179,6 @@ fn draw_document<'r, R: Files + Input + AllocGlobal, S: SourceFiles + Drop, W: W
     html::end(is_html, out)?;
     Ok(is_whole)
 }
-
-/// The name that is shown for standard input.
-const INPUT: &str = "standard input";
 
 /// Draws what each input holds, or standard input where there are none, and answers whether all of it could be read and
 /// is of a form that is known. It stops where nothing can be written.
@@ -193,41 +190,24 @@ fn draw_inputs<'r, R: Files + Input + AllocGlobal, S: SourceFiles + Drop, W: Wri
     err: &mut Stream<V>,
 ) -> io::Result<bool>
     ensures drawn { IfOk result (λ is_whole. AreDrawn R.File R.Reader (held_by R.File.remaining R.Reader.remaining)
-        (asked_names names.entry) is_whole
+        (spec.asked_names names.entry) is_whole
         (standing drawing.old (known W.contents out.old) (known V.contents err.old))
         (standing drawing.new (known W.contents out.new) (known V.contents err.new))) }
     ensures cut { IfErr result (λ error. AreCut R.File R.Reader (held_by R.File.remaining R.Reader.remaining)
-        (asked_names names.entry)
+        (spec.asked_names names.entry)
         (standing drawing.old (known W.contents out.old) (known V.contents err.old))
         (standing drawing.new (known W.contents out.new) (known V.contents err.new))) }
 {
-    match names {
-        Some(names) => draw_given(rt, names, drawing, out, err),
-        None => draw_standard(rt, drawing, out, err),
-    }
+    draw_each(rt, asked_names(names), drawing, out, err)
 }
 
-/// Draws what inputs hold that are named, or standard input where none is.
-fn draw_given<'r, R: Files + Input + AllocGlobal, S: SourceFiles + Drop, W: Write, V: Write>(
-    rt: &R,
-    names: &[&'r str],
-    drawing: &mut Drawing<'r, S>,
-    out: &mut Stream<W>,
-    err: &mut Stream<V>,
-) -> io::Result<bool>
-    ensures drawn { IfOk result (λ is_whole. AreDrawn R.File R.Reader (held_by R.File.remaining R.Reader.remaining)
-        (given_names names.now) is_whole
-        (standing drawing.old (known W.contents out.old) (known V.contents err.old))
-        (standing drawing.new (known W.contents out.new) (known V.contents err.new))) }
-    ensures cut { IfErr result (λ error. AreCut R.File R.Reader (held_by R.File.remaining R.Reader.remaining)
-        (given_names names.now)
-        (standing drawing.old (known W.contents out.old) (known V.contents err.old))
-        (standing drawing.new (known W.contents out.new) (known V.contents err.new))) }
+/// The names of the inputs that are to be read: those that are given, or that of standard input where none is.
+fn asked_names<'w, 'r>(names: Option<&'w [&'r str]>) -> &'w [&'r str]
+    ensures value { map (λ name. name.now) result.now ≡ spec.asked_names names.entry }
 {
-    if names.is_empty() {
-        draw_standard(rt, drawing, out, err)
-    } else {
-        draw_each(rt, names, drawing, out, err)
+    match names {
+        Some(names) => { if names.is_empty() { &["-"] } else { names } }
+        None => &["-"],
     }
 }
 
@@ -280,67 +260,8 @@ fn draw_named<'r, R: Files + Input + AllocGlobal, S: SourceFiles + Drop, W: Writ
         (standing drawing.old (known W.contents out.old) (known V.contents err.old))
         (standing drawing.new (known W.contents out.new) (known V.contents err.new))) }
 {
-    if name == "-" {
-        draw_standard(rt, drawing, out, err)
-    } else {
-        drawing.input = name;
-        draw_file(rt, name, drawing, out, err)
-    }
-}
-
-/// Draws what standard input holds.
-fn draw_standard<R: Files + Input + AllocGlobal, S: SourceFiles + Drop, W: Write, V: Write>(
-    rt: &R,
-    drawing: &mut Drawing<'_, S>,
-    out: &mut Stream<W>,
-    err: &mut Stream<V>,
-) -> io::Result<bool>
-    ensures drawn { IfOk result (λ is_whole. IsDrawnIn R.Reader.remaining is_whole
-        (standing drawing.old (known W.contents out.old) (known V.contents err.old))
-        (standing drawing.new (known W.contents out.new) (known V.contents err.new))) }
-    ensures cut { IfErr result (λ error. IsCutIn R.Reader.remaining
-        (standing drawing.old (known W.contents out.old) (known V.contents err.old))
-        (standing drawing.new (known W.contents out.new) (known V.contents err.new))) }
-{
-    drawing.input = INPUT;
-    draw_opened(opened_standard(rt), drawing, out, err)
-}
-
-/// Draws what one file holds.
-fn draw_file<R: Files + AllocGlobal, S: SourceFiles + Drop, W: Write, V: Write>(
-    rt: &R,
-    name: &str,
-    drawing: &mut Drawing<'_, S>,
-    out: &mut Stream<W>,
-    err: &mut Stream<V>,
-) -> io::Result<bool>
-    ensures drawn { IfOk result (λ is_whole. IsDrawnIn R.File.remaining is_whole
-        (standing drawing.old (known W.contents out.old) (known V.contents err.old))
-        (standing drawing.new (known W.contents out.new) (known V.contents err.new))) }
-    ensures cut { IfErr result (λ error. IsCutIn R.File.remaining
-        (standing drawing.old (known W.contents out.old) (known V.contents err.old))
-        (standing drawing.new (known W.contents out.new) (known V.contents err.new))) }
-{
+    drawing.input = input_name(name);
     draw_opened(opened(rt, name), drawing, out, err)
-}
-
-/// A file, to be read.
-fn opened<R: Files + AllocGlobal>(rt: &R, name: &str) -> io::Result<BufReader<R::File>>
-    ensures bytes { IfOk result (λ reader.
-        reader_remaining R.File.remaining reader ≡ R.File.remaining (reader_inner reader)) }
-{
-    match fs::File::open(rt, name) {
-        Ok(file) => BufReader::new(rt.alloc(), file),
-        Err(error) => Err(error),
-    }
-}
-
-/// Standard input, to be read.
-fn opened_standard<R: Input + AllocGlobal>(rt: &R) -> io::Result<BufReader<R::Reader>>
-    ensures bytes { IfOk result (λ reader.
-        reader_remaining R.Reader.remaining reader ≡ R.Reader.remaining (reader_inner reader)) }
-{
-    BufReader::new(rt.alloc(), rt.reader())
 }
 
 /// Draws what an input holds that could be opened or not.

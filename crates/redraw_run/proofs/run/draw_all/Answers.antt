@@ -1,6 +1,7 @@
 use Rattle.std.proofs.Common.{ap, refl}
 use Rattle.redraw_run.specs.Deeds.{State}
-use Rattle.redraw_run.specs.Inputs.{asked_names, held_by}
+use Rattle.program.specs.Inputs.{held_by}
+use Rattle.redraw_run.specs.Inputs.{asked_names}
 use Rattle.redraw_run.specs.Run.{Runs}
 use Rattle.redraw_run.proofs.Gone.{cut_run, finishes_by, run_from, unbegun, unwritten}
 use Rattle.output_stream.specs.Standing.{known}

@@ -1,5 +1,6 @@
 use Rattle.std.proofs.Common.{inr, refl}
-use Rattle.redraw_run.specs.Inputs.{asked_names, held_by}
+use Rattle.program.specs.Inputs.{held_by}
+use Rattle.redraw_run.specs.Inputs.{asked_names}
 use Rattle.redraw_run.specs.Run.{ArePartlyPrinted}
 use Rattle.redraw_run.proofs.Gone.{if_err_any}
 use Rattle.redraw_run.proofs.run.draw_document.Goals as goal

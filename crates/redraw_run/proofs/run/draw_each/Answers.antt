@@ -1,5 +1,5 @@
 use Rattle.std.proofs.Common.{◌&&◌, ◌+◌, ◌≡◌, arith, length, refl, sym, take}
-use Rattle.redraw_run.specs.Inputs.{held_by}
+use Rattle.program.specs.Inputs.{held_by}
 use Rattle.redraw_run.proofs.Doing.{does_nothing}
 use Rattle.redraw_run.proofs.Gone.{drawn_more, drawn_none, next_cut, these_drawn}
 use Rattle.redraw_run.proofs.Named.{texts, texts_all, texts_more, texts_split}

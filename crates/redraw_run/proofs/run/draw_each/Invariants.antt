@@ -1,6 +1,7 @@
 use Rattle.std.proofs.Common.{take}
 use Rattle.redraw_run.specs.Deeds.{standing}
-use Rattle.redraw_run.specs.Inputs.{AreDrawn, held_by}
+use Rattle.program.specs.Inputs.{held_by}
+use Rattle.redraw_run.specs.Inputs.{AreDrawn}
 use Rattle.redraw_run.proofs.Named.{texts}
 use Rattle.output_stream.specs.Standing.{known}
 use Rattle.redraw_run.proofs.run.draw_each.Given as goal

@@ -2,7 +2,7 @@ use Rattle.std.proofs.Common.{List, ap, inl, inr, subst}
 use Rattle.clap.specs.Walk.{Row}
 use Rattle.clap.specs.Words.{kind_of}
 use Rattle.redraw_command.specs.Arguments.{IsRequestOf, arguments_at}
-use Rattle.redraw_run.specs.Inputs.{held_by}
+use Rattle.program.specs.Inputs.{held_by}
 use Rattle.redraw_run.proofs.Asking.{answers_error}
 use Rattle.output_stream.specs.Standing.{known}
 use Rattle.redraw_run.proofs.run.run.Goals as goal
