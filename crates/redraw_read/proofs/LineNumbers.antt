@@ -1,7 +1,7 @@
 -- The numbers of lines by what stands there: how they are made, and what the least of them by a message shows.
-use Rattle.std.proofs.Common.{◌≡◌, ◌∙◌, ℕ, suc, ◌≤◌, ◌<◌, Bool, true, false, List, [], ◌∷◌, ◌++◌, Option, Some, None}
+use Rattle.std.proofs.Common.{◌≡◌, ◌∙◌, ◌||◌, ℕ, suc, ◌≤◌, ◌<◌, Bool, true, false, List, [], ◌∷◌, ◌++◌, Option, Some, None}
 use Rattle.std.proofs.Common.{ap, arith, cond, eqb, get_or, is_some, length, refl, sym, if◌then◌else◌}
-use Rattle.std.specs.List.{starts_with}
+use Rattle.std.specs.List.{list_any, starts_with}
 use Rattle.std.specs.Option.{option_and_then, option_map, option_map_or, option_or}
 use Rattle.std.specs.Str.{bytes_eq}
 use Rattle.std.proofs.lemmas.Slice.Eq.{bytes_eq-Decides}
@@ -116,6 +116,20 @@ least-shown place m t (l ∷ lines) n at starts least = by (is_there place t l) 
             → is_there place s l ≡ b → i ≤ j
         further s j of begins i e true is = absurd (omega (arith, least s 0 (found s is) begins, e))
         further s j of begins i e false is = omega (arith, least s (suc j) (missed s is ∙ ap (option_map suc) of) begins, e)
+
+-- there is a number by a text where one of the lines has it there
+pub has_number : (place : Stand) (t : List ℕ) (lines : List (List ℕ)) → is_some (number_among place t lines) ≡ list_any (is_there place t) lines
+has_number place t [] = refl
+has_number place t (l ∷ lines) = by (is_there place t l) (has_number place t lines)
+  where
+    mapped : (o : Option ℕ) → is_some (option_map suc o) ≡ is_some o
+    mapped None = refl
+    mapped (Some k) = refl
+
+    by : (b : Bool) → is_some (number_among place t lines) ≡ list_any (is_there place t) lines
+        → is_some (if b then Some 0 else option_map suc (number_among place t lines)) ≡ (b || list_any (is_there place t) lines)
+    by true later = refl
+    by false later = mapped (number_among place t lines) ∙ later
 
 -- a number that is put where there was none is the first by its text
 pub put_first : (old : Option ℕ) (b : Bool) (k : ℕ) → (b ≡ true → old ≡ None) → cond b (Some k) old ≡ first_of old b k

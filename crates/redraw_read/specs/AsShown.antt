@@ -3,7 +3,7 @@ use Rattle.std.specs.Prelude.{◌≡◌, ℕ, ◌-◌, ◌++◌, ◌==◌, ◌&&
 use Rattle.std.specs.Prelude.{string_bytes, if◌then◌else◌}
 use Rattle.std.specs.Fmt.{decimal}
 use Rattle.std.specs.Global.{Vec}
-use Rattle.std.specs.List.{before_first, flat_map, list_any, position_or_len}
+use Rattle.std.specs.List.{before_first, flat_map, list_any, position_or_len, slice_split}
 use Rattle.std.specs.Str.{bytes_eq, chars, encode_utf8_all}
 use Rattle.snippet_text.specs.Normalized.{norm}
 use Rattle.redraw_report.specs.contracts.diagnostic.RegionPartialEq.TheImpl as equality
@@ -16,16 +16,18 @@ use Rattle.redraw_report.specs.declared.diagnostic.Region.{Region}
 use Rattle.redraw_report.specs.declared.diagnostic.Region.TheVariants as region
 use Rattle.redraw_report.specs.declared.diagnostic.Severity.{Severity}
 use Rattle.redraw_read.specs.Rendered.{Way, Group, Message, Label, Nowhere, after_first, way}
+use Rattle.redraw_read.specs.ShownLines.{is_there}
+use Rattle.redraw_read.specs.declared.rendered.Stand.TheVariants as stand
 
 -- ---- columns
 
--- how a text names a place at the end of a line: by its file, its line and its column
+-- how a text names a place: by its file, its line and its column
 abbrev pub named_place : List ℕ → (line column : ℕ) → List ℕ
-named_place file line column = file ++ (codes ":" ++ (decimal line ++ (codes ":" ++ (decimal column ++ codes "\n"))))
+named_place file line column = file ++ (codes ":" ++ (decimal line ++ (codes ":" ++ decimal column)))
 
--- whether a text names a place so
+-- whether a text names a place: after the first word of one of its lines stands the place, and nothing else
 abbrev pub names_place : List ℕ → List ℕ → (line column : ℕ) → Bool
-names_place text file line column = is_some (after_first (named_place file line column) text)
+names_place text file line column = list_any (is_there stand.Origin (named_place file line column)) (slice_split (λ b. b == 10) text)
 
 -- the column that is shown for one: the column before it, where the text names that
 abbrev pub column_shown : List ℕ → List ℕ → ℕ → Option ℕ → Option ℕ

@@ -1,7 +1,7 @@
 -- How a suggestion is shown, which rustc's own text of a diagnostic tells.
 use Rattle.std.specs.Prelude.{ℕ, eqb, ◌==◌, List, [], ◌∷◌, Option, Some, None, codes, drop, length, if◌then◌else◌}
 use Rattle.std.specs.List.{slice_split, starts_with}
-use Rattle.std.specs.Option.{option_and_then, option_or}
+use Rattle.std.specs.Option.{option_and_then, option_map, option_or}
 use Rattle.std.specs.Str.{trim_start}
 use Rattle.redraw_read.specs.declared.rendered.Manner.{Manner}
 use Rattle.redraw_read.specs.declared.rendered.Manner.TheVariants as manner
@@ -17,12 +17,17 @@ abbrev pub after_first : List ℕ → List ℕ → Option (List ℕ)
 after_first words [] = after words []
 after_first words (b ∷ bs) = option_or (after words (b ∷ bs)) (after_first words bs)
 
+-- what stands in a line after its first word, and the blanks around that
+abbrev pub after_word : List ℕ → Option (List ℕ)
+after_word line = option_map trim_start (after_first (codes " ") (trim_start line))
+
 -- what stands in a line where the message of a suggestion may: in a title after `help: `, in a message after blanks and `= help: `,
--- and in a label after the first `help: `, wherever that is
+-- and in a label after the first `help: `, wherever that is; and where a place may: after the first word, an arrow
 abbrev pub stands_in : Stand → List ℕ → Option (List ℕ)
 stands_in stand.Title line = after (codes "help: ") line
 stands_in stand.Message line = after (codes "= help: ") (trim_start line)
 stands_in stand.Label line = after_first (codes "help: ") line
+stands_in stand.Origin line = after_word line
 
 -- a text, if it begins with a message
 abbrev pub begun : List ℕ → List ℕ → Option (List ℕ)

@@ -1,4 +1,4 @@
--- The lines of a text by what stands in them where the message of a suggestion may.
+-- The lines of a text by what stands in them where the message of a suggestion may, or a place.
 use Rattle.std.specs.Prelude.{◌≡◌, ℕ, suc, Bool, List, [], ◌∷◌, Option, Some, None, String, false, map, if◌then◌else◌}
 use Rattle.std.specs.Borrow.{Bor}
 use Rattle.std.specs.BTreeMap.{BTreeMap, get_by_text}
@@ -17,7 +17,7 @@ texts lines = map (λ (l : Bor (List ℕ)). l.now) lines
 abbrev pub number_of : BTreeMap (String Global) ℕ → List ℕ → Option ℕ
 number_of numbers text = get_by_text numbers text
 
--- whether this text stands in a line where a message may
+-- whether this text stands in a line where a message may, or a place
 abbrev pub is_there : Stand → List ℕ → List ℕ → Bool
 is_there place text line = option_map_or (λ t. bytes_eq t text) (stands_in place line) false
 

@@ -14,6 +14,7 @@ pub mod json;
 mod labels;
 mod lines;
 mod manners;
+mod named_places;
 mod offers;
 mod order;
 pub mod place;

@@ -11,7 +11,6 @@ ghost use Rattle.redraw_read.specs.Rendered.{way, way_by, way_of};
 ghost use Rattle.redraw_read.specs.Told.{KeepsHeading};
 ghost use Rattle.redraw_report.specs.Report.{lent};
 
-use crate::columns::show_columns;
 use crate::labels::{EditLabel, put_labels};
 use crate::manners::Manners;
 use crate::plain::without_styles;
@@ -34,7 +33,7 @@ pub enum Manner<'t> {
     Nowhere,
 }
 
-/// Where in a line the message of a suggestion stands.
+/// Where in a line the message of a suggestion stands, or a place.
 #[derive(Clone, Copy)]
 pub enum Stand {
     /// After `help: `, with which the line begins.
@@ -43,6 +42,8 @@ pub enum Stand {
     Message,
     /// After the first `help: `.
     Label,
+    /// After the first word, which is an arrow.
+    Origin,
 }
 
 /// How a suggestion with this message is shown in a text.
@@ -110,7 +111,7 @@ fn begun<'t>(message: &str, text: &'t str) -> Option<&'t str>
     }
 }
 
-/// What stands in a line where a message may stand.
+/// What stands in a line where a message may stand, or a place.
 pub fn stands_in<'t>(place: Stand, line: &'t str) -> Option<&'t str>
     ensures value { lent result ≡ spec.stands_in place line.now }
 {
@@ -118,6 +119,17 @@ pub fn stands_in<'t>(place: Stand, line: &'t str) -> Option<&'t str>
         Stand::Title => after(line, "help: "),
         Stand::Message => after(line.trim_start(), "= help: "),
         Stand::Label => after_first(line, "help: "),
+        Stand::Origin => after_word(line),
+    }
+}
+
+/// What stands in a line after its first word.
+fn after_word<'t>(line: &'t str) -> Option<&'t str>
+    ensures value { lent result ≡ spec.after_word line.now }
+{
+    match after_first(line.trim_start(), " ") {
+        Some(rest) => Some(rest.trim_start()),
+        None => None,
     }
 }
 
@@ -146,8 +158,8 @@ fn as_shown(alloc: Global, text: &str, diagnostic: Diagnostic) -> Result<Diagnos
     ensures headed { IfOk result (KeepsHeading diagnostic) }
     ensures shown { IfOk result (IsAsShown text.now diagnostic) }
 {
-    let mut spans = show_columns(alloc, text, diagnostic.spans)?;
     let mut manners = Manners::new(alloc, text, suggestion_count(&diagnostic.children))?;
+    let mut spans = manners.show_columns(alloc, diagnostic.spans)?;
     let mut told = Vec::new(alloc);
     let children = shown_children(alloc, &mut manners, diagnostic.children, &mut told)?;
     put_labels(alloc, &mut spans, told)?;
@@ -204,18 +216,19 @@ fn show_child(
         → OnOk result (told.new.items ≡ told.old.items) }
 {
     if child.alternatives.is_empty() {
-        Ok(shown.push(with_columns(alloc, manners.text, child)?)?)
+        Ok(shown.push(with_columns(alloc, manners, child)?)?)
     } else {
         show_suggestion(alloc, manners, child, told, shown)
     }
 }
 
 /// A child without edits, with its places as they are shown.
-fn with_columns(alloc: Global, text: &str, child: Child) -> Result<Child, AllocError>
+fn with_columns(alloc: Global, manners: &mut Manners<'_>, child: Child) -> Result<Child, AllocError>
+    ensures text { manners.new.text.now ≡ manners.old.text.now }
     ensures value { IfOk result (λ shown. child_seen shown
-        ≡ record (child_seen child) { spans = map (place_shown text.now) child.spans.items }) }
+        ≡ record (child_seen child) { spans = map (place_shown manners.old.text.now) child.spans.items }) }
 {
-    let spans = show_columns(alloc, text, child.spans)?;
+    let spans = manners.show_columns(alloc, child.spans)?;
     Ok(Child {
         severity: child.severity,
         message: child.message,

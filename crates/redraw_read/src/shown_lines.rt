@@ -18,7 +18,7 @@ use std::alloc::{AllocError, Global};
 use std::collections::BTreeMap;
 
 /// The numbers of lines by what stands there where a message may; of lines with the same that of the first.
-type LineNumbers = BTreeMap<String, usize>;
+pub type LineNumbers = BTreeMap<String, usize>;
 
 /// The lines of a text, and their numbers.
 #[derive(Drop)]
@@ -71,7 +71,7 @@ pub fn lines_of<'t>(alloc: Global, text: &'t str) -> Result<Vec<&'t str>, AllocE
 }
 
 /// The numbers of some lines by what stands there.
-fn numbers_of(alloc: Global, place: Stand, lines: &[&str]) -> Result<LineNumbers, AllocError>
+pub fn numbers_of(alloc: Global, place: Stand, lines: &[&str]) -> Result<LineNumbers, AllocError>
     ensures each { IfOk result (λ numbers. AreNumbersOf place numbers (texts lines.now)) }
 {
     let mut numbers = BTreeMap::new(alloc);

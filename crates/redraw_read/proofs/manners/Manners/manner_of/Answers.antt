@@ -9,4 +9,5 @@ invariant_of-self-2 c =
       lined = self.lined;
       found = c.keep.ensures.kept self.text.now
           (c.manner_of-manner.ensures.value ∙ ap (way (string_bytes c.args.message)) (self.lined _ c.in-Some.is)) self.found;
+      placed = self.placed;
     }
