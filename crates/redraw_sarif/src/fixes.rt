@@ -187,6 +187,11 @@ fn edit_of(
     let (Some(region), Some(text)) = (region, inserted_in(replacement, problems)) else {
         return Ok(None);
     };
+    let region = if text.is_empty() {
+        before_line_end(region)
+    } else {
+        region
+    };
     let carried = carried_in(context.alloc, &deleted, context.unit, problems)?;
     Ok(Some(edit_with(context.alloc, file, region, text, carried)?))
 }
@@ -202,6 +207,24 @@ fn deleted_in(
             start_column: lines.start_column.or(Some(1)),
             ..lines
         })),
+        region => region,
+    }
+}
+
+/// The region of lines that go whole, to before the end of the last, which stays: so a line that is removed is shown
+/// alone. Another region is given back.
+fn before_line_end(region: Region) -> Region {
+    match region {
+        Region::Lines(lines)
+            if lines.start_column == Some(1)
+                && lines.end_column == Some(1)
+                && lines.start_line < lines.end_line => {
+            Region::Lines(LineRegion {
+                end_line: lines.end_line - 1,
+                end_column: None,
+                ..lines
+            })
+        }
         region => region,
     }
 }
