@@ -1,6 +1,7 @@
 //! The calls of macros that are shown beside primary places.
 
 use crate::expansion::{call_text, told_call};
+use crate::named_files::NamedFiles;
 use crate::spans::{at_value, file_span, region_of};
 use json_lines::fault::Fault;
 use json_lines::node::Node;
@@ -41,13 +42,14 @@ impl ToldCalls {
 /// Adds the call of a macro that is shown beside a primary place, where there is one and it isn't there yet.
 pub fn add_call(
     node: &Node<'_, '_>,
+    named: &Option<NamedFiles>,
     told: &mut ToldCalls,
     spans: &mut Vec<FileSpan>,
 ) -> Result<(), Fault> {
     if !node.flag("is_primary")? {
         return Ok(());
     }
-    match told_call(node.value) {
+    match told_call(node.value, named) {
         Some((call, label)) => add_told(&at_value(node, call), label, told, spans),
         None => Ok(()),
     }

@@ -1,16 +1,17 @@
 //! A message of cargo that has a diagnostic of rustc in it.
 
 use crate::json::{given, given_text, owned};
-use crate::rustc::diagnostic_of;
+use crate::reading::Reading;
+use crate::rustc::diagnostic_by;
 use json_lines::expectation::Expectation;
 use json_lines::fault::Fault;
 use json_lines::node::Node;
 use redraw_report::diagnostic::Diagnostic;
 
-/// The diagnostic in a message of cargo, with the files of the package that it is of.
-pub fn packaged_diagnostic_of(node: &Node<'_, '_>) -> Result<Diagnostic, Fault> {
+/// The diagnostic in a message of cargo, by this reading, with the files of the package that it is of.
+pub fn packaged_diagnostic_by(node: &Node<'_, '_>, reading: Reading) -> Result<Diagnostic, Fault> {
     let message = node.needed("message", Expectation::Object)?;
-    let mut diagnostic = diagnostic_of(&message)?;
+    let mut diagnostic = diagnostic_by(&message, reading)?;
     add_home(node, "manifest_path", &mut diagnostic.homes)?;
     if let Some(target) = given(node, "target") {
         add_home(&target, "src_path", &mut diagnostic.homes)?;

@@ -1,6 +1,6 @@
 //! The edits that a child of a diagnostic of rustc suggests.
 
-ghost use Rattle.std.specs.Prelude.{◌≡◌, ◌≢◌, [], false, IfOk};
+ghost use Rattle.std.specs.Prelude.{◌≡◌, ◌≢◌, [], false, true, IfOk};
 ghost use Rattle.std.specs.List.{All, flat_map};
 
 use crate::json::{given_text, listed, owned};
@@ -46,9 +46,14 @@ fn add_edit(place: &Node<'_, '_>, edits: &mut Vec<SuggestedEdit>) -> Result<(), 
 /// An edit: a place, and what is to stand there. An attribute above a line is to stand as far right as the line: so it
 /// is put in at the line's start, after what is blank there.
 fn edit_of(node: &Node<'_, '_>, replacement: &str) -> Result<SuggestedEdit, Fault> {
-    let region = region_of(node)?;
+    let whole = region_of(node)?;
     let file = node.text("file_name")?;
-    let carried = carried_of(node, region)?;
+    let carried = carried_of(node, whole)?;
+    let region = if replacement.is_empty() {
+        before_line_end(node.value, whole)
+    } else {
+        whole
+    };
     let blank = if start_of(region) == end_of(region) {
         blank_before(node, region, replacement)
     } else {
@@ -61,6 +66,29 @@ fn edit_of(node: &Node<'_, '_>, replacement: &str) -> Result<SuggestedEdit, Faul
         replacement,
         carried,
     })
+}
+
+/// The region of lines that go whole, to before the end of the last: rustc's text has that end stay. Another region is
+/// given back, and one whose lines aren't there.
+fn before_line_end(span: &Value, region: LineRegion) -> LineRegion {
+    if region.start_column != Some(1) || region.end_column != Some(1) {
+        return region;
+    }
+    let end_line = region.end_line.saturating_sub(1);
+    match line_of(span, end_line.saturating_sub(region.start_line)) {
+        Some(line) if region.start_line <= end_line => LineRegion {
+            end_line,
+            end_column: line.chars().count().checked_add(1),
+            ..region
+        },
+        _ => region,
+    }
+}
+
+/// The line with this index, from 0, of those that a place has with it.
+fn line_of(span: &Value, index: usize) -> Option<&str> {
+    let line = span.get("text")?.as_array()?.get(index)?;
+    line.get("text")?.as_str()
 }
 
 /// What stands before the place of an attribute in its line, if that is blank.
@@ -90,10 +118,12 @@ fn text_before(span: &Value, region: LineRegion) -> Option<&str> {
 }
 
 /// Edits as the alternatives that they are. rustc writes these one after another, and none of them has edits that
-/// overlap: so one begins with an edit that overlaps with one of the edits before.
+/// overlap: so one begins with an edit that overlaps with one of the edits before. Two that are put in at one place
+/// are two alternatives, unless what meets is joined: then one begins with an edit that doesn't come after the last.
 pub fn alternatives_of(
     alloc: Global,
     edits: Vec<SuggestedEdit>,
+    joins: bool,
 ) -> Result<Vec<Vec<SuggestedEdit>>, AllocError>
     ensures all { IfOk result (λ alternatives. flat_map (λ each. each.items) alternatives.items ≡ edits.items) }
     ensures some { IfOk result (λ alternatives. All (λ each. each.items ≢ []) alternatives.items) }
@@ -102,7 +132,7 @@ pub fn alternatives_of(
     let mut current: Vec<SuggestedEdit> = Vec::new(alloc);
     let mut taken = TakenParts::new(alloc);
     for edit in edits {
-        let begins = overlaps_one(&edit, &current, &taken);
+        let begins = begins_another(&edit, &current, &taken, joins);
         take_part(alloc, &mut taken, begins, edit.region)?;
         if begins {
             alternatives.push(current)?;
@@ -114,6 +144,41 @@ pub fn alternatives_of(
         alternatives.push(current)?;
     }
     Ok(alternatives)
+}
+
+/// Whether an alternative begins with an edit after these, which change these parts of one file: where it overlaps with
+/// one of them, or where all that meet are joined, if it doesn't come after the last.
+fn begins_another(
+    edit: &SuggestedEdit,
+    others: &[SuggestedEdit],
+    taken: &TakenParts,
+    joins: bool,
+) -> bool
+    ensures none { others.now ≡ [] → result ≡ false }
+{
+    if joins {
+        !comes_after(edit, others)
+    } else {
+        overlaps_one(edit, others, taken)
+    }
+}
+
+/// Whether an edit starts in their file where the last of others ends, or after it; or there are no others.
+fn comes_after(edit: &SuggestedEdit, others: &[SuggestedEdit]) -> bool
+    ensures none { others.now ≡ [] → result ≡ true }
+{
+    match others.last() {
+        Some(last) => follows(edit, last),
+        None => true,
+    }
+}
+
+/// Whether an edit starts in the same file where another one ends, or after it.
+fn follows(edit: &SuggestedEdit, last: &SuggestedEdit) -> bool {
+    let (Region::Lines(lines), Region::Lines(before)) = (edit.region, last.region) else {
+        return false;
+    };
+    edit.file == last.file && end_of(before) <= start_of(lines)
 }
 
 /// Whether an edit overlaps with one of these, which change these parts of one file.

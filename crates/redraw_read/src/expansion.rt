@@ -2,6 +2,7 @@
 //! called, and with that place the same, up to one outside of all macros; what it says of them in its text is not in
 //! its JSON.
 
+use crate::named_files::NamedFiles;
 use serde_json::Value;
 use std::alloc::{AllocError, Global};
 
@@ -45,12 +46,48 @@ fn has_text(span: &Value) -> bool {
 }
 
 /// The place that is shown for a place: where the macros around it were called, if that source is at hand and its own
-/// isn't.
-pub fn shown_place(span: &Value) -> &Value {
+/// isn't; or by the files that a text names, the first in one of these of it and the calls around it.
+pub fn shown_place<'v>(span: &'v Value, named: &Option<NamedFiles>) -> &'v Value {
+    match named {
+        Some(files) => named_place(span, files),
+        None => place_at_hand(span),
+    }
+}
+
+/// The place where the macros around this one were called, if that source is at hand and its own isn't; else its own.
+fn place_at_hand(span: &Value) -> &Value {
     match outermost(span) {
         Some(expansion) if is_call_shown(span, expansion) => expansion.get("span").unwrap_or(span),
         _ => span,
     }
+}
+
+/// The first of a place and the calls around it that is in one of these files; the place itself where none is.
+fn named_place<'v>(span: &'v Value, files: &NamedFiles) -> &'v Value {
+    let mut place = span;
+    for _ in 0..EXPANSIONS {
+        if is_named(place, files) {
+            return place;
+        }
+        match call_around(place) {
+            Some(call) => place = call,
+            None => return span,
+        }
+    }
+    span
+}
+
+/// Whether a place is in one of these files.
+fn is_named(place: &Value, files: &NamedFiles) -> bool {
+    match place.get("file_name").and_then(Value::as_str) {
+        Some(name) => files.has(name),
+        None => false,
+    }
+}
+
+/// Where the macro around a place was called.
+fn call_around(place: &Value) -> Option<&Value> {
+    expansion_of(place)?.get("span")
 }
 
 /// Whether the call of a macro is at hand, and a place in that macro isn't.
@@ -58,15 +95,26 @@ fn is_call_shown(span: &Value, expansion: &Value) -> bool {
     !has_text(span) && expansion.get("span").map_or(false, has_text)
 }
 
-/// The call around a place that is shown beside it, and how: none where the place is shown in it.
-pub fn told_call(span: &Value) -> Option<(&Value, &'static str)> {
+/// The call around a place that is shown beside it, and how: none where a call is shown for the place.
+pub fn told_call<'v>(
+    span: &'v Value,
+    named: &Option<NamedFiles>,
+) -> Option<(&'v Value, &'static str)> {
     let expansion = outermost(span)?;
-    if is_call_shown(span, expansion) {
+    if is_shown_elsewhere(span, expansion, named) {
         return None;
     }
     match labelled_call(expansion) {
         Some((call, label)) if !is_inside(span, call) => Some((call, label)),
         _ => None,
+    }
+}
+
+/// Whether a call is shown for a place in this expansion.
+fn is_shown_elsewhere(span: &Value, expansion: &Value, named: &Option<NamedFiles>) -> bool {
+    match named {
+        Some(files) => !is_named(span, files),
+        None => is_call_shown(span, expansion),
     }
 }
 

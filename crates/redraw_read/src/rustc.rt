@@ -8,6 +8,7 @@ use crate::edits::{alternatives_of, edits_of};
 use crate::expansion::Macros;
 use crate::headings::{code_of, heading_of};
 use crate::json::{given_text, listed};
+use crate::reading::{NotePlace, Reader, Reading};
 use crate::rendered::{as_rendered, is_whole};
 use crate::spans::spans_of;
 use json_lines::expectation::Expectation;
@@ -17,23 +18,77 @@ use redraw_report::diagnostic::{Child, Code, Diagnostic, FileSpan, Severity};
 use serde_json::Value;
 use std::alloc::Global;
 
-/// The diagnostic that a value describes, with its suggestions as its own text shows them, where it has that.
-pub fn diagnostic_of(node: &Node<'_, '_>) -> Result<Diagnostic, Fault>
+/// The diagnostic that a value describes, by this reading, with its suggestions as its own text shows them, where it
+/// has that.
+pub fn diagnostic_by(node: &Node<'_, '_>, reading: Reading) -> Result<Diagnostic, Fault>
     ensures headed { IfOk result (IsHeaded (view node.now.value.now)) }
 {
-    let diagnostic = told_diagnostic(node)?;
+    let text = whole_text(node)?;
+    let reader = Reader::new(node.alloc, reading, text)?;
+    let diagnostic = told_diagnostic(node, &reader)?;
+    match text {
+        Some(text) => Ok(as_rendered(node.alloc, text, diagnostic)?),
+        None => Ok(diagnostic),
+    }
+}
+
+/// rustc's own text of a diagnostic, where it has one that shows all of it.
+pub fn whole_text<'v>(node: &Node<'v, '_>) -> Result<Option<&'v str>, Fault> {
     match given_text(node, "rendered")? {
-        Some(text) if is_whole(text) => Ok(as_rendered(node.alloc, text, diagnostic)?),
-        _ => Ok(diagnostic),
+        Some(text) if is_whole(text) => Ok(Some(text)),
+        _ => Ok(None),
+    }
+}
+
+/// Whether the JSON of a diagnostic leaves its reading open: a place is in a macro, or several edits are suggested
+/// together.
+pub fn is_open(value: &Value) -> bool {
+    has_open_spans(value) || children_in(value).iter().any(has_open_spans)
+}
+
+/// The children of a diagnostic.
+fn children_in(value: &Value) -> &[Value] {
+    match value.get("children").and_then(Value::as_array) {
+        Some(children) => children.as_slice(),
+        None => &[],
+    }
+}
+
+/// Whether the places of a diagnostic or a child leave open how they are read.
+fn has_open_spans(part: &Value) -> bool {
+    match part.get("spans").and_then(Value::as_array) {
+        Some(spans) => is_edit_among(spans) || spans.iter().any(is_expanded),
+        None => false,
+    }
+}
+
+/// Whether these are several places, one of which is an edit.
+fn is_edit_among(spans: &[Value]) -> bool {
+    spans.len() > 1 && spans.iter().any(is_edit)
+}
+
+/// Whether a place is an edit: a text is to stand there.
+fn is_edit(span: &Value) -> bool {
+    match span.get("suggested_replacement") {
+        Some(text) => text.is_string(),
+        None => false,
+    }
+}
+
+/// Whether a place is in a macro.
+fn is_expanded(span: &Value) -> bool {
+    match span.get("expansion") {
+        Some(expansion) => expansion.is_object(),
+        None => false,
     }
 }
 
 /// The diagnostic that the other fields of a value describe.
-fn told_diagnostic(node: &Node<'_, '_>) -> Result<Diagnostic, Fault>
+fn told_diagnostic(node: &Node<'_, '_>, reader: &Reader) -> Result<Diagnostic, Fault>
     ensures headed { IfOk result (IsHeaded (view node.now.value.now)) }
 {
     let (severity, message) = heading_of(node)?;
-    let (spans, children, code) = parts_of(node)?;
+    let (spans, children, code) = parts_of(node, reader)?;
     Ok(Diagnostic {
         severity,
         message,
@@ -45,22 +100,32 @@ fn told_diagnostic(node: &Node<'_, '_>) -> Result<Diagnostic, Fault>
 }
 
 /// The places, the children and the code of a diagnostic.
-fn parts_of(node: &Node<'_, '_>) -> Result<(Vec<FileSpan>, Vec<Child>, Option<Code>), Fault>
+fn parts_of(
+    node: &Node<'_, '_>,
+    reader: &Reader,
+) -> Result<(Vec<FileSpan>, Vec<Child>, Option<Code>), Fault>
     ensures code { IfOk result (λ parts. option_map code_seen parts.2 ≡ code_told (view node.now.value.now)) }
 {
-    let spans = spans_of(node)?;
-    let children = children_of(node)?;
+    let spans = spans_of(node, &reader.named)?;
+    let children = children_of(node, reader)?;
     let code = code_of(node)?;
     Ok((spans, children, code))
 }
 
 /// The children of a diagnostic, with a note on the macros that it originates in.
-fn children_of(node: &Node<'_, '_>) -> Result<Vec<Child>, Fault> {
+fn children_of(node: &Node<'_, '_>, reader: &Reader) -> Result<Vec<Child>, Fault> {
     let list = node.needed("children", Expectation::List)?;
     let values = listed(node, "children")?;
     let mut children = Vec::new(node.alloc);
-    add_children(&list, values, &mut children)?;
-    add_macro_note(node, macros_of(node.value, values), &mut children)?;
+    add_children(&list, values, reader, &mut children)?;
+    if reader.note != NotePlace::Nowhere {
+        add_macro_note(
+            node,
+            macros_of(node.value, values),
+            reader.note,
+            &mut children,
+        )?;
+    }
     Ok(children)
 }
 
@@ -68,10 +133,11 @@ fn children_of(node: &Node<'_, '_>) -> Result<Vec<Child>, Fault> {
 fn add_children<'v>(
     list: &Node<'v, '_>,
     values: &'v [Value],
+    reader: &Reader,
     children: &mut Vec<Child>,
 ) -> Result<(), Fault> {
     for (index, value) in values.iter().enumerate() {
-        children.push(child_of(&list.item(index, value))?)?;
+        children.push(child_of(&list.item(index, value), reader)?)?;
     }
     Ok(())
 }
@@ -85,16 +151,21 @@ fn macros_of<'v>(diagnostic: &'v Value, children: &'v [Value]) -> Macros<'v> {
     macros
 }
 
-/// Adds the notes on the macros that a diagnostic originates in, before the edits that are suggested.
+/// Adds the notes on the macros that a diagnostic originates in, where these stand.
 fn add_macro_note(
     node: &Node<'_, '_>,
     macros: Macros<'_>,
+    place: NotePlace,
     children: &mut Vec<Child>,
 ) -> Result<(), Fault> {
     let Some(message) = macros.note(node.alloc, node.text("level")?)? else {
         return Ok(());
     };
-    let at = count_before_edits(children);
+    let at = if place == NotePlace::BeforeEdits {
+        count_before_edits(children)
+    } else {
+        children.len()
+    };
     children.insert(at, note_of(node.alloc, message))?;
     Ok(())
 }
@@ -122,14 +193,14 @@ fn count_before_edits(children: &[Child]) -> usize
 }
 
 /// A child: its places, or the edits that it suggests.
-fn child_of(node: &Node<'_, '_>) -> Result<Child, Fault>
+fn child_of(node: &Node<'_, '_>, reader: &Reader) -> Result<Child, Fault>
     ensures headed { IfOk result (λ child.
         IsHeading (view node.now.value.now) child.severity (string_bytes child.message)) }
 {
     let (severity, message) = heading_of(node)?;
     let edits = edits_of(node)?;
     let spans = if edits.is_empty() {
-        spans_of(node)?
+        spans_of(node, &reader.named)?
     } else {
         Vec::new(node.alloc)
     };
@@ -137,6 +208,6 @@ fn child_of(node: &Node<'_, '_>) -> Result<Child, Fault>
         severity,
         message,
         spans,
-        alternatives: alternatives_of(node.alloc, edits)?,
+        alternatives: alternatives_of(node.alloc, edits, reader.joins_edits)?,
     })
 }

@@ -10,6 +10,7 @@ ghost use Rattle.redraw_read.specs.Told.{said_label};
 use crate::calls::{ToldCalls, add_call};
 use crate::expansion::shown_place;
 use crate::json::{given, given_text, listed, owned, values_of};
+use crate::named_files::NamedFiles;
 use crate::order::settle_order;
 use crate::roles::settle_roles;
 use json_lines::expectation::Expectation;
@@ -19,12 +20,13 @@ use redraw_report::diagnostic::{Carried, FileSpan, LineRegion, Region, Unit};
 use serde_json::Value;
 use std::alloc::{AllocError, Global};
 
-/// The places of a diagnostic, and the calls of macros that are shown beside them.
-pub fn spans_of(node: &Node<'_, '_>) -> Result<Vec<FileSpan>, Fault> {
+/// The places of a diagnostic, and the calls of macros that are shown beside them; by the files that its text names,
+/// where these are given.
+pub fn spans_of(node: &Node<'_, '_>, named: &Option<NamedFiles>) -> Result<Vec<FileSpan>, Fault> {
     let list = node.needed("spans", Expectation::List)?;
     let values = listed(node, "spans")?;
-    let mut spans = each_span(&list, values)?;
-    add_calls(&list, values, &mut spans)?;
+    let mut spans = each_span(&list, values, named)?;
+    add_calls(&list, values, named, &mut spans)?;
     let mut spans = settle_roles(node.alloc, spans)?;
     settle_order(node.alloc, &mut spans)?;
     Ok(spans)
@@ -34,20 +36,25 @@ pub fn spans_of(node: &Node<'_, '_>) -> Result<Vec<FileSpan>, Fault> {
 fn add_calls<'v>(
     list: &Node<'v, '_>,
     values: &'v [Value],
+    named: &Option<NamedFiles>,
     spans: &mut Vec<FileSpan>,
 ) -> Result<(), Fault> {
     let mut told = ToldCalls::new(list.alloc, spans)?;
     for (index, value) in values.iter().enumerate() {
-        add_call(&list.item(index, value), &mut told, spans)?;
+        add_call(&list.item(index, value), named, &mut told, spans)?;
     }
     Ok(())
 }
 
 /// The places in a list of these values.
-fn each_span<'v>(list: &Node<'v, '_>, values: &'v [Value]) -> Result<Vec<FileSpan>, Fault> {
+fn each_span<'v>(
+    list: &Node<'v, '_>,
+    values: &'v [Value],
+    named: &Option<NamedFiles>,
+) -> Result<Vec<FileSpan>, Fault> {
     let mut spans = Vec::new(list.alloc);
     for (index, value) in values.iter().enumerate() {
-        add_span(span_of(&list.item(index, value))?, &mut spans)?;
+        add_span(span_of(&list.item(index, value), named)?, &mut spans)?;
     }
     Ok(spans)
 }
@@ -73,8 +80,9 @@ fn is_start(region: Region) -> bool {
     }
 }
 
-/// A place. One in the source of a macro that isn't at hand is shown where the macro is called.
-fn span_of(node: &Node<'_, '_>) -> Result<FileSpan, Fault>
+/// A place. One in the source of a macro that isn't at hand, or that the text doesn't name, is shown where the macro is
+/// called.
+fn span_of(node: &Node<'_, '_>, named: &Option<NamedFiles>) -> Result<FileSpan, Fault>
     ensures label { IfOk result (λ span. (said : Option (List ℕ))
         × (optional_at as_str (codes "label") (view node.now.value.now) ≡ Some said)
         × (option_map string_bytes span.label ≡ said_label said)) }
@@ -83,7 +91,7 @@ fn span_of(node: &Node<'_, '_>) -> Result<FileSpan, Fault>
 {
     let label = given_text(node, "label")?;
     let is_primary = node.flag("is_primary")?;
-    let place = at_value(node, shown_place(node.value));
+    let place = at_value(node, shown_place(node.value, named));
     labelled(&place, label, is_primary)
 }
 

@@ -1,4 +1,5 @@
 pub mod Asking
+pub mod Chosen
 pub mod Doing
 pub mod Done
 pub mod Fated

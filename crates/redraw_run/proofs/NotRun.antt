@@ -14,7 +14,7 @@ use Rattle.redraw_run.specs.declared.look.ReportRenderer.{ReportRenderer}
 use Rattle.redraw_run.specs.declared.kind.Kind.{Kind}
 use Rattle.redraw_run.specs.declared.kind.Kind.TheVariants as kind
 use Rattle.redraw_run.specs.Deeds.{State, Deed, Drawn, Commanded, HandedOn, Told, Refused, LeftOut, Repeated, BuildFailed, tally_by, with_files}
-use Rattle.redraw_run.specs.Fates.{AreMessages, Each, IsFound, IsKnown, IsFateOfLine, IsLog, IsReported, IsResult, IsLogRun, IsShown, IsTaking}
+use Rattle.redraw_run.specs.Fates.{AreMessages, Each, IsDiagnosed, IsFound, IsKnown, IsFateOfLine, IsLog, IsReported, IsResult, IsLogRun, IsShown, IsTaking}
 use Rattle.redraw_run.specs.Run.{Finishes, nothing_begun}
 
 -- no line is handed on
@@ -78,6 +78,12 @@ unfolding Unhanded
 reported_unhanded c ds (inl h) = subst Unhanded (sym h.1) tt
 reported_unhanded c ds (inr h) = taken_unhanded h.0 c ds h.1
 
+diagnosed_unhanded : (c : Choice) (ds : List Deed) → IsDiagnosed c ds → Unhanded ds
+unfolding Unhanded
+diagnosed_unhanded c ds (inl h) =
+    subst Unhanded (sym (h.split ∙ ap (λ es. es ++ h.after) h.first.1 ∙ ap (λ es. (LeftOut ∷ Told h.first.0 ∷ []) ++ es) h.next)) tt
+diagnosed_unhanded c ds (inr h) = reported_unhanded c ds h
+
 found_unhanded : (c : Choice) (ds : List Deed) → IsFound c ds → Unhanded ds
 unfolding Unhanded
 found_unhanded c ds (inl h) = subst Unhanded (sym h) tt
@@ -106,8 +112,8 @@ log_unhanded c ds (inr h) = each_unhanded (λ (d : Data). IsLogRun) c (λ x es m
 
 known_unhanded : (k : Kind) (c : Choice) (ds : List Deed) → IsKnown k c ds → Unhanded ds
 unfolding Unhanded
-known_unhanded kind.Rustc c ds h = reported_unhanded c ds h
-known_unhanded kind.Cargo c ds h = reported_unhanded c ds h
+known_unhanded kind.Rustc c ds h = diagnosed_unhanded c ds h
+known_unhanded kind.Cargo c ds h = diagnosed_unhanded c ds h
 known_unhanded kind.Failed c ds h = subst Unhanded (sym h) tt
 known_unhanded kind.Other c ds h = subst Unhanded (sym h) tt
 known_unhanded kind.Sarif c ds h = log_unhanded c ds h
@@ -127,12 +133,14 @@ drawn_and_handed_on line c d text (t, is, inr (begins, inr (v, reads, (None, of,
 
 -- a diagnostic of rustc is drawn twice
 pub drawn_twice : (c : Choice) (d : Diagnostic) (text : List ℕ) → IsKnown kind.Rustc c (Drawn d text ∷ Drawn d text ∷ []) → ⊥
-drawn_twice c d text (inl h) = cc h.1
-drawn_twice c d text (inr (f, inl h)) = cc h.1
-drawn_twice c d text (inr (f, inr (taken, inl h))) = cc h.1
-drawn_twice c d text (inr (f, inr (taken, inr (inl h)))) = cc h.1.1
-drawn_twice c d text (inr (f, inr (taken, inr (inr (form, inl h))))) = cc h.1
-drawn_twice c d text (inr (f, inr (taken, inr (inr (form, inr h))))) = cc h.1
+drawn_twice c d text (inl h) =
+    let all = h.split ∙ ap (λ es. es ++ h.after) h.first.1 ∙ ap (λ es. (LeftOut ∷ Told h.first.0 ∷ []) ++ es) h.next in cc all
+drawn_twice c d text (inr (inl h)) = cc h.1
+drawn_twice c d text (inr (inr (f, inl h))) = cc h.1
+drawn_twice c d text (inr (inr (f, inr (taken, inl h)))) = cc h.1
+drawn_twice c d text (inr (inr (f, inr (taken, inr (inl h))))) = cc h.1.1
+drawn_twice c d text (inr (inr (f, inr (taken, inr (inr (form, inl h)))))) = cc h.1
+drawn_twice c d text (inr (inr (f, inr (taken, inr (inr (form, inr h)))))) = cc h.1
 
 -- what another tool writes, here `a`, is handed on and told too
 pub noise_told : (c : Choice) (part : List ℕ) → IsFateOfLine (97 ∷ 10 ∷ []) c (HandedOn (97 ∷ 10 ∷ []) ∷ Told part ∷ []) → ⊥

@@ -64,7 +64,7 @@ IsHandedOn line c deeds = deeds ≡ HandedOn line ∷ []
 abbrev pub IsRepeated : Choice → List Deed → Type 0
 IsRepeated c deeds = (c.has_duplicates ≡ false) × (deeds ≡ Repeated ∷ [])
 
--- cargo says that the build failed, and nothing else is done
+-- the build failed, as cargo says, or as an error that can't be read tells, and nothing else is done
 abbrev pub IsFailed : Choice → List Deed → Type 0
 IsFailed c deeds = deeds ≡ BuildFailed ∷ []
 
@@ -96,6 +96,14 @@ IsTaking d c deeds = ((IsTaken c d → ⊥) × (deeds ≡ [])) ⊎ (IsTaken c d 
 -- what becomes of what is to report a finding: it can't be read, and is left out; or this becomes of the finding that is read
 abbrev pub IsReported : Choice → List Deed → Type 0
 IsReported c deeds = IsWrong c deeds ⊎ ((d : Diagnostic) × IsTaking d c deeds)
+
+-- what becomes of an error of rustc that can't be read: it is left out, one message says so, and the run fails
+abbrev pub IsErrorLost : Choice → List Deed → Type 0
+IsErrorLost = Then IsWrong IsFailed
+
+-- what becomes of a diagnostic of rustc: that of an error that can't be read, else that of what is to report a finding
+abbrev pub IsDiagnosed : Choice → List Deed → Type 0
+IsDiagnosed c deeds = IsErrorLost c deeds ⊎ IsReported c deeds
 
 -- what becomes of a result of a log: after messages on what is wrong with it, this becomes of its finding, or it is left out
 abbrev pub IsFound : Choice → List Deed → Type 0
@@ -164,11 +172,11 @@ IsOfKind d found =
     (Has (codes "runs") d × (found ≡ Some kind.Sarif))
     ⊎ (Lacks (codes "runs") d × IsMessageKind (text_field (codes "reason") d) d found)
 
--- what becomes of a value of a kind that is known: a diagnostic, alone or in a message of cargo, reports a finding; the last message of
--- cargo says that the build failed; any other message says nothing; and a log has runs
+-- what becomes of a value of a kind that is known: a diagnostic, alone or in a message of cargo; the last message of cargo says that the
+-- build failed; any other message says nothing; and a log has runs
 abbrev pub IsKnown : Kind → Choice → List Deed → Type 0
-IsKnown kind.Rustc = IsReported
-IsKnown kind.Cargo = IsReported
+IsKnown kind.Rustc = IsDiagnosed
+IsKnown kind.Cargo = IsDiagnosed
 IsKnown kind.Failed = IsFailed
 IsKnown kind.Other = AreNone
 IsKnown kind.Sarif = IsLog

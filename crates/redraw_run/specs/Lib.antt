@@ -4,6 +4,7 @@ pub mod Fates
 pub mod HtmlDocument
 pub mod Inputs
 pub mod ReadLines
+pub mod Readings
 pub mod ReportLook
 pub mod Run
 pub mod Telling

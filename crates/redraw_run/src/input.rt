@@ -13,14 +13,13 @@ ghost use Rattle.output_stream.specs.Standing.{Standing, known};
 use crate::draw::Drawing;
 use crate::json_value::json_of;
 use crate::kind::{Kind, kind_of};
-use crate::report::{cargo_message, sarif_log};
+use crate::report::{cargo_message, rustc_diagnostic, sarif_log};
 use json::Scratch;
 use json_lines::node::Node;
 use json_lines::place::JsonPath;
 use output_stream::Stream;
 use redraw_command::line::{Line, is_utf16, line_of};
 use redraw_command::stop::Stop;
-use redraw_read::rustc::diagnostic_of;
 use redraw_read::sources::SourceFiles;
 use serde_json::Value;
 use std::alloc::Global;
@@ -332,7 +331,7 @@ impl Reading {
             place: JsonPath::Line,
         };
         match kind {
-            Kind::Rustc => drawing.finding(diagnostic_of(&node), None, out, err),
+            Kind::Rustc => rustc_diagnostic(&node, drawing, out, err),
             Kind::Cargo => cargo_message(&node, drawing, out, err),
             Kind::Failed => {
                 drawing.tally.has_failed = true;

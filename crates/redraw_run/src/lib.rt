@@ -8,6 +8,7 @@ pub mod input;
 pub mod json_value;
 pub mod kind;
 pub mod look;
+pub mod readings;
 pub mod report;
 pub mod run;
 pub mod sarif;

@@ -1,20 +1,38 @@
-//! Values that hold what they report: a message of cargo, and a SARIF log.
+//! Values that hold what they report: a diagnostic of rustc, a message of cargo, and a SARIF log.
 ghost use Rattle.redraw_run.specs.Deeds.{Happens, standing};
-ghost use Rattle.redraw_run.specs.Fates.{IsLog, IsReported};
+ghost use Rattle.redraw_run.specs.Fates.{IsDiagnosed, IsErrorLost, IsLog};
 ghost use Rattle.output_stream.specs.Standing.{Standing, known};
 ghost use Rattle.std.specs.Prelude.{◌≡◌};
 
 use crate::draw::Drawing;
+use crate::readings::read_diagnostic;
 use crate::sarif::draw_runs;
 use json_lines::expectation::Expectation;
+use json_lines::fault::Fault;
 use json_lines::node::Node;
 use output_stream::Stream;
 use redraw_command::stop::Stop;
-use redraw_read::cargo::packaged_diagnostic_of;
 use redraw_read::json::listed;
 use redraw_read::sources::SourceFiles;
+use redraw_report::diagnostic::Diagnostic;
+use serde_json::Value;
 use std::io::Write;
 use std::mem;
+
+/// Takes a diagnostic of rustc.
+pub fn rustc_diagnostic<S: SourceFiles + Drop, W: Write, V: Write>(
+    node: &Node<'_, '_>,
+    drawing: &mut Drawing<'_, S>,
+    out: &mut Stream<W>,
+    err: &mut Stream<V>,
+) -> Result<(), Stop>
+    ensures does { Happens result IsDiagnosed
+        (standing drawing.old (known W.contents out.old) (known V.contents err.old))
+        (standing drawing.new (known W.contents out.new) (known V.contents err.new)) }
+{
+    let read = read_diagnostic(&mut drawing.sources, node, false);
+    take_read(read, node.value, None, drawing, out, err)
+}
 
 /// Takes cargo's message, which has a diagnostic of rustc in it.
 pub fn cargo_message<S: SourceFiles + Drop, W: Write, V: Write>(
@@ -23,13 +41,72 @@ pub fn cargo_message<S: SourceFiles + Drop, W: Write, V: Write>(
     out: &mut Stream<W>,
     err: &mut Stream<V>,
 ) -> Result<(), Stop>
-    ensures does { Happens result IsReported
+    ensures does { Happens result IsDiagnosed
         (standing drawing.old (known W.contents out.old) (known V.contents err.old))
         (standing drawing.new (known W.contents out.new) (known V.contents err.new)) }
 {
     match node.needed("message", Expectation::Object) {
-        Ok(message) => drawing.finding(packaged_diagnostic_of(node), Some(message.value), out, err),
+        Ok(message) => {
+            let read = read_diagnostic(&mut drawing.sources, node, true);
+            let told = told_by(message.value);
+            take_read(read, message.value, Some(told), drawing, out, err)
+        }
         Err(fault) => drawing.finding(Err(fault), None, out, err),
+    }
+}
+
+/// Draws what was read of this diagnostic, or says what is wrong with it; if it is an error then, the run fails.
+fn take_read<S: SourceFiles + Drop, W: Write, V: Write>(
+    read: Result<Diagnostic, Fault>,
+    diagnostic: &Value,
+    message: Option<&Value>,
+    drawing: &mut Drawing<'_, S>,
+    out: &mut Stream<W>,
+    err: &mut Stream<V>,
+) -> Result<(), Stop>
+    ensures does { Happens result IsDiagnosed
+        (standing drawing.old (known W.contents out.old) (known V.contents err.old))
+        (standing drawing.new (known W.contents out.new) (known V.contents err.new)) }
+{
+    match read {
+        Err(fault) if is_error(diagnostic) => lose(fault, drawing, err),
+        read => drawing.finding(read, message, out, err),
+    }
+}
+
+/// Says what is wrong with an error, which is left out, and has the run fail.
+fn lose<S: SourceFiles + Drop, V: Write>(
+    fault: Fault,
+    drawing: &mut Drawing<'_, S>,
+    err: &mut Stream<V>,
+) -> Result<(), Stop>
+    ensures does { (out : Standing) → Happens result IsErrorLost
+        (standing drawing.old out (known V.contents err.old))
+        (standing drawing.new out (known V.contents err.new)) }
+{
+    match fault {
+        Fault::Memory => Err(Stop::Memory),
+        fault => {
+            drawing.wrong(fault, err);
+            drawing.tally.has_failed = true;
+            Ok(())
+        }
+    }
+}
+
+/// Whether a diagnostic of rustc is an error, be the rest of it as it may.
+fn is_error(diagnostic: &Value) -> bool {
+    match diagnostic.get("level").and_then(Value::as_str) {
+        Some(level) => level.starts_with("error"),
+        None => false,
+    }
+}
+
+/// By what a diagnostic is told from others: by the text that rustc has of it, as cargo tells them, where it has one.
+fn told_by(message: &Value) -> &Value {
+    match message.get("rendered") {
+        Some(text) if text.is_string() => text,
+        _ => message,
     }
 }
 

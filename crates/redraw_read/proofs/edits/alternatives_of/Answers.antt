@@ -16,7 +16,7 @@ loop-edit-preserved c =
           let grows = ap (λ v. v.items) w.alternatives-is ∙ w.in_ok-push.ensures.items in
           let none = ap (λ v. v.items) w.current-is ∙ w.new-current-then-begins.ensures.items in
           let some = λ (empty : here.current.items ≡ []).
-          let never : true ≡ false = sym w.if-begins.true ∙ c.overlaps_one-begins.ensures.none (c.deref.ensures.value ∙ empty) in
+          let never : true ≡ false = sym w.if-begins.true ∙ c.begins_another-begins.ensures.none (c.deref.ensures.value ∙ empty) in
           absurd cc in
           record {
             all = begins here.alternatives.items _ here.current c.if-begins.current last here.yielded c.in-Some.edit grows none pushes here.invariant.all;

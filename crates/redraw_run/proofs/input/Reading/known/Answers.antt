@@ -8,7 +8,8 @@ use Rattle.redraw_run.proofs.input.Reading.known.Goals as goal
 
 pub returns-in-Rustc-clause-does : goal.returns-in-Rustc-clause-does
 returns-in-Rustc-clause-does g c =
-    goes_as (IsKnown kind.Rustc) (IsKnown c.args.kind) _ _ c.finding.result (as_known c.args.kind kind.Rustc c.in-Rustc.is _) c.finding.ensures.does
+    goes_as (IsKnown kind.Rustc) (IsKnown c.args.kind) _ _ c.rustc_diagnostic.result (as_known c.args.kind kind.Rustc c.in-Rustc.is _)
+    c.rustc_diagnostic.ensures.does
 
 pub returns-in-Cargo-clause-does : goal.returns-in-Cargo-clause-does
 returns-in-Cargo-clause-does g c =
