@@ -13,15 +13,15 @@ pub struct Reading {
     pub joins_edits: bool,
     /// A place in a macro is shown in the first file around it that the text names.
     pub shows_named: bool,
-    /// The note on macros stands after all that is said, and only if the text has it.
-    pub moves_note: bool,
+    /// The note on macros is the one that the text has, in its words, and none if it has none.
+    pub quotes_note: bool,
 }
 
 /// The first reading.
 pub const FIRST: Reading = Reading {
     joins_edits: false,
     shows_named: false,
-    moves_note: false,
+    quotes_note: false,
 };
 
 /// The others, in the order in which they are tried: those that do one thing otherwise, then those that do two.
@@ -35,7 +35,7 @@ pub const OTHERS: [Reading; 6] = [
         ..FIRST
     },
     Reading {
-        moves_note: true,
+        quotes_note: true,
         ..FIRST
     },
     Reading {
@@ -45,12 +45,12 @@ pub const OTHERS: [Reading; 6] = [
     },
     Reading {
         joins_edits: true,
-        moves_note: true,
+        quotes_note: true,
         ..FIRST
     },
     Reading {
         shows_named: true,
-        moves_note: true,
+        quotes_note: true,
         ..FIRST
     },
 ];
@@ -61,18 +61,20 @@ pub struct Reader {
     pub joins_edits: bool,
     /// The files that the text names, where places are shown by them.
     pub named: Option<NamedFiles>,
-    /// Where the note on macros stands.
-    pub note: NotePlace,
+    /// The note on the macros that a diagnostic originates in.
+    pub note: MacroNote,
 }
 
-/// Where the note on macros stands.
-#[derive(Clone, Copy, PartialEq, Eq)]
-pub enum NotePlace {
-    /// Before the edits that are suggested.
-    BeforeEdits,
-    /// After all that is said.
-    Last,
-    /// Nowhere.
+/// The note on the macros that a diagnostic originates in.
+#[derive(Drop)]
+pub enum MacroNote {
+    /// What its places say of them.
+    OfPlaces,
+    /// What the text says of them, before the edits that are suggested.
+    BeforeEdits(String),
+    /// What the text says of them, after all that is said.
+    Last(String),
+    /// None.
     Nowhere,
 }
 
@@ -84,8 +86,8 @@ impl Reader {
             _ => None,
         };
         let note = match text {
-            Some(text) if reading.moves_note => note_place(text),
-            _ => NotePlace::BeforeEdits,
+            Some(text) if reading.quotes_note => note_in(alloc, text)?,
+            _ => MacroNote::OfPlaces,
         };
         Ok(Reader {
             joins_edits: reading.joins_edits,
@@ -101,11 +103,52 @@ fn named_in(alloc: Global, text: &str) -> Result<NamedFiles, AllocError> {
     NamedFiles::new(alloc, plain.as_str())
 }
 
-/// Where the note on macros stands that comes last, if the text has one.
-fn note_place(text: &str) -> NotePlace {
-    if text.contains(" originates in the ") {
-        NotePlace::Last
-    } else {
-        NotePlace::Nowhere
+/// The note on macros that a text has, which may have styles.
+fn note_in(alloc: Global, text: &str) -> Result<MacroNote, AllocError> {
+    let plain = without_styles(alloc, text)?;
+    match quoted_note(plain.as_str()) {
+        Some(note) => placed_note(alloc, note, plain.as_str()),
+        None => Ok(MacroNote::Nowhere),
     }
+}
+
+/// A note of a text: an edit that is shown as a group comes after it.
+fn placed_note(alloc: Global, note: &str, text: &str) -> Result<MacroNote, AllocError> {
+    let told = String::from_str(alloc, note)?;
+    if has_title_after(text, note) {
+        Ok(MacroNote::BeforeEdits(told))
+    } else {
+        Ok(MacroNote::Last(told))
+    }
+}
+
+/// Whether a title comes after these words of a text.
+fn has_title_after(text: &str, words: &str) -> bool {
+    match text.split_once(words) {
+        Some((_, rest)) => rest.contains("\nhelp: "),
+        None => false,
+    }
+}
+
+/// The first note of a text on the macros that its diagnostic originates in.
+fn quoted_note(text: &str) -> Option<&str> {
+    for line in text.split('\n') {
+        match note_of_line(line.trim_start()) {
+            Some(note) if is_on_macros(note) => return Some(note),
+            _ => {}
+        }
+    }
+    None
+}
+
+/// The note that a line is, without the blanks before it; in ASCII or Unicode.
+fn note_of_line(line: &str) -> Option<&str> {
+    line.strip_prefix("= note: ")
+        .or(line.strip_prefix("\u{251c} note: "))
+        .or(line.strip_prefix("\u{2570} note: "))
+}
+
+/// Whether a note tells of the macros that a diagnostic originates in.
+fn is_on_macros(note: &str) -> bool {
+    note.starts_with("this ") && note.contains(" originates in the ")
 }

@@ -7,8 +7,8 @@ ghost use Rattle.serde_json.specs.View.{view};
 use crate::edits::{alternatives_of, edits_of};
 use crate::expansion::Macros;
 use crate::headings::{code_of, heading_of};
-use crate::json::{given_text, listed};
-use crate::reading::{NotePlace, Reader, Reading};
+use crate::json::{given_text, listed, owned};
+use crate::reading::{MacroNote, Reader, Reading};
 use crate::rendered::{as_rendered, is_whole};
 use crate::spans::spans_of;
 use json_lines::expectation::Expectation;
@@ -16,7 +16,7 @@ use json_lines::fault::Fault;
 use json_lines::node::Node;
 use redraw_report::diagnostic::{Child, Code, Diagnostic, FileSpan, Severity};
 use serde_json::Value;
-use std::alloc::Global;
+use std::alloc::{AllocError, Global};
 
 /// The diagnostic that a value describes, by this reading, with its suggestions as its own text shows them, where it
 /// has that.
@@ -118,14 +118,7 @@ fn children_of(node: &Node<'_, '_>, reader: &Reader) -> Result<Vec<Child>, Fault
     let values = listed(node, "children")?;
     let mut children = Vec::new(node.alloc);
     add_children(&list, values, reader, &mut children)?;
-    if reader.note != NotePlace::Nowhere {
-        add_macro_note(
-            node,
-            macros_of(node.value, values),
-            reader.note,
-            &mut children,
-        )?;
-    }
+    add_macro_note(node, values, &reader.note, &mut children)?;
     Ok(children)
 }
 
@@ -151,22 +144,44 @@ fn macros_of<'v>(diagnostic: &'v Value, children: &'v [Value]) -> Macros<'v> {
     macros
 }
 
-/// Adds the notes on the macros that a diagnostic originates in, where these stand.
+/// Adds the note on the macros that a diagnostic with these children originates in.
 fn add_macro_note(
     node: &Node<'_, '_>,
-    macros: Macros<'_>,
-    place: NotePlace,
+    values: &[Value],
+    note: &MacroNote,
     children: &mut Vec<Child>,
 ) -> Result<(), Fault> {
-    let Some(message) = macros.note(node.alloc, node.text("level")?)? else {
-        return Ok(());
-    };
-    let at = if place == NotePlace::BeforeEdits {
-        count_before_edits(children)
-    } else {
-        children.len()
-    };
-    children.insert(at, note_of(node.alloc, message))?;
+    match note {
+        MacroNote::OfPlaces => add_note_of_places(node, values, children),
+        MacroNote::BeforeEdits(note) => {
+            let message = owned(node.alloc, note.as_str())?;
+            Ok(insert_before_edits(children, note_of(node.alloc, message))?)
+        }
+        MacroNote::Last(note) => {
+            let message = owned(node.alloc, note.as_str())?;
+            Ok(children.push(note_of(node.alloc, message))?)
+        }
+        MacroNote::Nowhere => Ok(()),
+    }
+}
+
+/// Adds what the places of a diagnostic with these children say of the macros that it originates in.
+fn add_note_of_places(
+    node: &Node<'_, '_>,
+    values: &[Value],
+    children: &mut Vec<Child>,
+) -> Result<(), Fault> {
+    let macros = macros_of(node.value, values);
+    if let Some(message) = macros.note(node.alloc, node.text("level")?)? {
+        insert_before_edits(children, note_of(node.alloc, message))?;
+    }
+    Ok(())
+}
+
+/// Puts a note before the first child that suggests an edit.
+fn insert_before_edits(children: &mut Vec<Child>, note: Child) -> Result<(), AllocError> {
+    let at = count_before_edits(children);
+    children.insert(at, note)?;
     Ok(())
 }
 
