@@ -30,4 +30,5 @@ pub mod sources;
 mod spans;
 pub mod spot;
 mod taken;
+mod unsaid;
 mod words;

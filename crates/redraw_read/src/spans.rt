@@ -13,6 +13,7 @@ use crate::json::{given, given_text, listed, owned, values_of};
 use crate::named_files::NamedFiles;
 use crate::order::settle_order;
 use crate::roles::settle_roles;
+use crate::unsaid::drop_unsaid;
 use json_lines::expectation::Expectation;
 use json_lines::fault::Fault;
 use json_lines::node::Node;
@@ -29,7 +30,7 @@ pub fn spans_of(node: &Node<'_, '_>, named: &Option<NamedFiles>) -> Result<Vec<F
     add_calls(&list, values, named, &mut spans)?;
     let mut spans = settle_roles(node.alloc, spans)?;
     settle_order(node.alloc, &mut spans)?;
-    Ok(spans)
+    Ok(drop_unsaid(node.alloc, spans)?)
 }
 
 /// Adds the calls of macros that are shown beside the places in a list of these values.
