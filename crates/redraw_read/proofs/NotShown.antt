@@ -1,6 +1,8 @@
 -- What isn't as rustc's text shows it: what wrong bodies leave of small diagnostics contradicts what is said of showing them.
-use Rattle.std.proofs.Common.{◌≡◌, ◌∙◌, ℕ, true, false, List, [], ◌∷◌, Option, Some, ap, arith, get_or, length, refl, string_bytes, unwrap_or}
+use Rattle.std.proofs.Common.{◌≡◌, ◌∙◌, ℕ, true, false, List, [], ◌∷◌, Option, Some, ap, arith, codes, get_or, length, refl, string_bytes, unwrap_or}
+use Rattle.std.specs.Fmt.{digits}
 use Rattle.std.specs.Global.{Vec}
+use Rattle.std.specs.Str.{chars, trim_start}
 use Rattle.redraw_report.specs.declared.diagnostic.Child.{Child}
 use Rattle.redraw_report.specs.declared.diagnostic.Diagnostic.{Diagnostic}
 use Rattle.redraw_report.specs.declared.diagnostic.SuggestedEdit.{SuggestedEdit}
@@ -21,6 +23,15 @@ suggestion_kept text old c edits more one has nowhere shown =
     let all = rw one at shown.children in
     let none = none_left text (child_seen c) edits more has nowhere in
     absurd (omega (arith, ap length (rw none at all)))
+
+-- a line names the place that stands after its arrow, and none whose file is only the end of that one's
+pub place_named : names_place (codes " --> x/a:2:3\n") (codes "x/a") 2 3 ≡ true
+unfolding trim_start chars lib.Utf8.encode digits
+place_named = refl
+
+pub end_not_named : names_place (codes " --> x/a:2:3\n") (codes "a") 2 3 ≡ false
+unfolding trim_start chars lib.Utf8.encode digits
+end_not_named = refl
 
 -- a column is still what it was, where the text has the one before it
 pub column_kept : (text file : List ℕ) (line : ℕ) → names_place text file line 4 ≡ true → Some 5 ≡ column_shown text file line (Some 5) → ⊥
