@@ -179,6 +179,19 @@ fn number(object: &Value, name: &str) -> Option<u64> {
     object.get(name).and_then(Value::as_u64)
 }
 
+/// Whether a place is a primary one.
+fn is_primary(span: &Value) -> bool {
+    span.get("is_primary").and_then(Value::as_bool) == Some(true)
+}
+
+/// Whether a place is an edit: a text is to stand there.
+pub fn is_edit(span: &Value) -> bool {
+    match span.get("suggested_replacement") {
+        Some(text) => text.is_string(),
+        None => false,
+    }
+}
+
 /// The macros that primary places come from: the first of them, and the last.
 #[derive(Clone, Copy)]
 pub struct Macros<'v> {
@@ -195,9 +208,9 @@ impl<'v> Macros<'v> {
         }
     }
 
-    /// These, and the macros that a place comes from, if it is a primary one.
+    /// These, and the macros that a place comes from, if it is a primary one and no edit.
     pub fn with_place(mut self, span: &'v Value) -> Macros<'v> {
-        if span.get("is_primary").and_then(Value::as_bool) != Some(true) {
+        if !is_primary(span) || is_edit(span) {
             return self;
         }
         let mut place = Some(span);

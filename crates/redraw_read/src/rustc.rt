@@ -5,7 +5,7 @@ ghost use Rattle.redraw_read.specs.Told.{IsHeaded, IsHeading, code_seen, code_to
 ghost use Rattle.serde_json.specs.View.{view};
 
 use crate::edits::{alternatives_of, edits_of};
-use crate::expansion::Macros;
+use crate::expansion::{Macros, is_edit};
 use crate::headings::{code_of, heading_of};
 use crate::json::{given_text, listed, owned};
 use crate::reading::{MacroNote, Reader, Reading};
@@ -65,14 +65,6 @@ fn has_open_spans(part: &Value) -> bool {
 /// Whether these are several places, one of which is an edit.
 fn is_edit_among(spans: &[Value]) -> bool {
     spans.len() > 1 && spans.iter().any(is_edit)
-}
-
-/// Whether a place is an edit: a text is to stand there.
-fn is_edit(span: &Value) -> bool {
-    match span.get("suggested_replacement") {
-        Some(text) => text.is_string(),
-        None => false,
-    }
 }
 
 /// Whether a place is in a macro.
