@@ -11,7 +11,8 @@ pub struct Reading {
     /// Edits that meet without overlapping are made together, and an alternative begins with an edit that is left of
     /// the one before.
     pub joins_edits: bool,
-    /// A place in a macro is shown in the first file around it that the text names.
+    /// A place in a macro is shown in the first file around it that the text names: that of the diagnostic itself, or
+    /// that of its children.
     pub shows_named: bool,
     /// The note on macros is the one that the text has, in its words, and none if it has none.
     pub quotes_note: bool,
@@ -59,8 +60,10 @@ pub const OTHERS: [Reading; 6] = [
 #[derive(Drop)]
 pub struct Reader {
     pub joins_edits: bool,
-    /// The files that the text names, where places are shown by them.
+    /// The files that the text names before the first title of a child, where places are shown by them.
     pub named: Option<NamedFiles>,
+    /// The files that it names from there on.
+    pub named_by_children: Option<NamedFiles>,
     /// The note on the macros that a diagnostic originates in.
     pub note: MacroNote,
 }
@@ -81,9 +84,9 @@ pub enum MacroNote {
 impl Reader {
     /// What a reading asks of a text, where there is one.
     pub fn new(alloc: Global, reading: Reading, text: Option<&str>) -> Result<Reader, AllocError> {
-        let named = match text {
-            Some(text) if reading.shows_named => Some(named_in(alloc, text)?),
-            _ => None,
+        let (named, named_by_children) = match text {
+            Some(text) if reading.shows_named => named_in(alloc, text)?,
+            _ => (None, None),
         };
         let note = match text {
             Some(text) if reading.quotes_note => note_in(alloc, text)?,
@@ -92,15 +95,39 @@ impl Reader {
         Ok(Reader {
             joins_edits: reading.joins_edits,
             named,
+            named_by_children,
             note,
         })
     }
 }
 
-/// The files that a text names, which may have styles.
-fn named_in(alloc: Global, text: &str) -> Result<NamedFiles, AllocError> {
+/// The files that a text names, which may have styles: before the first title of a child, and from there on.
+fn named_in(
+    alloc: Global,
+    text: &str,
+) -> Result<(Option<NamedFiles>, Option<NamedFiles>), AllocError> {
     let plain = without_styles(alloc, text)?;
-    NamedFiles::new(alloc, plain.as_str())
+    let (own, of_children) = split_at_children(plain.as_str());
+    let named = NamedFiles::new(alloc, own)?;
+    let named_by_children = NamedFiles::new(alloc, of_children)?;
+    Ok((Some(named), Some(named_by_children)))
+}
+
+/// What of a text stands before the first title of a child, and the rest.
+fn split_at_children(text: &str) -> (&str, &str) {
+    let own = before_words(before_words(text, "\nnote: "), "\nhelp: ");
+    match text.strip_prefix(own) {
+        Some(of_children) => (own, of_children),
+        None => (text, ""),
+    }
+}
+
+/// What of a text stands before the first place where these words do; all of it where they don't.
+fn before_words<'t>(text: &'t str, words: &str) -> &'t str {
+    match text.split_once(words) {
+        Some((before, _)) => before,
+        None => text,
+    }
 }
 
 /// The note on macros that a text has, which may have styles.

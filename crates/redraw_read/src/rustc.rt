@@ -207,7 +207,7 @@ fn child_of(node: &Node<'_, '_>, reader: &Reader) -> Result<Child, Fault>
     let (severity, message) = heading_of(node)?;
     let edits = edits_of(node)?;
     let spans = if edits.is_empty() {
-        spans_of(node, &reader.named)?
+        spans_of(node, &reader.named_by_children)?
     } else {
         Vec::new(node.alloc)
     };
