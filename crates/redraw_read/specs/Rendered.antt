@@ -1,5 +1,5 @@
 -- How a suggestion is shown, which rustc's own text of a diagnostic tells.
-use Rattle.std.specs.Prelude.{ℕ, eqb, ◌==◌, List, [], ◌∷◌, Option, Some, None, codes, drop, length, if◌then◌else◌}
+use Rattle.std.specs.Prelude.{ℕ, eqb, ◌==◌, ◌||◌, Bool, List, [], ◌∷◌, Option, Some, None, codes, drop, length, if◌then◌else◌}
 use Rattle.std.specs.List.{slice_split, starts_with}
 use Rattle.std.specs.Option.{option_and_then, option_map, option_or}
 use Rattle.std.specs.Str.{trim_start}
@@ -21,12 +21,21 @@ after_first words (b ∷ bs) = option_or (after words (b ∷ bs)) (after_first w
 abbrev pub after_word : List ℕ → Option (List ℕ)
 after_word line = option_map trim_start (after_first (codes " ") (trim_start line))
 
+-- whether a line is a row beside an empty gutter, as those of marks and labels are: after blanks it begins with a bar, in ASCII or U+2502
+abbrev pub is_beside_gutter : List ℕ → Bool
+is_beside_gutter line =
+    starts_with eqb (trim_start line) (codes "|") || starts_with eqb (trim_start line) (226 ∷ 148 ∷ 130 ∷ [])
+
+-- what stands in such a row after the first `help: `
+abbrev pub label_in : List ℕ → Option (List ℕ)
+label_in line = if is_beside_gutter line then after_first (codes "help: ") line else None
+
 -- what stands in a line where the message of a suggestion may: in a title after `help: `, in a message after blanks and `= help: `,
--- and in a label after the first `help: `, wherever that is; and where a place may: after the first word, an arrow
+-- and in a label after the first `help: ` of a row beside an empty gutter; and where a place may: after the first word, an arrow
 abbrev pub stands_in : Stand → List ℕ → Option (List ℕ)
 stands_in stand.Title line = after (codes "help: ") line
 stands_in stand.Message line = after (codes "= help: ") (trim_start line)
-stands_in stand.Label line = after_first (codes "help: ") line
+stands_in stand.Label line = label_in line
 stands_in stand.Origin line = after_word line
 
 -- a text, if it begins with a message

@@ -13,6 +13,46 @@ pub struct EditLabel {
     pub label: String,
 }
 
+/// The label of a suggestion in what a row has from its message on: the message, what is to be noticed, and what is to
+/// stand there. Carets that stand right of it aren't part of it.
+pub fn label_of<'t>(row: &'t str, message: &str, replacement: &str) -> &'t str {
+    let Some(rest) = row.strip_prefix(message) else {
+        return row;
+    };
+    let rest = after_replacement(after_notice(rest), replacement.trim());
+    match row.strip_suffix(rest) {
+        Some(label) if rest.starts_with(' ') => label,
+        _ => row,
+    }
+}
+
+/// What comes after a notice in brackets, if one stands first.
+fn after_notice(rest: &str) -> &str {
+    match rest.strip_prefix(" (notice ") {
+        Some(notice) => match notice.split_once(')') {
+            Some((_, after)) => after,
+            None => rest,
+        },
+        None => rest,
+    }
+}
+
+/// What comes after the replacement in backquotes, if that stands first; nothing, if another text stands in these.
+fn after_replacement<'t>(rest: &'t str, replacement: &str) -> &'t str {
+    match told_replacement(rest, replacement) {
+        Some(after) => after,
+        None if rest.starts_with(": `") => "",
+        None => rest,
+    }
+}
+
+/// What comes after this replacement in backquotes.
+fn told_replacement<'t>(rest: &'t str, replacement: &str) -> Option<&'t str> {
+    rest.strip_prefix(": `")?
+        .strip_prefix(replacement)?
+        .strip_prefix('`')
+}
+
 /// Puts labels at the places of their edits: each to the first primary place there that has none yet, else as a place
 /// of its own.
 pub fn put_labels(

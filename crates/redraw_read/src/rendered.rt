@@ -11,7 +11,7 @@ ghost use Rattle.redraw_read.specs.Rendered.{way, way_by, way_of};
 ghost use Rattle.redraw_read.specs.Told.{KeepsHeading};
 ghost use Rattle.redraw_report.specs.Report.{lent};
 
-use crate::labels::{EditLabel, put_labels};
+use crate::labels::{EditLabel, label_of, put_labels};
 use crate::manners::Manners;
 use crate::plain::without_styles;
 use crate::roles::settle_roles;
@@ -40,7 +40,7 @@ pub enum Stand {
     Title,
     /// After blanks and `= help: `.
     Message,
-    /// After the first `help: `.
+    /// After the first `help: ` of a row beside an empty gutter.
     Label,
     /// After the first word, which is an arrow.
     Origin,
@@ -118,7 +118,7 @@ pub fn stands_in<'t>(place: Stand, line: &'t str) -> Option<&'t str>
     match place {
         Stand::Title => after(line, "help: "),
         Stand::Message => after(line.trim_start(), "= help: "),
-        Stand::Label => after_first(line, "help: "),
+        Stand::Label => label_in(line),
         Stand::Origin => after_word(line),
     }
 }
@@ -131,6 +131,25 @@ fn after_word<'t>(line: &'t str) -> Option<&'t str>
         Some(rest) => Some(rest.trim_start()),
         None => None,
     }
+}
+
+/// What stands after the first `help: ` of a row beside an empty gutter: a source may have such words too.
+fn label_in(line: &str) -> Option<&str>
+    ensures value { lent result ≡ spec.label_in line.now }
+{
+    if is_beside_gutter(line) {
+        after_first(line, "help: ")
+    } else {
+        None
+    }
+}
+
+/// Whether a line is a row beside an empty gutter, as those of marks and labels are.
+fn is_beside_gutter(line: &str) -> bool
+    ensures value { result ≡ spec.is_beside_gutter line.now }
+{
+    let row = line.trim_start();
+    begins_with(row, "|") || begins_with(row, "\u{2502}")
 }
 
 /// Whether a text shows all of a diagnostic: an empty line is at its end then. One of a single line shows only where it
@@ -326,13 +345,15 @@ fn add_label(
     alloc: Global,
     label: &str,
     child: Child,
-    told: &mut Vec<EditLabel>,
+    labels: &mut Vec<EditLabel>,
 ) -> Result<(), AllocError> {
     let mut alternatives = child.alternatives;
     let mut edits = alternatives.pop().unwrap_or(Vec::new(alloc));
     if let Some(edit) = edits.pop() {
-        let label = format!(in alloc; "help: {label}")?;
-        told.push(EditLabel { edit, label })?;
+        let message = first_line(alloc, child.message.as_str())?;
+        let told = label_of(label, message.as_str(), edit.replacement.as_str());
+        let label = format!(in alloc; "help: {told}")?;
+        labels.push(EditLabel { edit, label })?;
     }
     Ok(())
 }
