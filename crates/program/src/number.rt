@@ -16,7 +16,8 @@ pub fn number_of(argument: &str) -> Option<usize>
     }
 }
 
-/// The same of an argument in which a plus may stand before the digits.
+/// The number that an argument of decimal digits writes, before which a plus may stand; `None` for another one, and
+/// where the number doesn't fit.
 pub fn number_after_plus(argument: &str) -> Option<usize>
     ensures value { result ≡ spec.number_after_plus argument.now }
 {

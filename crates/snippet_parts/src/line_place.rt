@@ -75,7 +75,6 @@ impl<'m, 'a> SpanFinder<'m, 'a> {
 /// place of its start is known then.
 ///
 /// Of many spans on one line the line is looked for once, and what lies between one and the next is walked once.
-#[inline(always)]
 pub(crate) fn locations_near<'a>(
     source: &SourceMap<'a>,
     known: &mut Option<LinePlace<'a>>,
