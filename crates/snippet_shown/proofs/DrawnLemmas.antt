@@ -1,15 +1,18 @@
 -- How wide the rows of titles and messages are.
-use Rattle.std.proofs.Common.{◌≡◌, ℕ, zero, suc, ◌+◌, ◌-◌, ◌≤◌, ◌==◌, Bool, true, false, List, [], ◌∷◌, ◌++◌, All, length, map, replicate, refl, sym, ap}
+use Rattle.std.proofs.Common.{◌≡◌, ℕ, zero, suc, ◌+◌, ◌-◌, ◌<◌, ◌≤◌, ◌==◌, ◌||◌, ◌&&◌, nat_le, Bool, true, false, List, [], ◌∷◌, ◌++◌, All, length, map}
+use Rattle.std.proofs.Common.{replicate, refl, sym, ap}
 use Rattle.std.proofs.Common.{◌∙◌, subst, arith}
 use Rattle.std.proofs.Common.{chars, cond, if◌then◌else◌}
-use Rattle.std.specs.List.{onto_first}
+use Rattle.std.specs.List.{list_any, onto_first, slice_split}
+use Rattle.std.proofs.lemmas.Bool.{false≢true}
 use Rattle.std.proofs.lemmas.Bool.Decides.{nat_tests}
-use Rattle.std.proofs.lemmas.List.Elements.{All-cons, All-head, All-map, All-nil, All-tail, All-weaker}
+use Rattle.std.proofs.lemmas.List.Elements.{All-append, All-cons, All-head, All-map, All-nil, All-replicate, All-tail, All-weaker}
 use Rattle.std.proofs.lemmas.List.Splits.{length-slice_split, slice_split-cons_no, slice_split-cons_yes}
 use Rattle.std.proofs.lemmas.List.Sums.{sum_by-append, sum_by-cons}
 use Rattle.snippet_grid.proofs.RowLemmas.{row_text-text_cells}
 use Rattle.snippet_grid.specs.Layout.{separator_cell}
 use Rattle.snippet_grid.specs.Print.{row_text}
+use Rattle.snippet_model.proofs.RowLemmas.{each_fails}
 use Rattle.snippet_model.specs.Heading.{Heading}
 use Rattle.snippet_style.specs.Cell.{SPACE, text_cells}
 use Rattle.snippet_style.specs.Glyphs.{note_sign_of}
@@ -18,7 +21,7 @@ use Rattle.snippet_style.specs.declared.glyphs.DecorStyle.TheVariants.{Ascii, Un
 use Rattle.snippet_style.specs.declared.role.ElementStyle.TheVariants.{LineNumber}
 use Rattle.snippet_text.proofs.NormLemmas.{width_of-norm}
 use Rattle.snippet_text.proofs.WidthLemmas.{unicode_width}
-use Rattle.snippet_text.specs.Normalized.{has_control_picture, is_bidirectional_control, norm, shown}
+use Rattle.snippet_text.specs.Normalized.{has_control_picture, is_bidirectional_control, is_listed, norm, shown}
 use Rattle.snippet_text.specs.Width.{char_width, width_of}
 use Rattle.snippet_titles.proofs.SplitLemmas.{lines_at-after}
 use Rattle.snippet_titles.proofs.TextLemmas.{row_text-append, row_text-spaces}
@@ -26,8 +29,11 @@ use Rattle.snippet_titles.specs.HeadingRows.{heading_label_text, heading_lines, 
 use Rattle.snippet_titles.specs.ShownHeading.{heading_texts, texts_below}
 use Rattle.snippet_titles.specs.declared.style.MessageContext.{MessageContext}
 use Rattle.snippet_titles.specs.declared.style.TitleStyle.TheVariants.{Message, Title}
-use Rattle.snippet_shown.proofs.EndLemmas.{IsOther}
-use Rattle.snippet_shown.specs.WrapLaws.{AreWithin, lines_in}
+use Rattle.snippet_titles.proofs.FreeLemmas.{IsUnlisted, indent-all, label-all}
+use Rattle.snippet_shown.specs.Letters.{Letter, first_place, is_code, is_feed, letter, letter_width, letters, letters_of, place_after}
+use Rattle.snippet_shown.specs.WrapLaws.{AreRowsWithin, AreWithin, columns_of, lines_in}
+use Rattle.snippet_shown.specs.declared.wrap.code.Place.{Place}
+use Rattle.snippet_shown.specs.declared.wrap.code.Place.TheVariants.{Untrusted, Outside, Escape, Bracket, Command, CommandEscape}
 
 -- ---- what a row begins with
 
@@ -51,14 +57,20 @@ bar-one Ascii followed = refl
 bar-one Unicode true = refl
 bar-one Unicode false = refl
 
+sign-text : (place : MessageContext) → row_text (sign_cells (Message place))
+    ≡ replicate (separator_cell place.layout) 32 ++ note_sign_of place.layout.decor place.followed
+sign-text place =
+    let gutter = separator_cell place.layout in
+    let sign = note_sign_of place.layout.decor place.followed in
+    row_text-append (replicate gutter SPACE) (text_cells LineNumber sign) ∙ ap (λ t. t ++ row_text (text_cells LineNumber sign)) (row_text-spaces gutter)
+    ∙ ap (λ t. replicate gutter 32 ++ t) (row_text-text_cells LineNumber sign)
+
 -- the sign of a message takes three columns more than the gutter
 sign-width : (place : MessageContext) → width_of (row_text (sign_cells (Message place))) ≡ place.layout.gutter + 3
 sign-width place =
     let gutter = separator_cell place.layout in
     let sign = note_sign_of place.layout.decor place.followed in
-    let text : row_text (sign_cells (Message place)) ≡ replicate gutter 32 ++ sign =
-    row_text-append (replicate gutter SPACE) (text_cells LineNumber sign) ∙ ap (λ t. t ++ row_text (text_cells LineNumber sign)) (row_text-spaces gutter)
-    ∙ ap (λ t. replicate gutter 32 ++ t) (row_text-text_cells LineNumber sign) in
+    let text = sign-text place in
     omega (
       arith,
       ap width_of text,
@@ -87,26 +99,15 @@ indent-width place width =
       bar-one place.layout.decor place.followed,
     )
 
--- ---- rows
-
--- rows that begin with so many columns at most
-further-within : (further : List ℕ) (start room term_width : ℕ) → width_of further ≤ start → start + room ≤ term_width → (lines : List (List ℕ))
-    → AreWithin room lines → AreWithin term_width (map (λ l. further ++ l) lines)
-further-within further start room term_width narrow fits lines within =
-    All-map (λ part. width_of part ≤ term_width) (λ l. further ++ l) lines
-    (All-weaker (λ part. width_of part ≤ room) (λ l. width_of (further ++ l) ≤ term_width)
-    (λ l least. omega (arith, sum_by-append char_width further l, narrow, fits, least)) lines within)
-
-texts-within : (first further : List ℕ) (start room term_width : ℕ) → width_of first ≤ start → width_of further ≤ start → start + room ≤ term_width
-    → (lines : List (List ℕ)) → AreWithin room lines → AreWithin term_width (texts_below first further lines)
-texts-within first further start room term_width narrow below fits [] within = All-nil (λ part. width_of part ≤ term_width)
-texts-within first further start room term_width narrow below fits (line ∷ lines) within =
-    let least = All-head (λ part. width_of part ≤ room) line lines within in
-    All-cons (λ part. width_of part ≤ term_width) (first ++ line) (map (λ l. further ++ l) lines)
-    (omega (arith, sum_by-append char_width first line, narrow, fits, least))
-    (further-within further start room term_width below fits lines (All-tail (λ part. width_of part ≤ room) line lines within))
-
 -- ---- lines as they are drawn
+
+-- a character that is no line feed
+abbrev IsOther : ℕ → Type 0
+IsOther c = (c == 10) ≡ false
+
+-- the lines of characters
+abbrev lines_of : List ℕ → List (List ℕ)
+lines_of cs = slice_split (λ c. c == 10) cs
 
 -- normalising puts in no line feed
 choice : (b : Bool) (xs ys : List ℕ) → All IsOther xs → All IsOther ys → All IsOther (cond b xs ys)
@@ -126,59 +127,234 @@ shown-other c plain =
     (choice (c == 0x7F) _ _ (alone 0x2421 refl)
     (choice (c == 0x200D) _ _ (All-nil IsOther) (choice (is_bidirectional_control c) _ _ (alone 0xFFFD refl) (alone c plain)))))
 
-lines_in-norm_onto : (c : ℕ) (cs rest : List ℕ) (parts : List (List ℕ)) → (c == 10) ≡ false → lines_in cs ≡ parts → lines_in rest ≡ map norm parts
-    → lines_in (shown c ++ rest) ≡ map norm (lines_in (c ∷ cs))
+lines_of-norm_onto : (c : ℕ) (cs rest : List ℕ) (parts : List (List ℕ)) → (c == 10) ≡ false → lines_of cs ≡ parts → lines_of rest ≡ map norm parts
+    → lines_of (shown c ++ rest) ≡ map norm (lines_of (c ∷ cs))
 unfolding norm
-lines_in-norm_onto c cs rest [] other is below = absurd (omega (arith, length-slice_split (λ d. d == 10) cs, ap (λ (ps : List (List ℕ)). length ps) is))
-lines_in-norm_onto c cs rest (part ∷ parts) other is below =
+lines_of-norm_onto c cs rest [] other is below = absurd (omega (arith, length-slice_split (λ d. d == 10) cs, ap (λ (ps : List (List ℕ)). length ps) is))
+lines_of-norm_onto c cs rest (part ∷ parts) other is below =
     lines_at-after (shown c) rest (norm part) (map norm parts) (shown-other c other) below
     ∙ ap (map norm) (sym (slice_split-cons_no (λ d. d == 10) c cs other ∙ ap (onto_first c) is))
 
-lines_in-norm_step : (c : ℕ) (cs : List ℕ) (feed : Bool) → (c == 10) ≡ feed → lines_in (norm cs) ≡ map norm (lines_in cs)
-    → lines_in (norm (c ∷ cs)) ≡ map norm (lines_in (c ∷ cs))
+lines_of-norm_step : (c : ℕ) (cs : List ℕ) (feed : Bool) → (c == 10) ≡ feed → lines_of (norm cs) ≡ map norm (lines_of cs)
+    → lines_of (norm (c ∷ cs)) ≡ map norm (lines_of (c ∷ cs))
 unfolding norm
-lines_in-norm_step c cs true is below =
+lines_of-norm_step c cs true is below =
     let ten : c ≡ 10 = grind (arith, nat_tests, is) in
-    ap (λ d. lines_in (norm (d ∷ cs))) ten ∙ slice_split-cons_yes (λ d. d == 10) 10 (norm cs) refl ∙ ap (λ ls. [] ∷ ls) below
+    ap (λ d. lines_of (norm (d ∷ cs))) ten ∙ slice_split-cons_yes (λ d. d == 10) 10 (norm cs) refl ∙ ap (λ ls. [] ∷ ls) below
     ∙ ap (map norm) (sym (slice_split-cons_yes (λ d. d == 10) c cs is))
-lines_in-norm_step c cs false is below = lines_in-norm_onto c cs (norm cs) (lines_in cs) is refl below
+lines_of-norm_step c cs false is below = lines_of-norm_onto c cs (norm cs) (lines_of cs) is refl below
 
-lines-norm : (cs : List ℕ) → lines_in (norm cs) ≡ map norm (lines_in cs)
+lines-norm : (cs : List ℕ) → lines_of (norm cs) ≡ map norm (lines_of cs)
 unfolding norm
 lines-norm [] = refl
-lines-norm (c ∷ cs) = lines_in-norm_step c cs (c == 10) refl (lines-norm cs)
+lines-norm (c ∷ cs) = lines_of-norm_step c cs (c == 10) refl (lines-norm cs)
 
--- so the lines of a text as it is drawn have the room that its own have
-norm-within : (room : ℕ) (cs : List ℕ) → AreWithin room (lines_in cs) → AreWithin room (lines_in (norm cs))
-norm-within room cs within =
-    subst (AreWithin room) (sym (lines-norm cs)) (All-map (λ part. width_of part ≤ room) norm (lines_in cs)
-    (All-weaker (λ part. width_of part ≤ room) (λ part. width_of (norm part) ≤ room) (λ part least. omega (arith, width_of-norm part, least)) (lines_in cs)
-    within))
+-- where the lines of a text begin
+abbrev line_place : Place → Place
+line_place Untrusted = Untrusted
+line_place other = Outside
 
-drawn-within : (room : ℕ) (trusted : Bool) (cs : List ℕ) → AreWithin room (lines_in cs) → AreWithin room (lines_in (if trusted then cs else norm cs))
-drawn-within room true cs within = within
-drawn-within room false cs within = norm-within room cs within
+choice-place : (b : Bool) (p q : Place) → line_place p ≡ Outside → line_place q ≡ Outside → line_place (if b then p else q) ≡ Outside
+choice-place true p q one other = one
+choice-place false p q one other = other
+
+outside-line : (c : ℕ) → line_place (place_after Outside c) ≡ Outside
+outside-line c = choice-place (c == 27) Escape Outside refl refl
+
+command-line : (c : ℕ) → line_place (place_after Command c) ≡ Outside
+command-line c = choice-place ((c == 10) || (c == 7)) Outside _ refl (choice-place (c == 27) CommandEscape Command refl refl)
+
+place-line : (place : Place) (c : ℕ) → line_place (place_after place c) ≡ line_place place
+place-line Untrusted c = refl
+place-line Outside c = outside-line c
+place-line Escape c = choice-place (c == 91) Bracket _ refl (choice-place (c == 93) Command _ refl (outside-line c))
+place-line Bracket c = choice-place ((c == 10) || nat_le 64 c && nat_le c 126) Outside Bracket refl refl
+place-line Command c = command-line c
+place-line CommandEscape c = choice-place (c == 92) Outside _ refl (command-line c)
+
+place-feed : (place : Place) → place_after place 10 ≡ line_place place
+place-feed Untrusted = refl
+place-feed Outside = refl
+place-feed Escape = refl
+place-feed Bracket = refl
+place-feed Command = refl
+place-feed CommandEscape = refl
+
+line-line : (place : Place) → line_place (line_place place) ≡ line_place place
+line-line Untrusted = refl
+line-line Outside = refl
+line-line Escape = refl
+line-line Bracket = refl
+line-line Command = refl
+line-line CommandEscape = refl
+
+-- the letters of lines: the first of which begins there
+abbrev letter_lines : Place → List (List ℕ) → List (List Letter)
+letter_lines place [] = []
+letter_lines place (line ∷ lines) = letters place line ∷ map (letters (line_place place)) lines
+
+letter_lines-map : (place : Place) (parts : List (List ℕ)) → letter_lines (line_place place) parts ≡ map (letters (line_place place)) parts
+letter_lines-map place [] = refl
+letter_lines-map place (part ∷ parts) = ap (λ (p : Place). letters (line_place place) part ∷ map (letters p) parts) (line-line place)
+
+onto-lines : (place : Place) (c : ℕ) (parts : List (List ℕ)) → 0 < length parts
+    → onto_first (letter place c) (letter_lines (place_after place c) parts) ≡ letter_lines place (onto_first c parts)
+onto-lines place c [] some = absurd (omega (arith, some))
+onto-lines place c (part ∷ parts) some =
+    ap (λ (p : Place). (letter place c ∷ letters (place_after place c) part) ∷ map (letters p) parts) (place-line place c)
+
+lines-one : (place : Place) (c : ℕ) (cs : List ℕ) (feed : Bool) → (c == 10) ≡ feed
+    → lines_in (letters (place_after place c) cs) ≡ letter_lines (place_after place c) (lines_of cs)
+    → lines_in (letters place (c ∷ cs)) ≡ letter_lines place (lines_of (c ∷ cs))
+lines-one place c cs true is rest =
+    let ten : c ≡ 10 = grind (arith, nat_tests, is) in
+    let begins : place_after place c ≡ line_place place = ap (place_after place) ten ∙ place-feed place in
+    slice_split-cons_yes is_feed (letter place c) (letters (place_after place c) cs) is ∙ ap (λ (ls : List (List Letter)). [] ∷ ls) rest
+    ∙ ap (λ (p : Place). [] ∷ letter_lines p (lines_of cs)) begins ∙ ap (λ (ls : List (List Letter)). [] ∷ ls) (letter_lines-map place (lines_of cs))
+    ∙ ap (letter_lines place) (sym (slice_split-cons_yes (λ d. d == 10) c cs is))
+lines-one place c cs false is rest =
+    slice_split-cons_no is_feed (letter place c) (letters (place_after place c) cs) is ∙ ap (onto_first (letter place c)) rest
+    ∙ onto-lines place c (lines_of cs) (omega (arith, length-slice_split (λ d. d == 10) cs))
+    ∙ ap (letter_lines place) (sym (slice_split-cons_no (λ d. d == 10) c cs is))
+
+lines-letters : (cs : List ℕ) (place : Place) → lines_in (letters place cs) ≡ letter_lines place (lines_of cs)
+lines-letters [] place = refl
+lines-letters (c ∷ cs) place = lines-one place c cs (c == 10) refl (lines-letters cs (place_after place c))
+
+-- so the lines of a text have the room that those of its letters have
+first-line : (trusted : Bool) → line_place (first_place trusted) ≡ first_place trusted
+first-line true = refl
+first-line false = refl
+
+All-map_back : {X Y : Type 0} (P : Y → Type 0) (f : X → Y) (xs : List X) → All P (map f xs) → All (λ x. P (f x)) xs
+All-map_back P f [] all = All-nil (λ x. P (f x))
+All-map_back P f (x ∷ xs) all = All-cons (λ x. P (f x)) x xs (All-head P (f x) (map f xs) all) (All-map_back P f xs (All-tail P (f x) (map f xs) all))
+
+rows-within : (room : ℕ) (trusted : Bool) (cs : List ℕ) → AreWithin room (lines_in (letters_of trusted cs)) → AreRowsWithin trusted room (lines_of cs)
+rows-within room trusted cs within =
+    let own = lines-letters cs (first_place trusted) in
+    let all : letter_lines (first_place trusted) (lines_of cs) ≡ map (letters_of trusted) (lines_of cs) =
+    ap (λ (p : Place). letter_lines p (lines_of cs)) (sym (first-line trusted)) ∙ letter_lines-map (first_place trusted) (lines_of cs)
+    ∙ ap (λ (p : Place). map (letters p) (lines_of cs)) (first-line trusted) in
+    All-map_back (λ part. columns_of part ≤ room) (letters_of trusted) (lines_of cs) (subst (AreWithin room) (own ∙ all) within)
+
+-- the columns of a text that isn't trusted are those of its characters
+untrusted-columns : (cs : List ℕ) → columns_of (letters Untrusted cs) ≡ width_of cs
+untrusted-columns [] = refl
+untrusted-columns (c ∷ cs) =
+    omega (
+      arith,
+      sum_by-cons letter_width (letter Untrusted c) (letters Untrusted cs),
+      sum_by-cons char_width c cs,
+      untrusted-columns cs,
+    )
+
+norm-within : (room : ℕ) (rows : List (List ℕ)) → AreRowsWithin false room rows → AreRowsWithin false room (map norm rows)
+norm-within room rows within =
+    All-map (λ row. columns_of (letters_of false row) ≤ room) norm rows
+    (All-weaker (λ row. columns_of (letters_of false row) ≤ room) (λ row. columns_of (letters_of false (norm row)) ≤ room)
+    (λ row least. omega (arith, untrusted-columns (norm row), untrusted-columns row, width_of-norm row, least)) rows within)
+
+drawn-within : (room : ℕ) (trusted : Bool) (cs : List ℕ) → AreWithin room (lines_in (letters_of trusted cs))
+    → AreRowsWithin trusted room (lines_of (if trusted then cs else norm cs))
+drawn-within room true cs within = rows-within room true cs within
+drawn-within room false cs within = subst (AreRowsWithin false room) (sym (lines-norm cs)) (norm-within room (lines_of cs) (rows-within room false cs within))
+
+-- ---- rows
+
+-- a character that begins no code
+abbrev IsQuiet : ℕ → Type 0
+IsQuiet c = (c == 27) ≡ false
+
+quiet_either : (c : ℕ) (escape : Bool) → (c == 27) ≡ escape → IsUnlisted c → IsQuiet c
+quiet_either c false is free = is
+quiet_either c true is free =
+    let same : c ≡ 27 = grind (arith, nat_tests, is) in
+    absurd (false≢true (sym free ∙ ap is_listed same))
+
+quiet-free : (c : ℕ) → IsUnlisted c → IsQuiet c
+quiet-free c free = quiet_either c (c == 27) refl free
+
+quiet-width : (c : ℕ) (code : Bool) → letter_width (record { char = c; code = code }) ≤ char_width c
+quiet-width c true = omega arith
+quiet-width c false = omega arith
+
+-- what stands before a line takes no more columns than its characters
+before-trusted : (first line : List ℕ) → All IsQuiet first → columns_of (letters Outside (first ++ line)) ≤ width_of first + columns_of (letters Outside line)
+before-trusted [] line quiet = omega arith
+before-trusted (c ∷ first) line quiet =
+    let still : place_after Outside c ≡ Outside = ap (λ (b : Bool). if b then Escape else Outside) (All-head IsQuiet c first quiet) in
+    omega (
+      arith,
+      ap (λ (p : Place). columns_of (letter Outside c ∷ letters p (first ++ line))) still,
+      sum_by-cons letter_width (letter Outside c) (letters Outside (first ++ line)),
+      quiet-width c (is_code Outside c),
+      sum_by-cons char_width c first,
+      before-trusted first line (All-tail IsQuiet c first quiet),
+    )
+
+before-row : (trusted : Bool) (first line : List ℕ) → All IsQuiet first
+    → columns_of (letters_of trusted (first ++ line)) ≤ width_of first + columns_of (letters_of trusted line)
+before-row true first line quiet = before-trusted first line quiet
+before-row false first line quiet =
+    omega (arith, untrusted-columns (first ++ line), untrusted-columns line, sum_by-append char_width first line)
+
+-- rows that begin with so many columns at most
+further-within : (trusted : Bool) (further : List ℕ) (start room term_width : ℕ) → All IsQuiet further → width_of further ≤ start
+    → start + room ≤ term_width → (lines : List (List ℕ)) → AreRowsWithin trusted room lines
+    → AreRowsWithin trusted term_width (map (λ l. further ++ l) lines)
+further-within trusted further start room term_width quiet narrow fits lines within =
+    All-map (λ row. columns_of (letters_of trusted row) ≤ term_width) (λ l. further ++ l) lines
+    (All-weaker (λ row. columns_of (letters_of trusted row) ≤ room) (λ l. columns_of (letters_of trusted (further ++ l)) ≤ term_width)
+    (λ l least. omega (arith, before-row trusted further l quiet, narrow, fits, least)) lines within)
+
+texts-within : (trusted : Bool) (first further : List ℕ) (start room term_width : ℕ) → All IsQuiet first → All IsQuiet further → width_of first ≤ start
+    → width_of further ≤ start → start + room ≤ term_width → (lines : List (List ℕ)) → AreRowsWithin trusted room lines
+    → AreRowsWithin trusted term_width (texts_below first further lines)
+texts-within trusted first further start room term_width quiet still narrow below fits [] within =
+    All-nil (λ row. columns_of (letters_of trusted row) ≤ term_width)
+texts-within trusted first further start room term_width quiet still narrow below fits (line ∷ lines) within =
+    let least = All-head (λ row. columns_of (letters_of trusted row) ≤ room) line lines within in
+    All-cons (λ row. columns_of (letters_of trusted row) ≤ term_width) (first ++ line) (map (λ l. further ++ l) lines)
+    (omega (arith, before-row trusted first line quiet, narrow, fits, least))
+    (further-within trusted further start room term_width still below fits lines
+    (All-tail (λ row. columns_of (letters_of trusted row) ≤ room) line lines within))
 
 -- ---- titles and messages
 
+quiet-all : (cs : List ℕ) → list_any is_listed cs ≡ false → All IsQuiet cs
+quiet-all cs free = All-weaker IsUnlisted IsQuiet quiet-free cs (each_fails is_listed cs free)
+
+quiet-sign : (decor : DecorStyle) (followed : Bool) → All IsQuiet (note_sign_of decor followed)
+quiet-sign Ascii followed = quiet-all (note_sign_of Ascii followed) refl
+quiet-sign Unicode true = quiet-all (note_sign_of Unicode true) refl
+quiet-sign Unicode false = quiet-all (note_sign_of Unicode false) refl
+
 -- the rows of a title are no wider than the terminal where its lines have room
 pub title-within : (term_width : ℕ) (heading : Heading) → label_width heading ≤ term_width
-    → AreWithin (term_width - label_width heading) (lines_in (chars heading.text)) → AreWithin term_width (heading_texts Title heading)
+    → AreWithin (term_width - label_width heading) (lines_in (letters_of heading.allows_styling (chars heading.text)))
+    → AreRowsWithin heading.allows_styling term_width (heading_texts Title heading)
 title-within term_width heading fits within =
     let width = label_width heading in
-    texts-within (heading_label_text heading) (row_text (replicate width SPACE)) width (term_width - width) term_width (omega arith)
+    texts-within heading.allows_styling (heading_label_text heading) (row_text (replicate width SPACE)) width (term_width - width) term_width
+    (label-all IsQuiet quiet-free heading) (indent-all IsQuiet quiet-free Title width) (omega arith)
     (omega (arith, ap width_of (row_text-spaces width), width-spaces width)) (omega (arith, fits)) (heading_lines heading)
     (drawn-within (term_width - width) heading.allows_styling (chars heading.text) within)
 
 -- and so are those of a message
 pub message-within : (term_width : ℕ) (place : MessageContext) (heading : Heading) → place.layout.gutter + 3 + label_width heading ≤ term_width
-    → AreWithin (term_width - (place.layout.gutter + 3 + label_width heading)) (lines_in (chars heading.text))
-    → AreWithin term_width (heading_texts (Message place) heading)
+    → AreWithin (term_width - (place.layout.gutter + 3 + label_width heading)) (lines_in (letters_of heading.allows_styling (chars heading.text)))
+    → AreRowsWithin heading.allows_styling term_width (heading_texts (Message place) heading)
 message-within term_width place heading fits within =
     let width = label_width heading in
     let start = place.layout.gutter + 3 + width in
-    texts-within (row_text (sign_cells (Message place)) ++ heading_label_text heading) (row_text (indent_cells (Message place) width)) start
-    (term_width - start) term_width
-    (omega (arith, sum_by-append char_width (row_text (sign_cells (Message place))) (heading_label_text heading), sign-width place))
-    (omega (arith, indent-width place width)) (omega (arith, fits)) (heading_lines heading)
+    let sign = row_text (sign_cells (Message place)) in
+    let signs : All IsQuiet sign = subst (All IsQuiet) (sym (sign-text place))
+    (All-append IsQuiet (replicate (separator_cell place.layout) 32) (note_sign_of place.layout.decor place.followed)
+    (All-replicate IsQuiet (separator_cell place.layout) 32 refl) (quiet-sign place.layout.decor place.followed)) in
+    texts-within heading.allows_styling (sign ++ heading_label_text heading) (row_text (indent_cells (Message place) width)) start
+    (term_width - start) term_width (All-append IsQuiet sign (heading_label_text heading) signs (label-all IsQuiet quiet-free heading))
+    (indent-all IsQuiet quiet-free (Message place) width)
+    (omega (arith, sum_by-append char_width sign (heading_label_text heading), sign-width place)) (omega (arith, indent-width place width))
+    (omega (arith, fits)) (heading_lines heading)
     (drawn-within (term_width - start) heading.allows_styling (chars heading.text) within)

@@ -2,10 +2,12 @@ pub mod LineFeedLemmas
 pub mod SpanLemmas
 pub mod KeptAround
 pub mod WithLemmas
-pub mod BreakLemmas
-pub mod DrawnLemmas
-pub mod EndLemmas
-pub mod FitLemmas
-pub mod JoinLemmas
+pub mod StepLemmas
+pub mod PlaceLemmas
 pub mod LawLemmas
+pub mod LineLemmas
+pub mod WordLemmas
+pub mod GreedyLemmas
+pub mod WrapLemmas
+pub mod DrawnLemmas
 pub mod ReportLemmas

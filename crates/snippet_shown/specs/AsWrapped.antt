@@ -1,5 +1,5 @@
 -- When a report is another with the texts of its titles and messages wrapped: what of the two differs, part by part.
-use Rattle.std.specs.Prelude.{◌≡◌, ℕ, ◌+◌, ◌-◌, chars, List}
+use Rattle.std.specs.Prelude.{◌≡◌, ℕ, ◌+◌, ◌-◌, Bool, true, chars, List}
 use Rattle.std.specs.List.{AllZip}
 use Rattle.std.specs.Cow.{cow_str_bytes}
 use Rattle.std.specs.declared.alloc.Global.{Global}
@@ -23,19 +23,20 @@ room_of_title term_width title = term_width - label_width (heading_of_title titl
 abbrev pub room_of_message : ℕ → ℕ → Message → ℕ
 room_of_message term_width gutter message = term_width - (gutter + 3 + label_width (heading_of_message message))
 
--- the second text is the first, wrapped in a room of so many columns
-abbrev pub IsTextWrapped : ℕ → CowStr Global → CowStr Global → Type 0
-IsTextWrapped room a b = chars (cow_str_bytes b) ≡ wrapped room (chars (cow_str_bytes a))
+-- the second text is the first, which is trusted or not, wrapped in a room of so many columns
+abbrev pub IsTextWrapped : ℕ → Bool → CowStr Global → CowStr Global → Type 0
+IsTextWrapped room trusted a b = chars (cow_str_bytes b) ≡ wrapped room trusted (chars (cow_str_bytes a))
 
 -- titles that differ in their texts alone, the second's wrapped
 abbrev pub IsTitleWrapped : ℕ → Title → Title → Type 0
 IsTitleWrapped term_width a b =
-    (b.level ≡ a.level) × (b.id ≡ a.id) × IsTextWrapped (room_of_title term_width a) a.text b.text × (b.allows_styling ≡ a.allows_styling)
+    (b.level ≡ a.level) × (b.id ≡ a.id) × IsTextWrapped (room_of_title term_width a) a.allows_styling a.text b.text
+    × (b.allows_styling ≡ a.allows_styling)
 
 -- messages that differ in their texts alone, the second's wrapped
 abbrev pub IsMessageWrapped : ℕ → ℕ → Message → Message → Type 0
 IsMessageWrapped term_width gutter a b =
-    (b.level ≡ a.level) × IsTextWrapped (room_of_message term_width gutter a) a.text b.text
+    (b.level ≡ a.level) × IsTextWrapped (room_of_message term_width gutter a) true a.text b.text
 
 -- elements: two messages, the second wrapped, or twice the same element
 abbrev pub IsElementWrapped : ℕ → ℕ → Element → Element → Type 0

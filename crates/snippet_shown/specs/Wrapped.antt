@@ -1,74 +1,101 @@
 -- Texts that are wrapped: broken into rows that are no wider than a room of so many columns.
-use Rattle.std.specs.Prelude.{◌≡◌, ℕ, zero, suc, ◌+◌, ◌-◌, ◌==◌, ◌&&◌, ◌||◌, nat_le, nat_lt, not, Bool, true, List, [], ◌∷◌, ◌++◌, Option, None, Some}
-use Rattle.std.specs.Prelude.{is_some, length, take, drop, unwrap_or, if◌then◌else◌}
-use Rattle.std.specs.List.{slice_index_or}
-use Rattle.std.specs.Option.{option_map}
-use Rattle.snippet_style.specs.Cell.{bytes_of}
+use Rattle.std.specs.Prelude.{ℕ, ◌+◌, ◌-◌, ◌&&◌, ◌||◌, nat_le, nat_lt, not, Bool, true, false, List, [], ◌∷◌, ◌++◌, Option, None, Some}
+use Rattle.std.specs.Prelude.{map, unwrap_or, if◌then◌else◌}
 use Rattle.snippet_text.specs.Width.{char_width}
-use Rattle.snippet_shown.specs.declared.wrap.row.Break.{Break}
-
--- a blank, at which a line may be broken: a space or a tab
-abbrev pub is_blank : ℕ → Bool
-is_blank c = (c == 32) || (c == 9)
-
--- how many of a text's first characters stand side by side in so many columns: those before a line feed, and before the first that has no
--- room
-abbrev pub fitting_on_row : ℕ → List ℕ → ℕ
-fitting_on_row room [] = 0
-fitting_on_row room (c ∷ cs) = if not (c == 10) && nat_le (char_width c) room then fitting_on_row (room - char_width c) cs + 1 else 0
-
--- how many characters stand before the last blank of some, if there is one
-abbrev pub last_blank : List ℕ → Option ℕ
-last_blank [] = None
-last_blank (c ∷ cs) =
-    if is_some (last_blank cs) then option_map (λ n. n + 1) (last_blank cs) else if is_blank c then Some 0 else None
-
--- the break at the character of this number, a line feed or a blank, which goes; and the one right before it
-abbrev pub gap_at : ℕ → Break
-gap_at n = record { end = n; next = n + 1 }
-
-abbrev pub seam_at : ℕ → Break
-seam_at n = record { end = n; next = n }
-
--- where a text is broken whose character of this number has no room: at the last blank up to there, or where there is none right before it
-abbrev pub break_before : Option ℕ → ℕ → Break
-break_before (Some blank) n = gap_at blank
-break_before None n = seam_at n
-
--- where the row ends with which a text begins of which so many characters fit: at a line feed that stands after these, and else before what
--- has no room
-abbrev pub break_after : ℕ → List ℕ → Break
-break_after n cs =
-    if slice_index_or cs n 0 == 10 then gap_at n else break_before (last_blank (take (n + 1) cs)) n
-
--- where the row ends with which a text begins in a room of so many columns; nowhere if all of the text is one row
-abbrev pub first_break : ℕ → List ℕ → Option Break
-first_break room cs = if fitting_on_row room cs == length cs then None else Some (break_after (fitting_on_row room cs) cs)
-
--- that row, and the text after it
-abbrev pub first_row : ℕ → List ℕ → Option (List ℕ × List ℕ)
-first_row room cs = option_map (λ at. (take at.end cs, drop at.next cs)) (first_break room cs)
-
--- the first break, in bytes, is the second, in characters
-abbrev pub IsBreakIn : List ℕ → Break → Break → Type 0
-IsBreakIn cs bytes at = (bytes.end ≡ bytes_of (take at.end cs)) × (bytes.next ≡ bytes_of (take at.next cs))
-
--- a text with a line feed after each row but the last, of at most so many rows more than one
-abbrev pub rows_joined : ℕ → ℕ → List ℕ → List ℕ
-rows_joined zero room cs = cs
-rows_joined (suc more) room cs = unwrap_or (option_map (λ p. p.0 ++ 10 ∷ rows_joined more room p.1) (first_row room cs)) cs
+use Rattle.snippet_shown.specs.Letters.{Letter, is_before_word, is_blank, is_feed, letter_width, letters_of}
+use Rattle.snippet_shown.specs.declared.wrap.row.Row.{Row}
+use Rattle.snippet_shown.specs.declared.wrap.row.Stage.{Stage}
+use Rattle.snippet_shown.specs.declared.wrap.row.Stage.TheVariants.{Indentation, Gap, Word}
+use Rattle.snippet_shown.specs.declared.wrap.row.Step.{Step}
 
 -- the columns of the widest character, a tab: in fewer nothing is broken
 abbrev pub least_room : ℕ
 least_room = 4
 
--- whether each line of a text is no wider than so many columns, the first than what is left of them
-abbrev pub lines_fit : ℕ → ℕ → List ℕ → Bool
-lines_fit room left [] = true
-lines_fit room left (c ∷ cs) =
-    if c == 10 then lines_fit room room cs else nat_le (char_width c) left && lines_fit room (left - char_width c) cs
+-- the columns of the first character of the next word of a line, if it has one more: that after its blanks and codes
+abbrev pub next_width : List Letter → Option ℕ
+next_width [] = None
+next_width (l ∷ ls) = if is_feed l then None else if is_before_word l then next_width ls else Some (char_width l.char)
 
--- the text that is shown in a room of so many columns: each row ends at a line feed, or before the last blank before which it fits, which
--- gives its place to a line feed, or where it has no blank before the first character that has no room
-abbrev pub wrapped : ℕ → List ℕ → List ℕ
-wrapped room cs = if nat_lt room least_room then cs else rows_joined (length cs) room cs
+-- whether what is ahead ends at a character: at the end of a line, or at a blank after a word has begun; and whether one has, after it
+abbrev pub ends_ahead : Bool → Letter → Bool
+ends_ahead inside l = is_feed l || inside && is_blank l
+
+abbrev pub inside_after : Bool → Letter → Bool
+inside_after inside l = inside || not (is_before_word l)
+
+-- the columns of what is ahead in a line: of its blanks up to a word, and of that; of the rest of the word where one has begun
+abbrev pub columns_ahead : Bool → List Letter → ℕ
+columns_ahead inside [] = 0
+columns_ahead inside (l ∷ ls) = if ends_ahead inside l then 0 else letter_width l + columns_ahead (inside_after inside l) ls
+
+-- a row before its first word, with columns left for blanks beside the first character of the next word, where there is one
+abbrev pub row_start : ℕ → List Letter → Row
+row_start room ls = record { stage = Indentation; left = room - unwrap_or (next_width ls) 0 }
+
+-- a character that is shown, one that isn't, one that stands on a row of its own, and a blank that gives its place to the end of a row
+abbrev pub kept : Row → Step
+kept row = record { breaks = false; keeps = true; row = row }
+
+abbrev pub dropped : Row → Step
+dropped row = record { breaks = false; keeps = false; row = row }
+
+abbrev pub begins : Row → Step
+begins row = record { breaks = true; keeps = true; row = row }
+
+-- the end of a row at a blank, where a line goes on with a character of so many columns, or where it doesn't: no row is begun for blanks
+abbrev pub ended : ℕ → Option ℕ → Step
+ended room None = dropped (record { stage = Gap; left = 0 })
+ended room (Some width) = record { breaks = true; keeps = false; row = record { stage = Gap; left = room - width } }
+
+-- a blank of so many columns: an indentation is cut so that the first character of its word has room beside it, after the end of a row blanks
+-- go with the one that ended it, and after a word the row ends where the blanks and the next word have no room
+abbrev pub at_blank : ℕ → Stage → ℕ → ℕ → List Letter → Step
+at_blank room Indentation left width ls =
+    if nat_le width left then kept (record { stage = Indentation; left = left - width }) else dropped (record { stage = Indentation; left = left })
+at_blank room Gap left width ls = dropped (record { stage = Gap; left = left })
+at_blank room Word left width ls =
+    if nat_le (width + columns_ahead false ls) left then kept (record { stage = Word; left = left - width }) else ended room (next_width ls)
+
+-- a character of a word of so many columns: the first of a row has room, any other stands on the next row where it has none
+abbrev pub in_word : ℕ → Stage → ℕ → ℕ → Step
+in_word room Word left width =
+    if nat_le width left then kept (record { stage = Word; left = left - width }) else begins (record { stage = Word; left = room - width })
+in_word room other left width = kept (record { stage = Word; left = left })
+
+-- a character in a row, before others. Codes are shown where they stand
+abbrev pub step : ℕ → Row → Letter → List Letter → Step
+step room row l ls =
+    if is_feed l then kept (row_start room ls)
+    else if l.code then kept row
+    else if is_blank l then at_blank room row.stage row.left (char_width l.char) ls
+    else in_word room row.stage row.left (char_width l.char)
+
+-- what is shown of a character
+abbrev pub feed : Letter
+feed = record { char = 10; code = false }
+
+abbrev pub shown_by : Bool → Bool → Letter → List Letter
+shown_by breaks keeps l = (if breaks then feed ∷ [] else []) ++ (if keeps then l ∷ [] else [])
+
+abbrev pub shown_at : Step → Letter → List Letter
+shown_at s l = shown_by s.breaks s.keeps l
+
+-- what is shown of the rest of a text that goes on in this row
+abbrev pub rows : ℕ → Row → List Letter → List Letter
+rows room row [] = []
+rows room row (l ∷ ls) = shown_at (step room row l ls) l ++ rows room (step room row l ls).row ls
+
+-- the characters that are shown of a text in a room of so many columns
+abbrev pub shown_letters : ℕ → List Letter → List Letter
+shown_letters room ls = if nat_lt room least_room then ls else rows room (row_start room ls) ls
+
+-- whether each line of a text is no wider than so many columns, the first than what is left of them
+abbrev pub lines_fit : ℕ → ℕ → List Letter → Bool
+lines_fit room left [] = true
+lines_fit room left (l ∷ ls) =
+    if is_feed l then lines_fit room room ls else nat_le (letter_width l) left && lines_fit room (left - letter_width l) ls
+
+-- the text that is shown in place of one that is trusted or not
+abbrev pub wrapped : ℕ → Bool → List ℕ → List ℕ
+wrapped room trusted cs = map (λ l. l.char) (shown_letters room (letters_of trusted cs))

@@ -1,5 +1,6 @@
 //! Texts of titles and messages that are broken into rows no wider than the terminal.
 
+mod code;
 mod groups;
 mod room;
 mod row;

@@ -24,7 +24,7 @@ fn title_wrapped<'a>(
     Ok(Title {
         level: title.level,
         id: title.id,
-        text: wrapped(alloc, room, title.text)?,
+        text: wrapped(alloc, room, title.allows_styling, title.text)?,
         allows_styling: title.allows_styling,
     })
 }
@@ -58,7 +58,7 @@ fn message_wrapped<'a>(
     let room = room_of_message(term_width, gutter, &message);
     Ok(Message {
         level: message.level,
-        text: wrapped(alloc, room, message.text)?,
+        text: wrapped(alloc, room, true, message.text)?,
     })
 }
 

@@ -1,73 +1,235 @@
-//! The row with which a text begins.
-ghost use Rattle.std.specs.Prelude.{◌≡◌, ◌<◌, ◌+◌, ◌^◌, None, Some, MatchOption, IfSome, IsSomeAnd, chars};
-ghost use Rattle.std.specs.Str.{IsUtf8};
+//! What is shown of a character, by the row in which it stands and by what follows it.
+ghost use Rattle.std.specs.Prelude.{◌≡◌, [], chars, false, nat_le};
+ghost use Rattle.snippet_shown.specs.Letters.{letter, letters, place_after};
 ghost use Rattle.snippet_shown.specs.Wrapped as spec;
+ghost use Rattle.snippet_shown.specs.declared.wrap.row.Stage.TheVariants.{Indentation, Word};
 
+use crate::wrap::code::{Place, is_before_word, is_blank, is_code, letter_width, place_after};
 use snippet_text::char_width;
 
-/// Where a row of a text ends, and where the next one begins, in bytes from the text's start. Between the two stands
-/// the line feed or blank at which the text is broken, if any.
+/// What a row has so far.
 #[derive(Clone, Copy)]
-pub(crate) struct Break {
-    /// Where the row ends.
-    pub end: usize,
-    /// Where the next one begins.
-    pub next: usize,
+pub(crate) enum Stage {
+    /// The indentation of its line, or nothing.
+    Indentation,
+    /// Nothing: it was begun at a blank, with which those go that follow.
+    Gap,
+    /// Part of a word at least.
+    Word,
 }
 
-/// The row with which a text begins, in a room of so many columns, and the text after it; none where the row is all of
-/// the text.
-pub(crate) fn first_row(room: usize, text: &str) -> Option<(&str, &str)>
-    ensures value { MatchOption result (spec.first_row room (chars text.now) ≡ None)
-        (λ p. spec.first_row room (chars text.now) ≡ Some (chars p.0.now, chars p.1.now)) }
-    ensures text { IfSome result (λ p. IsUtf8 p.0.now × IsUtf8 p.1.now) }
-{
-    match first_break(room, text) {
-        Some(at) => Some((&text[..at.end], &text[at.next..])),
-        None => None,
-    }
+/// A row as far as it is shown.
+#[derive(Clone, Copy)]
+pub(crate) struct Row {
+    /// What it has so far.
+    pub stage: Stage,
+    /// The columns that are left, before its first word beside the first character of that.
+    pub left: usize,
 }
 
-/// Where the row ends with which a text begins: at the first line feed, if what stands before that fits; else at the
-/// last blank before which the text fits, or where there is none before the first character that doesn't fit.
-fn first_break(room: usize, text: &str) -> Option<Break>
-    ensures value { MatchOption result (spec.first_break room (chars text.now) ≡ None)
-        (λ at. IsSomeAnd (spec.first_break room (chars text.now)) (spec.IsBreakIn (chars text.now) at)) }
+/// What is shown of a character.
+#[derive(Clone, Copy)]
+pub(crate) struct Step {
+    /// Whether a new row begins at it.
+    pub breaks: bool,
+    /// Whether it is shown itself.
+    pub keeps: bool,
+    /// The row after it.
+    pub row: Row,
+}
+
+/// The columns of the first character of the next word of a line, if it has one more.
+fn next_width(place: Place, rest: &str) -> Option<usize>
+    ensures value { result ≡ spec.next_width (letters place (chars rest.now)) }
 {
-    let mut left = room;
-    let mut at = 0;
-    let mut blank = None;
-    for c in text.chars() {
+    let mut place = place;
+    for c in rest.chars() {
         if c == '\n' {
-            return Some(gap_at(at));
+            return None;
         }
-        if is_blank(c) {
-            blank = Some(gap_at(at));
+        if !is_before_word(place, c) {
+            return Some(char_width(c));
         }
-        let width = char_width(c);
-        if width > left {
-            return Some(blank.unwrap_or(Break { end: at, next: at }));
-        }
-        left -= width;
-        at += c.len_utf8();
+        place = place_after(place, c);
     }
     None
 }
 
-/// The break at a line feed or a blank, which goes.
-fn gap_at(at: usize) -> Break
-    requires small { at + 1 < 2 ^ 64 }
-    ensures value { result ≡ spec.gap_at at }
+/// Whether there is room for the blanks with which the rest of a line begins, and for the word after them.
+fn has_room(left: usize, place: Place, rest: &str) -> bool
+    ensures value { result ≡ nat_le (spec.columns_ahead false (letters place (chars rest.now))) left }
 {
-    Break {
-        end: at,
-        next: at + 1,
+    let mut left = left;
+    let mut place = place;
+    let mut inside = false;
+    for c in rest.chars() {
+        if ends_ahead(inside, place, c) {
+            return true;
+        }
+        let width = letter_width(place, c);
+        if left < width {
+            return false;
+        }
+        left -= width;
+        inside = inside_after(inside, place, c);
+        place = place_after(place, c);
+    }
+    true
+}
+
+/// Whether what is ahead ends at a character: at the end of a line, or at a blank after a word has begun.
+fn ends_ahead(inside: bool, place: Place, c: char) -> bool
+    ensures value { result ≡ spec.ends_ahead inside (letter place c) }
+{
+    c == '\n' || (inside && is_blank(place, c))
+}
+
+/// Whether a word has begun after a character.
+fn inside_after(inside: bool, place: Place, c: char) -> bool
+    ensures value { result ≡ spec.inside_after inside (letter place c) }
+{
+    inside || !is_before_word(place, c)
+}
+
+/// A row at the start of a line.
+pub(crate) fn row_start(room: usize, place: Place, rest: &str) -> Row
+    ensures value { result ≡ spec.row_start room (letters place (chars rest.now)) }
+{
+    Row {
+        stage: Stage::Indentation,
+        left: room.saturating_sub(next_width(place, rest).unwrap_or(0)),
     }
 }
 
-/// Whether a line may be broken at a character: at a space or a tab.
-fn is_blank(c: char) -> bool
-    ensures value { result ≡ spec.is_blank c }
+/// What is shown of a character that stands in this row at this place, before the rest of a text.
+pub(crate) fn step_at(room: usize, row: Row, place: Place, c: char, rest: &str) -> Step
+    ensures value { result ≡ spec.step room row (letter place c) (letters (place_after place c) (chars rest.now)) }
 {
-    c == ' ' || c == '\t'
+    let after = place_after(place, c);
+    if c == '\n' {
+        kept(row_start(room, after, rest))
+    } else if is_code(place, c) {
+        kept(row)
+    } else if is_blank(place, c) {
+        at_blank(room, row, char_width(c), after, rest)
+    } else {
+        in_word(room, row, char_width(c))
+    }
+}
+
+/// A blank of so many columns: an indentation is cut so that the first character of its word has room beside it, after
+/// the end of a row blanks go with the one that ended it, and after a word the row ends where the blanks and the next
+/// word have no room.
+fn at_blank(room: usize, row: Row, width: usize, after: Place, rest: &str) -> Step
+    ensures value { result ≡ spec.at_blank room row.stage row.left width (letters after (chars rest.now)) }
+{
+    match row.stage {
+        Stage::Indentation => in_indentation(row.left, width),
+        Stage::Gap => dropped(row),
+        Stage::Word => after_word(room, row.left, width, after, rest),
+    }
+}
+
+/// A blank of so many columns in an indentation, with so many columns left.
+fn in_indentation(left: usize, width: usize) -> Step
+    ensures value { result ≡ spec.at_blank 0 Indentation left width [] }
+{
+    if width <= left {
+        kept(Row {
+            stage: Stage::Indentation,
+            left: left - width,
+        })
+    } else {
+        dropped(Row {
+            stage: Stage::Indentation,
+            left,
+        })
+    }
+}
+
+/// A blank of so many columns after a word, with so many columns left.
+fn after_word(room: usize, left: usize, width: usize, after: Place, rest: &str) -> Step
+    ensures value { result ≡ spec.at_blank room Word left width (letters after (chars rest.now)) }
+{
+    if width <= left && has_room(left - width, after, rest) {
+        kept(Row {
+            stage: Stage::Word,
+            left: left - width,
+        })
+    } else {
+        ended(room, next_width(after, rest))
+    }
+}
+
+/// The end of a row at a blank, where the line goes on with a character of so many columns, or where it doesn't: no row
+/// is begun for blanks.
+fn ended(room: usize, next: Option<usize>) -> Step
+    ensures value { result ≡ spec.ended room next }
+{
+    match next {
+        Some(width) => Step {
+            breaks: true,
+            keeps: false,
+            row: Row {
+                stage: Stage::Gap,
+                left: room.saturating_sub(width),
+            },
+        },
+        None => dropped(Row {
+            stage: Stage::Gap,
+            left: 0,
+        }),
+    }
+}
+
+/// A character of a word, of so many columns: the first of a row has room, any other stands on the next row where it
+/// has none.
+fn in_word(room: usize, row: Row, width: usize) -> Step
+    ensures value { result ≡ spec.in_word room row.stage row.left width }
+{
+    match row.stage {
+        Stage::Word => within_word(room, row.left, width),
+        _ => kept(Row {
+            stage: Stage::Word,
+            left: row.left,
+        }),
+    }
+}
+
+/// A character of a word, of so many columns, after another one of it.
+fn within_word(room: usize, left: usize, width: usize) -> Step
+    ensures value { result ≡ spec.in_word room Word left width }
+{
+    let begins = left < width;
+    let columns = if begins { room } else { left };
+    Step {
+        breaks: begins,
+        keeps: true,
+        row: Row {
+            stage: Stage::Word,
+            left: columns.saturating_sub(width),
+        },
+    }
+}
+
+/// A character that is shown.
+fn kept(row: Row) -> Step
+    ensures value { result ≡ spec.kept row }
+{
+    Step {
+        breaks: false,
+        keeps: true,
+        row,
+    }
+}
+
+/// A character that isn't shown.
+fn dropped(row: Row) -> Step
+    ensures value { result ≡ spec.dropped row }
+{
+    Step {
+        breaks: false,
+        keeps: false,
+        row,
+    }
 }

@@ -1,6 +1,5 @@
-use Rattle.std.proofs.Common.{◌∙◌, sym}
 use Rattle.std.proofs.lemmas.Str.{IsUtf8-past_char, chars_past_char}
-use Rattle.snippet_shown.proofs.FitLemmas.{fit-end, fit-more, fit-none}
+use Rattle.snippet_shown.proofs.StepLemmas.{fit-end, fit-more, fit-none}
 use Rattle.snippet_shown.proofs.wrap.text.fits.Goals as goal
 
 pub returns-in_default : goal.returns-in_default
@@ -8,8 +7,8 @@ returns-in_default c =
     let step = rw c.in-Some.is at c.next.ensures.steps in
     let cons = chars_past_char _ _ c.in-Some.c c.loop-c.invariant.utf8 step.0 in
     record {
-      value = sym (fit-none c.args.room c.loop-c.left c.in-Some.c _ _ cons c.left_after.result c.in_default.is c.left_after.ensures.value)
-          ∙ c.loop-c.invariant.same;
+      value = fit-none c.args.room c.loop-c.left c.in-Some.c c.loop-c.place _ _ _ cons c.left_after.result c.in_default.is c.left_after.ensures.value
+          c.loop-c.invariant.same;
     }
 
 pub loop-c-preserved : goal.loop-c-preserved
@@ -17,12 +16,12 @@ loop-c-preserved c =
     let step = rw c.in-Some.is at c.next.ensures.steps in
     let cons = chars_past_char _ _ c.in-Some.c c.loop-c.invariant.utf8 step.0 in
     record {
-      same = fit-more c.args.room c.loop-c.left c.in-Some-left_after.after c.in-Some.c _ _ cons c.left_after.result c.in-Some-left_after.is
-          c.left_after.ensures.value ∙ c.loop-c.invariant.same;
+      same = fit-more c.args.room c.loop-c.left c.in-Some-left_after.after c.in-Some.c c.loop-c.place c.place_after-place.result _ _ _ cons
+          c.left_after.result c.in-Some-left_after.is c.left_after.ensures.value c.place_after-place.ensures.value c.loop-c.invariant.same;
       utf8 = IsUtf8-past_char _ _ c.in-Some.c c.loop-c.invariant.utf8 step.0;
     }
 
 pub returns : goal.returns
 returns c =
     let step = rw c.in-None.is at c.next.ensures.steps in
-    record { value = fit-end c.args.room c.loop-c.left c.loop-c.c-iterator.rest.now _ step.0.0 c.loop-c.invariant.same }
+    record { value = fit-end c.args.room c.loop-c.left c.loop-c.place c.loop-c.c-iterator.rest.now _ step.0.0 c.loop-c.invariant.same }

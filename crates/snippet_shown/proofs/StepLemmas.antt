@@ -1,0 +1,211 @@
+-- What is ahead in a line, and what is shown, found character by character.
+use Rattle.std.proofs.Common.{◌≡◌, ℕ, ◌+◌, ◌-◌, ◌<◌, ◌≤◌, ◌==◌, ◌&&◌, nat_le, Bool, true, false, List, [], ◌∷◌, ◌++◌, Option, None, Some}
+use Rattle.std.proofs.Common.{length, map}
+use Rattle.std.proofs.Common.{refl, sym, ap, ◌∙◌, arith, chars, encode_utf8_all, unwrap_or}
+use Rattle.std.specs.Option.{option_map}
+use Rattle.std.specs.Str.{IsUtf8}
+use Rattle.std.proofs.lemmas.Bool.{eqb-true, false≢true}
+use Rattle.std.proofs.lemmas.Bool.Decides.{nat_tests}
+use Rattle.std.proofs.lemmas.List.{append-nil, append_assoc, nil_from_length}
+use Rattle.std.proofs.lemmas.Str.{chars-nil, chars_from_encodes, encodes-append}
+use Rattle.snippet_text.specs.Width.{char_width}
+use Rattle.snippet_shown.specs.Letters.{Letter, is_before_word, is_feed, letter, letter_width, letters, place_after}
+use Rattle.snippet_shown.specs.Wrapped.{columns_ahead, ends_ahead, inside_after, lines_fit, next_width, rows, shown_at, step}
+use Rattle.snippet_shown.specs.declared.wrap.code.Place.{Place}
+use Rattle.snippet_shown.specs.declared.wrap.row.Row.{Row}
+use Rattle.snippet_shown.specs.declared.wrap.row.Step.{Step}
+
+-- a character that is no line feed
+like_either : (c : ℕ) (feed : Bool) → (c == 10) ≡ feed → (c ≡ 10 → ⊥) → (c == 10) ≡ false
+like_either c true is other = absurd (other (eqb-true c 10 is))
+like_either c false is other = is
+
+pub no_feed : (c : ℕ) → (c ≡ 10 → ⊥) → (c == 10) ≡ false
+no_feed c other = like_either c (c == 10) refl other
+
+pub a_feed : (c : ℕ) → c ≡ 10 → (c == 10) ≡ true
+a_feed c is = ap (λ (d : ℕ). d == 10) is
+
+-- ---- the next word
+
+pub next-feed : (place : Place) (c : ℕ) (cs : List ℕ) → c ≡ 10 → next_width (letters place (c ∷ cs)) ≡ None
+next-feed place c cs is = let e = a_feed c is in rw e refl
+
+pub next-word : (place : Place) (c : ℕ) (cs : List ℕ) → (c ≡ 10 → ⊥) → is_before_word (letter place c) ≡ false
+    → next_width (letters place (c ∷ cs)) ≡ Some (char_width c)
+next-word place c cs other word = let e = no_feed c other in rw (e, word) refl
+
+pub next-on : (place : Place) (c : ℕ) (cs : List ℕ) → (c ≡ 10 → ⊥) → is_before_word (letter place c) ≡ true
+    → next_width (letters place (c ∷ cs)) ≡ next_width (letters (place_after place c) cs)
+next-on place c cs other before = let e = no_feed c other in rw (e, before) refl
+
+-- ---- the columns ahead
+
+pub ahead-end : (inside : Bool) (place : Place) (left c : ℕ) (cs : List ℕ) → ends_ahead inside (letter place c) ≡ true
+    → nat_le (columns_ahead inside (letters place (c ∷ cs))) left ≡ true
+ahead-end inside place left c cs ends = rw ends (grind (arith, nat_tests))
+
+ahead-more : (inside : Bool) (place : Place) (c : ℕ) (cs : List ℕ) → ends_ahead inside (letter place c) ≡ false
+    → columns_ahead inside (letters place (c ∷ cs))
+    ≡ letter_width (letter place c) + columns_ahead (inside_after inside (letter place c)) (letters (place_after place c) cs)
+ahead-more inside place c cs on = rw on refl
+
+pub ahead-wide : (inside : Bool) (place : Place) (left c w : ℕ) (cs : List ℕ) → ends_ahead inside (letter place c) ≡ false
+    → w ≡ letter_width (letter place c) → left < w → nat_le (columns_ahead inside (letters place (c ∷ cs))) left ≡ false
+ahead-wide inside place left c w cs on is wide =
+    let more = ahead-more inside place c cs on in
+    grind (arith, nat_tests, more, is, wide)
+
+le_less : (w more left : ℕ) → w ≤ left → nat_le (w + more) left ≡ nat_le more (left - w)
+le_less w more left fits = grind (arith, nat_tests, fits)
+
+pub ahead-next : (inside : Bool) (place : Place) (left c w : ℕ) (cs : List ℕ) → ends_ahead inside (letter place c) ≡ false
+    → w ≡ letter_width (letter place c) → w ≤ left
+    → nat_le (columns_ahead (inside_after inside (letter place c)) (letters (place_after place c) cs)) (left - w)
+    ≡ nat_le (columns_ahead inside (letters place (c ∷ cs))) left
+ahead-next inside place left c w cs on is fits =
+    let more = columns_ahead (inside_after inside (letter place c)) (letters (place_after place c) cs) in
+    sym (ap (λ (n : ℕ). nat_le n left) (ahead-more inside place c cs on ∙ ap (λ (n : ℕ). n + more) (sym is)) ∙ le_less w more left fits)
+
+-- ---- lines that fit
+
+pub lines_fit-feed : (room left : ℕ) (l : Letter) (ls : List Letter) → is_feed l ≡ true → lines_fit room left (l ∷ ls) ≡ lines_fit room room ls
+lines_fit-feed room left l ls feed = rw feed refl
+
+pub lines_fit-next : (room left : ℕ) (l : Letter) (ls : List Letter) → is_feed l ≡ false → letter_width l ≤ left
+    → lines_fit room left (l ∷ ls) ≡ lines_fit room (left - letter_width l) ls
+lines_fit-next room left l ls other fits =
+    let fit : nat_le (letter_width l) left ≡ true = grind (arith, nat_tests, fits) in
+    rw (other, fit) refl
+
+fit_parts : (wide rest : Bool) → (wide && rest) ≡ true → (wide ≡ true) × (rest ≡ true)
+fit_parts true rest is = (refl, is)
+fit_parts false rest is = absurd (false≢true is)
+
+-- where a line fits, so does its first character, and the others beside it
+pub fit-rest : (room left : ℕ) (l : Letter) (ls : List Letter) → is_feed l ≡ false → lines_fit room left (l ∷ ls) ≡ true
+    → (letter_width l ≤ left) × (lines_fit room (left - letter_width l) ls ≡ true)
+fit-rest room left l ls other all =
+    let both = fit_parts (nat_le (letter_width l) left) (lines_fit room (left - letter_width l) ls) (rw other at all) in
+    let fit : letter_width l ≤ left = grind (arith, nat_tests, both.0) in
+    (fit, both.1)
+
+-- ---- what is shown
+
+abbrev pub spelled : List Letter → List ℕ
+spelled ls = map (λ l. l.char) ls
+
+pub spelled-append : (xs ys : List Letter) → spelled (xs ++ ys) ≡ spelled xs ++ spelled ys
+spelled-append [] ys = refl
+spelled-append (x ∷ xs) ys = ap (λ (t : List ℕ). x.char ∷ t) (spelled-append xs ys)
+
+-- what is written so far, with what is shown of the rest, is all
+pub record Writes (room : ℕ) (row : Row) (place : Place) (written rest all : List ℕ) : Type 0 where
+  pub is : written ++ encode_utf8_all (spelled (rows room row (letters place (chars rest)))) ≡ encode_utf8_all all
+
+-- one character more
+abbrev Goes : ℕ → Place → Letter → List ℕ → Step → List ℕ
+Goes room after l cs s = encode_utf8_all (spelled (shown_at s l)) ++ encode_utf8_all (spelled (rows room s.row (letters after cs)))
+
+pub Writes-next : (room : ℕ) (row : Row) (place after : Place) (s : Step) (written new rest later text all : List ℕ) (c : ℕ) → chars rest ≡ c ∷ chars later
+    → text ≡ later → s ≡ step room row (letter place c) (letters (place_after place c) (chars text)) → after ≡ place_after place c
+    → new ≡ written ++ encode_utf8_all (spelled (shown_at s (letter place c))) → Writes room row place written rest all
+    → Writes room s.row after new later all
+Writes-next room row place after s written new rest later text all c cons same is p more so_far =
+    let l = letter place c in
+    let ls = letters (place_after place c) (chars later) in
+    let s0 = step room row l ls in
+    let e : s ≡ s0 = is ∙ ap (λ (t : List ℕ). step room row l (letters (place_after place c) (chars t))) same in
+    let first = encode_utf8_all (spelled (shown_at s l)) in
+    let others = encode_utf8_all (spelled (rows room s.row (letters after (chars later)))) in
+    let both : encode_utf8_all (spelled (rows room row (letters place (chars rest)))) ≡ first ++ others =
+    ap (λ (cs : List ℕ). encode_utf8_all (spelled (rows room row (letters place cs)))) cons
+    ∙ ap encode_utf8_all (spelled-append (shown_at s0 l) (rows room s0.row ls))
+    ∙ encodes-append (spelled (shown_at s0 l)) (spelled (rows room s0.row ls)) ∙ ap (Goes room (place_after place c) l (chars later)) (sym e)
+    ∙ ap (λ (q : Place). Goes room q l (chars later) s) (sym p) in
+    record {
+      is = ap (λ (t : List ℕ). t ++ others) more ∙ append_assoc written first others ∙ ap (λ (t : List ℕ). written ++ t) (sym both) ∙ so_far.is;
+    }
+
+-- and no more
+pub Writes-all : (room : ℕ) (row : Row) (place : Place) (written rest all : List ℕ) → length rest ≡ 0 → IsUtf8 written
+    → Writes room row place written rest all → chars written ≡ all
+Writes-all room row place written rest all none utf8 so_far =
+    let nothing : chars rest ≡ [] = ap chars (nil_from_length rest none) ∙ chars-nil in
+    let end : written ≡ encode_utf8_all all =
+    sym (append-nil written)
+    ∙ sym (ap (λ (cs : List ℕ). written ++ encode_utf8_all (spelled (rows room row (letters place cs)))) nothing) ∙ so_far.is in
+    sym (chars_from_encodes all written utf8 (sym end))
+
+-- ---- one character more, found in a text
+
+pub next-found : (place : Place) (all rest : List ℕ) (c : ℕ) (whole : Option ℕ) → all ≡ c ∷ rest → (c ≡ 10 → ⊥) → is_before_word (letter place c) ≡ false
+    → next_width (letters place all) ≡ whole → Some (char_width c) ≡ whole
+next-found place all rest c whole cons other word same =
+    sym (next-word place c rest other word) ∙ ap (λ (cs : List ℕ). next_width (letters place cs)) (sym cons) ∙ same
+
+pub next-none : (place : Place) (all rest : List ℕ) (c : ℕ) (whole : Option ℕ) → all ≡ c ∷ rest → c ≡ 10 → next_width (letters place all) ≡ whole
+    → None ≡ whole
+next-none place all rest c whole cons feed same =
+    sym (next-feed place c rest feed) ∙ ap (λ (cs : List ℕ). next_width (letters place cs)) (sym cons) ∙ same
+
+pub next-more : (place after : Place) (all rest : List ℕ) (c : ℕ) (whole : Option ℕ) → all ≡ c ∷ rest → (c ≡ 10 → ⊥)
+    → is_before_word (letter place c) ≡ true → after ≡ place_after place c → next_width (letters place all) ≡ whole
+    → next_width (letters after rest) ≡ whole
+next-more place after all rest c whole cons other before is same =
+    ap (λ (p : Place). next_width (letters p rest)) is ∙ sym (next-on place c rest other before)
+    ∙ ap (λ (cs : List ℕ). next_width (letters place cs)) (sym cons) ∙ same
+
+pub next-end : (place : Place) (rest : List ℕ) (whole : Option ℕ) → length rest ≡ 0 → next_width (letters place (chars rest)) ≡ whole → None ≡ whole
+next-end place rest whole none same =
+    ap (λ (cs : List ℕ). next_width (letters place cs)) (sym (ap chars (nil_from_length rest none) ∙ chars-nil)) ∙ same
+
+abbrev Has : Bool → Place → ℕ → List ℕ → Bool
+Has inside place left cs = nat_le (columns_ahead inside (letters place cs)) left
+
+pub ahead-ends : (inside : Bool) (place : Place) (left c : ℕ) (all rest : List ℕ) (whole : Bool) → all ≡ c ∷ rest
+    → ends_ahead inside (letter place c) ≡ true → Has inside place left all ≡ whole → true ≡ whole
+ahead-ends inside place left c all rest whole cons ends same =
+    sym (ahead-end inside place left c rest ends) ∙ ap (λ (cs : List ℕ). Has inside place left cs) (sym cons) ∙ same
+
+pub ahead-none : (inside : Bool) (place : Place) (left c w : ℕ) (all rest : List ℕ) (whole : Bool) → all ≡ c ∷ rest
+    → ends_ahead inside (letter place c) ≡ false → w ≡ letter_width (letter place c) → left < w → Has inside place left all ≡ whole → false ≡ whole
+ahead-none inside place left c w all rest whole cons on is wide same =
+    sym (ahead-wide inside place left c w rest on is wide) ∙ ap (λ (cs : List ℕ). Has inside place left cs) (sym cons) ∙ same
+
+pub ahead-goes : (inside more : Bool) (place after : Place) (left c w : ℕ) (all rest : List ℕ) (whole : Bool) → all ≡ c ∷ rest
+    → ends_ahead inside (letter place c) ≡ false → w ≡ letter_width (letter place c) → w ≤ left → more ≡ inside_after inside (letter place c)
+    → after ≡ place_after place c → Has inside place left all ≡ whole → Has more after (left - w) rest ≡ whole
+ahead-goes inside more place after left c w all rest whole cons on is fits m p same =
+    ap (λ (b : Bool). Has b after (left - w) rest) m ∙ ap (λ (q : Place). Has (inside_after inside (letter place c)) q (left - w) rest) p
+    ∙ ahead-next inside place left c w rest on is fits ∙ ap (λ (cs : List ℕ). Has inside place left cs) (sym cons) ∙ same
+
+pub ahead-all : (inside : Bool) (place : Place) (left : ℕ) (rest : List ℕ) (whole : Bool) → length rest ≡ 0
+    → Has inside place left (chars rest) ≡ whole → true ≡ whole
+ahead-all inside place left rest whole none same =
+    let zero_fits : nat_le 0 left ≡ true = grind (arith, nat_tests) in
+    sym zero_fits ∙ ap (λ (cs : List ℕ). Has inside place left cs) (sym (ap chars (nil_from_length rest none) ∙ chars-nil)) ∙ same
+
+abbrev After : ℕ → Place → List ℕ → Option ℕ → Bool
+After room place cs found = unwrap_or (option_map (λ n. lines_fit room n (letters place cs)) found) false
+
+-- lines that fit
+pub fit-more : (room left later c : ℕ) (place after : Place) (all rest : List ℕ) (whole : Bool) → all ≡ c ∷ rest → (result : Option ℕ)
+    → result ≡ Some later
+    → ((ls : List Letter) → lines_fit room left (letter place c ∷ ls) ≡ unwrap_or (option_map (λ n. lines_fit room n ls) result) false)
+    → after ≡ place_after place c → lines_fit room left (letters place all) ≡ whole → lines_fit room later (letters after rest) ≡ whole
+fit-more room left later c place after all rest whole cons result is decides p same =
+    ap (λ (q : Place). lines_fit room later (letters q rest)) p ∙ ap (After room (place_after place c) rest) (sym is)
+    ∙ sym (decides (letters (place_after place c) rest)) ∙ ap (λ (cs : List ℕ). lines_fit room left (letters place cs)) (sym cons) ∙ same
+
+pub fit-none : (room left c : ℕ) (place : Place) (all rest : List ℕ) (whole : Bool) → all ≡ c ∷ rest → (result : Option ℕ) → result ≡ None
+    → ((ls : List Letter) → lines_fit room left (letter place c ∷ ls) ≡ unwrap_or (option_map (λ n. lines_fit room n ls) result) false)
+    → lines_fit room left (letters place all) ≡ whole → false ≡ whole
+fit-none room left c place all rest whole cons result is decides same =
+    ap (After room (place_after place c) rest) (sym is) ∙ sym (decides (letters (place_after place c) rest))
+    ∙ ap (λ (cs : List ℕ). lines_fit room left (letters place cs)) (sym cons) ∙ same
+
+pub fit-end : (room left : ℕ) (place : Place) (rest : List ℕ) (whole : Bool) → length rest ≡ 0 → lines_fit room left (letters place (chars rest)) ≡ whole
+    → true ≡ whole
+fit-end room left place rest whole none same =
+    ap (λ (cs : List ℕ). lines_fit room left (letters place cs)) (sym (ap chars (nil_from_length rest none) ∙ chars-nil)) ∙ same
