@@ -1,6 +1,6 @@
--- Texts that aren't shown in place of others where titles and messages are wrapped: a word is lost, a word that has room is broken, or a line
--- has none.
-use Rattle.std.proofs.Common.{◌≡◌, ◌≤◌, ℕ, true, Global, List, [], ◌∷◌, Option, Some, length, ap, codes, refl, subst, arith}
+-- Texts that aren't shown in place of others where titles and messages are wrapped: a word is lost, a word that has room is broken, a line has
+-- none, a row is empty, or a code is torn apart.
+use Rattle.std.proofs.Common.{◌≡◌, ◌≤◌, ℕ, Bool, true, false, Global, List, [], ◌∷◌, Option, Some, length, filter, ap, codes, refl, subst, arith}
 use Rattle.std.specs.Cow.{cow_str_bytes}
 use Rattle.std.specs.Str.{chars}
 use Rattle.std.specs.declared.borrow.CowStr.{CowStr}
@@ -10,8 +10,9 @@ use Rattle.snippet_model.specs.declared.snippet.Group.{Group}
 use Rattle.snippet_model.specs.declared.snippet.Title.{Title}
 use Rattle.snippet_style.specs.declared.stylesheet.Stylesheet.{Stylesheet}
 use Rattle.snippet_text.proofs.WidthLemmas.{unicode_width}
-use Rattle.snippet_text.specs.Width.{char_width, width_of}
-use Rattle.snippet_shown.specs.WrapLaws.{AreWithin, IsRewrapped, lines_in, words_of}
+use Rattle.snippet_text.specs.Width.{char_width}
+use Rattle.snippet_shown.specs.Letters.{Letter, letters_of}
+use Rattle.snippet_shown.specs.WrapLaws.{AreWithin, IsRewrapped, columns_of, lines_in, words_of}
 use Rattle.annotate_snippets.specs.AsSet.{wraps}
 use Rattle.annotate_snippets.specs.Fault.{form_of}
 use Rattle.annotate_snippets.specs.Laws.Forms.{HasLaws}
@@ -23,43 +24,88 @@ abbrev pub given : List ℕ
 given = codes "the borrow checker"
 
 -- two texts of which one is shown in place of the other, by their bytes
-by_bytes : (room : ℕ) (a b : CowStr Global) (xs ys : List ℕ) → cow_str_bytes a ≡ xs → cow_str_bytes b ≡ ys → IsTextRewrapped room a b
-    → IsRewrapped room (chars xs) (chars ys)
-by_bytes room a b xs ys first second is =
-    subst (λ (cs : List ℕ). IsRewrapped room (chars cs) (chars ys)) first
-    (subst (λ (cs : List ℕ). IsRewrapped room (chars (cow_str_bytes a)) (chars cs)) second is)
+by_bytes : (room : ℕ) (trusted : Bool) (a b : CowStr Global) (xs ys : List ℕ) → cow_str_bytes a ≡ xs → cow_str_bytes b ≡ ys
+    → IsTextRewrapped room trusted a b → IsRewrapped room (letters_of trusted (chars xs)) (letters_of trusted (chars ys))
+by_bytes room trusted a b xs ys first second is =
+    subst (λ (cs : List ℕ). IsRewrapped room (letters_of trusted (chars cs)) (letters_of trusted (chars ys))) first
+    (subst (λ (cs : List ℕ). IsRewrapped room (letters_of trusted (chars (cow_str_bytes a))) (letters_of trusted (chars cs))) second is)
 
 -- a text that has lost a word isn't shown in place of it, whatever the room
-lost : (room : ℕ) → IsRewrapped room (chars given) (chars (codes "the\nchecker")) → ⊥
+lost : (room : ℕ) (trusted : Bool) → IsRewrapped room (letters_of trusted (chars given)) (letters_of trusted (chars (codes "the\nchecker"))) → ⊥
 unfolding chars
-lost room is =
-    let fewer : ◌≡◌ {A = ℕ} 10 16 = ap (λ (cs : List ℕ). length cs) is.kept in
+lost room true is =
+    let fewer : ◌≡◌ {A = ℕ} 10 16 = ap (λ (ls : List Letter). length ls) is.kept in
+    absurd (omega (arith, fewer))
+lost room false is =
+    let fewer : ◌≡◌ {A = ℕ} 10 16 = ap (λ (ls : List Letter). length ls) is.kept in
     absurd (omega (arith, fewer))
 
 -- nor is one in which a word is broken that has room
-pub word_broken : (room : ℕ) (a b : CowStr Global) → cow_str_bytes a ≡ given → cow_str_bytes b ≡ codes "the borrow che\ncker"
-    → AreWithin room (words_of (chars given)) → IsTextRewrapped room a b → ⊥
+broken : (room : ℕ) (trusted : Bool) → IsRewrapped room (letters_of trusted (chars given)) (letters_of trusted (chars (codes "the borrow che\ncker")))
+    → AreWithin room (words_of (letters_of trusted (chars given))) → ⊥
 unfolding chars
-word_broken room a b is shown within texts =
-    let words = by_bytes room a b given (codes "the borrow che\ncker") is shown texts in
-    let more : ◌≡◌ {A = ℕ} 4 3 = ap (λ (ws : List (List ℕ)). length ws) (words.words within) in
+broken room true is within =
+    let more : ◌≡◌ {A = ℕ} 4 3 = ap (λ (ws : List (List Letter)). length ws) (is.words within) in
+    absurd (omega (arith, more))
+broken room false is within =
+    let more : ◌≡◌ {A = ℕ} 4 3 = ap (λ (ws : List (List Letter)). length ws) (is.words within) in
     absurd (omega (arith, more))
 
+pub word_broken : (room : ℕ) (trusted : Bool) (a b : CowStr Global) → cow_str_bytes a ≡ given → cow_str_bytes b ≡ codes "the borrow che\ncker"
+    → AreWithin room (words_of (letters_of trusted (chars given))) → IsTextRewrapped room trusted a b → ⊥
+word_broken room trusted a b is shown within texts =
+    broken room trusted (by_bytes room trusted a b given (codes "the borrow che\ncker") is shown texts) within
+
 -- nor the text itself, where it is wider than the room
-wide : width_of (chars given) ≡ 18
+wide : (trusted : Bool) → columns_of (letters_of trusted (chars given)) ≡ 18
 unfolding chars char_width unicode_width
-wide = refl
+wide true = refl
+wide false = refl
 
-one_line : lines_in (chars given) ≡ chars given ∷ []
+one_line : (trusted : Bool) → lines_in (letters_of trusted (chars given)) ≡ letters_of trusted (chars given) ∷ []
 unfolding chars
-one_line = refl
+one_line true = refl
+one_line false = refl
 
-pub line_too_wide : (a b : CowStr Global) → cow_str_bytes a ≡ given → cow_str_bytes b ≡ given → IsTextRewrapped 11 a b → ⊥
-line_too_wide a b is shown texts =
-    let same = by_bytes 11 a b given given is shown texts in
-    let within : AreWithin 11 (chars given ∷ []) = subst (AreWithin 11) one_line (same.rows (omega arith)) in
-    let narrow = All-head (λ (part : List ℕ). width_of part ≤ 11) (chars given) [] within in
-    absurd (omega (arith, narrow, wide))
+pub line_too_wide : (trusted : Bool) (a b : CowStr Global) → cow_str_bytes a ≡ given → cow_str_bytes b ≡ given → IsTextRewrapped 11 trusted a b → ⊥
+line_too_wide trusted a b is shown texts =
+    let same = by_bytes 11 trusted a b given given is shown texts in
+    let within : AreWithin 11 (letters_of trusted (chars given) ∷ []) = subst (AreWithin 11) (one_line trusted) (same.rows (omega arith)) in
+    let narrow = All-head (λ (part : List Letter). columns_of part ≤ 11) (letters_of trusted (chars given)) [] within in
+    absurd (omega (arith, narrow, wide trusted))
+
+-- nor one with a row for the blank that it ends with
+ends_empty : (room : ℕ) (trusted : Bool)
+    → IsRewrapped room (letters_of trusted (chars (codes "the borrow "))) (letters_of trusted (chars (codes "the borrow\n")))
+    → ⊥
+unfolding chars
+ends_empty room true is =
+    let more : ◌≡◌ {A = ℕ} 1 0 = is.empty in
+    absurd (omega (arith, more))
+ends_empty room false is =
+    let more : ◌≡◌ {A = ℕ} 1 0 = is.empty in
+    absurd (omega (arith, more))
+
+pub empty_row : (room : ℕ) (trusted : Bool) (a b : CowStr Global) → cow_str_bytes a ≡ codes "the borrow " → cow_str_bytes b ≡ codes "the borrow\n"
+    → IsTextRewrapped room trusted a b → ⊥
+empty_row room trusted a b is shown texts =
+    ends_empty room trusted (by_bytes room trusted a b (codes "the borrow ") (codes "the borrow\n") is shown texts)
+
+-- nor one in which the code `ESC [ 0 m` of a trusted text is torn apart
+abbrev pub coded : List ℕ
+coded = 97 ∷ 27 ∷ 91 ∷ 48 ∷ 109 ∷ []
+
+abbrev pub torn : List ℕ
+torn = 97 ∷ 27 ∷ 91 ∷ 48 ∷ 10 ∷ 109 ∷ []
+
+tears : (room : ℕ) → IsRewrapped room (letters_of true (chars coded)) (letters_of true (chars torn)) → ⊥
+unfolding chars
+tears room is =
+    let fewer : ◌≡◌ {A = ℕ} 3 4 = ap (λ (ls : List Letter). length (filter (λ l. l.code) ls)) is.kept in
+    absurd (omega (arith, fewer))
+
+pub code_torn : (room : ℕ) (a b : CowStr Global) → cow_str_bytes a ≡ coded → cow_str_bytes b ≡ torn → IsTextRewrapped room true a b → ⊥
+code_torn room a b is shown texts = tears room (by_bytes room true a b coded torn is shown texts)
 
 -- so no text of a report with that title has the laws of one that is wrapped, if the title that is shown has lost a word
 pub word_lost : (r : Renderer) (g s : Group) (sheet : Stylesheet) (text : List ℕ) (a b : Title) → wraps (form_of r) r ≡ true
@@ -70,4 +116,4 @@ word_lost r g s sheet text a b asked has one titled entitled is shown =
     let first : SameOption (IsTitleRewrapped r.term_width) (Some a) (Some b) =
     subst (λ (t : Option Title). SameOption (IsTitleRewrapped r.term_width) (Some a) t) entitled
     (subst (λ (t : Option Title). SameOption (IsTitleRewrapped r.term_width) t s.title) titled pairs.0.0) in
-    lost _ (by_bytes _ a.text b.text given (codes "the\nchecker") is shown first.0)
+    lost _ b.allows_styling (by_bytes _ b.allows_styling a.text b.text given (codes "the\nchecker") is shown first.0)

@@ -12,6 +12,7 @@ use Rattle.snippet_model.specs.declared.snippet.Group.{Group}
 use Rattle.snippet_model.specs.declared.snippet.Title.{Title}
 use Rattle.snippet_shown.specs.AsSet.{IsElementAsSet, IsGroupAsSet, IsTitleAsSet}
 use Rattle.snippet_shown.specs.AsWrapped.{AreGroupsWrapped}
+use Rattle.snippet_shown.specs.Letters.{letters_of}
 use Rattle.snippet_shown.specs.WrapLaws.{IsRewrapped}
 use Rattle.annotate_snippets.specs.AsSet.{AreWithContext, AreWrapped, IsAsSet, IsRemade, adds_context, wraps}
 use Rattle.annotate_snippets.specs.Gutter.{gutter_of_report}
@@ -34,8 +35,10 @@ compose P Q R step (x ∷ xs) (y ∷ ys) (z ∷ zs) first second =
     (step x y z first.0 second.0, compose P Q R step xs ys zs first.1 second.1)
 
 -- a text of the same bytes
-text-before : (room : ℕ) (a b c : CowStr Global) → cow_str_bytes b ≡ cow_str_bytes a → IsTextRewrapped room b c → IsTextRewrapped room a c
-text-before room a b c same is = subst (λ (bytes : List ℕ). IsRewrapped room (chars bytes) (chars (cow_str_bytes c))) same is
+text-before : (room : ℕ) (trusted : Bool) (a b c : CowStr Global) → cow_str_bytes b ≡ cow_str_bytes a → IsTextRewrapped room trusted b c
+    → IsTextRewrapped room trusted a c
+text-before room trusted a b c same is =
+    subst (λ (bytes : List ℕ). IsRewrapped room (letters_of trusted (chars bytes)) (letters_of trusted (chars (cow_str_bytes c)))) same is
 
 module _ (term_width gutter : ℕ) where
   -- ---- line feeds that are shown
@@ -46,11 +49,11 @@ module _ (term_width gutter : ℕ) where
   title-fed feeds None (Some b) c first second = cc
   title-fed feeds (Some a) None c first second = absurd first
   title-fed feeds (Some a) (Some b) None first second = absurd second
-  title-fed feeds (Some a) (Some b) (Some c) first second = (text-before _ a.text b.text c.text first.2 second.0, second.1)
+  title-fed feeds (Some a) (Some b) (Some c) first second = (text-before _ _ a.text b.text c.text first.2 second.0, second.1)
 
   element-fed : (feeds : Bool) (a b c : Element) → IsElementAsSet feeds a b → IsElementRewrapped term_width gutter b c
       → IsElementRewrapped term_width gutter a c
-  element-fed feeds (Message a) (Message b) (Message c) first second = (text-before _ a.text b.text c.text first.1 second.0, second.1)
+  element-fed feeds (Message a) (Message b) (Message c) first second = (text-before _ true a.text b.text c.text first.1 second.0, second.1)
   element-fed feeds (Message a) (Message b) (Cause c) first second = absurd second
   element-fed feeds (Message a) (Message b) (Suggestion c) first second = absurd second
   element-fed feeds (Message a) (Message b) (Origin c) first second = absurd second

@@ -29,9 +29,10 @@ use Rattle.snippet_titles.specs.declared.style.MessageContext.{MessageContext}
 use Rattle.snippet_titles.specs.declared.style.TitleStyle.TheVariants as style
 use Rattle.snippet_titles.specs.Title.{id_links}
 use Rattle.snippet_shown.specs.AsWrapped.{AreGroupsWrapped, IsElementWrapped, IsGroupWrapped, IsTextWrapped, IsTitleWrapped, room_of_message, room_of_title}
-use Rattle.snippet_shown.specs.WrapLaws.{AreWithin, IsAmong, IsRewrapped, lines_in}
+use Rattle.snippet_shown.specs.Letters.{letters_of}
+use Rattle.snippet_shown.specs.WrapLaws.{AreRowsWithin, AreWithin, IsRewrapped, lines_in}
 use Rattle.snippet_shown.proofs.DrawnLemmas.{message-within, title-within}
-use Rattle.snippet_shown.proofs.LawLemmas.{wrapped-laws}
+use Rattle.snippet_shown.proofs.WrapLemmas.{wrapped-chars, wrapped-laws}
 use Rattle.annotate_snippets.specs.Fault.{element_faults, faults_from, first_fault, first_of, group_faults, missing_title, refusal_in}
 use Rattle.annotate_snippets.specs.Laws.Feeds.{HasOneLineTexts}
 use Rattle.annotate_snippets.specs.Forms.{links_in}
@@ -78,24 +79,26 @@ flat-zip P Q f each (x ∷ xs) (y ∷ ys) pairs =
 -- ---- texts
 
 -- each character of the second text is one of the first, or a line feed
+abbrev IsOf : List ℕ → ℕ → Type 0
+IsOf cs c = (c ≡ 10) ⊎ Contains cs c
+
 abbrev IsTextOf : List ℕ → List ℕ → Type 0
-IsTextOf a b = All (IsAmong (chars a)) (chars b)
+IsTextOf a b = All (IsOf (chars a)) (chars b)
 
 IsTextOf-refl : (a : List ℕ) → IsTextOf a a
-IsTextOf-refl a = All-weaker (Contains (chars a)) (IsAmong (chars a)) (λ c own. inr own) (chars a) (All-contains_itself (chars a))
+IsTextOf-refl a = All-weaker (Contains (chars a)) (IsOf (chars a)) (λ c own. inr own) (chars a) (All-contains_itself (chars a))
 
 zip-own : (texts : List (List ℕ)) → AllZip IsTextOf texts texts
 zip-own [] = tt
 zip-own (text ∷ texts) = (IsTextOf-refl text, zip-own texts)
 
-rewrapped : (room : ℕ) (a b : CowStr Global) → IsTextWrapped room a b → IsTextRewrapped room a b
-rewrapped room a b is =
-    subst (λ (cs : List ℕ). IsRewrapped room (chars (cow_str_bytes a)) cs) (sym is) (wrapped-laws room (chars (cow_str_bytes a)))
+rewrapped : (room : ℕ) (trusted : Bool) (a b : CowStr Global) → IsTextWrapped room trusted a b → IsTextRewrapped room trusted a b
+rewrapped room trusted a b is =
+    subst (λ (cs : List ℕ). IsRewrapped room (letters_of trusted (chars (cow_str_bytes a))) (letters_of trusted cs)) (sym is)
+    (wrapped-laws room trusted (chars (cow_str_bytes a)))
 
-IsTextOf-wrapped : (room : ℕ) (a b : CowStr Global) → IsTextWrapped room a b → IsTextOf (cow_str_bytes a) (cow_str_bytes b)
-IsTextOf-wrapped room a b is =
-    let laws = rewrapped room a b is in
-    laws.among
+IsTextOf-wrapped : (room : ℕ) (trusted : Bool) (a b : CowStr Global) → IsTextWrapped room trusted a b → IsTextOf (cow_str_bytes a) (cow_str_bytes b)
+IsTextOf-wrapped room trusted a b is = subst (All (IsOf (chars (cow_str_bytes a)))) (sym is) (wrapped-chars room trusted (chars (cow_str_bytes a)))
 
 -- so is each of texts
 Contains-texts : (given shown : List (List ℕ)) → AllZip IsTextOf given shown → (c : ℕ) → Contains (flat_map chars shown) c
@@ -105,7 +108,7 @@ Contains-texts [] (y ∷ ys) pairs c own = absurd pairs
 Contains-texts (x ∷ xs) [] pairs c own = absurd pairs
 Contains-texts (x ∷ xs) (y ∷ ys) pairs c own =
     elim (Contains-append_cases (chars y) (flat_map chars ys) c own) [
-      | inl first ↦ elim (All-contains (IsAmong (chars x)) (chars y) c pairs.0 first) [
+      | inl first ↦ elim (All-contains (IsOf (chars x)) (chars y) c pairs.0 first) [
         | inl feed ↦ inl feed
         | inr here ↦ inr (Contains-append_left (chars x) (flat_map chars xs) c here)
       ]
@@ -253,7 +256,7 @@ module _ (term_width gutter : ℕ) where
   title-trusted : (a b : Title) → IsTitleWrapped term_width a b → AllZip IsTextOf (trusted_of_title a) (trusted_of_title b)
   title-trusted a b is =
       let own : AllZip IsTextOf (cow_str_bytes a.text ∷ []) (cow_str_bytes b.text ∷ []) =
-      (IsTextOf-wrapped (room_of_title term_width a) a.text b.text is.2, tt) in
+      (IsTextOf-wrapped (room_of_title term_width a) a.allows_styling a.text b.text is.2, tt) in
       by a.allows_styling b.allows_styling is.3 own
     where
       by : (s t : Bool) → t ≡ s → AllZip IsTextOf (cow_str_bytes a.text ∷ []) (cow_str_bytes b.text ∷ [])
@@ -272,7 +275,7 @@ module _ (term_width gutter : ℕ) where
       zip_append IsTextOf (trusted_of_title a) [] (trusted_of_title b) [] (title-trusted a b is) tt
 
   element-trusted : (a b : Element) → Wraps a b → AllZip IsTextOf (trusted_of_element a) (trusted_of_element b)
-  element-trusted (Message a) (Message b) is = (IsTextOf-wrapped (room_of_message term_width gutter a) a.text b.text is.1, tt)
+  element-trusted (Message a) (Message b) is = (IsTextOf-wrapped (room_of_message term_width gutter a) true a.text b.text is.1, tt)
   element-trusted a b is =
       subst (λ (e : Element). AllZip IsTextOf (trusted_of_element a) (trusted_of_element e)) (sym is) (zip-own (trusted_of_element a))
 
@@ -294,8 +297,9 @@ module _ (term_width gutter : ℕ) where
 
   -- ---- what follows of the texts
 
-  title-rows : (b : Title) → 4 ≤ room_of_title term_width b → AreWithin (room_of_title term_width b) (lines_in (chars (cow_str_bytes b.text)))
-      → AreWithin term_width (heading_texts style.Title (heading_of_title b))
+  title-rows : (b : Title) → 4 ≤ room_of_title term_width b
+      → AreWithin (room_of_title term_width b) (lines_in (letters_of b.allows_styling (chars (cow_str_bytes b.text))))
+      → AreRowsWithin b.allows_styling term_width (heading_texts style.Title (heading_of_title b))
   title-rows b enough within =
       let here : 4 ≤ term_width - label_width (heading_of_title b) = enough in
       title-within term_width (heading_of_title b) (omega (arith, here)) within
@@ -307,25 +311,27 @@ module _ (term_width gutter : ℕ) where
   title-rewrapped (Some a) (Some b) is =
       let room : room_of_title term_width a ≡ room_of_title term_width b =
       ap₂ (λ (level : Level) (id : Option Id). term_width - width_of (label_of level id)) (sym is.0) (sym is.1) in
-      let text : IsTextRewrapped (room_of_title term_width b) a.text b.text =
-      subst (λ (n : ℕ). IsTextRewrapped n a.text b.text) room (rewrapped (room_of_title term_width a) a.text b.text is.2) in
+      let text : IsTextRewrapped (room_of_title term_width b) b.allows_styling a.text b.text =
+      subst (λ (trusted : Bool). IsTextRewrapped (room_of_title term_width b) trusted a.text b.text) (sym is.3)
+      (subst (λ (n : ℕ). IsTextRewrapped n a.allows_styling a.text b.text) room
+      (rewrapped (room_of_title term_width a) a.allows_styling a.text b.text is.2)) in
       (text, λ enough. title-rows b enough (text.rows enough))
 
   message-rows : (n : ℕ) (b : message.Message) (place : MessageContext) → place.layout.gutter ≡ n → 4 ≤ room_of_message term_width n b
-      → AreWithin (room_of_message term_width n b) (lines_in (chars (cow_str_bytes b.text)))
-      → AreWithin term_width (heading_texts (style.Message place) (heading_of_message b))
+      → AreWithin (room_of_message term_width n b) (lines_in (letters_of true (chars (cow_str_bytes b.text))))
+      → AreRowsWithin true term_width (heading_texts (style.Message place) (heading_of_message b))
   message-rows n b place beside enough within =
       let width = label_width (heading_of_message b) in
       let here : 4 ≤ term_width - (place.layout.gutter + 3 + width) = subst (λ (g : ℕ). 4 ≤ term_width - (g + 3 + width)) (sym beside) enough in
       message-within term_width place (heading_of_message b) (omega (arith, here))
-      (subst (λ (g : ℕ). AreWithin (term_width - (g + 3 + width)) (lines_in (chars (cow_str_bytes b.text)))) (sym beside) within)
+      (subst (λ (g : ℕ). AreWithin (term_width - (g + 3 + width)) (lines_in (letters_of true (chars (cow_str_bytes b.text))))) (sym beside) within)
 
   element-rewrapped : (n : ℕ) → n ≡ gutter → (a b : Element) → Wraps a b → IsElementRewrapped term_width n a b
   element-rewrapped n same (Message a) (Message b) is =
       let room : room_of_message term_width gutter a ≡ room_of_message term_width n b =
       ap₂ (λ (level : Level) (m : ℕ). term_width - (m + 3 + width_of (label_of level None))) (sym is.0) (sym same) in
-      let text : IsTextRewrapped (room_of_message term_width n b) a.text b.text =
-      subst (λ (n : ℕ). IsTextRewrapped n a.text b.text) room (rewrapped (room_of_message term_width gutter a) a.text b.text is.1) in
+      let text : IsTextRewrapped (room_of_message term_width n b) true a.text b.text =
+      subst (λ (n : ℕ). IsTextRewrapped n true a.text b.text) room (rewrapped (room_of_message term_width gutter a) true a.text b.text is.1) in
       (text, λ place beside enough. message-rows n b place beside enough (text.rows enough))
   element-rewrapped n same (Message a) (Cause b) is = absurd (no_message (Cause b) a refl is)
   element-rewrapped n same (Message a) (Suggestion b) is = absurd (no_message (Suggestion b) a refl is)

@@ -241,9 +241,9 @@ impl Renderer {
         self
     }
 
-    /// Whether a line of a title or message that is wider than the room right of where it begins is broken: at the last
-    /// blank before which it fits, a space or a tab, which gives its place to the break; or where a word alone is wider
-    /// before the first character that has no room. What follows is indented as further lines are.
+    /// Whether a line of a title or message that is wider than the room right of where it begins is broken: at the
+    /// blanks, spaces or tabs, before the first word that has no room, which go; or where a word alone is wider before
+    /// the first character that has no room. What follows is indented as further lines are.
     ///
     /// ```text
     /// Renderer::plain().term_width(40).wrap(true)
@@ -253,8 +253,8 @@ impl Renderer {
     ///               borrowed as immutable
     /// ```
     ///
-    /// The room is that of the `term_width`; widths are those of [`str_width`](crate::text::str_width), so the codes of
-    /// a text that holds some count as the characters that they are. Nothing is broken where the room has fewer than 4
+    /// The room is that of the `term_width`; widths are those of [`str_width`](crate::text::str_width), but the codes
+    /// of a text that may hold some take no room, and none is broken. Nothing is broken where the room has fewer than 4
     /// columns, nor in the short form and the text form, nor unless this says so.
     pub fn wrap(mut self, wrap: bool) -> Renderer
         ensures changed { result ≡ record self { wrap = wrap } }
