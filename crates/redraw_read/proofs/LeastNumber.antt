@@ -1,52 +1,83 @@
--- The least number by a text that begins with some words, among texts in order.
+-- The least number by a text that is a message's, among texts in order.
 use Rattle.std.proofs.Common.{◌≡◌, ◌∙◌, ◌≤◌, ◌⊎◌, ⊎_elim, ℕ, Bool, true, false, List, [], ◌∷◌, ◌++◌, Option, Some, None, String}
-use Rattle.std.proofs.Common.{ap, arith, cond, eqb, refl, string_bytes, subst, sym}
+use Rattle.std.proofs.Common.{ap, arith, cond, drop, eqb, length, refl, string_bytes, subst, sym, if◌then◌else◌}
 use Rattle.std.specs.Global.{Global}
 use Rattle.std.specs.BTreeMap.{BTreeMap}
 use Rattle.std.specs.BTreeMap.Range.{entries_between, range_contains}
 use Rattle.std.specs.Cmp.Lexicographic.{slice_cmp}
 use Rattle.std.specs.List.{starts_with}
 use Rattle.std.specs.Map.{lookup}
-use Rattle.std.specs.Option.{IfSome, IsSomeAnd, option_or}
+use Rattle.std.specs.Option.{IfSome, IsSomeAnd, option_map_or, option_or}
 use Rattle.std.specs.Ordering.{is_gt, nat_cmp}
 use Rattle.std.specs.String.{string_cmp, string_cmp_total}
 use Rattle.std.specs.declared.ops.Bound.TheVariants.{Included, Unbounded}
 use Rattle.std.proofs.lemmas.Map.Entries.{lookup-filter-keys}
 use Rattle.std.proofs.lemmas.Map.Views.{range_contains-from_IsInRange}
 use Rattle.redraw_read.proofs.Begins.{begins-after, is_key, key_is, lookup-further}
+use Rattle.redraw_read.specs.Rendered.{ends, is_of}
 use Rattle.redraw_read.specs.ShownLines.{number_of}
+use Rattle.redraw_read.specs.declared.rendered.Stand.{Stand}
+
+-- a text that is a message's begins with it
+of-starts : (place : Stand) (m t : List ℕ) → is_of place m t ≡ true → starts_with eqb t m ≡ true
+of-starts place m t of = by (starts_with eqb t m) refl
+  where
+    by : (b : Bool) → starts_with eqb t m ≡ b → starts_with eqb t m ≡ true
+    by true is = is
+    by false is =
+        absurd (cc (sym of, ap (λ (c : Bool). option_map_or (ends place) (if c then Some (drop (length m) t) else None) false) is))
 
 -- some P holds of the lesser of two numbers that it holds of
-pub step-is : (P : ℕ → Type 0) (least : Option ℕ) (number new : ℕ) → (new ≡ number) ⊎ (least ≡ Some new) → IfSome least P → P number → P new
-step-is P least number new of before here = ⊎_elim (λ e. subst P (sym e) here) (λ e. subst (λ o. IfSome o P) e before) of
+pub step-is : (P : ℕ → Type 0) (least new : Option ℕ) (number : ℕ) (counts : Bool)
+    → (counts ≡ true → IfSome new (λ n. (n ≡ number) ⊎ (least ≡ Some n))) → (counts ≡ false → new ≡ least)
+    → IfSome least P → (counts ≡ true → P number) → IfSome new P
+step-is P least new number true of kept before here = among new (of refl)
+  where
+    among : (o : Option ℕ) → IfSome o (λ n. (n ≡ number) ⊎ (least ≡ Some n)) → IfSome o P
+    among None is = tt
+    among (Some n) is = ⊎_elim (λ e. subst P (sym e) (here refl)) (λ e. subst (λ o. IfSome o P) e before) is
+step-is P least new number false of kept before here = subst (λ o. IfSome o P) (sym (kept refl)) before
 
 -- the lesser is no greater than any of them
-pub step-least : (e : String Global × ℕ) (ys : List (String Global × ℕ)) (least : Option ℕ) (new : ℕ)
-    → ((t : List ℕ) (n : ℕ) → lookup (is_key t) ys ≡ Some n → IsSomeAnd least (λ k. k ≤ n)) → new ≤ e.1 → IfSome least (λ n. new ≤ n)
-    → (t : List ℕ) (n : ℕ) → lookup (is_key t) (ys ++ e ∷ []) ≡ Some n → new ≤ n
-step-least e ys least new before within less t n at = by (lookup (is_key t) ys) refl (is_key t e.0) (sym (lookup-further (is_key t) ys (e ∷ [])) ∙ at)
+pub step-least : (of : List ℕ → Bool) (e : String Global × ℕ) (ys : List (String Global × ℕ)) (least new : Option ℕ)
+    → ((t : List ℕ) (n : ℕ) → lookup (is_key t) ys ≡ Some n → of t ≡ true → IsSomeAnd least (λ k. k ≤ n))
+    → (of (string_bytes e.0) ≡ true → IsSomeAnd new (λ n. n ≤ e.1)) → IfSome least (λ n. IsSomeAnd new (λ r. r ≤ n))
+    → (t : List ℕ) (n : ℕ) → lookup (is_key t) (ys ++ e ∷ []) ≡ Some n → of t ≡ true → IsSomeAnd new (λ k. k ≤ n)
+step-least of e ys least new before within less t n at its =
+    by (lookup (is_key t) ys) refl (is_key t e.0) refl (sym (lookup-further (is_key t) ys (e ∷ [])) ∙ at)
   where
-    among : (o : Option ℕ) (k : ℕ) → IsSomeAnd o (λ l. l ≤ k) → IfSome o (λ l. new ≤ l) → new ≤ k
-    among None k some all = absurd some
-    among (Some l) k some all = omega (arith, some, all)
+    lesser : (a b : ℕ) → a ≡ b → IsSomeAnd new (λ k. k ≤ a) → IsSomeAnd new (λ k. k ≤ b)
+    lesser a b same is = subst (λ (c : ℕ). IsSomeAnd new (λ k. k ≤ c)) same is
 
-    by : (o : Option ℕ) → lookup (is_key t) ys ≡ o → (b : Bool) → option_or (lookup (is_key t) ys) (cond b (Some e.1) None) ≡ Some n → new ≤ n
-    by (Some k) is b sum =
+    among : (o : Option ℕ) (k : ℕ) → IsSomeAnd o (λ l. l ≤ k) → IfSome o (λ l. IsSomeAnd new (λ r. r ≤ l)) → IsSomeAnd new (λ r. r ≤ k)
+    among None k some all = absurd some
+    among (Some l) k some all = further new all some
+      where
+        further : (p : Option ℕ) → IsSomeAnd p (λ r. r ≤ l) → l ≤ k → IsSomeAnd p (λ r. r ≤ k)
+        further None is within = absurd is
+        further (Some r) is within = omega (arith, is, within)
+
+    by : (o : Option ℕ) → lookup (is_key t) ys ≡ o → (b : Bool) → is_key t e.0 ≡ b
+        → option_or (lookup (is_key t) ys) (cond b (Some e.1) None) ≡ Some n → IsSomeAnd new (λ k. k ≤ n)
+    by (Some k) is b key sum =
         let same : k ≡ n = cc (ap (λ o. option_or o (cond b (Some e.1) None)) is, sum) in
-        omega (arith, among least k (before t k is) less, same)
-    by None is true sum =
+        lesser k n same (among least k (before t k is its) less)
+    by None is true key sum =
         let same : e.1 ≡ n = cc (ap (λ o. option_or o (Some e.1)) is, sum) in
-        omega (arith, within, same)
-    by None is false sum = absurd (cc (ap (λ o. option_or {T = ℕ} o None) is, sum))
+        lesser e.1 n same (within (ap of (sym (key_is t e.0 key)) ∙ its))
+    by None is false key sum = absurd (cc (ap (λ o. option_or {T = ℕ} o None) is, sum))
 
 -- the least of the texts that were gone through is that of all, where none of the others begins with the words
-pub least-of-all : (numbers : BTreeMap (String Global) ℕ) (m : String Global) (ys rest : List (String Global × ℕ)) (least : Option ℕ)
+pub least-of-all : (place : Stand) (numbers : BTreeMap (String Global) ℕ) (m : String Global) (ys rest : List (String Global × ℕ)) (least : Option ℕ)
     → entries_between string_cmp (Included m) Unbounded numbers.entries ≡ ys ++ rest
     → ((t : List ℕ) → starts_with eqb t (string_bytes m) ≡ true → lookup (is_key t) rest ≡ None)
-    → ((t : List ℕ) (n : ℕ) → lookup (is_key t) ys ≡ Some n → IsSomeAnd least (λ k. k ≤ n))
-    → (t : List ℕ) (n : ℕ) → number_of numbers t ≡ Some n → starts_with eqb t (string_bytes m) ≡ true → IsSomeAnd least (λ k. k ≤ n)
-least-of-all numbers m ys rest least parts none among t n at begins = among t n here
+    → ((t : List ℕ) (n : ℕ) → lookup (is_key t) ys ≡ Some n → is_of place (string_bytes m) t ≡ true → IsSomeAnd least (λ k. k ≤ n))
+    → (t : List ℕ) (n : ℕ) → number_of numbers t ≡ Some n → is_of place (string_bytes m) t ≡ true → IsSomeAnd least (λ k. k ≤ n)
+least-of-all place numbers m ys rest least parts none among t n at its = among t n here its
   where
+    begins : starts_with eqb t (string_bytes m) ≡ true
+    begins = of-starts place (string_bytes m) t its
+
     within : (k : String Global) → is_key t k ≡ true → range_contains string_cmp (Included m) Unbounded k ≡ true
     within k is =
         range_contains-from_IsInRange string_cmp_total (Included m) Unbounded k

@@ -1,11 +1,11 @@
 -- The numbers of lines by what stands there: how they are made, and what the least of them by a message shows.
 use Rattle.std.proofs.Common.{◌≡◌, ◌∙◌, ◌||◌, ℕ, suc, ◌≤◌, ◌<◌, Bool, true, false, List, [], ◌∷◌, ◌++◌, Option, Some, None}
-use Rattle.std.proofs.Common.{ap, arith, cond, eqb, get_or, is_some, length, refl, sym, if◌then◌else◌}
-use Rattle.std.specs.List.{list_any, starts_with}
+use Rattle.std.proofs.Common.{ap, arith, cond, get_or, is_some, length, refl, sym, if◌then◌else◌}
+use Rattle.std.specs.List.{list_any}
 use Rattle.std.specs.Option.{option_and_then, option_map, option_map_or, option_or}
 use Rattle.std.specs.Str.{bytes_eq}
 use Rattle.std.proofs.lemmas.Slice.Eq.{bytes_eq-Decides}
-use Rattle.redraw_read.specs.Rendered.{begun, first_shown, shown_in, stands_in}
+use Rattle.redraw_read.specs.Rendered.{first_shown, is_of, shown_in, stands_in, text_of}
 use Rattle.redraw_read.specs.ShownLines.{first_of, is_there, number_among}
 use Rattle.redraw_read.specs.declared.rendered.Stand.{Stand}
 
@@ -39,20 +39,20 @@ is_what : (o : Option (List ℕ)) (t : List ℕ) → option_map_or (λ s. bytes_
 is_what None t e = absurd (cc e)
 is_what (Some s) t e = ap Some ((bytes_eq-Decides s t).0 e)
 
--- a text that begins with a message is what is shown of it
-begun_is : (m t : List ℕ) → starts_with eqb t m ≡ true → begun m t ≡ Some t
-begun_is m t e = ap (λ b. if b then Some t else None) e
+-- a text that is a message's is what is shown of it
+text_is : (place : Stand) (m t : List ℕ) → is_of place m t ≡ true → text_of place m t ≡ Some t
+text_is place m t e = ap (λ b. if b then Some t else None) e
 
--- what a line shows, where nothing that begins with the message stands there
-shows_none : (place : Stand) (m line : List ℕ) → ((t : List ℕ) → is_there place t line ≡ true → starts_with eqb t m ≡ true → ⊥)
+-- what a line shows, where nothing of the message stands there
+shows_none : (place : Stand) (m line : List ℕ) → ((t : List ℕ) → is_there place t line ≡ true → is_of place m t ≡ true → ⊥)
     → shown_in place m line ≡ None
 shows_none place m line none = by (stands_in place line) refl
   where
-    by : (o : Option (List ℕ)) → stands_in place line ≡ o → option_and_then (begun m) (stands_in place line) ≡ None
-    by None is = ap (option_and_then (begun m)) is
-    by (Some t) is = ap (option_and_then (begun m)) is ∙ other (starts_with eqb t m) refl
+    by : (o : Option (List ℕ)) → stands_in place line ≡ o → option_and_then (text_of place m) (stands_in place line) ≡ None
+    by None is = ap (option_and_then (text_of place m)) is
+    by (Some t) is = ap (option_and_then (text_of place m)) is ∙ other (is_of place m t) refl
       where
-        other : (b : Bool) → starts_with eqb t m ≡ b → begun m t ≡ None
+        other : (b : Bool) → is_of place m t ≡ b → text_of place m t ≡ None
         other true starts = absurd (none t (there_is (stands_in place line) t is) starts)
         other false starts = ap (λ b. if b then Some t else None) starts
 
@@ -61,30 +61,30 @@ later_none : (n : ℕ) (p : Option ℕ) → option_map suc p ≡ Some n → (k :
 later_none n None e = absurd (cc e)
 later_none n (Some k) e = (k, refl, cc e)
 
--- where no text that begins with the message has a number, nothing shows it
+-- where no text of the message has a number, nothing shows it
 pub none-shown : (place : Stand) (m : List ℕ) (lines : List (List ℕ))
-    → ((t : List ℕ) (n : ℕ) → number_among place t lines ≡ Some n → starts_with eqb t m ≡ true → ⊥) → first_shown place m lines ≡ None
+    → ((t : List ℕ) (n : ℕ) → number_among place t lines ≡ Some n → is_of place m t ≡ true → ⊥) → first_shown place m lines ≡ None
 none-shown place m [] none = refl
 none-shown place m (l ∷ lines) none =
     ap (λ o. option_or o (first_shown place m lines))
     (shows_none place m l (λ t there. none t 0 (ap (λ b. if b then Some 0 else option_map suc (number_among place t lines)) there)))
     ∙ none-shown place m lines (λ t n at. further t n at (is_there place t l) refl)
   where
-    further : (t : List ℕ) (n : ℕ) → number_among place t lines ≡ Some n → (b : Bool) → is_there place t l ≡ b → starts_with eqb t m ≡ true → ⊥
+    further : (t : List ℕ) (n : ℕ) → number_among place t lines ≡ Some n → (b : Bool) → is_there place t l ≡ b → is_of place m t ≡ true → ⊥
     further t n at true there =
         none t 0 (ap (λ b. if b then Some 0 else option_map suc (number_among place t lines)) there)
     further t n at false there =
         none t (suc n) (ap (λ b. if b then Some 0 else option_map suc (number_among place t lines)) there ∙ ap (option_map suc) at)
 
--- the line of the least number by a text that begins with the message shows what is shown first
-pub least-shown : (place : Stand) (m t : List ℕ) (lines : List (List ℕ)) (n : ℕ) → number_among place t lines ≡ Some n → starts_with eqb t m ≡ true
-    → ((s : List ℕ) (k : ℕ) → number_among place s lines ≡ Some k → starts_with eqb s m ≡ true → n ≤ k)
+-- the line of the least number by a text of the message shows what is shown first
+pub least-shown : (place : Stand) (m t : List ℕ) (lines : List (List ℕ)) (n : ℕ) → number_among place t lines ≡ Some n → is_of place m t ≡ true
+    → ((s : List ℕ) (k : ℕ) → number_among place s lines ≡ Some k → is_of place m s ≡ true → n ≤ k)
     → (n < length lines) × (first_shown place m lines ≡ Some t) × ((d : List ℕ) → shown_in place m (get_or lines n d) ≡ Some t)
 least-shown place m t [] n at starts least = absurd (cc at)
 least-shown place m t (l ∷ lines) n at starts least = by (is_there place t l) refl (λ k of before. least-shown place m t lines k of starts before)
   where
     shows : is_there place t l ≡ true → shown_in place m l ≡ Some t
-    shows there = ap (option_and_then (begun m)) (is_what (stands_in place l) t there) ∙ begun_is m t starts
+    shows there = ap (option_and_then (text_of place m)) (is_what (stands_in place l) t there) ∙ text_is place m t starts
 
     found : (s : List ℕ) → is_there place s l ≡ true → number_among place s (l ∷ lines) ≡ Some 0
     found s there = ap (λ b. if b then Some 0 else option_map suc (number_among place s lines)) there
@@ -94,7 +94,7 @@ least-shown place m t (l ∷ lines) n at starts least = by (is_there place t l) 
 
     by : (b : Bool) → is_there place t l ≡ b
         → ((k : ℕ) → number_among place t lines ≡ Some k
-        → ((s : List ℕ) (j : ℕ) → number_among place s lines ≡ Some j → starts_with eqb s m ≡ true → k ≤ j)
+        → ((s : List ℕ) (j : ℕ) → number_among place s lines ≡ Some j → is_of place m s ≡ true → k ≤ j)
         → (k < length lines) × (first_shown place m lines ≡ Some t) × ((d : List ℕ) → shown_in place m (get_or lines k d) ≡ Some t))
         → (n < suc (length lines)) × (first_shown place m (l ∷ lines) ≡ Some t) × ((d : List ℕ) → shown_in place m (get_or (l ∷ lines) n d) ≡ Some t)
     by true there later =
@@ -112,7 +112,7 @@ least-shown place m t (l ∷ lines) n at starts least = by (is_there place t l) 
           λ d. ap (λ i. shown_in place m (get_or (l ∷ lines) i d)) k.2 ∙ rest.2 d,
         )
       where
-        further : (s : List ℕ) (j : ℕ) → number_among place s lines ≡ Some j → starts_with eqb s m ≡ true → (i : ℕ) → n ≡ suc i → (b : Bool)
+        further : (s : List ℕ) (j : ℕ) → number_among place s lines ≡ Some j → is_of place m s ≡ true → (i : ℕ) → n ≡ suc i → (b : Bool)
             → is_there place s l ≡ b → i ≤ j
         further s j of begins i e true is = absurd (omega (arith, least s 0 (found s is) begins, e))
         further s j of begins i e false is = omega (arith, least s (suc j) (missed s is ∙ ap (option_map suc) of) begins, e)

@@ -252,12 +252,13 @@ AreOffersOf hand alternatives offers =
     (each : List (Option Offer)) × AllZip (λ (edits : Vec SuggestedEdit). IsOfferOf hand edits.items) alternatives each
     × (offers ≡ filter_map (λ offer. offer) each)
 
--- the remark that a child makes: its severity, its message, its places, and the edits that it offers
+-- the remark that a child makes: its severity, its message, its places, the edits that it offers, and whether it only goes on
 pub record IsRemarkOf (hand : AtHand) (child : Child) (r : Remark) : Type 0 where
   pub severity : r.severity ≡ child.severity
   pub message : r.message.now ≡ string_bytes child.message
   pub marks : AllZip (IsMarkOf hand) child.spans.items r.marks.items
   pub offers : AreOffersOf hand child.alternatives.items r.offers.items
+  pub goes_on : r.goes_on ≡ child.goes_on
 
 -- the finding that a diagnostic reports: its severity, its message, its code, a mark for each of its places, and a remark for each of
 -- its children, all in their order

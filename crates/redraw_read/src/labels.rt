@@ -1,6 +1,6 @@
 //! The labels that suggestions are shown as, at the places of their edits.
 
-ghost use Rattle.std.specs.Prelude.{◌≡◌, [], OnOk};
+ghost use Rattle.std.specs.Prelude.{◌≡◌, [], IfOk};
 
 use redraw_report::diagnostic::{FileSpan, Region, SuggestedEdit};
 use std::alloc::{AllocError, Global};
@@ -53,20 +53,59 @@ fn told_replacement<'t>(rest: &'t str, replacement: &str) -> Option<&'t str> {
         .strip_prefix('`')
 }
 
-/// Puts labels at the places of their edits: each to the first primary place there that has none yet, else as a place
-/// of its own.
-pub fn put_labels(
+/// Places with labels at those of their edits: each at the first primary place there that has none yet, else as a place
+/// of its own. They may be put before primary places that have no label.
+pub fn with_labels(
     alloc: Global,
-    spans: &mut Vec<FileSpan>,
+    spans: Vec<FileSpan>,
     labels: Vec<EditLabel>,
-) -> Result<(), AllocError>
-    ensures kept { labels.items ≡ [] → OnOk result (spans.new.items ≡ spans.old.items) }
+    are_first: bool,
+) -> Result<Vec<FileSpan>, AllocError>
+    ensures kept { labels.items ≡ [] → IfOk result (λ labelled. labelled.items ≡ spans.items) }
 {
     if labels.is_empty() {
-        return Ok(());
+        return Ok(spans);
     }
-    let targets = targets_of(alloc, spans, &labels)?;
-    put_each(spans, labels, &targets)
+    let labelled = labelled_by(alloc, spans, labels)?;
+    if are_first {
+        bare_last(alloc, labelled)
+    } else {
+        Ok(labelled)
+    }
+}
+
+/// Places with labels at those of their edits.
+fn labelled_by(
+    alloc: Global,
+    spans: Vec<FileSpan>,
+    labels: Vec<EditLabel>,
+) -> Result<Vec<FileSpan>, AllocError> {
+    let mut labelled = spans;
+    let targets = targets_of(alloc, &labelled, &labels)?;
+    put_each(&mut labelled, labels, &targets)?;
+    Ok(labelled)
+}
+
+/// Some places, those last that are primary and have no label; else in their order.
+fn bare_last(alloc: Global, spans: Vec<FileSpan>) -> Result<Vec<FileSpan>, AllocError> {
+    let mut others = Vec::new(alloc);
+    let mut bare = Vec::new(alloc);
+    for span in spans {
+        if is_bare(&span) {
+            bare.push(span)?;
+        } else {
+            others.push(span)?;
+        }
+    }
+    for span in bare {
+        others.push(span)?;
+    }
+    Ok(others)
+}
+
+/// Whether a place is primary and has no label.
+fn is_bare(span: &FileSpan) -> bool {
+    span.is_primary && span.label.is_none()
 }
 
 /// Puts each label to the place of its index, where it has one.
@@ -143,7 +182,7 @@ fn bare_primaries<'a>(
 ) -> Result<BTreeSet<PlaceAt<'a>>, AllocError> {
     let mut bare = BTreeSet::new(alloc);
     for (index, span) in spans.iter().enumerate() {
-        if span.is_primary && span.label.is_none() {
+        if is_bare(span) {
             bare.insert((span.region, span.file.as_str(), index))?;
         }
     }

@@ -31,4 +31,5 @@ mod spans;
 pub mod spot;
 mod taken;
 mod unsaid;
+mod unseen;
 mod words;

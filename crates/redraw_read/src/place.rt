@@ -236,5 +236,6 @@ fn remark_of<'a>(
         message: child.message.as_str(),
         marks,
         offers,
+        goes_on: child.goes_on,
     })
 }

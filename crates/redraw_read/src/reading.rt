@@ -16,6 +16,9 @@ pub struct Reading {
     pub shows_named: bool,
     /// The note on macros is the one that the text has, in its words, and none if it has none.
     pub quotes_note: bool,
+    /// Places with labels, be they of suggestions, come before primary ones without, and a place with a label is one
+    /// too if it is the start of a file.
+    pub puts_labels_first: bool,
 }
 
 /// The first reading.
@@ -23,10 +26,11 @@ pub const FIRST: Reading = Reading {
     joins_edits: false,
     shows_named: false,
     quotes_note: false,
+    puts_labels_first: false,
 };
 
-/// The others, in the order in which they are tried: those that do one thing otherwise, then those that do two.
-pub const OTHERS: [Reading; 6] = [
+/// Those that do one thing otherwise, in the order in which they are tried.
+const ONE_OTHER: [Reading; 4] = [
     Reading {
         joins_edits: true,
         ..FIRST
@@ -40,26 +44,78 @@ pub const OTHERS: [Reading; 6] = [
         ..FIRST
     },
     Reading {
-        joins_edits: true,
-        shows_named: true,
-        ..FIRST
-    },
-    Reading {
-        joins_edits: true,
-        quotes_note: true,
-        ..FIRST
-    },
-    Reading {
-        shows_named: true,
-        quotes_note: true,
+        puts_labels_first: true,
         ..FIRST
     },
 ];
+
+/// How many readings are tried after the first one.
+const MOST_OTHERS: usize = 7;
+
+/// What the JSON of a diagnostic, and the text that it has, leave open.
+#[derive(Clone, Copy)]
+pub struct Open {
+    /// Which edits belong together.
+    pub edits: bool,
+    /// Where a place in a macro is shown, and which note tells of it.
+    pub macros: bool,
+    /// Where the labels of suggestions stand, or if a place is the start of a file or none.
+    pub labels: bool,
+}
+
+impl Open {
+    /// Whether something is.
+    pub fn is_any(&self) -> bool {
+        self.edits || self.macros || self.labels
+    }
+
+    /// Whether a reading only does otherwise what is open.
+    fn has(&self, reading: Reading) -> bool {
+        (self.edits || !reading.joins_edits)
+            && (self.macros || !reading.shows_named && !reading.quotes_note)
+            && (self.labels || !reading.puts_labels_first)
+    }
+}
+
+/// The readings that are tried after the first one: those that do one thing otherwise that is open, and then those that
+/// do two, in the same order.
+pub fn others_of(alloc: Global, open: Open) -> Result<Vec<Reading>, AllocError> {
+    let mut others = Vec::new(alloc);
+    for one in ONE_OTHER {
+        add_other(&mut others, open, one)?;
+    }
+    for (index, one) in ONE_OTHER.iter().enumerate() {
+        for other in ONE_OTHER.iter().skip(index + 1) {
+            add_other(&mut others, open, both_of(*one, *other))?;
+        }
+    }
+    Ok(others)
+}
+
+/// Adds a reading that is tried, unless there are enough.
+fn add_other(others: &mut Vec<Reading>, open: Open, reading: Reading) -> Result<(), AllocError> {
+    if open.has(reading) && others.len() < MOST_OTHERS {
+        others.push(reading)?;
+    }
+    Ok(())
+}
+
+/// The reading that does otherwise what these two do.
+fn both_of(one: Reading, other: Reading) -> Reading {
+    Reading {
+        joins_edits: one.joins_edits || other.joins_edits,
+        shows_named: one.shows_named || other.shows_named,
+        quotes_note: one.quotes_note || other.quotes_note,
+        puts_labels_first: one.puts_labels_first || other.puts_labels_first,
+    }
+}
 
 /// What is read by: a reading, and what it asks of the text.
 #[derive(Drop)]
 pub struct Reader {
     pub joins_edits: bool,
+    /// Whether places with labels come first, and one with a label may be the start of a file.
+    pub puts_labels_first: bool,
     /// The files that the text names before the first title of a child, where places are shown by them.
     pub named: Option<NamedFiles>,
     /// The files that it names from there on.
@@ -94,6 +150,7 @@ impl Reader {
         };
         Ok(Reader {
             joins_edits: reading.joins_edits,
+            puts_labels_first: reading.puts_labels_first,
             named,
             named_by_children,
             note,

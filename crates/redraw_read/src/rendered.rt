@@ -11,7 +11,7 @@ ghost use Rattle.redraw_read.specs.Rendered.{way, way_by, way_of};
 ghost use Rattle.redraw_read.specs.Told.{KeepsHeading};
 ghost use Rattle.redraw_report.specs.Report.{lent};
 
-use crate::labels::{EditLabel, label_of, put_labels};
+use crate::labels::{EditLabel, label_of, with_labels};
 use crate::manners::Manners;
 use crate::plain::without_styles;
 use crate::roles::settle_roles;
@@ -38,7 +38,7 @@ pub enum Manner<'t> {
 pub enum Stand {
     /// After `help: `, with which the line begins.
     Title,
-    /// After blanks and `= help: `.
+    /// After blanks, the sign `=`, `├` or `╰`, and ` help: `.
     Message,
     /// After the first `help: ` of a row beside an empty gutter.
     Label,
@@ -95,20 +95,71 @@ pub fn shown_in<'t>(place: Stand, message: &str, line: &'t str) -> Option<&'t st
     ensures value { lent result ≡ spec.shown_in place message.now line.now }
 {
     match stands_in(place, line) {
-        Some(text) => begun(message, text),
+        Some(text) => text_of(place, message, text),
         None => None,
     }
 }
 
-/// A text, if it begins with a message.
-fn begun<'t>(message: &str, text: &'t str) -> Option<&'t str>
-    ensures value { lent result ≡ spec.begun message.now text.now }
+/// A text, if it is that of a message.
+fn text_of<'t>(place: Stand, message: &str, text: &'t str) -> Option<&'t str>
+    ensures value { lent result ≡ spec.text_of place message.now text.now }
 {
-    if begins_with(text, message) {
+    if is_of(place, message, text) {
         Some(text)
     } else {
         None
     }
+}
+
+/// Whether a text that stands there is that of a message, and not that of one which only begins with it.
+pub fn is_of(place: Stand, message: &str, text: &str) -> bool
+    ensures value { result ≡ spec.is_of place message.now text.now }
+{
+    match after(text, message) {
+        Some(rest) => ends(place, rest),
+        None => false,
+    }
+}
+
+/// Whether a message ends where this follows it.
+fn ends(place: Stand, rest: &str) -> bool
+    ensures value { result ≡ spec.ends place rest.now }
+{
+    match place {
+        Stand::Label => ends_title(rest) || ends_label(rest),
+        _ => ends_title(rest),
+    }
+}
+
+/// Whether the message of a title ends where this follows it: nothing, or what is to be noticed.
+fn ends_title(rest: &str) -> bool
+    ensures value { result ≡ spec.ends_title rest.now }
+{
+    rest.is_empty() || begins_with(rest, " (notice ")
+}
+
+/// Whether the message of a label ends where this follows it: what is to stand there, or a stroke after a blank.
+fn ends_label(rest: &str) -> bool
+    ensures value { result ≡ spec.ends_label rest.now }
+{
+    begins_with(rest, ": `") || begins_with_stroke(rest)
+}
+
+/// Whether a text begins with a blank and a stroke of marks, or with two blanks.
+fn begins_with_stroke(text: &str) -> bool
+    ensures value { result ≡ spec.begins_with_stroke text.now }
+{
+    match text.as_bytes() {
+        [b' ', stroke, ..] => is_stroke(*stroke),
+        _ => false,
+    }
+}
+
+/// Whether a byte begins a stroke of marks, in ASCII or among those of U+2500 to U+257F, or is a blank.
+fn is_stroke(byte: u8) -> bool
+    ensures value { result ≡ spec.is_stroke byte }
+{
+    matches!(byte, b' ' | b'^' | b'-' | b'_' | b'|' | 0xe2)
 }
 
 /// What stands in a line where a message may stand, or a place.
@@ -117,10 +168,23 @@ pub fn stands_in<'t>(place: Stand, line: &'t str) -> Option<&'t str>
 {
     match place {
         Stand::Title => after(line, "help: "),
-        Stand::Message => after(line.trim_start(), "= help: "),
+        Stand::Message => message_in(line.trim_start()),
         Stand::Label => label_in(line),
         Stand::Origin => after_word(line),
     }
+}
+
+/// What stands after the sign of a message and `help: ` in a line that begins with these, in ASCII or Unicode.
+fn message_in<'t>(line: &'t str) -> Option<&'t str>
+    ensures value { lent result ≡ spec.message_in line.now }
+{
+    if let Some(text) = after(line, "= help: ") {
+        return Some(text);
+    }
+    if let Some(text) = after(line, "\u{251c} help: ") {
+        return Some(text);
+    }
+    after(line, "\u{2570} help: ")
 }
 
 /// What stands in a line after its first word.
@@ -163,26 +227,32 @@ pub fn as_rendered(
     alloc: Global,
     text: &str,
     diagnostic: Diagnostic,
+    puts_labels_first: bool,
 ) -> Result<Diagnostic, AllocError>
     ensures headed { IfOk result (KeepsHeading diagnostic) }
     ensures shown { IfOk result (λ shown. (plain : List ℕ) × (has_escape text.now ≡ false → plain ≡ text.now)
         × IsAsShown plain diagnostic shown) }
 {
     let text = without_styles(alloc, text)?;
-    as_shown(alloc, text.as_str(), diagnostic)
+    as_shown(alloc, text.as_str(), diagnostic, puts_labels_first)
 }
 
 /// A diagnostic with its suggestions as they are shown in a text of it.
-fn as_shown(alloc: Global, text: &str, diagnostic: Diagnostic) -> Result<Diagnostic, AllocError>
+fn as_shown(
+    alloc: Global,
+    text: &str,
+    diagnostic: Diagnostic,
+    puts_labels_first: bool,
+) -> Result<Diagnostic, AllocError>
     ensures headed { IfOk result (KeepsHeading diagnostic) }
     ensures shown { IfOk result (IsAsShown text.now diagnostic) }
 {
     let mut manners = Manners::new(alloc, text, suggestion_count(&diagnostic.children))?;
-    let mut spans = manners.show_columns(alloc, diagnostic.spans)?;
+    let spans = manners.show_columns(alloc, diagnostic.spans)?;
     let mut told = Vec::new(alloc);
     let children = shown_children(alloc, &mut manners, diagnostic.children, &mut told)?;
-    put_labels(alloc, &mut spans, told)?;
-    let spans = settle_roles(alloc, spans)?;
+    let labelled = with_labels(alloc, spans, told, puts_labels_first)?;
+    let spans = settle_roles(alloc, labelled)?;
     Ok(Diagnostic {
         severity: diagnostic.severity,
         message: diagnostic.message,
@@ -253,6 +323,7 @@ fn with_columns(alloc: Global, manners: &mut Manners<'_>, child: Child) -> Resul
         message: child.message,
         spans,
         alternatives: child.alternatives,
+        goes_on: child.goes_on,
     })
 }
 
@@ -309,6 +380,7 @@ fn retitled(alloc: Global, child: Child, line: &str) -> Result<Child, AllocError
         message,
         spans: child.spans,
         alternatives: child.alternatives,
+        goes_on: child.goes_on,
     })
 }
 
@@ -327,6 +399,7 @@ fn without_edits(alloc: Global, child: Child, line: &str) -> Result<Child, Alloc
         message,
         spans: Vec::new(alloc),
         alternatives: Vec::new(alloc),
+        goes_on: child.goes_on,
     })
 }
 

@@ -8,9 +8,10 @@ use crate::edits::{alternatives_of, edits_of};
 use crate::expansion::{Macros, is_edit};
 use crate::headings::{code_of, heading_of};
 use crate::json::{given_text, listed, owned};
-use crate::reading::{MacroNote, Reader, Reading};
+use crate::reading::{MacroNote, Open, Reader, Reading};
 use crate::rendered::{as_rendered, is_whole};
 use crate::spans::spans_of;
+use crate::unseen::with_files_apart;
 use json_lines::expectation::Expectation;
 use json_lines::fault::Fault;
 use json_lines::node::Node;
@@ -25,9 +26,21 @@ pub fn diagnostic_by(node: &Node<'_, '_>, reading: Reading) -> Result<Diagnostic
 {
     let text = whole_text(node)?;
     let reader = Reader::new(node.alloc, reading, text)?;
-    let diagnostic = told_diagnostic(node, &reader)?;
+    let diagnostic = shown_diagnostic(node, &reader, text)?;
+    Ok(with_files_apart(node.alloc, text, diagnostic)?)
+}
+
+/// The diagnostic that a value describes, with its suggestions as this text shows them.
+fn shown_diagnostic(
+    node: &Node<'_, '_>,
+    reader: &Reader,
+    text: Option<&str>,
+) -> Result<Diagnostic, Fault>
+    ensures headed { IfOk result (IsHeaded (view node.now.value.now)) }
+{
+    let diagnostic = told_diagnostic(node, reader)?;
     match text {
-        Some(text) => Ok(as_rendered(node.alloc, text, diagnostic)?),
+        Some(text) => Ok(as_rendered(node.alloc, text, diagnostic, reader.puts_labels_first)?),
         None => Ok(diagnostic),
     }
 }
@@ -40,10 +53,15 @@ pub fn whole_text<'v>(node: &Node<'v, '_>) -> Result<Option<&'v str>, Fault> {
     }
 }
 
-/// Whether the JSON of a diagnostic leaves its reading open: a place is in a macro, or several edits are suggested
-/// together.
-pub fn is_open(value: &Value) -> bool {
-    has_open_spans(value) || children_in(value).iter().any(has_open_spans)
+/// What the JSON of a diagnostic leaves open.
+pub fn open_in(value: &Value) -> Open {
+    let own = spans_in(value);
+    let children = children_in(value);
+    Open {
+        edits: children.iter().any(has_several_edits),
+        macros: is_in_macro(own) || children.iter().any(has_macro),
+        labels: own.iter().any(is_labelled_start) || has_label_apart(children, own),
+    }
 }
 
 /// The children of a diagnostic.
@@ -54,17 +72,72 @@ fn children_in(value: &Value) -> &[Value] {
     }
 }
 
-/// Whether the places of a diagnostic or a child leave open how they are read.
-fn has_open_spans(part: &Value) -> bool {
+/// The places of a diagnostic or a child.
+fn spans_in(part: &Value) -> &[Value] {
     match part.get("spans").and_then(Value::as_array) {
-        Some(spans) => is_edit_among(spans) || spans.iter().any(is_expanded),
+        Some(spans) => spans.as_slice(),
+        None => &[],
+    }
+}
+
+/// Whether a child suggests an edit.
+fn has_edit(child: &Value) -> bool {
+    spans_in(child).iter().any(is_edit)
+}
+
+/// Whether a child has several places, one of which is an edit.
+fn has_several_edits(child: &Value) -> bool {
+    spans_in(child).len() > 1 && has_edit(child)
+}
+
+/// Whether a child has one place, an edit, and may be shown as a label there, which stands beside primary places that
+/// have none.
+fn has_label_apart(children: &[Value], own: &[Value]) -> bool {
+    match own.iter().find(|span| is_bare(span)) {
+        Some(first) => {
+            let are_several = own.iter().any(|span| is_bare(span) && !is_at(span, first));
+            children
+                .iter()
+                .any(|child| may_be_label(child, first, are_several))
+        }
         None => false,
     }
 }
 
-/// Whether these are several places, one of which is an edit.
-fn is_edit_among(spans: &[Value]) -> bool {
-    spans.len() > 1 && spans.iter().any(is_edit)
+/// Whether a child has one place, an edit, which isn't where this place is, or where several are.
+fn may_be_label(child: &Value, first: &Value, are_several: bool) -> bool {
+    match spans_in(child) {
+        [edit] => is_edit(edit) && (are_several || !is_at(first, edit)),
+        _ => false,
+    }
+}
+
+/// Whether a place is primary and has no label.
+fn is_bare(span: &Value) -> bool {
+    let is_primary = span.get("is_primary").and_then(Value::as_bool);
+    is_primary == Some(true) && span.get("label").and_then(Value::as_str).is_none()
+}
+
+/// Whether two places have the same bytes.
+fn is_at(one: &Value, other: &Value) -> bool {
+    bytes_of(one) == bytes_of(other)
+}
+
+/// The bytes of a file at which a place starts and ends.
+fn bytes_of(span: &Value) -> (Option<u64>, Option<u64>) {
+    let start = span.get("byte_start").and_then(Value::as_u64);
+    let end = span.get("byte_end").and_then(Value::as_u64);
+    (start, end)
+}
+
+/// Whether a place of a child is in a macro.
+fn has_macro(child: &Value) -> bool {
+    is_in_macro(spans_in(child))
+}
+
+/// Whether one of some places is in a macro.
+fn is_in_macro(spans: &[Value]) -> bool {
+    spans.iter().any(is_expanded)
 }
 
 /// Whether a place is in a macro.
@@ -73,6 +146,14 @@ fn is_expanded(span: &Value) -> bool {
         Some(expansion) => expansion.is_object(),
         None => false,
     }
+}
+
+/// Whether a place has a label and is on the first line, without bytes.
+fn is_labelled_start(span: &Value) -> bool {
+    let is_labelled = span.get("label").and_then(Value::as_str).is_some();
+    let line = span.get("line_start").and_then(Value::as_u64);
+    let (start, end) = bytes_of(span);
+    is_labelled && line.unwrap_or(0) <= 1 && start == end
 }
 
 /// The diagnostic that the other fields of a value describe.
@@ -98,7 +179,7 @@ fn parts_of(
 ) -> Result<(Vec<FileSpan>, Vec<Child>, Option<Code>), Fault>
     ensures code { IfOk result (λ parts. option_map code_seen parts.2 ≡ code_told (view node.now.value.now)) }
 {
-    let spans = spans_of(node, &reader.named)?;
+    let spans = spans_of(node, &reader.named, reader.puts_labels_first)?;
     let children = children_of(node, reader)?;
     let code = code_of(node)?;
     Ok((spans, children, code))
@@ -184,6 +265,7 @@ fn note_of(alloc: Global, message: String) -> Child {
         message,
         spans: Vec::new(alloc),
         alternatives: Vec::new(alloc),
+        goes_on: false,
     }
 }
 
@@ -207,7 +289,7 @@ fn child_of(node: &Node<'_, '_>, reader: &Reader) -> Result<Child, Fault>
     let (severity, message) = heading_of(node)?;
     let edits = edits_of(node)?;
     let spans = if edits.is_empty() {
-        spans_of(node, &reader.named_by_children)?
+        spans_of(node, &reader.named_by_children, reader.puts_labels_first)?
     } else {
         Vec::new(node.alloc)
     };
@@ -216,5 +298,6 @@ fn child_of(node: &Node<'_, '_>, reader: &Reader) -> Result<Child, Fault>
         message,
         spans,
         alternatives: alternatives_of(node.alloc, edits, reader.joins_edits)?,
+        goes_on: false,
     })
 }

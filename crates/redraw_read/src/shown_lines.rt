@@ -1,9 +1,9 @@
 //! The lines of a text by what stands in them where the message of a suggestion may: for a message few of them are
 //! looked at.
 
-ghost use Rattle.std.specs.Prelude.{◌≡◌, ◌==◌, ◌<◌, ◌≤◌, ◌++◌, ◌⊎◌, ℕ, List, [], ◌∷◌, Some, IfOk, IfSome, OnOk, eqb};
-ghost use Rattle.std.specs.Prelude.{length, slice_index_or, string_bytes, true};
-ghost use Rattle.std.specs.List.{slice_split, starts_with};
+ghost use Rattle.std.specs.Prelude.{◌≡◌, ◌==◌, ◌<◌, ◌≤◌, ◌++◌, ◌⊎◌, ℕ, List, [], ◌∷◌, Some, IfOk, IfSome, OnOk};
+ghost use Rattle.std.specs.Prelude.{false, length, slice_index_or, string_bytes, true};
+ghost use Rattle.std.specs.List.{slice_split};
 ghost use Rattle.std.specs.Option.{IsSomeAnd};
 ghost use Rattle.std.specs.Str.{bytes_eq};
 ghost use Rattle.redraw_read.specs.Rendered.{way, way_of};
@@ -12,7 +12,7 @@ ghost use Rattle.redraw_read.specs.ShownLines.{AreNumbersOf, first_of, number_of
 ghost use Rattle.redraw_read.specs.declared.rendered.Stand.TheVariants as stand;
 ghost use Rattle.redraw_report.specs.Report.{lent};
 
-use crate::rendered::{Manner, Stand, manner_by, shown_in, stands_in};
+use crate::rendered::{Manner, Stand, is_of, manner_by, shown_in, stands_in};
 use crate::words::begins_with;
 use std::alloc::{AllocError, Global};
 use std::collections::BTreeMap;
@@ -125,7 +125,7 @@ fn shown_first<'t>(
     requires numbered { AreNumbersOf place numbers.now (texts lines.now) }
     ensures value { lent result ≡ spec.first_shown place (string_bytes message.now) (texts lines.now) }
 {
-    match least_number(numbers, message) {
+    match least_number(place, numbers, message) {
         Some(number) => shown_at(place, message.as_str(), lines, number),
         None => None,
     }
@@ -143,21 +143,36 @@ fn shown_at<'t>(place: Stand, message: &str, lines: &[&'t str], number: usize) -
     }
 }
 
-/// The least number by a text that begins with a message.
-fn least_number(numbers: &LineNumbers, message: &String) -> Option<usize>
+/// The least number by a text that is a message's.
+fn least_number(place: Stand, numbers: &LineNumbers, message: &String) -> Option<usize>
     ensures is { IfSome result (λ least. (t : List ℕ) × (number_of numbers.now t ≡ Some least)
-        × (starts_with eqb t (string_bytes message.now) ≡ true)) }
+        × (spec.is_of place (string_bytes message.now) t ≡ true)) }
     ensures least { (t : List ℕ) (n : ℕ) → number_of numbers.now t ≡ Some n
-        → starts_with eqb t (string_bytes message.now) ≡ true → IsSomeAnd result (λ least. least ≤ n) }
+        → spec.is_of place (string_bytes message.now) t ≡ true → IsSomeAnd result (λ least. least ≤ n) }
 {
     let mut least = None;
     for (text, number) in numbers.range(message..) {
         if !begins_with(text.as_str(), message.as_str()) {
             return least;
         }
-        least = Some(lesser(least, *number));
+        let is_its = is_of(place, message.as_str(), text.as_str());
+        least = lesser_if(is_its, least, *number);
     }
     least
+}
+
+/// The lesser of two numbers, if there are two and the second counts.
+fn lesser_if(counts: bool, one: Option<usize>, other: usize) -> Option<usize>
+    ensures of { counts ≡ true → IfSome result (λ n. (n ≡ other) ⊎ (one ≡ Some n)) }
+    ensures within { counts ≡ true → IsSomeAnd result (λ n. n ≤ other) }
+    ensures least { IfSome one (λ n. IsSomeAnd result (λ r. r ≤ n)) }
+    ensures kept { counts ≡ false → result ≡ one }
+{
+    if counts {
+        Some(lesser(one, other))
+    } else {
+        one
+    }
 }
 
 /// The lesser of two numbers, if there are two.

@@ -22,11 +22,15 @@ use serde_json::Value;
 use std::alloc::{AllocError, Global};
 
 /// The places of a diagnostic, and the calls of macros that are shown beside them; by the files that its text names,
-/// where these are given.
-pub fn spans_of(node: &Node<'_, '_>, named: &Option<NamedFiles>) -> Result<Vec<FileSpan>, Fault> {
+/// where these are given; and with those at the start of a file that have a label, where these count.
+pub fn spans_of(
+    node: &Node<'_, '_>,
+    named: &Option<NamedFiles>,
+    keeps_starts: bool,
+) -> Result<Vec<FileSpan>, Fault> {
     let list = node.needed("spans", Expectation::List)?;
     let values = listed(node, "spans")?;
-    let mut spans = each_span(&list, values, named)?;
+    let mut spans = each_span(&list, values, named, keeps_starts)?;
     add_calls(&list, values, named, &mut spans)?;
     let mut spans = settle_roles(node.alloc, spans)?;
     settle_order(node.alloc, &mut spans)?;
@@ -52,17 +56,28 @@ fn each_span<'v>(
     list: &Node<'v, '_>,
     values: &'v [Value],
     named: &Option<NamedFiles>,
+    keeps_starts: bool,
 ) -> Result<Vec<FileSpan>, Fault> {
     let mut spans = Vec::new(list.alloc);
     for (index, value) in values.iter().enumerate() {
-        add_span(span_of(&list.item(index, value), named)?, &mut spans)?;
+        add_span(
+            span_of(&list.item(index, value), named)?,
+            keeps_starts,
+            &mut spans,
+        )?;
     }
     Ok(spans)
 }
 
-/// Adds a place, if it is one: what is of no file is said to be at the start of one, where no text is.
-fn add_span(span: FileSpan, spans: &mut Vec<FileSpan>) -> Result<(), AllocError> {
-    if span.carried.is_some() || !is_start(span.region) {
+/// Adds a place, if it is one: what is of no file is said to be at the start of one, where no text is. With a label it
+/// may be one all the same.
+fn add_span(
+    span: FileSpan,
+    keeps_starts: bool,
+    spans: &mut Vec<FileSpan>,
+) -> Result<(), AllocError> {
+    let is_kept = keeps_starts && span.label.is_some();
+    if is_kept || span.carried.is_some() || !is_start(span.region) {
         spans.push(span)?;
     }
     Ok(())

@@ -10,8 +10,9 @@ use Rattle.redraw_report.specs.declared.diagnostic.Code.{Code}
 use Rattle.redraw_report.specs.declared.finding.Finding.{Finding}
 use Rattle.redraw_report.specs.declared.finding.Remark.{Remark}
 use Rattle.redraw_report.specs.Links.{HasSafeLinks, LeadsSafely, safe_address}
-use Rattle.redraw_report.specs.Report.{headed_of, is_bare, marked_parts, named_of, remark_section, report_of, section_of, sections_from, with_message}
-use Rattle.redraw_report.specs.View.{Named, Section, section_view}
+use Rattle.redraw_report.specs.Report.{headed_of, is_bare, marked_parts, named_of, remark_headed, remark_section, report_of, section_of}
+use Rattle.redraw_report.specs.Report.{sections_from, with_message}
+use Rattle.redraw_report.specs.View.{Headed, Named, Section, section_view}
 
 -- an address that is kept only where it may be a link
 kept : (b : Bool) (address : List ℕ) → (b ≡ true → IsTrue (is_link_address address))
@@ -30,6 +31,16 @@ safe-code : (code : Option (Bor Code))
 safe-code None = tt
 safe-code (Some code) = safe-address (option_map string_bytes code.now.url)
 
+-- the group of a remark leads nowhere
+safe-remark : (r : Remark) → LeadsSafely (remark_section r)
+safe-remark r =
+    elim (r.goes_on)
+    as (λ b. IfSome (option_and_then (λ (named : Named). named.url) (option_and_then (λ (headed : Headed). headed.name)
+    (if b then None else Some (remark_headed r)))) (λ address. IsTrue (is_link_address address))) [
+      | true ↦ tt
+      | false ↦ tt
+    ]
+
 -- the groups of remarks lead nowhere
 safe-sections : (s : Section) → LeadsSafely s → (rs : List Remark) → All LeadsSafely (sections_from s rs)
 safe-sections s safe [] = All-cons LeadsSafely s [] safe (All-nil LeadsSafely)
@@ -37,7 +48,7 @@ safe-sections s safe (r ∷ rs) =
     elim (is_bare r)
     as (λ b. All LeadsSafely (if b then sections_from (with_message s r) rs else s ∷ sections_from (remark_section r) rs)) [
       | true ↦ safe-sections (with_message s r) safe rs
-      | false ↦ All-cons LeadsSafely s (sections_from (remark_section r) rs) safe (safe-sections (remark_section r) tt rs)
+      | false ↦ All-cons LeadsSafely s (sections_from (remark_section r) rs) safe (safe-sections (remark_section r) (safe-remark r) rs)
     ]
 
 -- the groups of a finding

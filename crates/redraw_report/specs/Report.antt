@@ -161,9 +161,18 @@ remark_headed r =
 abbrev pub section_of : Headed → List Part → Section
 section_of headed parts = record { kind = headed.level.kind; title = Some headed; parts = parts }
 
+-- the same, but none of a remark that only goes on with the places of what is before it
+abbrev pub remark_title : Remark → Option Headed
+remark_title r = if r.goes_on then None else Some (remark_headed r)
+
 -- the group of a remark: what is shown of its places, and the edits that it offers
 abbrev pub remark_section : Remark → Section
-remark_section r = section_of (remark_headed r) (marked_parts r.marks.items ++ offers_parts r.offers.items)
+remark_section r =
+    record {
+      kind = (level_of r.severity).kind;
+      title = remark_title r;
+      parts = marked_parts r.marks.items ++ offers_parts r.offers.items;
+    }
 
 -- whether a remark has neither places nor edits
 abbrev pub is_bare : Remark → Bool

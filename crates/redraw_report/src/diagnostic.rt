@@ -50,6 +50,8 @@ pub struct Child {
     pub spans: Vec<FileSpan>,
     /// The edits that it suggests: one of these lists is to be made, all of it.
     pub alternatives: Vec<Vec<SuggestedEdit>>,
+    /// Whether it only goes on, in another file, with the places of what is before it, and says nothing of its own.
+    pub goes_on: bool,
 }
 
 /// A place in a file that is spoken of.

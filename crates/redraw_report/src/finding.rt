@@ -74,6 +74,8 @@ pub struct Remark<'a> {
     pub marks: Vec<MarkedSpan<'a>>,
     /// The edits that it suggests, each of them instead of the others.
     pub offers: Vec<Offer<'a>>,
+    /// Whether it only goes on with the places of what is before it: its group has no title.
+    pub goes_on: bool,
 }
 
 /// A suggestion: edits of one source, which are made together.

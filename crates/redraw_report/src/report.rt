@@ -1,5 +1,5 @@
 //! The report of a finding.
-ghost use Rattle.std.specs.Prelude.{◌≡◌, ◌++◌, List, [], ◌∷◌, IfOk, map};
+ghost use Rattle.std.specs.Prelude.{◌≡◌, ◌++◌, List, [], ◌∷◌, IfOk, map, option_map};
 ghost use Rattle.redraw_report.specs.Links.{HasSafeLinks};
 ghost use Rattle.redraw_report.specs.declared.finding.Remark.{Remark};
 ghost use Rattle.redraw_report.specs.Report as spec;
@@ -10,7 +10,7 @@ ghost use Rattle.redraw_report.specs.View.{headed_view, part_view, section_view}
 use crate::finding::{Finding, Remark};
 use crate::marks::marked_elements;
 use crate::offers::add_offers;
-use crate::titles::{message_of, remark_title, title_of};
+use crate::titles::{kind_of, message_of, remark_title, title_of};
 use snippet_model::{Element, Group, Title};
 use std::alloc::{AllocError, Global};
 
@@ -29,9 +29,24 @@ fn group_of<'a>(title: Title<'a>, elements: Vec<Element<'a>>) -> Group<'a>
 fn remark_group<'a>(alloc: Global, remark: &Remark<'a>) -> Result<Group<'a>, AllocError>
     ensures value { IfOk result (λ group. section_view group ≡ remark_section remark.now) }
 {
-    let title = remark_title(alloc, remark)?;
+    let title = title_if(alloc, remark)?;
     let elements = remark_elements(alloc, remark)?;
-    Ok(group_of(title, elements))
+    Ok(Group {
+        level: kind_of(remark.severity),
+        title,
+        elements,
+    })
+}
+
+/// The title of such a remark, unless it goes on with what is before it.
+fn title_if<'a>(alloc: Global, remark: &Remark<'a>) -> Result<Option<Title<'a>>, AllocError>
+    ensures value { IfOk result (λ title. option_map headed_view title ≡ spec.remark_title remark.now) }
+{
+    if remark.goes_on {
+        Ok(None)
+    } else {
+        Ok(Some(remark_title(alloc, remark)?))
+    }
 }
 
 /// What stands below the title of such a remark: its places, and the edits that it offers.

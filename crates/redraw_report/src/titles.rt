@@ -25,7 +25,7 @@ pub fn level_of<'a>(severity: Severity) -> Level<'a>
 }
 
 /// The kind of the level that a severity is drawn by.
-fn kind_of(severity: Severity) -> LevelInner
+pub fn kind_of(severity: Severity) -> LevelInner
     ensures value { result ≡ (spec.level_of severity).kind }
 {
     match severity {

@@ -15,8 +15,8 @@ use program::options::{Options, renderer_of};
 use redraw_read::cargo::packaged_diagnostic_by;
 use redraw_read::place::load_files;
 use redraw_read::plain::without_styles;
-use redraw_read::reading::{FIRST, OTHERS, Reading};
-use redraw_read::rustc::{diagnostic_by, is_open, whole_text};
+use redraw_read::reading::{FIRST, Open, Reading, others_of};
+use redraw_read::rustc::{diagnostic_by, open_in, whole_text};
 use redraw_read::sources::{SourceFiles, Sources};
 use redraw_report::diagnostic::Diagnostic;
 use std::alloc::{AllocError, Global};
@@ -35,10 +35,12 @@ pub fn read_diagnostic<S: SourceFiles + Drop>(
     is_cargo: bool,
 ) -> Result<Diagnostic, Fault> {
     let first = read_by(line, is_cargo, FIRST)?;
-    match open_text(line, is_cargo)? {
+    let open = open_of(line, is_cargo)?;
+    match text_if(open.is_any(), line, is_cargo)? {
         Some(text) => {
             let text = without_styles(line.alloc, text)?;
-            choose(sources, line, is_cargo, first, text.as_str())
+            let others = others_of(line.alloc, open)?;
+            choose(sources, line, is_cargo, first, others, text.as_str())
         }
         None => Ok(first),
     }
@@ -53,42 +55,49 @@ fn read_by(line: &Node<'_, '_>, is_cargo: bool, reading: Reading) -> Result<Diag
     }
 }
 
-/// rustc's own text of the diagnostic of a line, where it leaves open how it is read.
-fn open_text<'v>(line: &Node<'v, '_>, is_cargo: bool) -> Result<Option<&'v str>, Fault> {
+/// What the JSON of the diagnostic of a line leaves open.
+fn open_of(line: &Node<'_, '_>, is_cargo: bool) -> Result<Open, Fault> {
     if is_cargo {
-        text_if_open(&line.needed("message", Expectation::Object)?)
+        Ok(open_in(line.needed("message", Expectation::Object)?.value))
     } else {
-        text_if_open(line)
+        Ok(open_in(line.value))
     }
 }
 
-/// rustc's own text of a diagnostic, where it leaves open how it is read.
-fn text_if_open<'v>(diagnostic: &Node<'v, '_>) -> Result<Option<&'v str>, Fault> {
-    if is_open(diagnostic.value) {
-        whole_text(diagnostic)
-    } else {
+/// rustc's own text of the diagnostic of a line, where it is asked for and shows all of it.
+fn text_if<'v>(
+    is_asked: bool,
+    line: &Node<'v, '_>,
+    is_cargo: bool,
+) -> Result<Option<&'v str>, Fault> {
+    if !is_asked {
         Ok(None)
+    } else if is_cargo {
+        whole_text(&line.needed("message", Expectation::Object)?)
+    } else {
+        whole_text(line)
     }
 }
 
-/// Of the readings of a line, of which this is the first, the one whose drawing is this text; the first where there is
-/// none.
+/// Of the readings of a line, of which this is the first and these are the others, the one whose drawing is this text;
+/// the first where there is none.
 fn choose<S: SourceFiles + Drop>(
     sources: &mut Sources<S>,
     line: &Node<'_, '_>,
     is_cargo: bool,
     first: Diagnostic,
+    others: Vec<Reading>,
     text: &str,
 ) -> Result<Diagnostic, Fault>
     ensures chosen { IfOk result (λ d. (is_unicode : Bool)
         × IsChosenReading (spec.rustc_look is_unicode) text.now d) }
 {
-    let look = rustc_look(text.contains(UNICODE_ARROW));
+    let look = rustc_look_for(text);
     let is_first = draws(sources, line.alloc, &look, &first, text)?;
     if is_first {
         return Ok(first);
     }
-    for reading in OTHERS {
+    for reading in others {
         let other = read_by(line, is_cargo, reading)?;
         let is_meant = draws(sources, line.alloc, &look, &other, text)?;
         if is_meant {
@@ -96,6 +105,13 @@ fn choose<S: SourceFiles + Drop>(
         }
     }
     Ok(first)
+}
+
+/// What draws as rustc drew this text.
+pub fn rustc_look_for(text: &str) -> ReportRenderer
+    ensures look { (is_unicode : Bool) × (result ≡ spec.rustc_look is_unicode) }
+{
+    rustc_look(text.contains(UNICODE_ARROW))
 }
 
 /// What draws as rustc does.
@@ -117,7 +133,7 @@ fn rustc_look(is_unicode: bool) -> ReportRenderer
 }
 
 /// Whether the drawing of a reading is this text of rustc's. The files that it names are read.
-fn draws<S: SourceFiles + Drop>(
+pub fn draws<S: SourceFiles + Drop>(
     sources: &mut Sources<S>,
     alloc: Global,
     look: &ReportRenderer,

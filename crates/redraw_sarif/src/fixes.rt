@@ -92,6 +92,7 @@ fn help_of(
         message,
         spans: Vec::new(context.alloc),
         alternatives,
+        goes_on: false,
     })
 }
 

@@ -152,6 +152,7 @@ fn add_note(told: &mut Told, message: String, context: &Context<'_, '_>) -> Resu
         message,
         spans: Vec::new(context.alloc),
         alternatives: Vec::new(context.alloc),
+        goes_on: false,
     })?;
     Ok(())
 }

@@ -1,0 +1,3 @@
+println!("of no function");
+
+fn main() {}
