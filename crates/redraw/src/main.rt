@@ -5,6 +5,7 @@ use output_stream::Stream;
 use program::exit::exit_code;
 use program::input::{given_arguments, texts_lent};
 use program::standing_in::stand_in;
+use redraw_command::arguments::spelled;
 use redraw_command::tally::FAILED;
 use redraw_command::terminal::{Surroundings, columns_of, is_colorless};
 use redraw_run::run::run;
@@ -27,7 +28,8 @@ fn text_of(text: &Option<String>) -> Option<&str> {
 fn answer(rt: &HostRuntime) -> io::Result<u8> {
     let alloc = rt.alloc();
     let given = given_arguments(rt)?;
-    let args = texts_lent(alloc, &given)?;
+    let lent = texts_lent(alloc, &given)?;
+    let args = spelled(alloc, &lent)?;
     let no_color = variable(rt, "NO_COLOR");
     let term = variable(rt, "TERM");
     let columns = variable(rt, "COLUMNS");

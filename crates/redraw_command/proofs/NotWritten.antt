@@ -3,6 +3,7 @@ use Rattle.std.proofs.Common.{◌≡◌, ◌++◌, ℕ, List, [], ◌∷◌, Som
 use Rattle.std.specs.Io.KnownBytes.{Appends}
 use Rattle.redraw_report.specs.declared.diagnostic.Severity.TheVariants.{Warning}
 use Rattle.redraw_command.specs.Tally.{one_more, tally_status, tallied}
+use Rattle.redraw_command.specs.declared.choice.OutputForm.{OutputForm}
 use Rattle.output_stream.specs.Standing.{Gets, Standing}
 use Rattle.program.specs.Stream.{ended_line}
 use Rattle.redraw_command.specs.Told.{Tells}
@@ -20,8 +21,8 @@ pub text_printed_twice : Appends (Some []) (Some (97 ∷ 97 ∷ 10 ∷ [])) (cod
 text_printed_twice added = absurd (omega (arith, ap length added))
 
 -- the status 0 of a run that didn't read all of its inputs
-pub unread_input_is_clean : (t : Tally) → 0 ≡ tally_status t false → ⊥
-unread_input_is_clean t same = absurd (omega (arith, same))
+pub unread_input_is_clean : (form : OutputForm) (t : Tally) → 0 ≡ tally_status form t false → ⊥
+unread_input_is_clean form t same = absurd (omega (arith, same))
 
 -- no warning counted, where there was none before a finding that is one
 pub warnings_not_counted : (t new : Tally) → t.warnings ≡ 0 → new ≡ tallied t Warning false → new.warnings ≡ 0 → ⊥

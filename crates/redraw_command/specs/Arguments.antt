@@ -17,7 +17,7 @@ use Rattle.program.specs.CommandLine.{files_rule, flag_rule, valued_rule, was_gi
 use Rattle.program.specs.Numbers.{number_after_plus}
 use Rattle.redraw_command.specs.declared.choice.Choice.{Choice}
 use Rattle.redraw_command.specs.declared.choice.OutputForm.{OutputForm}
-use Rattle.redraw_command.specs.declared.choice.OutputForm.TheVariants.{Report, Workflow}
+use Rattle.redraw_command.specs.declared.choice.OutputForm.TheVariants.{Report, Workflow, Verify}
 use Rattle.redraw_command.specs.declared.choice.Least.{Least}
 use Rattle.redraw_command.specs.declared.choice.Least.TheVariants as least
 use Rattle.redraw_command.specs.declared.terminal.Look.{Look}
@@ -35,13 +35,13 @@ parsed_rule name parser = record (valued_rule name) { parser = Some parser }
 abbrev pub form_rules : List Rule
 form_rules =
     flag_rule (codes "unicode") ∷ flag_rule (codes "text") ∷ flag_rule (codes "short") ∷ flag_rule (codes "github")
-    ∷ flag_rule (codes "html") ∷ []
+    ∷ flag_rule (codes "html") ∷ flag_rule (codes "verify") ∷ []
 
 -- the other options that stand alone
 abbrev pub flag_rules : List Rule
 flag_rules =
-    flag_rule (codes "styled") ∷ flag_rule (codes "links") ∷ flag_rule (codes "duplicates") ∷ flag_rule (codes "quiet")
-    ∷ flag_rule (codes "confined") ∷ flag_rule (codes "unconfined") ∷ []
+    flag_rule (codes "styled") ∷ flag_rule (codes "links") ∷ flag_rule (codes "links-auto") ∷ flag_rule (codes "duplicates")
+    ∷ flag_rule (codes "quiet") ∷ flag_rule (codes "confined") ∷ flag_rule (codes "unconfined") ∷ []
 
 -- the words that may stand after `--color`, and after `--level`
 abbrev pub color_words : List Argument
@@ -80,6 +80,17 @@ pub record IsRedraw (app : App) : Type 0 where
   pub level_words : arguments_at levels.now ≡ level_words
   pub is : app ≡ redraw_app colors levels
 
+-- a word as the command has it: before `--` the option `--links=auto` is `--links-auto`, since `--links` has no value
+abbrev pub spelled_word : (is_option : Bool) → Argument → Argument
+spelled_word is_option word = if is_option && bytes_eq word (codes "--links=auto") then codes "--links-auto" else word
+
+-- the words of a command line as the command has them, where it may have options still
+abbrev pub spelled : (is_option : Bool) → List Argument → List Argument
+spelled is_option [] = []
+spelled is_option (word ∷ words) =
+    let still = is_option && not (bytes_eq word (codes "--")) in
+    spelled_word still word ∷ spelled still words
+
 -- ---- what is asked for, by what clap finds
 
 -- when colours are written where `--color` isn't given: always with `--styled`, else on a terminal that shows them
@@ -99,8 +110,8 @@ least_of (Some argument) =
     if bytes_eq argument (codes "error") then least.Error else (if bytes_eq argument (codes "warning") then least.Warning else least.Any)
 
 -- the form of what is drawn
-abbrev pub form_of : Bool → OutputForm
-form_of is_github = if is_github then Workflow else Report
+abbrev pub form_of : (is_verify is_github : Bool) → OutputForm
+form_of is_verify is_github = if is_verify then Verify else (if is_github then Workflow else Report)
 
 -- the argument that a reference leads to, if there is one
 abbrev pub argument_at : Option (Bor Argument) → Option Argument
@@ -112,16 +123,17 @@ look_of found = record {
   unicode = was_given (codes "unicode") found;
   text = was_given (codes "text") found;
   short = was_given (codes "short") found;
-  html = was_given (codes "html") found && not (was_given (codes "github") found);
+  html = was_given (codes "html") found && not (was_given (codes "github") found || was_given (codes "verify") found);
   github = was_given (codes "github") found;
   colors = when_of (first_of (codes "color") found) (was_given (codes "styled") found);
   links = was_given (codes "links") found;
+  links_auto = was_given (codes "links-auto") found;
   width = option_and_then number_after_plus (first_of (codes "width") found);
 }
 
 -- which findings are drawn, and in which form, by what is found
 pub record IsChoiceOf (found : List Row) (c : Choice) : Type 0 where
-  pub form : c.form ≡ form_of (was_given (codes "github") found)
+  pub form : c.form ≡ form_of (was_given (codes "verify") found) (was_given (codes "github") found)
   pub least : c.least ≡ least_of (first_of (codes "level") found)
   pub path : argument_at c.path ≡ first_of (codes "path") found
   pub duplicates : c.has_duplicates ≡ was_given (codes "duplicates") found

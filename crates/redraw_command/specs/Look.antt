@@ -17,15 +17,9 @@ are_written Never around = false
 abbrev pub has_colors : Look → Surroundings → Bool
 has_colors look around = are_written look.colors around
 
--- whether that is always so
-abbrev pub is_always : When → Bool
-is_always Auto = false
-is_always Always = true
-is_always Never = false
-
--- whether links are written where codes are: where they are asked for, or codes always are
-abbrev pub has_links : Look → Bool
-has_links look = look.links || is_always look.colors
+-- whether links are written where codes are: where they are asked for, anywhere or on a terminal
+abbrev pub has_links : Look → Surroundings → Bool
+has_links look around = look.links || (look.links_auto && around.is_terminal)
 
 -- whether a variable is set to anything but nothing
 abbrev pub is_set : Option (List ℕ) → Bool

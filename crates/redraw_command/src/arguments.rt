@@ -1,6 +1,6 @@
 //! The arguments of the command line, without the program's name.
 
-ghost use Rattle.std.specs.Prelude.{◌≡◌, ◌&&◌, ◌||◌, codes, false, not, IfOk};
+ghost use Rattle.std.specs.Prelude.{◌≡◌, ◌&&◌, ◌||◌, codes, false, not, true, IfOk};
 ghost use Rattle.clap.specs.Words.{FailsBy, app_of, fault_of, found_of, rows_of, rule_of};
 ghost use Rattle.clap.specs.Walk.{all_of, first_of};
 ghost use Rattle.clap.specs.Simple.{matches_of as rows_for};
@@ -95,12 +95,18 @@ fn with_forms<'a>(alloc: Global, command: Command<'a>) -> Result<Command<'a>, Al
         "Write each finding as a workflow command of GitHub, on one line",
     );
     let html = flag(alloc, "html", "Write one HTML document of all reports");
+    let verify = flag(
+        alloc,
+        "verify",
+        "Count the reports that aren't the text that rustc has of them, and show the first",
+    );
     let formed = command
         .arg(unicode)?
         .arg(text)?
         .arg(short)?
         .arg(github)?
-        .arg(html)?;
+        .arg(html)?
+        .arg(verify)?;
     Ok(formed)
 }
 
@@ -113,6 +119,11 @@ fn with_flags<'a>(alloc: Global, command: Command<'a>) -> Result<Command<'a>, Al
         alloc,
         "links",
         "Link to the pages that explain errors, where colors are written",
+    );
+    let links_auto = flag(
+        alloc,
+        "links-auto",
+        "Do so on a terminal; --links=auto is the same",
     );
     let duplicates = flag(
         alloc,
@@ -133,6 +144,7 @@ fn with_flags<'a>(alloc: Global, command: Command<'a>) -> Result<Command<'a>, Al
     let flagged = command
         .arg(styled)?
         .arg(links)?
+        .arg(links_auto)?
         .arg(duplicates)?
         .arg(quiet)?
         .arg(confined)?
@@ -206,6 +218,31 @@ fn parsed<'a>(
     valued(alloc, name, value, help).value_parser(parser)
 }
 
+/// The words of a command line as the command has them: before `--` the option `--links=auto` is `--links-auto`, since
+/// `--links` has no value.
+pub fn spelled<'a>(alloc: Global, args: &[&'a str]) -> Result<Vec<&'a str>, AllocError>
+    ensures value { IfOk result (λ words. arguments_at words.items ≡ spec.spelled true (arguments_at args.now)) }
+{
+    let mut words = Vec::new(alloc);
+    let mut is_option = true;
+    for arg in args {
+        is_option = is_option && *arg != "--";
+        words.push(spelled_word(is_option, *arg))?;
+    }
+    Ok(words)
+}
+
+/// A word as the command has it.
+fn spelled_word(is_option: bool, word: &str) -> &str
+    ensures value { result.now ≡ spec.spelled_word is_option word.now }
+{
+    if is_option && word == "--links=auto" {
+        "--links-auto"
+    } else {
+        word
+    }
+}
+
 /// What the arguments are matched with, or what is to be told in place of that: what is wrong with them, the help or
 /// the version.
 pub fn matches_of<'a>(alloc: Global, args: &'a [&'a str]) -> Result<ArgMatches<'a>, Error>
@@ -264,19 +301,24 @@ fn look_of(matches: &ArgMatches<'_>) -> Look
         unicode: was_given(matches, "unicode"),
         text: was_given(matches, "text"),
         short: was_given(matches, "short"),
-        html: is_html(was_given(matches, "html"), was_given(matches, "github")),
+        html: is_html(
+            was_given(matches, "html"),
+            was_given(matches, "github"),
+            was_given(matches, "verify"),
+        ),
         github: was_given(matches, "github"),
         colors: colors_of(color, was_given(matches, "styled")),
         links: was_given(matches, "links"),
+        links_auto: was_given(matches, "links-auto"),
         width: width_of(width),
     }
 }
 
-/// Whether reports are to be written as HTML: where that is asked for, and workflow commands aren't.
-fn is_html(is_asked: bool, is_github: bool) -> bool
-    ensures value { result ≡ is_asked && not is_github }
+/// Whether reports are to be written as HTML: where that is asked for, and no other form is.
+fn is_html(is_asked: bool, is_github: bool, is_verify: bool) -> bool
+    ensures value { result ≡ is_asked && not (is_github || is_verify) }
 {
-    is_asked && !is_github
+    is_asked && !(is_github || is_verify)
 }
 
 /// When colors are to be written, by the argument that says when, and whether they always are where none does.
@@ -302,7 +344,7 @@ fn choice_of<'a>(matches: &ArgMatches<'a>) -> Choice<'a>
     ensures asked { IsChoiceOf (rows_of (found_of matches.now)) result }
 {
     Choice {
-        form: form_of(was_given(matches, "github")),
+        form: form_of(was_given(matches, "verify"), was_given(matches, "github")),
         least: least_of(argument_after(matches, "level")),
         path: argument_after(matches, "path"),
         has_duplicates: was_given(matches, "duplicates"),
@@ -311,10 +353,12 @@ fn choice_of<'a>(matches: &ArgMatches<'a>) -> Choice<'a>
 }
 
 /// The form of what is drawn.
-fn form_of(is_github: bool) -> OutputForm
-    ensures value { result ≡ spec.form_of is_github }
+fn form_of(is_verify: bool, is_github: bool) -> OutputForm
+    ensures value { result ≡ spec.form_of is_verify is_github }
 {
-    if is_github {
+    if is_verify {
+        OutputForm::Verify
+    } else if is_github {
         OutputForm::Workflow
     } else {
         OutputForm::Report

@@ -13,6 +13,8 @@ pub enum OutputForm {
     Report,
     /// A workflow command of GitHub.
     Workflow,
+    /// Nothing, but for the first whose report isn't the text that rustc has of it.
+    Verify,
 }
 
 /// The least level of the findings that are drawn.

@@ -2,12 +2,13 @@
 ghost use Rattle.std.specs.Prelude.{◌≡◌, not};
 ghost use Rattle.redraw_command.specs.Tally as spec;
 
+use crate::choice::OutputForm;
 use redraw_report::diagnostic::Severity;
 use std::fmt;
 
 /// The status of a run that drew no error.
 pub const CLEAN: u8 = 0;
-/// The status of a run that drew an error, or read that a build failed.
+/// The status of a run that drew an error, or read that a build failed, or found a report that differs.
 pub const ERRORS: u8 = 1;
 /// The status of a run whose arguments or input aren't of the form, or that was stopped.
 pub const FAILED: u8 = 2;
@@ -27,6 +28,10 @@ pub struct Tally {
     pub files: u64,
     /// Parts of the input that are left out, since something is wrong with them.
     pub wrong: u64,
+    /// The findings whose reports were compared with the texts that rustc has of them.
+    pub compared: u64,
+    /// Those of them whose reports aren't these texts.
+    pub differing: u64,
     /// Whether an error was drawn, be it one that only sums up others.
     pub has_error: bool,
     /// Whether cargo says that the build failed.
@@ -45,6 +50,8 @@ impl Tally {
             duplicates: 0,
             files: 0,
             wrong: 0,
+            compared: 0,
+            differing: 0,
             has_error: false,
             has_failed: false,
         }
@@ -69,16 +76,38 @@ impl Tally {
         self
     }
 
-    /// The status of a run that drew this, and read all of its inputs or not.
-    pub fn status(&self, is_whole: bool) -> u8
-        ensures status { result ≡ spec.tally_status self.now is_whole }
+    /// The tally with a finding more whose report was compared with the text that rustc has of it.
+    pub fn with_compared(mut self, is_same: bool) -> Tally
+        ensures compared { result ≡ spec.with_compared self is_same }
+    {
+        self.compared = self.compared.saturating_add(1);
+        if !is_same {
+            self.differing = self.differing.saturating_add(1);
+        }
+        self
+    }
+
+    /// The status of a run that did this in a form, and read all of its inputs or not.
+    pub fn status(&self, form: OutputForm, is_whole: bool) -> u8
+        ensures status { result ≡ spec.tally_status form self.now is_whole }
     {
         if !is_whole {
             FAILED
-        } else if self.has_error || self.has_failed {
+        } else if self.has_found(form) {
             ERRORS
         } else {
             CLEAN
+        }
+    }
+
+    /// Whether a run in this form found what it is to tell of: an error or a build that failed, or a report that
+    /// differs.
+    fn has_found(&self, form: OutputForm) -> bool
+        ensures value { result ≡ spec.has_found form self.now }
+    {
+        match form {
+            OutputForm::Verify => self.differing > 0,
+            _ => self.has_error || self.has_failed,
         }
     }
 
@@ -86,7 +115,7 @@ impl Tally {
     pub fn is_empty(&self) -> bool
         ensures value { result ≡ spec.is_empty self.now }
     {
-        !self.has_drawn() && self.duplicates == 0 && self.wrong == 0
+        !self.has_drawn() && self.duplicates == 0 && self.wrong == 0 && self.compared == 0
     }
 
     /// Whether anything was drawn that counts.
@@ -101,17 +130,47 @@ impl Tally {
 #[derive(Clone, Copy)]
 pub struct Summary {
     pub tally: Tally,
+    /// The form in which findings were asked for.
+    pub form: OutputForm,
     /// The files that weren't read, since they lie elsewhere than below the folder.
     pub outside: u64,
 }
 
 impl fmt::Display for Summary {
     fn fmt<W: fmt::Write>(&self, f: &mut fmt::Formatter<W>) -> fmt::Result {
-        let Summary { tally, outside } = *self;
-        write!(f, "{tally}")?;
+        let Summary {
+            tally,
+            form,
+            outside,
+        } = *self;
+        match form {
+            OutputForm::Verify => write!(f, "{}", Comparison(tally))?,
+            _ => write!(f, "{tally}")?,
+        }
         if outside > 0 {
             let files = Counted(outside, "file", "files");
             write!(f, ", {files} outside the folder not read")?;
+        }
+        Ok(())
+    }
+}
+
+/// What is told of the reports that were compared with the texts that rustc has of them.
+#[derive(Clone, Copy)]
+struct Comparison(Tally);
+
+impl fmt::Display for Comparison {
+    fn fmt<W: fmt::Write>(&self, f: &mut fmt::Formatter<W>) -> fmt::Result {
+        let Comparison(tally) = *self;
+        let reports = Counted(tally.compared, "report", "reports");
+        let differing = tally.differing;
+        write!(
+            f,
+            "{reports} compared, {differing} not as rustc prints them"
+        )?;
+        let wrong = tally.wrong;
+        if wrong > 0 {
+            write!(f, ", {wrong} left out")?;
         }
         Ok(())
     }

@@ -31,6 +31,8 @@ pub struct Look {
     pub colors: When,
     /// Whether the names of errors link to pages that explain them, where style codes are written.
     pub links: bool,
+    /// Whether they do so on a terminal.
+    pub links_auto: bool,
     /// The width that lines are cut to, in columns, where one is given.
     pub width: Option<usize>,
 }
@@ -60,11 +62,11 @@ impl Look {
         }
     }
 
-    /// Whether links are written there: where they are asked for, and always where codes are.
-    pub fn has_links(&self) -> bool
-        ensures value { result ≡ spec.has_links self.now }
+    /// Whether links are written there, if style codes are: where they are asked for, anywhere or on a terminal.
+    pub fn has_links(&self, around: Surroundings<'_>) -> bool
+        ensures value { result ≡ spec.has_links self.now around.entry }
     {
-        self.links || self.colors == When::Always
+        self.links || self.links_auto && around.is_terminal
     }
 }
 

@@ -14,7 +14,7 @@ use Rattle.redraw_command.specs.declared.stop.Stop.TheVariants.{Memory, Unwritab
 use Rattle.redraw_command.specs.declared.tally.Tally.{Tally}
 use Rattle.redraw_report.specs.declared.diagnostic.Severity.{Severity}
 use Rattle.redraw_report.specs.declared.diagnostic.Severity.TheVariants.{Error, Warning, Info, Note, Help, Plain}
-use Rattle.redraw_run.specs.Deeds.{State, Deed, Drawn, Commanded, HandedOn, Told, Refused, LeftOut, Repeated, BuildFailed, AreDeeds, printed, told}
+use Rattle.redraw_run.specs.Deeds.{State, Deed, Drawn, Commanded, Compared, HandedOn, Told, Refused, LeftOut, Repeated, BuildFailed, AreDeeds, printed, told}
 use Rattle.redraw_run.specs.Deeds.{tally_after, tally_by, with_files, Does, IsCutShort, IsPartOfDeeds, Stops, Happens}
 use Rattle.redraw_run.specs.Fates.{AreNone, Then}
 
@@ -35,6 +35,7 @@ files_tallied Plain false t f = refl
 files_after : (d : Deed) (t : Tally) (f : ℕ) → tally_after (with_files t f) d ≡ with_files (tally_after t d) f
 files_after (Drawn d text) t f = files_tallied d.severity (is_sum d) t f
 files_after (Commanded d line) t f = files_tallied d.severity (is_sum d) t f
+files_after (Compared d is_same shown) t f = refl
 files_after (HandedOn line) t f = refl
 files_after (Told line) t f = refl
 files_after (Refused d why) t f = refl

@@ -11,24 +11,25 @@ use Rattle.annotate_snippets.specs.declared.renderer.error.RenderError.{RenderEr
 use Rattle.output_stream.specs.Standing.{Adds, BreaksOff, Gets, Standing}
 use Rattle.program.specs.Stream.{ended_line}
 use Rattle.output_stream.proofs.Writing.{adds_breaks, adds_none, adds_twice, breaks_stays, gets_twice}
-use Rattle.redraw_command.specs.Tally.{is_empty, one_more}
+use Rattle.redraw_command.specs.Tally.{is_empty, one_more, with_compared}
 use Rattle.redraw_command.specs.Told.{Tells}
 use Rattle.redraw_command.specs.Workflow.{command}
 use Rattle.redraw_command.specs.declared.choice.Choice.{Choice}
-use Rattle.redraw_command.specs.declared.choice.OutputForm.TheVariants.{Report, Workflow}
+use Rattle.redraw_command.specs.declared.choice.OutputForm.TheVariants.{Report, Workflow, Verify}
 use Rattle.redraw_command.specs.declared.stop.Stop.{Stop}
 use Rattle.redraw_command.specs.declared.stop.Stop.TheVariants.{Memory, Unwritable, Unreadable, Utf16}
 use Rattle.redraw_command.specs.declared.tally.Tally.{Tally}
 use Rattle.redraw_read.specs.declared.sources.File.{File}
 use Rattle.redraw_report.specs.declared.diagnostic.Diagnostic.{Diagnostic}
-use Rattle.redraw_run.specs.Deeds.{State, Deed, Drawn, Commanded, HandedOn, Told, Refused, LeftOut, Repeated, BuildFailed, AreDeeds, AreTold, TellsAll, printed}
-use Rattle.redraw_run.specs.Deeds.{told}
+use Rattle.redraw_run.specs.Deeds.{State, Deed, Drawn, Commanded, Compared, HandedOn, Told, Refused, LeftOut, Repeated, BuildFailed}
+use Rattle.redraw_run.specs.Deeds.{AreDeeds, AreTold, TellsAll, printed, told}
 use Rattle.redraw_run.specs.Deeds.{one_left_out, tally_by, with_files, repeated, Does, IsCutShort, IsUnwritable, Writes, Stops}
 use Rattle.redraw_run.specs.Deeds.{Happens}
 use Rattle.redraw_run.specs.DrawnFinding.{IsCounted, RefusesFinding, ShowsFinding, ending_after}
 use Rattle.redraw_run.specs.HtmlDocument.{handed}
 use Rattle.redraw_run.specs.ReadLines.{PrintsBytes, SumsUp, TellsUnless}
-use Rattle.redraw_run.specs.Fates.{AreMessages, AreNone, IsFailed, IsHandedOn, LeavesOut, IsRepeated, IsShown, IsTelling, IsWritten, IsWrong, Then}
+use Rattle.redraw_run.specs.Readings.{IsComparison}
+use Rattle.redraw_run.specs.Fates.{AreMessages, AreNone, IsCompared, IsFailed, IsHandedOn, LeavesOut, IsRepeated, IsShown, IsTelling, IsWritten, IsWrong, Then}
 use Rattle.redraw_run.proofs.Doing.{does_as, does_then}
 
 -- a tally is another, but for its files
@@ -271,6 +272,31 @@ goes_commanded a b (Err s) d line bytes form made counted renderer choice err is
       are = ((form, made), tt);
       fit = record { is = inr ([], inl (line, refl)) };
       out = subst (BreaksOff a.out b.out) (all_printed a.renderer (Commanded d line) bytes is) writes.1;
+      err = same_given a.err b.err err;
+    }
+
+-- a finding's report is compared
+pub goes_compared : {T : Type 0} (a b : State) (r : Result T Stop) (d : Diagnostic) (is_same : Bool) (shown bytes : List ℕ) → a.choice.form ≡ Verify
+    → IsComparison d is_same → b.tally ≡ with_compared a.tally is_same → b.renderer ≡ a.renderer → b.choice ≡ a.choice → b.err ≡ a.err
+    → bytes ≡ shown → Writes r a.out b.out bytes → Happens r (IsCompared d) a b
+goes_compared a b (Ok x) d is_same shown bytes form compared counted renderer choice err is writes =
+    record {
+      deeds = Compared d is_same shown ∷ [];
+      are = ((form, compared), tt);
+      fit = inl (is_same, shown, refl);
+      out = subst (Adds a.out b.out) (all_printed a.renderer (Compared d is_same shown) bytes is) writes;
+      err = same_given a.err b.err err;
+      tally = tally_is b.tally (with_compared a.tally is_same) counted;
+      renderer = renderer;
+      choice = choice;
+    }
+goes_compared a b (Err s) d is_same shown bytes form compared counted renderer choice err is writes =
+    stops_cut s writes.0
+    record {
+      deeds = Compared d is_same shown ∷ [];
+      are = ((form, compared), tt);
+      fit = record { is = inr ([], inl (is_same, shown, refl)) };
+      out = subst (BreaksOff a.out b.out) (all_printed a.renderer (Compared d is_same shown) bytes is) writes.1;
       err = same_given a.err b.err err;
     }
 

@@ -3,7 +3,7 @@ use Rattle.std.proofs.Common.{◌≡◌, ◌++◌, ◌∙◌, ℕ, List, [], ◌
 use Rattle.serde_json.specs.Data.{Data, null}
 use Rattle.redraw_command.specs.declared.choice.Choice.{Choice}
 use Rattle.redraw_report.specs.declared.diagnostic.Diagnostic.{Diagnostic}
-use Rattle.redraw_run.specs.Deeds.{Deed, Drawn, Commanded, HandedOn, Told, Refused, LeftOut, Repeated, BuildFailed, IsPartOfDeeds}
+use Rattle.redraw_run.specs.Deeds.{Deed, Drawn, Commanded, Compared, HandedOn, Told, Refused, LeftOut, Repeated, BuildFailed, IsPartOfDeeds}
 use Rattle.redraw_run.specs.Fates.{AreMessages, AreNone, AreResults, AreRuns, Each, IsChosen, IsFound, IsHandedOn, IsKnown, IsRepeated}
 use Rattle.redraw_run.specs.Fates.{IsResult, IsLogRun, IsShown}
 use Rattle.redraw_run.specs.Fates.{IsUnknown, IsWrong, Then}
@@ -51,6 +51,7 @@ shown_after d c [] es m h = h
 shown_after d c (Told part ∷ ds) es m h = shown_after d c ds es m h
 shown_after d c (Drawn f t ∷ ds) es m h = absurd m
 shown_after d c (Commanded f l ∷ ds) es m h = absurd m
+shown_after d c (Compared f s l ∷ ds) es m h = absurd m
 shown_after d c (HandedOn l ∷ ds) es m h = absurd m
 shown_after d c (Refused f w ∷ ds) es m h = absurd m
 shown_after d c (LeftOut ∷ ds) es m h = absurd m
@@ -73,6 +74,7 @@ messages_after c [] es m h = h
 messages_after c (Told part ∷ ds) es m h = messages_after c ds es m h
 messages_after c (Drawn f t ∷ ds) es m h = absurd m
 messages_after c (Commanded f l ∷ ds) es m h = absurd m
+messages_after c (Compared f s l ∷ ds) es m h = absurd m
 messages_after c (HandedOn l ∷ ds) es m h = absurd m
 messages_after c (Refused f w ∷ ds) es m h = absurd m
 messages_after c (LeftOut ∷ ds) es m h = absurd m

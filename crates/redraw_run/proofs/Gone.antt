@@ -250,7 +250,7 @@ named_cut remaining held source name (Err error) result a b named bytes h =
 -- it ends as it was summed up
 pub finishes : {File Standard : Type 0} (held : File ⊎ Standard → Option (List ℕ)) (names : List (List ℕ)) (a b : State) (is_whole : Bool)
     (err : Standing) (status : ℕ) → AreInputsPrinted File Standard held names is_whole a b
-    → SumsUp a.choice.is_quiet b.tally b.err err → status ≡ tally_status b.tally is_whole → Runs held names a b.out err status
+    → SumsUp a.choice.is_quiet b.tally b.err err → status ≡ tally_status a.choice.form b.tally is_whole → Runs held names a b.out err status
 finishes held names a b is_whole err status drawn sum ends =
     inl record { is_whole = is_whole; end = b; drawn = drawn; printed = refl; sum = sum; ends = ends }
 
@@ -271,10 +271,11 @@ run_from P r looked c t out err is none h =
 -- what sums up a run by what is asked for at its end
 pub finishes_by : {File Standard : Type 0} (held : File ⊎ Standard → Option (List ℕ)) (names : List (List ℕ)) (a b : State) (is_whole : Bool)
     (err : Standing) (status : ℕ) → AreInputsPrinted File Standard held names is_whole a b
-    → SumsUp b.choice.is_quiet b.tally b.err err → status ≡ tally_status b.tally is_whole → Runs held names a b.out err status
+    → SumsUp b.choice.is_quiet b.tally b.err err → status ≡ tally_status b.choice.form b.tally is_whole → Runs held names a b.out err status
 finishes_by held names a b is_whole err status drawn sum ends =
     let same : b.choice ≡ a.choice = ap (λ (s : State). s.choice) drawn.is ∙ drawn.drawn.does.choice in
-    finishes held names a b is_whole err status drawn (subst (λ (c : Choice). SumsUp c.is_quiet b.tally b.err err) same sum) ends
+    finishes held names a b is_whole err status drawn (subst (λ (c : Choice). SumsUp c.is_quiet b.tally b.err err) same sum)
+    (ends ∙ ap (λ (c : Choice). tally_status c.form b.tally is_whole) same)
 
 -- a closed pipe isn't told, and anything else is
 pub unwritten : {K : Type 0} (old new : Standing) → (K → new ≡ old) → K ⊎ Tells old new → (new ≡ old) ⊎ Tells old new

@@ -44,7 +44,7 @@ unread_and_clean held name names a out err run =
     let drawn = run.drawn.drawn in
     let partial : run.is_whole ≡ false = sym drawn.whole
     ∙ unread_all held drawn.inputs name names a.choice drawn.does.deeds drawn.named drawn.does.fit in
-    let two : ◌≡◌ {A = ℕ} 0 2 = run.ends ∙ ap (λ (whole : Bool). tally_status run.end.tally whole) partial in
+    let two : ◌≡◌ {A = ℕ} 0 2 = run.ends ∙ ap (λ (whole : Bool). tally_status a.choice.form run.end.tally whole) partial in
     cc two
 
 unread_run : (held : Nothing → Option (List ℕ)) (names : List (List ℕ)) (name : List ℕ) (rest : List (List ℕ)) (a : State) (out err : Standing)

@@ -5,6 +5,8 @@ use Rattle.output_stream.specs.Standing.{Standing}
 use Rattle.redraw_command.specs.Choice.{is_sum}
 use Rattle.redraw_command.specs.Line.{begins_object}
 use Rattle.redraw_command.specs.Tally.{no_tally, tally_status, tallied}
+use Rattle.redraw_command.specs.declared.choice.OutputForm.{OutputForm}
+use Rattle.redraw_command.specs.declared.choice.OutputForm.TheVariants.{Report}
 use Rattle.redraw_command.specs.declared.choice.Choice.{Choice}
 use Rattle.redraw_command.specs.declared.tally.Tally.{Tally}
 use Rattle.redraw_report.specs.declared.diagnostic.Diagnostic.{Diagnostic}
@@ -13,7 +15,7 @@ use Rattle.redraw_report.specs.declared.diagnostic.Severity.TheVariants.{Error}
 use Rattle.redraw_run.specs.declared.look.ReportRenderer.{ReportRenderer}
 use Rattle.redraw_run.specs.declared.kind.Kind.{Kind}
 use Rattle.redraw_run.specs.declared.kind.Kind.TheVariants as kind
-use Rattle.redraw_run.specs.Deeds.{State, Deed, Drawn, Commanded, HandedOn, Told, Refused, LeftOut, Repeated, BuildFailed, tally_by, with_files}
+use Rattle.redraw_run.specs.Deeds.{State, Deed, Drawn, Commanded, Compared, HandedOn, Told, Refused, LeftOut, Repeated, BuildFailed, tally_by, with_files}
 use Rattle.redraw_run.specs.Fates.{AreMessages, Each, IsDiagnosed, IsFound, IsKnown, IsFateOfLine, IsLog, IsReported, IsResult, IsLogRun, IsShown, IsTaking}
 use Rattle.redraw_run.specs.Run.{Finishes, nothing_begun}
 
@@ -22,6 +24,7 @@ Unhanded : List Deed → Type 0
 Unhanded [] = Unit {0}
 Unhanded (Drawn d t ∷ ds) = Unhanded ds
 Unhanded (Commanded d l ∷ ds) = Unhanded ds
+Unhanded (Compared d s l ∷ ds) = Unhanded ds
 Unhanded (HandedOn l ∷ ds) = ⊥
 Unhanded (Told p ∷ ds) = Unhanded ds
 Unhanded (Refused f w ∷ ds) = Unhanded ds
@@ -34,6 +37,7 @@ unfolding Unhanded
 unhanded_both [] es p q = q
 unhanded_both (Drawn d t ∷ ds) es p q = unhanded_both ds es p q
 unhanded_both (Commanded d l ∷ ds) es p q = unhanded_both ds es p q
+unhanded_both (Compared d s l ∷ ds) es p q = unhanded_both ds es p q
 unhanded_both (HandedOn l ∷ ds) es p q = absurd p
 unhanded_both (Told t ∷ ds) es p q = unhanded_both ds es p q
 unhanded_both (Refused f w ∷ ds) es p q = unhanded_both ds es p q
@@ -47,6 +51,7 @@ messages_unhanded c [] h = tt
 messages_unhanded c (Told part ∷ ds) h = messages_unhanded c ds h
 messages_unhanded c (Drawn d t ∷ ds) h = absurd h
 messages_unhanded c (Commanded d l ∷ ds) h = absurd h
+messages_unhanded c (Compared d s l ∷ ds) h = absurd h
 messages_unhanded c (HandedOn l ∷ ds) h = absurd h
 messages_unhanded c (Refused f w ∷ ds) h = absurd h
 messages_unhanded c (LeftOut ∷ ds) h = absurd h
@@ -61,6 +66,7 @@ shown_unhanded d c (Drawn f t ∷ ds) h = subst Unhanded (sym h.1) tt
 shown_unhanded d c (Refused f w ∷ ds) h = subst Unhanded (sym h.1.1) tt
 shown_unhanded d c (LeftOut ∷ ds) h = absurd h
 shown_unhanded d c (Commanded f l ∷ ds) h = absurd h
+shown_unhanded d c (Compared f s l ∷ ds) h = absurd h
 shown_unhanded d c (HandedOn l ∷ ds) h = absurd h
 shown_unhanded d c (Repeated ∷ ds) h = absurd h
 shown_unhanded d c (BuildFailed ∷ ds) h = absurd h
@@ -70,8 +76,10 @@ unfolding Unhanded
 taken_unhanded d c ds (inl h) = subst Unhanded (sym h.1) tt
 taken_unhanded d c ds (inr (taken, inl h)) = subst Unhanded (sym h.1) tt
 taken_unhanded d c ds (inr (taken, inr (inl h))) = shown_unhanded d c ds h.1
-taken_unhanded d c ds (inr (taken, inr (inr (form, inl h)))) = subst Unhanded (sym h.1) tt
-taken_unhanded d c ds (inr (taken, inr (inr (form, inr h)))) = subst Unhanded (sym h.1) tt
+taken_unhanded d c ds (inr (taken, inr (inr (inl (form, inl h))))) = subst Unhanded (sym h.1) tt
+taken_unhanded d c ds (inr (taken, inr (inr (inl (form, inr h))))) = subst Unhanded (sym h.1) tt
+taken_unhanded d c ds (inr (taken, inr (inr (inr (form, inl h))))) = subst Unhanded (sym h.1.1) tt
+taken_unhanded d c ds (inr (taken, inr (inr (inr (form, inr h))))) = subst Unhanded (sym h) tt
 
 reported_unhanded : (c : Choice) (ds : List Deed) → IsReported c ds → Unhanded ds
 unfolding Unhanded
@@ -139,8 +147,10 @@ drawn_twice c d text (inr (inl h)) = cc h.1
 drawn_twice c d text (inr (inr (f, inl h))) = cc h.1
 drawn_twice c d text (inr (inr (f, inr (taken, inl h)))) = cc h.1
 drawn_twice c d text (inr (inr (f, inr (taken, inr (inl h))))) = cc h.1.1
-drawn_twice c d text (inr (inr (f, inr (taken, inr (inr (form, inl h)))))) = cc h.1
-drawn_twice c d text (inr (inr (f, inr (taken, inr (inr (form, inr h)))))) = cc h.1
+drawn_twice c d text (inr (inr (f, inr (taken, inr (inr (inl (form, inl h))))))) = cc h.1
+drawn_twice c d text (inr (inr (f, inr (taken, inr (inr (inl (form, inr h))))))) = cc h.1
+drawn_twice c d text (inr (inr (f, inr (taken, inr (inr (inr (form, inl h))))))) = cc h.1.1
+drawn_twice c d text (inr (inr (f, inr (taken, inr (inr (inr (form, inr h))))))) = cc h
 
 -- what another tool writes, here `a`, is handed on and told too
 pub noise_told : (c : Choice) (part : List ℕ) → IsFateOfLine (97 ∷ 10 ∷ []) c (HandedOn (97 ∷ 10 ∷ []) ∷ Told part ∷ []) → ⊥
@@ -148,7 +158,7 @@ noise_told c part (text, inl is, inl h) = cc h.1
 noise_told c part (text, inl is, inr h) = cc (ap begins_object is, h.0)
 noise_told c part (text, inr is, h) = cc is
 
-no_clean : (t : Tally) (whole : Bool) → t.has_error ≡ true → 0 ≡ tally_status t whole → ⊥
+no_clean : (t : Tally) (whole : Bool) → t.has_error ≡ true → 0 ≡ tally_status Report t whole → ⊥
 no_clean t true error none =
     let one : ◌≡◌ {A = ℕ} 0 1 = none ∙ ap (λ (e : Bool). if e || t.has_failed then 1 else 0) error in
     cc one
@@ -162,13 +172,14 @@ has_one : (t : Tally) (sum : Bool) → (tallied t Error sum).has_error ≡ true
 has_one t true = or_true t.has_error
 has_one t false = or_true t.has_error
 
--- status 0 after an error was drawn
+-- status 0 after an error was drawn as a report
 pub clean_after_an_error : {File Standard : Type 0} (held : File ⊎ Standard → Option (List ℕ)) (names : List (List ℕ)) (r : ReportRenderer) (c : Choice)
-    (old_out old_err out err : Standing) (d : Diagnostic) (text : List ℕ) → d.severity ≡ Error
+    (old_out old_err out err : Standing) (d : Diagnostic) (text : List ℕ) → c.form ≡ Report → d.severity ≡ Error
     → (run : Finishes File Standard held names (nothing_begun r c old_out old_err) out err 0) → run.drawn.drawn.does.deeds ≡ Drawn d text ∷ [] → ⊥
-clean_after_an_error held names r c old_out old_err out err d text error run is =
+clean_after_an_error held names r c old_out old_err out err d text form error run is =
     let last : Tally = run.drawn.last.tally in
     let counted : run.end.tally ≡ with_files (tally_by no_tally (Drawn d text ∷ [])) last.files
     = ap (λ (s : State). s.tally) run.drawn.is ∙ run.drawn.drawn.does.tally ∙ ap (λ ds. with_files (tally_by no_tally ds) last.files) is in
     no_clean run.end.tally run.is_whole
-    (ap (λ (t : Tally). t.has_error) counted ∙ ap (λ (s : Severity). (tallied no_tally s (is_sum d)).has_error) error ∙ has_one no_tally (is_sum d)) run.ends
+    (ap (λ (t : Tally). t.has_error) counted ∙ ap (λ (s : Severity). (tallied no_tally s (is_sum d)).has_error) error ∙ has_one no_tally (is_sum d))
+    (run.ends ∙ ap (λ (f : OutputForm). tally_status f run.end.tally run.is_whole) form)

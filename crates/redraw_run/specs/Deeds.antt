@@ -1,15 +1,15 @@
 -- What a run does on its way: what both streams are given, and what is counted.
-use Rattle.std.specs.Prelude.{◌≡◌, ℕ, ◌⊎◌, true, List, [], ◌∷◌, ◌++◌, Some, Result, Ok, Err}
+use Rattle.std.specs.Prelude.{◌≡◌, ℕ, ◌⊎◌, Bool, true, List, [], ◌∷◌, ◌++◌, Some, Result, Ok, Err}
 use Rattle.std.specs.List.{flat_map}
 use Rattle.annotate_snippets.specs.declared.renderer.error.RenderError.{RenderError}
 use Rattle.output_stream.specs.Standing.{Adds, BreaksOff, Gets, Standing}
 use Rattle.program.specs.Stream.{ended_line}
 use Rattle.redraw_command.specs.Choice.{is_sum}
-use Rattle.redraw_command.specs.Tally.{one_more, tallied}
+use Rattle.redraw_command.specs.Tally.{one_more, tallied, with_compared}
 use Rattle.redraw_command.specs.Told.{IsMessage}
 use Rattle.redraw_command.specs.Workflow.{command}
 use Rattle.redraw_command.specs.declared.choice.Choice.{Choice}
-use Rattle.redraw_command.specs.declared.choice.OutputForm.TheVariants.{Report, Workflow}
+use Rattle.redraw_command.specs.declared.choice.OutputForm.TheVariants.{Report, Workflow, Verify}
 use Rattle.redraw_command.specs.declared.stop.Stop.{Stop}
 use Rattle.redraw_command.specs.declared.stop.Stop.TheVariants.{Memory, Unwritable, Unreadable, Utf16}
 use Rattle.redraw_command.specs.declared.tally.Tally.{Tally}
@@ -17,6 +17,7 @@ use Rattle.redraw_read.specs.declared.sources.File.{File}
 use Rattle.redraw_report.specs.declared.diagnostic.Diagnostic.{Diagnostic}
 use Rattle.redraw_run.specs.DrawnFinding.{RefusesFinding, ShowsFinding, ending_after}
 use Rattle.redraw_run.specs.HtmlDocument.{handed}
+use Rattle.redraw_run.specs.Readings.{IsComparison}
 use Rattle.redraw_run.specs.declared.draw.Drawing.{Drawing}
 use Rattle.redraw_run.specs.declared.look.ReportRenderer.{ReportRenderer}
 
@@ -33,11 +34,13 @@ pub record State : Type 0 where
 abbrev pub standing : {S : Type 0} → Drawing S → Standing → Standing → State
 standing d out err = record { renderer = d.renderer; choice = d.choice; tally = d.tally; out = out; err = err }
 
--- one thing that is done: a finding is drawn as a report, or written as a command; a line is handed on; a message is told; the report of
--- a finding is refused; a part of the input is left out; a finding that was drawn before isn't again; or cargo says that the build failed
+-- one thing that is done: a finding is drawn as a report, or written as a command, or its report is compared with the text that rustc has
+-- of it, and this is shown of that; a line is handed on; a message is told; the report of a finding is refused; a part of the input is left
+-- out; a finding that was drawn before isn't again; or cargo says that the build failed
 pub data Deed : Type 0 where
   Drawn : (finding : Diagnostic) (text : List ℕ) → Deed
   Commanded : (finding : Diagnostic) (line : List ℕ) → Deed
+  Compared : (finding : Diagnostic) (is_same : Bool) (shown : List ℕ) → Deed
   HandedOn : (line : List ℕ) → Deed
   Told : (message : List ℕ) → Deed
   Refused : (finding : Diagnostic) (why : RenderError) → Deed
@@ -46,10 +49,12 @@ pub data Deed : Type 0 where
   BuildFailed : Deed
 
 -- when that is done: a report shows the finding in the renderer's settings, its places looked for in some files, or is refused for this
--- reason; a command is that of the finding; each where it is asked for; and what is told is a message
+-- reason; a command is that of the finding; a report is compared as it is drawn as rustc draws it; each where it is asked for; and what is
+-- told is a message
 abbrev pub IsDeed : ReportRenderer → Choice → Deed → Type 0
 IsDeed r c (Drawn d text) = (c.form ≡ Report) × (files : List File) × ShowsFinding r files d text
 IsDeed r c (Commanded d line) = (c.form ≡ Workflow) × (command d ≡ Some line)
+IsDeed r c (Compared d is_same shown) = (c.form ≡ Verify) × IsComparison d is_same
 IsDeed r c (HandedOn line) = Unit {0}
 IsDeed r c (Told line) = IsMessage line
 IsDeed r c (Refused d why) = (c.form ≡ Report) × (files : List File) × RefusesFinding r files d why
@@ -65,6 +70,7 @@ AreDeeds r c (deed ∷ deeds) = IsDeed r c deed × AreDeeds r c deeds
 abbrev pub printed : ReportRenderer → Deed → List ℕ
 printed r (Drawn d text) = text ++ (ending_after r.settings.short_message d.severity ++ 10 ∷ [])
 printed r (Commanded d line) = line ++ 10 ∷ []
+printed r (Compared d is_same shown) = shown
 printed r (HandedOn line) = handed r.is_html r.is_workflow line
 printed r (Told line) = []
 printed r (Refused d why) = []
@@ -76,6 +82,7 @@ printed r BuildFailed = []
 abbrev pub told : Deed → List ℕ
 told (Drawn d text) = []
 told (Commanded d line) = []
+told (Compared d is_same shown) = []
 told (HandedOn line) = []
 told (Told line) = ended_line line
 told (Refused d why) = []
@@ -95,6 +102,7 @@ repeated t = record t { duplicates = one_more t.duplicates }
 abbrev pub tally_after : Tally → Deed → Tally
 tally_after t (Drawn d text) = tallied t d.severity (is_sum d)
 tally_after t (Commanded d line) = tallied t d.severity (is_sum d)
+tally_after t (Compared d is_same shown) = with_compared t is_same
 tally_after t (HandedOn line) = t
 tally_after t (Told line) = t
 tally_after t (Refused d why) = one_left_out t

@@ -11,10 +11,10 @@ use Rattle.annotate_snippets.specs.declared.renderer.form.Form.TheVariants.{Grap
 use Rattle.annotate_snippets.specs.declared.snippet.Group.{Group}
 use Rattle.output_stream.specs.Standing.{Adds, Standing}
 use Rattle.redraw_command.specs.Choice.{is_sum}
-use Rattle.redraw_command.specs.Tally.{one_more, tallied}
+use Rattle.redraw_command.specs.Tally.{one_more, tallied, with_compared}
 use Rattle.redraw_command.specs.Workflow.{command}
 use Rattle.redraw_command.specs.declared.choice.OutputForm.{OutputForm}
-use Rattle.redraw_command.specs.declared.choice.OutputForm.TheVariants.{Report, Workflow}
+use Rattle.redraw_command.specs.declared.choice.OutputForm.TheVariants.{Report, Workflow, Verify}
 use Rattle.redraw_command.specs.declared.tally.Tally.{Tally}
 use Rattle.redraw_read.specs.Placed.{IsFindingOf, home_of}
 use Rattle.redraw_read.specs.declared.sources.File.{File}
@@ -105,8 +105,17 @@ pub record IsCommanded (d : Diagnostic) (old new : Standing) (before after : Tal
   pub written : Adds old new (line ++ 10 ∷ [])
   pub counted : IsCounted d before after
 
+-- the report of a finding is compared: to what a writer held, what is shown of that is added, and the finding is counted as compared
+pub record IsComparedTo (old new : Standing) (before after : Tally) : Type 0 where
+  pub is_same : Bool
+  pub shown : List ℕ
+  pub written : Adds old new shown
+  pub counted : after ≡ with_compared before is_same
+
 -- what becomes of a finding, by the form that is asked for. As a report it is drawn, or refused: then nothing is written (Same), and
--- it is counted as left out. As a command it is written, or it has none: then nothing is written, and nothing counted
+-- it is counted as left out. As a command it is written, or it has none: then nothing is written, and nothing counted. Or its report is
+-- compared, or there is no text to compare it with: then nothing is written, and nothing counted
 abbrev pub DrawsFinding : OutputForm → ReportRenderer → List File → Diagnostic → Standing → Standing → Type 0 → Tally → Tally → Type 0
 DrawsFinding Report r files d old new Same before after = IsDrawn r files d old new before after ⊎ (Refuses r files d × Same × IsLeftOut before after)
 DrawsFinding Workflow r files d old new Same before after = IsCommanded d old new before after ⊎ ((command d ≡ None) × Same × (after ≡ before))
+DrawsFinding Verify r files d old new Same before after = IsComparedTo old new before after ⊎ (Same × (after ≡ before))

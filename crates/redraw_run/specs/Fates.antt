@@ -1,6 +1,6 @@
 -- What becomes of a finding, of a value of JSON, of a line and of an input: which things are done about it, in their order. Each of these
 -- kinds of things is told by what is asked for.
-use Rattle.std.specs.Prelude.{◌≡◌, ◌≢◌, ◌⊎◌, ℕ, true, false, List, [], ◌∷◌, ◌++◌, Option, Some, None, Result, Ok, Err, OnOk, is_some, codes, option_map}
+use Rattle.std.specs.Prelude.{◌≡◌, ◌≢◌, ◌⊎◌, ℕ, Bool, true, false, List, [], ◌∷◌, ◌++◌, Option, Some, None, Result, Ok, Err, OnOk, is_some, codes, option_map}
 use Rattle.std.specs.Global.{Vec}
 use Rattle.std.specs.List.{concat}
 use Rattle.std.specs.Str.{IsUtf8}
@@ -12,11 +12,11 @@ use Rattle.redraw_command.specs.Choice.{IsTaken}
 use Rattle.redraw_command.specs.Line.{begins_object, begins_utf16, mark}
 use Rattle.redraw_command.specs.Workflow.{command}
 use Rattle.redraw_command.specs.declared.choice.Choice.{Choice}
-use Rattle.redraw_command.specs.declared.choice.OutputForm.TheVariants.{Report, Workflow}
+use Rattle.redraw_command.specs.declared.choice.OutputForm.TheVariants.{Report, Workflow, Verify}
 use Rattle.redraw_command.specs.declared.stop.Stop.{Stop}
 use Rattle.redraw_command.specs.declared.stop.Stop.TheVariants.{Memory, Unwritable, Unreadable, Utf16}
 use Rattle.redraw_report.specs.declared.diagnostic.Diagnostic.{Diagnostic}
-use Rattle.redraw_run.specs.Deeds.{State, Deed, Drawn, Commanded, HandedOn, Told, Refused, LeftOut, Repeated, BuildFailed, Does, IsCutShort}
+use Rattle.redraw_run.specs.Deeds.{State, Deed, Drawn, Commanded, Compared, HandedOn, Told, Refused, LeftOut, Repeated, BuildFailed, Does, IsCutShort}
 use Rattle.redraw_run.specs.Deeds.{IsPartOfDeeds, Stops}
 use Rattle.redraw_run.specs.declared.kind.Kind.{Kind}
 use Rattle.redraw_run.specs.declared.kind.Kind.TheVariants as kind
@@ -81,9 +81,14 @@ IsShown d c (_ ∷ deeds) = ⊥
 abbrev pub IsWritten : Diagnostic → Choice → List Deed → Type 0
 IsWritten d c deeds = ((line : List ℕ) × (deeds ≡ Commanded d line ∷ [])) ⊎ ((command d ≡ None) × (deeds ≡ []))
 
+-- the report of a finding is compared with the text that rustc has of it; or there is no such text, and nothing is done
+abbrev pub IsCompared : Diagnostic → Choice → List Deed → Type 0
+IsCompared d c deeds = ((is_same : Bool) × (shown : List ℕ) × (deeds ≡ Compared d is_same shown ∷ [])) ⊎ (deeds ≡ [])
+
 -- what becomes of a finding that is to be drawn, by the form that is asked for
 abbrev pub IsDrawing : Diagnostic → Choice → List Deed → Type 0
-IsDrawing d c deeds = ((c.form ≡ Report) × IsShown d c deeds) ⊎ ((c.form ≡ Workflow) × IsWritten d c deeds)
+IsDrawing d c deeds =
+    ((c.form ≡ Report) × IsShown d c deeds) ⊎ ((c.form ≡ Workflow) × IsWritten d c deeds) ⊎ ((c.form ≡ Verify) × IsCompared d c deeds)
 
 -- what becomes of a finding that is asked for: it is drawn; or nothing is, where it was drawn before and isn't to be drawn again
 abbrev pub IsChosen : Diagnostic → Choice → List Deed → Type 0

@@ -35,6 +35,11 @@ as_rustc_ends drawing = drawing ++ codes "\n\n"
 abbrev pub is_meant : List ℕ → Candidate → Bool
 is_meant text c = option_map_or (λ drawing. bytes_eq (as_rustc_ends drawing) text) c.drawing false
 
+-- the report of a finding, drawn as rustc draws, is the text that rustc has of it, or isn't
+abbrev pub IsComparison : Diagnostic → Bool → Type 0
+IsComparison d is_same =
+    (is_unicode : Bool) × (text : List ℕ) × (c : Candidate) × (c.reading ≡ d) × IsDrawnIn (rustc_look is_unicode) c × (is_meant text c ≡ is_same)
+
 -- of some candidates the first that is meant, or this one where none is
 abbrev pub chosen_or : Candidate → List ℕ → List Candidate → Candidate
 chosen_or other text [] = other

@@ -25,7 +25,7 @@ abbrev pub looks : Look → Surroundings → ReportRenderer
 looks look around =
     record {
       settings = record (settings_of (shared_options look around)) {
-        hyperlink = look.html || (has_colors look around && has_links look);
+        hyperlink = look.html || (has_colors look around && has_links look around);
         show_line_feeds = true;
       };
       is_html = look.html;

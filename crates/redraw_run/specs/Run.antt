@@ -76,7 +76,7 @@ pub record Finishes (File Standard : Type 0) (held : File ⊎ Standard → Optio
   pub drawn : AreInputsPrinted File Standard held names is_whole a end
   pub printed : out ≡ end.out
   pub sum : SumsUp a.choice.is_quiet end.tally end.err err
-  pub ends : status ≡ tally_status end.tally is_whole
+  pub ends : status ≡ tally_status a.choice.form end.tally is_whole
 
 -- a run ends where standard output can't be written: one message may tell why, and the status is 2
 pub record EndsCut (File Standard : Type 0) (held : File ⊎ Standard → Option (List ℕ)) (names : List (List ℕ)) (a : State)

@@ -62,6 +62,8 @@ pub struct Drawing<'w, S: Drop> {
     pub input: &'w str,
     /// The line of it that is read, from 1; 0 where it isn't read by lines.
     pub line: u64,
+    /// The text that rustc has of the finding that is read, where reports are compared with it.
+    pub own_text: Option<String>,
 }
 
 impl<S: SourceFiles + Drop> Drawing<'_, S> {
@@ -168,10 +170,20 @@ impl<S: SourceFiles + Drop> Drawing<'_, S> {
             (standing self.old (known W.contents out.old) (known V.contents err.old))
             (standing self.new (known W.contents out.new) (known V.contents err.new)) }
     {
-        if let Some(folder) = &self.folder {
-            make_relative(self.alloc, &mut diagnostic, folder.as_str())?;
+        if let Some(folder) = self.shown_from() {
+            make_relative(self.alloc, &mut diagnostic, folder)?;
         }
         self.draw_chosen(&diagnostic, message, out, err)
+    }
+
+    /// The folder that paths are shown from; none where reports are compared with rustc's texts, which have the paths
+    /// as they are.
+    fn shown_from(&self) -> Option<&str> {
+        match (&self.folder, self.choice.form) {
+            (Some(_), OutputForm::Verify) => None,
+            (Some(folder), _) => Some(folder.as_str()),
+            (None, _) => None,
+        }
     }
 
     /// Draws a finding, if it is one of those that are asked for.
@@ -260,6 +272,7 @@ impl<S: SourceFiles + Drop> Drawing<'_, S> {
         match self.choice.form {
             OutputForm::Report => self.draw_report(diagnostic, out, err),
             OutputForm::Workflow => self.draw_command(diagnostic, out),
+            OutputForm::Verify => self.compare(diagnostic, out),
         }
     }
 

@@ -1,6 +1,7 @@
 //! What the program `redraw` does: it reads what other tools report, and prints what the library draws of it.
 #![tactic(auto)]
 
+mod difference;
 pub mod draw;
 pub mod files;
 pub mod html;
@@ -13,4 +14,5 @@ pub mod report;
 pub mod run;
 pub mod sarif;
 pub mod text;
+mod verify;
 pub mod write;

@@ -29,7 +29,7 @@ pub fn renderer_for(look: &Look, around: Surroundings<'_>) -> ReportRenderer
         width: look.width.or(around.columns),
     };
     let settings = renderer_of(options)
-        .hyperlink(look.html || has_colors && look.has_links())
+        .hyperlink(look.html || has_colors && look.has_links(around))
         .show_line_feeds(true);
     ReportRenderer {
         settings,

@@ -7,6 +7,7 @@ ghost use Rattle.std.specs.Prelude.{◌≡◌};
 use crate::draw::Drawing;
 use crate::readings::read_diagnostic;
 use crate::sarif::draw_runs;
+use crate::verify::keep_own_text;
 use json_lines::expectation::Expectation;
 use json_lines::fault::Fault;
 use json_lines::node::Node;
@@ -31,6 +32,7 @@ pub fn rustc_diagnostic<S: SourceFiles + Drop, W: Write, V: Write>(
         (standing drawing.new (known W.contents out.new) (known V.contents err.new)) }
 {
     let read = read_diagnostic(&mut drawing.sources, node, false);
+    keep_own_text(drawing, node)?;
     take_read(read, node.value, None, drawing, out, err)
 }
 
@@ -48,6 +50,7 @@ pub fn cargo_message<S: SourceFiles + Drop, W: Write, V: Write>(
     match node.needed("message", Expectation::Object) {
         Ok(message) => {
             let read = read_diagnostic(&mut drawing.sources, node, true);
+            keep_own_text(drawing, &message)?;
             let told = told_by(message.value);
             take_read(read, message.value, Some(told), drawing, out, err)
         }
@@ -120,6 +123,7 @@ pub fn sarif_log<S: SourceFiles + Drop, W: Write, V: Write>(
     ensures does { Happens result IsLog (standing drawing.old (known W.contents out.old) (known V.contents err.old))
         (standing drawing.new (known W.contents out.new) (known V.contents err.new)) }
 {
+    drawing.own_text = None;
     swap_sources(drawing);
     let drawn = draw_log(node, drawing, out, err);
     swap_sources(drawing);

@@ -139,12 +139,14 @@ fn draw_all<'w, R: Files + Input + AllocGlobal, W: Write, V: Write>(
         files: Names::new(alloc),
         input: STANDARD_INPUT,
         line: 0,
+        own_text: None,
     };
     match draw_document(rt, request.inputs, &mut drawing, out, err) {
         Ok(is_whole) => finish(
             alloc,
             Summary {
                 tally: drawing.tally,
+                form: drawing.choice.form,
                 outside: outside.get(),
             },
             drawing.choice.is_quiet,
@@ -325,16 +327,16 @@ fn finish<V: Write>(
     is_whole: bool,
     err: &mut Stream<V>,
 ) -> u8
-    ensures status { result ≡ tally_status summary.tally is_whole }
+    ensures status { result ≡ tally_status summary.form summary.tally is_whole }
     ensures quiet { is_quiet ≡ true → err.new ≡ err.old }
     ensures last { SumsUp is_quiet summary.tally (known V.contents err.old) (known V.contents err.new) }
 {
     let tally = summary.tally;
     if has_no_sum(&tally, is_quiet) {
-        return tally.status(is_whole);
+        return tally.status(summary.form, is_whole);
     }
     tell(alloc, summary, err);
-    tally.status(is_whole)
+    tally.status(summary.form, is_whole)
 }
 
 /// Whether nothing is summed up: that isn't wanted, or there is nothing to tell.

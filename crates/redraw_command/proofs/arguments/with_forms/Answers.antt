@@ -8,4 +8,5 @@ returns c =
     let text = c.in_ok-arg-2.ensures.shape c.flag-text.ensures.local ∙ ap₂ with_rule unicode c.flag-text.ensures.rule in
     let short = c.in_ok-arg-3.ensures.shape c.flag-short.ensures.local ∙ ap₂ with_rule text c.flag-short.ensures.rule in
     let github = c.in_ok-arg-4.ensures.shape c.flag-github.ensures.local ∙ ap₂ with_rule short c.flag-github.ensures.rule in
-    record { app = c.in_ok-formed.ensures.shape c.flag-html.ensures.local ∙ ap₂ with_rule github c.flag-html.ensures.rule }
+    let html = c.in_ok-arg-5.ensures.shape c.flag-html.ensures.local ∙ ap₂ with_rule github c.flag-html.ensures.rule in
+    record { app = c.in_ok-formed.ensures.shape c.flag-verify.ensures.local ∙ ap₂ with_rule html c.flag-verify.ensures.rule }

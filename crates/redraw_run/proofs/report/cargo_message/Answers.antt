@@ -1,7 +1,31 @@
-use Rattle.std.proofs.Common.{inr}
-use Rattle.redraw_run.specs.Fates.{IsDiagnosed, IsReported}
-use Rattle.redraw_run.proofs.Doing.{goes_as}
+use Rattle.std.proofs.Common.{inr, subst, sym}
+use Rattle.output_stream.specs.Standing.{Standing, known}
+use Rattle.redraw_run.specs.Deeds.{Does, Happens, State, standing}
+use Rattle.redraw_run.specs.Fates.{AreNone, IsDiagnosed, IsReported}
+use Rattle.redraw_run.proofs.Doing.{does_nothing, goes_as, goes_err, stops_none}
 use Rattle.redraw_run.proofs.report.cargo_message.Goals as goal
+
+-- which text is kept is no part of what is told so far
+pub returns-in_err-keep_own_text-in-Ok : goal.returns-in_err-keep_own_text-in-Ok
+returns-in_err-keep_own_text-in-Ok g c =
+    let out : Standing = known g.W.Write.contents c.args.out.now in
+    let err : Standing = known g.V.Write.contents c.args.err.now in
+    let begun : State = standing c.args.drawing.now out err in
+    let same = c.keep_own_text.ensures.same out err in
+    record {
+      does = goes_err IsDiagnosed _ _ c.from_residual.result c.from_residual.ensures.1
+          (λ s q. stops_none IsDiagnosed s q (subst (λ (b : State). Does AreNone begun b) (sym same) (does_nothing begun)));
+    }
+
+pub returns-in_ok-keep_own_text-in-Ok : goal.returns-in_ok-keep_own_text-in-Ok
+returns-in_ok-keep_own_text-in-Ok g c =
+    let out : Standing = known g.W.Write.contents c.args.out.now in
+    let err : Standing = known g.V.Write.contents c.args.err.now in
+    let ended : State
+    = standing c.take_read.new.drawing (known g.W.Write.contents c.take_read.new.out) (known g.V.Write.contents c.take_read.new.err) in
+    record {
+      does = subst (λ (a : State). Happens c.take_read.result IsDiagnosed a ended) (c.keep_own_text.ensures.same out err) c.take_read.ensures.does;
+    }
 
 pub returns-in-Err : goal.returns-in-Err
 returns-in-Err g c = record { does = goes_as IsReported IsDiagnosed _ _ c.finding.result (λ ds h. inr h) c.finding.ensures.does }
