@@ -1,6 +1,7 @@
 pub mod Chosen
 pub mod CommandLines
 pub mod Finding
+pub mod LookingAhead
 pub mod NotFound
 pub mod NotWritten
 pub mod Paths

@@ -2,8 +2,11 @@ pub mod Arguments
 pub mod Choice
 pub mod Files
 pub mod Found
+pub mod Halt
 pub mod Line
 pub mod Look
+pub mod LookAhead
+pub mod Scanned
 pub mod Seen
 pub mod Tally
 pub mod Told

@@ -2,11 +2,13 @@
 //! line of an input is, what was drawn before, findings as workflow commands, what is written where, and the status.
 #![tactic(auto)]
 
+pub mod ahead;
 pub mod arguments;
 pub mod choice;
 pub mod found;
 pub mod line;
 pub mod relative;
+pub mod scanner;
 pub mod seen;
 pub mod stop;
 pub mod tally;
