@@ -1,5 +1,5 @@
 //! What a line of an input is, before it is read.
-ghost use Rattle.std.specs.Prelude.{◌≡◌, ℕ, List, true};
+ghost use Rattle.std.specs.Prelude.{◌≡◌, ◌≤◌, ℕ, List, length, true};
 ghost use Rattle.redraw_command.specs.Line as spec;
 ghost use Rattle.redraw_command.specs.Line.{IsForm, IsUnmarked};
 
@@ -13,6 +13,8 @@ const MARK: &[u8] = b"\xef\xbb\xbf";
 pub enum Line<'a> {
     /// It may be a value of JSON, or the start of one, since it begins as an object does, if after blanks.
     Object(&'a str),
+    /// It may be a list, or the start of one, since it begins as a list does, if after blanks.
+    List(&'a str),
     /// It begins as an object does, and isn't UTF-8.
     Undecoded,
     /// It is nothing but blanks.
@@ -26,6 +28,17 @@ pub fn line_of(bytes: &[u8], is_first: bool) -> Line<'_>
     ensures form { (text : List ℕ) × IsUnmarked is_first bytes.now text × IsForm text result }
 {
     form_of(unmarked(bytes, is_first))
+}
+
+/// How many bytes of an input the mark has that it begins with, at its start or elsewhere.
+pub fn mark_length(bytes: &[u8], is_first: bool) -> usize
+    ensures within { result ≤ length bytes.now }
+{
+    if is_first && bytes.starts_with(MARK) {
+        MARK.len()
+    } else {
+        0
+    }
 }
 
 /// A line without the mark, where it may begin with one.
@@ -43,6 +56,10 @@ fn form_of(bytes: &[u8]) -> Line<'_>
         Some(b'{') => match str::from_utf8(bytes) {
             Ok(text) => Line::Object(text),
             Err(_) => Line::Undecoded,
+        },
+        Some(b'[') => match str::from_utf8(bytes) {
+            Ok(text) => Line::List(text),
+            Err(_) => Line::Other,
         },
         Some(_) => Line::Other,
         None => Line::Blank,

@@ -1,12 +1,12 @@
 -- What becomes of parts becomes of the whole.
-use Rattle.std.proofs.Common.{◌≡◌, ◌++◌, ◌∙◌, ℕ, List, [], ◌∷◌, Option, None, Some, ap, append_assoc, append-nil, false, inl, inr, refl, subst, sym, true}
+use Rattle.std.proofs.Common.{◌≡◌, ◌++◌, ◌∙◌, List, [], ◌∷◌, ap, append_assoc, append-nil, false, inl, inr, refl, subst, sym, true}
 use Rattle.serde_json.specs.Data.{Data, null}
 use Rattle.redraw_command.specs.declared.choice.Choice.{Choice}
 use Rattle.redraw_report.specs.declared.diagnostic.Diagnostic.{Diagnostic}
 use Rattle.redraw_run.specs.Deeds.{Deed, Drawn, Commanded, Compared, HandedOn, Told, Refused, LeftOut, Repeated, BuildFailed, IsPartOfDeeds}
-use Rattle.redraw_run.specs.Fates.{AreMessages, AreNone, AreResults, AreRuns, Each, IsChosen, IsFound, IsHandedOn, IsKnown, IsRepeated}
+use Rattle.redraw_run.specs.Fates.{AreMessages, AreNone, AreResults, AreRuns, Each, IsChosen, IsFound, IsKnown, IsRepeated}
 use Rattle.redraw_run.specs.Fates.{IsResult, IsLogRun, IsShown}
-use Rattle.redraw_run.specs.Fates.{IsUnknown, IsWrong, Then}
+use Rattle.redraw_run.specs.Fates.{Then}
 use Rattle.redraw_run.specs.declared.kind.Kind.{Kind}
 use Rattle.redraw_run.proofs.Doing.{part_as, part_then}
 
@@ -132,13 +132,6 @@ pub runs_part : (c : Choice) (ds : List Deed) → Then AreRuns (IsPartOfDeeds Is
 runs_part c ds h = part_as {P = Then AreRuns IsLogRun} c ds (runs_more c) (part_then {P = AreRuns} {Q = IsLogRun} c ds (run_some c) h)
 
 -- ---- values
-
-pub unknown_wrong : (line : Option (List ℕ)) (c : Choice) (ds : List Deed) → IsWrong c ds → IsUnknown line c ds
-unknown_wrong None c ds h = h
-unknown_wrong (Some line) c ds h = inl h
-
-pub unknown_handed : (o : Option (List ℕ)) (line : List ℕ) (c : Choice) (ds : List Deed) → o ≡ Some line → IsHandedOn line c ds → IsUnknown o c ds
-unknown_handed o line c ds is h = subst (λ (x : Option (List ℕ)). IsUnknown x c ds) (sym is) (inr h)
 
 -- what becomes of a value of this kind
 pub as_known : (k j : Kind) → k ≡ j → (c : Choice) (ds : List Deed) → IsKnown j c ds → IsKnown k c ds

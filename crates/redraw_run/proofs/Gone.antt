@@ -1,6 +1,6 @@
 -- What becomes of inputs, one after another, and of a run.
-use Rattle.std.proofs.Common.{◌≡◌, ◌⊎◌, ◌++◌, ◌∙◌, ◌&&◌, ◌+◌, ℕ, Bool, List, [], ◌∷◌, Option, None, Some, ap, ap₂, append-nil, arith, false, inl, inr}
-use Rattle.std.proofs.Common.{length, length-append, refl, subst, sym, true}
+use Rattle.std.proofs.Common.{◌≡◌, ◌⊎◌, ◌++◌, ◌∙◌, ◌&&◌, ℕ, Bool, List, [], ◌∷◌, Option, None, Some, ap, ap₂, false, inl, inr}
+use Rattle.std.proofs.Common.{refl, subst, sym, true}
 use Rattle.std.specs.Prelude.{IfErr, IfOk, OnOk, Result, Ok, Err, option_map}
 use Rattle.std.specs.declared.io.Error.{Error}
 use Rattle.redraw_run.specs.declared.look.ReportRenderer.{ReportRenderer}
@@ -11,9 +11,10 @@ use Rattle.redraw_command.specs.Told.{Tells, TellsMemory}
 use Rattle.redraw_command.specs.declared.choice.Choice.{Choice}
 use Rattle.redraw_command.specs.declared.stop.Stop.{Stop}
 use Rattle.redraw_command.specs.declared.stop.Stop.TheVariants.{Memory, Unwritable, Unreadable, Utf16}
+use Rattle.redraw_command.specs.Halt.{IsHalt}
 use Rattle.redraw_command.specs.Line.{begins_utf16}
-use Rattle.redraw_run.specs.Deeds.{State, Deed, Does, IsCutShort, IsPartOfDeeds, IsUnreadable, Stops}
-use Rattle.redraw_run.specs.Fates.{AreNone, Each, Halts, IsHalted, IsOfUtf16, IsInput, IsEndOfInput, IsNextIn, IsSoFar, IsTelling, Then}
+use Rattle.redraw_run.specs.Deeds.{State, Deed, Does, IsCutShort, IsPartOfDeeds, Stops}
+use Rattle.redraw_run.specs.Fates.{AreNone, Each, Halts, IsEnd, IsFateOfPiece, IsHalted, IsInput, IsOfUtf16, IsTelling, Then}
 use Rattle.program.specs.Inputs.{IsNamed}
 use Rattle.redraw_run.specs.Inputs.{AreAllIn, AreCut, AreDrawn, AreFirstIn, Input, IsCutFrom, IsInputCut, IsDrawnFrom, IsDrawnOf, IsOf, IsSourceOf}
 use Rattle.redraw_run.specs.Inputs.{are_whole, held_in, names_of}
@@ -22,75 +23,54 @@ use Rattle.redraw_run.specs.Run.{ArePartlyPrinted, AreInputsPrinted, EndsInput, 
 use Rattle.redraw_run.proofs.Doing.{cut_then, does_as, does_nothing, does_then, stops_as, stops_then}
 use Rattle.redraw_run.proofs.Done.{does_told}
 use Rattle.redraw_run.proofs.Fated.{each_more}
-use Rattle.redraw_run.proofs.Lined.{input_end}
 use Rattle.std.proofs.lemmas.Result.{IfOk-weaker}
 
--- lines are read so far, and it stops at the next one
-pub halts_next : (before : List (List ℕ)) (line : List ℕ) (document : Option (List ℕ)) (a b c : State) (s : Stop) → Does (IsSoFar before document) a b
-    → Stops s (IsPartOfDeeds (IsNextIn line document)) b c → Stops s (IsHalted (before ++ line ∷ [])) a c
-halts_next before line document a b c s p q =
-    stops_as (Then (IsSoFar before document) (IsPartOfDeeds (IsNextIn line document))) (IsHalted (before ++ line ∷ [])) a c s
-    (λ ds h. inr (before, line, document, refl, h)) (stops_then (IsSoFar before document) (IsPartOfDeeds (IsNextIn line document)) a b c s p q)
-
--- or at their end
-pub halts_end : (lines : List (List ℕ)) (document : Option (List ℕ)) (a b c : State) (s : Stop) → Does (IsSoFar lines document) a b
-    → Stops s (IsPartOfDeeds (IsEndOfInput document)) b c → Stops s (IsHalted lines) a c
-halts_end lines document a b c s p q =
-    stops_as (Then (IsSoFar lines document) (IsPartOfDeeds (IsEndOfInput document))) (IsHalted lines) a c s (λ ds h. inl (document, h))
-    (stops_then (IsSoFar lines document) (IsPartOfDeeds (IsEndOfInput document)) a b c s p q)
-
-halted : (lines : List (List ℕ)) (document : Option (List ℕ)) (c : Choice) (ds : List Deed) → IsSoFar lines document c ds → IsHalted lines c ds
-halted lines document c ds h =
-    inl (document, record { before = ds; after = []; split = sym (append-nil ds); first = h; next = record { is = inl refl } })
-
 -- so it halts
-pub halts_stops : (lines : List (List ℕ)) (a b : State) (s : Stop) → Stops s (IsHalted lines) a b → Halts s lines a b
-halts_stops lines a b Memory p = p
-halts_stops lines a b (Unwritable error) p = p
-halts_stops lines a b (Unreadable error) p = absurd p
-halts_stops lines a b Utf16 p = absurd p
+halts_stops : (pieces : List (List ℕ)) (a b : State) (s : Stop) → Stops s (IsHalted pieces) a b → Halts s pieces a b
+halts_stops pieces a b Memory p = p
+halts_stops pieces a b (Unwritable error) p = p
+halts_stops pieces a b (Unreadable error) p = absurd p
+halts_stops pieces a b Utf16 p = absurd p
 
--- or no more can be read
-pub halts_unread : (lines : List (List ℕ)) (document : Option (List ℕ)) (a b : State) (s : Stop) → IsUnreadable s → Does (IsSoFar lines document) a b
-    → Halts s lines a b
-halts_unread lines document a b Memory is p = absurd is
-halts_unread lines document a b (Unwritable error) is p = absurd is
-halts_unread lines document a b (Unreadable error) is p = (document, p)
-halts_unread lines document a b Utf16 is p = absurd is
+-- pieces are read so far, and it stops at the next one
+pub halts_next : (before : List (List ℕ)) (piece : List ℕ) (a b c : State) (s : Stop) → Does (Each IsFateOfPiece before) a b
+    → Stops s (IsPartOfDeeds (IsFateOfPiece piece)) b c → Halts s (before ++ piece ∷ []) a c
+halts_next before piece a b c s p q =
+    halts_stops (before ++ piece ∷ []) a c s
+    (stops_as (Then (Each IsFateOfPiece before) (IsPartOfDeeds (IsFateOfPiece piece))) (IsHalted (before ++ piece ∷ [])) a c s
+    (λ ds h. inr (before, piece, refl, h))
+    (stops_then (Each IsFateOfPiece before) (IsPartOfDeeds (IsFateOfPiece piece)) a b c s p q))
 
--- no lines begin no document
-none_open : (document : Option (List ℕ)) (c : Choice) (ds : List Deed) → IsSoFar [] document c ds → ds ≡ []
-none_open None c ds h = h
-none_open (Some document) c ds h = absurd (omega (arith, ap length h.split, length-append h.alone (h.line ∷ h.rest)))
+-- or no more is read
+pub halts_unread : (pieces : List (List ℕ)) (a b : State) (s : Stop) → IsHalt s → Does (Each IsFateOfPiece pieces) a b → Halts s pieces a b
+halts_unread pieces a b Memory is p = does_as {P = Each IsFateOfPiece pieces} {Q = IsHalted pieces} (λ ds h. inl h) p
+halts_unread pieces a b (Unwritable error) is p = absurd is
+halts_unread pieces a b (Unreadable error) is p = p
+halts_unread pieces a b Utf16 is p = absurd is
 
--- or the first of them is in UTF-16
-pub halts_utf16 : (lines : List (List ℕ)) (line : List ℕ) (number : ℕ) (document : Option (List ℕ)) (a b : State) (s : Stop) → s ≡ Utf16
-    → length lines + 1 ≡ number → number ≡ 1 → begins_utf16 line ≡ true → Does (IsSoFar lines document) a b → Halts s (lines ++ line ∷ []) a b
-halts_utf16 [] line number document a b s is count one begins p =
-    subst (λ (t : Stop). Halts t (line ∷ []) a b) (sym is) ((line, refl, begins), does_as {P = IsSoFar [] document} (none_open document a.choice) p)
-halts_utf16 (x ∷ xs) line number document a b s is count one begins p = absurd (omega (arith, count, one))
+-- or its first line is in UTF-16
+pub halts_utf16 : (line : List ℕ) (a b : State) (s : Stop) → s ≡ Utf16 → begins_utf16 line ≡ true → Does AreNone a b → Halts s (line ∷ []) a b
+halts_utf16 line a b s is begins d = subst (λ (t : Stop). Halts t (line ∷ []) a b) (sym is) ((line, refl, begins), d)
 
-halted_utf16 : (lines : List (List ℕ)) (c : Choice) (ds : List Deed) → IsOfUtf16 lines → ds ≡ [] → IsHalted lines c ds
-halted_utf16 lines c ds (line, is, begins) none =
-    inr ([], line, None, is, record { before = []; after = ds; split = refl; first = refl; next = record { is = inl none } })
+halted_utf16 : (pieces : List (List ℕ)) (c : Choice) (ds : List Deed) → IsOfUtf16 pieces → ds ≡ [] → IsHalted pieces c ds
+halted_utf16 pieces c ds (line, is, begins) none =
+    inr ([], line, is, record { before = []; after = ds; split = refl; first = refl; next = record { is = inl none } })
 
--- lines are read, and their end is
-pub reads_input : (lines : List (List ℕ)) (document : Option (List ℕ)) (a b c : State) → Does (IsSoFar lines document) a b → Does (IsEndOfInput document) b c
-    → Does (IsInput lines) a c
-reads_input lines document a b c p q =
-    does_as (input_end lines document a.choice) (does_then {P = IsSoFar lines document} {Q = IsEndOfInput document} p q)
+-- pieces are read, and their end is
+pub reads_input : (pieces : List (List ℕ)) (a b c : State) → Does (Each IsFateOfPiece pieces) a b → Does IsEnd b c → Does (IsInput pieces) a c
+reads_input pieces a b c p q = does_then {P = Each IsFateOfPiece pieces} {Q = IsEnd} p q
 
 -- ---- inputs
 
 -- an input that is read to its end
-pub drawn_whole : (held : Option (Option (List ℕ))) (lines : List (List ℕ)) (is : Bool) (a b : State) → AreAllIn held lines
-    → Does (IsInput lines) a b → IsDrawnFrom held is a b
-drawn_whole held lines is a b all p = (lines, does_as (λ ds h. inl record { all = all; becomes = h }) p)
+pub drawn_whole : (held : Option (Option (List ℕ))) (pieces : List (List ℕ)) (is : Bool) (a b : State) → AreAllIn held pieces
+    → Does (IsInput pieces) a b → IsDrawnFrom held is a b
+drawn_whole held pieces is a b all p = (pieces, does_as (λ ds h. inl record { all = all; becomes = h }) p)
 
 -- one that isn't
-pub drawn_part : (held : Option (Option (List ℕ))) (lines : List (List ℕ)) (a b c : State) → AreFirstIn held lines → Does (IsHalted lines) a b
+pub drawn_part : (held : Option (Option (List ℕ))) (pieces : List (List ℕ)) (a b c : State) → AreFirstIn held pieces → Does (IsHalted pieces) a b
     → Does IsTelling b c → IsDrawnFrom held false a c
-drawn_part held lines a b c first p q = (lines, does_as (λ ds h. inr record { first = first; becomes = h; partial = refl }) (does_then p q))
+drawn_part held pieces a b c first p q = (pieces, does_as (λ ds h. inr record { first = first; becomes = h; partial = refl }) (does_then p q))
 
 -- no input is gone through yet
 pub drawn_none : {File Standard : Type 0} (held : File ⊎ Standard → Option (List ℕ)) (s : State) → Does AreNone s s → AreDrawn File Standard held [] true s s
@@ -126,7 +106,7 @@ drawn_more held names name whole is a b c p (input, named, known, q) =
 pub drawn_cut : {File Standard : Type 0} (held : File ⊎ Standard → Option (List ℕ)) (names : List (List ℕ)) (name : List ℕ) (later : List (List ℕ))
     (whole : Bool) (a b c : State) → AreDrawn File Standard held names whole a b → IsInputCut held name b c
     → AreCut File Standard held (names ++ name ∷ later) a c
-drawn_cut held names name later whole a b c p (source, is, (lines, first, q)) =
+drawn_cut held names name later whole a b c p (source, is, (pieces, first, q)) =
     record {
       inputs = p.inputs;
       name = name;
@@ -134,27 +114,27 @@ drawn_cut held names name later whole a b c p (source, is, (lines, first, q)) =
       named = ap (λ (l : List (List ℕ)). l ++ name ∷ later) (sym p.named);
       source = source;
       is = is;
-      lines = lines;
+      pieces = pieces;
       first = first;
-      does = cut_then {P = Each (IsOf held) p.inputs} {Q = IsHalted lines} p.does q;
+      does = cut_then {P = Each (IsOf held) p.inputs} {Q = IsHalted pieces} p.does q;
     }
 
 -- ---- an input that is opened
 
--- what came of its lines: all were read, or it stopped
+-- what came of its pieces: all were read, or it stopped
 abbrev pub Came : Result Bool Stop → Option (Option (List ℕ)) → State → State → Type 0
-Came (Ok is) held a b = (lines : List (List ℕ)) × AreAllIn held lines × Does (IsInput lines) a b
-Came (Err stop) held a b = (lines : List (List ℕ)) × AreFirstIn held lines × Halts stop lines a b
+Came (Ok is) held a b = (pieces : List (List ℕ)) × AreAllIn held pieces × Does (IsInput pieces) a b
+Came (Err stop) held a b = (pieces : List (List ℕ)) × AreFirstIn held pieces × Halts stop pieces a b
 
 pub came : (r : Result Bool Stop) (held : Option (List ℕ)) (a b : State)
-    → OnOk r ((lines : List (List ℕ)) × AreAllOf held lines × Does (IsInput lines) a b)
-    → IfErr r (λ stop. (lines : List (List ℕ)) × AreFirstOf held lines × Halts stop lines a b) → Came r (Some held) a b
+    → OnOk r ((pieces : List (List ℕ)) × AreAllOf held pieces × Does (IsInput pieces) a b)
+    → IfErr r (λ stop. (pieces : List (List ℕ)) × AreFirstOf held pieces × Halts stop pieces a b) → Came r (Some held) a b
 came (Ok is) held a b reads halts = reads
 came (Err stop) held a b reads halts = halts
 
 -- nothing came of one that can't be opened
 pub came_unread : (error : Error) (s : State) → Came (Err (Unreadable error)) None s s
-came_unread error s = ([], refl, (None, does_nothing s))
+came_unread error s = ([], refl, does_nothing s)
 
 -- the same, with this on standard error
 abbrev pub then_told : State → Standing → State
@@ -165,29 +145,29 @@ told_after s err t = does_told t refl refl refl refl
 
 ended_drawn : (r : Result Bool Stop) (result : Result Bool Error) (held : Option (Option (List ℕ))) (new : Standing) (a b : State)
     → Came r held a b → EndsInput r result b.err new → IfOk result (λ is. IsDrawnFrom held is a (then_told b new))
-ended_drawn (Ok is) result held new a b (lines, all, d) h =
+ended_drawn (Ok is) result held new a b (pieces, all, d) h =
     subst (λ (x : Result Bool Error). IfOk x (λ is. IsDrawnFrom held is a (then_told b new))) (sym h.0)
-    (drawn_whole held lines is a (then_told b new) all (subst (λ (e : Standing). Does (IsInput lines) a (then_told b e)) (sym h.1) d))
-ended_drawn (Err Memory) result held new a b (lines, first, d) h =
+    (drawn_whole held pieces is a (then_told b new) all (subst (λ (e : Standing). Does (IsInput pieces) a (then_told b e)) (sym h.1) d))
+ended_drawn (Err Memory) result held new a b (pieces, first, d) h =
     subst (λ (x : Result Bool Error). IfOk x (λ is. IsDrawnFrom held is a (then_told b new))) (sym h.0)
-    (drawn_part held lines a b (then_told b new) first d (told_after b new h.1))
-ended_drawn (Err (Unwritable error)) result held new a b (lines, first, d) h =
+    (drawn_part held pieces a b (then_told b new) first d (told_after b new h.1))
+ended_drawn (Err (Unwritable error)) result held new a b (pieces, first, d) h =
     subst (λ (x : Result Bool Error). IfOk x (λ is. IsDrawnFrom held is a (then_told b new))) (sym h.0) tt
-ended_drawn (Err (Unreadable error)) result held new a b (lines, first, (document, d)) h =
+ended_drawn (Err (Unreadable error)) result held new a b (pieces, first, d) h =
     subst (λ (x : Result Bool Error). IfOk x (λ is. IsDrawnFrom held is a (then_told b new))) (sym h.0)
-    (drawn_part held lines a b (then_told b new) first (does_as {P = IsSoFar lines document} (halted lines document a.choice) d)
+    (drawn_part held pieces a b (then_told b new) first (does_as {P = Each IsFateOfPiece pieces} (λ ds m. inl m) d)
     (told_after b new h.1))
-ended_drawn (Err Utf16) result held new a b (lines, first, (is, d)) h =
+ended_drawn (Err Utf16) result held new a b (pieces, first, (is, d)) h =
     subst (λ (x : Result Bool Error). IfOk x (λ is. IsDrawnFrom held is a (then_told b new))) (sym h.0)
-    (drawn_part held lines a b (then_told b new) first (does_as (λ ds none. halted_utf16 lines a.choice ds is none) d) (told_after b new h.1))
+    (drawn_part held pieces a b (then_told b new) first (does_as (λ ds none. halted_utf16 pieces a.choice ds is none) d) (told_after b new h.1))
 
 ended_cut : (r : Result Bool Stop) (result : Result Bool Error) (held : Option (Option (List ℕ))) (new : Standing) (a b : State) → Came r held a b
     → EndsInput r result b.err new → IfErr result (λ error. IsCutFrom held a (then_told b new))
 ended_cut (Ok is) result held new a b came h = subst (λ (x : Result Bool Error). IfErr x (λ e. IsCutFrom held a (then_told b new))) (sym h.0) tt
 ended_cut (Err Memory) result held new a b came h = subst (λ (x : Result Bool Error). IfErr x (λ e. IsCutFrom held a (then_told b new))) (sym h.0) tt
-ended_cut (Err (Unwritable error)) result held new a b (lines, first, d) h =
+ended_cut (Err (Unwritable error)) result held new a b (pieces, first, d) h =
     subst (λ (x : Result Bool Error). IfErr x (λ e. IsCutFrom held a (then_told b new))) (sym h.0)
-    (lines, first, subst (λ (e : Standing). IsCutShort (IsHalted lines) a (then_told b e)) (sym h.1) d)
+    (pieces, first, subst (λ (e : Standing). IsCutShort (IsHalted pieces) a (then_told b e)) (sym h.1) d)
 ended_cut (Err (Unreadable error)) result held new a b came h =
     subst (λ (x : Result Bool Error). IfErr x (λ e. IsCutFrom held a (then_told b new))) (sym h.0) tt
 ended_cut (Err Utf16) result held new a b came h = subst (λ (x : Result Bool Error). IfErr x (λ e. IsCutFrom held a (then_told b new))) (sym h.0) tt
@@ -221,8 +201,8 @@ held_err {B} remaining input error result a b is h =
 -- what becomes of what an argument names becomes of the input of that name
 named_of : {File Standard : Type 0} (held : File ⊎ Standard → Option (List ℕ)) (name : List ℕ) (source : Option (File ⊎ Standard)) (is : Bool) (a b : State)
     → IsSourceOf name source → IsDrawnFrom (option_map held source) is a b → IsDrawnOf held name is a b
-named_of held name source is a b named (lines, d) =
-    (record { name = name; source = source; lines = lines; is_whole = is }, refl, refl, does_as (λ ds h. (named, h)) d)
+named_of held name source is a b named (pieces, d) =
+    (record { name = name; source = source; pieces = pieces; is_whole = is }, refl, refl, does_as (λ ds h. (named, h)) d)
 
 -- so it is where that could be opened to be read, and where it couldn't
 pub named_drawn : {B File Standard : Type 0} (remaining : B → Option (List ℕ)) (held : File ⊎ Standard → Option (List ℕ)) (source : B → File ⊎ Standard)

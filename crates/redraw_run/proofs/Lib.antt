@@ -11,5 +11,6 @@ pub mod NotDrawn
 pub mod NotRead
 pub mod NotRefused
 pub mod NotRun
+pub mod Pieced
 pub mod Refusing
 pub mod Telling

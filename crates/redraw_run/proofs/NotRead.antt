@@ -28,7 +28,7 @@ unopened (Some (inr input)) = absurd input
 
 unread : (held : Nothing → Option (List ℕ)) (input : Input ⊥ ⊥) (c : Choice) (ds : List Deed) → IsOf held input c ds → input.is_whole ≡ false
 unread held input c ds (is, inl h) =
-    absurd (subst (λ (source : Option Nothing). AreAllIn (option_map held source) input.lines) (unopened input.source) h.all)
+    absurd (subst (λ (source : Option Nothing). AreAllIn (option_map held source) input.pieces) (unopened input.source) h.all)
 unread held input c ds (is, inr h) = h.partial
 
 unread_all : (held : Nothing → Option (List ℕ)) (inputs : List (Input ⊥ ⊥)) (name : List ℕ) (names : List (List ℕ)) (c : Choice) (ds : List Deed)

@@ -19,9 +19,9 @@ use Rattle.redraw_report.specs.declared.diagnostic.Diagnostic.{Diagnostic}
 use Rattle.redraw_report.specs.declared.finding.Finding.{Finding}
 use Rattle.redraw_report.specs.declared.finding.MarkedSpan.{MarkedSpan}
 use Rattle.redraw_report.specs.declared.finding.Remark.{Remark}
-use Rattle.redraw_run.specs.Deeds.{State}
+use Rattle.redraw_run.specs.Deeds.{Happens, State}
 use Rattle.redraw_run.specs.DrawnFinding.{RefusesFinding, refusal_by}
-use Rattle.redraw_run.specs.Fates.{Advances, Halts}
+use Rattle.redraw_run.specs.Fates.{Halts, IsFateOfPiece}
 use Rattle.redraw_run.specs.declared.look.ReportRenderer.{ReportRenderer}
 
 -- ---- a finding without places and children
@@ -76,9 +76,9 @@ bare_finding_refused r files d why graphics long spans children h =
 
 -- ---- an input in UTF-16
 
--- a line stops an input as one in UTF-16, by itself
-pub line_of_utf16 : (T : Type 0) (line : List ℕ) (old new : Option (List ℕ)) (a b : State) → Advances {T = T} (Err Utf16) line old new a b → ⊥
-line_of_utf16 T line old new a b h = h
+-- a piece stops an input as one in UTF-16, by itself
+pub piece_of_utf16 : (T : Type 0) (piece : List ℕ) (a b : State) → Happens {T = T} (Err Utf16) (IsFateOfPiece piece) a b → ⊥
+piece_of_utf16 T piece a b h = h
 
 -- an input whose first line is `a` stops so
 pub utf8_refused : (a b : State) → Halts Utf16 ((97 ∷ 10 ∷ []) ∷ []) a b → ⊥

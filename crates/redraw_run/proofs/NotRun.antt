@@ -1,9 +1,9 @@
--- What no run does: what wrong bodies do about small inputs contradicts what becomes of lines and of runs.
+-- What no run does: what wrong bodies do about small inputs contradicts what becomes of pieces and of runs.
 use Rattle.std.proofs.Common.{◌≡◌, ◌⊎◌, ◌++◌, ◌∙◌, ◌||◌, ℕ, Bool, List, [], ◌∷◌, Option, None, Some, ap, false, if◌then◌else◌, inl, inr, refl, subst, sym, true}
 use Rattle.serde_json.specs.Data.{Data}
 use Rattle.output_stream.specs.Standing.{Standing}
 use Rattle.redraw_command.specs.Choice.{is_sum}
-use Rattle.redraw_command.specs.Line.{begins_object}
+use Rattle.redraw_command.specs.Line.{begins_document, begins_object}
 use Rattle.redraw_command.specs.Tally.{no_tally, tally_status, tallied}
 use Rattle.redraw_command.specs.declared.choice.OutputForm.{OutputForm}
 use Rattle.redraw_command.specs.declared.choice.OutputForm.TheVariants.{Report}
@@ -16,7 +16,8 @@ use Rattle.redraw_run.specs.declared.look.ReportRenderer.{ReportRenderer}
 use Rattle.redraw_run.specs.declared.kind.Kind.{Kind}
 use Rattle.redraw_run.specs.declared.kind.Kind.TheVariants as kind
 use Rattle.redraw_run.specs.Deeds.{State, Deed, Drawn, Commanded, Compared, HandedOn, Told, Refused, LeftOut, Repeated, BuildFailed, tally_by, with_files}
-use Rattle.redraw_run.specs.Fates.{AreMessages, Each, IsDiagnosed, IsFound, IsKnown, IsFateOfLine, IsLog, IsReported, IsResult, IsLogRun, IsShown, IsTaking}
+use Rattle.redraw_run.specs.Fates.{AreMessages, Each, IsDiagnosed, IsFound, IsKnown, IsFateOfPiece, IsLog, IsReported, IsResult, IsLogRun, IsShown, IsTaking}
+use Rattle.redraw_run.specs.ReadLines.{IsPieceOf}
 use Rattle.redraw_run.specs.Run.{Finishes, nothing_begun}
 
 -- no line is handed on
@@ -78,7 +79,7 @@ taken_unhanded d c ds (inr (taken, inl h)) = subst Unhanded (sym h.1) tt
 taken_unhanded d c ds (inr (taken, inr (inl h))) = shown_unhanded d c ds h.1
 taken_unhanded d c ds (inr (taken, inr (inr (inl (form, inl h))))) = subst Unhanded (sym h.1) tt
 taken_unhanded d c ds (inr (taken, inr (inr (inl (form, inr h))))) = subst Unhanded (sym h.1) tt
-taken_unhanded d c ds (inr (taken, inr (inr (inr (form, inl h))))) = subst Unhanded (sym h.1.1) tt
+taken_unhanded d c ds (inr (taken, inr (inr (inr (form, inl h))))) = subst Unhanded (sym h.2) tt
 taken_unhanded d c ds (inr (taken, inr (inr (inr (form, inr h))))) = subst Unhanded (sym h) tt
 
 reported_unhanded : (c : Choice) (ds : List Deed) → IsReported c ds → Unhanded ds
@@ -131,13 +132,13 @@ unfolding Unhanded
 both_handed k c d text line h = known_unhanded k c (Drawn d text ∷ HandedOn line ∷ []) h
 
 -- a finding is drawn, and the line that reports it is handed on too
-pub drawn_and_handed_on : (line : List ℕ) (c : Choice) (d : Diagnostic) (text : List ℕ) → IsFateOfLine line c (Drawn d text ∷ HandedOn line ∷ []) → ⊥
+pub drawn_and_handed_on : (line : List ℕ) (c : Choice) (d : Diagnostic) (text : List ℕ) → IsFateOfPiece line c (Drawn d text ∷ HandedOn line ∷ []) → ⊥
 drawn_and_handed_on line c d text (t, is, inl h) = cc h.1
-drawn_and_handed_on line c d text (t, is, inr (begins, inl (none, inl h))) = cc h.1
-drawn_and_handed_on line c d text (t, is, inr (begins, inl (none, inr h))) = cc h
-drawn_and_handed_on line c d text (t, is, inr (begins, inr (v, reads, (Some k, of, h)))) = both_handed k c d text line h
-drawn_and_handed_on line c d text (t, is, inr (begins, inr (v, reads, (None, of, inl h)))) = cc h.1
-drawn_and_handed_on line c d text (t, is, inr (begins, inr (v, reads, (None, of, inr h)))) = cc h
+drawn_and_handed_on line c d text (t, is, inr (begins, inl (none, h))) = cc h.1
+drawn_and_handed_on line c d text (t, is, inr (begins, inr (inl (none, h)))) = cc h
+drawn_and_handed_on line c d text (t, is, inr (begins, inr (inr (v, reads, (Some k, of, h))))) = both_handed k c d text line h
+drawn_and_handed_on line c d text (t, is, inr (begins, inr (inr (v, reads, (None, of, inl h))))) = cc h.1
+drawn_and_handed_on line c d text (t, is, inr (begins, inr (inr (v, reads, (None, of, inr h))))) = cc h
 
 -- a diagnostic of rustc is drawn twice
 pub drawn_twice : (c : Choice) (d : Diagnostic) (text : List ℕ) → IsKnown kind.Rustc c (Drawn d text ∷ Drawn d text ∷ []) → ⊥
@@ -149,14 +150,22 @@ drawn_twice c d text (inr (inr (f, inr (taken, inl h)))) = cc h.1
 drawn_twice c d text (inr (inr (f, inr (taken, inr (inl h))))) = cc h.1.1
 drawn_twice c d text (inr (inr (f, inr (taken, inr (inr (inl (form, inl h))))))) = cc h.1
 drawn_twice c d text (inr (inr (f, inr (taken, inr (inr (inl (form, inr h))))))) = cc h.1
-drawn_twice c d text (inr (inr (f, inr (taken, inr (inr (inr (form, inl h))))))) = cc h.1.1
+drawn_twice c d text (inr (inr (f, inr (taken, inr (inr (inr (form, inl h))))))) = cc h.2
 drawn_twice c d text (inr (inr (f, inr (taken, inr (inr (inr (form, inr h))))))) = cc h
 
 -- what another tool writes, here `a`, is handed on and told too
-pub noise_told : (c : Choice) (part : List ℕ) → IsFateOfLine (97 ∷ 10 ∷ []) c (HandedOn (97 ∷ 10 ∷ []) ∷ Told part ∷ []) → ⊥
+pub noise_told : (c : Choice) (part : List ℕ) → IsFateOfPiece (97 ∷ 10 ∷ []) c (HandedOn (97 ∷ 10 ∷ []) ∷ Told part ∷ []) → ⊥
 noise_told c part (text, inl is, inl h) = cc h.1
 noise_told c part (text, inl is, inr h) = cc (ap begins_object is, h.0)
 noise_told c part (text, inr is, h) = cc is
+
+-- two lines, here `a` and `b`, are taken as one piece
+pub lines_as_one : IsPieceOf (97 ∷ 10 ∷ 98 ∷ 10 ∷ []) (97 ∷ 10 ∷ 98 ∷ 10 ∷ []) → ⊥
+lines_as_one (inl line) = let cut : ◌≡◌ {A = List ℕ} (97 ∷ 10 ∷ 98 ∷ 10 ∷ []) (97 ∷ 10 ∷ []) = line in cc cut
+lines_as_one (inr document) = elim document.is [
+  | inl is ↦ cc (ap begins_document is, document.begins)
+  | inr is ↦ cc is
+]
 
 no_clean : (t : Tally) (whole : Bool) → t.has_error ≡ true → 0 ≡ tally_status Report t whole → ⊥
 no_clean t true error none =

@@ -150,13 +150,6 @@ IsUnwritable (Unwritable error) = Unit {0}
 IsUnwritable (Unreadable error) = ⊥
 IsUnwritable Utf16 = ⊥
 
--- an input couldn't be read
-abbrev pub IsUnreadable : Stop → Type 0
-IsUnreadable Memory = ⊥
-IsUnreadable (Unwritable error) = ⊥
-IsUnreadable (Unreadable error) = Unit {0}
-IsUnreadable Utf16 = ⊥
-
 -- some bytes are written: all of them, or, only where a write failed, a first part
 abbrev pub Writes : {T : Type 0} → Result T Stop → Standing → Standing → List ℕ → Type 0
 Writes (Ok done) old new bytes = Adds old new bytes

@@ -1,8 +1,6 @@
--- What becomes of a finding, of a value of JSON, of a line and of an input: which things are done about it, in their order. Each of these
+-- What becomes of a finding, of a value of JSON, of a piece and of an input: which things are done about it, in their order. Each of these
 -- kinds of things is told by what is asked for.
-use Rattle.std.specs.Prelude.{◌≡◌, ◌≢◌, ◌⊎◌, ℕ, Bool, true, false, List, [], ◌∷◌, ◌++◌, Option, Some, None, Result, Ok, Err, OnOk, is_some, codes, option_map}
-use Rattle.std.specs.Global.{Vec}
-use Rattle.std.specs.List.{concat}
+use Rattle.std.specs.Prelude.{◌≡◌, ◌≢◌, ◌⊎◌, ℕ, Bool, true, false, List, [], ◌∷◌, ◌++◌, Option, Some, None, is_some, codes}
 use Rattle.std.specs.Str.{IsUtf8}
 use Rattle.json_lines.specs.Field.{flag_field, text_field}
 use Rattle.serde_json.specs.Data.{Data}
@@ -17,7 +15,7 @@ use Rattle.redraw_command.specs.declared.stop.Stop.{Stop}
 use Rattle.redraw_command.specs.declared.stop.Stop.TheVariants.{Memory, Unwritable, Unreadable, Utf16}
 use Rattle.redraw_report.specs.declared.diagnostic.Diagnostic.{Diagnostic}
 use Rattle.redraw_run.specs.Deeds.{State, Deed, Drawn, Commanded, Compared, HandedOn, Told, Refused, LeftOut, Repeated, BuildFailed, Does, IsCutShort}
-use Rattle.redraw_run.specs.Deeds.{IsPartOfDeeds, Stops}
+use Rattle.redraw_run.specs.Deeds.{IsPartOfDeeds}
 use Rattle.redraw_run.specs.declared.kind.Kind.{Kind}
 use Rattle.redraw_run.specs.declared.kind.Kind.TheVariants as kind
 
@@ -186,19 +184,18 @@ IsKnown kind.Failed = IsFailed
 IsKnown kind.Other = AreNone
 IsKnown kind.Sarif = IsLog
 
--- what becomes of a value of no form that is known, in this line or in a document: it is left out as wrong, or the line is handed on
-abbrev pub IsUnknown : Option (List ℕ) → Choice → List Deed → Type 0
-IsUnknown None c deeds = IsWrong c deeds
-IsUnknown (Some line) c deeds = IsWrong c deeds ⊎ IsHandedOn line c deeds
+-- what becomes of a value of no form that is known, which is this piece: it is left out as wrong, or handed on
+abbrev pub IsUnknown : List ℕ → Choice → List Deed → Type 0
+IsUnknown piece c deeds = IsWrong c deeds ⊎ IsHandedOn piece c deeds
 
--- what becomes of a value of this kind, in this line or in a document
-abbrev pub IsOfFound : Option (List ℕ) → Option Kind → Choice → List Deed → Type 0
-IsOfFound line None c deeds = IsUnknown line c deeds
-IsOfFound line (Some known) c deeds = IsKnown known c deeds
+-- what becomes of a value of this kind, which is this piece
+abbrev pub IsOfFound : List ℕ → Option Kind → Choice → List Deed → Type 0
+IsOfFound piece None c deeds = IsUnknown piece c deeds
+IsOfFound piece (Some known) c deeds = IsKnown known c deeds
 
--- what becomes of a value of JSON, in this line or in a document
-abbrev pub IsValue : Option (List ℕ) → Data → Choice → List Deed → Type 0
-IsValue line d c deeds = (found : Option Kind) × IsOfKind d found × IsOfFound line found c deeds
+-- what becomes of a value of JSON, which is this piece
+abbrev pub IsValue : List ℕ → Data → Choice → List Deed → Type 0
+IsValue piece d c deeds = (found : Option Kind) × IsOfKind d found × IsOfFound piece found c deeds
 
 -- what may end a line
 abbrev pub IsLineEnd : List ℕ → Type 0
@@ -216,130 +213,51 @@ pub record Reads (text : List ℕ) (found : Option Data) : Type 0 where
   pub cut : IsWithoutEnd text json
   pub reads : read json ≡ found
 
--- a text is no value of JSON: it isn't UTF-8, or isn't JSON
-abbrev pub IsNoValue : List ℕ → Type 0
-IsNoValue text = (IsUtf8 text → ⊥) ⊎ Reads text None
-
--- a line has this text, after the mark of the order of bytes if it has that
+-- a piece has this text, after the mark of the order of bytes if it has that
 abbrev pub IsTextOf : List ℕ → List ℕ → Type 0
-IsTextOf line text = (line ≡ text) ⊎ (line ≡ mark ++ text)
+IsTextOf piece text = (piece ≡ text) ⊎ (piece ≡ mark ++ text)
 
--- what becomes of a line that begins as an object does: of a value of JSON, what becomes of that; anything else is left out as wrong, or
--- handed on
+-- what becomes of a piece that begins as an object does: one that isn't UTF-8 is left out as wrong, one that isn't JSON is handed on, and of
+-- a value becomes what becomes of that
 abbrev pub IsObject : List ℕ → List ℕ → Choice → List Deed → Type 0
-IsObject line text c deeds =
-    (IsNoValue text × (IsWrong c deeds ⊎ IsHandedOn line c deeds))
-    ⊎ ((d : Data) × Reads text (Some d) × IsValue (Some line) d c deeds)
+IsObject piece text c deeds =
+    ((IsUtf8 text → ⊥) × IsWrong c deeds)
+    ⊎ (Reads text None × IsHandedOn piece c deeds)
+    ⊎ ((d : Data) × Reads text (Some d) × IsValue piece d c deeds)
 
--- what becomes of a line with this text: one that doesn't begin as an object does is handed on
-abbrev pub IsLineWith : List ℕ → List ℕ → Choice → List Deed → Type 0
-IsLineWith line text c deeds =
-    ((begins_object text ≡ false) × IsHandedOn line c deeds)
-    ⊎ ((begins_object text ≡ true) × IsObject line text c deeds)
+-- what becomes of a piece with this text: one that doesn't begin as an object does is handed on
+abbrev pub IsPieceWith : List ℕ → List ℕ → Choice → List Deed → Type 0
+IsPieceWith piece text c deeds =
+    ((begins_object text ≡ false) × IsHandedOn piece c deeds)
+    ⊎ ((begins_object text ≡ true) × IsObject piece text c deeds)
 
--- what becomes of a line
-abbrev pub IsFateOfLine : List ℕ → Choice → List Deed → Type 0
-IsFateOfLine line c deeds = (text : List ℕ) × IsTextOf line text × IsLineWith line text c deeds
+-- what becomes of a piece
+abbrev pub IsFateOfPiece : List ℕ → Choice → List Deed → Type 0
+IsFateOfPiece piece c deeds = (text : List ℕ) × IsTextOf piece text × IsPieceWith piece text c deeds
 
--- what becomes of a line of a document before that is read: one that isn't UTF-8 is left out as wrong
-abbrev pub IsDocumentLine : List ℕ → Choice → List Deed → Type 0
-IsDocumentLine line c deeds = (IsUtf8 line × (deeds ≡ [])) ⊎ ((IsUtf8 line → ⊥) × IsWrong c deeds)
+-- what becomes of the end of an input: one message may tell that nothing in it was of a form that is known
+abbrev pub IsEnd : Choice → List Deed → Type 0
+IsEnd c deeds = (deeds ≡ []) ⊎ IsTelling c deeds
 
--- what becomes of the text of a document, once all of its lines are there
-abbrev pub IsWhole : List ℕ → Choice → List Deed → Type 0
-IsWhole text c deeds =
-    ((IsUtf8 text → ⊥) × (deeds ≡ []))
-    ⊎ (Reads text None × IsWrong c deeds)
-    ⊎ ((d : Data) × Reads text (Some d) × IsValue None d c deeds)
+-- what becomes of an input of these pieces: of each, in their order, and then of its end
+abbrev pub IsInput : List (List ℕ) → Choice → List Deed → Type 0
+IsInput pieces = Then (Each IsFateOfPiece pieces) IsEnd
 
--- a line begins a document: its text begins as an object does, and is no value by itself
-pub record BeginsDocument (line text : List ℕ) : Type 0 where
-  pub is : IsTextOf line text
-  pub begins : begins_object text ≡ true
-  pub ends_later : IsNoValue text
-
--- what becomes of a document with this first line and these others
-pub record IsDocument (line : List ℕ) (lines : List (List ℕ)) (c : Choice) (deeds : List Deed) : Type 0 where
-  pub text : List ℕ
-  pub begins : BeginsDocument line text
-  pub becomes : Then (Each IsDocumentLine lines) (IsWhole (text ++ concat lines)) c deeds
-
--- what becomes of lines at the end of an input: none are left, and one message may tell that nothing was of a form that is known; or they
--- are a document
-abbrev pub IsEnd : List (List ℕ) → Choice → List Deed → Type 0
-IsEnd [] c deeds = (deeds ≡ []) ⊎ IsTelling c deeds
-IsEnd (line ∷ lines) c deeds = IsDocument line lines c deeds
-
--- what becomes of the lines of an input: of each by itself, in their order, up to the first that begins a document, and of that
-pub record IsInput (lines : List (List ℕ)) (c : Choice) (deeds : List Deed) : Type 0 where
-  pub alone : List (List ℕ)
-  pub last : List (List ℕ)
-  pub split : lines ≡ alone ++ last
-  pub becomes : Then (Each IsFateOfLine alone) (IsEnd last) c deeds
-
--- the text of a document as far as its lines are there, if one is read
-abbrev pub document_of : Option (Vec ℕ) → Option (List ℕ)
-document_of lines = option_map (λ (v : Vec ℕ). v.items) lines
-
--- what becomes of lines that end with a document of this text: of each of the others by itself, and of those of the document
-pub record IsOpen (lines : List (List ℕ)) (document : List ℕ) (c : Choice) (deeds : List Deed) : Type 0 where
-  pub alone : List (List ℕ)
-  pub line : List ℕ
-  pub rest : List (List ℕ)
-  pub text : List ℕ
-  pub split : lines ≡ alone ++ line ∷ rest
-  pub begins : BeginsDocument line text
-  pub whole : document ≡ text ++ concat rest
-  pub becomes : Then (Each IsFateOfLine alone) (Each IsDocumentLine rest) c deeds
-
--- what becomes of lines that were read so far, where they may end with a document of this text: of each of the others by itself, and of
--- those of the document after its first
-abbrev pub IsSoFar : List (List ℕ) → Option (List ℕ) → Choice → List Deed → Type 0
-IsSoFar lines None = Each IsFateOfLine lines
-IsSoFar lines (Some document) = IsOpen lines document
-
--- what becomes of the next line, where lines so far may end with a document of this text, and do with it with a document of that
-abbrev pub IsNext : List ℕ → (old new : Option (List ℕ)) → Choice → List Deed → Type 0
-IsNext line None None c deeds = IsFateOfLine line c deeds
-IsNext line None (Some text) c deeds = BeginsDocument line text × (deeds ≡ [])
-IsNext line (Some document) None c deeds = ⊥
-IsNext line (Some document) (Some text) c deeds = (text ≡ document ++ line) × IsDocumentLine line c deeds
-
--- what may become of the next line
-abbrev pub IsNextIn : List ℕ → Option (List ℕ) → Choice → List Deed → Type 0
-IsNextIn line None c deeds = IsFateOfLine line c deeds
-IsNextIn line (Some document) c deeds = IsDocumentLine line c deeds
-
--- the next line is taken, be it to the end or up to where it stops
-abbrev pub Advances : {T : Type 0} → Result T Stop → List ℕ → (old new : Option (List ℕ)) → State → State → Type 0
-Advances (Ok done) line old new a b = Does (IsNext line old new) a b
-Advances (Err stop) line old new a b = Stops stop (IsPartOfDeeds (IsNextIn line old)) a b
-
--- a line that is no value is left out as wrong, or begins a document with this text where there was none, if there is memory for that
-abbrev pub LeavesOpen : {T : Type 0} → Result T Stop → List ℕ → (old new : Option (List ℕ)) → State → State → Type 0
-LeavesOpen result text old new a b = ((new ≡ old) × Does IsWrong a b) ⊎ (OnOk result (new ≡ Some text) × Does AreNone a b)
-
--- what becomes of the end of an input, where its lines end with a document of this text
-abbrev pub IsEndOfInput : Option (List ℕ) → Choice → List Deed → Type 0
-IsEndOfInput None c deeds = (deeds ≡ []) ⊎ IsTelling c deeds
-IsEndOfInput (Some document) c deeds = IsWhole document c deeds
-
--- what becomes of the lines of an input that stops: of those that were read, and a part of what becomes of their end; or of those before
--- the last one, and a part of what becomes of that
+-- what becomes of pieces of an input that stops: of all of them; or of those before the last one, and a part of what becomes of that
 abbrev pub IsHalted : List (List ℕ) → Choice → List Deed → Type 0
-IsHalted lines c deeds =
-    ((document : Option (List ℕ)) × Then (IsSoFar lines document) (IsPartOfDeeds (IsEndOfInput document)) c deeds)
-    ⊎ ((before : List (List ℕ)) × (line : List ℕ) × (document : Option (List ℕ)) × (lines ≡ before ++ line ∷ [])
-    × Then (IsSoFar before document) (IsPartOfDeeds (IsNextIn line document)) c deeds)
+IsHalted pieces c deeds =
+    Each IsFateOfPiece pieces c deeds
+    ⊎ ((before : List (List ℕ)) × (piece : List ℕ) × (pieces ≡ before ++ piece ∷ [])
+    × Then (Each IsFateOfPiece before) (IsPartOfDeeds (IsFateOfPiece piece)) c deeds)
 
--- an input is written in UTF-16, as the first bytes of its first line tell, and no other line was read
+-- an input is written in UTF-16, as the first bytes of its first line tell, and nothing else of it was read
 abbrev pub IsOfUtf16 : List (List ℕ) → Type 0
-IsOfUtf16 lines = (line : List ℕ) × (lines ≡ line ∷ []) × (begins_utf16 line ≡ true)
+IsOfUtf16 pieces = (line : List ℕ) × (pieces ≡ line ∷ []) × (begins_utf16 line ≡ true)
 
--- what becomes of an input that stops for this reason, of which these lines were read: where no more of it could be read, of all of them;
+-- what becomes of an input that stops for this reason, of which these pieces were read: where no more of it could be read, of all of them;
 -- and nothing where it is written in UTF-16
 abbrev pub Halts : Stop → List (List ℕ) → State → State → Type 0
-Halts Memory lines a b = Does (IsHalted lines) a b
-Halts (Unwritable error) lines a b = IsCutShort (IsHalted lines) a b
-Halts (Unreadable error) lines a b = (document : Option (List ℕ)) × Does (IsSoFar lines document) a b
-Halts Utf16 lines a b = IsOfUtf16 lines × Does AreNone a b
+Halts Memory pieces a b = Does (IsHalted pieces) a b
+Halts (Unwritable error) pieces a b = IsCutShort (IsHalted pieces) a b
+Halts (Unreadable error) pieces a b = Does (Each IsFateOfPiece pieces) a b
+Halts Utf16 pieces a b = IsOfUtf16 pieces × Does AreNone a b

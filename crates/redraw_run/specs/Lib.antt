@@ -3,6 +3,7 @@ pub mod DrawnFinding
 pub mod Fates
 pub mod HtmlDocument
 pub mod Inputs
+pub mod Pieces
 pub mod ReadLines
 pub mod Readings
 pub mod ReportLook

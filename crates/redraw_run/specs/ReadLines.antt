@@ -1,32 +1,48 @@
--- Lines that are read, the last line that is told, and texts that are printed.
-use Rattle.std.specs.Prelude.{◌≡◌, ℕ, ◌<◌, ◌≤◌, ◌-◌, ◌^◌, ◌⊎◌, ◌||◌, Bool, true, false, List, [], ◌∷◌, Option, Some, IfSome, Result, Ok, Err, length}
-use Rattle.std.specs.Io.BufRead.{drop_through, take_through}
-pub use Rattle.json_lines.specs.TakenLine.{TakesLine, TakesNext}
+-- Pieces that are read, the last line that is told, and texts that are printed.
+use Rattle.std.specs.Prelude.{◌≡◌, ℕ, ◌<◌, ◌≤◌, ◌-◌, ◌^◌, ◌⊎◌, ◌||◌, Bool, true, false, ◌++◌, List, [], ◌∷◌, Option, Some, IfSome, Result, Ok, Err, length}
+use Rattle.std.specs.Io.BufRead.{take_through}
+use Rattle.serde_json.specs.Data.{Data}
 use Rattle.output_stream.specs.Standing.{Adds, BreaksOff, Standing}
+use Rattle.redraw_command.specs.Line.{begins_document}
 use Rattle.redraw_command.specs.Tally.{is_empty}
 use Rattle.redraw_command.specs.Told.{Tells}
 use Rattle.redraw_command.specs.declared.tally.Tally.{Tally}
+use Rattle.redraw_run.specs.Fates.{IsTextOf, Reads}
 
--- these lines were read of some bytes, in order, and these bytes are left: each line is up to a line feed and with it, or all that there is
+-- a piece is a document: its text is a value of JSON that begins as an object or a list does
+pub record IsDocument (piece : List ℕ) : Type 0 where
+  pub text : List ℕ
+  pub is : IsTextOf piece text
+  pub begins : begins_document text ≡ true
+  pub value : Data
+  pub reads : Reads text (Some value)
+
+-- some bytes begin with this piece: it is their first line, up to a line feed and with it, or all that there is; or it is a document
+abbrev pub IsPieceOf : List ℕ → List ℕ → Type 0
+IsPieceOf bytes piece = (piece ≡ take_through 10 bytes) ⊎ IsDocument piece
+
+-- a piece is taken of some bytes, and these are left
+pub record TakesPiece (bytes piece left : List ℕ) : Type 0 where
+  pub some : 0 < length piece
+  pub is : IsPieceOf bytes piece
+  pub split : bytes ≡ piece ++ left
+
+-- these pieces are taken of some bytes, one after the other, and these bytes are left
 abbrev pub AreTaken : List ℕ → List (List ℕ) → List ℕ → Type 0
 AreTaken bytes [] rest = rest ≡ bytes
-AreTaken bytes (line ∷ lines) rest = (0 < length line) × (line ≡ take_through 10 bytes) × AreTaken (drop_through 10 bytes) lines rest
+AreTaken bytes (piece ∷ pieces) rest = (left : List ℕ) × TakesPiece bytes piece left × AreTaken left pieces rest
 
--- what a reader holds, where that is known, are these lines
-abbrev pub AreReadLines : Option (List ℕ) → List (List ℕ) → Type 0
-AreReadLines held lines = IfSome held (λ bytes. AreTaken bytes lines [])
+-- what a reader holds, where that is known, are these pieces
+abbrev pub AreReadPieces : Option (List ℕ) → List (List ℕ) → Type 0
+AreReadPieces held pieces = IfSome held (λ bytes. AreTaken bytes pieces [])
 
--- these are the first lines of what a reader holds, where that is known, and it still holds this
-abbrev pub AreReadOf : Option (List ℕ) → List (List ℕ) → Option (List ℕ) → Type 0
-AreReadOf held lines left = IfSome held (λ bytes. (rest : List ℕ) × (left ≡ Some rest) × AreTaken bytes lines rest)
-
--- these are the first lines of it
+-- these are the first pieces of it
 abbrev pub AreFirstOf : Option (List ℕ) → List (List ℕ) → Type 0
-AreFirstOf held lines = IfSome held (λ bytes. (rest : List ℕ) × AreTaken bytes lines rest)
+AreFirstOf held pieces = IfSome held (λ bytes. (rest : List ℕ) × AreTaken bytes pieces rest)
 
--- they are all the lines that it holds, or as many as are counted
+-- they are all that it holds, or as many as are counted
 abbrev pub AreAllOf : Option (List ℕ) → List (List ℕ) → Type 0
-AreAllOf held lines = AreReadLines held lines ⊎ (AreFirstOf held lines × (2 ^ 64 - 2 ≤ length lines))
+AreAllOf held pieces = AreReadPieces held pieces ⊎ (AreFirstOf held pieces × (2 ^ 64 - 2 ≤ length pieces))
 
 -- nothing is told, or one message is
 abbrev pub TellsUnless : Bool → Standing → Standing → Type 0

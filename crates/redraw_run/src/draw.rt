@@ -117,31 +117,6 @@ impl<S: SourceFiles + Drop> Drawing<'_, S> {
         tell_of(self.alloc, self.input, self.line, what, err);
     }
 
-    /// Tells where something that begins on this line isn't JSON, and leaves it out.
-    pub fn not_json<V: Write>(
-        &mut self,
-        begins: u64,
-        error: &serde_json::Error,
-        err: &mut Stream<V>,
-    )
-        ensures counted { self.new
-            ≡ record self.old { tally = record self.old.tally { wrong = one_more self.old.tally.wrong } } }
-        ensures does { (out : Standing) → Does IsWrong (standing self.old out (known V.contents err.old))
-            (standing self.new out (known V.contents err.new)) }
-    {
-        self.leave_out();
-        let input = self.input;
-        let line = begins.saturating_add(error.line() as u64).saturating_sub(1);
-        let column = error.column().max(1);
-        let ending = if error.is_eof() {
-            ": it ends too early"
-        } else {
-            ""
-        };
-        let told = format_args!("{input}:{line}:{column}: not valid JSON{ending}");
-        tell(self.alloc, told, err);
-    }
-
     /// Hands on a line of the input as it is; in HTML with escapes, and among workflow commands as none.
     pub fn hand_on<W: Write>(&self, line: &[u8], out: &mut Stream<W>) -> Result<(), Stop>
         ensures does { (err : Standing) → Happens result (IsHandedOn line.now)

@@ -9,6 +9,7 @@ pub mod input;
 pub mod json_value;
 pub mod kind;
 pub mod look;
+pub mod piece;
 pub mod readings;
 pub mod report;
 pub mod run;

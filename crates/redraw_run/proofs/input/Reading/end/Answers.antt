@@ -1,19 +1,10 @@
-use Rattle.std.proofs.Common.{sym}
-use Rattle.redraw_run.specs.Fates.{IsEndOfInput, IsWhole, document_of}
-use Rattle.redraw_run.proofs.Doing.{does_as, goes_as}
-use Rattle.redraw_run.proofs.Lined.{last_document, last_none}
+use Rattle.std.proofs.Common.{inl, inr, refl}
+use Rattle.redraw_run.proofs.Doing.{does_as, does_nothing}
+use Rattle.redraw_run.proofs.Done.{does_told}
 use Rattle.redraw_run.proofs.input.Reading.end.Goals as goal
 
-pub returns-in-Some : goal.returns-in-Some
-returns-in-Some g c =
-    record {
-      does = goes_as (IsWhole c.deref.result.now) (IsEndOfInput (document_of c.args.self.now.document)) _ _ c.document.result
-          (λ ds h. last_document c.args.self.now.document c.in-Some.document c.deref.result.now (sym c.in-Some.ensures.value) c.deref.ensures.value _ ds h)
-          c.document.ensures.does;
-    }
+pub returns-then-is_unknown-clause-does : goal.returns-then-is_unknown-clause-does
+returns-then-is_unknown-clause-does g c = λ out. does_as (λ ds h. inr h) (does_told c.tell.ensures.told refl refl refl refl)
 
-pub returns-in-None : goal.returns-in-None
-returns-in-None g c =
-    record {
-      does = does_as (λ ds h. last_none c.args.self.now.document (sym c.in-None.ensures.value) _ ds h) (c.end_lines.ensures.does _);
-    }
+pub returns-else-is_unknown-clause-does : goal.returns-else-is_unknown-clause-does
+returns-else-is_unknown-clause-does g c = λ out. does_as (λ ds h. inl h) (does_nothing _)

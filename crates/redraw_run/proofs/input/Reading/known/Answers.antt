@@ -6,23 +6,29 @@ use Rattle.redraw_run.proofs.Done.{does_failed, does_same}
 use Rattle.redraw_run.proofs.Fated.{as_known}
 use Rattle.redraw_run.proofs.input.Reading.known.Goals as goal
 
-pub returns-in-Rustc-clause-does : goal.returns-in-Rustc-clause-does
-returns-in-Rustc-clause-does g c =
-    goes_as (IsKnown kind.Rustc) (IsKnown c.args.kind) _ _ c.rustc_diagnostic.result (as_known c.args.kind kind.Rustc c.in-Rustc.is _)
-    c.rustc_diagnostic.ensures.does
+pub returns-in-Rustc : goal.returns-in-Rustc
+returns-in-Rustc g c =
+    record {
+      does = goes_as (IsKnown kind.Rustc) (IsKnown c.args.kind) _ _ c.rustc_diagnostic.result (as_known c.args.kind kind.Rustc c.in-Rustc.is _)
+          c.rustc_diagnostic.ensures.does;
+    }
 
-pub returns-in-Cargo-clause-does : goal.returns-in-Cargo-clause-does
-returns-in-Cargo-clause-does g c =
-    goes_as (IsKnown kind.Cargo) (IsKnown c.args.kind) _ _ c.cargo_message.result (as_known c.args.kind kind.Cargo c.in-Cargo.is _)
-    c.cargo_message.ensures.does
+pub returns-in-Cargo : goal.returns-in-Cargo
+returns-in-Cargo g c =
+    record {
+      does = goes_as (IsKnown kind.Cargo) (IsKnown c.args.kind) _ _ c.cargo_message.result (as_known c.args.kind kind.Cargo c.in-Cargo.is _)
+          c.cargo_message.ensures.does;
+    }
 
-pub returns-in-Failed-clause-does : goal.returns-in-Failed-clause-does
-returns-in-Failed-clause-does g c =
-    does_as (as_known c.args.kind kind.Failed c.in-Failed.is _) (does_failed refl refl refl refl refl)
+pub returns-in-Failed : goal.returns-in-Failed
+returns-in-Failed g c = record { does = does_as (as_known c.args.kind kind.Failed c.in-Failed.is _) (does_failed refl refl refl refl refl) }
 
-pub returns-in-Other-clause-does : goal.returns-in-Other-clause-does
-returns-in-Other-clause-does g c = does_as (as_known c.args.kind kind.Other c.in-Other.is _) (does_same refl refl refl refl refl)
+pub returns-in-Other : goal.returns-in-Other
+returns-in-Other g c = record { does = does_as (as_known c.args.kind kind.Other c.in-Other.is _) (does_same refl refl refl refl refl) }
 
-pub returns-in-Sarif-clause-does : goal.returns-in-Sarif-clause-does
-returns-in-Sarif-clause-does g c =
-    goes_as (IsKnown kind.Sarif) (IsKnown c.args.kind) _ _ c.sarif_log.result (as_known c.args.kind kind.Sarif c.in-Sarif.is _) c.sarif_log.ensures.does
+pub returns-in-Sarif : goal.returns-in-Sarif
+returns-in-Sarif g c =
+    record {
+      does = goes_as (IsKnown kind.Sarif) (IsKnown c.args.kind) _ _ c.sarif_log.result (as_known c.args.kind kind.Sarif c.in-Sarif.is _)
+          c.sarif_log.ensures.does;
+    }

@@ -1,0 +1,49 @@
+use Rattle.serde_json.specs.View.{view}
+use Rattle.redraw_run.specs.Fates.{IsFateOfPiece, IsHandedOn, IsValue}
+use Rattle.redraw_run.proofs.Doing.{does_as, goes_as}
+use Rattle.redraw_run.proofs.Lined.{hands_begun, hands_blank, hands_list, hands_other, value_becomes, wrong_becomes}
+use Rattle.redraw_run.proofs.input.Reading.by_form.Goals as goal
+
+pub returns-in-Object : goal.returns-in-Object
+returns-in-Object g c =
+    let bytes = c.args.bytes.now in
+    record {
+      does = λ of. goes_as (IsValue bytes (view c.in-Object.value)) (IsFateOfPiece bytes) _ _ c.value.result
+          (value_becomes bytes c.args.form c.in-Object.value c.in-Object.is of _) c.value.ensures.does;
+    }
+
+pub returns-in-Undecoded : goal.returns-in-Undecoded
+returns-in-Undecoded g c =
+    record { does = λ of. does_as (wrong_becomes c.args.bytes.now c.args.form c.in-Undecoded.is of _) (c.wrong.ensures.does _) }
+
+pub returns-in-Blank : goal.returns-in-Blank
+returns-in-Blank g c =
+    let bytes = c.args.bytes.now in
+    record {
+      does = λ of. goes_as (IsHandedOn bytes) (IsFateOfPiece bytes) _ _ c.hand_on.result (hands_blank bytes c.args.form c.in-Blank.is of _)
+          (c.hand_on.ensures.does _);
+    }
+
+pub returns-in-List : goal.returns-in-List
+returns-in-List g c =
+    let bytes = c.args.bytes.now in
+    record {
+      does = λ of. goes_as (IsHandedOn bytes) (IsFateOfPiece bytes) _ _ c.other.result (hands_list bytes c.args.form c.in-List.is of _)
+          (c.other.ensures.does _);
+    }
+
+pub returns-in-Begins : goal.returns-in-Begins
+returns-in-Begins g c =
+    let bytes = c.args.bytes.now in
+    record {
+      does = λ of. goes_as (IsHandedOn bytes) (IsFateOfPiece bytes) _ _ c.other-in-Begins.result (hands_begun bytes c.args.form c.in-Begins.is of _)
+          (c.other-in-Begins.ensures.does _);
+    }
+
+pub returns-in-Other : goal.returns-in-Other
+returns-in-Other g c =
+    let bytes = c.args.bytes.now in
+    record {
+      does = λ of. goes_as (IsHandedOn bytes) (IsFateOfPiece bytes) _ _ c.other-in-Other.result (hands_other bytes c.args.form c.in-Other.is of _)
+          (c.other-in-Other.ensures.does _);
+    }
