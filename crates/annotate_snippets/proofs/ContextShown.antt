@@ -1,120 +1,216 @@
--- Where lines around those that are kept are shown, a page has just the source rows of the lines near one that is kept, and of each single
--- line between two of these.
-use Rattle.std.proofs.Common.{◌≡◌, ◌∙◌, ℕ, ◌==◌, ◌||◌, zero, suc, Bool, true, false, cond, not, List, [], ◌∷◌, ◌++◌, None, Some, length, refl, sym}
-use Rattle.std.proofs.Common.{ap, ap₂, subst, append-nil}
-use Rattle.std.proofs.lemmas.List.Elements.{filter_agree, filter_map-append}
+-- A report with the lines around those that it keeps: what it has in common with the one in whose place it is shown, and that a page has just
+-- the source rows of the lines near one that is kept, and of each single line between two of these.
+use Rattle.std.proofs.Common.{◌≡◌, ◌∙◌, ℕ, ◌+◌, ◌||◌, Bool, true, false, not, List, [], ◌∷◌, ◌++◌, Option, None, Some, All, IfSome, length, map, arith}
+use Rattle.std.proofs.Common.{refl, sym, ap, ap₂, subst, append-nil}
+use Rattle.std.proofs.lemmas.List.Elements.{All-cons, All-head, All-nil, All-tail, All-weaker, filter_agree, filter_map-append}
 use Rattle.std.specs.Cow.{cow_str_bytes}
-use Rattle.std.specs.List.{AllZip, filter, list_any, range_with_len, slice_get, slice_index_or}
+use Rattle.std.specs.List.{AllZip, list_any, range_with_len, slice_get, slice_index_or}
+use Rattle.std.specs.Option.{option_map, option_to_list}
+use Rattle.std.specs.declared.alloc.Global.{Global}
+use Rattle.std.specs.declared.borrow.CowStr.{CowStr}
 use Rattle.std.specs.declared.ops.Range.{Range}
 use Rattle.snippet_shown.proofs.KeptAround.{keeps-around}
-use Rattle.snippet_shown.specs.Context.{lines_around}
-use Rattle.snippet_shown.specs.WithContext.{IsElementWithContext, IsGroupWithContext, IsSnippetWithContext}
-use Rattle.snippet_grid.proofs.WeaveLemmas.{some_same}
+use Rattle.snippet_shown.specs.Context.{context_spans, lines_around, visible_mark}
+use Rattle.snippet_shown.specs.Remade.{Stays}
+use Rattle.snippet_shown.specs.WithContext.{HoldsSpan, IsAnyTitle, IsElementSound, IsElementWithContext, IsGroupSound, IsGroupWithContext, IsSnippetWithContext}
 use Rattle.snippet_grid.specs.Layout.{Layout}
+use Rattle.snippet_lines.proofs.LinesLemmas.{length-source_lines}
 use Rattle.snippet_lines.specs.Lines.{source_lines}
-use Rattle.snippet_model.specs.Same.{SamePatch}
+use Rattle.snippet_lines.specs.declared.span.SpanFault.{SpanFault}
+use Rattle.snippet_model.specs.Fits.{AnnotationFits, ElementFits, ReportFits, TextFits, TitleFits}
+use Rattle.snippet_model.specs.Source.{SourceSeen}
+use Rattle.snippet_model.specs.Trusted.{trusted_of_element, trusted_of_title}
 use Rattle.snippet_model.specs.declared.snippet.Annotation.{Annotation}
 use Rattle.snippet_model.specs.declared.snippet.AnnotationKind.{AnnotationKind}
 use Rattle.snippet_model.specs.declared.snippet.Element.{Element}
 use Rattle.snippet_model.specs.declared.snippet.Element.TheVariants.{Message, Cause, Suggestion, Origin, Padding}
 use Rattle.snippet_model.specs.declared.snippet.Group.{Group}
 use Rattle.snippet_model.specs.declared.snippet.Snippet.{Snippet}
+use Rattle.snippet_model.specs.declared.snippet.Title.{Title}
 use Rattle.snippet_parts.specs.Kept.{kept_lines, keeps, with_between}
-use Rattle.snippet_shown.specs.AsSet.{IsAnnotationAsSet, IsElementAsSet, IsGroupAsSet, IsSnippetAsSet}
+use Rattle.snippet_shown.specs.AsSet.{IsAnnotationAsSet, IsElementAsSet, IsSnippetAsSet, IsTitleAsSet}
+use Rattle.snippet_shown.specs.AsWrapped.{IsElementWrapped, IsGroupWrapped, IsTitleWrapped}
 use Rattle.snippet_style.specs.Cell.{Cell}
-use Rattle.annotate_snippets.specs.ElementContext.{context_at, drawn_elements, file_of_group, is_drawn, position_of_group}
-use Rattle.snippet_shown.specs.AsWrapped.{AreGroupsWrapped, IsElementWrapped, IsGroupWrapped}
-use Rattle.annotate_snippets.specs.AsSet.{AreWithContext, AreWrapped, IsAsSet, IsRemade, adds_context, wraps}
-use Rattle.annotate_snippets.specs.Gutter.{gutter_of_report}
+use Rattle.snippet_titles.specs.Title.{id_links}
+use Rattle.annotate_snippets.specs.AsSet.{IsAsSet, IsRemade, IsStep, adds_context, wraps}
+use Rattle.annotate_snippets.specs.ElementContext.{context_at, drawn_elements, file_of_group, is_drawn, path_bytes, position_of_group}
+use Rattle.annotate_snippets.specs.Fault.{element_faults, faults_from, first_fault, number_after_lines, number_faults, refusal_of, span_faults}
+use Rattle.annotate_snippets.specs.Gutter.{gutter_of_report, layout_of_group}
 use Rattle.annotate_snippets.specs.Laws.Context.{ShowsLinesAround, lines_with_context}
-use Rattle.annotate_snippets.specs.Gutter.{layout_of_group}
-use Rattle.annotate_snippets.specs.Page.{GroupPage, NamedRow, line_named, lines_named, others}
-use Rattle.annotate_snippets.proofs.PageWords.{Page}
+use Rattle.annotate_snippets.specs.Laws.Feeds.{HasOneLineTexts}
 use Rattle.annotate_snippets.specs.Laws.Page.{PageLaws}
-use Rattle.annotate_snippets.specs.RowsWithoutSource.{cause_head, rows_after_cause}
 use Rattle.annotate_snippets.specs.Laws.Snippets.{ShowsSnippet}
+use Rattle.annotate_snippets.specs.Page.{GroupPage, NamedRow, line_named, lines_named, others}
+use Rattle.annotate_snippets.specs.PreparedReport.{IsElementDrawable, IsGroupDrawable}
+use Rattle.annotate_snippets.specs.RowsWithoutSource.{cause_head, rows_after_cause}
 use Rattle.annotate_snippets.specs.declared.renderer.Renderer.{Renderer}
 use Rattle.annotate_snippets.specs.declared.renderer.element_context.ElementContext.{ElementContext}
+use Rattle.annotate_snippets.specs.declared.renderer.error.RenderError.{RenderError}
 use Rattle.annotate_snippets.specs.declared.renderer.form.Form.{Form}
 use Rattle.annotate_snippets.proofs.AsSetSteps.{context-set, remade-set}
+use Rattle.annotate_snippets.proofs.BoundsLaws.{span-faultless}
+use Rattle.annotate_snippets.proofs.FaultLemmas.{groups-drawable}
+use Rattle.annotate_snippets.proofs.FeedsShown.{feeds-faithful}
+use Rattle.annotate_snippets.proofs.OneLineTexts.{IsOneLineElement, IsOneLineLabel, IsOneLineText, IsOneLineTitle}
+use Rattle.annotate_snippets.proofs.PageWords.{Page}
+use Rattle.annotate_snippets.proofs.RemadeLemmas.{DrawnPair, IsFaithful, IsTextOf, drawn-pair, fits-made, line-made, own-texts}
+use Rattle.annotate_snippets.proofs.WrapShown.{wrap-faithful}
 
--- ---- things in the places of others
+-- ---- faults
 
--- what stands in the place of something
-record Paired {X : Type 0} (P : X → X → Type 0) (ys : List X) (i : ℕ) (x : X) : Type 0 where
-  other : X
-  there : slice_get ys i ≡ Some other
-  pair : P x other
+module _ (group element : ℕ) (source : List ℕ) where
+  -- the faults of annotations, numbered from n on
+  abbrev faults_of : ℕ → List Annotation → List RenderError
+  faults_of n marks = faults_from (λ m (a : Annotation). span_faults group element source m a.span) n marks
 
-paired : {X : Type 0} (P : X → X → Type 0) (xs ys : List X) → AllZip P xs ys → (i : ℕ) (x : X) → slice_get xs i ≡ Some x → Paired P ys i x
-paired P [] ys pairs i x there = cc
-paired P (a ∷ xs) [] pairs i x there = absurd pairs
-paired P (a ∷ xs) (b ∷ ys) pairs zero x there =
-    record { other = b; there = refl; pair = subst (λ z. P z b) (some_same there) pairs.0 }
-paired P (a ∷ xs) (b ∷ ys) pairs (suc i) x there =
-    let rest : Paired P ys i x = paired P xs ys pairs.1 i x there in record { other = rest.other; there = rest.there; pair = rest.pair }
+  -- annotations of parts of the source have none
+  parts-clear : (n : ℕ) (spans : List (Range ℕ)) → All (HoldsSpan source) spans → faults_of n (map visible_mark spans) ≡ []
+  parts-clear n [] parts = refl
+  parts-clear n (span ∷ spans) parts =
+      let part : HoldsSpan source span = All-head (HoldsSpan source) span spans parts in
+      ap (λ (fault : Option SpanFault). option_to_list (option_map (refusal_of group element n) fault) ++ faults_of (n + 1) (map visible_mark spans))
+      (span-faultless source span.start span.end part.ordered part.from part.to)
+      ∙ parts-clear (n + 1) spans (All-tail (HoldsSpan source) span spans parts)
 
--- of things in the places of others, those that pass a test stand in the places of those that do
-chosen-both : {X : Type 0} (P : X → X → Type 0) (passes : Bool) (x y : X) (xs ys : List X) → P x y → AllZip P xs ys
-    → AllZip P (cond passes (x ∷ xs) xs) (cond passes (y ∷ ys) ys)
-chosen-both P true x y xs ys pair pairs = (pair, pairs)
-chosen-both P false x y xs ys pair pairs = pairs
+  -- so they add none to those before them
+  added-clear : (n : ℕ) (marks : List Annotation) (spans : List (Range ℕ)) → All (HoldsSpan source) spans
+      → faults_of n (marks ++ map visible_mark spans) ≡ faults_of n marks
+  added-clear n [] spans parts = parts-clear n spans parts
+  added-clear n (a ∷ marks) spans parts =
+      ap (λ (faults : List RenderError). span_faults group element source n a.span ++ faults) (added-clear (n + 1) marks spans parts)
 
-chosen : {X : Type 0} (P : X → X → Type 0) (p : X → Bool) → ((x y : X) → P x y → p y ≡ p x) → (xs ys : List X) → AllZip P xs ys
-    → AllZip P (filter p xs) (filter p ys)
-chosen P p same [] [] pairs = tt
-chosen P p same [] (y ∷ ys) pairs = absurd pairs
-chosen P p same (x ∷ xs) [] pairs = absurd pairs
-chosen P p same (x ∷ xs) (y ∷ ys) pairs =
-    subst (λ (passes : Bool). AllZip P (cond (p x) (x ∷ filter p xs) (filter p xs)) (cond passes (y ∷ filter p ys) (filter p ys)))
-    (sym (same x y pairs.0)) (chosen-both P (p x) x y (filter p xs) (filter p ys) pairs.0 (chosen P p same xs ys pairs.1))
+module _ (before after : ℕ) where
+  -- an annotated snippet with the lines around those that it keeps has the faults that it had
+  cause-around : (group element : ℕ) (a b : Snippet Annotation) → IsSnippetWithContext before after a b
+      → element_faults group element (Cause b) ≡ element_faults group element (Cause a)
+  cause-around group element a b is =
+      let text : cow_str_bytes b.source.text ≡ cow_str_bytes a.source.text = ap (λ (s : SourceSeen). cow_str_bytes s.text) is.source in
+      ap₂ (λ (x y : List RenderError). x ++ y)
+      (ap (λ (source : List ℕ). faults_of group element source 0 b.markers.items) text
+      ∙ ap (faults_of group element (cow_str_bytes a.source.text) 0) is.markers
+      ∙ added-clear group element (cow_str_bytes a.source.text) 0 a.markers.items (context_spans before after a) is.spans)
+      (ap₂ (λ start source. number_faults group element (number_after_lines start source)) is.line_start text)
 
--- ---- which elements are drawn
+  -- and so has each element
+  element-around : (group element : ℕ) (a b : Element) → IsElementWithContext before after a b → element_faults group element b ≡ element_faults group element a
+  element-around group element (Message a) (Message b) is = refl
+  element-around group element (Cause a) (Cause b) is = cause-around group element a b is
+  element-around group element (Suggestion a) (Suggestion b) is = ap (λ s. element_faults group element (Suggestion s)) is
+  element-around group element (Origin a) (Origin b) is = refl
+  element-around group element (Padding a) (Padding b) is = refl
+  element-around group element a b is = absurd is
 
-zip-length : {X : Type 0} (P : X → X → Type 0) (xs ys : List X) → AllZip P xs ys → length ys ≡ length xs
-zip-length P [] [] pairs = refl
-zip-length P [] (y ∷ ys) pairs = absurd pairs
-zip-length P (x ∷ xs) [] pairs = absurd pairs
-zip-length P (x ∷ xs) (y ∷ ys) pairs = ap suc (zip-length P xs ys pairs.1)
+  -- ---- what the report keeps
 
-drawn-set : (feeds : Bool) (a b : Element) → IsElementAsSet feeds a b → is_drawn b ≡ is_drawn a
-drawn-set feeds (Message a) (Message b) is = refl
-drawn-set feeds (Message a) (Cause b) is = refl
-drawn-set feeds (Message a) (Suggestion b) is = absurd is
-drawn-set feeds (Message a) (Origin b) is = refl
-drawn-set feeds (Message a) (Padding b) is = refl
-drawn-set feeds (Cause a) (Cause b) is = refl
-drawn-set feeds (Cause a) (Message b) is = refl
-drawn-set feeds (Cause a) (Suggestion b) is = absurd is
-drawn-set feeds (Cause a) (Origin b) is = refl
-drawn-set feeds (Cause a) (Padding b) is = refl
-drawn-set feeds (Suggestion a) (Suggestion b) is =
-    ap (λ (n : ℕ). not (n == 0)) (zip-length SamePatch a.markers.items b.markers.items is.3)
-drawn-set feeds (Suggestion a) (Message b) is = absurd is
-drawn-set feeds (Suggestion a) (Cause b) is = absurd is
-drawn-set feeds (Suggestion a) (Origin b) is = absurd is
-drawn-set feeds (Suggestion a) (Padding b) is = absurd is
-drawn-set feeds (Origin a) (Origin b) is = refl
-drawn-set feeds (Origin a) (Message b) is = refl
-drawn-set feeds (Origin a) (Cause b) is = refl
-drawn-set feeds (Origin a) (Suggestion b) is = absurd is
-drawn-set feeds (Origin a) (Padding b) is = refl
-drawn-set feeds (Padding a) (Padding b) is = refl
-drawn-set feeds (Padding a) (Message b) is = refl
-drawn-set feeds (Padding a) (Cause b) is = refl
-drawn-set feeds (Padding a) (Suggestion b) is = absurd is
-drawn-set feeds (Padding a) (Origin b) is = refl
+  trusted-around : (a b : Element) → IsElementWithContext before after a b → AllZip IsTextOf (trusted_of_element a) (trusted_of_element b)
+  trusted-around (Message a) (Message b) is =
+      subst (λ m. AllZip IsTextOf (trusted_of_element (Message a)) (trusted_of_element (Message m))) (sym is) (own-texts (trusted_of_element (Message a)))
+  trusted-around (Cause a) (Cause b) is = tt
+  trusted-around (Suggestion a) (Suggestion b) is = tt
+  trusted-around (Origin a) (Origin b) is = tt
+  trusted-around (Padding a) (Padding b) is = tt
+  trusted-around a b is = absurd is
 
-drawn-around : (before after : ℕ) (a b : Element) → IsElementWithContext before after a b → is_drawn b ≡ is_drawn a
-drawn-around before after (Message a) b is = ap is_drawn is
-drawn-around before after (Suggestion a) b is = ap is_drawn is
-drawn-around before after (Origin a) b is = ap is_drawn is
-drawn-around before after (Padding a) b is = ap is_drawn is
-drawn-around before after (Cause a) (Cause b) is = refl
-drawn-around before after (Cause a) (Message b) is = ap is_drawn is
-drawn-around before after (Cause a) (Suggestion b) is = ap is_drawn is
-drawn-around before after (Cause a) (Origin b) is = ap is_drawn is
-drawn-around before after (Cause a) (Padding b) is = ap is_drawn is
+  drawn-around : (a b : Element) → IsElementWithContext before after a b → is_drawn b ≡ is_drawn a
+  drawn-around (Message a) (Message b) is = refl
+  drawn-around (Cause a) (Cause b) is = refl
+  drawn-around (Suggestion a) (Suggestion b) is = ap (λ s. is_drawn (Suggestion s)) is
+  drawn-around (Origin a) (Origin b) is = refl
+  drawn-around (Padding a) (Padding b) is = refl
+  drawn-around a b is = absurd is
+
+  pub context-faithful : IsFaithful Stays (IsElementWithContext before after)
+  context-faithful = record {
+    faults = element-around;
+    links = λ a b is. ap (λ (t : Title). id_links true t.id) is;
+    trusted_title = λ a b is. subst (λ t. AllZip IsTextOf (trusted_of_title a) (trusted_of_title t)) (sym is) (own-texts (trusted_of_title a));
+    trusted = trusted-around;
+    drawn = drawn-around;
+  }
+
+-- ---- what finding lines asks
+
+element-sound : (e : Element) → IsElementDrawable e → IsElementSound e
+element-sound (Message message) drawable = tt
+element-sound (Suggestion s) drawable = tt
+element-sound (Origin origin) drawable = tt
+element-sound (Padding padding) drawable = tt
+element-sound (Cause s) drawable =
+    record {
+      fits = drawable.source;
+      numbers = omega (arith, drawable.numbers, length-source_lines (cow_str_bytes s.source.text));
+      spans = drawable.spans;
+    }
+
+-- a report without a fault, all texts of which fit, has what is asked of it
+any-title : (title : Option Title) → IfSome title IsAnyTitle
+any-title None = tt
+any-title (Some title) = tt
+
+pub groups-sound : (groups : List Group) → ReportFits groups → first_fault groups ≡ None → All IsGroupSound groups
+groups-sound groups fits none =
+    All-weaker IsGroupDrawable IsGroupSound
+    (λ (g : Group) drawable. (any-title g.title, All-weaker IsElementDrawable IsElementSound element-sound g.elements.items drawable.1)) groups
+    (groups-drawable groups fits none)
+
+-- ---- what fits
+
+added-fit : (marks : List Annotation) (spans : List (Range ℕ)) → All AnnotationFits marks → All AnnotationFits (marks ++ map visible_mark spans)
+added-fit [] [] fit = All-nil AnnotationFits
+added-fit [] (span ∷ spans) fit =
+    All-cons AnnotationFits (visible_mark span) (map visible_mark spans) tt (added-fit [] spans fit)
+added-fit (a ∷ marks) spans fit =
+    All-cons AnnotationFits a (marks ++ map visible_mark spans) (All-head AnnotationFits a marks fit)
+    (added-fit marks spans (All-tail AnnotationFits a marks fit))
+
+module _ (before after : ℕ) where
+  cause-fits : (a b : Snippet Annotation) → IsSnippetWithContext before after a b → ElementFits (Cause a) → ElementFits (Cause b)
+  cause-fits a b is fits = (
+    subst (λ (s : SourceSeen). TextFits (cow_str_bytes s.text)) (sym is.source) fits.0,
+    subst (λ (path : Option (CowStr Global)). IfSome path (λ t. TextFits (cow_str_bytes t))) (sym is.path) fits.1,
+    subst (All AnnotationFits) (sym is.markers) (added-fit a.markers.items (context_spans before after a) fits.2),
+  )
+
+  element-fits : (a b : Element) → IsElementWithContext before after a b → ElementFits a → ElementFits b
+  element-fits (Message a) (Message b) is fits = subst (λ m. ElementFits (Message m)) (sym is) fits
+  element-fits (Cause a) (Cause b) is fits = cause-fits a b is fits
+  element-fits (Suggestion a) (Suggestion b) is fits = subst (λ s. ElementFits (Suggestion s)) (sym is) fits
+  element-fits (Origin a) (Origin b) is fits = subst (λ o. ElementFits (Origin o)) (sym is) fits
+  element-fits (Padding a) (Padding b) is fits = tt
+  element-fits a b is fits = absurd is
+
+  -- a report with such lines fits where it did
+  pub fits-around : (groups shown : List Group) → AllZip (IsGroupWithContext before after) groups shown → ReportFits groups → ReportFits shown
+  fits-around groups shown pairs fits =
+      fits-made Stays (IsElementWithContext before after) (λ a b is fit. subst TitleFits (sym is) fit) element-fits groups shown pairs fits
+
+  -- ---- texts of one line
+
+  added-plain : (marks : List Annotation) (spans : List (Range ℕ)) → All IsOneLineLabel marks → All IsOneLineLabel (marks ++ map visible_mark spans)
+  added-plain [] [] plain = All-nil IsOneLineLabel
+  added-plain [] (span ∷ spans) plain =
+      All-cons IsOneLineLabel (visible_mark span) (map visible_mark spans) tt (added-plain [] spans plain)
+  added-plain (a ∷ marks) spans plain =
+      All-cons IsOneLineLabel a (marks ++ map visible_mark spans) (All-head IsOneLineLabel a marks plain)
+      (added-plain marks spans (All-tail IsOneLineLabel a marks plain))
+
+  cause-plain : (a b : Snippet Annotation) → IsSnippetWithContext before after a b → IsOneLineElement (Cause a) → IsOneLineElement (Cause b)
+  cause-plain a b is plain = (
+    subst (λ (path : Option (CowStr Global)). IsOneLineText (path_bytes path)) (sym is.path) plain.0,
+    subst (All IsOneLineLabel) (sym is.markers) (added-plain a.markers.items (context_spans before after a) plain.1),
+  )
+
+  element-plain : (a b : Element) → IsElementWithContext before after a b → IsOneLineElement a → IsOneLineElement b
+  element-plain (Message a) (Message b) is plain = subst (λ m. IsOneLineElement (Message m)) (sym is) plain
+  element-plain (Cause a) (Cause b) is plain = cause-plain a b is plain
+  element-plain (Suggestion a) (Suggestion b) is plain = subst (λ s. IsOneLineElement (Suggestion s)) (sym is) plain
+  element-plain (Origin a) (Origin b) is plain = subst (λ o. IsOneLineElement (Origin o)) (sym is) plain
+  element-plain (Padding a) (Padding b) is plain = tt
+  element-plain a b is plain = absurd is
+
+  pub plain-around : (groups shown : List Group) → AllZip (IsGroupWithContext before after) groups shown → HasOneLineTexts groups → HasOneLineTexts shown
+  plain-around groups shown pairs plain =
+      line-made Stays (IsElementWithContext before after) (λ a b is line. subst IsOneLineTitle (sym is) line) element-plain groups shown pairs plain
 
 -- ---- which lines are kept
 
@@ -148,26 +244,6 @@ module _ (before after : ℕ) where
       ap with_between ((keeps-around before after fed b with).lines
       ∙ ap₂ (λ (source : List ℕ) (kept : List ℕ). lines_around before after (length (source_lines source)) kept) is.2.text (kept-set feeds a fed is))
 
-  -- ---- the snippet that is shown
-
-  -- the snippet that is shown in place of one, and that it shows the lines around those that the one keeps
-  record IsAround (a : Snippet Annotation) (e : Element) : Type 0 where
-    shown : Snippet Annotation
-    is : e ≡ Cause shown
-    lines : with_between (kept_lines shown.fold (cow_str_bytes shown.source.text) shown.markers.items) ≡ lines_with_context before after a
-
-  cause-around : (feeds : Bool) (a : Snippet Annotation) (fed e : Element) → IsElementAsSet feeds (Cause a) fed → IsElementWithContext before after fed e
-      → IsAround a e
-  cause-around feeds a (Cause fed) (Cause b) is with = record { shown = b; is = refl; lines = lines-near feeds a fed b is with }
-  cause-around feeds a (Cause fed) (Message b) is with = cc
-  cause-around feeds a (Cause fed) (Suggestion b) is with = cc
-  cause-around feeds a (Cause fed) (Origin b) is with = cc
-  cause-around feeds a (Cause fed) (Padding b) is with = cc
-  cause-around feeds a (Message fed) e is with = absurd is
-  cause-around feeds a (Suggestion fed) e is with = absurd is
-  cause-around feeds a (Origin fed) e is with = absurd is
-  cause-around feeds a (Padding fed) e is with = absurd is
-
   -- ---- rows
 
   none-named : (rows : List (List Cell)) → lines_named (others rows) ≡ []
@@ -187,99 +263,61 @@ module _ (before after : ℕ) where
   named-shown r layout around s rows shows =
       ap lines_named shows.rows_are ∙ named-between (cause_head r layout around s) (rows_after_cause r layout around) shows.after ∙ shows.lines
 
-  -- ---- the page
+-- ---- the page
 
-  -- a page with the laws of the report that is shown has the lines around those that the given one keeps
-  page-around : (r : Renderer) (feeds : Bool) (groups fed shown : List Group) (page : Page) → AllZip (IsGroupAsSet feeds) groups fed
-      → AllZip (IsGroupWithContext before after) fed shown → PageLaws r shown page → ShowsLinesAround before after groups page
-  page-around r feeds groups fed shown page set with laws = record { lines = of_snippet }
-    where
-      of_snippet : (i n : ℕ) (g : Group) (part : GroupPage) (s : Snippet Annotation) → slice_get groups i ≡ Some g → slice_get page i ≡ Some part
-          → slice_get (drawn_elements g) n ≡ Some (Cause s) → lines_named (slice_index_or part.elements n []) ≡ lines_with_context before after s
-      of_snippet i n g part s at there drawn =
-          let one : Paired (IsGroupAsSet feeds) fed i g = paired (IsGroupAsSet feeds) groups fed set i g at in
-          let two : Paired (IsGroupWithContext before after) shown i one.other =
-          paired (IsGroupWithContext before after) fed shown with i one.other one.there in
-          let first : Paired (IsElementAsSet feeds) (drawn_elements one.other) n (Cause s) =
-          paired (IsElementAsSet feeds) (drawn_elements g) (drawn_elements one.other)
-          (chosen (IsElementAsSet feeds) is_drawn (drawn-set feeds) g.elements.items one.other.elements.items one.pair.2) n (Cause s) drawn in
-          let second : Paired (IsElementWithContext before after) (drawn_elements two.other) n first.other =
-          paired (IsElementWithContext before after) (drawn_elements one.other) (drawn_elements two.other)
-          (chosen (IsElementWithContext before after) is_drawn (drawn-around before after) one.other.elements.items two.other.elements.items two.pair.elements)
-          n first.other first.there in
-          let found : IsAround s second.other = cause-around feeds s first.other second.other first.pair second.pair in
-          let drawn_as : slice_get (drawn_elements two.other) n ≡ Some (Cause found.shown) = second.there ∙ ap (λ (e : Element). Some e) found.is in
-          let shows = (laws.shows.each i two.other part two.there there).elements.each n (Cause found.shown) drawn_as in
-          named-shown r (layout_of_group r shown two.other)
-          (context_at (position_of_group (length shown) i) (file_of_group shown two.other) (drawn_elements two.other) n (Cause found.shown)) found.shown
-          (slice_index_or part.elements n []) shows ∙ found.lines
+-- the snippet that stands in the place of one, after its texts are as they are set and with these lines
+record IsAround (before after : ℕ) (a : Snippet Annotation) (e : Element) : Type 0 where
+  shown : Snippet Annotation
+  is : e ≡ Cause shown
+  lines : with_between (kept_lines shown.fold (cow_str_bytes shown.source.text) shown.markers.items) ≡ lines_with_context before after a
 
--- ---- titles and messages that are wrapped
+snippet-around : (before after : ℕ) (feeds : Bool) (a : Snippet Annotation) (fed e : Element) → IsElementAsSet feeds (Cause a) fed
+    → IsElementWithContext before after fed e → IsAround before after a e
+snippet-around before after feeds a (Cause fed) (Cause b) is with = record { shown = b; is = refl; lines = lines-near before after feeds a fed b is with }
+snippet-around before after feeds a (Cause fed) e is with = absurd with
+snippet-around before after feeds a fed e is with = absurd is
 
-module _ (term_width gutter : ℕ) where
-  drawn-wrapped : (x y : Element) → IsElementWrapped term_width gutter x y → is_drawn y ≡ is_drawn x
-  drawn-wrapped (Message a) (Message b) is = refl
-  drawn-wrapped (Message a) (Cause b) is = ap is_drawn is
-  drawn-wrapped (Message a) (Suggestion b) is = ap is_drawn is
-  drawn-wrapped (Message a) (Origin b) is = ap is_drawn is
-  drawn-wrapped (Message a) (Padding b) is = ap is_drawn is
-  drawn-wrapped (Cause a) y is = ap is_drawn is
-  drawn-wrapped (Suggestion a) y is = ap is_drawn is
-  drawn-wrapped (Origin a) y is = ap is_drawn is
-  drawn-wrapped (Padding a) y is = ap is_drawn is
+-- wrapped or not, a snippet stays
+cause-wrapped : (asked : Bool) (term_width gutter : ℕ) (xs ys : List Group) (s : Snippet Annotation) → IsStep asked (IsGroupWrapped term_width gutter) xs ys
+    → (i n : ℕ) (g : Group) → slice_get xs i ≡ Some g → slice_get (drawn_elements g) n ≡ Some (Cause s)
+    → DrawnPair (λ a b. b ≡ a) ys i n (Cause s)
+cause-wrapped true term_width gutter xs ys s pairs i n g at drawn =
+    let one : DrawnPair (IsElementWrapped term_width gutter) ys i n (Cause s) =
+    drawn-pair (IsTitleWrapped term_width) (IsElementWrapped term_width gutter) (wrap-faithful term_width gutter) xs ys pairs i n g (Cause s) at drawn in
+    record { group = one.group; there = one.there; other = one.other; drawn = one.drawn; pair = stays one.other one.pair }
+  where
+    stays : (e : Element) → IsElementWrapped term_width gutter (Cause s) e → e ≡ Cause s
+    stays (Cause b) is = ap (λ x. Cause x) is
+    stays e is = absurd is
+cause-wrapped false term_width gutter xs ys s same i n g at drawn =
+    record { group = g; there = ap (λ (gs : List Group). slice_get gs i) same ∙ at; other = Cause s; drawn = drawn; pair = refl }
 
-  cause-wrapped : (s : Snippet Annotation) (e : Element) → IsElementWrapped term_width gutter (Cause s) e → e ≡ Cause s
-  cause-wrapped s e is = is
-
-  -- the page of a report that is wrapped after it got these lines has them too
-  page-wrapped : (before after : ℕ) (r : Renderer) (feeds : Bool) (groups fed around shown : List Group) (page : Page) → AllZip (IsGroupAsSet feeds) groups fed
-      → AllZip (IsGroupWithContext before after) fed around → AreGroupsWrapped term_width gutter around shown → PageLaws r shown page
-      → ShowsLinesAround before after groups page
-  page-wrapped before after r feeds groups fed around shown page set with wrapped laws = record { lines = of_snippet }
-    where
-      of_snippet : (i n : ℕ) (g : Group) (part : GroupPage) (s : Snippet Annotation) → slice_get groups i ≡ Some g → slice_get page i ≡ Some part
-          → slice_get (drawn_elements g) n ≡ Some (Cause s) → lines_named (slice_index_or part.elements n []) ≡ lines_with_context before after s
-      of_snippet i n g part s at there drawn =
-          let one : Paired (IsGroupAsSet feeds) fed i g = paired (IsGroupAsSet feeds) groups fed set i g at in
-          let two : Paired (IsGroupWithContext before after) around i one.other =
-          paired (IsGroupWithContext before after) fed around with i one.other one.there in
-          let three : Paired (IsGroupWrapped term_width gutter) shown i two.other =
-          paired (IsGroupWrapped term_width gutter) around shown wrapped i two.other two.there in
-          let first : Paired (IsElementAsSet feeds) (drawn_elements one.other) n (Cause s) =
-          paired (IsElementAsSet feeds) (drawn_elements g) (drawn_elements one.other)
-          (chosen (IsElementAsSet feeds) is_drawn (drawn-set feeds) g.elements.items one.other.elements.items one.pair.2) n (Cause s) drawn in
-          let second : Paired (IsElementWithContext before after) (drawn_elements two.other) n first.other =
-          paired (IsElementWithContext before after) (drawn_elements one.other) (drawn_elements two.other)
-          (chosen (IsElementWithContext before after) is_drawn (drawn-around before after) one.other.elements.items two.other.elements.items two.pair.elements)
-          n first.other first.there in
-          let third : Paired (IsElementWrapped term_width gutter) (drawn_elements three.other) n second.other =
-          paired (IsElementWrapped term_width gutter) (drawn_elements two.other) (drawn_elements three.other)
-          (chosen (IsElementWrapped term_width gutter) is_drawn drawn-wrapped two.other.elements.items three.other.elements.items three.pair.2)
-          n second.other second.there in
-          let found : IsAround before after s second.other = cause-around before after feeds s first.other second.other first.pair second.pair in
-          let last : third.other ≡ Cause found.shown =
-          cause-wrapped found.shown third.other (subst (λ (e : Element). IsElementWrapped term_width gutter e third.other) found.is third.pair) in
-          let shows = (laws.shows.each i three.other part three.there there).elements.each n (Cause found.shown)
-          (third.there ∙ ap (λ (e : Element). Some e) last) in
-          named-shown before after r (layout_of_group r shown three.other)
-          (context_at (position_of_group (length shown) i) (file_of_group shown three.other) (drawn_elements three.other) n (Cause found.shown)) found.shown
-          (slice_index_or part.elements n []) shows ∙ found.lines
-
--- so has the page of the report that is shown, as the renderer is set
+-- the page of the report that is shown, as the renderer is set, has just these lines
 pub around-set : (form : Form) (r : Renderer) (groups shown : List Group) (page : Page) → IsAsSet form r groups shown → PageLaws r shown page
     → adds_context form r ≡ true → ShowsLinesAround r.context_before r.context_after groups page
-around-set form r groups shown page set laws asked =
-    let made : IsRemade form r groups shown = remade-set form r groups shown (context-set form r asked) set in
-    let with : AllZip (IsGroupWithContext r.context_before r.context_after) made.fed made.around =
-    subst (λ (adds : Bool). AreWithContext adds r.context_before r.context_after made.fed made.around) asked made.context in
-    either (wraps form r) made.fed made.around made.feeds with made.wrap
+around-set form r groups shown page set laws asked = record { lines = of_snippet }
   where
-    either : (wrap : Bool) (fed around : List Group) → AllZip (IsGroupAsSet r.show_line_feeds) groups fed
-        → AllZip (IsGroupWithContext r.context_before r.context_after) fed around → AreWrapped wrap r around shown
-        → ShowsLinesAround r.context_before r.context_after groups page
-    either true fed around feeds with wrapped =
-        page-wrapped r.term_width (gutter_of_report r around) r.context_before r.context_after r r.show_line_feeds groups fed around shown page
-        feeds with wrapped laws
-    either false fed around feeds with same =
-        page-around r.context_before r.context_after r r.show_line_feeds groups fed around page feeds with
-        (subst (λ (gs : List Group). PageLaws r gs page) same laws)
+    of_snippet : (i n : ℕ) (g : Group) (part : GroupPage) (s : Snippet Annotation) → slice_get groups i ≡ Some g → slice_get page i ≡ Some part
+        → slice_get (drawn_elements g) n ≡ Some (Cause s)
+        → lines_named (slice_index_or part.elements n []) ≡ lines_with_context r.context_before r.context_after s
+    of_snippet i n g part s at there drawn =
+        let before = r.context_before in
+        let after = r.context_after in
+        let feeds = r.show_line_feeds in
+        let made : IsRemade form r groups shown = remade-set form r groups shown (context-set form r asked) set in
+        let with : AllZip (IsGroupWithContext before after) made.fed made.around =
+        subst (λ (adds : Bool). IsStep adds (IsGroupWithContext before after) made.fed made.around) asked made.context in
+        let one : DrawnPair (IsElementAsSet feeds) made.fed i n (Cause s) =
+        drawn-pair (IsTitleAsSet feeds) (IsElementAsSet feeds) (feeds-faithful feeds) groups made.fed made.feeds i n g (Cause s) at drawn in
+        let two : DrawnPair (IsElementWithContext before after) made.around i n one.other =
+        drawn-pair Stays (IsElementWithContext before after) (context-faithful before after) made.fed made.around with i n one.group one.other one.there
+        one.drawn in
+        let found : IsAround before after s two.other = snippet-around before after feeds s one.other two.other one.pair two.pair in
+        let three : DrawnPair (λ a b. b ≡ a) shown i n (Cause found.shown) =
+        cause-wrapped (wraps form r) r.term_width (gutter_of_report r made.around) made.around shown found.shown made.wrap i n two.group two.there
+        (two.drawn ∙ ap (λ (e : Element). Some e) found.is) in
+        let shows = (laws.shows.each i three.group part three.there there).elements.each n (Cause found.shown)
+        (three.drawn ∙ ap (λ (e : Element). Some e) three.pair) in
+        named-shown before after r (layout_of_group r shown three.group)
+        (context_at (position_of_group (length shown) i) (file_of_group shown three.group) (drawn_elements three.group) n (Cause found.shown)) found.shown
+        (slice_index_or part.elements n []) shows ∙ found.lines

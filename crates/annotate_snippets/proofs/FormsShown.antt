@@ -1,11 +1,8 @@
 -- The texts of a report show it in its form, and have the laws of that.
-use Rattle.std.proofs.Common.{◌≡◌, ◌<◌, ◌≤◌, ℕ, arith, get_or, true, Option, None, Some, Result, Ok, Err}
-use Rattle.std.proofs.Common.{IfSome, String, Vec, Global, refl, sym, ap, List, [], ◌∷◌, subst, length}
-use Rattle.std.proofs.Common.{map, string_bytes}
+use Rattle.std.proofs.Common.{◌≡◌, ◌<◌, ◌≤◌, ℕ, arith, get_or, true, Option, None, Some, refl, sym, List, [], ◌∷◌, subst, length}
 use Rattle.std.proofs.lemmas.List.{nil_from_length}
 use Rattle.std.proofs.lemmas.List.Elements.{All-nil}
 use Rattle.std.specs.List.{AllZip, Contains, flat_map}
-use Rattle.std.specs.Result.{IfOk}
 use Rattle.std.specs.Str.{chars}
 use Rattle.snippet_model.specs.Trusted.{trusted_texts}
 use Rattle.snippet_model.specs.declared.snippet.Group.{Group}
@@ -16,10 +13,9 @@ use Rattle.snippet_grid.proofs.WovenLemmas.{plain_woven}
 use Rattle.snippet_style.specs.declared.stylesheet.Stylesheet.{Stylesheet}
 use Rattle.snippet_text.specs.Normalized.{is_listed}
 use Rattle.annotate_snippets.specs.declared.renderer.Renderer.{Renderer}
-use Rattle.annotate_snippets.specs.declared.renderer.error.RenderError.{RenderError}
 use Rattle.annotate_snippets.specs.declared.renderer.form.Form.{Form}
 use Rattle.annotate_snippets.specs.declared.renderer.form.Form.TheVariants.{Graphic, Short, Text}
-use Rattle.annotate_snippets.specs.Fault.{first_refusal, form_of, missing_title}
+use Rattle.annotate_snippets.specs.Fault.{missing_title}
 use Rattle.annotate_snippets.specs.Laws.Forms.{FormLaws, IsTextUnder, LawsIn}
 use Rattle.annotate_snippets.specs.Forms.{AreFree, ShortShown, ShowsForm, links_in, plain_in}
 use Rattle.annotate_snippets.specs.GraphicForm.{graphic_form}
@@ -32,7 +28,7 @@ use Rattle.annotate_snippets.specs.Html.{levels_of}
 use Rattle.annotate_snippets.proofs.FaultLemmas.{first-there, title-there}
 use Rattle.snippet_model.proofs.ZipLemmas.{AllZip-weaker}
 use Rattle.annotate_snippets.proofs.GridRows.{in_levels}
-use Rattle.annotate_snippets.proofs.ReportLemmas.{page_woven, titled-from_ok}
+use Rattle.annotate_snippets.proofs.ReportLemmas.{page_woven}
 use Rattle.annotate_snippets.proofs.ShortShown.{page_is}
 
 -- the short form under no sheets
@@ -103,27 +99,15 @@ are-free r groups form (sheet ∷ sheets) (text ∷ texts) laws = record {
   free = free-in r groups form laws.0.form_laws;
 }
 
--- what is answered: texts or a refusal
-abbrev pub Texts : Type 0
-Texts = Result (Vec (String Global) Global) RenderError
-
--- under no sheets there are no texts, and these show a report that isn't refused
-pub none-shown : (r : Renderer) (groups : List Group) (sheets : List Stylesheet) (answer : Texts) → length sheets ≡ 0
-    → IfOk answer (λ texts. texts.items ≡ []) → IfSome (first_refusal r groups) (λ refusal. answer ≡ Err refusal)
-    → IfOk answer (λ texts. ShowsForm (form_of r) r groups sheets (map string_bytes texts.items))
-none-shown r groups sheets (Err e) none nothing refused = tt
-none-shown r groups sheets (Ok texts) none nothing refused =
-    let shown : ShowsForm (form_of r) r groups [] [] = none-in r groups (form_of r) (titled-from_ok r groups (Ok texts) texts refused refl) in
-    subst (λ ss. ShowsForm (form_of r) r groups ss (map string_bytes texts.items)) (sym (nil_from_length sheets none))
-    (subst (ShowsForm (form_of r) r groups []) (sym (ap (map string_bytes) nothing)) shown)
+-- under no sheets no texts show a report that isn't refused
+pub none-shown : (form : Form) (r : Renderer) (groups : List Group) (sheets : List Stylesheet) → length sheets ≡ 0 → missing_title form groups ≡ None
+    → ShowsForm form r groups sheets []
+none-shown form r groups sheets none given =
+    subst (λ ss. ShowsForm form r groups ss []) (sym (nil_from_length sheets none)) (none-in r groups form given)
 
 -- and have its laws
-pub none-laws : (r : Renderer) (groups : List Group) (sheets : List Stylesheet) (answer : Texts) → length sheets ≡ 0
-    → IfOk answer (λ texts. texts.items ≡ []) → IfOk answer (λ texts. AllZip (LawsIn (form_of r) r groups) sheets (map string_bytes texts.items))
-none-laws r groups sheets (Err e) none nothing = tt
-none-laws r groups sheets (Ok texts) none nothing =
-    subst (λ ss. AllZip (LawsIn (form_of r) r groups) ss (map string_bytes texts.items)) (sym (nil_from_length sheets none))
-    (subst (AllZip (LawsIn (form_of r) r groups) []) (sym (ap (map string_bytes) nothing)) tt)
+pub none-laws : (form : Form) (r : Renderer) (groups : List Group) (sheets : List Stylesheet) → length sheets ≡ 0 → AllZip (LawsIn form r groups) sheets []
+none-laws form r groups sheets none = subst (λ ss. AllZip (LawsIn form r groups) ss []) (sym (nil_from_length sheets none)) tt
 
 -- a sheet that is alone
 pub one_sheet : (sheets : List Stylesheet) (d : Stylesheet) → 1 ≤ length sheets → length sheets < 2 → get_or sheets 0 d ∷ [] ≡ sheets

@@ -1,6 +1,5 @@
 pub mod AreTexts
 pub mod AroundLaws
-pub mod AsSetFaults
 pub mod AsSetLemmas
 pub mod AsSetSteps
 pub mod Ascending
@@ -8,10 +7,8 @@ pub mod BarBeginnings
 pub mod BarExamples
 pub mod BoundsLaws
 pub mod CauseShown
-pub mod ContextFaults
 pub mod ContextLemmas
 pub mod ContextShown
-pub mod ContextTexts
 pub mod DisjointLemmas
 pub mod DrawnLines
 pub mod DrawnRows
@@ -19,6 +16,7 @@ pub mod ElementRows
 pub mod ElementShown
 pub mod FaultLemmas
 pub mod FeedLaws
+pub mod FeedsShown
 pub mod FormExamples
 pub mod FormLines
 pub mod FormSteps
@@ -64,6 +62,7 @@ pub mod NumberLaws
 pub mod OneLineTexts
 pub mod PageLemmas
 pub mod PageWords
+pub mod PairedLemmas
 pub mod PartsFacts
 pub mod PatchRows
 pub mod PathFeedLaws
@@ -72,6 +71,7 @@ pub mod PlainRows
 pub mod PreparedLemmas
 pub mod PrintedText
 pub mod PrintingLemmas
+pub mod RemadeLemmas
 pub mod ReportLemmas
 pub mod ReportTexts
 pub mod RoomLemmas
@@ -88,8 +88,8 @@ pub mod SuggestFeedLaws
 pub mod SuggestionLemmas
 pub mod SuggestionLines
 pub mod SuggestionShown
-pub mod TextParagraphLaws
 pub mod TextLineLaws
+pub mod TextParagraphLaws
 pub mod TextShown
 pub mod TitleNumbers
 pub mod TrustedLemmas
@@ -97,6 +97,5 @@ pub mod WalkLemmas
 pub mod WidestLemmas
 pub mod WindowLemmas
 pub mod WovenLemmas
-pub mod WrapSet
 pub mod WrapShown
 pub mod WriteLemmas

@@ -1,5 +1,5 @@
 -- The page that the graphic form has for a report has its laws; and what prints the grids of the report's groups prints it.
-use Rattle.std.proofs.Common.{◌≡◌, ℕ, zero, suc, ◌+◌, ◌<◌, get_or, arith, true, List, [], ◌∷◌, ◌++◌, All, Option, Some, None, Result, Ok, Err, IfSome, map}
+use Rattle.std.proofs.Common.{◌≡◌, ℕ, zero, suc, ◌+◌, ◌<◌, get_or, arith, true, List, [], ◌∷◌, ◌++◌, All, Option, Some, None, Result, Ok, Err, map}
 use Rattle.std.proofs.Common.{length, take}
 use Rattle.std.proofs.Common.{chars, refl, sym, ap, subst, ◌∙◌, encode_utf8_all}
 use Rattle.std.specs.List.{AllZip, Contains, enumerate_from, flat_map, slice_get}
@@ -22,7 +22,7 @@ use Rattle.snippet_model.specs.declared.snippet.Group.{Group}
 use Rattle.annotate_snippets.specs.declared.renderer.Renderer.{Renderer}
 use Rattle.annotate_snippets.specs.declared.renderer.graphic.GroupGrid.{GroupGrid}
 use Rattle.annotate_snippets.specs.ElementContext.{drawn_elements, file_of_group, next_of, position_of_group}
-use Rattle.annotate_snippets.specs.Fault.{IsWithinBounds, first_fault, first_refusal, form_of, missing_title}
+use Rattle.annotate_snippets.specs.Fault.{IsWithinBounds, first_fault, form_of, missing_title}
 use Rattle.annotate_snippets.specs.GraphicForm.{graphic_form}
 use Rattle.annotate_snippets.proofs.PageWords.{ArePrinted, Page, PrintsIn, page_at}
 use Rattle.annotate_snippets.specs.Gutter.{layout_of_group}
@@ -35,7 +35,7 @@ use Rattle.annotate_snippets.specs.Html.{levels_of}
 use Rattle.annotate_snippets.specs.declared.renderer.error.RenderError.{RenderError}
 use Rattle.annotate_snippets.proofs.OneLineTexts.{HasOneLineRows, IsOneLineGroup, one_line_groups}
 use Rattle.annotate_snippets.proofs.AreTexts.{AreTexts, IsTextGroup}
-use Rattle.annotate_snippets.proofs.FaultLemmas.{groups-drawable, titled}
+use Rattle.annotate_snippets.proofs.FaultLemmas.{groups-drawable}
 use Rattle.annotate_snippets.proofs.GridRows.{GridsSoFar, page_count}
 use Rattle.annotate_snippets.proofs.GroupLemmas.{group_shown}
 use Rattle.annotate_snippets.proofs.GroupShown.{GroupShown}
@@ -236,14 +236,3 @@ IfOk-map_err P R (Err e) (Err d) holds same = tt
 pub IfOk-both : {T E : Type 0} (P Q : T → Type 0) (r : Result T E) → IfOk r P → IfOk r Q → IfOk r (λ x. P x × Q x)
 IfOk-both P Q (Ok x) p q = (p, q)
 IfOk-both P Q (Err e) p q = tt
-
--- a report that isn't refused has no fault
-pub faultless : {T E : Type 0} (fault : Option E) (r : Result T E) (x : T) → IfSome fault (λ e. r ≡ Err e) → r ≡ Ok x → fault ≡ None
-faultless None r x refused given = refl
-faultless (Some e) r x refused given = let never : Err e ≡ Ok x = sym refused ∙ given in cc
-
--- no title is missing where the answer is no refusal
-pub titled-from_ok : {T : Type 0} (r : Renderer) (groups : List Group) (answer : Result T RenderError) (x : T)
-    → IfSome (first_refusal r groups) (λ refusal. answer ≡ Err refusal) → answer ≡ Ok x → missing_title (form_of r) groups ≡ None
-titled-from_ok r groups answer x refused given =
-    titled (missing_title (form_of r) groups) (first_fault groups) (faultless (first_refusal r groups) answer x refused given)

@@ -1,18 +1,17 @@
--- What a report that is wrapped has in common with the one that it is made of, and what follows of its texts.
-use Rattle.std.proofs.Common.{◌≡◌, ◌∙◌, ℕ, ◌+◌, ◌-◌, ◌≤◌, Bool, true, false, List, [], ◌∷◌, ◌++◌, Option, None, Some, All, IfSome, fold, if◌then◌else◌}
-use Rattle.std.proofs.Common.{is_none, max}
-use Rattle.std.proofs.Common.{◌⊎◌, inl, inr, refl, sym, ap, ap₂, subst, take, chars, arith}
-use Rattle.std.specs.Cow.{cow_str_bytes}
-use Rattle.std.specs.List.{AllZip, Contains, flat_map}
-use Rattle.std.specs.Option.{option_or, option_to_list}
+-- A report whose titles and messages are wrapped: what it has in common with the one in whose place it is shown, and what follows of its texts.
+use Rattle.std.proofs.Common.{◌≡◌, ◌∙◌, ℕ, ◌+◌, ◌-◌, ◌≤◌, Bool, true, false, List, [], ◌∷◌, Option, None, Some, All, fold, if◌then◌else◌, max}
+use Rattle.std.proofs.Common.{refl, sym, ap, ap₂, subst, chars, arith}
 use Rattle.std.proofs.lemmas.Bool.{false≢true}
-use Rattle.std.proofs.lemmas.List.Elements.{All-contains, All-contains_itself, All-weaker, Contains-append_cases}
-use Rattle.std.proofs.lemmas.List.Elements.{Contains-append_left, Contains-append_right}
+use Rattle.std.proofs.lemmas.List.Elements.{All-weaker}
+use Rattle.std.specs.Cow.{cow_str_bytes}
+use Rattle.std.specs.List.{AllZip, flat_map}
 use Rattle.std.specs.declared.alloc.Global.{Global}
 use Rattle.std.specs.declared.borrow.CowStr.{CowStr}
+use Rattle.snippet_model.proofs.ZipLemmas.{AllZip-weaker}
+use Rattle.snippet_model.specs.Fits.{ElementFits, GroupFits, ReportFits, TitleFits}
 use Rattle.snippet_model.specs.Heading.{heading_of_message, heading_of_title}
 use Rattle.snippet_model.specs.Same.{SameOption}
-use Rattle.snippet_model.specs.Trusted.{trusted_of_element, trusted_of_title, trusted_texts}
+use Rattle.snippet_model.specs.Trusted.{trusted_of_element, trusted_of_title}
 use Rattle.snippet_model.specs.declared.level.Level.{Level}
 use Rattle.snippet_model.specs.declared.snippet.Element.{Element}
 use Rattle.snippet_model.specs.declared.snippet.Element.TheVariants.{Message, Cause, Suggestion, Origin, Padding}
@@ -20,43 +19,34 @@ use Rattle.snippet_model.specs.declared.snippet.Group.{Group}
 use Rattle.snippet_model.specs.declared.snippet.Id.{Id}
 use Rattle.snippet_model.specs.declared.snippet.Message as message
 use Rattle.snippet_model.specs.declared.snippet.Title.{Title}
-use Rattle.snippet_suggest.proofs.BodyLaws.{zip_append}
-use Rattle.snippet_text.specs.Normalized.{is_listed}
+use Rattle.snippet_shown.proofs.DrawnLemmas.{message-within, title-within}
+use Rattle.snippet_shown.proofs.WrapLemmas.{wrapped-chars, wrapped-laws}
+use Rattle.snippet_shown.specs.AsSet.{IsElementAsSet, IsGroupAsSet, IsTitleAsSet}
+use Rattle.snippet_shown.specs.AsWrapped.{IsElementWrappable, IsElementWrapped, IsGroupWrapped, IsTextWrapped, IsTitleWrapped, room_of_message, room_of_title}
+use Rattle.snippet_shown.specs.Letters.{letters_of}
+use Rattle.snippet_shown.specs.Remade.{IsGroupTaken, Stays}
+use Rattle.snippet_shown.specs.WithContext.{IsElementWithContext, IsGroupWithContext}
+use Rattle.snippet_shown.specs.WrapLaws.{AreRowsWithin, AreWithin, IsRewrapped, lines_in}
 use Rattle.snippet_text.specs.Width.{width_of}
 use Rattle.snippet_titles.specs.HeadingRows.{heading_label_text, label_width}
 use Rattle.snippet_titles.specs.ShownHeading.{heading_texts}
+use Rattle.snippet_titles.specs.Title.{id_links}
 use Rattle.snippet_titles.specs.declared.style.MessageContext.{MessageContext}
 use Rattle.snippet_titles.specs.declared.style.TitleStyle.TheVariants as style
-use Rattle.snippet_titles.specs.Title.{id_links}
-use Rattle.snippet_shown.specs.AsWrapped.{AreGroupsWrapped, IsElementWrapped, IsGroupWrapped, IsTextWrapped, IsTitleWrapped, room_of_message, room_of_title}
-use Rattle.snippet_shown.specs.Letters.{letters_of}
-use Rattle.snippet_shown.specs.WrapLaws.{AreRowsWithin, AreWithin, IsRewrapped, lines_in}
-use Rattle.snippet_shown.proofs.DrawnLemmas.{message-within, title-within}
-use Rattle.snippet_shown.proofs.WrapLemmas.{wrapped-chars, wrapped-laws}
-use Rattle.annotate_snippets.specs.Fault.{element_faults, faults_from, first_fault, first_of, group_faults, missing_title, refusal_in}
-use Rattle.annotate_snippets.specs.Laws.Feeds.{HasOneLineTexts}
-use Rattle.annotate_snippets.specs.Forms.{links_in}
+use Rattle.annotate_snippets.specs.AsSet.{IsAsSet, IsRemade, IsStep, adds_context, wraps}
+use Rattle.annotate_snippets.specs.ElementContext.{is_drawn}
+use Rattle.annotate_snippets.specs.Fault.{element_faults}
 use Rattle.annotate_snippets.specs.Gutter.{gutter_of_report, width_wanted}
+use Rattle.annotate_snippets.specs.Laws.Feeds.{HasOneLineTexts}
 use Rattle.annotate_snippets.specs.Laws.Wrapped.{AreRewrapped, IsElementRewrapped, IsGroupRewrapped, IsTextRewrapped, IsTitleRewrapped}
-use Rattle.annotate_snippets.specs.Laws.Free.{IsFreeBut}
-use Rattle.annotate_snippets.specs.ShownPage.{report_links}
-use Rattle.annotate_snippets.proofs.AsSetSteps.{all-over, first-pair, flat-same}
-use Rattle.snippet_model.proofs.ZipLemmas.{AllZip-weaker}
 use Rattle.annotate_snippets.specs.declared.renderer.Renderer.{Renderer}
-use Rattle.annotate_snippets.specs.declared.renderer.error.RenderError.{RenderError}
-use Rattle.annotate_snippets.specs.declared.renderer.error.RenderError.TheVariants.{NoTitle}
 use Rattle.annotate_snippets.specs.declared.renderer.form.Form.{Form}
-use Rattle.annotate_snippets.specs.declared.renderer.form.Form.TheVariants.{Graphic, Short, Text}
-use Rattle.annotate_snippets.proofs.OneLineTexts.{IsOneLineElement, IsOneLineGroup, IsOneLineId, IsOneLineName, IsOneLineTitle, one_line_groups, one_line_texts}
+use Rattle.annotate_snippets.proofs.AsSetSteps.{remade-set, wrap-set}
+use Rattle.annotate_snippets.proofs.OneLineTexts.{IsOneLineElement, IsOneLineId, IsOneLineName}
+use Rattle.annotate_snippets.proofs.PairedLemmas.{compose, flat-zip}
+use Rattle.annotate_snippets.proofs.RemadeLemmas.{IsFaithful, IsOf, IsTextOf, line-made}
 
--- ---- lists of things that stand in the places of others
-
-option-same : {A B : Type 0} (P : A → A → Type 0) (f : A → List B) → ((x y : A) → P x y → f y ≡ f x) → (a b : Option A) → SameOption P a b
-    → flat_map f (option_to_list b) ≡ flat_map f (option_to_list a)
-option-same P f same None None is = refl
-option-same P f same None (Some y) is = cc
-option-same P f same (Some x) None is = absurd is
-option-same {B = B} P f same (Some x) (Some y) is = ap (λ (t : List B). t ++ []) (same x y is)
+-- ---- texts
 
 -- what is counted from them stays
 folds-same : (P : Element → Element → Type 0) → ((x y : Element) → P x y → width_wanted y ≡ width_wanted x) → (n m : ℕ) → m ≡ n → (xs ys : List Element)
@@ -67,31 +57,6 @@ folds-same P same n m start (x ∷ xs) [] pairs = absurd pairs
 folds-same P same n m start (x ∷ xs) (y ∷ ys) pairs =
     folds-same P same (max (width_wanted x) n) (max (width_wanted y) m) (ap₂ (λ (p q : ℕ). max p q) (same x y pairs.0) start) xs ys pairs.1
 
--- a list made of each
-flat-zip : {A B : Type 0} (P : A → A → Type 0) (Q : B → B → Type 0) (f : A → List B) → ((x y : A) → P x y → AllZip Q (f x) (f y)) → (xs ys : List A)
-    → AllZip P xs ys → AllZip Q (flat_map f xs) (flat_map f ys)
-flat-zip P Q f each [] [] pairs = tt
-flat-zip P Q f each [] (y ∷ ys) pairs = absurd pairs
-flat-zip P Q f each (x ∷ xs) [] pairs = absurd pairs
-flat-zip P Q f each (x ∷ xs) (y ∷ ys) pairs =
-    zip_append Q (f x) (flat_map f xs) (f y) (flat_map f ys) (each x y pairs.0) (flat-zip P Q f each xs ys pairs.1)
-
--- ---- texts
-
--- each character of the second text is one of the first, or a line feed
-abbrev IsOf : List ℕ → ℕ → Type 0
-IsOf cs c = (c ≡ 10) ⊎ Contains cs c
-
-abbrev IsTextOf : List ℕ → List ℕ → Type 0
-IsTextOf a b = All (IsOf (chars a)) (chars b)
-
-IsTextOf-refl : (a : List ℕ) → IsTextOf a a
-IsTextOf-refl a = All-weaker (Contains (chars a)) (IsOf (chars a)) (λ c own. inr own) (chars a) (All-contains_itself (chars a))
-
-zip-own : (texts : List (List ℕ)) → AllZip IsTextOf texts texts
-zip-own [] = tt
-zip-own (text ∷ texts) = (IsTextOf-refl text, zip-own texts)
-
 rewrapped : (room : ℕ) (trusted : Bool) (a b : CowStr Global) → IsTextWrapped room trusted a b → IsTextRewrapped room trusted a b
 rewrapped room trusted a b is =
     subst (λ (cs : List ℕ). IsRewrapped room (letters_of trusted (chars (cow_str_bytes a))) (letters_of trusted cs)) (sym is)
@@ -100,40 +65,9 @@ rewrapped room trusted a b is =
 IsTextOf-wrapped : (room : ℕ) (trusted : Bool) (a b : CowStr Global) → IsTextWrapped room trusted a b → IsTextOf (cow_str_bytes a) (cow_str_bytes b)
 IsTextOf-wrapped room trusted a b is = subst (All (IsOf (chars (cow_str_bytes a)))) (sym is) (wrapped-chars room trusted (chars (cow_str_bytes a)))
 
--- so is each of texts
-Contains-texts : (given shown : List (List ℕ)) → AllZip IsTextOf given shown → (c : ℕ) → Contains (flat_map chars shown) c
-    → (c ≡ 10) ⊎ Contains (flat_map chars given) c
-Contains-texts [] [] pairs c own = inr own
-Contains-texts [] (y ∷ ys) pairs c own = absurd pairs
-Contains-texts (x ∷ xs) [] pairs c own = absurd pairs
-Contains-texts (x ∷ xs) (y ∷ ys) pairs c own =
-    elim (Contains-append_cases (chars y) (flat_map chars ys) c own) [
-      | inl first ↦ elim (All-contains (IsOf (chars x)) (chars y) c pairs.0 first) [
-        | inl feed ↦ inl feed
-        | inr here ↦ inr (Contains-append_left (chars x) (flat_map chars xs) c here)
-      ]
-      | inr later ↦ elim (Contains-texts xs ys pairs.1 c later) [
-        | inl feed ↦ inl feed
-        | inr here ↦ inr (Contains-append_right (chars x) (flat_map chars xs) c here)
-      ]
-    ]
-
--- and a listed one is one of the given
-listed-own : (c : ℕ) (cs : List ℕ) → is_listed c ≡ true → (c ≡ 10) ⊎ Contains cs c → Contains cs c
-listed-own c cs listed (inl feed) = absurd (false≢true (sym (ap is_listed feed) ∙ listed))
-listed-own c cs listed (inr own) = own
-
 -- what stands before a text, by its level and its id
 abbrev label_of : Level → Option Id → List ℕ
 label_of level id = heading_label_text (record { level = level; id = id; text = []; allows_styling = true })
-
--- no other element is a message
-abbrev is_message : Element → Bool
-is_message (Message m) = true
-is_message e = false
-
-no_message : (b : Element) (a : message.Message) → is_message b ≡ false → b ≡ Message a → ⊥
-no_message b a other same = false≢true (sym other ∙ ap is_message same)
 
 module _ (term_width gutter : ℕ) where
   abbrev Wraps : Element → Element → Type 0
@@ -142,119 +76,18 @@ module _ (term_width gutter : ℕ) where
   abbrev GroupWraps : Group → Group → Type 0
   GroupWraps = IsGroupWrapped term_width gutter
 
-  -- ---- faults
+  -- ---- what the report keeps
 
-  element-faults : (n k : ℕ) (a b : Element) → Wraps a b → element_faults n k b ≡ element_faults n k a
-  element-faults n k (Message a) (Message b) is = refl
-  element-faults n k a b is = ap (element_faults n k) is
+  wrapped-faults : (n k : ℕ) (a b : Element) → Wraps a b → element_faults n k b ≡ element_faults n k a
+  wrapped-faults n k (Message a) (Message b) is = refl
+  wrapped-faults n k (Cause a) (Cause b) is = ap (λ s. element_faults n k (Cause s)) is
+  wrapped-faults n k (Suggestion a) (Suggestion b) is = ap (λ s. element_faults n k (Suggestion s)) is
+  wrapped-faults n k (Origin a) (Origin b) is = refl
+  wrapped-faults n k (Padding a) (Padding b) is = refl
+  wrapped-faults n k a b is = absurd is
 
-  elements-faults : (n k : ℕ) (xs ys : List Element) → AllZip Wraps xs ys → faults_from (element_faults n) k ys ≡ faults_from (element_faults n) k xs
-  elements-faults n k [] [] pairs = refl
-  elements-faults n k [] (y ∷ ys) pairs = absurd pairs
-  elements-faults n k (x ∷ xs) [] pairs = absurd pairs
-  elements-faults n k (x ∷ xs) (y ∷ ys) pairs =
-      ap₂ (λ (a b : List RenderError). a ++ b) (element-faults n k x y pairs.0) (elements-faults n (k + 1) xs ys pairs.1)
-
-  groups-faults : (n : ℕ) (xs ys : List Group) → AllZip GroupWraps xs ys → faults_from group_faults n ys ≡ faults_from group_faults n xs
-  groups-faults n [] [] pairs = refl
-  groups-faults n [] (y ∷ ys) pairs = absurd pairs
-  groups-faults n (x ∷ xs) [] pairs = absurd pairs
-  groups-faults n (x ∷ xs) (y ∷ ys) pairs =
-      ap₂ (λ (a b : List RenderError). a ++ b) (elements-faults n 0 x.elements.items y.elements.items pairs.0.2) (groups-faults (n + 1) xs ys pairs.1)
-
-  -- the first fault is the same
-  pub wrapped-fault : (groups shown : List Group) → AreGroupsWrapped term_width gutter groups shown → first_fault shown ≡ first_fault groups
-  unfolding first_fault
-  wrapped-fault groups shown pairs = ap first_of (groups-faults 0 groups shown pairs)
-
-  title-missing : (a b : Option Title) → SameOption (IsTitleWrapped term_width) a b → is_none b ≡ is_none a
-  title-missing None None is = refl
-  title-missing None (Some b) is = cc
-  title-missing (Some a) None is = absurd is
-  title-missing (Some a) (Some b) is = refl
-
-  -- a title is missing in both or in none
-  pub wrapped-missing : (form : Form) (groups shown : List Group) → AreGroupsWrapped term_width gutter groups shown
-      → missing_title form shown ≡ missing_title form groups
-  wrapped-missing Graphic groups shown pairs = refl
-  wrapped-missing Text groups shown pairs = refl
-  wrapped-missing Short [] [] pairs = refl
-  wrapped-missing Short [] (b ∷ bs) pairs = absurd pairs
-  wrapped-missing Short (a ∷ gs) [] pairs = absurd pairs
-  wrapped-missing Short (a ∷ gs) (b ∷ bs) pairs =
-      ap (λ (missing : Bool). if missing then Some NoTitle else None) (title-missing a.title b.title pairs.0.1)
-
-  -- so it is refused for the same reason
-  pub wrapped-refusal : (form : Form) (groups shown : List Group) → AreGroupsWrapped term_width gutter groups shown
-      → refusal_in form shown ≡ refusal_in form groups
-  wrapped-refusal form groups shown pairs = ap₂ option_or (wrapped-missing form groups shown pairs) (wrapped-fault groups shown pairs)
-
-  -- ---- links
-
-  title-links : (a b : Title) → IsTitleWrapped term_width a b → id_links true b.id ≡ id_links true a.id
-  title-links a b is = ap (id_links true) is.1
-
-  groups-links : (r : Renderer) (groups shown : List Group) → AllZip GroupWraps groups shown → report_links r shown ≡ report_links r groups
-  groups-links r groups shown pairs =
-      ap (λ (links : List (List ℕ)). if r.hyperlink then links else [])
-      (flat-same GroupWraps (λ g. flat_map (λ (t : Title). id_links true t.id) (option_to_list g.title))
-      (λ x y pair. option-same (IsTitleWrapped term_width) (λ (t : Title). id_links true t.id) title-links x.title y.title pair.1) groups shown pairs)
-
-  -- it links to the same
-  pub wrapped-links : (form : Form) (r : Renderer) (groups shown : List Group) → AreGroupsWrapped term_width gutter groups shown
-      → links_in form r shown ≡ links_in form r groups
-  wrapped-links Graphic r groups shown pairs = groups-links r groups shown pairs
-  wrapped-links Text r groups shown pairs = groups-links r groups shown pairs
-  wrapped-links Short r groups shown pairs = groups-links r (take 1 groups) (take 1 shown) (first-pair GroupWraps groups shown pairs)
-
-  -- ---- the gutter
-
-  element-width : (a b : Element) → Wraps a b → width_wanted b ≡ width_wanted a
-  element-width (Message a) (Message b) is = refl
-  element-width a b is = ap width_wanted is
-
-  all-elements : (xs ys : List Group) → AllZip GroupWraps xs ys → AllZip Wraps (flat_map (λ (g : Group). g.elements.items) xs)
-      (flat_map (λ (g : Group). g.elements.items) ys)
-  all-elements [] [] pairs = tt
-  all-elements [] (y ∷ ys) pairs = absurd pairs
-  all-elements (x ∷ xs) [] pairs = absurd pairs
-  all-elements (x ∷ xs) (y ∷ ys) pairs =
-      zip_append Wraps x.elements.items (flat_map (λ (g : Group). g.elements.items) xs) y.elements.items
-      (flat_map (λ (g : Group). g.elements.items) ys)
-      pairs.0.2 (all-elements xs ys pairs.1)
-
-  -- the gutter is as wide
-  pub wrapped-gutter : (r : Renderer) (groups shown : List Group) → AreGroupsWrapped term_width gutter groups shown
-      → gutter_of_report r shown ≡ gutter_of_report r groups
-  wrapped-gutter r groups shown pairs =
-      ap (λ (n : ℕ). if r.anonymized_snippet_line_numbers then 2 else n)
-      (folds-same Wraps element-width 0 0 refl (flat_map (λ (g : Group). g.elements.items) groups) (flat_map (λ (g : Group). g.elements.items) shown)
-      (all-elements groups shown pairs))
-
-  -- ---- texts of one line
-
-  title-line : (a b : Option Title) → SameOption (IsTitleWrapped term_width) a b → IfSome a IsOneLineTitle → IfSome b IsOneLineTitle
-  title-line None None is plain = tt
-  title-line None (Some b) is plain = cc
-  title-line (Some a) None is plain = absurd is
-  title-line (Some a) (Some b) is plain = (subst IsOneLineName (sym is.0) plain.0, subst IsOneLineId (sym is.1) plain.1)
-
-  element-line : (a b : Element) → Wraps a b → IsOneLineElement a → IsOneLineElement b
-  element-line (Message a) (Message b) is plain = subst IsOneLineName (sym is.0) plain
-  element-line a b is plain = subst IsOneLineElement (sym is) plain
-
-  -- labels, paths, ids and names of levels hold no line feed where they held none
-  pub wrapped-line : (groups shown : List Group) → AreGroupsWrapped term_width gutter groups shown → HasOneLineTexts groups → HasOneLineTexts shown
-  wrapped-line groups shown pairs plain =
-      one_line_texts shown (all-over GroupWraps IsOneLineGroup (λ a b is texts. (
-        title-line a.title b.title is.1 texts.0,
-        all-over Wraps IsOneLineElement element-line a.elements.items b.elements.items is.2 texts.1,
-      )) groups shown pairs (one_line_groups groups plain))
-
-  -- ---- listed characters
-
-  title-trusted : (a b : Title) → IsTitleWrapped term_width a b → AllZip IsTextOf (trusted_of_title a) (trusted_of_title b)
-  title-trusted a b is =
+  trusted-title : (a b : Title) → IsTitleWrapped term_width a b → AllZip IsTextOf (trusted_of_title a) (trusted_of_title b)
+  trusted-title a b is =
       let own : AllZip IsTextOf (cow_str_bytes a.text ∷ []) (cow_str_bytes b.text ∷ []) =
       (IsTextOf-wrapped (room_of_title term_width a) a.allows_styling a.text b.text is.2, tt) in
       by a.allows_styling b.allows_styling is.3 own
@@ -266,34 +99,64 @@ module _ (term_width gutter : ℕ) where
       by false true same own = absurd (false≢true (sym same))
       by false false same own = tt
 
-  titles-trusted : (a b : Option Title) → SameOption (IsTitleWrapped term_width) a b
-      → AllZip IsTextOf (flat_map trusted_of_title (option_to_list a)) (flat_map trusted_of_title (option_to_list b))
-  titles-trusted None None is = tt
-  titles-trusted None (Some b) is = cc
-  titles-trusted (Some a) None is = absurd is
-  titles-trusted (Some a) (Some b) is =
-      zip_append IsTextOf (trusted_of_title a) [] (trusted_of_title b) [] (title-trusted a b is) tt
+  wrapped-trusted : (a b : Element) → Wraps a b → AllZip IsTextOf (trusted_of_element a) (trusted_of_element b)
+  wrapped-trusted (Message a) (Message b) is = (IsTextOf-wrapped (room_of_message term_width gutter a) true a.text b.text is.1, tt)
+  wrapped-trusted (Cause a) (Cause b) is = tt
+  wrapped-trusted (Suggestion a) (Suggestion b) is = tt
+  wrapped-trusted (Origin a) (Origin b) is = tt
+  wrapped-trusted (Padding a) (Padding b) is = tt
+  wrapped-trusted a b is = absurd is
 
-  element-trusted : (a b : Element) → Wraps a b → AllZip IsTextOf (trusted_of_element a) (trusted_of_element b)
-  element-trusted (Message a) (Message b) is = (IsTextOf-wrapped (room_of_message term_width gutter a) true a.text b.text is.1, tt)
-  element-trusted a b is =
-      subst (λ (e : Element). AllZip IsTextOf (trusted_of_element a) (trusted_of_element e)) (sym is) (zip-own (trusted_of_element a))
+  wrapped-drawn : (a b : Element) → Wraps a b → is_drawn b ≡ is_drawn a
+  wrapped-drawn (Message a) (Message b) is = refl
+  wrapped-drawn (Cause a) (Cause b) is = refl
+  wrapped-drawn (Suggestion a) (Suggestion b) is = ap (λ s. is_drawn (Suggestion s)) is
+  wrapped-drawn (Origin a) (Origin b) is = refl
+  wrapped-drawn (Padding a) (Padding b) is = refl
+  wrapped-drawn a b is = absurd is
 
-  all-trusted : (groups shown : List Group) → AllZip GroupWraps groups shown → AllZip IsTextOf (trusted_texts groups) (trusted_texts shown)
-  all-trusted groups shown pairs =
-      flat-zip GroupWraps IsTextOf (λ g. flat_map trusted_of_title (option_to_list g.title) ++ flat_map trusted_of_element g.elements.items)
-      (λ x y pair. zip_append IsTextOf (flat_map trusted_of_title (option_to_list x.title)) (flat_map trusted_of_element x.elements.items)
-      (flat_map trusted_of_title (option_to_list y.title)) (flat_map trusted_of_element y.elements.items) (titles-trusted x.title y.title pair.1)
-      (flat-zip Wraps IsTextOf trusted_of_element element-trusted x.elements.items y.elements.items pair.2)) groups shown pairs
+  pub wrap-faithful : IsFaithful (IsTitleWrapped term_width) Wraps
+  wrap-faithful = record {
+    faults = wrapped-faults;
+    links = λ a b is. ap (id_links true) is.1;
+    trusted_title = trusted-title;
+    trusted = wrapped-trusted;
+    drawn = wrapped-drawn;
+  }
 
-  -- what is free but for the trusted texts that are shown is so but for those that are given
-  pub wrapped-free : (groups shown : List Group) → AreGroupsWrapped term_width gutter groups shown → (text : List ℕ)
-      → IsFreeBut (trusted_texts shown) text → IsFreeBut (trusted_texts groups) text
-  wrapped-free groups shown pairs text free =
-      All-weaker (λ c. is_listed c ≡ true → Contains (flat_map chars (trusted_texts shown)) c)
-      (λ c. is_listed c ≡ true → Contains (flat_map chars (trusted_texts groups)) c)
-      (λ c own listed. listed-own c (flat_map chars (trusted_texts groups)) listed
-      (Contains-texts (trusted_texts groups) (trusted_texts shown) (all-trusted groups shown pairs) c (own listed))) text free
+  -- ---- the gutter
+
+  element-width : (a b : Element) → Wraps a b → width_wanted b ≡ width_wanted a
+  element-width (Message a) (Message b) is = refl
+  element-width (Cause a) (Cause b) is = ap (λ s. width_wanted (Cause s)) is
+  element-width (Suggestion a) (Suggestion b) is = ap (λ s. width_wanted (Suggestion s)) is
+  element-width (Origin a) (Origin b) is = refl
+  element-width (Padding a) (Padding b) is = refl
+  element-width a b is = absurd is
+
+  -- the gutter is as wide
+  pub wrapped-gutter : (r : Renderer) (groups shown : List Group) → AllZip GroupWraps groups shown
+      → gutter_of_report r shown ≡ gutter_of_report r groups
+  wrapped-gutter r groups shown pairs =
+      ap (λ (n : ℕ). if r.anonymized_snippet_line_numbers then 2 else n)
+      (folds-same Wraps element-width 0 0 refl (flat_map (λ (g : Group). g.elements.items) groups) (flat_map (λ (g : Group). g.elements.items) shown)
+      (flat-zip GroupWraps Wraps (λ (g : Group). g.elements.items) (λ a b is. is.2) groups shown pairs))
+
+  -- ---- texts of one line
+
+  element-line : (a b : Element) → Wraps a b → IsOneLineElement a → IsOneLineElement b
+  element-line (Message a) (Message b) is plain = subst IsOneLineName (sym is.0) plain
+  element-line (Cause a) (Cause b) is plain = subst (λ s. IsOneLineElement (Cause s)) (sym is) plain
+  element-line (Suggestion a) (Suggestion b) is plain = subst (λ s. IsOneLineElement (Suggestion s)) (sym is) plain
+  element-line (Origin a) (Origin b) is plain = subst (λ o. IsOneLineElement (Origin o)) (sym is) plain
+  element-line (Padding a) (Padding b) is plain = tt
+  element-line a b is plain = absurd is
+
+  -- labels, paths, ids and names of levels hold no line feed where they held none
+  pub wrapped-line : (groups shown : List Group) → AllZip GroupWraps groups shown → HasOneLineTexts groups → HasOneLineTexts shown
+  wrapped-line groups shown pairs plain =
+      line-made (IsTitleWrapped term_width) Wraps
+      (λ a b is line. (subst IsOneLineName (sym is.0) line.0, subst IsOneLineId (sym is.1) line.1)) element-line groups shown pairs plain
 
   -- ---- what follows of the texts
 
@@ -333,17 +196,14 @@ module _ (term_width gutter : ℕ) where
       let text : IsTextRewrapped (room_of_message term_width n b) true a.text b.text =
       subst (λ (n : ℕ). IsTextRewrapped n true a.text b.text) room (rewrapped (room_of_message term_width gutter a) true a.text b.text is.1) in
       (text, λ place beside enough. message-rows n b place beside enough (text.rows enough))
-  element-rewrapped n same (Message a) (Cause b) is = absurd (no_message (Cause b) a refl is)
-  element-rewrapped n same (Message a) (Suggestion b) is = absurd (no_message (Suggestion b) a refl is)
-  element-rewrapped n same (Message a) (Origin b) is = absurd (no_message (Origin b) a refl is)
-  element-rewrapped n same (Message a) (Padding b) is = absurd (no_message (Padding b) a refl is)
   element-rewrapped n same (Cause a) b is = tt
   element-rewrapped n same (Suggestion a) b is = tt
   element-rewrapped n same (Origin a) b is = tt
   element-rewrapped n same (Padding a) b is = tt
+  element-rewrapped n same a b is = absurd is
 
   pub wrapped-laws-hold : (r : Renderer) (groups shown : List Group) → r.term_width ≡ term_width → gutter_of_report r groups ≡ gutter
-      → AreGroupsWrapped term_width gutter groups shown → AreRewrapped r groups shown
+      → AllZip GroupWraps groups shown → AreRewrapped r groups shown
   wrapped-laws-hold r groups shown width beside pairs =
       let same : gutter_of_report r shown ≡ gutter = wrapped-gutter r groups shown pairs ∙ beside in
       subst (λ (n : ℕ). AllZip (IsGroupRewrapped n (gutter_of_report r shown)) groups shown) (sym width)
@@ -353,3 +213,89 @@ module _ (term_width gutter : ℕ) where
         AllZip-weaker Wraps (IsElementRewrapped term_width (gutter_of_report r shown)) (element-rewrapped (gutter_of_report r shown) same)
             x.elements.items y.elements.items pair.2,
       )) groups shown pairs)
+
+-- ---- what is asked
+
+-- a report all texts of which fit can be wrapped, beside a gutter that is no wider than one can be
+pub groups-wrappable : (gutter : ℕ) (groups : List Group) → ReportFits groups → gutter ≤ 20 → All (IsGroupTaken TitleFits (IsElementWrappable gutter)) groups
+groups-wrappable gutter groups fits small =
+    All-weaker GroupFits (IsGroupTaken TitleFits (IsElementWrappable gutter))
+    (λ (g : Group) fit. (fit.0, All-weaker ElementFits (IsElementWrappable gutter) (λ e own. (own, small)) g.elements.items fit.1)) groups fits
+
+-- ---- the steps before
+
+-- a text of the same bytes
+text-before : (room : ℕ) (trusted : Bool) (a b c : CowStr Global) → cow_str_bytes b ≡ cow_str_bytes a → IsTextRewrapped room trusted b c
+    → IsTextRewrapped room trusted a c
+text-before room trusted a b c same is =
+    subst (λ (bytes : List ℕ). IsRewrapped room (letters_of trusted (chars bytes)) (letters_of trusted (chars (cow_str_bytes c)))) same is
+
+module _ (term_width gutter : ℕ) where
+  -- ---- line feeds that are shown
+
+  title-fed : (feeds : Bool) (a b c : Option Title) → SameOption (IsTitleAsSet feeds) a b → SameOption (IsTitleRewrapped term_width) b c
+      → SameOption (IsTitleRewrapped term_width) a c
+  title-fed feeds None None c first second = second
+  title-fed feeds None (Some b) c first second = cc
+  title-fed feeds (Some a) None c first second = absurd first
+  title-fed feeds (Some a) (Some b) None first second = absurd second
+  title-fed feeds (Some a) (Some b) (Some c) first second = (text-before _ _ a.text b.text c.text first.2 second.0, second.1)
+
+  element-fed : (feeds : Bool) (a b c : Element) → IsElementAsSet feeds a b → IsElementRewrapped term_width gutter b c
+      → IsElementRewrapped term_width gutter a c
+  element-fed feeds (Message a) (Message b) (Message c) first second = (text-before _ true a.text b.text c.text first.1 second.0, second.1)
+  element-fed feeds (Message a) (Message b) c first second = absurd second
+  element-fed feeds (Message a) b c first second = absurd first
+  element-fed feeds a b c first second = tt
+
+  group-fed : (feeds : Bool) (a b c : Group) → IsGroupAsSet feeds a b → IsGroupRewrapped term_width gutter b c → IsGroupRewrapped term_width gutter a c
+  group-fed feeds a b c first second = (
+    title-fed feeds a.title b.title c.title first.1 second.0,
+    compose (IsElementAsSet feeds) (IsElementRewrapped term_width gutter) (IsElementRewrapped term_width gutter) (element-fed feeds) a.elements.items
+        b.elements.items c.elements.items first.2 second.1,
+  )
+
+  -- ---- lines around those that are kept
+
+  title-around : (a b c : Option Title) → SameOption Stays a b → SameOption (IsTitleRewrapped term_width) b c
+      → SameOption (IsTitleRewrapped term_width) a c
+  title-around None None c first second = second
+  title-around None (Some b) c first second = cc
+  title-around (Some a) None c first second = absurd first
+  title-around (Some a) (Some b) c first second = subst (λ t. SameOption (IsTitleRewrapped term_width) (Some t) c) first second
+
+  element-around : (before after : ℕ) (a b c : Element) → IsElementWithContext before after a b → IsElementRewrapped term_width gutter b c
+      → IsElementRewrapped term_width gutter a c
+  element-around before after (Message a) (Message b) c first second =
+      subst (λ m. IsElementRewrapped term_width gutter (Message m) c) first second
+  element-around before after (Message a) b c first second = absurd first
+  element-around before after a b c first second = tt
+
+  around-same : (adds : Bool) (before after : ℕ) (fed around shown : List Group) → IsStep adds (IsGroupWithContext before after) fed around
+      → AllZip (IsGroupRewrapped term_width gutter) around shown → AllZip (IsGroupRewrapped term_width gutter) fed shown
+  around-same true before after fed around shown first second =
+      compose (IsGroupWithContext before after) (IsGroupRewrapped term_width gutter) (IsGroupRewrapped term_width gutter)
+      (λ a b c one two. (
+        title-around a.title b.title c.title one.1 two.0,
+        compose (IsElementWithContext before after) (IsElementRewrapped term_width gutter) (IsElementRewrapped term_width gutter)
+            (element-around before after) a.elements.items b.elements.items c.elements.items one.2 two.1,
+      )) fed around shown first second
+  around-same false before after fed around shown first second =
+      subst (λ (gs : List Group). AllZip (IsGroupRewrapped term_width gutter) gs shown) first second
+
+-- ---- all steps
+
+-- the titles and messages that are shown where they are wrapped
+pub rewrapped-set : (form : Form) (r : Renderer) (groups shown : List Group) → IsAsSet form r groups shown → wraps form r ≡ true
+    → AreRewrapped r groups shown
+rewrapped-set form r groups shown set asked =
+    let made : IsRemade form r groups shown = remade-set form r groups shown (wrap-set form r asked) set in
+    let around : List Group = made.around in
+    let pairs : AllZip (IsGroupWrapped r.term_width (gutter_of_report r around)) around shown =
+    subst (λ (wrap : Bool). IsStep wrap (IsGroupWrapped r.term_width (gutter_of_report r around)) around shown) asked made.wrap in
+    let last : AreRewrapped r around shown =
+    wrapped-laws-hold r.term_width (gutter_of_report r around) r around shown refl refl pairs in
+    let beside : ℕ = gutter_of_report r shown in
+    compose (IsGroupAsSet r.show_line_feeds) (IsGroupRewrapped r.term_width beside) (IsGroupRewrapped r.term_width beside)
+    (group-fed r.term_width beside r.show_line_feeds) groups made.fed shown made.feeds
+    (around-same r.term_width beside (adds_context form r) r.context_before r.context_after made.fed around shown made.context last)

@@ -1,11 +1,13 @@
 -- The report that is shown in place of one, as a renderer is set.
-use Rattle.std.specs.Prelude.{◌≡◌, ℕ, ◌==◌, ◌&&◌, Bool, true, false, not, List}
+use Rattle.std.specs.Prelude.{◌≡◌, ◌==◌, ◌&&◌, All, Bool, true, false, not, List, None}
 use Rattle.std.specs.List.{AllZip}
 use Rattle.snippet_shown.specs.WithContext.{IsGroupWithContext}
 use Rattle.snippet_model.specs.declared.snippet.Group.{Group}
 use Rattle.snippet_shown.specs.AsSet.{IsGroupAsSet}
-use Rattle.snippet_shown.specs.AsWrapped.{AreGroupsWrapped}
+use Rattle.snippet_shown.specs.AsWrapped.{IsGroupWrapped}
+use Rattle.annotate_snippets.specs.Fault.{missing_title}
 use Rattle.annotate_snippets.specs.Gutter.{gutter_of_report}
+use Rattle.annotate_snippets.specs.PreparedReport.{IsGroupDrawable}
 use Rattle.annotate_snippets.specs.declared.renderer.Renderer.{Renderer}
 use Rattle.annotate_snippets.specs.declared.renderer.form.Form.{Form}
 use Rattle.annotate_snippets.specs.declared.renderer.form.Form.TheVariants.{Graphic, Short, Text}
@@ -26,25 +28,20 @@ wraps Text r = false
 abbrev pub shows_as_given : Form → Renderer → Bool
 shows_as_given form r = not r.show_line_feeds && not (adds_context form r) && not (wraps form r)
 
--- the second report is the first with the lines around those that it keeps, where they are shown, and else the same
-abbrev pub AreWithContext : Bool → ℕ → ℕ → List Group → List Group → Type 0
-AreWithContext true before after groups shown = AllZip (IsGroupWithContext before after) groups shown
-AreWithContext false before after groups shown = shown ≡ groups
-
--- the second report is the first with titles and messages wrapped for the terminal, beside the gutter of the first, where that is set, and
--- else the same
-abbrev pub AreWrapped : Bool → Renderer → List Group → List Group → Type 0
-AreWrapped true r groups shown = AreGroupsWrapped r.term_width (gutter_of_report r groups) groups shown
-AreWrapped false r groups shown = shown ≡ groups
+-- the second report is made of the first, each group of the group in its place, if that is asked for; else it is the same
+abbrev pub IsStep : Bool → (Group → Group → Type 0) → List Group → List Group → Type 0
+IsStep true Made groups shown = AllZip Made groups shown
+IsStep false Made groups shown = shown ≡ groups
 
 -- the second report is made of the first, step by step: with the line feeds of its texts as they are set, then with the lines around those
--- that it keeps, where they are shown, and then with its titles and messages wrapped, where they are
+-- that it keeps, where they are shown, and then with its titles and messages wrapped for the terminal, beside the gutter that it has then,
+-- where they are
 pub record IsRemade (form : Form) (r : Renderer) (groups shown : List Group) : Type 0 where
   pub fed : List Group
   pub around : List Group
   pub feeds : AllZip (IsGroupAsSet r.show_line_feeds) groups fed
-  pub context : AreWithContext (adds_context form r) r.context_before r.context_after fed around
-  pub wrap : AreWrapped (wraps form r) r around shown
+  pub context : IsStep (adds_context form r) (IsGroupWithContext r.context_before r.context_after) fed around
+  pub wrap : IsStep (wraps form r) (IsGroupWrapped r.term_width (gutter_of_report r around)) around shown
 
 -- the same report, or one that is made of it
 abbrev pub IsShownFor : Bool → Form → Renderer → List Group → List Group → Type 0
@@ -54,3 +51,9 @@ IsShownFor false form r groups shown = IsRemade form r groups shown
 -- the second report is shown in a form in place of the first: where nothing is set that makes another of it, the same
 abbrev pub IsAsSet : Form → Renderer → List Group → List Group → Type 0
 IsAsSet form r groups shown = IsShownFor (shows_as_given form r) form r groups shown
+
+-- so it is, and it can be drawn: it isn't refused, and each of its texts fits
+pub record IsDrawableAsSet (form : Form) (r : Renderer) (groups shown : List Group) : Type 0 where
+  pub set : IsAsSet form r groups shown
+  pub drawable : All IsGroupDrawable shown
+  pub titled : missing_title form shown ≡ None

@@ -46,10 +46,9 @@ pub use snippet_style::{
     DEFAULT_HELP_STYLE, DEFAULT_INFO_STYLE, DEFAULT_LINE_NUM_STYLE, DEFAULT_NONE_STYLE,
     DEFAULT_NOTE_STYLE, DEFAULT_REMOVAL_STYLE, DEFAULT_WARNING_STYLE, DecorStyle,
 };
-use std::alloc::{AllocError, Global};
+use std::alloc::Global;
 pub use style::{AnsiColor, Color, Effects, Style, Stylesheet, open_code, reset_code};
 pub use to_writer::RenderToError;
-use validate::first_refusal;
 pub use words::{RefusalWords, RenderToWords};
 
 /// Draws reports, with these settings.
@@ -86,12 +85,11 @@ impl Renderer {
     ghost use Rattle.snippet_model.specs.Fits.{ReportFits};
     ghost use Rattle.annotate_snippets.specs.Fault as spec;
     ghost use Rattle.annotate_snippets.specs.Fault.{IsWithinBounds};
-    ghost use Rattle.annotate_snippets.specs.Laws.Forms.{HasLaws, IsTextUnder, LawsIn};
-    ghost use Rattle.annotate_snippets.specs.Forms.{AreFree, ShowsForm, ShowsReport, TextsShown, links_in};
+    ghost use Rattle.annotate_snippets.specs.Laws.Forms.{HasLaws};
+    ghost use Rattle.annotate_snippets.specs.Forms.{AreFree, ShowsReport, TextsShown, links_in};
     ghost use Rattle.std.specs.List.{AllZip};
-    ghost use Rattle.annotate_snippets.specs.Html.{HasHtmlLaws, IsReportHtml, report_html};
+    ghost use Rattle.annotate_snippets.specs.Html.{HasHtmlLaws, IsReportHtml};
     ghost use Rattle.annotate_snippets.specs.declared.renderer.form.Form.TheVariants as form;
-    ghost use Rattle.snippet_grid.specs.Html.{html_bytes};
     ghost use Rattle.snippet_model.specs.Trusted.{trusted_texts};
 
     /// The text of a report, under the renderer's own sheet.
@@ -124,11 +122,9 @@ impl Renderer {
             (string_bytes text ∷ [])) }
     {
         let form = form_of(self);
-        if self.shows_as_given(form) {
-            return self.text_in(alloc, groups, &self.stylesheet);
-        }
-        let shown = self.report_shown(alloc, form, groups)?;
-        self.text_in(alloc, &shown, &self.stylesheet)
+        let shown = self.shown(alloc, form, groups)?;
+        let text = text_in_form(alloc, self, form, &shown, &self.stylesheet)?;
+        Ok(text)
     }
 
     /// The page of a report's graphic form as HTML, for `<pre>`: its rows, joined by line feeds. `short_message`,
@@ -166,25 +162,9 @@ impl Renderer {
         // character stands in the class of its role and in the link of its cell.
         ensures laws { IfOk result (λ text. HasHtmlLaws self.now groups.now (string_bytes text)) }
     {
-        if self.shows_as_given(Form::Graphic) {
-            return self.html_of_given(alloc, groups);
-        }
-        let shown = self.report_shown(alloc, Form::Graphic, groups)?;
-        self.html_of_given(alloc, &shown)
-    }
-
-    /// The page of a report's graphic form as HTML, drawn as it is given.
-    fn html_of_given(&self, alloc: Global, groups: Report<'_>) -> Result<String, RenderError>
-        requires fits { ReportFits groups.now }
-        ensures refused { IfSome (spec.refusal_in form.Graphic groups.now) (λ refusal. result ≡ Err refusal) }
-        ensures renders { spec.refusal_in form.Graphic groups.now ≡ None
-            → IsOkUnless result (RenderError.Memory alloc_error) }
-        ensures html { IfOk result (λ text. string_bytes text ≡ html_bytes (report_html self.now groups.now)) }
-    {
-        if let Some(refusal) = first_refusal(Form::Graphic, groups) {
-            return Err(refusal);
-        }
-        page_html(alloc, self, groups).map_err(RenderError::Memory)
+        let shown = self.shown(alloc, Form::Graphic, groups)?;
+        let text = page_html(alloc, self, &shown)?;
+        Ok(text)
     }
 
     /// The texts of a report, one under each of these sheets, in order; the renderer's own sheet isn't looked at. The
@@ -224,96 +204,8 @@ impl Renderer {
             (links_in (spec.form_of self.now) self.now groups.now) sheets.now (map string_bytes texts.items)) }
     {
         let form = form_of(self);
-        if self.shows_as_given(form) {
-            return self.texts_in(alloc, groups, sheets);
-        }
-        let shown = self.report_shown(alloc, form, groups)?;
-        self.texts_in(alloc, &shown, sheets)
+        let shown = self.shown(alloc, form, groups)?;
+        let texts = texts_in_form(alloc, self, form, &shown, sheets)?;
+        Ok(texts)
     }
-
-    /// The texts of a report under some sheets, drawn as it is given.
-    fn texts_in(
-        &self,
-        alloc: Global,
-        groups: Report<'_>,
-        sheets: &[Stylesheet],
-    ) -> Result<Vec<String>, RenderError>
-        requires fits { ReportFits groups.now }
-        ensures refused { IfSome (spec.first_refusal self.now groups.now) (λ refusal. result ≡ Err refusal) }
-        ensures renders { IsWithinBounds self.now groups.now → IsOkUnless result (RenderError.Memory alloc_error) }
-        ensures shows { IfOk result (λ texts.
-            ShowsForm (spec.form_of self.now) self.now groups.now sheets.now (map string_bytes texts.items)) }
-        ensures laws { IfOk result (λ texts.
-            AllZip (LawsIn (spec.form_of self.now) self.now groups.now) sheets.now (map string_bytes texts.items)) }
-    {
-        if sheets.is_empty() {
-            return self.no_texts(alloc, groups);
-        }
-        if let [sheet] = sheets {
-            return self.one_text(alloc, groups, sheet);
-        }
-        let form = form_of(self);
-        if let Some(refusal) = first_refusal(form, groups) {
-            return Err(refusal);
-        }
-        texts_in_form(alloc, self, form, groups, sheets).map_err(RenderError::Memory)
-    }
-
-    /// The texts of a report under no sheets: none, where it isn't refused.
-    fn no_texts(&self, alloc: Global, groups: Report<'_>) -> Result<Vec<String>, RenderError>
-        ensures refused { IfSome (spec.first_refusal self.now groups.now) (λ refusal. result ≡ Err refusal) }
-        ensures renders { IsWithinBounds self.now groups.now → IsOkUnless result (RenderError.Memory alloc_error) }
-        ensures none { IfOk result (λ texts. texts.items ≡ []) }
-    {
-        match first_refusal(form_of(self), groups) {
-            Some(refusal) => Err(refusal),
-            None => Ok(Vec::new(alloc)),
-        }
-    }
-
-    /// The text of a report under a sheet, where it isn't refused.
-    fn text_in(
-        &self,
-        alloc: Global,
-        groups: Report<'_>,
-        sheet: &Stylesheet,
-    ) -> Result<String, RenderError>
-        requires fits { ReportFits groups.now }
-        ensures refused { IfSome (spec.first_refusal self.now groups.now) (λ refusal. result ≡ Err refusal) }
-        ensures renders { IsWithinBounds self.now groups.now → IsOkUnless result (RenderError.Memory alloc_error) }
-        ensures text { IfOk result (λ text.
-            IsTextUnder (spec.form_of self.now) self.now groups.now sheet.now (string_bytes text)) }
-    {
-        let form = form_of(self);
-        if let Some(refusal) = first_refusal(form, groups) {
-            return Err(refusal);
-        }
-        text_in_form(alloc, self, form, groups, sheet).map_err(RenderError::Memory)
-    }
-
-    /// The text of a report under a sheet, where it isn't refused, as the one of a list.
-    fn one_text(
-        &self,
-        alloc: Global,
-        groups: Report<'_>,
-        sheet: &Stylesheet,
-    ) -> Result<Vec<String>, RenderError>
-        requires fits { ReportFits groups.now }
-        ensures refused { IfSome (spec.first_refusal self.now groups.now) (λ refusal. result ≡ Err refusal) }
-        ensures renders { IsWithinBounds self.now groups.now → IsOkUnless result (RenderError.Memory alloc_error) }
-        ensures text { IfOk result (λ texts. AllZip (IsTextUnder (spec.form_of self.now) self.now groups.now)
-            (sheet.now ∷ []) (map string_bytes texts.items)) }
-    {
-        let text = self.text_in(alloc, groups, sheet)?;
-        alone(alloc, text).map_err(RenderError::Memory)
-    }
-}
-
-/// A list of one text.
-fn alone(alloc: Global, text: String) -> Result<Vec<String>, AllocError>
-    ensures value { IfOk result (λ texts. texts.items ≡ text ∷ []) }
-{
-    let mut texts = Vec::new(alloc);
-    texts.push(text)?;
-    Ok(texts)
 }

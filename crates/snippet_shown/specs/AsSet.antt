@@ -1,5 +1,5 @@
 -- When a report is another as it is set: what of the two differs, part by part.
-use Rattle.std.specs.Prelude.{◌≡◌, Bool, ⊤}
+use Rattle.std.specs.Prelude.{◌≡◌, Bool}
 use Rattle.std.specs.List.{AllZip}
 use Rattle.snippet_model.specs.Source.{SameSource}
 use Rattle.snippet_model.specs.declared.level.Level.{Level}
@@ -13,9 +13,9 @@ use Rattle.snippet_model.specs.declared.snippet.Annotation.{Annotation}
 use Rattle.snippet_model.specs.declared.snippet.Snippet.{Snippet}
 use Rattle.snippet_model.specs.declared.snippet.Group.{Group}
 use Rattle.snippet_model.specs.declared.snippet.Element.{Element}
-use Rattle.snippet_model.specs.declared.snippet.Element.TheVariants as element
 use Rattle.snippet_model.specs.Same.{SameOption, SamePatch, SameText}
 use Rattle.snippet_shown.specs.LineFeeds.{IsOptionAsSet, IsTextAsSet}
+use Rattle.snippet_shown.specs.Remade.{IsElementMade, IsGroupMade}
 
 -- the names of two levels: own ones, the second as it is set, or both standard, or both hidden
 abbrev pub IsNameAsSet : Bool → LevelName → LevelName → Type 0
@@ -59,14 +59,9 @@ IsSnippetAsSet feeds Marker a b =
 
 -- elements of one kind, the second as it is set
 abbrev pub IsElementAsSet : Bool → Element → Element → Type 0
-IsElementAsSet feeds (element.Message a) (element.Message b) = IsMessageAsSet feeds a b
-IsElementAsSet feeds (element.Cause a) (element.Cause b) = IsSnippetAsSet feeds (IsAnnotationAsSet feeds) a b
-IsElementAsSet feeds (element.Suggestion a) (element.Suggestion b) = IsSnippetAsSet feeds SamePatch a b
-IsElementAsSet feeds (element.Origin a) (element.Origin b) = IsOriginAsSet feeds a b
-IsElementAsSet feeds (element.Padding a) (element.Padding b) = ⊤
-IsElementAsSet feeds a b = ⊥
+IsElementAsSet feeds =
+    IsElementMade (IsMessageAsSet feeds) (IsSnippetAsSet feeds (IsAnnotationAsSet feeds)) (IsSnippetAsSet feeds SamePatch) (IsOriginAsSet feeds)
 
 -- groups of one level, with as many elements, each of the second and its title as they are set
 abbrev pub IsGroupAsSet : Bool → Group → Group → Type 0
-IsGroupAsSet feeds a b =
-    (b.level ≡ a.level) × SameOption (IsTitleAsSet feeds) a.title b.title × AllZip (IsElementAsSet feeds) a.elements.items b.elements.items
+IsGroupAsSet feeds = IsGroupMade (IsTitleAsSet feeds) (IsElementAsSet feeds)

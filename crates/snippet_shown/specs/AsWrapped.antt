@@ -1,17 +1,16 @@
 -- When a report is another with the texts of its titles and messages wrapped: what of the two differs, part by part.
-use Rattle.std.specs.Prelude.{◌≡◌, ℕ, ◌+◌, ◌-◌, Bool, true, chars, List}
-use Rattle.std.specs.List.{AllZip}
+use Rattle.std.specs.Prelude.{◌≡◌, ℕ, ◌+◌, ◌-◌, ◌≤◌, Bool, true, chars}
 use Rattle.std.specs.Cow.{cow_str_bytes}
 use Rattle.std.specs.declared.alloc.Global.{Global}
 use Rattle.std.specs.declared.borrow.CowStr.{CowStr}
+use Rattle.snippet_model.specs.Fits.{ElementFits}
 use Rattle.snippet_model.specs.Heading.{heading_of_message, heading_of_title}
-use Rattle.snippet_model.specs.Same.{SameOption}
 use Rattle.snippet_model.specs.declared.snippet.Title.{Title}
 use Rattle.snippet_model.specs.declared.snippet.Message.{Message}
 use Rattle.snippet_model.specs.declared.snippet.Group.{Group}
 use Rattle.snippet_model.specs.declared.snippet.Element.{Element}
-use Rattle.snippet_model.specs.declared.snippet.Element.TheVariants as element
 use Rattle.snippet_titles.specs.HeadingRows.{label_width}
+use Rattle.snippet_shown.specs.Remade.{IsElementMade, IsGroupMade, Stays}
 use Rattle.snippet_shown.specs.Wrapped.{wrapped}
 
 -- the columns of a terminal of this width that are right of where a title's text begins, after its label
@@ -40,15 +39,12 @@ IsMessageWrapped term_width gutter a b =
 
 -- elements: two messages, the second wrapped, or twice the same element
 abbrev pub IsElementWrapped : ℕ → ℕ → Element → Element → Type 0
-IsElementWrapped term_width gutter (element.Message a) (element.Message b) = IsMessageWrapped term_width gutter a b
-IsElementWrapped term_width gutter a b = b ≡ a
+IsElementWrapped term_width gutter = IsElementMade (IsMessageWrapped term_width gutter) Stays Stays Stays
 
 -- groups of one level, with as many elements, each of the second and its title wrapped
 abbrev pub IsGroupWrapped : ℕ → ℕ → Group → Group → Type 0
-IsGroupWrapped term_width gutter a b =
-    (b.level ≡ a.level) × SameOption (IsTitleWrapped term_width) a.title b.title
-    × AllZip (IsElementWrapped term_width gutter) a.elements.items b.elements.items
+IsGroupWrapped term_width gutter = IsGroupMade (IsTitleWrapped term_width) (IsElementWrapped term_width gutter)
 
--- reports with as many groups, each of the second wrapped
-abbrev pub AreGroupsWrapped : ℕ → ℕ → List Group → List Group → Type 0
-AreGroupsWrapped term_width gutter a b = AllZip (IsGroupWrapped term_width gutter) a b
+-- an element that is wrapped beside a gutter of so many cells: its texts fit, and the gutter is no wider than one can be
+abbrev pub IsElementWrappable : ℕ → Element → Type 0
+IsElementWrappable gutter e = ElementFits e × (gutter ≤ 20)

@@ -1,4 +1,5 @@
 pub mod LineFeeds
+pub mod Remade
 pub mod AsSet
 pub mod Context
 pub mod WithContext

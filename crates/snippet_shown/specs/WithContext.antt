@@ -1,7 +1,6 @@
 -- When a report is another with the lines around those that it keeps: what of the two differs, part by part.
 use Rattle.std.specs.Prelude.{◌≡◌, ℕ, ◌+◌, ◌≤◌, ◌++◌, All, List, length}
 use Rattle.std.specs.Cow.{cow_str_bytes}
-use Rattle.std.specs.List.{AllZip}
 use Rattle.std.specs.Str.{IsCharBoundary}
 use Rattle.std.specs.declared.ops.Range.{Range}
 use Rattle.snippet_lines.specs.Lines.{newline_count, source_lines}
@@ -11,12 +10,14 @@ use Rattle.snippet_model.specs.declared.snippet.Element.{Element}
 use Rattle.snippet_model.specs.declared.snippet.Element.TheVariants.{Message, Cause, Suggestion, Origin, Padding}
 use Rattle.snippet_model.specs.declared.snippet.Group.{Group}
 use Rattle.snippet_model.specs.declared.snippet.Snippet.{Snippet}
+use Rattle.snippet_model.specs.declared.snippet.Title.{Title}
 use Rattle.snippet_parts.specs.Kept.{kept_lines}
 use Rattle.snippet_parts.specs.Numbered.{numbered_source}
 use Rattle.snippet_parts.specs.Annotated.{made_parts}
 use Rattle.snippet_style.specs.Bounds.{HasNext}
 use Rattle.snippet_text.specs.TextBounds.{TextFits}
 use Rattle.snippet_shown.specs.Context.{context_marks, context_spans, lines_around}
+use Rattle.snippet_shown.specs.Remade.{IsElementMade, IsGroupMade, IsGroupTaken, Stays}
 
 -- ---- which reports are given
 
@@ -34,9 +35,13 @@ IsElementSound (Suggestion s) = Unit {0}
 IsElementSound (Origin origin) = Unit {0}
 IsElementSound (Padding padding) = Unit {0}
 
--- a group of such elements
+-- any title
+abbrev pub IsAnyTitle : Title → Type 0
+IsAnyTitle title = Unit {0}
+
+-- a group of such elements, under any title
 abbrev pub IsGroupSound : Group → Type 0
-IsGroupSound g = All IsElementSound g.elements.items
+IsGroupSound = IsGroupTaken IsAnyTitle IsElementSound
 
 -- ---- which reports are shown
 
@@ -59,14 +64,11 @@ pub record IsSnippetWithContext (before after : ℕ) (a b : Snippet Annotation) 
 
 -- the second element is the first with such lines; only an annotated snippet has any
 abbrev pub IsElementWithContext : ℕ → ℕ → Element → Element → Type 0
-IsElementWithContext before after (Cause a) (Cause b) = IsSnippetWithContext before after a b
-IsElementWithContext before after a b = b ≡ a
+IsElementWithContext before after = IsElementMade Stays (IsSnippetWithContext before after) Stays Stays
 
 -- groups of one level and title, with as many elements, each of the second the one in its place with such lines
-pub record IsGroupWithContext (before after : ℕ) (a b : Group) : Type 0 where
-  pub level : b.level ≡ a.level
-  pub title : b.title ≡ a.title
-  pub elements : AllZip (IsElementWithContext before after) a.elements.items b.elements.items
+abbrev pub IsGroupWithContext : ℕ → ℕ → Group → Group → Type 0
+IsGroupWithContext before after = IsGroupMade Stays (IsElementWithContext before after)
 
 -- ---- what follows
 

@@ -3,8 +3,10 @@
 
 mod as_set;
 mod context;
+mod remake;
 mod wrap;
 
 pub use as_set::{groups_as_set, shown_on_one_line};
-pub use context::groups_with_context;
-pub use wrap::{groups_wrapped, wrapped};
+pub use context::LinesAround;
+pub use remake::{Remake, groups_remade};
+pub use wrap::{Wrapping, wrapped};

@@ -1,6 +1,6 @@
 //! The texts of a report under several sheets. In the graphic form each group is drawn once, and printed under each
 //! sheet before the next is drawn in the room that it took, so that memory holds the rows of one group at a time.
-ghost use Rattle.std.specs.Prelude.{◌≡◌, All, IfOk, None, OnOk, map, string_bytes};
+ghost use Rattle.std.specs.Prelude.{◌≡◌, [], ◌∷◌, All, IfOk, None, OnOk, map, string_bytes};
 ghost use Rattle.std.specs.List.{AllZip};
 ghost use Rattle.annotate_snippets.specs.Fault as spec;
 ghost use Rattle.annotate_snippets.specs.Laws.Forms.{IsTextUnder, LawsIn};
@@ -14,7 +14,7 @@ use crate::renderer::drawn::{short_form_texts, text_form_texts};
 use crate::renderer::form::Form;
 use crate::renderer::graphic::{GroupGrid, ReportContext, draw_at};
 use crate::renderer::gutter::gutter_of;
-use crate::renderer::page::fed;
+use crate::renderer::page::{fed, text_in_form};
 use crate::renderer::paths::report_file;
 use crate::renderer::preprocess::prepare_groups;
 use crate::snippet::Report;
@@ -23,7 +23,7 @@ use snippet_style::Stylesheet;
 use std::alloc::{AllocError, Global};
 use std::mem;
 
-/// The texts of a report in a form, one under each of some sheets, in order.
+/// The texts of a report in a form, one under each of some sheets, in order. Without sheets nothing is drawn.
 ///
 /// # Errors
 ///
@@ -42,11 +42,27 @@ pub fn texts_in_form(
     ensures laws { IfOk result (λ texts.
         AllZip (LawsIn form renderer.now groups.now) sheets.now (map string_bytes texts.items)) }
 {
+    if sheets.is_empty() {
+        return Ok(Vec::new(alloc));
+    }
+    if let [sheet] = sheets {
+        let text = text_in_form(alloc, renderer, form, groups, sheet)?;
+        return alone(alloc, text);
+    }
     match form {
         Form::Graphic => page_texts(alloc, renderer, groups, sheets),
         Form::Short => short_form_texts(alloc, renderer, groups, sheets),
         Form::Text => text_form_texts(alloc, renderer, groups, sheets),
     }
+}
+
+/// A list of one text.
+fn alone(alloc: Global, text: String) -> Result<Vec<String>, AllocError>
+    ensures value { IfOk result (λ texts. texts.items ≡ text ∷ []) }
+{
+    let mut texts = Vec::new(alloc);
+    texts.push(text)?;
+    Ok(texts)
 }
 
 /// The texts of a report's graphic form, a group at a time.

@@ -1,11 +1,11 @@
 //! The report that is shown in place of one, as the renderer is set.
-ghost use Rattle.std.specs.Prelude.{◌≡◌, ◌≤◌, All, Err, IfOk, IfSome, IsOkUnless, None, alloc_error, false, true};
-ghost use Rattle.std.specs.List.{AllZip};
-ghost use Rattle.snippet_shown.specs.WithContext.{IsGroupSound};
+ghost use Rattle.std.specs.Prelude.{◌≡◌, ◌≤◌, All, Err, IfOk, IfSome, IsOkUnless, None, alloc_error};
+ghost use Rattle.std.specs.Cow.{cow_slice_items};
 ghost use Rattle.snippet_model.specs.Fits.{ReportFits};
-ghost use Rattle.snippet_shown.specs.AsSet.{IsGroupAsSet};
+ghost use Rattle.snippet_shown.specs.AsWrapped.{IsGroupWrapped};
+ghost use Rattle.snippet_shown.specs.WithContext.{IsGroupSound, IsGroupWithContext};
 ghost use Rattle.annotate_snippets.specs.AsSet as set;
-ghost use Rattle.annotate_snippets.specs.AsSet.{AreWithContext, AreWrapped, IsAsSet};
+ghost use Rattle.annotate_snippets.specs.AsSet.{IsDrawableAsSet, IsStep};
 ghost use Rattle.annotate_snippets.specs.Fault as spec;
 ghost use Rattle.annotate_snippets.specs.Gutter.{gutter_of_report};
 ghost use Rattle.annotate_snippets.specs.PreparedReport.{IsGroupDrawable};
@@ -19,8 +19,9 @@ use crate::renderer::validate::first_refusal;
 use crate::snippet::Report;
 use snippet_model::report_fits;
 use snippet_model::snippet::Group;
-use snippet_shown::{groups_as_set, groups_with_context, groups_wrapped};
+use snippet_shown::{LinesAround, Wrapping, groups_as_set, groups_remade};
 use std::alloc::{AllocError, Global};
+use std::borrow::CowSlice;
 
 impl Renderer {
     /// Whether a report is shown in a form just as it is given: nothing is set that makes another of it.
@@ -50,27 +51,34 @@ impl Renderer {
         }
     }
 
-    /// The report that is shown in a form in place of one that isn't refused, where something is set that makes another
-    /// of it: with its line feeds shown, then with the lines around those that it keeps, and then with its titles and
-    /// messages wrapped. Where a text of it no longer fits, there is no memory for it.
-    pub(crate) fn report_shown<'a>(
+    /// The report that is shown in a form in place of one: the one given, where nothing is set that makes another of
+    /// it; else that with its line feeds shown, then with the lines around those that it keeps, and then with its
+    /// titles and messages wrapped.
+    ///
+    /// # Errors
+    ///
+    /// Why the one given is refused, the first reason in order; and `Memory` where there is none for the other, or a
+    /// text of it no longer fits.
+    pub(crate) fn shown<'a>(
         &self,
         alloc: Global,
         form: Form,
         groups: Report<'a>,
-    ) -> Result<Vec<Group<'a>>, RenderError>
+    ) -> Result<CowSlice<'a, Group<'a>>, RenderError>
         requires fits { ReportFits groups.now }
-        requires asked { set.shows_as_given form self.now ≡ false }
         ensures refused { IfSome (spec.refusal_in form groups.now) (λ refusal. result ≡ Err refusal) }
         ensures renders { spec.refusal_in form groups.now ≡ None
             → IsOkUnless result (RenderError.Memory alloc_error) }
-        ensures set { IfOk result (λ shown. IsAsSet form self.now groups.now shown.items) }
-        ensures fits { IfOk result (λ shown. ReportFits shown.items) }
+        ensures shown { IfOk result (λ shown. IsDrawableAsSet form self.now groups.now (cow_slice_items shown)) }
     {
         if let Some(refusal) = first_refusal(form, groups) {
             return Err(refusal);
         }
-        Ok(self.remade(alloc, form, groups)?)
+        if self.shows_as_given(form) {
+            return Ok(CowSlice::Borrowed(groups));
+        }
+        let made = self.remade(alloc, form, groups)?;
+        Ok(CowSlice::Owned(made))
     }
 
     /// The report that is made of one that isn't refused.
@@ -82,8 +90,8 @@ impl Renderer {
     ) -> Result<Vec<Group<'a>>, AllocError>
         requires fits { ReportFits groups.now }
         requires faultless { spec.first_fault groups.now ≡ None }
-        ensures set { IfOk result (λ shown. set.IsRemade form self.now groups.now shown.items) }
-        ensures fits { IfOk result (λ shown. ReportFits shown.items) }
+        ensures set { IfOk result (λ made. set.IsRemade form self.now groups.now made.items) }
+        ensures fits { IfOk result (λ made. ReportFits made.items) }
     {
         let made = groups_as_set(alloc, self.show_line_feeds, groups)?;
         let fed = fitting(made)?;
@@ -100,18 +108,22 @@ impl Renderer {
     ) -> Result<Vec<Group<'a>>, AllocError>
         requires sound { All IsGroupSound groups.items }
         requires fits { ReportFits groups.items }
-        ensures with { IfOk result (λ shown. AreWithContext (set.adds_context form self.now) self.now.context_before
-            self.now.context_after groups.entry.items shown.items) }
-        ensures fits { IfOk result (λ shown. ReportFits shown.items) }
+        ensures made { IfOk result (λ made. IsStep (set.adds_context form self.now)
+            (IsGroupWithContext self.now.context_before self.now.context_after) groups.entry.items made.items) }
+        ensures fits { IfOk result (λ made. ReportFits made.items) }
     {
         if self.adds_context(form) {
-            groups_with_context(alloc, self.context_before, self.context_after, groups)
+            let around = LinesAround {
+                before: self.context_before,
+                after: self.context_after,
+            };
+            groups_remade(alloc, &around, groups)
         } else {
             Ok(groups)
         }
     }
 
-    /// A report with its titles and messages wrapped, where that is set.
+    /// A report with its titles and messages wrapped, beside the gutter that it has, where that is set.
     fn with_wrapped<'a>(
         &self,
         alloc: Global,
@@ -120,31 +132,22 @@ impl Renderer {
     ) -> Result<Vec<Group<'a>>, AllocError>
         requires fits { ReportFits groups.items }
         requires faultless { spec.first_fault groups.items ≡ None }
-        ensures with { IfOk result (λ shown.
-            AreWrapped (set.wraps form self.now) self.now groups.entry.items shown.items) }
-        ensures fits { IfOk result (λ shown. ReportFits shown.items) }
+        ensures made { IfOk result (λ made. IsStep (set.wraps form self.now)
+            (IsGroupWrapped self.now.term_width (gutter_of_report self.now groups.entry.items))
+            groups.entry.items made.items) }
+        ensures fits { IfOk result (λ made. ReportFits made.items) }
     {
         if self.wraps(form) {
-            self.wrapped(alloc, groups)
+            let gutter = self.gutter_for(alloc, &groups)?;
+            let wrapping = Wrapping {
+                term_width: self.term_width,
+                gutter,
+            };
+            let made = groups_remade(alloc, &wrapping, groups)?;
+            fitting(made)
         } else {
             Ok(groups)
         }
-    }
-
-    /// A report with its titles and messages wrapped, beside its gutter.
-    fn wrapped<'a>(
-        &self,
-        alloc: Global,
-        groups: Vec<Group<'a>>,
-    ) -> Result<Vec<Group<'a>>, AllocError>
-        requires fits { ReportFits groups.items }
-        requires faultless { spec.first_fault groups.items ≡ None }
-        ensures with { IfOk result (λ shown. AreWrapped true self.now groups.entry.items shown.items) }
-        ensures fits { IfOk result (λ shown. ReportFits shown.items) }
-    {
-        let gutter = self.gutter_for(alloc, &groups)?;
-        let shown = groups_wrapped(alloc, self.term_width, gutter, groups)?;
-        fitting(shown)
     }
 
     /// The width of a report's gutter, in cells, before any row is drawn.

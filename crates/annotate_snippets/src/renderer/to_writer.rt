@@ -21,7 +21,6 @@ use crate::renderer::page::text_in_form;
 use crate::renderer::paths::report_file;
 use crate::renderer::preprocess::prepare_groups;
 use crate::renderer::report_writer::ReportWriter;
-use crate::renderer::validate::first_refusal;
 use crate::renderer::words::RenderToWords;
 use crate::snippet::Report;
 use snippet_grid::{SheetCodes, StyledBuffer};
@@ -152,38 +151,9 @@ impl Renderer {
             (held W.contents out.old) (held W.contents out.new)) }
     {
         let form = form_of(self);
-        if self.shows_as_given(form) {
-            return write_given(alloc, self, groups, out);
-        }
-        let shown = self.report_shown(alloc, form, groups)?;
-        write_given(alloc, self, &shown, out)
+        let shown = self.shown(alloc, form, groups)?;
+        write_form(alloc, self, form, &shown, out)
     }
-}
-
-/// Writes the text of a report, drawn as it is given, in the form that the renderer is set to.
-fn write_given<W: Write>(
-    alloc: Global,
-    renderer: &Renderer,
-    groups: Report<'_>,
-    out: &mut ReportWriter<'_, W>,
-) -> Result<(), RenderToError>
-    requires fits { ReportFits groups.now }
-    ensures same_reference { out.new.target.ghost_name ≡ out.old.target.ghost_name }
-    ensures told { out.old.has_failed ≡ false → out.new.has_failed ≡ blames_writer result }
-    ensures refused { IfSome (spec.first_refusal renderer.now groups.now)
-        (λ refusal. (result ≡ Err (RenderToError.Refused refusal)) × (out.new ≡ out.old)) }
-    ensures renders { IsWithinBounds renderer.now groups.now → IfErr result IsStop }
-    ensures whole { OnOk result (WritesText (IsTextIn (spec.form_of renderer.now) renderer.now groups.now)
-        (held W.contents out.old) (held W.contents out.new)) }
-    ensures part { OnErr result ((out.new ≡ out.old)
-        ⊎ WritesPart (ShowsIn (spec.form_of renderer.now) renderer.now groups.now)
-        (held W.contents out.old) (held W.contents out.new)) }
-{
-    let form = form_of(renderer);
-    if let Some(refusal) = first_refusal(form, groups) {
-        return Err(RenderToError::Refused(refusal));
-    }
-    write_form(alloc, renderer, form, groups, out)
 }
 
 /// Writes the text of a report in a form.

@@ -1,13 +1,49 @@
 //! Annotated snippets with the lines around those that they keep.
 ghost use Rattle.std.specs.Prelude.{◌≡◌, ◌++◌, map, IfOk, OnOk};
 ghost use Rattle.snippet_shown.specs.Context.{visible_mark};
-ghost use Rattle.snippet_shown.specs.WithContext.{IsElementSound, IsElementWithContext, IsSnippetSound};
-ghost use Rattle.snippet_shown.specs.WithContext.{IsSnippetWithContext};
+ghost use Rattle.snippet_shown.specs.WithContext.{IsSnippetSound, IsSnippetWithContext};
 
 use crate::context::spans::spans_around;
-use snippet_model::snippet::{Annotation, AnnotationKind, Element, Snippet};
+use crate::remake::Remake;
+use snippet_model::snippet::{Annotation, AnnotationKind, Element, Snippet, Title};
 use std::alloc::{AllocError, Global};
 use std::ops::Range;
+
+/// So many lines before and after each line that an annotated snippet of a report keeps: after the annotations of each
+/// one whose lines are folded stand those that keep these lines, which mark nothing.
+#[derive(Clone, Copy, Debug)]
+pub struct LinesAround {
+    /// How many lines before.
+    pub before: usize,
+    /// How many lines after.
+    pub after: usize,
+}
+
+impl Remake for LinesAround {
+    ghost use Rattle.snippet_shown.specs.Remade.{Stays};
+    ghost use Rattle.snippet_shown.specs.WithContext.{IsAnyTitle, IsElementSound, IsElementWithContext};
+
+    ghost takes_title = { λ around title. IsAnyTitle title };
+
+    ghost takes_element = { λ around element. IsElementSound element };
+
+    ghost makes_title = { λ around a b. Stays a b };
+
+    ghost makes_element = { λ around. IsElementWithContext around.before around.after };
+
+    fn title<'a>(&self, _alloc: Global, title: Title<'a>) -> Result<Title<'a>, AllocError> {
+        Ok(title)
+    }
+
+    fn element<'a>(&self, alloc: Global, element: Element<'a>) -> Result<Element<'a>, AllocError> {
+        match element {
+            Element::Cause(snippet) => {
+                Ok(Element::Cause(cause_with_context(alloc, self.before, self.after, snippet)?))
+            }
+            other => Ok(other),
+        }
+    }
+}
 
 /// An annotated snippet with the lines around those that it keeps. Where lines aren't folded it stays as it is, since
 /// all lines are kept.
@@ -43,24 +79,4 @@ fn add_visible(
         markers.push(AnnotationKind::Visible.span(span))?;
     }
     Ok(())
-}
-
-/// An element with the lines around those that it keeps.
-///
-/// The one error is that memory ran out.
-pub fn element_with_context<'a>(
-    alloc: Global,
-    before: usize,
-    after: usize,
-    element: Element<'a>,
-) -> Result<Element<'a>, AllocError>
-    requires sound { IsElementSound element }
-    ensures with { IfOk result (IsElementWithContext before after element.entry) }
-{
-    match element {
-        Element::Cause(snippet) => {
-            Ok(Element::Cause(cause_with_context(alloc, before, after, snippet)?))
-        }
-        other => Ok(other),
-    }
 }

@@ -4,8 +4,9 @@ use Rattle.std.specs.List.{AllZip}
 use Rattle.snippet_model.specs.declared.snippet.Group.{Group}
 use Rattle.snippet_shown.specs.AsSet.{IsGroupAsSet}
 use Rattle.annotate_snippets.specs.AsSet.{adds_context}
-use Rattle.annotate_snippets.proofs.AsSetFaults.{fault-same}
-use Rattle.annotate_snippets.proofs.ContextFaults.{fault-with, groups-sound}
+use Rattle.annotate_snippets.proofs.AsSetLemmas.{around-keeps, fed-keeps}
+use Rattle.annotate_snippets.proofs.ContextShown.{groups-sound}
+use Rattle.annotate_snippets.proofs.RemadeLemmas.{Keeps}
 use Rattle.annotate_snippets.proofs.renderer.Renderer.remade.Goals as goal
 
 pub with_context-requires : goal.with_context-requires
@@ -16,10 +17,8 @@ with_context-requires c =
     let same : fed ≡ c.in_ok-made.made.items = ap (λ v. v.items) c.in_ok-fed.ensures.same in
     let pairs : AllZip (IsGroupAsSet feeds) groups fed =
     subst (λ (gs : List Group). AllZip (IsGroupAsSet feeds) groups gs) (sym same) c.in_ok-made.ensures.set in
-    record {
-      sound = groups-sound fed c.in_ok-fed.ensures.fits (fault-same feeds groups fed pairs ∙ c.requires.faultless);
-      fits = c.in_ok-fed.ensures.fits;
-    }
+    let kept : Keeps groups fed = fed-keeps feeds groups fed pairs in
+    record { sound = groups-sound fed c.in_ok-fed.ensures.fits (kept.fault ∙ c.requires.faultless); fits = c.in_ok-fed.ensures.fits }
 
 pub with_wrapped-requires : goal.with_wrapped-requires
 with_wrapped-requires c =
@@ -30,11 +29,10 @@ with_wrapped-requires c =
     let same : fed ≡ c.in_ok-made.made.items = ap (λ v. v.items) c.in_ok-fed.ensures.same in
     let pairs : AllZip (IsGroupAsSet feeds) groups fed =
     subst (λ (gs : List Group). AllZip (IsGroupAsSet feeds) groups gs) (sym same) c.in_ok-made.ensures.set in
-    record {
-      fits = c.in_ok-around.ensures.fits;
-      faultless = fault-with (adds_context c.args.form r) r.context_before r.context_after fed c.in_ok-around.around.items c.in_ok-around.ensures.with
-          ∙ fault-same feeds groups fed pairs ∙ c.requires.faultless;
-    }
+    let kept : Keeps groups fed = fed-keeps feeds groups fed pairs in
+    let around : Keeps fed c.in_ok-around.around.items =
+    around-keeps (adds_context c.args.form r) r.context_before r.context_after fed c.in_ok-around.around.items c.in_ok-around.ensures.made in
+    record { fits = c.in_ok-around.ensures.fits; faultless = around.fault ∙ kept.fault ∙ c.requires.faultless }
 
 pub returns-clause-set : goal.returns-clause-set
 returns-clause-set c =
@@ -45,5 +43,5 @@ returns-clause-set c =
     let pairs : AllZip (IsGroupAsSet feeds) groups fed =
     subst (λ (gs : List Group). AllZip (IsGroupAsSet feeds) groups gs) (sym same) c.in_ok-made.ensures.set in
     IfOk-weaker c.with_wrapped.result _ _
-    (λ shown wrap. record { fed = fed; around = c.in_ok-around.around.items; feeds = pairs; context = c.in_ok-around.ensures.with; wrap = wrap })
-    c.with_wrapped.ensures.with
+    (λ shown wrap. record { fed = fed; around = c.in_ok-around.around.items; feeds = pairs; context = c.in_ok-around.ensures.made; wrap = wrap })
+    c.with_wrapped.ensures.made

@@ -1,0 +1,263 @@
+-- A report whose texts are as they are set: what it has in common with the one in whose place it is shown, and that where line feeds are
+-- shown no text of it that may be on one line only holds one.
+use Rattle.std.proofs.Common.{◌≡◌, ◌∙◌, ℕ, ◌+◌, ◌==◌, Bool, true, false, List, [], ◌∷◌, ◌++◌, Option, None, Some, All, IfSome, codes, if◌then◌else◌, not}
+use Rattle.std.proofs.Common.{append-nil, count_by, map, refl, sym, ap, ap₂, subst}
+use Rattle.std.proofs.lemmas.Bool.{eqb-true}
+use Rattle.std.proofs.lemmas.List.Elements.{All-cons, All-nil}
+use Rattle.std.proofs.lemmas.List.Sums.{sum_by-cons}
+use Rattle.std.specs.Cow.{cow_str_bytes}
+use Rattle.std.specs.List.{AllZip, flat_map}
+use Rattle.std.specs.Option.{option_map, option_to_list}
+use Rattle.std.specs.Str.{chars}
+use Rattle.std.specs.declared.alloc.Global.{Global}
+use Rattle.std.specs.declared.borrow.CowStr.{CowStr}
+use Rattle.snippet_model.specs.Level.{shown_name}
+use Rattle.snippet_model.specs.Same.{SameOption, SamePatch, SameText}
+use Rattle.snippet_model.specs.StandardName.{standard_name_of}
+use Rattle.snippet_model.specs.Trusted.{trusted_of_element, trusted_of_title}
+use Rattle.snippet_model.specs.declared.level.LevelName.{LevelName}
+use Rattle.snippet_model.specs.declared.level.LevelName.TheVariants.{Standard, Hidden, Own}
+use Rattle.snippet_model.specs.declared.snippet.Annotation.{Annotation}
+use Rattle.snippet_model.specs.declared.snippet.Element.{Element}
+use Rattle.snippet_model.specs.declared.snippet.Element.TheVariants.{Message, Cause, Suggestion, Origin, Padding}
+use Rattle.snippet_model.specs.declared.snippet.Group.{Group}
+use Rattle.snippet_model.specs.declared.snippet.Id.{Id}
+use Rattle.snippet_model.specs.declared.snippet.Patch.{Patch}
+use Rattle.snippet_model.specs.declared.snippet.Snippet.{Snippet}
+use Rattle.snippet_model.specs.declared.snippet.Title.{Title}
+use Rattle.snippet_shown.specs.AsSet.{IsAnnotationAsSet, IsElementAsSet, IsGroupAsSet, IsIdAsSet, IsNameAsSet, IsSnippetAsSet, IsTitleAsSet}
+use Rattle.snippet_shown.specs.LineFeeds.{IsOptionAsSet, IsTextAsSet, picture_of, with_line_feeds_shown}
+use Rattle.snippet_splice.specs.Edits.{Edit, edit_of}
+use Rattle.snippet_splice.specs.Overlap.{first_overlap}
+use Rattle.snippet_style.specs.declared.role.LevelInner.{LevelInner}
+use Rattle.snippet_style.specs.declared.role.LevelInner.TheVariants.{Error, Warning, Info, Note, Help}
+use Rattle.snippet_text.specs.Normalized.{norm, shown}
+use Rattle.snippet_titles.proofs.OriginFree.{each-fails}
+use Rattle.snippet_titles.specs.Title.{id_chars, id_links, text_links}
+use Rattle.annotate_snippets.specs.ElementContext.{is_drawn}
+use Rattle.annotate_snippets.specs.Fault.{added_lines, element_faults, number_after_lines, number_faults, overlap_faults, span_faults}
+use Rattle.annotate_snippets.specs.Laws.Feeds.{HasOneLineTexts}
+use Rattle.annotate_snippets.specs.declared.renderer.error.RenderError.{RenderError}
+use Rattle.annotate_snippets.specs.declared.renderer.error.RenderError.TheVariants.{PatchesOverlap}
+use Rattle.annotate_snippets.proofs.OneLineTexts.{IsNoFeed, IsOneLineElement, IsOneLineGroup, IsOneLineId, IsOneLineLabel, IsOneLineText}
+use Rattle.annotate_snippets.proofs.OneLineTexts.{IsOneLineTitle, one_line_texts}
+use Rattle.annotate_snippets.proofs.PairedLemmas.{all-second, faults-same, zip-length}
+use Rattle.annotate_snippets.proofs.RemadeLemmas.{IsFaithful, IsTextOf, own-texts, same-text}
+
+-- ---- faults
+
+-- patches that are the same make the same edits
+edit-same : (p q : Patch) → SamePatch p q → edit_of q ≡ edit_of p
+edit-same p q same = ap₂ (λ s t. record { start = s.start; end = s.end; text = t }) same.0 same.1
+
+edits-same : (ps qs : List Patch) → AllZip SamePatch ps qs → map edit_of qs ≡ map edit_of ps
+edits-same [] [] pairs = refl
+edits-same [] (q ∷ qs) pairs = absurd pairs
+edits-same (p ∷ ps) [] pairs = absurd pairs
+edits-same (p ∷ ps) (q ∷ qs) pairs = ap₂ (λ (e : Edit) (es : List Edit). e ∷ es) (edit-same p q pairs.0) (edits-same ps qs pairs.1)
+
+-- and add as many lines
+added-same : (ps qs : List Patch) → AllZip SamePatch ps qs → added_lines qs ≡ added_lines ps
+added-same [] [] pairs = refl
+added-same [] (q ∷ qs) pairs = absurd pairs
+added-same (p ∷ ps) [] pairs = absurd pairs
+added-same (p ∷ ps) (q ∷ qs) pairs =
+    let feeds : Patch → ℕ = λ x. count_by (λ b. b == 10) (cow_str_bytes x.replacement) in
+    sum_by-cons feeds q qs ∙ ap₂ (λ (m n : ℕ). m + n) (ap (count_by (λ b. b == 10)) pairs.0.1) (added-same ps qs pairs.1)
+    ∙ sym (sum_by-cons feeds p ps)
+
+module _ (feeds : Bool) (group element : ℕ) where
+  -- an annotated snippet has the faults of the one in whose place it is shown
+  cause-same : (a b : Snippet Annotation) → IsSnippetAsSet feeds (IsAnnotationAsSet feeds) a b
+      → element_faults group element (Cause b) ≡ element_faults group element (Cause a)
+  cause-same a b is =
+      ap₂ (λ (x y : List RenderError). x ++ y)
+      (faults-same (IsAnnotationAsSet feeds) (λ n m. span_faults group element (cow_str_bytes a.source.text) n m.span)
+      (λ n m. span_faults group element (cow_str_bytes b.source.text) n m.span)
+      (λ n x y pair. ap₂ (λ text span. span_faults group element text n span) is.2.text pair.0) 0 a.markers.items b.markers.items is.3)
+      (ap₂ (λ start text. number_faults group element (number_after_lines start text)) is.1 is.2.text)
+
+  -- and so has a suggestion
+  suggestion-same : (a b : Snippet Patch) → IsSnippetAsSet feeds SamePatch a b
+      → element_faults group element (Suggestion b) ≡ element_faults group element (Suggestion a)
+  suggestion-same a b is =
+      let spans = faults-same SamePatch (λ n m. span_faults group element (cow_str_bytes a.source.text) n m.span)
+      (λ n m. span_faults group element (cow_str_bytes b.source.text) n m.span)
+      (λ n x y pair. ap₂ (λ text span. span_faults group element text n span) is.2.text pair.0) 0 a.markers.items b.markers.items is.3 in
+      let overlaps : overlap_faults group element b.markers.items ≡ overlap_faults group element a.markers.items =
+      ap (λ (es : List Edit). option_to_list (option_map (λ pair. PatchesOverlap group element pair.0 pair.1) (first_overlap es)))
+      (edits-same a.markers.items b.markers.items is.3) in
+      let numbers : number_faults group element (number_after_lines b.line_start (cow_str_bytes b.source.text) + added_lines b.markers.items)
+      ≡ number_faults group element (number_after_lines a.line_start (cow_str_bytes a.source.text) + added_lines a.markers.items) =
+      ap (number_faults group element) (ap₂ (λ (m n : ℕ). m + n) (ap₂ number_after_lines is.1 is.2.text)
+      (added-same a.markers.items b.markers.items is.3)) in
+      ap₂ (λ (x y : List RenderError). x ++ y) (ap₂ (λ (x y : List RenderError). x ++ y) spans overlaps) numbers
+
+  -- and each element
+  element-faults : (a b : Element) → IsElementAsSet feeds a b → element_faults group element b ≡ element_faults group element a
+  element-faults (Message a) (Message b) is = refl
+  element-faults (Cause a) (Cause b) is = cause-same a b is
+  element-faults (Suggestion a) (Suggestion b) is = suggestion-same a b is
+  element-faults (Origin a) (Origin b) is = refl
+  element-faults (Padding a) (Padding b) is = refl
+  element-faults a b is = absurd is
+
+-- ---- links
+
+-- whether a text shows anything doesn't depend on whether its line feeds are shown
+text_links-after : (address : Option (List ℕ)) (front xs ys : List ℕ) → text_links address ys ≡ text_links address xs
+    → text_links address (front ++ ys) ≡ text_links address (front ++ xs)
+text_links-after address [] xs ys same = same
+text_links-after address (c ∷ front) xs ys same = refl
+
+links-picture : (address : Option (List ℕ)) (c : ℕ) (feed : Bool) (xs ys : List ℕ) → (c == 10) ≡ feed → text_links address ys ≡ text_links address xs
+    → text_links address (shown (picture_of c) ++ ys) ≡ text_links address (shown c ++ xs)
+links-picture address c true xs ys is same =
+    let feed : c ≡ 10 = eqb-true c 10 is in
+    ap (λ (d : ℕ). text_links address (shown (picture_of d) ++ ys)) feed ∙ sym (ap (λ (d : ℕ). text_links address (shown d ++ xs)) feed)
+links-picture address c false xs ys is same =
+    ap (λ (t : Bool). text_links address (shown (if t then 0x240A else c) ++ ys)) is ∙ text_links-after address (shown c) xs ys same
+
+links-fed : (address : Option (List ℕ)) (cs : List ℕ) → text_links address (norm (with_line_feeds_shown cs)) ≡ text_links address (norm cs)
+unfolding norm
+links-fed address [] = refl
+links-fed address (c ∷ cs) =
+    links-picture address c (c == 10) (flat_map shown cs) (flat_map shown (map picture_of cs)) refl (links-fed address cs)
+
+links-text : (feeds : Bool) (address : Option (List ℕ)) (a b : CowStr Global) → IsTextAsSet feeds a b
+    → text_links address (norm (chars (cow_str_bytes b))) ≡ text_links address (norm (chars (cow_str_bytes a)))
+links-text true address a b is =
+    ap (λ (cs : List ℕ). text_links address (norm cs)) is ∙ links-fed address (chars (cow_str_bytes a))
+links-text false address a b is = ap (λ (bytes : List ℕ). text_links address (norm (chars bytes))) is
+
+links-id-text : (feeds : Bool) (address : Option (List ℕ)) (a b : Option (CowStr Global)) → IsOptionAsSet feeds a b
+    → text_links address (flat_map (λ (t : CowStr Global). norm (chars (cow_str_bytes t))) (option_to_list b))
+    ≡ text_links address (flat_map (λ (t : CowStr Global). norm (chars (cow_str_bytes t))) (option_to_list a))
+links-id-text feeds address None None is = refl
+links-id-text feeds address None (Some b) is = cc
+links-id-text feeds address (Some a) None is = absurd is
+links-id-text feeds address (Some a) (Some b) is =
+    ap (text_links address) (append-nil (norm (chars (cow_str_bytes b)))) ∙ links-text feeds address a b is
+    ∙ ap (text_links address) (sym (append-nil (norm (chars (cow_str_bytes a)))))
+
+url-same : (a b : Option (CowStr Global)) → SameOption SameText a b → option_map (cow_str_bytes {Z = Global}) b ≡ option_map cow_str_bytes a
+url-same None None is = refl
+url-same None (Some b) is = cc
+url-same (Some a) None is = absurd is
+url-same (Some a) (Some b) is = ap (λ (t : List ℕ). Some t) is
+
+links-id : (feeds : Bool) (a b : Option Id) → SameOption (IsIdAsSet feeds) a b → id_links true b ≡ id_links true a
+links-id feeds None None is = refl
+links-id feeds None (Some b) is = cc
+links-id feeds (Some a) None is = absurd is
+links-id feeds (Some a) (Some b) is =
+    ap (λ (address : Option (List ℕ)). text_links address (id_chars (Some b))) (url-same a.url b.url is.1)
+    ∙ links-id-text feeds (option_map cow_str_bytes a.url) a.id b.id is.0
+
+-- ---- what the report keeps
+
+trusted-fed : (feeds : Bool) (a b : Element) → IsElementAsSet feeds a b → AllZip IsTextOf (trusted_of_element a) (trusted_of_element b)
+trusted-fed feeds (Message a) (Message b) is = (same-text (cow_str_bytes a.text) (cow_str_bytes b.text) is.1, tt)
+trusted-fed feeds (Cause a) (Cause b) is = tt
+trusted-fed feeds (Suggestion a) (Suggestion b) is = tt
+trusted-fed feeds (Origin a) (Origin b) is = tt
+trusted-fed feeds (Padding a) (Padding b) is = tt
+trusted-fed feeds a b is = absurd is
+
+trusted-title : (feeds : Bool) (a b : Title) → IsTitleAsSet feeds a b → AllZip IsTextOf (trusted_of_title a) (trusted_of_title b)
+trusted-title feeds a b is =
+    let trusted : trusted_of_title b ≡ trusted_of_title a = ap₂ (λ (trusted : Bool) (t : List ℕ). if trusted then t ∷ [] else []) is.3 is.2 in
+    subst (AllZip IsTextOf (trusted_of_title a)) (sym trusted) (own-texts (trusted_of_title a))
+
+drawn-fed : (feeds : Bool) (a b : Element) → IsElementAsSet feeds a b → is_drawn b ≡ is_drawn a
+drawn-fed feeds (Message a) (Message b) is = refl
+drawn-fed feeds (Cause a) (Cause b) is = refl
+drawn-fed feeds (Suggestion a) (Suggestion b) is = ap (λ (n : ℕ). not (n == 0)) (zip-length SamePatch a.markers.items b.markers.items is.3)
+drawn-fed feeds (Origin a) (Origin b) is = refl
+drawn-fed feeds (Padding a) (Padding b) is = refl
+drawn-fed feeds a b is = absurd is
+
+pub feeds-faithful : (feeds : Bool) → IsFaithful (IsTitleAsSet feeds) (IsElementAsSet feeds)
+feeds-faithful feeds = record {
+  faults = element-faults feeds;
+  links = λ a b is. links-id feeds a.id b.id is.1;
+  trusted_title = trusted-title feeds;
+  trusted = trusted-fed feeds;
+  drawn = drawn-fed feeds;
+}
+
+-- ---- line feeds that are shown
+
+no_feed : (c : ℕ) (feed : Bool) → (c == 10) ≡ feed → IsNoFeed (picture_of c)
+no_feed c true is = ap (λ (t : Bool). (if t then 0x240A else c) == 10) is
+no_feed c false is = ap (λ (t : Bool). (if t then 0x240A else c) == 10) is ∙ is
+
+fed-plain : (cs : List ℕ) → All IsNoFeed (with_line_feeds_shown cs)
+fed-plain [] = All-nil IsNoFeed
+fed-plain (c ∷ cs) = All-cons IsNoFeed (picture_of c) (map picture_of cs) (no_feed c (c == 10) refl) (fed-plain cs)
+
+text-plain : (a b : CowStr Global) → IsTextAsSet true a b → All IsNoFeed (chars (cow_str_bytes b))
+text-plain a b is = subst (All IsNoFeed) (sym is) (fed-plain (chars (cow_str_bytes a)))
+
+option-plain : (a b : Option (CowStr Global)) → IsOptionAsSet true a b → IsOneLineText (option_map cow_str_bytes b)
+option-plain None None is = tt
+option-plain None (Some b) is = cc
+option-plain (Some a) None is = absurd is
+option-plain (Some a) (Some b) is = text-plain a b is
+
+standard-plain : (kind : LevelInner) → All IsNoFeed (chars (standard_name_of kind))
+unfolding chars
+standard-plain Error = each-fails (λ c. c == 10) (codes "error") refl
+standard-plain Warning = each-fails (λ c. c == 10) (codes "warning") refl
+standard-plain Info = each-fails (λ c. c == 10) (codes "info") refl
+standard-plain Note = each-fails (λ c. c == 10) (codes "note") refl
+standard-plain Help = each-fails (λ c. c == 10) (codes "help") refl
+
+nameless-plain : All IsNoFeed (chars [])
+unfolding chars
+nameless-plain = All-nil IsNoFeed
+
+level-plain : (kind : LevelInner) (a b : LevelName) → IsNameAsSet true a b → All IsNoFeed (chars (shown_name kind b))
+level-plain kind (Own a) (Own b) is = text-plain a b is
+level-plain kind (Own a) Standard is = standard-plain kind
+level-plain kind (Own a) Hidden is = nameless-plain
+level-plain kind Standard Standard is = standard-plain kind
+level-plain kind Standard Hidden is = nameless-plain
+level-plain kind Standard (Own b) is = cc
+level-plain kind Hidden Standard is = standard-plain kind
+level-plain kind Hidden Hidden is = nameless-plain
+level-plain kind Hidden (Own b) is = cc
+
+id-plain : (a b : Option Id) → SameOption (IsIdAsSet true) a b → IsOneLineId b
+id-plain None None is = tt
+id-plain None (Some b) is = cc
+id-plain (Some a) None is = absurd is
+id-plain (Some a) (Some b) is = option-plain a.id b.id is.0
+
+title-plain : (a b : Option Title) → SameOption (IsTitleAsSet true) a b → IfSome b IsOneLineTitle
+title-plain None None is = tt
+title-plain None (Some b) is = cc
+title-plain (Some a) None is = absurd is
+title-plain (Some a) (Some b) is = (level-plain b.level.kind a.level.name b.level.name is.0.0, id-plain a.id b.id is.1)
+
+cause-plain : (a b : Snippet Annotation) → IsSnippetAsSet true (IsAnnotationAsSet true) a b → IsOneLineElement (Cause b)
+cause-plain a b is = (
+  option-plain a.path b.path is.0,
+  all-second (IsAnnotationAsSet true) IsOneLineLabel (λ x y pair. option-plain x.label y.label pair.1) a.markers.items b.markers.items is.3,
+)
+
+element-plain : (a b : Element) → IsElementAsSet true a b → IsOneLineElement b
+element-plain (Message a) (Message b) is = level-plain b.level.kind a.level.name b.level.name is.0.0
+element-plain (Cause a) (Cause b) is = cause-plain a b is
+element-plain (Suggestion a) (Suggestion b) is = option-plain a.path b.path is.0
+element-plain (Origin a) (Origin b) is = text-plain a.path b.path is.0
+element-plain (Padding a) (Padding b) is = tt
+element-plain a b is = absurd is
+
+-- where line feeds are shown, no label, path, id and name of a level of what is shown holds one
+pub plain-fed : (groups shown : List Group) → AllZip (IsGroupAsSet true) groups shown → HasOneLineTexts shown
+plain-fed groups shown pairs =
+    one_line_texts shown (all-second (IsGroupAsSet true) IsOneLineGroup (λ a b is. (
+      title-plain a.title b.title is.1,
+      all-second (IsElementAsSet true) IsOneLineElement element-plain a.elements.items b.elements.items is.2,
+    )) groups shown pairs)

@@ -1,0 +1,215 @@
+-- What a report that is made of another, title by title and element by element, has in common with it: its faults, its links, and, but for
+-- line feeds, the characters of its trusted texts.
+use Rattle.std.proofs.Common.{◌≡◌, ◌∙◌, ℕ, Bool, true, List, [], ◌∷◌, ◌++◌, Option, None, Some, All, IfSome, if◌then◌else◌, is_none, ◌⊎◌, inl, inr}
+use Rattle.std.proofs.Common.{refl, sym, ap, ap₂, subst, chars}
+use Rattle.std.proofs.lemmas.Bool.{false≢true}
+use Rattle.std.proofs.lemmas.List.Elements.{All-contains, All-contains_itself, All-weaker, Contains-append_cases, Contains-append_left, Contains-append_right}
+use Rattle.std.specs.List.{AllZip, Contains, flat_map, slice_get}
+use Rattle.std.specs.Option.{option_or, option_to_list}
+use Rattle.snippet_model.specs.Fits.{ElementFits, GroupFits, ReportFits, TitleFits}
+use Rattle.snippet_model.specs.Same.{SameOption}
+use Rattle.snippet_model.specs.Trusted.{trusted_of_element, trusted_of_title, trusted_texts}
+use Rattle.snippet_model.specs.declared.snippet.Element.{Element}
+use Rattle.snippet_model.specs.declared.snippet.Group.{Group}
+use Rattle.snippet_model.specs.declared.snippet.Title.{Title}
+use Rattle.snippet_shown.specs.Remade.{IsGroupMade}
+use Rattle.snippet_text.specs.Normalized.{is_listed}
+use Rattle.snippet_titles.specs.Title.{id_links}
+use Rattle.annotate_snippets.specs.ElementContext.{drawn_elements, is_drawn}
+use Rattle.annotate_snippets.specs.Fault.{element_faults, first_fault, first_of, group_faults, missing_title, refusal_in}
+use Rattle.annotate_snippets.specs.Forms.{links_in}
+use Rattle.annotate_snippets.specs.Laws.Feeds.{HasOneLineTexts}
+use Rattle.annotate_snippets.specs.Laws.Free.{IsFreeBut}
+use Rattle.annotate_snippets.specs.ShownPage.{report_links}
+use Rattle.annotate_snippets.specs.declared.renderer.Renderer.{Renderer}
+use Rattle.annotate_snippets.specs.declared.renderer.error.RenderError.TheVariants.{NoTitle}
+use Rattle.annotate_snippets.specs.declared.renderer.form.Form.{Form}
+use Rattle.annotate_snippets.specs.declared.renderer.form.Form.TheVariants.{Graphic, Short, Text}
+use Rattle.annotate_snippets.proofs.OneLineTexts.{IsOneLineElement, IsOneLineGroup, IsOneLineTitle, one_line_groups, one_line_texts}
+use Rattle.annotate_snippets.proofs.PairedLemmas.{Paired, all-over, chosen, faults-same, first-pair, flat-same, flat-zip, option-same, option-zip, paired}
+use Rattle.snippet_suggest.proofs.BodyLaws.{zip_append}
+
+-- ---- texts
+
+-- each character of the second text is one of the first, or a line feed
+abbrev pub IsOf : List ℕ → ℕ → Type 0
+IsOf cs c = (c ≡ 10) ⊎ Contains cs c
+
+abbrev pub IsTextOf : List ℕ → List ℕ → Type 0
+IsTextOf a b = All (IsOf (chars a)) (chars b)
+
+pub same-text : (a b : List ℕ) → b ≡ a → IsTextOf a b
+same-text a b same =
+    subst (IsTextOf a) (sym same) (All-weaker (Contains (chars a)) (IsOf (chars a)) (λ c own. inr own) (chars a) (All-contains_itself (chars a)))
+
+pub own-texts : (texts : List (List ℕ)) → AllZip IsTextOf texts texts
+own-texts [] = tt
+own-texts (text ∷ texts) = (same-text text text refl, own-texts texts)
+
+-- so is each of texts
+Contains-texts : (given shown : List (List ℕ)) → AllZip IsTextOf given shown → (c : ℕ) → Contains (flat_map chars shown) c
+    → (c ≡ 10) ⊎ Contains (flat_map chars given) c
+Contains-texts [] [] pairs c own = inr own
+Contains-texts [] (y ∷ ys) pairs c own = absurd pairs
+Contains-texts (x ∷ xs) [] pairs c own = absurd pairs
+Contains-texts (x ∷ xs) (y ∷ ys) pairs c own =
+    elim (Contains-append_cases (chars y) (flat_map chars ys) c own) [
+      | inl first ↦ elim (All-contains (IsOf (chars x)) (chars y) c pairs.0 first) [
+        | inl feed ↦ inl feed
+        | inr here ↦ inr (Contains-append_left (chars x) (flat_map chars xs) c here)
+      ]
+      | inr later ↦ elim (Contains-texts xs ys pairs.1 c later) [
+        | inl feed ↦ inl feed
+        | inr here ↦ inr (Contains-append_right (chars x) (flat_map chars xs) c here)
+      ]
+    ]
+
+-- and a listed one is one of the given
+listed-own : (c : ℕ) (cs : List ℕ) → is_listed c ≡ true → (c ≡ 10) ⊎ Contains cs c → Contains cs c
+listed-own c cs listed (inl feed) = absurd (false≢true (sym (ap is_listed feed) ∙ listed))
+listed-own c cs listed (inr own) = own
+
+-- ---- what is asked of the parts
+
+-- what is made of titles and elements keeps faults, links and trusted texts, and is drawn where they are
+pub record IsFaithful (T : Title → Title → Type 0) (E : Element → Element → Type 0) : Type 0 where
+  pub faults : (group element : ℕ) (a b : Element) → E a b → element_faults group element b ≡ element_faults group element a
+  pub links : (a b : Title) → T a b → id_links true b.id ≡ id_links true a.id
+  pub trusted_title : (a b : Title) → T a b → AllZip IsTextOf (trusted_of_title a) (trusted_of_title b)
+  pub trusted : (a b : Element) → E a b → AllZip IsTextOf (trusted_of_element a) (trusted_of_element b)
+  pub drawn : (a b : Element) → E a b → is_drawn b ≡ is_drawn a
+
+-- ---- what follows for the report
+
+-- what a report that is shown keeps of the one in whose place it is
+pub record Keeps (groups shown : List Group) : Type 0 where
+  pub fault : first_fault shown ≡ first_fault groups
+  pub missing : (form : Form) → missing_title form shown ≡ missing_title form groups
+  pub links : (form : Form) (r : Renderer) → links_in form r shown ≡ links_in form r groups
+  pub free : (text : List ℕ) → IsFreeBut (trusted_texts shown) text → IsFreeBut (trusted_texts groups) text
+
+pub keeps-own : (groups : List Group) → Keeps groups groups
+keeps-own groups = record { fault = refl; missing = λ form. refl; links = λ form r. refl; free = λ text free. free }
+
+pub keeps-then : (a b c : List Group) → Keeps a b → Keeps b c → Keeps a c
+keeps-then a b c first second = record {
+  fault = second.fault ∙ first.fault;
+  missing = λ form. second.missing form ∙ first.missing form;
+  links = λ form r. second.links form r ∙ first.links form r;
+  free = λ text free. first.free text (second.free text free);
+}
+
+-- so it is refused for the same reason
+pub refusal-kept : (form : Form) (groups shown : List Group) → Keeps groups shown → refusal_in form shown ≡ refusal_in form groups
+refusal-kept form groups shown kept = ap₂ option_or (kept.missing form) kept.fault
+
+title-there : (T : Title → Title → Type 0) (a b : Option Title) → SameOption T a b → is_none b ≡ is_none a
+title-there T None None is = refl
+title-there T None (Some b) is = cc
+title-there T (Some a) None is = absurd is
+title-there T (Some a) (Some b) is = refl
+
+module _ (T : Title → Title → Type 0) (E : Element → Element → Type 0) where
+  abbrev Made : Group → Group → Type 0
+  Made = IsGroupMade T E
+
+  missing-made : (form : Form) (groups shown : List Group) → AllZip Made groups shown → missing_title form shown ≡ missing_title form groups
+  missing-made Graphic groups shown pairs = refl
+  missing-made Text groups shown pairs = refl
+  missing-made Short [] [] pairs = refl
+  missing-made Short [] (b ∷ bs) pairs = absurd pairs
+  missing-made Short (a ∷ gs) [] pairs = absurd pairs
+  missing-made Short (a ∷ gs) (b ∷ bs) pairs =
+      ap (λ (missing : Bool). if missing then Some NoTitle else None) (title-there T a.title b.title pairs.0.1)
+
+  -- what goes over to the title and to the elements goes over to all groups: that their texts fit
+  pub fits-made : ((a b : Title) → T a b → TitleFits a → TitleFits b) → ((a b : Element) → E a b → ElementFits a → ElementFits b)
+      → (groups shown : List Group) → AllZip Made groups shown → ReportFits groups → ReportFits shown
+  fits-made title element groups shown pairs fits =
+      all-over Made GroupFits (λ a b is fit. (
+        over-title TitleFits title a.title b.title is.1 fit.0,
+        all-over E ElementFits element a.elements.items b.elements.items is.2 fit.1,
+      )) groups shown pairs fits
+    where
+      over-title : (P : Title → Type 0) → ((a b : Title) → T a b → P a → P b) → (a b : Option Title) → SameOption T a b → IfSome a P → IfSome b P
+      over-title P over None None is holds = tt
+      over-title P over None (Some b) is holds = cc
+      over-title P over (Some a) None is holds = absurd is
+      over-title P over (Some a) (Some b) is holds = over a b is holds
+
+  -- and that those that may be on one line only are
+  pub line-made : ((a b : Title) → T a b → IsOneLineTitle a → IsOneLineTitle b) → ((a b : Element) → E a b → IsOneLineElement a → IsOneLineElement b)
+      → (groups shown : List Group) → AllZip Made groups shown → HasOneLineTexts groups → HasOneLineTexts shown
+  line-made title element groups shown pairs plain =
+      one_line_texts shown (all-over Made IsOneLineGroup (λ a b is texts. (
+        over-title a.title b.title is.1 texts.0,
+        all-over E IsOneLineElement element a.elements.items b.elements.items is.2 texts.1,
+      )) groups shown pairs (one_line_groups groups plain))
+    where
+      over-title : (a b : Option Title) → SameOption T a b → IfSome a IsOneLineTitle → IfSome b IsOneLineTitle
+      over-title None None is holds = tt
+      over-title None (Some b) is holds = cc
+      over-title (Some a) None is holds = absurd is
+      over-title (Some a) (Some b) is holds = title a b is holds
+
+  module _ (faithful : IsFaithful T E) where
+    fault-made : (groups shown : List Group) → AllZip Made groups shown → first_fault shown ≡ first_fault groups
+    unfolding first_fault
+    fault-made groups shown pairs =
+        ap first_of (faults-same Made group_faults group_faults
+        (λ n a b is. faults-same E (element_faults n) (element_faults n) (faithful.faults n) 0 a.elements.items b.elements.items is.2) 0 groups shown pairs)
+
+    report-links : (r : Renderer) (groups shown : List Group) → AllZip Made groups shown → report_links r shown ≡ report_links r groups
+    report-links r groups shown pairs =
+        ap (λ (links : List (List ℕ)). if r.hyperlink then links else [])
+        (flat-same Made (λ g. flat_map (λ (t : Title). id_links true t.id) (option_to_list g.title))
+        (λ a b is. option-same T (λ (t : Title). id_links true t.id) faithful.links a.title b.title is.1) groups shown pairs)
+
+    links-made : (form : Form) (r : Renderer) (groups shown : List Group) → AllZip Made groups shown → links_in form r shown ≡ links_in form r groups
+    links-made Graphic r groups shown pairs = report-links r groups shown pairs
+    links-made Text r groups shown pairs = report-links r groups shown pairs
+    links-made Short r groups shown pairs = report-links r _ _ (first-pair Made groups shown pairs)
+
+    trusted-made : (groups shown : List Group) → AllZip Made groups shown → AllZip IsTextOf (trusted_texts groups) (trusted_texts shown)
+    trusted-made groups shown pairs =
+        flat-zip Made IsTextOf (λ g. flat_map trusted_of_title (option_to_list g.title) ++ flat_map trusted_of_element g.elements.items)
+        (λ a b is. zip_append IsTextOf (flat_map trusted_of_title (option_to_list a.title)) (flat_map trusted_of_element a.elements.items)
+        (flat_map trusted_of_title (option_to_list b.title)) (flat_map trusted_of_element b.elements.items)
+        (option-zip T IsTextOf trusted_of_title faithful.trusted_title a.title b.title is.1)
+        (flat-zip E IsTextOf trusted_of_element faithful.trusted a.elements.items b.elements.items is.2)) groups shown pairs
+
+    free-made : (groups shown : List Group) → AllZip Made groups shown → (text : List ℕ) → IsFreeBut (trusted_texts shown) text
+        → IsFreeBut (trusted_texts groups) text
+    free-made groups shown pairs text free =
+        All-weaker (λ c. is_listed c ≡ true → Contains (flat_map chars (trusted_texts shown)) c)
+        (λ c. is_listed c ≡ true → Contains (flat_map chars (trusted_texts groups)) c)
+        (λ c own listed. listed-own c (flat_map chars (trusted_texts groups)) listed
+        (Contains-texts (trusted_texts groups) (trusted_texts shown) (trusted-made groups shown pairs) c (own listed))) text free
+
+    -- the report keeps what its parts keep
+    pub keeps : (groups shown : List Group) → AllZip Made groups shown → Keeps groups shown
+    keeps groups shown pairs = record {
+      fault = fault-made groups shown pairs;
+      missing = λ form. missing-made form groups shown pairs;
+      links = λ form r. links-made form r groups shown pairs;
+      free = free-made groups shown pairs;
+    }
+
+-- ---- which element stands where
+
+-- the element that is drawn n-th in group i, in the place of one
+pub record DrawnPair (E : Element → Element → Type 0) (shown : List Group) (i n : ℕ) (e : Element) : Type 0 where
+  pub group : Group
+  pub there : slice_get shown i ≡ Some group
+  pub other : Element
+  pub drawn : slice_get (drawn_elements group) n ≡ Some other
+  pub pair : E e other
+
+pub drawn-pair : (T : Title → Title → Type 0) (E : Element → Element → Type 0) → IsFaithful T E → (groups shown : List Group)
+    → AllZip (IsGroupMade T E) groups shown → (i n : ℕ) (g : Group) (e : Element) → slice_get groups i ≡ Some g → slice_get (drawn_elements g) n ≡ Some e
+    → DrawnPair E shown i n e
+drawn-pair T E faithful groups shown pairs i n g e at drawn =
+    let one : Paired (IsGroupMade T E) shown i g = paired (IsGroupMade T E) groups shown pairs i g at in
+    let two : Paired E (drawn_elements one.other) n e =
+    paired E (drawn_elements g) (drawn_elements one.other) (chosen E is_drawn faithful.drawn g.elements.items one.other.elements.items one.pair.2) n e drawn in
+    record { group = one.other; there = one.there; other = two.other; drawn = two.there; pair = two.pair }

@@ -1,0 +1,25 @@
+use Rattle.std.proofs.Common.{◌≡◌, ◌∙◌, None, sym}
+use Rattle.annotate_snippets.specs.Fault.{first_fault, missing_title, refusal_in}
+use Rattle.annotate_snippets.proofs.AsSetLemmas.{drawable-set}
+use Rattle.annotate_snippets.proofs.AsSetSteps.{set-remade, unset}
+use Rattle.annotate_snippets.proofs.FaultLemmas.{unrefused}
+use Rattle.annotate_snippets.proofs.renderer.Renderer.shown.Goals as goal
+
+pub returns-then-shows_as_given-clause-shown : goal.returns-then-shows_as_given-clause-shown
+returns-then-shows_as_given-clause-shown c =
+    let none : refusal_in c.args.form c.args.groups.now ≡ None = sym c.first_refusal.ensures.value ∙ c.in_default.is in
+    drawable-set c.args.form c.args.self.now c.args.groups.now c.args.groups.now
+    (unset c.args.form c.args.self.now c.args.groups.now (sym c.shows_as_given.ensures.value ∙ c.if-shows_as_given.true)) c.requires.fits none
+
+pub remade-requires : goal.remade-requires
+remade-requires c =
+    let none : refusal_in c.args.form c.args.groups.now ≡ None = sym c.first_refusal.ensures.value ∙ c.in_default.is in
+    record { fits = c.requires.fits; faultless = unrefused (missing_title c.args.form c.args.groups.now) (first_fault c.args.groups.now) none }
+
+pub returns-clause-shown : goal.returns-clause-shown
+returns-clause-shown c =
+    let none : refusal_in c.args.form c.args.groups.now ≡ None = sym c.first_refusal.ensures.value ∙ c.in_default.is in
+    let made = c.in_ok-made.made.items in
+    drawable-set c.args.form c.args.self.now c.args.groups.now made
+    (set-remade c.args.form c.args.self.now c.args.groups.now made (sym c.shows_as_given.ensures.value ∙ c.if-shows_as_given.false)
+    c.in_ok-made.ensures.set) c.in_ok-made.ensures.fits none
