@@ -1,5 +1,5 @@
 -- The grids of a report, printed as HTML, are its page as HTML; and the laws of that.
-use Rattle.std.proofs.Common.{◌≡◌, ℕ, suc, ◌+◌, ◌==◌, Bool, true, false, if◌then◌else◌, List, [], ◌∷◌, ◌++◌, refl, sym, ap}
+use Rattle.std.proofs.Common.{◌≡◌, ℕ, suc, ◌==◌, Bool, true, false, if◌then◌else◌, List, [], ◌∷◌, ◌++◌, refl, sym, ap}
 use Rattle.std.proofs.Common.{◌∙◌, subst, arith, length, map}
 use Rattle.std.specs.List.{flat_map, join_with_byte, list_all}
 use Rattle.std.proofs.lemmas.Bool.Decides.{nat_tests}

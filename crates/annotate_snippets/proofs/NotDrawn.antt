@@ -17,7 +17,6 @@ use Rattle.snippet_lines.specs.Lines.{start_of}
 use Rattle.snippet_lines.specs.Place.{line_of, place_of}
 use Rattle.snippet_text.specs.Normalized.{norm}
 use Rattle.snippet_text.specs.Width.{width_of}
-use Rattle.snippet_parts.specs.declared.entries.LineAnnotation.{LineAnnotation}
 use Rattle.snippet_window.specs.Window.{chars_at, dropped_part}
 use Rattle.snippet_window.specs.declared.margin.Margin.{Margin}
 use Rattle.snippet_parts.specs.Kept.{shown_lines}

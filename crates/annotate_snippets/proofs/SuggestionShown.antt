@@ -32,7 +32,6 @@ use Rattle.annotate_snippets.specs.ElementContext.{begins_in_row_above, is_end, 
 use Rattle.annotate_snippets.specs.DrawnReport.{HasRoomFor, suggestion_layout, suggestion_lines}
 use Rattle.annotate_snippets.specs.GraphicForm.{element_rows, name_of_row}
 use Rattle.annotate_snippets.proofs.PageWords.{under_of}
-use Rattle.annotate_snippets.proofs.PageWords.{patch_rows}
 use Rattle.annotate_snippets.proofs.PageWords.{patch_place, suggestion_head_at}
 use Rattle.annotate_snippets.specs.Page.{NamedRow, cells_of, lines_offered, others}
 use Rattle.annotate_snippets.specs.RowsWithoutSource.{origin_layout, path_row, suggestion_head}

@@ -1,12 +1,11 @@
 -- The lines of a report's text form are those of its paragraphs, where line feeds are shown.
-use Rattle.std.proofs.Common.{◌≡◌, ℕ, ◌==◌, ◌&&◌, not, Bool, true, false, cond, IfSome, Option, None, Some, List, [], ◌∷◌, ◌++◌, All, chars, codes}
-use Rattle.std.proofs.Common.{filter, if◌then◌else◌, map, replicate, refl, sym, ap, subst, arith}
+use Rattle.std.proofs.Common.{◌≡◌, ℕ, ◌==◌, ◌&&◌, not, Bool, true, false, IfSome, Option, None, Some, List, [], ◌∷◌, ◌++◌, All, chars, codes}
+use Rattle.std.proofs.Common.{filter, if◌then◌else◌, map, replicate, refl, arith}
 use Rattle.std.specs.Cow.{cow_str_bytes}
 use Rattle.std.specs.Fmt.{decimal}
 use Rattle.std.specs.List.{flat_map}
-use Rattle.std.specs.Option.{option_map, option_to_list}
+use Rattle.std.specs.Option.{option_map}
 use Rattle.std.proofs.lemmas.Bool.Decides.{nat_tests}
-use Rattle.std.proofs.lemmas.List.{append-nil}
 use Rattle.std.proofs.lemmas.List.Elements.{All-append, All-cons, All-filter, All-head, All-nil, All-replicate, All-tail}
 use Rattle.snippet_lines.specs.Lines.{Source}
 use Rattle.snippet_lines.specs.Place.{locations_of}
@@ -28,11 +27,11 @@ use Rattle.snippet_suggest.specs.Given.{trimmed_of}
 use Rattle.snippet_suggest.specs.Kind.{is_blank_text}
 use Rattle.snippet_text.specs.Normalized.{norm, normalized_chars}
 use Rattle.snippet_text.specs.Width.{width_of}
-use Rattle.snippet_text_form.specs.Cause.{further_indent, is_labelled, label_characters, named_spans, span_text}
+use Rattle.snippet_text_form.specs.Cause.{further_indent, is_labelled, named_spans, span_text}
 use Rattle.snippet_text_form.specs.Form.{FormPiece, form_text}
 use Rattle.snippet_text_form.specs.HeadingForm.{before_id, before_name, heading_form, heading_label, id_label, label_of_id}
-use Rattle.snippet_text_form.specs.Lines.{added_words, cause_paragraphs, edit_line, heading_paragraph, line_paragraph, lines_after, lines_of_paragraphs}
-use Rattle.snippet_text_form.specs.Lines.{option_lines, origin_paragraph, span_lines, suggestion_paragraphs}
+use Rattle.snippet_text_form.specs.Lines.{added_words, edit_line, heading_paragraph, line_paragraph, lines_after, lines_of_paragraphs}
+use Rattle.snippet_text_form.specs.Lines.{option_lines, span_lines, suggestion_paragraphs}
 use Rattle.snippet_text_form.specs.Position.{place, place_in_file}
 use Rattle.snippet_text_form.specs.Suggestion.{added_text, before_added, edit_indent, edit_place, named_path}
 use Rattle.snippet_text_form.specs.declared.heading.HeadingKind.{HeadingKind}

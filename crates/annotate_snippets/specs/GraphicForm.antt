@@ -3,9 +3,7 @@ use Rattle.std.specs.Prelude.{ℕ, ◌+◌, ◌-◌, ◌==◌, ◌&&◌, nat_lt,
 use Rattle.std.specs.Cow.{cow_str_bytes}
 use Rattle.std.specs.List.{enumerate_from, zip}
 use Rattle.std.specs.Prelude.{true}
-use Rattle.std.specs.Borrow.{Bor}
-use Rattle.std.specs.List.{filter_map, slice_get}
-use Rattle.std.specs.Option.{option_map}
+use Rattle.std.specs.List.{slice_get}
 use Rattle.snippet_style.specs.Cell.{Cell}
 use Rattle.snippet_model.specs.declared.snippet.Annotation.{Annotation}
 use Rattle.snippet_model.specs.declared.snippet.Element.{Element}

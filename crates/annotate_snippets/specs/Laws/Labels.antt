@@ -15,7 +15,6 @@ use Rattle.snippet_labels.specs.PlacedEntries.{label_role}
 use Rattle.snippet_strokes.specs.Labels.{IsStemCell, IsStrokeCell}
 use Rattle.snippet_grid.specs.Layout.{Layout, code_cell}
 use Rattle.annotate_snippets.specs.Gutter.{numbered_source}
-use Rattle.annotate_snippets.specs.Page.{others}
 use Rattle.annotate_snippets.specs.Laws.Marks.{shown_label, cell_of}
 
 -- a label as it is to be drawn: its characters, the kind whose role it has, and the columns at which its mark begins and ends

@@ -17,7 +17,7 @@ use Rattle.snippet_strokes.specs.StrokeRows.{IsElisionRow}
 use Rattle.annotate_snippets.specs.declared.renderer.Renderer.{Renderer}
 use Rattle.snippet_grid.specs.Layout.{Layout}
 use Rattle.annotate_snippets.specs.declared.renderer.element_context.ElementContext.{ElementContext}
-use Rattle.annotate_snippets.specs.ElementContext.{closes_with, path_bytes}
+use Rattle.annotate_snippets.specs.ElementContext.{closes_with}
 use Rattle.annotate_snippets.specs.GraphicForm.{rows_of_lines}
 use Rattle.annotate_snippets.specs.Page.{RowName, SourceRow, Elision, Other, NamedRow, lines_named, cells_of, rows_below, others}
 use Rattle.annotate_snippets.specs.Laws.Bars.{ShowsBars}
