@@ -1,3 +1,4 @@
+pub mod Columns
 pub mod Joined
 pub mod Keyed
 pub mod NotLinked

@@ -13,8 +13,9 @@ pub struct Diagnostic {
     pub spans: Vec<FileSpan>,
     /// What else is said of it, in the order given.
     pub children: Vec<Child>,
-    /// Files of the project that it is about, by absolute paths. A relative path that can't be found is looked for
-    /// below their folders too, and upwards.
+    /// Files of the project that it is about, and folders, with a slash at their end, by absolute paths. A relative
+    /// path that can't be found is looked for below the folders of the files too, and upwards; a path below one of the
+    /// folders below that of all files.
     pub homes: Vec<String>,
 }
 
@@ -132,4 +133,10 @@ pub enum Unit {
     Utf16,
     /// Unicode scalar values.
     CodePoints,
+    /// Bytes of UTF-8.
+    Bytes,
+    /// Columns of a terminal: a wide character is two, and a tab goes on to the next multiple of eight.
+    Display,
+    /// Nothing says what: units of UTF-16 then, and an edit is drawn only where all of these agree.
+    Unsaid,
 }

@@ -1,12 +1,16 @@
 //! Where in a text a region lies, as a tool counted it.
-ghost use Rattle.std.specs.Prelude.{◌≡◌, ◌≤◌, length, true};
+ghost use Rattle.std.specs.Prelude.{◌≡◌, ◌+◌, ◌<◌, ◌≤◌, ◌^◌, length, true};
 ghost use Rattle.redraw_report.specs.Region.{IsSpanBetween, blanks_before, column_in, on_line_from, place_in_bytes};
 ghost use Rattle.redraw_report.specs.Region.{place_on};
 ghost use Rattle.redraw_report.specs.Region as spec;
 
-use crate::diagnostic::{Region, Unit};
+use crate::diagnostic::{LineRegion, Region, Unit};
 use snippet_lines::text_lines::{first_line, line_length};
 use snippet_lines::{Place, SpanAt, between};
+use snippet_text::char_width;
+
+/// How many columns a tab stop is from the next.
+const TAB: usize = 8;
 
 /// Where on a line a place is.
 #[derive(Clone, Copy)]
@@ -40,6 +44,32 @@ pub fn locate(lookup: Lookup<'_>, region: Region) -> SpanAt
         start_place(lookup, region),
         end_place(lookup, region),
     )
+}
+
+/// Whether it is settled where in a text a region lies: it is said what its columns count, or that makes no difference.
+pub fn is_settled(lookup: Lookup<'_>, region: Region) -> bool
+    ensures value { result ≡ spec.is_settled lookup.entry.text.now lookup.entry.starts.now lookup.entry.first_line
+        region }
+{
+    match region {
+        Region::Lines(lines) if lines.unit == Unit::Unsaid => {
+            lies_alike(lookup, lines, Unit::CodePoints)
+                && lies_alike(lookup, lines, Unit::Bytes)
+                && lies_alike(lookup, lines, Unit::Display)
+        }
+        _ => true,
+    }
+}
+
+/// Whether a region lies where it does if its columns count in this unit.
+fn lies_alike(lookup: Lookup<'_>, lines: LineRegion, unit: Unit) -> bool
+    ensures value { result ≡ spec.lies_alike lookup.entry.text.now lookup.entry.starts.now lookup.entry.first_line
+        lines unit }
+{
+    let region = Region::Lines(lines);
+    let other = Region::Lines(LineRegion { unit, ..lines });
+    start_place(lookup, region).byte == start_place(lookup, other).byte
+        && end_place(lookup, region).byte == end_place(lookup, other).byte
 }
 
 /// Where a region starts.
@@ -181,12 +211,22 @@ fn place_in_line(line: &[u8], column: usize, unit: Unit) -> Place
 
 /// The place before which a text has this many units.
 fn place_after(bytes: &[u8], units: usize, unit: Unit) -> Place
-    ensures value { result ≡ place_in_bytes unit 0 bytes.now units }
+    ensures value { result ≡ place_in_bytes unit 0 0 bytes.now units }
+    ensures within { result.byte ≤ length bytes.now }
+{
+    place_from(bytes, 0, units, unit)
+}
+
+/// The place before which a text that stands after so many units has this many more.
+pub fn place_from(bytes: &[u8], before: usize, units: usize, unit: Unit) -> Place
+    requires fits { before + units < 2 ^ 64 }
+    ensures value { result ≡ place_in_bytes unit 0 before bytes.now units }
     ensures within { result.byte ≤ length bytes.now }
 {
     let mut left = units;
     for (at, byte) in bytes.iter().enumerate() {
-        let width = units_at(*byte, unit);
+        let taken = before + (units - left);
+        let width = units_at(*byte, &bytes[at + 1..], taken, unit);
         if left < width {
             return Place {
                 byte: at,
@@ -201,15 +241,58 @@ fn place_after(bytes: &[u8], units: usize, unit: Unit) -> Place
     }
 }
 
-/// How many units a character counts, at its first byte; 0 at the others.
-fn units_at(byte: u8, unit: Unit) -> usize
-    ensures value { result ≡ spec.units_at unit byte }
+/// How many units a character counts that begins with this byte and goes on with these, after so many units; 0 at its
+/// other bytes, unless each byte counts.
+fn units_at(byte: u8, after: &[u8], before: usize, unit: Unit) -> usize
+    ensures value { result ≡ spec.units_at unit before byte after.now }
 {
-    if byte >= 128 && byte < 192 {
-        return 0;
-    }
+    let is_first = byte < 128 || byte >= 192;
     match unit {
-        Unit::Utf16 if byte >= 240 => 2,
-        _ => 1,
+        Unit::Bytes => 1,
+        Unit::CodePoints => is_first as usize,
+        Unit::Utf16 | Unit::Unsaid if byte >= 240 => 2,
+        Unit::Utf16 | Unit::Unsaid => is_first as usize,
+        Unit::Display if is_first => columns_at(byte, after, before),
+        Unit::Display => 0,
+    }
+}
+
+/// How many columns a character takes in column `before`, from 0.
+fn columns_at(byte: u8, after: &[u8], before: usize) -> usize
+    ensures value { result ≡ spec.columns_at before byte after.now }
+{
+    if byte == b'\t' {
+        return TAB - before % TAB;
+    }
+    match char::from_u32(code_at(byte, after)) {
+        Some(c) => char_width(c),
+        None => 1,
+    }
+}
+
+/// The number of the character that begins with this byte and goes on with these.
+fn code_at(byte: u8, after: &[u8]) -> u32
+    ensures value { result ≡ spec.code_at byte after.now }
+{
+    let lead = byte as u32;
+    match byte {
+        0..=127 => lead,
+        128..=223 => lead % 32 * 64 + low_bits(after, 0),
+        224..=239 => lead % 16 * 4096 + low_bits(after, 0) * 64 + low_bits(after, 1),
+        _ => {
+            let high = lead % 8 * 262_144 + low_bits(after, 0) * 4096;
+            high + low_bits(after, 1) * 64 + low_bits(after, 2)
+        }
+    }
+}
+
+/// What the byte with this index says of a character that began before it: its lowest six bits.
+fn low_bits(bytes: &[u8], index: usize) -> u32
+    ensures value { result ≡ spec.low_bits bytes.now index }
+    ensures within { result < 64 }
+{
+    match bytes.get(index) {
+        Some(byte) => (*byte % 64) as u32,
+        None => 0,
     }
 }
