@@ -5,3 +5,4 @@ pub mod NotRead
 pub mod Numbers
 pub mod Taken
 pub mod Through
+pub mod Values

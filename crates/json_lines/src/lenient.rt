@@ -1,4 +1,9 @@
 //! Values of JSON that other tools write, and all that is wrong with them.
+ghost use Rattle.std.specs.Prelude.{◌≡◌, is_some, map, option_and_then, option_map};
+ghost use Rattle.serde_json.specs.Find.{as_array, as_object};
+ghost use Rattle.serde_json.specs.View.{view};
+ghost use Rattle.json_lines.specs.Field.{given, lent_text, text_field};
+ghost use Rattle.json_lines.specs.Lenient as spec;
 
 use crate::expectation::Expectation;
 use crate::place::JsonPath;
@@ -53,7 +58,9 @@ pub struct List<'v, 'p> {
 
 impl<'v> List<'v, '_> {
     /// The item with this number.
-    pub fn node<'n>(&'n self, index: usize, value: &'v Value) -> LenientNode<'v, 'n> {
+    pub fn node<'n>(&'n self, index: usize, value: &'v Value) -> LenientNode<'v, 'n>
+        ensures value { result.value.now ≡ value.now }
+    {
         LenientNode {
             value,
             place: JsonPath::Item(&self.place, index),
@@ -78,7 +85,9 @@ impl<'v> LenientNode<'v, '_> {
     }
 
     /// What stands in the field of this name.
-    fn field(&self, name: &str) -> Option<&'v Value> {
+    fn field(&self, name: &str) -> Option<&'v Value>
+        ensures value { option_map (λ v. view v.now) result ≡ given name.now (view self.now.value.now) }
+    {
         match self.value.get(name) {
             Some(value) if !value.is_null() => Some(value),
             _ => None,
@@ -86,12 +95,16 @@ impl<'v> LenientNode<'v, '_> {
     }
 
     /// Whether there is a field of this name.
-    pub fn has(&self, name: &str) -> bool {
+    pub fn has(&self, name: &str) -> bool
+        ensures value { result ≡ is_some (given name.now (view self.now.value.now)) }
+    {
         self.field(name).is_some()
     }
 
     /// Whether the value is an object.
-    pub fn is_object(&self, problems: &mut Problems) -> bool {
+    pub fn is_object(&self, problems: &mut Problems) -> bool
+        ensures value { result ≡ is_some (as_object (view self.now.value.now)) }
+    {
         let is_object = self.value.is_object();
         if !is_object {
             self.tell(problems, Expectation::Object);
@@ -104,7 +117,10 @@ impl<'v> LenientNode<'v, '_> {
         &'n self,
         name: &'n str,
         problems: &mut Problems,
-    ) -> Option<LenientNode<'v, 'n>> {
+    ) -> Option<LenientNode<'v, 'n>>
+        ensures value { option_map (λ node. view node.value.now) result
+            ≡ spec.object_at name.now (view self.now.value.now) }
+    {
         if !self.has(name) {
             self.tell_field(name, problems, Expectation::Object);
         }
@@ -116,7 +132,10 @@ impl<'v> LenientNode<'v, '_> {
         &'n self,
         name: &'n str,
         problems: &mut Problems,
-    ) -> Option<LenientNode<'v, 'n>> {
+    ) -> Option<LenientNode<'v, 'n>>
+        ensures value { option_map (λ node. view node.value.now) result
+            ≡ spec.object_at name.now (view self.now.value.now) }
+    {
         match self.field(name) {
             Some(value) if value.is_object() => Some(LenientNode {
                 value,
@@ -131,25 +150,25 @@ impl<'v> LenientNode<'v, '_> {
     }
 
     /// The list in the field of this name; an empty one where there is none.
-    pub fn list<'n>(&'n self, name: &'n str, problems: &mut Problems) -> List<'v, 'n> {
-        let items: &'v [Value] = match self.field(name) {
-            None => &[],
-            Some(value) => match value.as_array() {
-                Some(items) => items.as_slice(),
-                None => {
-                    self.tell_field(name, problems, Expectation::List);
-                    &[]
-                }
-            },
-        };
+    pub fn list<'n>(&'n self, name: &'n str, problems: &mut Problems) -> List<'v, 'n>
+        ensures value { map view result.items.now ≡ spec.list_at name.now (view self.now.value.now) }
+    {
+        let value = self.field(name);
+        if let Some(value) = value {
+            if !value.is_array() {
+                self.tell_field(name, problems, Expectation::List);
+            }
+        }
         List {
-            items,
+            items: items_of(value),
             place: JsonPath::Field(&self.place, name),
         }
     }
 
     /// The list in the field of this name, which has to be there.
-    pub fn needed_list<'n>(&'n self, name: &'n str, problems: &mut Problems) -> List<'v, 'n> {
+    pub fn needed_list<'n>(&'n self, name: &'n str, problems: &mut Problems) -> List<'v, 'n>
+        ensures value { map view result.items.now ≡ spec.list_at name.now (view self.now.value.now) }
+    {
         if !self.has(name) {
             self.tell_field(name, problems, Expectation::List);
         }
@@ -157,7 +176,9 @@ impl<'v> LenientNode<'v, '_> {
     }
 
     /// The text in the field of this name.
-    pub fn text(&self, name: &str, problems: &mut Problems) -> Option<&'v str> {
+    pub fn text(&self, name: &str, problems: &mut Problems) -> Option<&'v str>
+        ensures value { lent_text result ≡ spec.text_at name.now (view self.now.value.now) }
+    {
         let value = self.field(name);
         let text = value.and_then(Value::as_str);
         if value.is_some() && text.is_none() {
@@ -167,7 +188,9 @@ impl<'v> LenientNode<'v, '_> {
     }
 
     /// The text in the field of this name, which has to be there.
-    pub fn needed_text(&self, name: &str, problems: &mut Problems) -> Option<&'v str> {
+    pub fn needed_text(&self, name: &str, problems: &mut Problems) -> Option<&'v str>
+        ensures value { lent_text result ≡ spec.text_at name.now (view self.now.value.now) }
+    {
         if !self.has(name) {
             self.tell_field(name, problems, Expectation::AnyText);
         }
@@ -175,7 +198,9 @@ impl<'v> LenientNode<'v, '_> {
     }
 
     /// The whole number in the field of this name. The number -1 stands for none.
-    pub fn number(&self, name: &str, problems: &mut Problems) -> Option<usize> {
+    pub fn number(&self, name: &str, problems: &mut Problems) -> Option<usize>
+        ensures value { result ≡ spec.number_at name.now (view self.now.value.now) }
+    {
         let value = self.field(name)?;
         match value.as_u64() {
             Some(number) => Some(number as usize),
@@ -189,7 +214,9 @@ impl<'v> LenientNode<'v, '_> {
     }
 
     /// The line or the column in the field of this name, counted from 1.
-    pub fn from_one(&self, name: &str, problems: &mut Problems) -> Option<usize> {
+    pub fn from_one(&self, name: &str, problems: &mut Problems) -> Option<usize>
+        ensures value { result ≡ spec.from_one name.now (view self.now.value.now) }
+    {
         let number = self.field(name)?.as_u64().unwrap_or(0);
         if number == 0 {
             self.tell_field(name, problems, Expectation::FromOne);
@@ -199,13 +226,40 @@ impl<'v> LenientNode<'v, '_> {
     }
 }
 
+/// The items of a list, if there is one.
+pub fn items_of<'v>(list: Option<&'v Value>) -> &'v [Value]
+    ensures value { map view result.now
+        ≡ spec.values (option_and_then as_array (option_map (λ v. view v.now) list.entry)) }
+{
+    match list {
+        Some(list) => items_in(list),
+        None => &[],
+    }
+}
+
+/// The items of a value, if it is a list.
+#[tactic(auto, using(crate::proofs::Values::values_of))]
+fn items_in(value: &Value) -> &[Value]
+    ensures value { map view result.now ≡ spec.values (as_array (view value.now)) }
+{
+    match value.as_array() {
+        Some(items) => items.as_slice(),
+        None => &[],
+    }
+}
+
 /// The text in the field of this name, if one stands there; where there is none, nothing is reported.
-pub fn text_field<'v>(object: &'v Value, name: &str) -> Option<&'v str> {
+pub fn text_field<'v>(object: &'v Value, name: &str) -> Option<&'v str>
+    ensures value { lent_text result ≡ text_field name.now (view object.now) }
+{
     object.get(name).and_then(Value::as_str)
 }
 
 /// What stands in the field of this name, if there is an object.
-pub fn field_at<'v>(object: Option<&'v Value>, name: &str) -> Option<&'v Value> {
+pub fn field_at<'v>(object: Option<&'v Value>, name: &str) -> Option<&'v Value>
+    ensures value { option_map (λ v. view v.now) result
+        ≡ spec.field_in name.now (option_map (λ v. view v.now) object.entry) }
+{
     match object {
         Some(object) => object.get(name),
         None => None,
@@ -213,12 +267,17 @@ pub fn field_at<'v>(object: Option<&'v Value>, name: &str) -> Option<&'v Value> 
 }
 
 /// The text in the field of this name, if there is an object and one stands there.
-pub fn text_at<'v>(object: Option<&'v Value>, name: &str) -> Option<&'v str> {
+pub fn text_at<'v>(object: Option<&'v Value>, name: &str) -> Option<&'v str>
+    ensures value { lent_text result ≡ spec.text_in name.now (option_map (λ v. view v.now) object.entry) }
+{
     field_at(object, name).and_then(Value::as_str)
 }
 
 /// The item of a list with this number, if there is a list.
-pub fn item_at<'v>(list: Option<&'v Value>, index: u64) -> Option<&'v Value> {
+pub fn item_at<'v>(list: Option<&'v Value>, index: u64) -> Option<&'v Value>
+    ensures value { option_map (λ v. view v.now) result
+        ≡ spec.item_in index (option_map (λ v. view v.now) list.entry) }
+{
     match list {
         Some(list) => list.get(index as usize),
         None => None,
