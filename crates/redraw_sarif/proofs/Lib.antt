@@ -1,3 +1,5 @@
-mod ListLemmas
-mod LinkLemmas
-mod Rows
+pub mod GoingOn
+pub mod LinkLemmas
+pub mod ListLemmas
+pub mod Listed
+pub mod Rows

@@ -1,4 +1,10 @@
-pub mod Links
-pub mod Primary
-pub mod Steps
+pub mod Edits
 pub mod Filling
+pub mod Links
+pub mod Places
+pub mod Primary
+pub mod Region
+pub mod Result
+pub mod Rule
+pub mod Steps
+pub mod Units

@@ -1,6 +1,7 @@
--- The text of a message that holds links: `[text](1)` is its text.
-use Rattle.std.specs.Prelude.{ℕ, zero, suc, ◌+◌, Bool, false, nat_lt, ◌==◌, ◌&&◌, ◌||◌, List, [], ◌∷◌, ◌++◌, drop, not, take, if◌then◌else◌}
+-- The text of a message that holds links: `[text](1)` and `[text](sarif:..)` are their texts.
+use Rattle.std.specs.Prelude.{ℕ, zero, suc, ◌+◌, Bool, false, nat_lt, ◌==◌, ◌&&◌, ◌||◌, List, [], ◌∷◌, ◌++◌, drop, slice_get, not, take, if◌then◌else◌}
 use Rattle.std.specs.Char.{is_ascii_digit}
+use Rattle.std.specs.Option.{option_map_or}
 
 -- whether a character is a square bracket
 abbrev pub is_bracket : ℕ → Bool
@@ -34,10 +35,36 @@ abbrev pub number_length : List ℕ → ℕ
 number_length cs =
     if nat_lt 0 (digits_before cs) && begins_with 41 (drop (digits_before cs) cs) then digits_before cs + 1 else 0
 
--- how many characters a link has after its text: `](`, a number and `)`; 0 where some characters don't begin with these
+-- how many characters come up to the first parenthesis that closes, and with it, after so many others; 0 where none does
+abbrev pub closed_within : ℕ → List ℕ → ℕ
+closed_within before [] = 0
+closed_within before (c ∷ cs) = if c == 41 then before + 1 else closed_within (before + 1) cs
+
+abbrev pub closed_length : List ℕ → ℕ
+closed_length cs = closed_within 0 cs
+
+-- whether the character with this index is this one
+abbrev pub has_at : List ℕ → ℕ → ℕ → Bool
+has_at cs index c = option_map_or (λ d. d == c) (slice_get cs index) false
+
+-- whether some characters begin with `sarif:`
+abbrev pub leads_into_log : List ℕ → Bool
+leads_into_log cs =
+    has_at cs 0 115 && (has_at cs 1 97 && (has_at cs 2 114 && (has_at cs 3 105 && (has_at cs 4 102 && has_at cs 5 58))))
+
+-- how many characters the address of a part of the log and the parenthesis that closes after it have
+abbrev pub part_length : List ℕ → ℕ
+part_length cs = if nat_lt 0 (closed_length cs) then closed_length cs + 6 else 0
+
+-- how many characters what a link leads to and the parenthesis that closes after it have: a number, or the address of a part of the log,
+-- `sarif:..`; 0 where some characters don't begin with these
+abbrev pub address_length : List ℕ → ℕ
+address_length cs = if leads_into_log cs then part_length (drop 6 cs) else number_length cs
+
+-- how many characters a link has after its text: `](`, what it leads to and `)`; 0 where some characters don't begin with these
 abbrev pub target_length : List ℕ → ℕ
 target_length (c ∷ d ∷ cs) =
-    if c == 93 && d == 40 && nat_lt 0 (number_length cs) then number_length cs + 2 else 0
+    if c == 93 && d == 40 && nat_lt 0 (address_length cs) then address_length cs + 2 else 0
 target_length cs = 0
 
 -- what is shown for a character of a link's text: nothing for one that escapes the next, and for one that is escaped and needn't be the

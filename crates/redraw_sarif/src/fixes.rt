@@ -1,4 +1,10 @@
 //! The fixes that a result suggests.
+ghost use Rattle.std.specs.Prelude.{◌≡◌, ◌++◌, ◌∷◌, [], IfOk, IfSome, OnOk, map, option_map, string_bytes};
+ghost use Rattle.std.specs.List.{filter_map};
+ghost use Rattle.serde_json.specs.View.{view};
+ghost use Rattle.json_lines.specs.Field.{lent_text};
+ghost use Rattle.redraw_sarif.specs.Edits as spec;
+ghost use Rattle.redraw_sarif.specs.Edits.{edit_in, edit_view, edits_if_named, edits_of_change, edits_of_fix};
 
 use crate::location::Context;
 use crate::message::part_text_in;
@@ -102,7 +108,10 @@ fn edits_of(
     fix: &LenientNode<'_, '_>,
     context: &Context<'_, '_>,
     problems: &mut Problems,
-) -> Result<Option<Vec<SuggestedEdit>>, AllocError> {
+) -> Result<Option<Vec<SuggestedEdit>>, AllocError>
+    ensures are { IfOk result (λ found. IfSome found (λ edits. map edit_view edits.items
+        ≡ edits_of_fix (view context.now.run.now) context.now.unit (view fix.now.value.now))) }
+{
     let told = problems.lines.len();
     let edits = edits_in(fix, context, problems)?;
     if problems.lines.len() > told {
@@ -117,7 +126,10 @@ fn edits_in(
     fix: &LenientNode<'_, '_>,
     context: &Context<'_, '_>,
     problems: &mut Problems,
-) -> Result<Vec<SuggestedEdit>, AllocError> {
+) -> Result<Vec<SuggestedEdit>, AllocError>
+    ensures are { IfOk result (λ edits. map edit_view edits.items
+        ≡ edits_of_fix (view context.now.run.now) context.now.unit (view fix.now.value.now)) }
+{
     let mut edits = Vec::new(context.alloc);
     let changes = fix.needed_list("artifactChanges", problems);
     for (index, value) in changes.items.iter().enumerate() {
@@ -132,7 +144,10 @@ fn add_change(
     change: &LenientNode<'_, '_>,
     context: &Context<'_, '_>,
     problems: &mut Problems,
-) -> Result<(), AllocError> {
+) -> Result<(), AllocError>
+    ensures added { OnOk result (map edit_view edits.new.items ≡ map edit_view edits.old.items
+        ++ edits_if_named (view context.now.run.now) context.now.unit (view change.now.value.now)) }
+{
     match path_in(context.alloc, change, context.run, problems)? {
         Some(file) => add_replacements(edits, change, file.as_str(), context, problems),
         None => Ok(()),
@@ -146,7 +161,10 @@ fn add_replacements(
     file: &str,
     context: &Context<'_, '_>,
     problems: &mut Problems,
-) -> Result<(), AllocError> {
+) -> Result<(), AllocError>
+    ensures added { OnOk result (map edit_view edits.new.items ≡ map edit_view edits.old.items
+        ++ edits_of_change context.now.unit (view change.now.value.now)) }
+{
     let replacements = change.needed_list("replacements", problems);
     for (index, value) in replacements.items.iter().enumerate() {
         add_replacement(
@@ -167,7 +185,10 @@ fn add_replacement(
     file: &str,
     context: &Context<'_, '_>,
     problems: &mut Problems,
-) -> Result<(), AllocError> {
+) -> Result<(), AllocError>
+    ensures added { OnOk result (map edit_view edits.new.items ≡ map edit_view edits.old.items
+        ++ filter_map (edit_in context.now.unit) (view replacement.now.value.now ∷ [])) }
+{
     if let Some(edit) = edit_of(replacement, file, context, problems)? {
         edits.push(edit)?;
     }
@@ -180,7 +201,11 @@ fn edit_of(
     file: &str,
     context: &Context<'_, '_>,
     problems: &mut Problems,
-) -> Result<Option<SuggestedEdit>, AllocError> {
+) -> Result<Option<SuggestedEdit>, AllocError>
+    ensures value { IfOk result (λ edit. option_map edit_view edit
+        ≡ edit_in context.now.unit (view replacement.now.value.now)) }
+    ensures file { IfOk result (λ edit. IfSome edit (λ e. string_bytes e.file ≡ file.now)) }
+{
     let Some(deleted) = replacement.needed("deletedRegion", problems) else {
         return Ok(None);
     };
@@ -188,21 +213,14 @@ fn edit_of(
     let (Some(region), Some(text)) = (region, inserted_in(replacement, problems)) else {
         return Ok(None);
     };
-    let region = if text.is_empty() {
-        before_line_end(region)
-    } else {
-        region
-    };
     let carried = carried_in(context.alloc, &deleted, context.unit, problems)?;
     Ok(Some(edit_with(context.alloc, file, region, text, carried)?))
 }
 
 /// The part of a file that goes. Without columns it is all of its lines, with the blanks that they begin with.
-fn deleted_in(
-    deleted: &LenientNode<'_, '_>,
-    unit: Unit,
-    problems: &mut Problems,
-) -> Option<Region> {
+fn deleted_in(deleted: &LenientNode<'_, '_>, unit: Unit, problems: &mut Problems) -> Option<Region>
+    ensures value { result ≡ spec.deleted_in (view deleted.now.value.now) unit }
+{
     match region_of(deleted, unit, problems) {
         Some(Region::Lines(lines)) => Some(Region::Lines(LineRegion {
             start_column: lines.start_column.or(Some(1)),
@@ -214,7 +232,9 @@ fn deleted_in(
 
 /// The region of lines that go whole, to before the end of the last, which stays: so a line that is removed is shown
 /// alone. Another region is given back.
-fn before_line_end(region: Region) -> Region {
+fn before_line_end(region: Region) -> Region
+    ensures value { result ≡ spec.before_line_end region }
+{
     match region {
         Region::Lines(lines)
             if lines.start_column == Some(1)
@@ -230,14 +250,22 @@ fn before_line_end(region: Region) -> Region {
     }
 }
 
-/// The edit of a region of this file.
+/// The edit of a region of this file. Where nothing comes in its place, lines that go whole leave their end.
 fn edit_with(
     alloc: Global,
     file: &str,
     region: Region,
     text: &str,
     carried: Option<Carried>,
-) -> Result<SuggestedEdit, AllocError> {
+) -> Result<SuggestedEdit, AllocError>
+    ensures value { IfOk result (λ edit. edit_view edit ≡ spec.edit_with text.now region) }
+    ensures file { IfOk result (λ edit. string_bytes edit.file ≡ file.now) }
+{
+    let region = if text.is_empty() {
+        before_line_end(region)
+    } else {
+        region
+    };
     let file = String::from_str(alloc, file)?;
     let replacement = String::from_str(alloc, text)?;
     Ok(SuggestedEdit {
@@ -249,7 +277,9 @@ fn edit_with(
 }
 
 /// The text that a replacement puts in: none where it only takes text away.
-fn inserted_in<'v>(replacement: &LenientNode<'v, '_>, problems: &mut Problems) -> Option<&'v str> {
+fn inserted_in<'v>(replacement: &LenientNode<'v, '_>, problems: &mut Problems) -> Option<&'v str>
+    ensures value { lent_text result ≡ spec.inserted_in (view replacement.now.value.now) }
+{
     if !replacement.has("insertedContent") {
         return Some("");
     }

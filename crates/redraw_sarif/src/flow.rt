@@ -1,4 +1,6 @@
 //! How a result comes about: the steps of its first code flow.
+ghost use Rattle.std.specs.Prelude.{◌≡◌, ◌<◌, IfSome, OnOk, length};
+ghost use Rattle.redraw_sarif.specs.Places.{GoesOn};
 
 use crate::location::{Context, message_at, place_at};
 use crate::steps::{left_out, shown_steps, step_label};
@@ -22,7 +24,9 @@ pub fn add_steps(
     reported: &LenientNode<'_, '_>,
     context: &Context<'_, '_>,
     problems: &mut Problems,
-) -> Result<(), AllocError> {
+) -> Result<(), AllocError>
+    ensures kept { OnOk result (GoesOn told.old.spans.items told.new.spans.items) }
+{
     let flows = reported.list("codeFlows", problems);
     let Some(flow) = first_of(&flows, problems) else {
         return Ok(());
@@ -53,7 +57,9 @@ fn add_thread(
     thread: &LenientNode<'_, '_>,
     context: &Context<'_, '_>,
     problems: &mut Problems,
-) -> Result<(), AllocError> {
+) -> Result<(), AllocError>
+    ensures kept { OnOk result (GoesOn told.old.spans.items told.new.spans.items) }
+{
     let steps = thread.needed_list("locations", problems);
     let count = steps.items.len();
     let shown = shown_steps(context.alloc, count)?;
@@ -75,7 +81,9 @@ fn add_step_at(
     index: usize,
     context: &Context<'_, '_>,
     problems: &mut Problems,
-) -> Result<(), AllocError> {
+) -> Result<(), AllocError>
+    ensures kept { OnOk result (GoesOn told.old.spans.items told.new.spans.items) }
+{
     match steps.items.get(index) {
         Some(value) => {
             let number = index.saturating_add(1);
@@ -92,7 +100,9 @@ fn add_step(
     number: usize,
     context: &Context<'_, '_>,
     problems: &mut Problems,
-) -> Result<(), AllocError> {
+) -> Result<(), AllocError>
+    ensures kept { OnOk result (GoesOn told.old.spans.items told.new.spans.items) }
+{
     if !step.is_object(problems) {
         return Ok(());
     }
@@ -114,17 +124,33 @@ fn mark_step(
     place: FileSpan,
     message: Option<String>,
     label: String,
-) -> Result<(), AllocError> {
-    for span in spans.iter_mut() {
-        if is_same_place(span, &place) && says_no_more(span, &message) {
-            span.label = Some(label);
-            return Ok(());
+) -> Result<(), AllocError>
+    ensures kept { OnOk result (GoesOn spans.old.items spans.new.items) }
+{
+    match marked_at(spans, &place, &message) {
+        Some(at) => {
+            spans[at].label = Some(label);
+            Ok(())
+        }
+        None => {
+            let mut place = place;
+            place.label = Some(label);
+            spans.push(place)?;
+            Ok(())
         }
     }
-    let mut place = place;
-    place.label = Some(label);
-    spans.push(place)?;
-    Ok(())
+}
+
+/// The index of the place where this one is marked already, and says nothing or the same.
+fn marked_at(spans: &[FileSpan], place: &FileSpan, message: &Option<String>) -> Option<usize>
+    ensures within { IfSome result (λ at. at < length spans.now) }
+{
+    for (at, span) in spans.iter().enumerate() {
+        if is_same_place(span, place) && says_no_more(span, message) {
+            return Some(at);
+        }
+    }
+    None
 }
 
 /// Whether two places are one.
@@ -146,7 +172,9 @@ fn text_of(text: &Option<String>) -> Option<&str> {
 }
 
 /// Adds a note.
-fn add_note(told: &mut Told, message: String, context: &Context<'_, '_>) -> Result<(), AllocError> {
+fn add_note(told: &mut Told, message: String, context: &Context<'_, '_>) -> Result<(), AllocError>
+    ensures kept { told.new.spans ≡ told.old.spans }
+{
     told.children.push(Child {
         severity: Severity::Note,
         message,

@@ -19,4 +19,5 @@ pub mod rule;
 pub mod rules;
 pub mod sarif;
 pub mod steps;
+pub mod units;
 pub mod uri;

@@ -1,4 +1,5 @@
-//! Links in messages: `[text](1)` leads to one of the result's locations, and is shown as its text.
+//! Links in messages: `[text](1)` leads to one of the result's locations, `[text](sarif:..)` to a part of the log, and
+//! both are shown as their texts.
 //!
 //! A link to an address stays as it is written, since the address would be lost.
 ghost use Rattle.std.specs.Prelude.{◌≡◌, ◌+◌, ◌<◌, ◌≤◌, ◌++◌, IfOk, OnOk, chars, drop, encode_utf8_all, false, length};
@@ -7,6 +8,9 @@ ghost use Rattle.redraw_sarif.specs.Links as spec;
 ghost use Rattle.redraw_sarif.specs.Links.{backslash_piece, link_piece, piece_of};
 
 use std::alloc::{AllocError, Global};
+
+/// How many characters `sarif:` has.
+const SCHEME_LENGTH: usize = 6;
 
 /// A message's text with the text of each link in the link's place. A bracket after a backslash is that bracket.
 pub fn without_links(alloc: Global, message: &str) -> Result<String, AllocError>
@@ -130,18 +134,79 @@ fn is_bracket(c: char) -> bool
     matches!(c, '[' | ']')
 }
 
-/// How many characters a link has after its text: `](`, a number and `)`; 0 where none of that stands here.
+/// How many characters a link has after its text: `](`, what it leads to and `)`; 0 where none of that stands here.
 fn target_length(written: &[char]) -> usize
     ensures value { result ≡ spec.target_length written.now }
     ensures within { result ≤ length written.now }
 {
     match written {
-        [']', '(', rest @ ..] => match number_length(rest) {
+        [']', '(', rest @ ..] => match address_length(rest) {
             0 => 0,
             length => length + 2,
         },
         _ => 0,
     }
+}
+
+/// How many characters what a link leads to and the parenthesis that closes after it have; 0 where none of that stands
+/// here, or it leads elsewhere than into the log.
+fn address_length(written: &[char]) -> usize
+    ensures value { result ≡ spec.address_length written.now }
+    ensures within { result ≤ length written.now }
+{
+    if leads_into_log(written) {
+        part_length(&written[SCHEME_LENGTH.min(written.len())..])
+    } else {
+        number_length(written)
+    }
+}
+
+/// Whether some characters begin with `sarif:`.
+fn leads_into_log(written: &[char]) -> bool
+    ensures value { result ≡ spec.leads_into_log written.now }
+{
+    has_at(written, 0, 's')
+        && has_at(written, 1, 'a')
+        && has_at(written, 2, 'r')
+        && has_at(written, 3, 'i')
+        && has_at(written, 4, 'f')
+        && has_at(written, 5, ':')
+}
+
+/// Whether the character with this index is this one.
+fn has_at(written: &[char], index: usize, c: char) -> bool
+    ensures value { result ≡ spec.has_at written.now index c }
+{
+    match written.get(index) {
+        Some(found) => *found == c,
+        None => false,
+    }
+}
+
+/// How many characters the address of a part of the log has, with the parenthesis that closes after it and `sarif:`
+/// before it, which isn't here.
+fn part_length(written: &[char]) -> usize
+    ensures value { result ≡ spec.part_length written.now }
+    ensures within { result ≤ length written.now + SCHEME_LENGTH }
+    ensures some { 0 < result → 0 < length written.now }
+{
+    match closed_length(written) {
+        0 => 0,
+        length => length + SCHEME_LENGTH,
+    }
+}
+
+/// How many characters come up to the first parenthesis that closes, and with it; 0 where none does.
+fn closed_length(written: &[char]) -> usize
+    ensures value { result ≡ spec.closed_length written.now }
+    ensures within { result ≤ length written.now }
+{
+    for (at, c) in written.iter().enumerate() {
+        if *c == ')' {
+            return at + 1;
+        }
+    }
+    0
 }
 
 /// How many characters a number and the parenthesis that closes after it have; 0 where none of that stands here.

@@ -1,8 +1,15 @@
 //! The regions of files, and what a log itself holds of them.
+ghost use Rattle.std.specs.Prelude.{◌≡◌, ◌+◌, ◌<◌, ◌≤◌, ◌^◌};
+ghost use Rattle.serde_json.specs.View.{view};
+ghost use Rattle.json_lines.specs.Field.{lent_text};
+ghost use Rattle.redraw_sarif.specs.Region as spec;
+ghost use Rattle.redraw_sarif.specs.Units.{snippet_at};
 
 use crate::expectation::SarifExpectation;
+use crate::units::{offset_unit, region_unit, snippet_at};
 use json_lines::lenient::{LenientNode, Problems};
 use redraw_report::diagnostic::{Carried, LineRegion, Region, Unit};
+use redraw_report::locate::place_from;
 use serde_json::Value;
 use std::alloc::{AllocError, Global};
 
@@ -12,7 +19,9 @@ pub fn region_of(
     region: &LenientNode<'_, '_>,
     unit: Unit,
     problems: &mut Problems,
-) -> Option<Region> {
+) -> Option<Region>
+    ensures value { result ≡ spec.region_in (view region.now.value.now) unit }
+{
     let told = problems.lines.len();
     let found = region_in(region, unit, problems);
     if found.is_none() && problems.lines.len() == told {
@@ -22,13 +31,16 @@ pub fn region_of(
 }
 
 /// The part of a file that a region names: by lines and columns, else by characters, else by bytes.
-fn region_in(region: &LenientNode<'_, '_>, unit: Unit, problems: &mut Problems) -> Option<Region> {
+fn region_in(region: &LenientNode<'_, '_>, unit: Unit, problems: &mut Problems) -> Option<Region>
+    ensures value { result ≡ spec.region_in (view region.now.value.now) unit }
+{
     if let Some(start_line) = region.from_one("startLine", problems) {
         return Some(Region::Lines(line_region(region, start_line, unit, problems)));
     }
     if let Some(start) = region.number("charOffset", problems) {
         let length = region.number("charLength", problems).unwrap_or(0);
         let end = start.saturating_add(length);
+        let unit = offset_unit(unit);
         return Some(Region::Chars { start, end, unit });
     }
     if let Some(start) = region.number("byteOffset", problems) {
@@ -45,13 +57,19 @@ fn line_region(
     start_line: usize,
     unit: Unit,
     problems: &mut Problems,
-) -> LineRegion {
-    LineRegion {
+) -> LineRegion
+    ensures value { result ≡ spec.line_region (view region.now.value.now) start_line unit }
+{
+    let lines = LineRegion {
         start_line,
         start_column: region.from_one("startColumn", problems),
         end_line: region.from_one("endLine", problems).unwrap_or(start_line),
         end_column: region.from_one("endColumn", problems),
         unit,
+    };
+    LineRegion {
+        unit: region_unit(&lines, snippet_at(region.value)),
+        ..lines
     }
 }
 
@@ -127,15 +145,9 @@ fn has_whole_lines(lines: &LineRegion, before: usize, snippet: &str) -> bool {
         0
     };
     let last = snippet.lines().last().unwrap_or("");
-    units_of(last, lines.unit) > end.saturating_sub(1).saturating_sub(skipped)
-}
-
-/// How many units a text has.
-fn units_of(text: &str, unit: Unit) -> usize {
-    match unit {
-        Unit::CodePoints => text.chars().count(),
-        Unit::Utf16 => text.encode_utf16().count(),
-    }
+    let end = end.saturating_sub(1).max(skipped);
+    let place = place_from(last.as_bytes(), skipped, end - skipped, lines.unit);
+    place.byte < last.len()
 }
 
 /// The most blanks that are put before a snippet.

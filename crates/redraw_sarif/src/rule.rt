@@ -1,4 +1,10 @@
 //! The rule that a result breaks, and how severe that is.
+ghost use Rattle.std.specs.Prelude.{◌≡◌, IfOk, option_map, string_bytes};
+ghost use Rattle.serde_json.specs.View.{view};
+ghost use Rattle.json_lines.specs.Field.{lent_text};
+ghost use Rattle.json_lines.specs.Lenient.{field_in, text_in};
+ghost use Rattle.redraw_sarif.specs.Rule as spec;
+ghost use Rattle.redraw_sarif.specs.Rule.{level_of, name_of, rule_data};
 
 use crate::expectation::SarifExpectation;
 use crate::rules::RunRules;
@@ -18,7 +24,9 @@ pub struct SarifRule<'v> {
 
 impl<'v> SarifRule<'v> {
     /// A text of the rule by its name.
-    fn text(&self, name: &str) -> Option<&'v str> {
+    fn text(&self, name: &str) -> Option<&'v str>
+        ensures value { lent_text result ≡ text_in name.now (rule_data self.now) }
+    {
         text_at(self.rule, name)
     }
 
@@ -34,9 +42,11 @@ impl<'v> SarifRule<'v> {
     }
 
     /// The severity of results that don't say theirs.
-    fn severity(&self) -> Option<Severity> {
+    fn severity(&self) -> Option<Severity>
+        ensures value { result ≡ spec.rule_level (rule_data self.now) }
+    {
         let configuration = field_at(self.rule, "defaultConfiguration");
-        text_at(configuration, "level").and_then(severity_by_name)
+        severity_by_name(text_at(configuration, "level")?)
     }
 }
 
@@ -82,29 +92,93 @@ fn extension_of(reported: &Value) -> Option<u64> {
 }
 
 /// The id of the rule as a result has it.
-fn id_of(reported: &Value) -> Option<&str> {
+fn id_of(reported: &Value) -> Option<&str>
+    ensures value { lent_text result ≡ spec.own_id (view reported.now) }
+{
     match reported.get("ruleId") {
         Some(id) => id.as_str(),
         None => text_at(reported.get("rule"), "id"),
     }
 }
 
-/// The name of a result's rule, with the address of its page.
-pub fn code_of(
+/// The name of a result's rule, with the address of its page. A name that says nothing is none.
+pub fn code_of<'v>(
     alloc: Global,
-    reported: &Value,
-    rule: &SarifRule<'_>,
-) -> Result<Option<Code>, AllocError> {
-    let Some(id) = id_of(reported).or(rule.text("id")) else {
-        return Ok(None);
-    };
-    let id = String::from_str(alloc, id)?;
-    let url = owned(alloc, rule.text("helpUri"))?;
-    Ok(Some(Code { id, url }))
+    reported: &'v Value,
+    rule: &SarifRule<'v>,
+    severity: Severity,
+) -> Result<Option<Code>, AllocError>
+    ensures value { IfOk result (λ code. spec.code_view code
+        ≡ name_of severity (view reported.now) (rule_data rule.now)) }
+{
+    match said_name(reported, rule, severity) {
+        Some(id) => {
+            let id = String::from_str(alloc, id)?;
+            let url = owned(alloc, rule.text("helpUri"))?;
+            Ok(Some(Code { id, url }))
+        }
+        None => Ok(None),
+    }
+}
+
+/// The name of a result's rule, if it says something.
+fn said_name<'v>(reported: &'v Value, rule: &SarifRule<'v>, severity: Severity) -> Option<&'v str>
+    ensures value { lent_text result ≡ spec.said_name severity (view reported.now) (rule_data rule.now) }
+{
+    let name = any_name(reported, rule)?;
+    if says_nothing(name, severity) {
+        None
+    } else {
+        Some(name)
+    }
+}
+
+/// The name of a result's rule: the result's own, else the rule's.
+fn any_name<'v>(reported: &'v Value, rule: &SarifRule<'v>) -> Option<&'v str>
+    ensures value { lent_text result ≡ spec.any_name (view reported.now) (rule_data rule.now) }
+{
+    match id_of(reported) {
+        Some(id) => Some(id),
+        None => rule.text("id"),
+    }
+}
+
+/// Whether a name says nothing of a result: it is the name of its level, as GCC gives those without an option, or a
+/// number alone, as clang counts its rules.
+fn says_nothing(id: &str, severity: Severity) -> bool
+    ensures value { result ≡ spec.says_nothing id.now severity }
+{
+    is_number(id) || is_level(id, severity)
+}
+
+/// Whether a name is that of a level.
+fn is_level(id: &str, severity: Severity) -> bool
+    ensures value { result ≡ spec.is_level id.now severity }
+{
+    match severity {
+        Severity::Error => id == "error",
+        Severity::Warning => id == "warning",
+        Severity::Note => id == "note",
+        _ => false,
+    }
+}
+
+/// Whether a name is nothing but digits.
+fn is_number(id: &str) -> bool
+    ensures value { result ≡ spec.is_number id.now }
+{
+    for byte in id.as_bytes() {
+        if !byte.is_ascii_digit() {
+            return false;
+        }
+    }
+    true
 }
 
 /// A copy of a text, if there is one.
-fn owned(alloc: Global, text: Option<&str>) -> Result<Option<String>, AllocError> {
+fn owned(alloc: Global, text: Option<&str>) -> Result<Option<String>, AllocError>
+    ensures value { IfOk result (λ copy. option_map string_bytes copy ≡ lent_text text.entry) }
+{
     match text {
         Some(text) => Ok(Some(String::from_str(alloc, text)?)),
         None => Ok(None),
@@ -117,13 +191,35 @@ pub fn severity_of(
     reported: &LenientNode<'_, '_>,
     rule: &SarifRule<'_>,
     problems: &mut Problems,
-) -> Severity {
-    if let Some(level) = reported.text("level", problems) {
-        match severity_by_name(level) {
-            Some(severity) => return severity,
-            None => reported.tell_field("level", problems, SarifExpectation::Level),
-        }
+) -> Severity
+    ensures value { result ≡ level_of (view reported.now.value.now) (rule_data rule.now) }
+{
+    match own_severity(reported, problems) {
+        Some(severity) => severity,
+        None => other_severity(reported, rule, problems),
     }
+}
+
+/// The level that a result says; none for a wrong one, which is reported.
+fn own_severity(reported: &LenientNode<'_, '_>, problems: &mut Problems) -> Option<Severity>
+    ensures value { result ≡ spec.own_level (view reported.now.value.now) }
+{
+    let level = reported.text("level", problems)?;
+    let severity = severity_by_name(level);
+    if severity.is_none() {
+        reported.tell_field("level", problems, SarifExpectation::Level);
+    }
+    severity
+}
+
+/// The level of a result that says none.
+fn other_severity(
+    reported: &LenientNode<'_, '_>,
+    rule: &SarifRule<'_>,
+    problems: &mut Problems,
+) -> Severity
+    ensures value { result ≡ spec.other_level (view reported.now.value.now) (rule_data rule.now) }
+{
     match reported.text("kind", problems) {
         Some(kind) if kind != "fail" => Severity::Note,
         _ => rule.severity().unwrap_or(Severity::Warning),
@@ -131,7 +227,9 @@ pub fn severity_of(
 }
 
 /// The severity of a level of this name.
-fn severity_by_name(level: &str) -> Option<Severity> {
+fn severity_by_name(level: &str) -> Option<Severity>
+    ensures value { result ≡ spec.level_named level.now }
+{
     match level {
         "error" => Some(Severity::Error),
         "warning" => Some(Severity::Warning),

@@ -1,13 +1,19 @@
 //! The runs of a log, and the findings of their results.
+ghost use Rattle.std.specs.Prelude.{◌≡◌, IfOk, IfSome};
+ghost use Rattle.serde_json.specs.View.{view};
+ghost use Rattle.redraw_sarif.specs.Places.{ArePlaces};
+ghost use Rattle.redraw_sarif.specs.Result.{ArePlacesAndSteps, IsResultOf, IsTold};
+ghost use Rattle.redraw_sarif.specs.Units as units;
 
-use crate::expectation::SarifExpectation;
 use crate::fixes::add_fixes;
 use crate::flow::{Told, add_steps};
-use crate::location::{Context, add_spans};
+use crate::location::{Context, add_annotations, add_spans};
 use crate::message::{MOST_BYTES, text_in};
 use crate::primary::choose_primary;
 use crate::rule::{SarifRule, code_of, rule_of, severity_of};
 use crate::rules::RunRules;
+use crate::units::{result_unit, run_unit};
+use crate::uri::bases_of;
 use json_lines::lenient::{LenientNode, List, Problems};
 use redraw_report::diagnostic::{Diagnostic, FileSpan, Unit};
 use serde_json::Value;
@@ -27,15 +33,19 @@ pub struct SarifRun<'v, 'p> {
 }
 
 impl<'v, 'p> SarifRun<'v, 'p> {
-    /// The run that this value describes. A value that is no object is a run without results, and is reported. So is
-    /// that memory was refused.
+    /// The run that this value describes, whose columns count what is asked for, if that is. A value that is no object
+    /// is a run without results, and is reported. So is that memory was refused.
     pub fn new(
         alloc: Global,
         node: LenientNode<'v, 'p>,
+        columns: Option<Unit>,
         problems: &mut Problems,
-    ) -> SarifRun<'v, 'p> {
+    ) -> SarifRun<'v, 'p>
+        ensures unit { result.unit ≡ units.run_unit columns (view node.entry.value.now) }
+        ensures node { result.node ≡ node.entry }
+    {
         let _is_told = node.is_object(problems);
-        let unit = unit_of(&node, problems);
+        let unit = run_unit(columns, &node, problems);
         let rules = rules_of(alloc, node.value, problems);
         SarifRun { node, unit, rules }
     }
@@ -51,7 +61,10 @@ impl<'v, 'p> SarifRun<'v, 'p> {
         alloc: Global,
         reported: &LenientNode<'v, '_>,
         problems: &mut Problems,
-    ) -> Result<Option<Diagnostic>, AllocError> {
+    ) -> Result<Option<Diagnostic>, AllocError>
+        ensures is { IfOk result (λ found. IfSome found (IsResultOf (view self.now.node.value.now) self.now.unit
+            (view reported.now.value.now))) }
+    {
         if !reported.is_object(problems) {
             return Ok(None);
         }
@@ -60,7 +73,7 @@ impl<'v, 'p> SarifRun<'v, 'p> {
             alloc,
             run: self.node.value,
             rule: rule_of(&self.rules, reported, problems),
-            unit: self.unit,
+            unit: result_unit(self.unit, reported.value),
             room: &room,
         };
         Ok(Some(diagnostic_of(reported, &context, problems)?))
@@ -78,27 +91,17 @@ fn rules_of<'v>(alloc: Global, run: &'v Value, problems: &mut Problems) -> RunRu
     }
 }
 
-/// What the columns of a run count: units of UTF-16 where it doesn't say.
-fn unit_of(run: &LenientNode<'_, '_>, problems: &mut Problems) -> Unit {
-    match run.text("columnKind", problems) {
-        Some("unicodeCodePoints") => Unit::CodePoints,
-        Some("utf16CodeUnits") | None => Unit::Utf16,
-        Some(_) => {
-            run.tell_field("columnKind", problems, SarifExpectation::ColumnKind);
-            Unit::Utf16
-        }
-    }
-}
-
 /// What a result reports.
 fn diagnostic_of(
     reported: &LenientNode<'_, '_>,
     context: &Context<'_, '_>,
     problems: &mut Problems,
-) -> Result<Diagnostic, AllocError> {
+) -> Result<Diagnostic, AllocError>
+    ensures is { IfOk result (IsTold (view context.now.run.now) context.now.unit (view reported.now.value.now)) }
+{
     let severity = severity_of(reported, &context.rule, problems);
     let message = message_of(reported, context, problems)?;
-    let code = code_of(context.alloc, reported.value, &context.rule)?;
+    let code = code_of(context.alloc, reported.value, &context.rule, severity)?;
     let told = told_of(reported, context, problems)?;
     Ok(Diagnostic {
         severity,
@@ -106,7 +109,7 @@ fn diagnostic_of(
         code,
         spans: told.spans,
         children: told.children,
-        homes: Vec::new(context.alloc),
+        homes: bases_of(context.alloc, context.run)?,
     })
 }
 
@@ -132,7 +135,10 @@ fn told_of(
     reported: &LenientNode<'_, '_>,
     context: &Context<'_, '_>,
     problems: &mut Problems,
-) -> Result<Told, AllocError> {
+) -> Result<Told, AllocError>
+    ensures are { IfOk result (λ told. ArePlacesAndSteps (view context.now.run.now) context.now.unit
+        (view reported.now.value.now) told.spans.items) }
+{
     let spans = spans_of(reported, context, problems)?;
     let children = Vec::new(context.alloc);
     let mut told = Told { spans, children };
@@ -147,11 +153,15 @@ fn spans_of(
     reported: &LenientNode<'_, '_>,
     context: &Context<'_, '_>,
     problems: &mut Problems,
-) -> Result<Vec<FileSpan>, AllocError> {
+) -> Result<Vec<FileSpan>, AllocError>
+    ensures are { IfOk result (λ spans. ArePlaces (view context.now.run.now) context.now.unit
+        (view reported.now.value.now) spans.items) }
+{
     let mut spans = Vec::new(context.alloc);
     let own = reported.list("locations", problems);
     add_spans(&mut spans, &own, context, true, problems)?;
     choose_primary(&mut spans);
+    add_annotations(&mut spans, &own, context, problems)?;
     let related = reported.list("relatedLocations", problems);
     add_spans(&mut spans, &related, context, false, problems)?;
     Ok(spans)

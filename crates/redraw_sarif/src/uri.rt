@@ -1,4 +1,8 @@
 //! The files that a log names by addresses.
+ghost use Rattle.std.specs.Prelude.{◌≡◌, IfOk, is_some, option_map};
+ghost use Rattle.serde_json.specs.View.{view};
+ghost use Rattle.json_lines.specs.Lenient.{item_in};
+ghost use Rattle.redraw_sarif.specs.Places as spec;
 
 use crate::expectation::SarifExpectation;
 use json_lines::lenient::{LenientNode, Problems, field_at, item_at, text_at, text_field};
@@ -6,8 +10,12 @@ use percent_encoding::percent_decode;
 use serde_json::Value;
 use std::alloc::{AllocError, Global};
 
-/// How many bases may stand on one another. A log whose bases go in a circle has no end of them.
+/// How many bases may stand on one another, and in how many files are looked for elsewhere. A log whose bases go in a
+/// circle has no end of them.
 const BASES: usize = 16;
+
+/// The field of a run that has its bases.
+const BASE_IDS: &str = "originalUriBaseIds";
 
 /// The field of a location that names the base that it is relative to.
 const BASE: &str = "uriBaseId";
@@ -27,7 +35,10 @@ pub fn path_in(
     object: &LenientNode<'_, '_>,
     run: &Value,
     problems: &mut Problems,
-) -> Result<Option<String>, AllocError> {
+) -> Result<Option<String>, AllocError>
+    ensures named { IfOk result (λ path. is_some path
+        ≡ spec.names_file (view run.now) (view object.now.value.now)) }
+{
     let Some(location) = object.needed("artifactLocation", problems) else {
         return Ok(None);
     };
@@ -41,7 +52,9 @@ pub fn path_in(
 }
 
 /// The address of an artifact's location: its own, or that of the artifact with its number.
-fn address_of<'v>(run: &'v Value, location: &'v Value) -> Option<Address<'v>> {
+fn address_of<'v>(run: &'v Value, location: &'v Value) -> Option<Address<'v>>
+    ensures named { is_some result ≡ spec.has_address (view run.now) (view location.now) }
+{
     let named = match location.get("uri") {
         Some(_) => Some(location),
         None => artifact_location(run, location),
@@ -56,7 +69,9 @@ fn address_of<'v>(run: &'v Value, location: &'v Value) -> Option<Address<'v>> {
 }
 
 /// The location of the artifact whose number a location has.
-fn artifact_location<'v>(run: &'v Value, location: &Value) -> Option<&'v Value> {
+fn artifact_location<'v>(run: &'v Value, location: &Value) -> Option<&'v Value>
+    ensures value { option_map (λ v. view v.now) result ≡ spec.numbered (view run.now) (view location.now) }
+{
     match location.get("index").and_then(Value::as_u64) {
         Some(index) => field_at(item_at(run.get("artifacts"), index), "location"),
         None => None,
@@ -91,10 +106,40 @@ fn add_bases(
     Ok(())
 }
 
+/// The folders that addresses of a run are relative to, by absolute paths with a slash at their end: where one isn't
+/// there, its files are looked for elsewhere.
+pub fn bases_of(alloc: Global, run: &Value) -> Result<Vec<String>, AllocError> {
+    let mut bases = Vec::new(alloc);
+    if let Some(ids) = run.get(BASE_IDS).and_then(Value::as_object) {
+        for id in ids.keys() {
+            add_base(alloc, &mut bases, run, id.as_str())?;
+        }
+    }
+    Ok(bases)
+}
+
+/// Adds the folder of the base of this name, if its path is absolute and there is room for it.
+fn add_base(
+    alloc: Global,
+    bases: &mut Vec<String>,
+    run: &Value,
+    id: &str,
+) -> Result<(), AllocError> {
+    let address = Address {
+        uri: "",
+        base: Some(id),
+    };
+    let folder = path_at(alloc, run, address)?;
+    if folder.starts_with('/') && bases.len() < BASES {
+        bases.push(folder)?;
+    }
+    Ok(())
+}
+
 /// The location of the base of this name.
 fn base_location<'v>(run: &'v Value, id: Option<&str>) -> Option<&'v Value> {
     match id {
-        Some(id) => field_at(run.get("originalUriBaseIds"), id),
+        Some(id) => field_at(run.get(BASE_IDS), id),
         None => None,
     }
 }
