@@ -15,6 +15,8 @@ pub use Rattle.program.specs.Arguments.{Argument, arguments_at}
 pub use Rattle.program.specs.CommandLine.{AsksToShow}
 use Rattle.program.specs.CommandLine.{files_rule, flag_rule, valued_rule, was_given}
 use Rattle.program.specs.Numbers.{number_after_plus}
+use Rattle.redraw_report.specs.declared.diagnostic.Unit.{Unit}
+use Rattle.redraw_report.specs.declared.diagnostic.Unit.TheVariants.{Utf16, CodePoints, Bytes, Display}
 use Rattle.redraw_command.specs.declared.choice.Choice.{Choice}
 use Rattle.redraw_command.specs.declared.choice.OutputForm.{OutputForm}
 use Rattle.redraw_command.specs.declared.choice.OutputForm.TheVariants.{Report, Workflow, Verify}
@@ -43,19 +45,22 @@ flag_rules =
     flag_rule (codes "styled") ∷ flag_rule (codes "links") ∷ flag_rule (codes "links-auto") ∷ flag_rule (codes "duplicates")
     ∷ flag_rule (codes "quiet") ∷ flag_rule (codes "confined") ∷ flag_rule (codes "unconfined") ∷ []
 
--- the words that may stand after `--color`, and after `--level`
+-- the words that may stand after `--color`, after `--level` and after `--columns`
 abbrev pub color_words : List Argument
 color_words = codes "auto" ∷ codes "always" ∷ codes "never" ∷ []
 
 abbrev pub level_words : List Argument
 level_words = codes "error" ∷ codes "warning" ∷ codes "note" ∷ []
 
--- the options that have a value after them, where these are the words for two of them
-abbrev pub valued_rules : (colors levels : Bor (List (Bor Argument))) → List Rule
-valued_rules colors levels =
+abbrev pub column_words : List Argument
+column_words = codes "utf16" ∷ codes "chars" ∷ codes "bytes" ∷ codes "display" ∷ []
+
+-- the options that have a value after them, where these are the words for three of them
+abbrev pub valued_rules : (colors levels columns : Bor (List (Bor Argument))) → List Rule
+valued_rules colors levels columns =
     parsed_rule (codes "color") (Names colors) ∷ parsed_rule (codes "width") (Unsigned 0 18446744073709551615)
     ∷ parsed_rule (codes "root") NonEmptyString ∷ parsed_rule (codes "level") (Names levels)
-    ∷ parsed_rule (codes "path") NonEmptyString ∷ []
+    ∷ parsed_rule (codes "path") NonEmptyString ∷ parsed_rule (codes "columns") (Names columns) ∷ []
 
 -- a command with more options
 abbrev pub with_rules : App → List Rule → App
@@ -67,18 +72,21 @@ with_rules app (rule ∷ rules) = with_rules (with_rule app rule) rules
 abbrev pub bare_app : App
 bare_app = on_top (λ s. record s { no_binary_name = true; has_version = true; args_override_self = true }) (new_app (codes "redraw"))
 
--- the command, where these are the words for two of its options
-abbrev pub redraw_app : (colors levels : Bor (List (Bor Argument))) → App
-redraw_app colors levels =
-    with_rule (with_rules (with_rules (with_rules bare_app form_rules) flag_rules) (valued_rules colors levels)) (files_rule (codes "inputs"))
+-- the command, where these are the words for three of its options
+abbrev pub redraw_app : (colors levels columns : Bor (List (Bor Argument))) → App
+redraw_app colors levels columns =
+    with_rule (with_rules (with_rules (with_rules bare_app form_rules) flag_rules) (valued_rules colors levels columns))
+    (files_rule (codes "inputs"))
 
--- that command. Where in memory the words for two of its options stand is left open
+-- that command. Where in memory the words for three of its options stand is left open
 pub record IsRedraw (app : App) : Type 0 where
   pub colors : Bor (List (Bor Argument))
   pub levels : Bor (List (Bor Argument))
+  pub columns : Bor (List (Bor Argument))
   pub color_words : arguments_at colors.now ≡ color_words
   pub level_words : arguments_at levels.now ≡ level_words
-  pub is : app ≡ redraw_app colors levels
+  pub column_words : arguments_at columns.now ≡ column_words
+  pub is : app ≡ redraw_app colors levels columns
 
 -- a word as the command has it: before `--` the option `--links=auto` is `--links-auto`, since `--links` has no value
 abbrev pub spelled_word : (is_option : Bool) → Argument → Argument
@@ -108,6 +116,15 @@ abbrev pub least_of : Option Argument → Least
 least_of None = least.Any
 least_of (Some argument) =
     if bytes_eq argument (codes "error") then least.Error else (if bytes_eq argument (codes "warning") then least.Warning else least.Any)
+
+-- what columns count, by the argument after `--columns`
+abbrev pub unit_of : Argument → Option Unit
+unit_of argument =
+    if bytes_eq argument (codes "utf16") then Some Utf16
+    else if bytes_eq argument (codes "chars") then Some CodePoints
+    else if bytes_eq argument (codes "bytes") then Some Bytes
+    else if bytes_eq argument (codes "display") then Some Display
+    else None
 
 -- the form of what is drawn
 abbrev pub form_of : (is_verify is_github : Bool) → OutputForm
@@ -150,6 +167,7 @@ pub record IsRequestOf (found : List Row) (r : RedrawRequest) : Type 0 where
   pub root : argument_at r.root ≡ first_of (codes "root") found
   pub confined_lines : r.confines_lines ≡ was_given (codes "confined") found
   pub confined_logs : r.confines_logs ≡ (was_given (codes "confined") found || not (was_given (codes "unconfined") found))
+  pub columns : r.columns ≡ option_and_then unit_of (first_of (codes "columns") found)
   pub choice : IsChoiceOf found r.choice
   pub inputs : names_at r.inputs ≡ all_of (codes "inputs") found
 

@@ -17,6 +17,7 @@ use clap::builder::ValueParser;
 use clap::{Arg, ArgMatches, Command, Error};
 use program::command_line::{files, flag, valued, was_given};
 use program::number::number_after_plus;
+use redraw_report::diagnostic::Unit;
 use std::alloc::{AllocError, Global};
 
 /// What a command line asks for.
@@ -30,6 +31,8 @@ pub struct RedrawRequest<'w, 'a> {
     pub confines_lines: bool,
     /// Whether only files below the folder are read for SARIF logs.
     pub confines_logs: bool,
+    /// What the columns of inputs count, where that is said.
+    pub columns: Option<Unit>,
     /// Which findings are drawn, and in which form.
     pub choice: Choice<'a>,
     /// The inputs that are read; standard input where none are named.
@@ -56,6 +59,13 @@ fn level_words() -> &'static [&'static str]
     ensures args { arguments_at result.now ≡ spec.level_words }
 {
     &["error", "warning", "note"]
+}
+
+/// The words that may stand after `--columns`.
+fn column_words() -> &'static [&'static str]
+    ensures args { arguments_at result.now ≡ spec.column_words }
+{
+    &["utf16", "chars", "bytes", "display"]
 }
 
 /// The command, with a line of help for each option.
@@ -154,12 +164,14 @@ fn with_flags<'a>(alloc: Global, command: Command<'a>) -> Result<Command<'a>, Al
 
 /// A command with the options that have a value after them.
 fn with_values<'a>(alloc: Global, command: Command<'a>) -> Result<Command<'a>, AllocError>
-    ensures app { IfOk result (λ added. (colors levels : _) × (arguments_at colors.now ≡ spec.color_words)
-        × (arguments_at levels.now ≡ spec.level_words)
-        × (app_of added ≡ with_rules (app_of command.entry) (valued_rules colors levels))) }
+    ensures app { IfOk result (λ added. (colors levels columns : _)
+        × (arguments_at colors.now ≡ spec.color_words) × (arguments_at levels.now ≡ spec.level_words)
+        × (arguments_at columns.now ≡ spec.column_words)
+        × (app_of added ≡ with_rules (app_of command.entry) (valued_rules colors levels columns))) }
 {
     let colors = color_words();
     let levels = level_words();
+    let columns = column_words();
     let color = parsed(
         alloc,
         "color",
@@ -195,12 +207,20 @@ fn with_values<'a>(alloc: Global, command: Command<'a>) -> Result<Command<'a>, A
         ValueParser::NonEmptyString,
         "Draw only what lies in files whose paths hold this text",
     );
+    let unit = parsed(
+        alloc,
+        "columns",
+        "UNIT",
+        ValueParser::Names(columns),
+        "What columns count, in SARIF logs whatever they say: display is a terminal's columns",
+    );
     let valued = command
         .arg(color)?
         .arg(width)?
         .arg(root)?
         .arg(level)?
-        .arg(path)?;
+        .arg(path)?
+        .arg(unit)?;
     Ok(valued)
 }
 
@@ -265,6 +285,7 @@ pub fn request_of<'w, 'a>(matches: &'w ArgMatches<'a>) -> RedrawRequest<'w, 'a>
             was_given(matches, "confined"),
             was_given(matches, "unconfined"),
         ),
+        columns: unit_of(argument_after(matches, "columns")),
         choice: choice_of(matches),
         inputs: inputs_of(matches),
     }
@@ -373,5 +394,18 @@ fn least_of(argument: Option<&str>) -> Least
         Some("error") => Least::Error,
         Some("warning") => Least::Warning,
         _ => Least::Any,
+    }
+}
+
+/// What columns count, by the argument that says it.
+fn unit_of(argument: Option<&str>) -> Option<Unit>
+    ensures value { result ≡ option_and_then spec.unit_of (argument_at argument.entry) }
+{
+    match argument? {
+        "utf16" => Some(Unit::Utf16),
+        "chars" => Some(Unit::CodePoints),
+        "bytes" => Some(Unit::Bytes),
+        "display" => Some(Unit::Display),
+        _ => None,
     }
 }

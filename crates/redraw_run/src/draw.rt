@@ -35,7 +35,7 @@ use redraw_command::unheeded::unheeded;
 use redraw_command::workflow::command_of;
 use redraw_read::place::load_files;
 use redraw_read::sources::{SourceFiles, Sources};
-use redraw_report::diagnostic::{Diagnostic, FileSpan, Severity};
+use redraw_report::diagnostic::{Diagnostic, FileSpan, Severity, Unit};
 use serde_json::Value;
 use std::alloc::{AllocError, Global};
 use std::fmt;
@@ -53,6 +53,8 @@ pub struct Drawing<'w, S: Drop> {
     pub log_sources: Sources<S>,
     /// The folder that paths are shown from, where it is known.
     pub folder: Option<String>,
+    /// What the columns of SARIF logs count, where that is asked for.
+    pub columns: Option<Unit>,
     pub tally: Tally,
     /// What was drawn of cargo's diagnostics.
     pub seen: SeenDiagnostics,

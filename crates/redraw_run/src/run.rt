@@ -134,6 +134,7 @@ fn draw_all<'w, R: Files + Input + AllocGlobal, W: Write, V: Write>(
         sources: Sources::new(alloc, line_files),
         log_sources: Sources::new(alloc, log_files),
         folder,
+        columns: request.columns,
         tally,
         seen: SeenDiagnostics::new(alloc),
         files: Names::new(alloc),

@@ -50,7 +50,7 @@ fn draw_run<S: SourceFiles + Drop, W: Write, V: Write>(
         (standing drawing.new (known W.contents out.new) (known V.contents err.new)) }
 {
     let mut problems = Problems::new(drawing.alloc);
-    let run = SarifRun::new(drawing.alloc, node, &mut problems);
+    let run = SarifRun::new(drawing.alloc, node, drawing.columns, &mut problems);
     let results = run.results(&mut problems);
     tell_all(&problems, drawing, err)?;
     for (index, value) in results.items.iter().enumerate() {

@@ -17,16 +17,18 @@ returns c =
     let base = ap app_of_fields c.args_override_self-command.ensures ∙ ap overriding (ap app_of_fields c.no_binary_name.ensures
     ∙ ap unnamed (ap app_of_fields c.version.ensures
     ∙ ap versioned (ap app_of_fields c.about.ensures ∙ c.new.ensures.app))) in
-    let (colors, levels, color_words, level_words, valued) = c.in_ok-valued.ensures.app in
+    let (colors, levels, columns, color_words, level_words, column_words, valued) = c.in_ok-valued.ensures.app in
     let formed = c.in_ok-formed.ensures.app ∙ ap (λ (app : App). with_rules app form_rules) base in
     let flagged = c.in_ok-flagged.ensures.app ∙ ap (λ (app : App). with_rules app flag_rules) formed in
     record {
       app = record {
         colors = colors;
         levels = levels;
+        columns = columns;
         color_words = color_words;
         level_words = level_words;
+        column_words = column_words;
         is = c.in_ok-whole.ensures.shape c.files.ensures.local
-            ∙ ap₂ with_rule (valued ∙ ap (λ (app : App). with_rules app (valued_rules colors levels)) flagged) c.files.ensures.rule;
+            ∙ ap₂ with_rule (valued ∙ ap (λ (app : App). with_rules app (valued_rules colors levels columns)) flagged) c.files.ensures.rule;
       };
     }

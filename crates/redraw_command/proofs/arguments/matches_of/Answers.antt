@@ -1,6 +1,6 @@
 use Rattle.std.proofs.Common.{refl}
 use Rattle.clap.specs.Words.{app_of}
-use Rattle.redraw_command.specs.Arguments.{color_words, level_words, redraw_app, arguments_at}
+use Rattle.redraw_command.specs.Arguments.{color_words, column_words, level_words, redraw_app, arguments_at}
 use Rattle.redraw_command.proofs.CommandLines.{simple}
 use Rattle.redraw_command.proofs.Wording.{fails_for_memory, lent_arguments, matched_rows, none_matched}
 use Rattle.redraw_command.proofs.arguments.matches_of.Goals as goal
@@ -9,8 +9,16 @@ pub returns-in_err-command : goal.returns-in_err-command
 returns-in_err-command c =
     record {
       matches = (
-        redraw_app (lent_arguments color_words) (lent_arguments level_words),
-        record { colors = lent_arguments color_words; levels = lent_arguments level_words; color_words = refl; level_words = refl; is = refl },
+        redraw_app (lent_arguments color_words) (lent_arguments level_words) (lent_arguments column_words),
+        record {
+          colors = lent_arguments color_words;
+          levels = lent_arguments level_words;
+          columns = lent_arguments column_words;
+          color_words = refl;
+          level_words = refl;
+          column_words = refl;
+          is = refl;
+        },
         fails_for_memory c.from_residual.result _ c.from_residual.ensures.1,
         none_matched _ _ c.from_residual.result c.from_residual.ensures.1,
       );

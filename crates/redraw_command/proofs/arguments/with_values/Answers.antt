@@ -8,12 +8,15 @@ returns c =
     let width = c.in_ok-arg-2.ensures.shape c.parsed-width.ensures.local ∙ ap₂ with_rule color c.parsed-width.ensures.rule in
     let root = c.in_ok-arg-3.ensures.shape c.parsed-root.ensures.local ∙ ap₂ with_rule width c.parsed-root.ensures.rule in
     let level = c.in_ok-arg-4.ensures.shape c.parsed-level.ensures.local ∙ ap₂ with_rule root c.parsed-level.ensures.rule in
+    let path = c.in_ok-arg-5.ensures.shape c.parsed-path.ensures.local ∙ ap₂ with_rule level c.parsed-path.ensures.rule in
     record {
       app = (
         c.color_words-colors.result,
         c.level_words-levels.result,
+        c.column_words-columns.result,
         c.color_words-colors.ensures.args,
         c.level_words-levels.ensures.args,
-        c.in_ok-valued.ensures.shape c.parsed-path.ensures.local ∙ ap₂ with_rule level c.parsed-path.ensures.rule,
+        c.column_words-columns.ensures.args,
+        c.in_ok-valued.ensures.shape c.parsed-unit.ensures.local ∙ ap₂ with_rule path c.parsed-unit.ensures.rule,
       );
     }
