@@ -12,6 +12,7 @@ use Rattle.redraw_report.specs.declared.diagnostic.SuggestedEdit.{SuggestedEdit}
 use Rattle.redraw_report.specs.declared.diagnostic.FileSpan.{FileSpan}
 use Rattle.redraw_report.specs.declared.diagnostic.Region.{Region}
 use Rattle.redraw_read.specs.Placed.{AtHand, Sight, Lines, Nothing, Blank, sight_in}
+pub use Rattle.redraw_read.specs.Placed.{sight_of_edit}
 use Rattle.redraw_read.specs.declared.spot.Placing.{Placing}
 
 -- one if there is one
@@ -51,10 +52,6 @@ sight_of_span hand s = sight_in hand (string_bytes s.file) s.region s.carried
 -- how many of some places aren't in their sources as they were given
 abbrev pub clamped_spans : AtHand → List FileSpan → ℕ
 clamped_spans hand spans = count_by (λ (s : FileSpan). is_clamped (sight_of_span hand s) s.region) spans
-
--- what is shown of the part that an edit changes
-abbrev pub sight_of_edit : AtHand → SuggestedEdit → Sight
-sight_of_edit hand e = sight_in hand (string_bytes e.file) e.region e.carried
 
 -- how many of some edits aren't in their sources as they were given
 abbrev pub clamped_edits : AtHand → List SuggestedEdit → ℕ

@@ -21,7 +21,7 @@ use Rattle.redraw_report.specs.declared.finding.MarkedSpan.{MarkedSpan}
 use Rattle.redraw_report.specs.declared.finding.Offer.{Offer}
 use Rattle.redraw_report.specs.declared.finding.Remark.{Remark}
 use Rattle.redraw_report.specs.declared.finding.Shown.{Shown}
-use Rattle.redraw_report.specs.Region.{IsSpanBetween, end_place, start_bytes, start_place}
+use Rattle.redraw_report.specs.Region.{IsSpanBetween, end_place, is_settled, start_bytes, start_place}
 use Rattle.snippet_lines.specs.declared.clamp.SpanAt.{SpanAt}
 use Rattle.redraw_report.specs.Report.{edited_of, lent}
 pub use Rattle.redraw_report.specs.Sight.{Sight, Lines, Nothing, Blank, sight_of}
@@ -111,9 +111,22 @@ pub record IsMarkOf (hand : AtHand) (span : FileSpan) (m : MarkedSpan) : Type 0 
   pub label : lent m.label ≡ option_map string_bytes span.label
   pub primary : m.is_primary ≡ span.is_primary
 
+-- whether it is settled which part of what is shown a region is
+abbrev pub settled_in : Sight → Region → Bool
+settled_in (Lines text first) r = is_settled text (start_bytes text) first r
+settled_in (Nothing line column) r = true
+settled_in (Blank line column) r = true
+
+-- what is shown of the part that an edit changes: nothing where it isn't settled which part of its lines that is
+abbrev pub settled_sight : Bool → Region → Sight → Sight
+settled_sight short r sight = if settled_in sight r then sight else unseen short (start_line_of r) (column_of r)
+
+abbrev pub sight_of_edit : AtHand → SuggestedEdit → Sight
+sight_of_edit hand e = settled_sight hand.is_short e.region (sight_in hand (string_bytes e.file) e.region e.carried)
+
 -- where an edit is
 abbrev pub IsSpotOf : AtHand → SuggestedEdit → Spot → Type 0
-IsSpotOf hand e spot = IsSpot (string_bytes e.file) (sight_in hand (string_bytes e.file) e.region e.carried) e.region spot
+IsSpotOf hand e spot = IsSpot (string_bytes e.file) (sight_of_edit hand e) e.region spot
 
 -- whether a source has lines of a file
 abbrev pub has_text : Content → Bool

@@ -14,7 +14,7 @@ ghost use Rattle.redraw_read.specs.Placed.{IsAttributeAt, IsAttributeIn, IsAttri
 ghost use Rattle.redraw_read.specs.Placed.{AreAboveLine, IsAboveLine, IsAlone, Lines, offered_view, sight_of};
 
 use crate::hand::Hand;
-use crate::spot::{Placing, Spot, counted};
+use crate::spot::{Placing, Spot, counted, is_settled_in, spot_nowhere};
 use crate::words::{begins_with, finishes_with};
 use redraw_report::diagnostic::{Region, SuggestedEdit};
 use redraw_report::finding::{Content, Offer, Replacement, Shown, is_same};
@@ -84,7 +84,7 @@ fn spots_of<'a>(
     Ok(spots)
 }
 
-/// Where an edit is.
+/// Where an edit is: nowhere, if it isn't settled which part of its lines that is.
 fn spot_of<'a>(
     placing: &mut Placing,
     hand: Hand<'a>,
@@ -94,7 +94,12 @@ fn spot_of<'a>(
     ensures counted { OnOk result (placing.new
         ≡ adds placing.old (ones (is_clamped (sight_of_edit (at_hand hand.entry) edit.now) edit.now.region)) 0) }
 {
-    placing.spot(hand, &edit.file, edit.region, &edit.carried)
+    let is_settled = is_settled_in(placing.alloc, hand, edit)?;
+    if is_settled {
+        placing.spot(hand, &edit.file, edit.region, &edit.carried)
+    } else {
+        Ok(spot_nowhere(hand.is_short, edit.file.as_str(), edit.region))
+    }
 }
 
 /// The offer of edits at these places, if there is one: of an attribute, which is shown with its line, or of any edits.
@@ -274,7 +279,7 @@ fn attribute_if<'a>(
     }
 }
 
-/// The offer of an attribute, which is shown with the line that it stands above. One that stands behind code is an edit
+/// The offer of an attribute, which is shown with the line that it stands above. One that stands after code is an edit
 /// like any other.
 fn attribute_in<'a>(
     alloc: Global,

@@ -109,17 +109,29 @@ impl<S: SourceFiles + Drop> Sources<S> {
         }
     }
 
-    /// The bytes of the file of this relative name below the folders of these files, upwards.
+    /// The bytes of the file of this name by the first of these homes by which there is one.
     fn bytes_near(&self, name: &str, homes: &[String]) -> Result<Option<Vec<u8>>, AllocError> {
-        if name.starts_with('/') {
-            return Ok(None);
-        }
         for home in homes {
-            if let Some(bytes) = self.bytes_above(name, home.as_str())? {
+            if let Some(bytes) = self.bytes_by(name, home.as_str())? {
                 return Ok(Some(bytes));
             }
         }
         Ok(None)
+    }
+
+    /// The bytes of the file of this name by a home: by a file those of a relative name below the file's folders,
+    /// upwards; by a folder, with a slash at its end, those of the same path from there below the folder of all files.
+    fn bytes_by(&self, name: &str, home: &str) -> Result<Option<Vec<u8>>, AllocError> {
+        if home.ends_with('/') {
+            return match name.strip_prefix(home) {
+                Some(path) => self.source_files.bytes(path),
+                None => Ok(None),
+            };
+        }
+        if name.starts_with('/') {
+            return Ok(None);
+        }
+        self.bytes_above(name, home)
     }
 
     /// The bytes of the file of this name below the folders in which this file is, from the innermost. Slashes in a

@@ -4,15 +4,15 @@ ghost use Rattle.std.specs.Prelude.{◌≡◌, IfOk, OnOk, string_bytes};
 ghost use Rattle.redraw_read.specs.Counted.{adds, is_clamped, more, ones};
 ghost use Rattle.redraw_read.specs.Extract.{chosen};
 ghost use Rattle.redraw_read.specs.Placed as spec;
-ghost use Rattle.redraw_report.specs.Region.{start_bytes as starts_of};
+ghost use Rattle.redraw_report.specs.Region.{is_settled, start_bytes as starts_of};
 ghost use Rattle.redraw_report.specs.ShownText.{shown_text};
 ghost use Rattle.redraw_read.specs.Placed.{IsSpot, Lines, at_hand, sight_in, sight_of};
 
 use crate::hand::{Extract, Hand, lines_for};
 use crate::source::Source;
-use redraw_report::diagnostic::{Carried, Region};
+use redraw_report::diagnostic::{Carried, Region, SuggestedEdit};
 use redraw_report::finding::{Content, Shown};
-use redraw_report::locate::{Lookup, locate};
+use redraw_report::locate::{Lookup, is_settled, locate};
 use redraw_report::shown_text::ShownText;
 use redraw_report::text_lines::line_starts;
 use std::alloc::{AllocError, Global};
@@ -130,8 +130,42 @@ impl Placing {
     }
 }
 
+/// Whether it is settled which part of its lines an edit changes, if lines are at hand.
+pub fn is_settled_in(
+    alloc: Global,
+    hand: Hand<'_>,
+    edit: &SuggestedEdit,
+) -> Result<bool, AllocError>
+    ensures value { IfOk result (λ is. is ≡ spec.settled_in (sight_in (at_hand hand.entry)
+        (string_bytes edit.now.file) edit.now.region edit.now.carried) edit.now.region) }
+{
+    match lines_for(hand, edit.file.as_str(), &edit.carried) {
+        Some(Extract::Whole(source)) => {
+            Ok(is_settled_at(source.text(), &source.starts, 1, edit.region))
+        }
+        Some(Extract::Part(lines)) => {
+            let text = lines.text.as_str();
+            let starts = line_starts(alloc, text)?;
+            Ok(is_settled_at(text, &starts, lines.first_line, edit.region))
+        }
+        None => Ok(true),
+    }
+}
+
+/// Whether it is settled where in a text a region lies, whose lines start at these bytes.
+fn is_settled_at(text: &str, starts: &[usize], first_line: usize, region: Region) -> bool
+    ensures value { result ≡ is_settled text.now starts.now first_line region }
+{
+    let lookup = Lookup {
+        text,
+        starts,
+        first_line,
+    };
+    is_settled(lookup, region)
+}
+
 /// The place of a region of which nothing is at hand.
-fn spot_nowhere<'a>(is_short: bool, path: &'a str, region: Region) -> Spot<'a>
+pub fn spot_nowhere<'a>(is_short: bool, path: &'a str, region: Region) -> Spot<'a>
     ensures is { IsSpot path.now (spec.unseen is_short (spec.start_line_of region) (spec.column_of region)) region
         result }
 {
