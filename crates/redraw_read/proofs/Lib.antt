@@ -1,5 +1,6 @@
 pub mod After
 pub mod AllNext
+pub mod Around
 pub mod Begins
 pub mod Begun
 pub mod Counting
@@ -8,6 +9,7 @@ pub mod Indexed
 pub mod KnownManners
 pub mod LeastNumber
 pub mod LineNumbers
+pub mod Listed
 pub mod Nested
 pub mod Loading
 pub mod NotCounted

@@ -1,5 +1,12 @@
 //! The calls of macros that are shown beside primary places.
 
+ghost use Rattle.std.specs.Prelude.{◌≡◌, ◌++◌, List, IfOk, OnOk, All, Contains};
+ghost use Rattle.redraw_read.specs.Places.{IsCallBeside, IsTold};
+ghost use Rattle.redraw_read.specs.Spans.{IsRegionOf};
+ghost use Rattle.redraw_report.specs.declared.diagnostic.FileSpan.{FileSpan};
+ghost use Rattle.serde_json.specs.Data.{Data};
+ghost use Rattle.serde_json.specs.View.{view};
+
 use crate::expansion::{call_text, told_call};
 use crate::named_files::NamedFiles;
 use crate::spans::{at_value, file_span, region_of};
@@ -45,12 +52,19 @@ pub fn add_call(
     named: &Option<NamedFiles>,
     told: &mut ToldCalls,
     spans: &mut Vec<FileSpan>,
-) -> Result<(), Fault> {
+) -> Result<(), Fault>
+    ensures added { (items : List Data) → Contains items (view node.now.value.now)
+        → OnOk result ((calls : List FileSpan) × All (IsCallBeside items) calls
+        × (spans.new.items ≡ spans.old.items ++ calls)) }
+{
     if !node.flag("is_primary")? {
         return Ok(());
     }
     match told_call(node.value, named) {
-        Some((call, label)) => add_told(&at_value(node, call), label, told, spans),
+        Some((call, label)) => {
+            add_told(&at_value(node, call), label, told, spans)?;
+            Ok(())
+        }
         None => Ok(()),
     }
 }
@@ -61,17 +75,24 @@ fn add_told(
     label: &'static str,
     told: &mut ToldCalls,
     spans: &mut Vec<FileSpan>,
-) -> Result<(), Fault> {
+) -> Result<(), Fault>
+    ensures added { OnOk result ((calls : List FileSpan) × All (IsTold (view place.now.value.now)) calls
+        × (spans.new.items ≡ spans.old.items ++ calls)) }
+{
     let region = region_of(place)?;
     let is_new = told.adds(region, label)?;
-    if is_new {
-        spans.push(told_span(place, region, label)?)?;
+    if !is_new {
+        return Ok(());
     }
+    spans.push(told_span(place, region, label)?)?;
     Ok(())
 }
 
 /// A place in this region of which this is said, and which isn't the point of the report.
-fn told_span(place: &Node<'_, '_>, region: LineRegion, label: &str) -> Result<FileSpan, Fault> {
+fn told_span(place: &Node<'_, '_>, region: LineRegion, label: &str) -> Result<FileSpan, Fault>
+    requires said { IsRegionOf (view place.now.value.now) region }
+    ensures told { IfOk result (IsTold (view place.now.value.now)) }
+{
     let file = place.text("file_name")?;
     file_span(place, file, region, Some(label), false)
 }

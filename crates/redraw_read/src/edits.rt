@@ -1,11 +1,18 @@
 //! The edits that a child of a diagnostic of rustc suggests.
 
-ghost use Rattle.std.specs.Prelude.{◌≡◌, ◌≢◌, [], false, true, IfOk};
-ghost use Rattle.std.specs.List.{All, flat_map};
+ghost use Rattle.std.specs.Prelude.{◌≡◌, ◌≢◌, ◌+◌, ◌++◌, [], ◌∷◌, Option, IfOk, IsTrue, OnOk, false};
+ghost use Rattle.std.specs.Prelude.{length, map, true};
+ghost use Rattle.std.specs.Str.{chars};
+ghost use Rattle.std.specs.List.{All, filter_map, flat_map};
+ghost use Rattle.json_lines.specs.Field.{lent_text};
+ghost use Rattle.redraw_read.specs.Edits as spec;
+ghost use Rattle.redraw_read.specs.Edits.{AreBlanksBefore, AreEditsIn, AreEditsOf, IsEditOf, MayEdit, line_with};
+ghost use Rattle.redraw_report.specs.declared.diagnostic.SuggestedEdit.{SuggestedEdit};
+ghost use Rattle.serde_json.specs.View.{view};
 
 use crate::json::{given_text, listed, owned};
 use crate::offers::is_attribute;
-use crate::spans::{carried_of, region_of};
+use crate::spans::{carried_of, is_first, region_of};
 use crate::taken::{LinePlace, TakenParts};
 use json_lines::expectation::Expectation;
 use json_lines::fault::Fault;
@@ -15,50 +22,51 @@ use serde_json::Value;
 use std::alloc::{AllocError, Global};
 
 /// The edits of a child: those of its places that have a text to stand there.
-pub fn edits_of(node: &Node<'_, '_>) -> Result<Vec<SuggestedEdit>, Fault> {
+pub fn edits_of(node: &Node<'_, '_>) -> Result<Vec<SuggestedEdit>, Fault>
+    ensures are { IfOk result (λ edits. AreEditsOf (view node.now.value.now) edits.items) }
+{
     let list = node.needed("spans", Expectation::List)?;
     let values = listed(node, "spans")?;
-    let mut edits = Vec::new(node.alloc);
-    add_edits(&list, values, &mut edits)?;
+    let edits = edits_in(&list, values)?;
     Ok(edits)
 }
 
-/// Adds the edits of the places in a list of these values.
-fn add_edits<'v>(
-    list: &Node<'v, '_>,
-    values: &'v [Value],
-    edits: &mut Vec<SuggestedEdit>,
-) -> Result<(), Fault> {
+/// The edits of the places in a list of these values.
+fn edits_in<'v>(list: &Node<'v, '_>, values: &'v [Value]) -> Result<Vec<SuggestedEdit>, Fault>
+    ensures are { IfOk result (λ edits. AreEditsIn (map view values.now) edits.items) }
+{
+    let mut edits = Vec::new(list.alloc);
     for (index, value) in values.iter().enumerate() {
-        add_edit(&list.item(index, value), edits)?;
+        add_edit(&list.item(index, value), &mut edits)?;
     }
-    Ok(())
+    Ok(edits)
 }
 
 /// Adds the edit of a place, if a text is to stand there.
-fn add_edit(place: &Node<'_, '_>, edits: &mut Vec<SuggestedEdit>) -> Result<(), Fault> {
-    if let Some(replacement) = given_text(place, "suggested_replacement")? {
-        edits.push(edit_of(place, replacement)?)?;
+fn add_edit(place: &Node<'_, '_>, edits: &mut Vec<SuggestedEdit>) -> Result<(), Fault>
+    ensures added { OnOk result ((found : Option SuggestedEdit) × MayEdit (view place.now.value.now) found
+        × (edits.new.items ≡ edits.old.items ++ filter_map (λ e. e) (found ∷ []))) }
+{
+    let said = given_text(place, "suggested_replacement")?;
+    match said {
+        Some(replacement) => {
+            edits.push(edit_of(place, replacement)?)?;
+            Ok(())
+        }
+        None => Ok(()),
     }
-    Ok(())
 }
 
 /// An edit: a place, and what is to stand there. An attribute above a line is to stand as far right as the line: so it
 /// is put in at the line's start, after what is blank there.
-fn edit_of(node: &Node<'_, '_>, replacement: &str) -> Result<SuggestedEdit, Fault> {
+fn edit_of(node: &Node<'_, '_>, replacement: &str) -> Result<SuggestedEdit, Fault>
+    ensures is { IfOk result (IsEditOf (view node.now.value.now) replacement.now) }
+{
     let whole = region_of(node)?;
     let file = node.text("file_name")?;
     let carried = carried_of(node, whole)?;
-    let region = if replacement.is_empty() {
-        before_line_end(node.value, whole)
-    } else {
-        whole
-    };
-    let blank = if start_of(region) == end_of(region) {
-        blank_before(node, region, replacement)
-    } else {
-        ""
-    };
+    let region = part_for(node.value, whole, replacement);
+    let blank = blank_before(node.value, region, replacement);
     let replacement = format!(in node.alloc; "{blank}{replacement}")?;
     Ok(SuggestedEdit {
         file: owned(node.alloc, file)?,
@@ -68,39 +76,90 @@ fn edit_of(node: &Node<'_, '_>, replacement: &str) -> Result<SuggestedEdit, Faul
     })
 }
 
+/// The part of a file that an edit of this region changes, which has this text stand there.
+fn part_for(span: &Value, whole: LineRegion, replacement: &str) -> LineRegion
+    ensures value { result ≡ spec.part_for (view span.now) whole replacement.now }
+{
+    if replacement.is_empty() {
+        taken_away(span, whole)
+    } else {
+        whole
+    }
+}
+
 /// The region of lines that go whole, to before the end of the last: rustc's text has that end stay. Another region is
 /// given back, and one whose lines aren't there.
-fn before_line_end(span: &Value, region: LineRegion) -> LineRegion {
-    if region.start_column != Some(1) || region.end_column != Some(1) {
+fn taken_away(span: &Value, region: LineRegion) -> LineRegion
+    ensures value { result ≡ spec.taken_away (view span.now) region }
+{
+    if !is_first(region.start_column) || !is_first(region.end_column) {
         return region;
     }
+    let last = region.end_line.saturating_sub(1);
+    to_line_end(
+        region,
+        line_of(span, last.saturating_sub(region.start_line)),
+    )
+}
+
+/// Lines that go whole, to before the end of the last, if that is there.
+fn to_line_end(region: LineRegion, line: Option<&str>) -> LineRegion
+    ensures value { result ≡ spec.to_line_end region (lent_text line.entry) }
+{
     let end_line = region.end_line.saturating_sub(1);
-    match line_of(span, end_line.saturating_sub(region.start_line)) {
+    match line {
         Some(line) if region.start_line <= end_line => LineRegion {
             end_line,
-            end_column: line.chars().count().checked_add(1),
+            end_column: Some(end_column(line)),
             ..region
         },
         _ => region,
     }
 }
 
+/// The column at which a line ends.
+fn end_column(line: &str) -> usize
+    ensures value { result ≡ length (chars line.now) + 1 }
+{
+    line.chars().count() + 1
+}
+
 /// The line with this index, from 0, of those that a place has with it.
-fn line_of(span: &Value, index: usize) -> Option<&str> {
-    let line = span.get("text")?.as_array()?.get(index)?;
+fn line_of(span: &Value, index: usize) -> Option<&str>
+    ensures value { lent_text result ≡ line_with index (view span.now) }
+{
+    let line = span.get("text")?.get(index)?;
     line.get("text")?.as_str()
 }
 
-/// What stands before the place of an attribute in its line, if that is blank.
-fn blank_before<'v>(node: &Node<'v, '_>, region: LineRegion, replacement: &str) -> &'v str {
-    match text_before(node.value, region) {
-        Some(blank) if blank.trim().is_empty() && is_attribute(replacement) => blank,
+/// What stands before the place of an attribute that is put in there, if that is blank.
+fn blank_before<'v>(span: &'v Value, region: LineRegion, replacement: &str) -> &'v str
+    ensures stand { AreBlanksBefore region replacement.now result.now }
+{
+    if !is_point(region) || !is_attribute(replacement) {
+        return "";
+    }
+    match text_before(span, region) {
+        Some(blank) if blank.trim().is_empty() => blank,
         _ => "",
     }
 }
 
+/// Whether a region has no length.
+fn is_point(region: LineRegion) -> bool
+    ensures is { IsTrue result
+        → (region.start_line ≡ region.end_line) × (region.start_column ≡ region.end_column) }
+{
+    match (region.start_column, region.end_column) {
+        (Some(start), Some(end)) => region.start_line == region.end_line && start == end,
+        _ => false,
+    }
+}
+
 /// A place after these blanks, at its line's start; the place itself where there are none.
-fn moved_back(region: LineRegion, blank: &str) -> LineRegion {
+fn moved_back(region: LineRegion, blank: &str) -> LineRegion
+    ensures value { result ≡ spec.moved_back region blank.now }
+{
     if blank.is_empty() {
         return region;
     }
@@ -114,7 +173,7 @@ fn moved_back(region: LineRegion, blank: &str) -> LineRegion {
 /// What stands before a place in the first of the lines that it has with it.
 fn text_before(span: &Value, region: LineRegion) -> Option<&str> {
     let before = region.start_column?.checked_sub(1)?;
-    span.pointer("/text/0/text")?.as_str()?.get(..before)
+    line_of(span, 0)?.get(..before)
 }
 
 /// Edits as the alternatives that they are. rustc writes these one after another, and none of them has edits that

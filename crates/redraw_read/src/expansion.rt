@@ -2,6 +2,15 @@
 //! called, and with that place the same, up to one outside of all macros; what it says of them in its text is not in
 //! its JSON.
 
+ghost use Rattle.std.specs.Prelude.{◌≡◌, Some, IfSome, codes, false, option_map};
+ghost use Rattle.std.specs.BTreeSet.{contains_text};
+ghost use Rattle.std.specs.Option.{option_map_or};
+ghost use Rattle.redraw_read.specs.Places as spec;
+ghost use Rattle.redraw_read.specs.Places.{call_around, expansion_of, shown_place};
+ghost use Rattle.serde_json.specs.Data.{Data};
+ghost use Rattle.serde_json.specs.Find.{as_str, get};
+ghost use Rattle.serde_json.specs.View.{view};
+
 use crate::named_files::NamedFiles;
 use serde_json::Value;
 use std::alloc::{AllocError, Global};
@@ -10,7 +19,9 @@ use std::alloc::{AllocError, Global};
 const EXPANSIONS: usize = 128;
 
 /// The expansion that a place is in: where it was called, and the macro.
-fn expansion_of(span: &Value) -> Option<&Value> {
+fn expansion_of(span: &Value) -> Option<&Value>
+    ensures value { option_map (λ e. view e.now) result ≡ expansion_of (view span.now) }
+{
     match span.get("expansion") {
         Some(expansion) if has_span(expansion) => Some(expansion),
         _ => None,
@@ -18,89 +29,129 @@ fn expansion_of(span: &Value) -> Option<&Value> {
 }
 
 /// Whether an expansion says where it was called.
-fn has_span(expansion: &Value) -> bool {
+fn has_span(expansion: &Value) -> bool
+    ensures value { result ≡ spec.is_called (view expansion.now) }
+{
     match expansion.get("span") {
         Some(span) => span.is_object(),
         None => false,
     }
 }
 
-/// The outermost expansion that a place is in.
-fn outermost(span: &Value) -> Option<&Value> {
-    let mut expansion = expansion_of(span)?;
-    for _ in 0..EXPANSIONS {
-        match expansion.get("span").and_then(expansion_of) {
-            Some(outer) => expansion = outer,
-            None => return Some(expansion),
-        }
+/// The outermost expansion that a place is in, of at most this many.
+#[tactic(auto, using(crate::proofs::Around::around))]
+fn outermost(span: &Value, most: usize) -> Option<&Value>
+    ensures value { option_map (λ e. view e.now) result ≡ spec.outermost most (view span.now) }
+{
+    if most == 0 {
+        return None;
     }
-    Some(expansion)
+    let expansion = expansion_of(span)?;
+    let call = expansion.get("span")?;
+    match outermost(call, most - 1) {
+        Some(outer) => Some(outer),
+        None => Some(expansion),
+    }
 }
 
 /// Whether a place has lines of its source with it.
-fn has_text(span: &Value) -> bool {
-    match span.get("text").and_then(Value::as_array) {
-        Some(lines) => !lines.is_empty(),
+fn has_text(span: &Value) -> bool
+    ensures value { result ≡ spec.is_at_hand (view span.now) }
+{
+    match span.get("text") {
+        Some(lines) => lines.get(0).is_some(),
         None => false,
     }
 }
 
 /// The place that is shown for a place: where the macros around it were called, if that source is at hand and its own
 /// isn't; or by the files that a text names, the first in one of these of it and the calls around it.
-pub fn shown_place<'v>(span: &'v Value, named: &Option<NamedFiles>) -> &'v Value {
+pub fn shown_place<'v>(span: &'v Value, named: &Option<NamedFiles>) -> &'v Value
+    ensures value { view result.now ≡ shown_place named.now (view span.now) }
+{
     match named {
-        Some(files) => named_place(span, files),
+        Some(files) => match named_from(span, files, EXPANSIONS) {
+            Some(place) => place,
+            None => span,
+        },
         None => place_at_hand(span),
     }
 }
 
 /// The place where the macros around this one were called, if that source is at hand and its own isn't; else its own.
-fn place_at_hand(span: &Value) -> &Value {
-    match outermost(span) {
-        Some(expansion) if is_call_shown(span, expansion) => expansion.get("span").unwrap_or(span),
+fn place_at_hand(span: &Value) -> &Value
+    ensures value { view result.now ≡ spec.shown_in (view span.now) (spec.outermost 128 (view span.now)) }
+{
+    match outermost(span, EXPANSIONS) {
+        Some(expansion) if is_call_shown(span, expansion) => match expansion.get("span") {
+            Some(call) => call,
+            None => span,
+        },
         _ => span,
     }
 }
 
-/// The first of a place and the calls around it that is in one of these files; the place itself where none is.
-fn named_place<'v>(span: &'v Value, files: &NamedFiles) -> &'v Value {
-    let mut place = span;
-    for _ in 0..EXPANSIONS {
-        if is_named(place, files) {
-            return place;
-        }
-        match call_around(place) {
-            Some(call) => place = call,
-            None => return span,
-        }
+/// The first of a place and the calls around it, of at most this many, that is in one of these files.
+#[tactic(auto, using(crate::proofs::Around::around))]
+fn named_from<'v>(span: &'v Value, files: &NamedFiles, most: usize) -> Option<&'v Value>
+    ensures value { option_map (λ place. view place.now) result ≡ spec.named_from files.now most (view span.now) }
+{
+    if most == 0 {
+        return None;
     }
-    span
+    if is_named(span, files) {
+        return Some(span);
+    }
+    let call = call_around(span)?;
+    named_from(call, files, most - 1)
 }
 
 /// Whether a place is in one of these files.
-fn is_named(place: &Value, files: &NamedFiles) -> bool {
-    match place.get("file_name").and_then(Value::as_str) {
+fn is_named(place: &Value, files: &NamedFiles) -> bool
+    ensures value { result ≡ spec.is_named files.now (view place.now) }
+{
+    match place.get("file_name") {
+        Some(name) => is_name(name, files),
+        None => false,
+    }
+}
+
+/// Whether a value is the name of one of these files.
+fn is_name(name: &Value, files: &NamedFiles) -> bool
+    ensures value { result ≡ option_map_or (contains_text files.now.names) (as_str (view name.now)) false }
+{
+    match name.as_str() {
         Some(name) => files.has(name),
         None => false,
     }
 }
 
 /// Where the macro around a place was called.
-fn call_around(place: &Value) -> Option<&Value> {
+fn call_around(place: &Value) -> Option<&Value>
+    ensures value { option_map (λ call. view call.now) result ≡ call_around (view place.now) }
+{
     expansion_of(place)?.get("span")
 }
 
 /// Whether the call of a macro is at hand, and a place in that macro isn't.
-fn is_call_shown(span: &Value, expansion: &Value) -> bool {
-    !has_text(span) && expansion.get("span").map_or(false, has_text)
+fn is_call_shown(span: &Value, expansion: &Value) -> bool
+    ensures value { result ≡ spec.is_call_shown (view span.now) (view expansion.now) }
+{
+    match expansion.get("span") {
+        Some(call) => !has_text(span) && has_text(call),
+        None => false,
+    }
 }
 
 /// The call around a place that is shown beside it, and how: none where a call is shown for the place.
 pub fn told_call<'v>(
     span: &'v Value,
     named: &Option<NamedFiles>,
-) -> Option<(&'v Value, &'static str)> {
-    let expansion = outermost(span)?;
+) -> Option<(&'v Value, &'static str)>
+    ensures call { IfSome result (λ told. (e : Data) × (spec.outermost 128 (view span.now) ≡ Some e)
+        × (get (codes "span") e ≡ Some (view told.0.now))) }
+{
+    let expansion = outermost(span, EXPANSIONS)?;
     if is_shown_elsewhere(span, expansion, named) {
         return None;
     }
@@ -119,13 +170,13 @@ fn is_shown_elsewhere(span: &Value, expansion: &Value, named: &Option<NamedFiles
 }
 
 /// Where a macro was called, and what is said of that.
-fn labelled_call(expansion: &Value) -> Option<(&Value, &'static str)> {
-    match (
-        expansion.get("span"),
-        decl_name(expansion).and_then(call_label),
-    ) {
-        (Some(call), Some(label)) => Some((call, label)),
-        _ => None,
+fn labelled_call(expansion: &Value) -> Option<(&Value, &'static str)>
+    ensures call { IfSome result (λ told. get (codes "span") (view expansion.now) ≡ Some (view told.0.now)) }
+{
+    let call = expansion.get("span")?;
+    match decl_name(expansion).and_then(call_label) {
+        Some(label) => Some((call, label)),
+        None => None,
     }
 }
 

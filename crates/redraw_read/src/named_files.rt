@@ -1,5 +1,8 @@
 //! The files that rustc's own text of a diagnostic names: after the arrows, and beside later files of a group.
 
+ghost use Rattle.std.specs.Prelude.{◌≡◌};
+ghost use Rattle.std.specs.BTreeSet.{contains_text};
+
 use std::alloc::{AllocError, Global};
 use std::collections::BTreeSet;
 
@@ -22,7 +25,9 @@ impl NamedFiles {
     }
 
     /// Whether the text names this file.
-    pub fn has(&self, name: &str) -> bool {
+    pub fn has(&self, name: &str) -> bool
+        ensures value { result ≡ contains_text self.now.names name.now }
+    {
         self.names.contains(name)
     }
 }

@@ -6,7 +6,9 @@ ghost use Rattle.std.specs.List.{before_first, flat_map, list_any, slice_split};
 ghost use Rattle.redraw_read.specs.AsShown.{IsAsShown, child_seen, child_shown, has_escape, is_label};
 ghost use Rattle.redraw_read.specs.AsShown.{labels, place_shown};
 ghost use Rattle.redraw_read.specs.AsShown.{message_line, suggestion_shown, with_first_line};
+ghost use Rattle.json_lines.specs.Field.{lent_text};
 ghost use Rattle.redraw_read.specs.Rendered as spec;
+ghost use Rattle.redraw_read.specs.Rustc as spec_of;
 ghost use Rattle.redraw_read.specs.Rendered.{way, way_by, way_of};
 ghost use Rattle.redraw_read.specs.Told.{KeepsHeading};
 ghost use Rattle.redraw_report.specs.Report.{lent};
@@ -15,7 +17,7 @@ use crate::labels::{EditLabel, label_of, with_labels};
 use crate::manners::Manners;
 use crate::plain::without_styles;
 use crate::roles::settle_roles;
-use crate::words::{after, after_first, begins_with};
+use crate::words::{after, after_first, begins_with, finishes_with};
 use redraw_report::diagnostic::{Child, Diagnostic};
 use snippet_text::normalized;
 use std::alloc::{AllocError, Global};
@@ -216,10 +218,15 @@ fn is_beside_gutter(line: &str) -> bool
     begins_with(row, "|") || begins_with(row, "\u{2502}")
 }
 
-/// Whether a text shows all of a diagnostic: an empty line is at its end then. One of a single line shows only where it
+/// A text, if it shows all of a diagnostic: an empty line is at its end then. One of a single line shows only where it
 /// is.
-pub fn is_whole(text: &str) -> bool {
-    text.ends_with("\n\n")
+pub fn if_whole(text: Option<&str>) -> Option<&str>
+    ensures value { lent_text result ≡ spec_of.if_whole (lent_text text.entry) }
+{
+    match text {
+        Some(text) if finishes_with(text, "\n\n") => Some(text),
+        _ => None,
+    }
 }
 
 /// A diagnostic with its suggestions as they are shown in a text of it, which may have styles.

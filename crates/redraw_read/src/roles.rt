@@ -107,7 +107,7 @@ fn role_at(roles: &[bool], index: usize) -> bool
 }
 
 /// A place with this role.
-fn with_role(span: FileSpan, is_primary: bool) -> FileSpan
+pub fn with_role(span: FileSpan, is_primary: bool) -> FileSpan
     ensures value { result ≡ record span { is_primary = is_primary } }
 {
     FileSpan {

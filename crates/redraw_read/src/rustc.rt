@@ -1,7 +1,14 @@
 //! What rustc writes with `--error-format=json`, a diagnostic a line.
 
-ghost use Rattle.std.specs.Prelude.{◌≡◌, ◌≤◌, IfOk, length, option_map, string_bytes};
-ghost use Rattle.redraw_read.specs.Told.{IsHeaded, IsHeading, code_seen, code_told};
+ghost use Rattle.std.specs.Prelude.{◌≡◌, ◌≤◌, ◌++◌, List, IfOk, OnOk, length, map, option_map};
+ghost use Rattle.std.specs.List.{AllZip};
+ghost use Rattle.json_lines.specs.Field.{lent_text};
+ghost use Rattle.redraw_read.specs.Places.{ArePlacesOf};
+ghost use Rattle.redraw_read.specs.Rustc.{AreChildrenOf, ArePlacesBeside, IsChildOf, IsNote, IsOwnText};
+ghost use Rattle.redraw_read.specs.Rustc.{IsReadAs, IsShownBy, IsToldBy, MayHaveNote};
+ghost use Rattle.redraw_read.specs.Told.{IsHeaded, code_seen, code_told};
+ghost use Rattle.redraw_report.specs.declared.diagnostic.Child.{Child};
+ghost use Rattle.redraw_report.specs.declared.diagnostic.Diagnostic.{Diagnostic};
 ghost use Rattle.serde_json.specs.View.{view};
 
 use crate::edits::{alternatives_of, edits_of};
@@ -9,13 +16,13 @@ use crate::expansion::{Macros, is_edit};
 use crate::headings::{code_of, heading_of};
 use crate::json::{given_text, listed, owned};
 use crate::reading::{MacroNote, Open, Reader, Reading};
-use crate::rendered::{as_rendered, is_whole};
+use crate::rendered::{as_rendered, if_whole};
 use crate::spans::spans_of;
 use crate::unseen::with_files_apart;
 use json_lines::expectation::Expectation;
 use json_lines::fault::Fault;
 use json_lines::node::Node;
-use redraw_report::diagnostic::{Child, Code, Diagnostic, FileSpan, Severity};
+use redraw_report::diagnostic::{Child, Code, Diagnostic, FileSpan, Severity, SuggestedEdit};
 use serde_json::Value;
 use std::alloc::{AllocError, Global};
 
@@ -23,6 +30,7 @@ use std::alloc::{AllocError, Global};
 /// has that.
 pub fn diagnostic_by(node: &Node<'_, '_>, reading: Reading) -> Result<Diagnostic, Fault>
     ensures headed { IfOk result (IsHeaded (view node.now.value.now)) }
+    ensures read { IfOk result (IsReadAs (view node.now.value.now)) }
 {
     let text = whole_text(node)?;
     let reader = Reader::new(node.alloc, reading, text)?;
@@ -37,6 +45,8 @@ fn shown_diagnostic(
     text: Option<&str>,
 ) -> Result<Diagnostic, Fault>
     ensures headed { IfOk result (IsHeaded (view node.now.value.now)) }
+    ensures shown { IfOk result (λ shown. (told : Diagnostic)
+        × IsToldBy reader.now (view node.now.value.now) told × IsShownBy (lent_text text.entry) told shown) }
 {
     let diagnostic = told_diagnostic(node, reader)?;
     match text {
@@ -46,11 +56,11 @@ fn shown_diagnostic(
 }
 
 /// rustc's own text of a diagnostic, where it has one that shows all of it.
-pub fn whole_text<'v>(node: &Node<'v, '_>) -> Result<Option<&'v str>, Fault> {
-    match given_text(node, "rendered")? {
-        Some(text) if is_whole(text) => Ok(Some(text)),
-        _ => Ok(None),
-    }
+pub fn whole_text<'v>(node: &Node<'v, '_>) -> Result<Option<&'v str>, Fault>
+    ensures is { IfOk result (λ text. IsOwnText (view node.now.value.now) (lent_text text)) }
+{
+    let said = given_text(node, "rendered")?;
+    Ok(if_whole(said))
 }
 
 /// What the JSON of a diagnostic leaves open.
@@ -158,7 +168,7 @@ fn is_labelled_start(span: &Value) -> bool {
 
 /// The diagnostic that the other fields of a value describe.
 fn told_diagnostic(node: &Node<'_, '_>, reader: &Reader) -> Result<Diagnostic, Fault>
-    ensures headed { IfOk result (IsHeaded (view node.now.value.now)) }
+    ensures is { IfOk result (IsToldBy reader.now (view node.now.value.now)) }
 {
     let (severity, message) = heading_of(node)?;
     let (spans, children, code) = parts_of(node, reader)?;
@@ -177,6 +187,9 @@ fn parts_of(
     node: &Node<'_, '_>,
     reader: &Reader,
 ) -> Result<(Vec<FileSpan>, Vec<Child>, Option<Code>), Fault>
+    ensures places { IfOk result (λ parts.
+        ArePlacesOf reader.now.named reader.now.puts_labels_first (view node.now.value.now) parts.0.items) }
+    ensures children { IfOk result (λ parts. AreChildrenOf reader.now (view node.now.value.now) parts.1.items) }
     ensures code { IfOk result (λ parts. option_map code_seen parts.2 ≡ code_told (view node.now.value.now)) }
 {
     let spans = spans_of(node, &reader.named, reader.puts_labels_first)?;
@@ -186,26 +199,29 @@ fn parts_of(
 }
 
 /// The children of a diagnostic, with a note on the macros that it originates in.
-fn children_of(node: &Node<'_, '_>, reader: &Reader) -> Result<Vec<Child>, Fault> {
+fn children_of(node: &Node<'_, '_>, reader: &Reader) -> Result<Vec<Child>, Fault>
+    ensures are { IfOk result (λ children. AreChildrenOf reader.now (view node.now.value.now) children.items) }
+{
     let list = node.needed("children", Expectation::List)?;
     let values = listed(node, "children")?;
-    let mut children = Vec::new(node.alloc);
-    add_children(&list, values, reader, &mut children)?;
+    let mut children = children_by(&list, values, reader)?;
     add_macro_note(node, values, &reader.note, &mut children)?;
     Ok(children)
 }
 
-/// Adds the children in a list of these values.
-fn add_children<'v>(
+/// The children in a list of these values.
+fn children_by<'v>(
     list: &Node<'v, '_>,
     values: &'v [Value],
     reader: &Reader,
-    children: &mut Vec<Child>,
-) -> Result<(), Fault> {
+) -> Result<Vec<Child>, Fault>
+    ensures are { IfOk result (λ children. AllZip (IsChildOf reader.now) (map view values.now) children.items) }
+{
+    let mut children = Vec::new(list.alloc);
     for (index, value) in values.iter().enumerate() {
         children.push(child_of(&list.item(index, value), reader)?)?;
     }
-    Ok(())
+    Ok(children)
 }
 
 /// The macros that the primary places of a diagnostic and of its children come from.
@@ -223,7 +239,9 @@ fn add_macro_note(
     values: &[Value],
     note: &MacroNote,
     children: &mut Vec<Child>,
-) -> Result<(), Fault> {
+) -> Result<(), Fault>
+    ensures noted { OnOk result (MayHaveNote children.old.items children.new.items) }
+{
     match note {
         MacroNote::OfPlaces => add_note_of_places(node, values, children),
         MacroNote::BeforeEdits(note) => {
@@ -243,23 +261,33 @@ fn add_note_of_places(
     node: &Node<'_, '_>,
     values: &[Value],
     children: &mut Vec<Child>,
-) -> Result<(), Fault> {
+) -> Result<(), Fault>
+    ensures noted { OnOk result (MayHaveNote children.old.items children.new.items) }
+{
     let macros = macros_of(node.value, values);
-    if let Some(message) = macros.note(node.alloc, node.text("level")?)? {
-        insert_before_edits(children, note_of(node.alloc, message))?;
+    match macros.note(node.alloc, node.text("level")?)? {
+        Some(message) => {
+            insert_before_edits(children, note_of(node.alloc, message))?;
+            Ok(())
+        }
+        None => Ok(()),
     }
-    Ok(())
 }
 
 /// Puts a note before the first child that suggests an edit.
-fn insert_before_edits(children: &mut Vec<Child>, note: Child) -> Result<(), AllocError> {
+fn insert_before_edits(children: &mut Vec<Child>, note: Child) -> Result<(), AllocError>
+    requires is_note { IsNote note }
+    ensures noted { OnOk result (MayHaveNote children.old.items children.new.items) }
+{
     let at = count_before_edits(children);
     children.insert(at, note)?;
     Ok(())
 }
 
 /// A note without places.
-fn note_of(alloc: Global, message: String) -> Child {
+fn note_of(alloc: Global, message: String) -> Child
+    ensures is_note { IsNote result }
+{
     Child {
         severity: Severity::Note,
         message,
@@ -283,21 +311,33 @@ fn count_before_edits(children: &[Child]) -> usize
 
 /// A child: its places, or the edits that it suggests.
 fn child_of(node: &Node<'_, '_>, reader: &Reader) -> Result<Child, Fault>
-    ensures headed { IfOk result (λ child.
-        IsHeading (view node.now.value.now) child.severity (string_bytes child.message)) }
+    ensures is { IfOk result (IsChildOf reader.now (view node.now.value.now)) }
 {
     let (severity, message) = heading_of(node)?;
     let edits = edits_of(node)?;
-    let spans = if edits.is_empty() {
-        spans_of(node, &reader.named_by_children, reader.puts_labels_first)?
-    } else {
-        Vec::new(node.alloc)
-    };
+    let spans = spans_beside(node, &edits, reader)?;
+    let alternatives = alternatives_of(node.alloc, edits, reader.joins_edits)?;
     Ok(Child {
         severity,
         message,
         spans,
-        alternatives: alternatives_of(node.alloc, edits, reader.joins_edits)?,
+        alternatives,
         goes_on: false,
     })
+}
+
+/// The places of a child with these edits: none if it has some.
+fn spans_beside(
+    node: &Node<'_, '_>,
+    edits: &[SuggestedEdit],
+    reader: &Reader,
+) -> Result<Vec<FileSpan>, Fault>
+    ensures are { IfOk result (λ spans.
+        ArePlacesBeside reader.now (view node.now.value.now) edits.now spans.items) }
+{
+    if !edits.is_empty() {
+        return Ok(Vec::new(node.alloc));
+    }
+    let spans = spans_of(node, &reader.named_by_children, reader.puts_labels_first)?;
+    Ok(spans)
 }

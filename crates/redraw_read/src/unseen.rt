@@ -12,7 +12,11 @@
 //!   = note: similarly named struct `String` defined here
 //! ```
 
-ghost use Rattle.std.specs.Prelude.{IfOk};
+ghost use Rattle.std.specs.Prelude.{◌≡◌, IfOk, false, is_some, not};
+ghost use Rattle.std.specs.List.{list_any};
+ghost use Rattle.redraw_read.specs.Rustc as spec;
+ghost use Rattle.redraw_report.specs.declared.diagnostic.Child.{Child};
+ghost use Rattle.redraw_report.specs.declared.diagnostic.FileSpan.{FileSpan};
 ghost use Rattle.redraw_read.specs.Told.{KeepsHeading};
 
 use crate::plain::without_styles;
@@ -30,6 +34,7 @@ pub fn with_files_apart(
     diagnostic: Diagnostic,
 ) -> Result<Diagnostic, AllocError>
     ensures headed { IfOk result (KeepsHeading diagnostic) }
+    ensures whole { spec.has_several diagnostic ≡ false → IfOk result (λ apart. apart ≡ diagnostic) }
 {
     match text {
         Some(text) if has_several(&diagnostic) => apart_by(alloc, text, diagnostic),
@@ -38,21 +43,37 @@ pub fn with_files_apart(
 }
 
 /// Whether a diagnostic or one of its children has several places, one of them without lines.
-fn has_several(diagnostic: &Diagnostic) -> bool {
-    are_several(&diagnostic.spans)
-        || diagnostic
-            .children
-            .iter()
-            .any(|child| are_several(&child.spans))
+fn has_several(diagnostic: &Diagnostic) -> bool
+    ensures value { result ≡ spec.has_several diagnostic.now }
+{
+    are_several(&diagnostic.spans) || has_several_beside(&diagnostic.children)
+}
+
+/// Whether one of these children has several places, one of them without lines.
+fn has_several_beside(children: &[Child]) -> bool
+    ensures value { result ≡ list_any (λ (c : Child). spec.are_several c.spans.items) children.now }
+{
+    children.iter().any(|child| are_several(&child.spans))
 }
 
 /// Whether these are several places, one of them without lines.
-fn are_several(spans: &[FileSpan]) -> bool {
-    spans.len() > 1 && spans.iter().any(is_unseen)
+fn are_several(spans: &[FileSpan]) -> bool
+    ensures value { result ≡ spec.are_several spans.now }
+{
+    spans.len() > 1 && has_unseen(spans)
+}
+
+/// Whether one of these places has no lines.
+fn has_unseen(spans: &[FileSpan]) -> bool
+    ensures value { result ≡ list_any (λ (s : FileSpan). not (is_some s.carried)) spans.now }
+{
+    spans.iter().any(|span| is_unseen(span))
 }
 
 /// Whether no lines came with a place.
-fn is_unseen(span: &FileSpan) -> bool {
+fn is_unseen(span: &FileSpan) -> bool
+    ensures value { result ≡ not (is_some span.now.carried) }
+{
     span.carried.is_none()
 }
 
