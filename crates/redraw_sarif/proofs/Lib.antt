@@ -2,4 +2,5 @@ pub mod GoingOn
 pub mod LinkLemmas
 pub mod ListLemmas
 pub mod Listed
+pub mod Parting
 pub mod Rows

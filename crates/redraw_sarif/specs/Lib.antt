@@ -1,10 +1,12 @@
 pub mod Edits
 pub mod Filling
+pub mod Heading
 pub mod Links
 pub mod Places
 pub mod Primary
 pub mod Region
 pub mod Result
 pub mod Rule
+pub mod Said
 pub mod Steps
 pub mod Units

@@ -6,9 +6,12 @@
 //! that aren't named here are skipped.
 #![tactic(auto)]
 
+pub mod excerpt;
 pub mod expectation;
 pub mod fixes;
 pub mod flow;
+pub mod heading;
+pub mod lines;
 pub mod links;
 pub mod location;
 pub mod message;
@@ -17,6 +20,7 @@ pub mod primary;
 pub mod region;
 pub mod rule;
 pub mod rules;
+pub mod said;
 pub mod sarif;
 pub mod steps;
 pub mod units;
