@@ -43,7 +43,7 @@ form_rules =
 abbrev pub flag_rules : List Rule
 flag_rules =
     flag_rule (codes "styled") ∷ flag_rule (codes "links") ∷ flag_rule (codes "links-auto") ∷ flag_rule (codes "duplicates")
-    ∷ flag_rule (codes "quiet") ∷ flag_rule (codes "confined") ∷ flag_rule (codes "unconfined") ∷ []
+    ∷ flag_rule (codes "quiet") ∷ flag_rule (codes "confined") ∷ flag_rule (codes "unconfined") ∷ flag_rule (codes "lines") ∷ []
 
 -- the words that may stand after `--color`, after `--level` and after `--columns`
 abbrev pub color_words : List Argument
@@ -155,6 +155,7 @@ pub record IsChoiceOf (found : List Row) (c : Choice) : Type 0 where
   pub path : argument_at c.path ≡ first_of (codes "path") found
   pub duplicates : c.has_duplicates ≡ was_given (codes "duplicates") found
   pub quiet : c.is_quiet ≡ was_given (codes "quiet") found
+  pub lines : c.reads_lines ≡ was_given (codes "lines") found
 
 -- the names of files, if there are some
 abbrev pub names_at : Option (Bor (List (Bor Argument))) → Option (List Argument)

@@ -151,6 +151,11 @@ fn with_flags<'a>(alloc: Global, command: Command<'a>) -> Result<Command<'a>, Al
         "unconfined",
         "Show files elsewhere for SARIF logs too: for logs of your own",
     );
+    let lines = flag(
+        alloc,
+        "lines",
+        "Draw lines FILE:LINE:COL: LEVEL: MESSAGE too, as most compilers write them",
+    );
     let flagged = command
         .arg(styled)?
         .arg(links)?
@@ -158,7 +163,8 @@ fn with_flags<'a>(alloc: Global, command: Command<'a>) -> Result<Command<'a>, Al
         .arg(duplicates)?
         .arg(quiet)?
         .arg(confined)?
-        .arg(unconfined)?;
+        .arg(unconfined)?
+        .arg(lines)?;
     Ok(flagged)
 }
 
@@ -370,6 +376,7 @@ fn choice_of<'a>(matches: &ArgMatches<'a>) -> Choice<'a>
         path: argument_after(matches, "path"),
         has_duplicates: was_given(matches, "duplicates"),
         is_quiet: was_given(matches, "quiet"),
+        reads_lines: was_given(matches, "lines"),
     }
 }
 

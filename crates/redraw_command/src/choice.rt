@@ -38,6 +38,8 @@ pub struct Choice<'a> {
     pub has_duplicates: bool,
     /// Whether nothing is summed up.
     pub is_quiet: bool,
+    /// Whether lines of compilers are read, beside JSON.
+    pub reads_lines: bool,
 }
 
 impl Choice<'_> {

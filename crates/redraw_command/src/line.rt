@@ -67,7 +67,7 @@ fn form_of(bytes: &[u8]) -> Line<'_>
 }
 
 /// The first byte that isn't blank.
-fn first_of(bytes: &[u8]) -> Option<u8>
+pub fn first_of(bytes: &[u8]) -> Option<u8>
     ensures value { result ≡ spec.first_of bytes.now }
 {
     for byte in bytes {

@@ -10,4 +10,5 @@ returns c =
     let duplicates = c.in_ok-arg-4.ensures.shape c.flag-duplicates.ensures.local ∙ ap₂ with_rule links_auto c.flag-duplicates.ensures.rule in
     let quiet = c.in_ok-arg-5.ensures.shape c.flag-quiet.ensures.local ∙ ap₂ with_rule duplicates c.flag-quiet.ensures.rule in
     let confined = c.in_ok-arg-6.ensures.shape c.flag-confined.ensures.local ∙ ap₂ with_rule quiet c.flag-confined.ensures.rule in
-    record { app = c.in_ok-flagged.ensures.shape c.flag-unconfined.ensures.local ∙ ap₂ with_rule confined c.flag-unconfined.ensures.rule }
+    let unconfined = c.in_ok-arg-7.ensures.shape c.flag-unconfined.ensures.local ∙ ap₂ with_rule confined c.flag-unconfined.ensures.rule in
+    record { app = c.in_ok-flagged.ensures.shape c.flag-lines.ensures.local ∙ ap₂ with_rule unconfined c.flag-lines.ensures.rule }
