@@ -15,7 +15,7 @@ use Rattle.redraw_command.specs.declared.choice.Choice.{Choice}
 use Rattle.redraw_command.specs.declared.stop.Stop.{Stop}
 use Rattle.redraw_command.specs.declared.stop.Stop.TheVariants.{Memory}
 use Rattle.redraw_run.specs.Deeds.{State, Deed, Does, IsPartOfDeeds, Stops}
-use Rattle.redraw_run.specs.Fates.{AreNone, Each, IsFateOfPiece, IsHandedOn, IsTextOf, IsValue, IsWithoutEnd, IsWrong}
+use Rattle.redraw_run.specs.Fates.{AreNone, Each, IsFateOfPiece, IsFindingOrText, IsHandedOn, IsTextOf, IsValue, IsWithoutEnd, IsWrong}
 use Rattle.redraw_run.specs.Pieces.{IsOfForm, IsPieceAhead}
 use Rattle.redraw_run.specs.ReadLines.{AreAllOf, AreFirstOf, AreReadPieces, AreTaken, IsPieceOf, TakesPiece}
 use Rattle.redraw_run.specs.declared.piece.Form.{Form}
@@ -131,7 +131,7 @@ HandsOn piece = (c : Choice) (ds : List Deed) → IsHandedOn piece c ds → IsFa
 
 other_handed : (piece : List ℕ) → IsOfForm piece forms.Other → HandsOn piece
 other_handed piece (text, is, inl begins) c ds h = (text, is, inl (begins, h))
-other_handed piece (text, is, inr (begins, none)) c ds h = (text, is, inr (begins, inr (inl (none, h))))
+other_handed piece (text, is, inr (begins, none)) c ds h = (text, is, inr (inl (begins, inr (inl (none, h)))))
 
 blank_handed : (piece : List ℕ) → IsOfForm piece forms.Blank → HandsOn piece
 blank_handed piece (text, is, begins) c ds h = (text, is, inl (begins, h))
@@ -153,7 +153,7 @@ hands_other piece f same of = other_handed piece (subst (IsOfForm piece) same of
 
 object_becomes : (piece : List ℕ) (v : Value) → IsOfForm piece (forms.Object v) → (c : Choice) (ds : List Deed) → IsValue piece (view v) c ds
     → IsFateOfPiece piece c ds
-object_becomes piece v (text, is, read) c ds h = (text, is, inr (read.0, inr (inr (view v, read.1, h))))
+object_becomes piece v (text, is, read) c ds h = (text, is, inr (inl (read.0, inr (inr (view v, read.1, h)))))
 
 -- an object becomes what its value does
 pub value_becomes : (piece : List ℕ) (f : Form) (v : Value) → f ≡ forms.Object v → IsOfForm piece f → (c : Choice) (ds : List Deed)
@@ -161,11 +161,21 @@ pub value_becomes : (piece : List ℕ) (f : Form) (v : Value) → f ≡ forms.Ob
 value_becomes piece f v same of = object_becomes piece v (subst (IsOfForm piece) same of)
 
 undecoded_wrong : (piece : List ℕ) → IsOfForm piece forms.Undecoded → (c : Choice) (ds : List Deed) → IsWrong c ds → IsFateOfPiece piece c ds
-undecoded_wrong piece (text, is, read) c ds h = (text, is, inr (read.0, inl (read.1, h)))
+undecoded_wrong piece (text, is, read) c ds h = (text, is, inr (inl (read.0, inl (read.1, h))))
 
 pub wrong_becomes : (piece : List ℕ) (f : Form) → f ≡ forms.Undecoded → IsOfForm piece f → (c : Choice) (ds : List Deed) → IsWrong c ds
     → IsFateOfPiece piece c ds
 wrong_becomes piece f same of = undecoded_wrong piece (subst (IsOfForm piece) same of)
+
+told_becomes : (piece : List ℕ) → IsOfForm piece forms.Finding → (c : Choice) (ds : List Deed) → IsFindingOrText piece c ds
+    → IsFateOfPiece piece c ds
+told_becomes piece (text, is, read) c ds (inl h) = (text, is, inl (read.first, h))
+told_becomes piece (text, is, read) c ds (inr h) = (text, is, inr (inr (read, h.0, h.1)))
+
+-- lines of a finding are handed on, or become what it does
+pub finding_becomes : (piece : List ℕ) (f : Form) → f ≡ forms.Finding → IsOfForm piece f → (c : Choice) (ds : List Deed) → IsFindingOrText piece c ds
+    → IsFateOfPiece piece c ds
+finding_becomes piece f same of = told_becomes piece (subst (IsOfForm piece) same of)
 
 -- the same by another spelling of its bytes
 pub done_by : (bytes piece : List ℕ) (f : Form) (a b : State) → bytes ≡ piece → IsOfForm piece f → (IsOfForm bytes f → Does (IsFateOfPiece bytes) a b)

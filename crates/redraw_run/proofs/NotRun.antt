@@ -17,6 +17,7 @@ use Rattle.redraw_run.specs.declared.kind.Kind.{Kind}
 use Rattle.redraw_run.specs.declared.kind.Kind.TheVariants as kind
 use Rattle.redraw_run.specs.Deeds.{State, Deed, Drawn, Commanded, Compared, HandedOn, Told, Refused, LeftOut, Repeated, BuildFailed, tally_by, with_files}
 use Rattle.redraw_run.specs.Fates.{AreMessages, Each, IsDiagnosed, IsFound, IsKnown, IsFateOfPiece, IsLog, IsReported, IsResult, IsLogRun, IsShown, IsTaking}
+use Rattle.redraw_run.specs.FindingLines.{names_line}
 use Rattle.redraw_run.specs.ReadLines.{IsPieceOf}
 use Rattle.redraw_run.specs.Run.{Finishes, nothing_begun}
 
@@ -131,14 +132,19 @@ both_handed : (k : Kind) (c : Choice) (d : Diagnostic) (text line : List ℕ) �
 unfolding Unhanded
 both_handed k c d text line h = known_unhanded k c (Drawn d text ∷ HandedOn line ∷ []) h
 
+report_handed : (c : Choice) (d : Diagnostic) (text line : List ℕ) → IsReported c (Drawn d text ∷ HandedOn line ∷ []) → ⊥
+unfolding Unhanded
+report_handed c d text line h = reported_unhanded c (Drawn d text ∷ HandedOn line ∷ []) h
+
 -- a finding is drawn, and the line that reports it is handed on too
 pub drawn_and_handed_on : (line : List ℕ) (c : Choice) (d : Diagnostic) (text : List ℕ) → IsFateOfPiece line c (Drawn d text ∷ HandedOn line ∷ []) → ⊥
 drawn_and_handed_on line c d text (t, is, inl h) = cc h.1
-drawn_and_handed_on line c d text (t, is, inr (begins, inl (none, h))) = cc h.1
-drawn_and_handed_on line c d text (t, is, inr (begins, inr (inl (none, h)))) = cc h
-drawn_and_handed_on line c d text (t, is, inr (begins, inr (inr (v, reads, (Some k, of, h))))) = both_handed k c d text line h
-drawn_and_handed_on line c d text (t, is, inr (begins, inr (inr (v, reads, (None, of, inl h))))) = cc h.1
-drawn_and_handed_on line c d text (t, is, inr (begins, inr (inr (v, reads, (None, of, inr h))))) = cc h
+drawn_and_handed_on line c d text (t, is, inr (inl (begins, inl (none, h)))) = cc h.1
+drawn_and_handed_on line c d text (t, is, inr (inl (begins, inr (inl (none, h))))) = cc h
+drawn_and_handed_on line c d text (t, is, inr (inl (begins, inr (inr (v, reads, (Some k, of, h)))))) = both_handed k c d text line h
+drawn_and_handed_on line c d text (t, is, inr (inl (begins, inr (inr (v, reads, (None, of, inl h)))))) = cc h.1
+drawn_and_handed_on line c d text (t, is, inr (inl (begins, inr (inr (v, reads, (None, of, inr h)))))) = cc h
+drawn_and_handed_on line c d text (t, is, inr (inr (finding, asked, h))) = report_handed c d text line h
 
 -- a diagnostic of rustc is drawn twice
 pub drawn_twice : (c : Choice) (d : Diagnostic) (text : List ℕ) → IsKnown kind.Rustc c (Drawn d text ∷ Drawn d text ∷ []) → ⊥
@@ -156,16 +162,18 @@ drawn_twice c d text (inr (inr (f, inr (taken, inr (inr (inr (form, inr h)))))))
 -- what another tool writes, here `a`, is handed on and told too
 pub noise_told : (c : Choice) (part : List ℕ) → IsFateOfPiece (97 ∷ 10 ∷ []) c (HandedOn (97 ∷ 10 ∷ []) ∷ Told part ∷ []) → ⊥
 noise_told c part (text, inl is, inl h) = cc h.1
-noise_told c part (text, inl is, inr h) = cc (ap begins_object is, h.0)
+noise_told c part (text, inl is, inr (inl h)) = cc (ap begins_object is, h.0)
+noise_told c part (text, inl is, inr (inr h)) = cc (ap names_line is, h.0.names)
 noise_told c part (text, inr is, h) = cc is
 
 -- two lines, here `a` and `b`, are taken as one piece
 pub lines_as_one : IsPieceOf (97 ∷ 10 ∷ 98 ∷ 10 ∷ []) (97 ∷ 10 ∷ 98 ∷ 10 ∷ []) → ⊥
 lines_as_one (inl line) = let cut : ◌≡◌ {A = List ℕ} (97 ∷ 10 ∷ 98 ∷ 10 ∷ []) (97 ∷ 10 ∷ []) = line in cc cut
-lines_as_one (inr document) = elim document.is [
+lines_as_one (inr (inl document)) = elim document.is [
   | inl is ↦ cc (ap begins_document is, document.begins)
   | inr is ↦ cc is
 ]
+lines_as_one (inr (inr finding)) = cc finding.names
 
 no_clean : (t : Tally) (whole : Bool) → t.has_error ≡ true → 0 ≡ tally_status Report t whole → ⊥
 no_clean t true error none =

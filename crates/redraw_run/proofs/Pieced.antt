@@ -17,6 +17,7 @@ use Rattle.redraw_command.specs.declared.scanner.Scan.TheVariants.{Ends}
 use Rattle.redraw_command.specs.declared.stop.Stop.{Stop}
 use Rattle.redraw_command.specs.declared.stop.Stop.TheVariants.{Memory}
 use Rattle.redraw_run.specs.Fates.{IsTextOf}
+use Rattle.redraw_run.specs.FindingLines.{AreOfFinding}
 use Rattle.redraw_run.specs.Pieces.{Grows, IsNextPiece, IsOfForm, IsPieceAhead}
 use Rattle.redraw_run.specs.ReadLines.{IsDocument, IsPieceOf}
 use Rattle.redraw_run.specs.declared.piece.Form.{Form}
@@ -88,7 +89,7 @@ document_ahead left ahead count piece within counted of document =
       some = omega (arith, some, counted);
       within = omega (arith, within, counted);
       form = subst (λ (n : ℕ). IsOfForm (take n ahead) piece.form) (sym counted) of;
-      is = if_some_all left (λ (bytes : List ℕ). IsPieceOf bytes (take piece.count ahead)) (λ bytes. inr is);
+      is = if_some_all left (λ (bytes : List ℕ). IsPieceOf bytes (take piece.count ahead)) (λ bytes. inr (inl is));
     }
 
 -- a document that is looked for, whatever is left
@@ -131,6 +132,17 @@ pub line_piece : (left : Option (List ℕ)) (ahead : List ℕ) (piece : Piece) �
 line_piece left ahead piece line some of =
     record { some = some; within = line.within; form = of; is = line_is left (take piece.count ahead) (line.line some) }
 
+-- lines of a finding are a piece, where the first is one
+pub finding_ahead : (left : Option (List ℕ)) (old new : List ℕ) (line : Piece) (count : ℕ) → line.count ≤ count → count ≤ length new
+    → AreOfFinding (take count new) → IsPieceAhead left old line → IsPieceAhead left new record { count = count; form = forms.Finding }
+finding_ahead left old new line count more within are h =
+    record {
+      some = omega (arith, h.some, more);
+      within = within;
+      form = (take count new, inl refl, are);
+      is = if_some_all left (λ (bytes : List ℕ). IsPieceOf bytes (take count new)) (λ bytes. inr (inr are));
+    }
+
 -- the next piece of what was left before
 pub next_before : (old left : Option (List ℕ)) (ahead : List ℕ) (found : Option Piece) → Keeps old left → IsNextPiece left ahead found
     → IsNextPiece old ahead found
@@ -155,13 +167,16 @@ next_some left ahead found piece is h = subst (IsNextPiece left ahead) is h
 pub grows_none : (bytes : List ℕ) → Grows bytes bytes
 grows_none bytes = ([], sym (append-nil bytes))
 
-grows_then : (a b c : List ℕ) → Grows a b → Grows b c → Grows a c
+pub grows_then : (a b c : List ℕ) → Grows a b → Grows b c → Grows a c
 grows_then a b c (more, first) (most, next) =
     (more ++ most, next ∙ ap (λ (l : List ℕ). l ++ most) first ∙ append_assoc a more most)
 
-grows_reads : (is : Bool) (left : Option (List ℕ)) (old new : List ℕ) → ReadsOn is left old new → Grows old new
+pub grows_reads : (is : Bool) (left : Option (List ℕ)) (old new : List ℕ) → ReadsOn is left old new → Grows old new
 grows_reads true left old new h = (h.line, h.added)
 grows_reads false left old new h = ([], h.0 ∙ sym (append-nil old))
+
+-- what is ahead after nothing was read, or a line
+pub ruleset ahead_steps = (grows_none, grows_reads)
 
 -- more is ahead, of which so much was scanned
 pub record Scanned (left : Option (List ℕ)) (old : List ℕ) (now : Option (List ℕ)) (new : List ℕ) (seen : ℕ) : Type 0 where
@@ -169,13 +184,13 @@ pub record Scanned (left : Option (List ℕ)) (old : List ℕ) (now : Option (Li
   pub grows : Grows old new
   pub within : seen ≤ length new
 
-keeps_then : (a b c : Option (List ℕ)) → Keeps a b → Keeps b c → Keeps a c
+pub keeps_then : (a b c : Option (List ℕ)) → Keeps a b → Keeps b c → Keeps a c
 keeps_then None b c p q = tt
 keeps_then (Some x) None c p q = absurd p
 keeps_then (Some x) (Some y) None p q = absurd q
 keeps_then (Some x) (Some y) (Some z) p q = q ∙ p
 
-keeps_same : (a : Option (List ℕ)) → Keeps a a
+pub keeps_same : (a : Option (List ℕ)) → Keeps a a
 keeps_same None = tt
 keeps_same (Some x) = refl
 
@@ -191,6 +206,26 @@ scanned_more is left now after old new newer seen s keeps reads =
       kept = keeps_then left now after s.kept keeps;
       grows = grows_then old new newer s.grows grown;
       within = omega (arith, ap length grown.1, length-append new grown.0);
+    }
+
+-- more is ahead, and a finding goes on to within it
+pub record GoesOn (left : Option (List ℕ)) (old : List ℕ) (now : Option (List ℕ)) (new : List ℕ) (first end : ℕ) : Type 0 where
+  pub kept : Keeps left now
+  pub grows : Grows old new
+  pub from : first ≤ end
+  pub within : end ≤ length new
+
+pub goes_on_none : (left : Option (List ℕ)) (ahead : List ℕ) (first : ℕ) → first ≤ length ahead → GoesOn left ahead left ahead first first
+goes_on_none left ahead first within = record { kept = keeps_same left; grows = grows_none ahead; from = omega arith; within = within }
+
+pub goes_on_more : (left now after : Option (List ℕ)) (old new newer : List ℕ) (first end next : ℕ) → GoesOn left old now new first end → Keeps now after
+    → Grows new newer → end ≤ next → next ≤ length newer → GoesOn left old after newer first next
+goes_on_more left now after old new newer first end next g keeps grows more within =
+    record {
+      kept = keeps_then left now after g.kept keeps;
+      grows = grows_then old new newer g.grows grows;
+      from = omega (arith, g.from);
+      within = within;
     }
 
 -- an end that is found lies within what was scanned

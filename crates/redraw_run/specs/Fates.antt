@@ -16,6 +16,7 @@ use Rattle.redraw_command.specs.declared.stop.Stop.TheVariants.{Memory, Unwritab
 use Rattle.redraw_report.specs.declared.diagnostic.Diagnostic.{Diagnostic}
 use Rattle.redraw_run.specs.Deeds.{State, Deed, Drawn, Commanded, Compared, HandedOn, Told, Refused, LeftOut, Repeated, BuildFailed, Does, IsCutShort}
 use Rattle.redraw_run.specs.Deeds.{IsPartOfDeeds}
+use Rattle.redraw_run.specs.FindingLines.{AreOfFinding}
 use Rattle.redraw_run.specs.declared.kind.Kind.{Kind}
 use Rattle.redraw_run.specs.declared.kind.Kind.TheVariants as kind
 
@@ -225,11 +226,20 @@ IsObject piece text c deeds =
     ⊎ (Reads text None × IsHandedOn piece c deeds)
     ⊎ ((d : Data) × Reads text (Some d) × IsValue piece d c deeds)
 
--- what becomes of a piece with this text: one that doesn't begin as an object does is handed on
+-- what becomes of lines that tell of a finding: they are handed on, or this becomes of it, where lines of compilers are read too
+abbrev pub IsFindingOrText : List ℕ → Choice → List Deed → Type 0
+IsFindingOrText lines c deeds = IsHandedOn lines c deeds ⊎ ((c.reads_lines ≡ true) × IsReported c deeds)
+
+-- some lines tell of a finding, where lines of compilers are read too, and this becomes of that
+abbrev pub IsTold : List ℕ → Choice → List Deed → Type 0
+IsTold lines c deeds = AreOfFinding lines × (c.reads_lines ≡ true) × IsReported c deeds
+
+-- what becomes of a piece with this text: one that doesn't begin as an object does is handed on, unless it tells of a finding
 abbrev pub IsPieceWith : List ℕ → List ℕ → Choice → List Deed → Type 0
 IsPieceWith piece text c deeds =
     ((begins_object text ≡ false) × IsHandedOn piece c deeds)
     ⊎ ((begins_object text ≡ true) × IsObject piece text c deeds)
+    ⊎ IsTold text c deeds
 
 -- what becomes of a piece
 abbrev pub IsFateOfPiece : List ℕ → Choice → List Deed → Type 0

@@ -1,6 +1,7 @@
 pub mod Deeds
 pub mod DrawnFinding
 pub mod Fates
+pub mod FindingLines
 pub mod HtmlDocument
 pub mod Inputs
 pub mod Pieces

@@ -6,6 +6,7 @@ use Rattle.serde_json.specs.Data.{Data}
 use Rattle.serde_json.specs.View.{view}
 use Rattle.redraw_command.specs.Line.{begins_document, begins_object}
 use Rattle.redraw_run.specs.Fates.{IsTextOf, Reads}
+use Rattle.redraw_run.specs.FindingLines.{AreOfFinding}
 use Rattle.redraw_run.specs.ReadLines.{IsPieceOf}
 use Rattle.redraw_run.specs.declared.piece.Form.{Form}
 use Rattle.redraw_run.specs.declared.piece.Form.TheVariants as forms
@@ -22,6 +23,7 @@ IsReadAs text forms.List = (begins_object text ≡ false) × (begins_document te
 IsReadAs text forms.Undecoded = (begins_object text ≡ true) × (IsUtf8 text → ⊥)
 IsReadAs text forms.Blank = begins_object text ≡ false
 IsReadAs text forms.Begins = IsOther text
+IsReadAs text forms.Finding = AreOfFinding text
 IsReadAs text forms.Other = IsOther text
 
 -- a piece is of this form: its text is, after the mark of the order of bytes if it has that

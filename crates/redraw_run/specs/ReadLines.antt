@@ -8,6 +8,7 @@ use Rattle.redraw_command.specs.Tally.{is_empty}
 use Rattle.redraw_command.specs.Told.{Tells}
 use Rattle.redraw_command.specs.declared.tally.Tally.{Tally}
 use Rattle.redraw_run.specs.Fates.{IsTextOf, Reads}
+use Rattle.redraw_run.specs.FindingLines.{AreOfFinding}
 
 -- a piece is a document: its text is a value of JSON that begins as an object or a list does
 pub record IsDocument (piece : List ℕ) : Type 0 where
@@ -17,9 +18,10 @@ pub record IsDocument (piece : List ℕ) : Type 0 where
   pub value : Data
   pub reads : Reads text (Some value)
 
--- some bytes begin with this piece: it is their first line, up to a line feed and with it, or all that there is; or it is a document
+-- some bytes begin with this piece: it is their first line, up to a line feed and with it, or all that there is; or it is a document; or it
+-- is lines of a finding
 abbrev pub IsPieceOf : List ℕ → List ℕ → Type 0
-IsPieceOf bytes piece = (piece ≡ take_through 10 bytes) ⊎ IsDocument piece
+IsPieceOf bytes piece = (piece ≡ take_through 10 bytes) ⊎ IsDocument piece ⊎ AreOfFinding piece
 
 -- a piece is taken of some bytes, and these are left
 pub record TakesPiece (bytes piece left : List ℕ) : Type 0 where

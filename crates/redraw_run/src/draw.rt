@@ -51,6 +51,8 @@ pub struct Drawing<'w, S: Drop> {
     pub sources: Sources<S>,
     /// The files that SARIF logs name, which are read by a rule of their own. While a log is drawn they are `sources`.
     pub log_sources: Sources<S>,
+    /// The files that lines may name, where it is asked whether one is at hand.
+    pub line_files: S,
     /// The folder that paths are shown from, where it is known.
     pub folder: Option<String>,
     /// What the columns of SARIF logs count, where that is asked for.

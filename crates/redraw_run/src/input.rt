@@ -12,6 +12,7 @@ ghost use Rattle.output_stream.specs.Standing.{Standing, known};
 
 use crate::draw::Drawing;
 use crate::kind::{Kind, kind_of};
+use crate::lines::draw_lines;
 use crate::piece::{Form, JsonReader};
 use crate::report::{cargo_message, rustc_diagnostic, sarif_log};
 use json_lines::node::Node;
@@ -41,12 +42,12 @@ pub struct Reading {
 }
 
 impl Reading {
-    /// Nothing has been read.
-    pub fn new(alloc: Global) -> Reading {
+    /// Nothing has been read. Where lines of compilers are read too, any line is of a form that is known.
+    pub fn new(alloc: Global, reads_lines: bool) -> Reading {
         Reading {
             alloc,
-            is_known: false,
-            has_objects: false,
+            is_known: reads_lines,
+            has_objects: reads_lines,
             has_others: false,
             line: 1,
         }
@@ -93,6 +94,7 @@ impl Reading {
             Form::Blank => drawing.hand_on(bytes, out),
             Form::List => self.other(bytes, drawing, out),
             Form::Begins => self.other(bytes, drawing, out),
+            Form::Finding => draw_lines(bytes, drawing, out, err),
             Form::Other => self.other(bytes, drawing, out),
         }
     }
@@ -247,7 +249,7 @@ pub fn draw_input<B: BufRead + Drop, S: SourceFiles + Drop, W: Write, V: Write>(
     let count = ahead.line()?;
     drawing.line = 1;
     refuse_utf16(ahead.front(count))?;
-    let mut reading = Reading::new(drawing.alloc);
+    let mut reading = Reading::new(drawing.alloc, drawing.choice.reads_lines);
     draw_pieces(&mut ahead, &mut reading, drawing, out, err)?;
     drawing.line = 0;
     reading.end(drawing, err);
@@ -283,7 +285,7 @@ fn draw_pieces<B: BufRead + Drop, S: SourceFiles + Drop, W: Write, V: Write>(
         × Halts stop pieces (standing drawing.old (known W.contents out.old) (known V.contents err.old))
         (standing drawing.new (known W.contents out.new) (known V.contents err.new))) }
 {
-    let mut reader = JsonReader::new(drawing.alloc);
+    let mut reader = JsonReader::new(drawing.alloc, drawing.choice.reads_lines);
     for number in 1..u64::MAX {
         let next = reader.next_piece(ahead, number == 1)?;
         match next {

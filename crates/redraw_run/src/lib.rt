@@ -4,10 +4,12 @@
 mod difference;
 pub mod draw;
 pub mod files;
+pub mod finding_rows;
 pub mod html;
 pub mod input;
 pub mod json_value;
 pub mod kind;
+pub mod lines;
 pub mod look;
 pub mod piece;
 pub mod readings;
@@ -16,4 +18,5 @@ pub mod run;
 pub mod sarif;
 pub mod text;
 mod verify;
+pub mod word;
 pub mod write;

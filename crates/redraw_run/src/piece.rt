@@ -7,12 +7,14 @@ ghost use Rattle.redraw_command.specs.LookAhead.{ahead_of, left_of};
 ghost use Rattle.redraw_run.specs.Pieces.{Grows, IsNextPiece, IsOfForm, IsOther, IsPieceAhead, IsReadAs};
 ghost use Rattle.redraw_run.specs.ReadLines.{IsDocument};
 
+use crate::finding_rows::{are_of_finding, end_of_finding};
 use crate::json_value::json_of;
 use json::Scratch;
 use redraw_command::ahead::Ahead;
 use redraw_command::line::{Line, line_of, mark_length};
 use redraw_command::scanner::{Scan, Scanner};
 use redraw_command::stop::Stop;
+use redraw_sarif::lines::begins_finding;
 use serde_json::Value;
 use std::alloc::{AllocError, Global};
 use std::io::BufRead;
@@ -30,6 +32,8 @@ pub enum Form {
     Blank,
     /// It is no value, and a document may begin with it.
     Begins,
+    /// The first of its lines tells of a finding, and the others belong to that.
+    Finding,
     /// It is none of the program's business.
     Other,
 }
@@ -48,14 +52,17 @@ pub struct JsonReader {
     alloc: Global,
     /// It is kept from piece to piece.
     scratch: Scratch,
+    /// Whether lines of compilers are read too.
+    reads_lines: bool,
 }
 
 impl JsonReader {
     /// Nothing has been read.
-    pub fn new(alloc: Global) -> JsonReader {
+    pub fn new(alloc: Global, reads_lines: bool) -> JsonReader {
         JsonReader {
             alloc,
             scratch: Scratch::new(alloc),
+            reads_lines,
         }
     }
 
@@ -98,18 +105,22 @@ impl JsonReader {
         Ok(Some(piece))
     }
 
-    /// The document that begins with this line, if there is one; else the line.
+    /// The document that begins with this line, or the lines of the finding that it tells of; else the line.
     fn whole<B: BufRead + Drop>(
         &mut self,
         line: Piece,
         ahead: &mut Ahead<B>,
         is_first: bool,
     ) -> Result<Piece, Stop>
+        requires { line.count ≤ length (ahead_of ahead.old) }
         ensures found { (left : Option (List ℕ)) → IsPieceAhead left (ahead_of ahead.old) line
             → IfOk result (λ piece. IsPieceAhead left (ahead_of ahead.new) piece) }
         ensures kept { OnOk result (Keeps (left_of B.remaining ahead.old) (left_of B.remaining ahead.new)) }
         ensures stops { IfErr result IsHalt }
     {
+        if self.reads_lines && matches!(line.form, Form::Other) {
+            return with_rows(line, ahead);
+        }
         if !matches!(line.form, Form::Begins) {
             return Ok(line);
         }
@@ -176,6 +187,28 @@ impl JsonReader {
             }
             Err(_) => Ok(unread(text.starts_with('['))),
         }
+    }
+}
+
+/// A line with those after it that belong to what it tells of, if it tells of a finding; else the line.
+fn with_rows<B: BufRead + Drop>(line: Piece, ahead: &mut Ahead<B>) -> Result<Piece, Stop>
+    requires { line.count ≤ length (ahead_of ahead.old) }
+    ensures found { (left : Option (List ℕ)) → IsPieceAhead left (ahead_of ahead.old) line
+        → IfOk result (λ piece. IsPieceAhead left (ahead_of ahead.new) piece) }
+    ensures kept { OnOk result (Keeps (left_of B.remaining ahead.old) (left_of B.remaining ahead.new)) }
+    ensures stops { IfErr result IsHalt }
+{
+    if !begins_finding(ahead.front(line.count)) {
+        return Ok(line);
+    }
+    let count = end_of_finding(ahead, line.count)?;
+    if are_of_finding(ahead.front(count)) {
+        Ok(Piece {
+            count,
+            form: Form::Finding,
+        })
+    } else {
+        Ok(line)
     }
 }
 

@@ -125,6 +125,9 @@ fn draw_all<'w, R: Files + Input + AllocGlobal, W: Write, V: Write>(
     let outside = Cell::new(0);
     let line_files = FilesUnder::for_lines(rt, &request, &outside);
     let log_files = FilesUnder::for_logs(rt, &request, &outside);
+    // A line that names a file elsewhere passes through, and isn't counted.
+    let unheard = Cell::new(0);
+    let asked_files = FilesUnder::for_lines(rt, &request, &unheard);
     let renderer = renderer_for(&request.look, around);
     let tally = Tally::new();
     let mut drawing = Drawing {
@@ -133,6 +136,7 @@ fn draw_all<'w, R: Files + Input + AllocGlobal, W: Write, V: Write>(
         choice: request.choice,
         sources: Sources::new(alloc, line_files),
         log_sources: Sources::new(alloc, log_files),
+        line_files: asked_files,
         folder,
         columns: request.columns,
         tally,

@@ -1,7 +1,7 @@
 use Rattle.serde_json.specs.View.{view}
-use Rattle.redraw_run.specs.Fates.{IsFateOfPiece, IsHandedOn, IsValue}
+use Rattle.redraw_run.specs.Fates.{IsFateOfPiece, IsFindingOrText, IsHandedOn, IsValue}
 use Rattle.redraw_run.proofs.Doing.{does_as, goes_as}
-use Rattle.redraw_run.proofs.Lined.{hands_begun, hands_blank, hands_list, hands_other, value_becomes, wrong_becomes}
+use Rattle.redraw_run.proofs.Lined.{finding_becomes, hands_begun, hands_blank, hands_list, hands_other, value_becomes, wrong_becomes}
 use Rattle.redraw_run.proofs.input.Reading.by_form.Goals as goal
 
 pub returns-in-Object : goal.returns-in-Object
@@ -46,4 +46,12 @@ returns-in-Other g c =
     record {
       does = λ of. goes_as (IsHandedOn bytes) (IsFateOfPiece bytes) _ _ c.other-in-Other.result (hands_other bytes c.args.form c.in-Other.is of _)
           (c.other-in-Other.ensures.does _);
+    }
+
+pub returns-in-Finding : goal.returns-in-Finding
+returns-in-Finding g c =
+    let bytes = c.args.bytes.now in
+    record {
+      does = λ of. goes_as (IsFindingOrText bytes) (IsFateOfPiece bytes) _ _ c.draw_lines.result
+          (finding_becomes bytes c.args.form c.in-Finding.is of _) c.draw_lines.ensures.does;
     }
