@@ -6,6 +6,7 @@
 //! that aren't named here are skipped.
 #![tactic(auto)]
 
+pub mod eslint;
 pub mod excerpt;
 pub mod expectation;
 pub mod fixes;
@@ -14,6 +15,8 @@ pub mod heading;
 pub mod lines;
 pub mod links;
 pub mod location;
+pub mod log;
+pub mod lsp;
 pub mod message;
 pub mod placeholders;
 pub mod primary;

@@ -86,6 +86,11 @@ fn path_at(alloc: Global, run: &Value, address: Address<'_>) -> Result<String, A
     decoded(alloc, local(whole.as_str()))
 }
 
+/// The path that an address names by itself.
+pub fn path_of_uri(alloc: Global, uri: &str) -> Result<String, AllocError> {
+    decoded(alloc, local(uri))
+}
+
 /// Puts the base of this name before an address, and the base that it has itself before that.
 fn add_bases(
     alloc: Global,

@@ -1,0 +1,66 @@
+//! The logs that are values of JSON, of whichever tool, as runs of which each has results.
+
+use crate::eslint::eslint_finding;
+use crate::lsp::lsp_finding;
+use crate::sarif::SarifRun;
+use json_lines::lenient::{LenientNode, List, Problems};
+use redraw_report::diagnostic::Diagnostic;
+use std::alloc::{AllocError, Global};
+
+/// How a log is written.
+#[derive(Clone, Copy)]
+pub enum LogForm {
+    /// SARIF: a run is a run of a tool, with its results.
+    Sarif,
+    /// ESLint's list: a run is a file, with its messages.
+    Eslint,
+    /// The Language Server Protocol: a run is a document, with its diagnostics.
+    Lsp,
+}
+
+/// A run of a log.
+#[derive(Drop)]
+pub enum LogRun<'v, 'p> {
+    Sarif(SarifRun<'v, 'p>),
+    Eslint(LenientNode<'v, 'p>),
+    Lsp(LenientNode<'v, 'p>),
+}
+
+impl<'v, 'p> LogRun<'v, 'p> {
+    /// The run that this value describes. What is wrong with it is reported.
+    pub fn new(
+        alloc: Global,
+        form: LogForm,
+        node: LenientNode<'v, 'p>,
+        problems: &mut Problems,
+    ) -> LogRun<'v, 'p> {
+        match form {
+            LogForm::Sarif => LogRun::Sarif(SarifRun::new(alloc, node, problems)),
+            LogForm::Eslint => LogRun::Eslint(node),
+            LogForm::Lsp => LogRun::Lsp(node),
+        }
+    }
+
+    /// The results of the run.
+    pub fn results(&self, problems: &mut Problems) -> List<'v, '_> {
+        match self {
+            LogRun::Sarif(run) => run.results(problems),
+            LogRun::Eslint(file) => file.list("messages", problems),
+            LogRun::Lsp(document) => document.list("diagnostics", problems),
+        }
+    }
+
+    /// What a result of the run reports; `None` for a value that is no object, which is reported as wrong.
+    pub fn finding(
+        &self,
+        alloc: Global,
+        reported: &LenientNode<'v, '_>,
+        problems: &mut Problems,
+    ) -> Result<Option<Diagnostic>, AllocError> {
+        match self {
+            LogRun::Sarif(run) => run.finding(alloc, reported, problems),
+            LogRun::Eslint(file) => eslint_finding(alloc, file, reported, problems),
+            LogRun::Lsp(document) => lsp_finding(alloc, document, reported, problems),
+        }
+    }
+}
