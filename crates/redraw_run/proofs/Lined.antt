@@ -15,7 +15,7 @@ use Rattle.redraw_command.specs.declared.choice.Choice.{Choice}
 use Rattle.redraw_command.specs.declared.stop.Stop.{Stop}
 use Rattle.redraw_command.specs.declared.stop.Stop.TheVariants.{Memory}
 use Rattle.redraw_run.specs.Deeds.{State, Deed, Does, IsPartOfDeeds, Stops}
-use Rattle.redraw_run.specs.Fates.{AreNone, Each, IsFateOfPiece, IsFindingOrText, IsHandedOn, IsTextOf, IsValue, IsWithoutEnd, IsWrong}
+use Rattle.redraw_run.specs.Fates.{AreNone, Each, IsFateOfPiece, IsFindingOrText, IsHandedOn, IsList, IsTextOf, IsValue, IsWithoutEnd, IsWrong}
 use Rattle.redraw_run.specs.Pieces.{IsOfForm, IsPieceAhead}
 use Rattle.redraw_run.specs.ReadLines.{AreAllOf, AreFirstOf, AreReadPieces, AreTaken, IsPieceOf, TakesPiece}
 use Rattle.redraw_run.specs.declared.piece.Form.{Form}
@@ -136,14 +136,17 @@ other_handed piece (text, is, inr (begins, none)) c ds h = (text, is, inr (inl (
 blank_handed : (piece : List ℕ) → IsOfForm piece forms.Blank → HandsOn piece
 blank_handed piece (text, is, begins) c ds h = (text, is, inl (begins, h))
 
-list_handed : (piece : List ℕ) → IsOfForm piece forms.List → HandsOn piece
-list_handed piece (text, is, read) c ds h = (text, is, inl (read.0, h))
+list_read : (piece : List ℕ) (v : Value) → IsOfForm piece (forms.List v) → (c : Choice) (ds : List Deed) → IsList piece c ds → IsFateOfPiece piece c ds
+list_read piece v (text, is, read) c ds (inl h) = (text, is, inl (read.0, h))
+list_read piece v (text, is, read) c ds (inr h) = (text, is, inr (inr (inr (read.1, h))))
 
 pub hands_blank : (piece : List ℕ) (f : Form) → f ≡ forms.Blank → IsOfForm piece f → HandsOn piece
 hands_blank piece f same of = blank_handed piece (subst (IsOfForm piece) same of)
 
-pub hands_list : (piece : List ℕ) (f : Form) → f ≡ forms.List → IsOfForm piece f → HandsOn piece
-hands_list piece f same of = list_handed piece (subst (IsOfForm piece) same of)
+-- a list is handed on, or becomes what ESLint's log does
+pub list_becomes : (piece : List ℕ) (f : Form) (v : Value) → f ≡ forms.List v → IsOfForm piece f → (c : Choice) (ds : List Deed) → IsList piece c ds
+    → IsFateOfPiece piece c ds
+list_becomes piece f v same of = list_read piece v (subst (IsOfForm piece) same of)
 
 pub hands_begun : (piece : List ℕ) (f : Form) → f ≡ forms.Begins → IsOfForm piece f → HandsOn piece
 hands_begun piece f same of = other_handed piece (subst (IsOfForm piece) same of)
@@ -170,7 +173,7 @@ wrong_becomes piece f same of = undecoded_wrong piece (subst (IsOfForm piece) sa
 told_becomes : (piece : List ℕ) → IsOfForm piece forms.Finding → (c : Choice) (ds : List Deed) → IsFindingOrText piece c ds
     → IsFateOfPiece piece c ds
 told_becomes piece (text, is, read) c ds (inl h) = (text, is, inl (read.first, h))
-told_becomes piece (text, is, read) c ds (inr h) = (text, is, inr (inr (read, h.0, h.1)))
+told_becomes piece (text, is, read) c ds (inr h) = (text, is, inr (inr (inl (read, h.0, h.1))))
 
 -- lines of a finding are handed on, or become what it does
 pub finding_becomes : (piece : List ℕ) (f : Form) → f ≡ forms.Finding → IsOfForm piece f → (c : Choice) (ds : List Deed) → IsFindingOrText piece c ds

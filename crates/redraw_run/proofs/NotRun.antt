@@ -16,7 +16,8 @@ use Rattle.redraw_run.specs.declared.look.ReportRenderer.{ReportRenderer}
 use Rattle.redraw_run.specs.declared.kind.Kind.{Kind}
 use Rattle.redraw_run.specs.declared.kind.Kind.TheVariants as kind
 use Rattle.redraw_run.specs.Deeds.{State, Deed, Drawn, Commanded, Compared, HandedOn, Told, Refused, LeftOut, Repeated, BuildFailed, tally_by, with_files}
-use Rattle.redraw_run.specs.Fates.{AreMessages, Each, IsDiagnosed, IsFound, IsKnown, IsFateOfPiece, IsLog, IsReported, IsResult, IsLogRun, IsShown, IsTaking}
+use Rattle.redraw_run.specs.Fates.{AreMessages, AreRuns, Each, IsDiagnosed, IsFound, IsKnown}
+use Rattle.redraw_run.specs.Fates.{IsFateOfPiece, IsLog, IsReported, IsResult, IsLogRun, IsShown, IsTaking}
 use Rattle.redraw_run.specs.FindingLines.{names_line}
 use Rattle.redraw_run.specs.ReadLines.{IsPieceOf}
 use Rattle.redraw_run.specs.Run.{Finishes, nothing_begun}
@@ -127,6 +128,8 @@ known_unhanded kind.Cargo c ds h = diagnosed_unhanded c ds h
 known_unhanded kind.Failed c ds h = subst Unhanded (sym h) tt
 known_unhanded kind.Other c ds h = subst Unhanded (sym h) tt
 known_unhanded kind.Sarif c ds h = log_unhanded c ds h
+known_unhanded kind.Lsp c ds h = run_unhanded c ds h
+known_unhanded kind.LspNotification c ds h = run_unhanded c ds h
 
 both_handed : (k : Kind) (c : Choice) (d : Diagnostic) (text line : List ℕ) → IsKnown k c (Drawn d text ∷ HandedOn line ∷ []) → ⊥
 unfolding Unhanded
@@ -136,6 +139,11 @@ report_handed : (c : Choice) (d : Diagnostic) (text line : List ℕ) → IsRepor
 unfolding Unhanded
 report_handed c d text line h = reported_unhanded c (Drawn d text ∷ HandedOn line ∷ []) h
 
+runs_handed : (c : Choice) (d : Diagnostic) (text line : List ℕ) → AreRuns c (Drawn d text ∷ HandedOn line ∷ []) → ⊥
+unfolding Unhanded
+runs_handed c d text line h =
+    each_unhanded (λ (run : Data). IsLogRun) c (λ x es m. run_unhanded c es m) h.0 (Drawn d text ∷ HandedOn line ∷ []) h.1
+
 -- a finding is drawn, and the line that reports it is handed on too
 pub drawn_and_handed_on : (line : List ℕ) (c : Choice) (d : Diagnostic) (text : List ℕ) → IsFateOfPiece line c (Drawn d text ∷ HandedOn line ∷ []) → ⊥
 drawn_and_handed_on line c d text (t, is, inl h) = cc h.1
@@ -144,7 +152,8 @@ drawn_and_handed_on line c d text (t, is, inr (inl (begins, inr (inl (none, h)))
 drawn_and_handed_on line c d text (t, is, inr (inl (begins, inr (inr (v, reads, (Some k, of, h)))))) = both_handed k c d text line h
 drawn_and_handed_on line c d text (t, is, inr (inl (begins, inr (inr (v, reads, (None, of, inl h)))))) = cc h.1
 drawn_and_handed_on line c d text (t, is, inr (inl (begins, inr (inr (v, reads, (None, of, inr h)))))) = cc h
-drawn_and_handed_on line c d text (t, is, inr (inr (finding, asked, h))) = report_handed c d text line h
+drawn_and_handed_on line c d text (t, is, inr (inr (inl (finding, asked, h)))) = report_handed c d text line h
+drawn_and_handed_on line c d text (t, is, inr (inr (inr (begins, h)))) = runs_handed c d text line h
 
 -- a diagnostic of rustc is drawn twice
 pub drawn_twice : (c : Choice) (d : Diagnostic) (text : List ℕ) → IsKnown kind.Rustc c (Drawn d text ∷ Drawn d text ∷ []) → ⊥
@@ -163,7 +172,8 @@ drawn_twice c d text (inr (inr (f, inr (taken, inr (inr (inr (form, inr h)))))))
 pub noise_told : (c : Choice) (part : List ℕ) → IsFateOfPiece (97 ∷ 10 ∷ []) c (HandedOn (97 ∷ 10 ∷ []) ∷ Told part ∷ []) → ⊥
 noise_told c part (text, inl is, inl h) = cc h.1
 noise_told c part (text, inl is, inr (inl h)) = cc (ap begins_object is, h.0)
-noise_told c part (text, inl is, inr (inr h)) = cc (ap names_line is, h.0.names)
+noise_told c part (text, inl is, inr (inr (inl h))) = cc (ap names_line is, h.0.names)
+noise_told c part (text, inl is, inr (inr (inr h))) = cc (ap begins_document is, h.0)
 noise_told c part (text, inr is, h) = cc is
 
 -- two lines, here `a` and `b`, are taken as one piece

@@ -59,8 +59,8 @@ object_is : (piece : List ℕ) (v : Value) → IsOfForm piece (forms.Object v) �
 object_is piece v (text, is, (begins, reads)) =
     record { text = text; is = is; begins = object_document text begins; value = view v; reads = reads }
 
-list_is : (piece : List ℕ) → IsOfForm piece forms.List → IsDocument piece
-list_is piece (text, is, (object, begins, (d, reads))) = record { text = text; is = is; begins = begins; value = d; reads = reads }
+list_is : (piece : List ℕ) (v : Value) → IsOfForm piece (forms.List v) → IsDocument piece
+list_is piece v (text, is, (object, begins, reads)) = record { text = text; is = is; begins = begins; value = view v; reads = reads }
 
 -- a piece that is an object or a list is a document
 pub object_found : (piece : List ℕ) (f : Form) (v : Value) → f ≡ forms.Object v → IsOfForm piece f → IsOfForm piece (forms.Object v) × IsDocument piece
@@ -68,10 +68,10 @@ object_found piece f v same of =
     let object : IsOfForm piece (forms.Object v) = subst (IsOfForm piece) same of in
     (object, object_is piece v object)
 
-pub list_found : (piece : List ℕ) (f : Form) → f ≡ forms.List → IsOfForm piece f → IsOfForm piece forms.List × IsDocument piece
-list_found piece f same of =
-    let list : IsOfForm piece forms.List = subst (IsOfForm piece) same of in
-    (list, list_is piece list)
+pub list_found : (piece : List ℕ) (f : Form) (v : Value) → f ≡ forms.List v → IsOfForm piece f → IsOfForm piece (forms.List v) × IsDocument piece
+list_found piece f v same of =
+    let list : IsOfForm piece (forms.List v) = subst (IsOfForm piece) same of in
+    (list, list_is piece v list)
 
 taken_some : (count : ℕ) (ahead : List ℕ) → 0 < length (take count ahead) → 0 < count
 taken_some count ahead some = omega (arith, some, length-take count ahead)

@@ -7,7 +7,7 @@ use Rattle.serde_json.specs.Data.{Data}
 use Rattle.serde_json.specs.Find.{get}
 use Rattle.serde_json.specs.Read.{read}
 use Rattle.redraw_command.specs.Choice.{IsTaken}
-use Rattle.redraw_command.specs.Line.{begins_object, begins_utf16, mark}
+use Rattle.redraw_command.specs.Line.{begins_document, begins_object, begins_utf16, mark}
 use Rattle.redraw_command.specs.Workflow.{command}
 use Rattle.redraw_command.specs.declared.choice.Choice.{Choice}
 use Rattle.redraw_command.specs.declared.choice.OutputForm.TheVariants.{Report, Workflow, Verify}
@@ -154,6 +154,31 @@ IsCargoKind reason d kind.Cargo = reason ≡ codes "compiler-message"
 IsCargoKind reason d kind.Failed = IsFailure reason d
 IsCargoKind reason d kind.Other = (reason ≢ codes "compiler-message") × (IsFailure reason d → ⊥)
 IsCargoKind reason d kind.Sarif = ⊥
+IsCargoKind reason d kind.Lsp = ⊥
+IsCargoKind reason d kind.LspNotification = ⊥
+
+-- a value is diagnostics of a document
+abbrev pub HasDiagnostics : Data → Type 0
+HasDiagnostics d = Has (codes "uri") d × Has (codes "diagnostics") d
+
+-- a value is a notification that has such
+abbrev pub IsNotification : Data → Type 0
+IsNotification d = text_field (codes "method") d ≡ Some (codes "textDocument/publishDiagnostics")
+
+-- what a value is of the Language Server Protocol
+abbrev pub IsLspKind : Data → Option Kind → Type 0
+IsLspKind d (Some kind.Rustc) = ⊥
+IsLspKind d (Some kind.Cargo) = ⊥
+IsLspKind d (Some kind.Failed) = ⊥
+IsLspKind d (Some kind.Other) = ⊥
+IsLspKind d (Some kind.Sarif) = ⊥
+IsLspKind d (Some kind.Lsp) = HasDiagnostics d
+IsLspKind d (Some kind.LspNotification) = (HasDiagnostics d → ⊥) × IsNotification d
+IsLspKind d None = (HasDiagnostics d → ⊥) × (IsNotification d → ⊥)
+
+-- the same of one that is no message of rustc
+abbrev pub IsOfLsp : Data → Option Kind → Type 0
+IsOfLsp d found = (IsRustc d → ⊥) × Lacks (codes "$message_type") d × IsLspKind d found
 
 -- what a value without a reason is, and that isn't a log: a diagnostic of rustc, another message of it, or nothing that is known
 abbrev pub IsRustcKind : Data → Option Kind → Type 0
@@ -162,7 +187,9 @@ IsRustcKind d (Some kind.Cargo) = ⊥
 IsRustcKind d (Some kind.Failed) = ⊥
 IsRustcKind d (Some kind.Other) = (IsRustc d → ⊥) × Has (codes "$message_type") d
 IsRustcKind d (Some kind.Sarif) = ⊥
-IsRustcKind d None = (IsRustc d → ⊥) × Lacks (codes "$message_type") d
+IsRustcKind d (Some kind.Lsp) = IsOfLsp d (Some kind.Lsp)
+IsRustcKind d (Some kind.LspNotification) = IsOfLsp d (Some kind.LspNotification)
+IsRustcKind d None = IsOfLsp d None
 
 -- what a value that isn't a log is, by its reason
 abbrev pub IsMessageKind : Option (List ℕ) → Data → Option Kind → Type 0
@@ -184,6 +211,8 @@ IsKnown kind.Cargo = IsDiagnosed
 IsKnown kind.Failed = IsFailed
 IsKnown kind.Other = AreNone
 IsKnown kind.Sarif = IsLog
+IsKnown kind.Lsp = IsLogRun
+IsKnown kind.LspNotification = IsLogRun
 
 -- what becomes of a value of no form that is known, which is this piece: it is left out as wrong, or handed on
 abbrev pub IsUnknown : List ℕ → Choice → List Deed → Type 0
@@ -234,12 +263,18 @@ IsFindingOrText lines c deeds = IsHandedOn lines c deeds ⊎ ((c.reads_lines ≡
 abbrev pub IsTold : List ℕ → Choice → List Deed → Type 0
 IsTold lines c deeds = AreOfFinding lines × (c.reads_lines ≡ true) × IsReported c deeds
 
--- what becomes of a piece with this text: one that doesn't begin as an object does is handed on, unless it tells of a finding
+-- what becomes of a list, which is this piece: it is handed on; or it is ESLint's log, and this becomes of the messages of its files
+abbrev pub IsList : List ℕ → Choice → List Deed → Type 0
+IsList piece c deeds = IsHandedOn piece c deeds ⊎ AreRuns c deeds
+
+-- what becomes of a piece with this text: one that doesn't begin as an object does is handed on, unless it tells of a finding, or is a log
+-- of ESLint
 abbrev pub IsPieceWith : List ℕ → List ℕ → Choice → List Deed → Type 0
 IsPieceWith piece text c deeds =
     ((begins_object text ≡ false) × IsHandedOn piece c deeds)
     ⊎ ((begins_object text ≡ true) × IsObject piece text c deeds)
     ⊎ IsTold text c deeds
+    ⊎ ((begins_document text ≡ true) × AreRuns c deeds)
 
 -- what becomes of a piece
 abbrev pub IsFateOfPiece : List ℕ → Choice → List Deed → Type 0

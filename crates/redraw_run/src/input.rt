@@ -5,16 +5,18 @@ ghost use Rattle.redraw_command.specs.Line.{begins_utf16};
 ghost use Rattle.redraw_command.specs.LookAhead.{left_of};
 ghost use Rattle.redraw_run.specs.Deeds.{Does, Happens, standing};
 ghost use Rattle.redraw_run.specs.Fates.{Each, Halts, IsEnd, IsFateOfPiece, IsHandedOn, IsInput, IsKnown, IsUnknown};
-ghost use Rattle.redraw_run.specs.Fates.{IsValue};
+ghost use Rattle.redraw_run.specs.Fates.{IsList, IsValue};
 ghost use Rattle.redraw_run.specs.Pieces.{IsOfForm};
 ghost use Rattle.redraw_run.specs.ReadLines.{AreAllOf, AreFirstOf, TellsUnless};
 ghost use Rattle.output_stream.specs.Standing.{Standing, known};
 
 use crate::draw::Drawing;
-use crate::kind::{Kind, kind_of};
+use crate::kind::{Kind, eslint_files, kind_of};
 use crate::lines::draw_lines;
 use crate::piece::{Form, JsonReader};
-use crate::report::{cargo_message, rustc_diagnostic, sarif_log};
+use crate::report::{
+    cargo_message, eslint_log, lsp_document, lsp_notification, rustc_diagnostic, sarif_log,
+};
 use json_lines::node::Node;
 use json_lines::place::JsonPath;
 use memchr::memchr;
@@ -92,7 +94,7 @@ impl Reading {
                 Ok(())
             }
             Form::Blank => drawing.hand_on(bytes, out),
-            Form::List => self.other(bytes, drawing, out),
+            Form::List(value) => self.list(&value, bytes, drawing, out, err),
             Form::Begins => self.other(bytes, drawing, out),
             Form::Finding => draw_lines(bytes, drawing, out, err),
             Form::Other => self.other(bytes, drawing, out),
@@ -132,6 +134,29 @@ impl Reading {
                 "nothing in it is a message of rustc or cargo or a SARIF log",
                 err,
             );
+        }
+    }
+
+    /// Takes a list, which this piece is: ESLint's log is drawn, and any other is handed on.
+    fn list<S: SourceFiles + Drop, W: Write, V: Write>(
+        &mut self,
+        value: &Value,
+        piece: &[u8],
+        drawing: &mut Drawing<'_, S>,
+        out: &mut Stream<W>,
+        err: &mut Stream<V>,
+    ) -> Result<(), Stop>
+        ensures does { Happens result (IsList piece.now)
+            (standing drawing.old (known W.contents out.old) (known V.contents err.old))
+            (standing drawing.new (known W.contents out.new) (known V.contents err.new)) }
+    {
+        match eslint_files(value) {
+            Some(files) => {
+                self.is_known = true;
+                self.has_objects = true;
+                eslint_log(files, drawing, out, err)
+            }
+            None => self.other(piece, drawing, out),
         }
     }
 
@@ -206,6 +231,8 @@ impl Reading {
             }
             Kind::Other => Ok(()),
             Kind::Sarif => sarif_log(&node, drawing, out, err),
+            Kind::Lsp => lsp_document(value, JsonPath::Document, drawing, out, err),
+            Kind::LspNotification => lsp_notification(value, drawing, out, err),
         }
     }
 }

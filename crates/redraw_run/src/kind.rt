@@ -2,7 +2,7 @@
 ghost use Rattle.std.specs.Prelude.{◌≡◌, ◌↔◌, Some, false, IsTrue, codes};
 ghost use Rattle.json_lines.specs.Field.{flag_field};
 ghost use Rattle.serde_json.specs.View.{view};
-ghost use Rattle.redraw_run.specs.Fates.{IsCargoKind, IsOfKind};
+ghost use Rattle.redraw_run.specs.Fates.{IsCargoKind, IsLspKind, IsOfKind};
 
 use serde_json::Value;
 
@@ -19,6 +19,10 @@ pub enum Kind {
     Other,
     /// A SARIF log.
     Sarif,
+    /// Diagnostics of a document, as the Language Server Protocol has them.
+    Lsp,
+    /// A notification of it that has these.
+    LspNotification,
 }
 
 /// What this value is; `None` where it is none of them.
@@ -36,6 +40,21 @@ pub fn kind_of(value: &Value) -> Option<Kind>
     }
     if value.get("$message_type").is_some() {
         Some(Kind::Other)
+    } else {
+        lsp_kind(value)
+    }
+}
+
+/// What a value is of the Language Server Protocol; `None` where it is nothing that is known.
+fn lsp_kind(value: &Value) -> Option<Kind>
+    ensures kind { IsLspKind (view value.now) result }
+{
+    if value.get("uri").is_some() && value.get("diagnostics").is_some() {
+        Some(Kind::Lsp)
+    } else if value.get("method").and_then(Value::as_str)
+        == Some("textDocument/publishDiagnostics")
+    {
+        Some(Kind::LspNotification)
     } else {
         None
     }
@@ -59,4 +78,15 @@ fn is_failed(value: &Value) -> bool
     ensures failed { IsTrue result ↔ (flag_field (codes "success") (view value.now) ≡ Some false) }
 {
     value.get("success").and_then(Value::as_bool) == Some(false)
+}
+
+/// The files of ESLint's log, if a list is one: its first item is an object with a path and messages.
+pub fn eslint_files(value: &Value) -> Option<&[Value]> {
+    let files = value.as_array()?.as_slice();
+    let first = files.first()?;
+    if first.get("filePath").is_some() && first.get("messages").is_some() {
+        Some(files)
+    } else {
+        None
+    }
 }

@@ -25,7 +25,7 @@ pub enum Form {
     /// An object of JSON.
     Object(Value),
     /// A list of JSON.
-    List,
+    List(Value),
     /// It begins as an object does, and isn't UTF-8.
     Undecoded,
     /// It is nothing but blanks.
@@ -181,10 +181,7 @@ impl JsonReader {
     {
         let read = json_of(self.alloc, text, &mut self.scratch)?;
         match read {
-            Ok(value) => {
-                drop(value);
-                Ok(Form::List)
-            }
+            Ok(value) => Ok(Form::List(value)),
             Err(_) => Ok(unread(text.starts_with('['))),
         }
     }
@@ -229,9 +226,9 @@ fn document_of(count: usize, form: Form) -> Option<Piece>
             count,
             form: Form::Object(value),
         }),
-        Form::List => Some(Piece {
+        Form::List(value) => Some(Piece {
             count,
-            form: Form::List,
+            form: Form::List(value),
         }),
         _ => None,
     }

@@ -1,21 +1,24 @@
 //! Values that hold what they report: a diagnostic of rustc, a message of cargo, and a SARIF log.
 ghost use Rattle.redraw_run.specs.Deeds.{Happens, standing};
-ghost use Rattle.redraw_run.specs.Fates.{IsDiagnosed, IsErrorLost, IsLog};
+ghost use Rattle.redraw_run.specs.Fates.{AreRuns, IsDiagnosed, IsErrorLost, IsLog, IsLogRun};
 ghost use Rattle.output_stream.specs.Standing.{Standing, known};
 ghost use Rattle.std.specs.Prelude.{◌≡◌};
 
 use crate::draw::Drawing;
 use crate::readings::read_diagnostic;
-use crate::sarif::draw_runs;
+use crate::sarif::{draw_run, draw_runs};
 use crate::verify::keep_own_text;
 use json_lines::expectation::Expectation;
 use json_lines::fault::Fault;
+use json_lines::lenient::LenientNode;
 use json_lines::node::Node;
+use json_lines::place::JsonPath;
 use output_stream::Stream;
 use redraw_command::stop::Stop;
 use redraw_read::json::listed;
 use redraw_read::sources::SourceFiles;
 use redraw_report::diagnostic::Diagnostic;
+use redraw_sarif::log::LogForm;
 use serde_json::Value;
 use std::io::Write;
 use std::mem;
@@ -150,7 +153,74 @@ fn draw_log<S: SourceFiles + Drop, W: Write, V: Write>(
         (standing drawing.new (known W.contents out.new) (known V.contents err.new)) }
 {
     match listed(node, "runs") {
-        Ok(runs) => draw_runs(runs, drawing, out, err),
+        Ok(runs) => {
+            let document = JsonPath::Document;
+            let place = JsonPath::Field(&document, "runs");
+            draw_runs(runs, place, LogForm::Sarif, drawing, out, err)
+        }
         Err(fault) => drawing.finding(Err(fault), None, out, err),
     }
+}
+
+/// Draws diagnostics of a document.
+pub fn lsp_document<S: SourceFiles + Drop, W: Write, V: Write>(
+    document: &Value,
+    place: JsonPath<'_>,
+    drawing: &mut Drawing<'_, S>,
+    out: &mut Stream<W>,
+    err: &mut Stream<V>,
+) -> Result<(), Stop>
+    ensures does { Happens result IsLogRun
+        (standing drawing.old (known W.contents out.old) (known V.contents err.old))
+        (standing drawing.new (known W.contents out.new) (known V.contents err.new)) }
+{
+    drawing.own_text = None;
+    let node = LenientNode {
+        value: document,
+        place,
+    };
+    draw_run(node, LogForm::Lsp, drawing, out, err)
+}
+
+/// Draws the diagnostics of a notification. One without parameters has none.
+pub fn lsp_notification<S: SourceFiles + Drop, W: Write, V: Write>(
+    notification: &Value,
+    drawing: &mut Drawing<'_, S>,
+    out: &mut Stream<W>,
+    err: &mut Stream<V>,
+) -> Result<(), Stop>
+    ensures does { Happens result IsLogRun
+        (standing drawing.old (known W.contents out.old) (known V.contents err.old))
+        (standing drawing.new (known W.contents out.new) (known V.contents err.new)) }
+{
+    let document = JsonPath::Document;
+    let params = notification.get("params").unwrap_or(notification);
+    lsp_document(
+        params,
+        JsonPath::Field(&document, "params"),
+        drawing,
+        out,
+        err,
+    )
+}
+
+/// Draws ESLint's log.
+pub fn eslint_log<S: SourceFiles + Drop, W: Write, V: Write>(
+    files: &[Value],
+    drawing: &mut Drawing<'_, S>,
+    out: &mut Stream<W>,
+    err: &mut Stream<V>,
+) -> Result<(), Stop>
+    ensures does { Happens result AreRuns (standing drawing.old (known W.contents out.old) (known V.contents err.old))
+        (standing drawing.new (known W.contents out.new) (known V.contents err.new)) }
+{
+    drawing.own_text = None;
+    draw_runs(
+        files,
+        JsonPath::Document,
+        LogForm::Eslint,
+        drawing,
+        out,
+        err,
+    )
 }

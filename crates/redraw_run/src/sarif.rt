@@ -1,4 +1,4 @@
-//! A SARIF log, whose results are drawn one after another.
+//! A log, whose results are drawn one after another.
 ghost use Rattle.std.specs.Prelude.{◌≡◌, IfErr, OnOk, map};
 ghost use Rattle.serde_json.specs.View.{view};
 ghost use Rattle.redraw_run.specs.Deeds.{Does, Happens, TellsAll, standing};
@@ -11,13 +11,15 @@ use json_lines::place::JsonPath;
 use output_stream::Stream;
 use redraw_command::stop::Stop;
 use redraw_read::sources::SourceFiles;
-use redraw_sarif::sarif::SarifRun;
+use redraw_sarif::log::{LogForm, LogRun};
 use serde_json::Value;
 use std::io::Write;
 
 /// Draws what the results of a log's runs tell, each before the next is read.
 pub fn draw_runs<S: SourceFiles + Drop, W: Write, V: Write>(
     runs: &[Value],
+    place: JsonPath<'_>,
+    form: LogForm,
     drawing: &mut Drawing<'_, S>,
     out: &mut Stream<W>,
     err: &mut Stream<V>,
@@ -28,20 +30,17 @@ pub fn draw_runs<S: SourceFiles + Drop, W: Write, V: Write>(
         (standing drawing.old (known W.contents out.old) (known V.contents err.old))
         (standing drawing.new (known W.contents out.new) (known V.contents err.new))) }
 {
-    let document = JsonPath::Document;
-    let runs = List {
-        items: runs,
-        place: JsonPath::Field(&document, "runs"),
-    };
+    let runs = List { items: runs, place };
     for (index, value) in runs.items.iter().enumerate() {
-        draw_run(runs.node(index, value), drawing, out, err)?;
+        draw_run(runs.node(index, value), form, drawing, out, err)?;
     }
     Ok(())
 }
 
 /// Draws what the results of a run tell.
-fn draw_run<S: SourceFiles + Drop, W: Write, V: Write>(
+pub fn draw_run<S: SourceFiles + Drop, W: Write, V: Write>(
     node: LenientNode<'_, '_>,
+    form: LogForm,
     drawing: &mut Drawing<'_, S>,
     out: &mut Stream<W>,
     err: &mut Stream<V>,
@@ -50,7 +49,7 @@ fn draw_run<S: SourceFiles + Drop, W: Write, V: Write>(
         (standing drawing.new (known W.contents out.new) (known V.contents err.new)) }
 {
     let mut problems = Problems::new(drawing.alloc);
-    let run = SarifRun::new(drawing.alloc, node, drawing.columns, &mut problems);
+    let run = LogRun::new(drawing.alloc, form, node, drawing.columns, &mut problems);
     let results = run.results(&mut problems);
     tell_all(&problems, drawing, err)?;
     for (index, value) in results.items.iter().enumerate() {
@@ -61,7 +60,7 @@ fn draw_run<S: SourceFiles + Drop, W: Write, V: Write>(
 
 /// Draws what a result of a run reports, after what is wrong with it.
 fn draw_result<'v, S: SourceFiles + Drop, W: Write, V: Write>(
-    run: &SarifRun<'v, '_>,
+    run: &LogRun<'v, '_>,
     reported: &LenientNode<'v, '_>,
     drawing: &mut Drawing<'_, S>,
     out: &mut Stream<W>,

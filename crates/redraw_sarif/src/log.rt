@@ -4,7 +4,7 @@ use crate::eslint::eslint_finding;
 use crate::lsp::lsp_finding;
 use crate::sarif::SarifRun;
 use json_lines::lenient::{LenientNode, List, Problems};
-use redraw_report::diagnostic::Diagnostic;
+use redraw_report::diagnostic::{Diagnostic, Unit};
 use std::alloc::{AllocError, Global};
 
 /// How a log is written.
@@ -27,15 +27,17 @@ pub enum LogRun<'v, 'p> {
 }
 
 impl<'v, 'p> LogRun<'v, 'p> {
-    /// The run that this value describes. What is wrong with it is reported.
+    /// The run that this value describes, whose columns count this, if that is asked for and it is one of SARIF. What
+    /// is wrong with it is reported.
     pub fn new(
         alloc: Global,
         form: LogForm,
         node: LenientNode<'v, 'p>,
+        columns: Option<Unit>,
         problems: &mut Problems,
     ) -> LogRun<'v, 'p> {
         match form {
-            LogForm::Sarif => LogRun::Sarif(SarifRun::new(alloc, node, problems)),
+            LogForm::Sarif => LogRun::Sarif(SarifRun::new(alloc, node, columns, problems)),
             LogForm::Eslint => LogRun::Eslint(node),
             LogForm::Lsp => LogRun::Lsp(node),
         }

@@ -11,5 +11,5 @@ returns-in-Object c =
 pub returns-in-List : goal.returns-in-List
 returns-in-List c =
     record {
-      document = λ bytes of. let (list, is) = list_found bytes c.args.form c.in-List.is of in (refl, list, is);
+      document = λ bytes of. let (list, is) = list_found bytes c.args.form c.in-List.value c.in-List.is of in (refl, list, is);
     }

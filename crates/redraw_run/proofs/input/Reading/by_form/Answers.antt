@@ -1,7 +1,7 @@
 use Rattle.serde_json.specs.View.{view}
-use Rattle.redraw_run.specs.Fates.{IsFateOfPiece, IsFindingOrText, IsHandedOn, IsValue}
+use Rattle.redraw_run.specs.Fates.{IsFateOfPiece, IsFindingOrText, IsHandedOn, IsList, IsValue}
 use Rattle.redraw_run.proofs.Doing.{does_as, goes_as}
-use Rattle.redraw_run.proofs.Lined.{finding_becomes, hands_begun, hands_blank, hands_list, hands_other, value_becomes, wrong_becomes}
+use Rattle.redraw_run.proofs.Lined.{finding_becomes, hands_begun, hands_blank, hands_other, list_becomes, value_becomes, wrong_becomes}
 use Rattle.redraw_run.proofs.input.Reading.by_form.Goals as goal
 
 pub returns-in-Object : goal.returns-in-Object
@@ -28,16 +28,16 @@ pub returns-in-List : goal.returns-in-List
 returns-in-List g c =
     let bytes = c.args.bytes.now in
     record {
-      does = λ of. goes_as (IsHandedOn bytes) (IsFateOfPiece bytes) _ _ c.other.result (hands_list bytes c.args.form c.in-List.is of _)
-          (c.other.ensures.does _);
+      does = λ of. goes_as (IsList bytes) (IsFateOfPiece bytes) _ _ c.list.result (list_becomes bytes c.args.form c.in-List.value c.in-List.is of _)
+          c.list.ensures.does;
     }
 
 pub returns-in-Begins : goal.returns-in-Begins
 returns-in-Begins g c =
     let bytes = c.args.bytes.now in
     record {
-      does = λ of. goes_as (IsHandedOn bytes) (IsFateOfPiece bytes) _ _ c.other-in-Begins.result (hands_begun bytes c.args.form c.in-Begins.is of _)
-          (c.other-in-Begins.ensures.does _);
+      does = λ of. goes_as (IsHandedOn bytes) (IsFateOfPiece bytes) _ _ c.other.result (hands_begun bytes c.args.form c.in-Begins.is of _)
+          (c.other.ensures.does _);
     }
 
 pub returns-in-Other : goal.returns-in-Other

@@ -32,3 +32,17 @@ returns-in-Sarif g c =
       does = goes_as (IsKnown kind.Sarif) (IsKnown c.args.kind) _ _ c.sarif_log.result (as_known c.args.kind kind.Sarif c.in-Sarif.is _)
           c.sarif_log.ensures.does;
     }
+
+pub returns-in-Lsp : goal.returns-in-Lsp
+returns-in-Lsp g c =
+    record {
+      does = goes_as (IsKnown kind.Lsp) (IsKnown c.args.kind) _ _ c.lsp_document.result (as_known c.args.kind kind.Lsp c.in-Lsp.is _)
+          c.lsp_document.ensures.does;
+    }
+
+pub returns-in-LspNotification : goal.returns-in-LspNotification
+returns-in-LspNotification g c =
+    record {
+      does = goes_as (IsKnown kind.LspNotification) (IsKnown c.args.kind) _ _ c.lsp_notification.result
+          (as_known c.args.kind kind.LspNotification c.in-LspNotification.is _) c.lsp_notification.ensures.does;
+    }

@@ -11,11 +11,8 @@ returns-in-Ok c =
       form = λ begins. (
         list_object c.args.text.now begins,
         list_document c.args.text.now begins,
-        (
-          view c.in-Ok.value,
-          match_ok (λ v. Reads c.args.text.now (Some (view v))) (λ e. Reads c.args.text.now None) c.in_ok-read.read c.in-Ok.value c.in-Ok.is
-              c.in_ok-read.ensures.reads,
-        ),
+        match_ok (λ v. Reads c.args.text.now (Some (view v))) (λ e. Reads c.args.text.now None) c.in_ok-read.read c.in-Ok.value c.in-Ok.is
+            c.in_ok-read.ensures.reads,
       );
     }
 
