@@ -12,8 +12,8 @@ use memchr::memchr;
 use redraw_command::ahead::Ahead;
 use redraw_command::line::first_of;
 use redraw_command::stop::Stop;
-use redraw_sarif::excerpt::{Row, row_of, stands_below};
-use redraw_sarif::lines::is_note;
+use redraw_tools::excerpt::{Row, row_of, stands_below};
+use redraw_tools::lines::is_note;
 use std::io::BufRead;
 
 /// The most lines that are kept of a finding after its first. What comes after them is a piece of its own.

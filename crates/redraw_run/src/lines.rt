@@ -10,7 +10,7 @@ use output_stream::Stream;
 use redraw_command::stop::Stop;
 use redraw_read::sources::{SourceFiles, Sources};
 use redraw_report::diagnostic::{Diagnostic, Unit};
-use redraw_sarif::lines::reported;
+use redraw_tools::lines::reported;
 use std::alloc::AllocError;
 use std::io::Write;
 

@@ -14,7 +14,7 @@ use redraw_command::ahead::Ahead;
 use redraw_command::line::{Line, line_of, mark_length};
 use redraw_command::scanner::{Scan, Scanner};
 use redraw_command::stop::Stop;
-use redraw_sarif::lines::begins_finding;
+use redraw_tools::lines::begins_finding;
 use serde_json::Value;
 use std::alloc::{AllocError, Global};
 use std::io::BufRead;

@@ -18,7 +18,7 @@ use redraw_command::stop::Stop;
 use redraw_read::json::listed;
 use redraw_read::sources::SourceFiles;
 use redraw_report::diagnostic::Diagnostic;
-use redraw_sarif::log::LogForm;
+use redraw_tools::log::LogForm;
 use serde_json::Value;
 use std::io::Write;
 use std::mem;

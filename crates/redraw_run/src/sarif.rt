@@ -11,7 +11,7 @@ use json_lines::place::JsonPath;
 use output_stream::Stream;
 use redraw_command::stop::Stop;
 use redraw_read::sources::SourceFiles;
-use redraw_sarif::log::{LogForm, LogRun};
+use redraw_tools::log::{LogForm, LogRun};
 use serde_json::Value;
 use std::io::Write;
 

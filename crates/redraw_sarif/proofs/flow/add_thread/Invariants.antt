@@ -1,6 +1,0 @@
-use Rattle.redraw_sarif.specs.Places.{GoesOn}
-use Rattle.redraw_sarif.proofs.flow.add_thread.Given as goal
-
--- the places that were there come first
-abbrev pub invariant-loop-index : goal.invariant-loop-index
-invariant-loop-index l = GoesOn l.initial.told.spans.items l.told.spans.items
