@@ -1,0 +1,4 @@
+all: stock.o shelf.o
+
+%.o: %.c
+	gcc -Wall -Wextra -c $<
