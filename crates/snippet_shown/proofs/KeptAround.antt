@@ -1,9 +1,10 @@
 -- Which lines a snippet keeps with the lines around those that it kept, and that what stands on its lines stays.
 use Rattle.std.proofs.Common.{◌≡◌, ◌∙◌, ℕ, ◌+◌, ◌-◌, ◌<◌, ◌≤◌, Bool, true, false, ◌&&◌, ◌||◌, eqb, leb, cond, min, List, [], ◌∷◌, ◌++◌, map, length, inl}
-use Rattle.std.proofs.Common.{inr, arith, get_or, zero, suc, refl, sym, ap, ap₂, append-nil}
-use Rattle.std.proofs.lemmas.Bool.{cases_lt, eqb-true, le-leb, lt-leb, or_left, or_right}
+use Rattle.std.proofs.Common.{inr, arith, zero, suc, refl, sym, ap, ap₂, subst, append-nil}
+use Rattle.std.proofs.lemmas.Bool.{and_parts, cases_lt, eqb-true, false≢true, le-leb, leb-true, lt-leb, or_cases, or_left, or_right}
 use Rattle.std.proofs.lemmas.List.Elements.{All-head, All-tail, filter-append}
 use Rattle.std.proofs.lemmas.List.Folds.{list_any-append}
+use Rattle.std.specs.Bool.{⊤}
 use Rattle.std.specs.Cow.{cow_str_bytes}
 use Rattle.std.specs.List.{All, filter, list_any, range_with_len}
 use Rattle.snippet_lines.specs.OrderedBy.{ordered_by}
@@ -20,7 +21,7 @@ use Rattle.snippet_parts.specs.Mark.{touches}
 use Rattle.snippet_parts.specs.Marked.{first_line, last_line}
 use Rattle.snippet_parts.specs.Numbered.{numbered_source}
 use Rattle.snippet_shown.proofs.SpanLemmas.{around-first, around-last}
-use Rattle.snippet_shown.specs.Context.{context_spans, is_line_near, lines_around, span_around, visible_mark}
+use Rattle.snippet_shown.specs.Context.{context_spans, is_line_near, lines_around, reach_after, span_around, spans_around, visible_mark}
 use Rattle.snippet_shown.specs.WithContext.{IsSnippetWithContext, KeepsLinesAround}
 use Rattle.snippet_parts.proofs.PartWords.{is_short, stands_before}
 
@@ -33,15 +34,6 @@ either-later false b x y first rest is = or_right b y (rest is)
 any-later : (p q : ℕ → Bool) → ((k : ℕ) → p k ≡ true → q k ≡ true) → (ks : List ℕ) → list_any p ks ≡ true → list_any q ks ≡ true
 any-later p q later [] none = none
 any-later p q later (k ∷ ks) is = either-later (p k) (q k) (list_any p ks) (list_any q ks) (later k) (any-later p q later ks) is
-
-any-same : (p q : ℕ → Bool) (ks : List ℕ) → All (λ k. p k ≡ q k) ks → list_any p ks ≡ list_any q ks
-any-same p q [] all = refl
-any-same p q (k ∷ ks) all =
-    ap₂ (λ a b. a || b) (All-head (λ k. p k ≡ q k) k ks all) (any-same p q ks (All-tail (λ k. p k ≡ q k) k ks all))
-
-any-map : {A B : Type 0} (f : A → B) (p : B → Bool) (xs : List A) → list_any p (map f xs) ≡ list_any (λ x. p (f x)) xs
-any-map f p [] = refl
-any-map f p (x ∷ xs) = ap (λ b. p (f x) || b) (any-map f p xs)
 
 -- two tests that agree on the lines of a range keep the same of them
 range-same : (p q : ℕ → Bool) (a n : ℕ) → ((k : ℕ) → a ≤ k → k < a + n → p k ≡ q k) → filter p (range_with_len a n) ≡ filter q (range_with_len a n)
@@ -83,23 +75,143 @@ keeps-near before after source j k inside within =
     ∙ ap₂ (λ f l. leb f k && leb k l) (around-first before after source j inside) (around-last before after source j inside)
     ∙ near-between before after (length (source_lines source)) j k inside within
 
+-- ---- lines in order
+
+-- lines in order, none before one
+abbrev pub IsAfter : ℕ → List ℕ → Type 0
+IsAfter last [] = ⊤
+IsAfter last (j ∷ js) = (last ≤ j) × IsAfter j js
+
+after-sooner : (a b : ℕ) (js : List ℕ) → a ≤ b → IsAfter b js → IsAfter a js
+after-sooner a b [] le after = tt
+after-sooner a b (j ∷ js) le after = (omega (arith, after.0), after.1)
+
+-- those of a range that pass a test are in order
+filtered-after : (p : ℕ → Bool) (a n : ℕ) → IsAfter a (filter p (range_with_len a n))
+filtered-after p a zero = tt
+filtered-after p a (suc n) = by (p a) (after-sooner a (a + 1) (filter p (range_with_len (a + 1) n)) (omega arith) (filtered-after p (a + 1) n))
+    (filtered-after p (a + 1) n)
+  where
+    by : (passes : Bool) → IsAfter a (filter p (range_with_len (a + 1) n)) → IsAfter (a + 1) (filter p (range_with_len (a + 1) n))
+        → IsAfter a (cond passes (a ∷ filter p (range_with_len (a + 1) n)) (filter p (range_with_len (a + 1) n)))
+    by true rest later = (omega arith, after-sooner a (a + 1) (filter p (range_with_len (a + 1) n)) (omega arith) later)
+    by false rest later = rest
+
+-- ---- near
+
+is-near : (before after k j : ℕ) → j ≤ k + before → k ≤ j + after → is_line_near before after k j ≡ true
+is-near before after k j from to = ap₂ (λ a b. a && b) (le-leb j (k + before) from) (le-leb k (j + after) to)
+
+near-from : (before after k j : ℕ) → is_line_near before after k j ≡ true → j ≤ k + before
+near-from before after k j is = leb-true j (k + before) (and_parts (leb j (k + before)) (leb k (j + after)) is).0
+
+near-to : (before after k j : ℕ) → is_line_near before after k j ≡ true → k ≤ j + after
+near-to before after k j is = leb-true k (j + after) (and_parts (leb j (k + before)) (leb k (j + after)) is).1
+
+-- a line that is near one of lines in order is no further before the first
+near-first : (before after k j : ℕ) (js : List ℕ) → IsAfter j js → list_any (is_line_near before after k) js ≡ true → j ≤ k + before
+near-first before after k j [] order none = absurd (false≢true none)
+near-first before after k j (m ∷ ms) order near =
+    elim (or_cases (is_line_near before after k m) (list_any (is_line_near before after k) ms) near) [
+      | inl this ↦ omega (arith, order.0, near-from before after k m this)
+      | inr later ↦ omega (arith, order.0, near-first before after k m ms order.1 later)
+    ]
+
+reach-le : (after j : ℕ) (js : List ℕ) → reach_after after j js ≤ after
+reach-le after j [] = omega arith
+reach-le after j (k ∷ ks) = omega arith
+
 -- ---- which lines are kept
+
+module _ (before after : ℕ) (source : List ℕ) where
+  abbrev count : ℕ
+  count = length (source_lines source)
+
+  abbrev near : ℕ → List ℕ → Bool
+  near k js = list_any (is_line_near before after k) js
+
+  -- whether one of the spans around some lines keeps line k
+  abbrev spanned : ℕ → ℕ → List ℕ → Bool
+  spanned k last js = list_any (keeps source k) (map visible_mark (spans_around before after source last js))
+
+  -- the first of them keeps what is near its line and not beyond those next to it
+  first-keeps : (k last j : ℕ) (js : List ℕ) → j < count → k < count
+      → keeps source k (visible_mark (span_around (min before (j - last)) (reach_after after j js) source j))
+      ≡ is_line_near (min before (j - last)) (reach_after after j js) k j
+  first-keeps k last j js inside within = keeps-near (min before (j - last)) (reach_after after j js) source j k inside within
+
+  -- they keep nothing but lines near one
+  spanned-near : (k last : ℕ) (js : List ℕ) → All (λ j. j < count) js → k < count → spanned k last js ≡ true → near k js ≡ true
+  spanned-near k last [] all within none = none
+  spanned-near k last (j ∷ js) all within is =
+      let back : ℕ = min before (j - last) in
+      let on : ℕ = reach_after after j js in
+      elim (or_cases (keeps source k (visible_mark (span_around back on source j))) (spanned k j js) is) [
+        | inl this ↦
+            let here : is_line_near back on k j ≡ true =
+            sym (first-keeps k last j js (All-head (λ i. i < count) j js all) within) ∙ this in
+            or_left (is_line_near before after k j) (near k js)
+            (is-near before after k j (omega (arith, near-from back on k j here)) (omega (arith, near-to back on k j here, reach-le after j js)))
+        | inr later ↦ or_right (is_line_near before after k j) (near k js)
+            (spanned-near k j js (All-tail (λ i. i < count) j js all) within later)
+      ]
+
+  -- and each that is, from the line before them on: what is near a line and beyond the next is near that
+  near-spanned : (k last : ℕ) (js : List ℕ) → All (λ j. j < count) js → IsAfter last js → last ≤ k → k < count → near k js ≡ true
+      → spanned k last js ≡ true
+  near-spanned k last [] all order from within none = none
+  near-spanned k last (j ∷ js) all order from within is =
+      by (λ near le. near-spanned k j js (All-tail (λ i. i < count) j js all) order.1 le within near)
+    where
+      this : j ≤ k + before → k ≤ j + reach_after after j js → spanned k last (j ∷ js) ≡ true
+      this back on = or_left (keeps source k (visible_mark (span_around (min before (j - last)) (reach_after after j js) source j))) (spanned k j js)
+          (first-keeps k last j js (All-head (λ i. i < count) j js all) within
+          ∙ is-near (min before (j - last)) (reach_after after j js) k j (omega (arith, from, order.0, back)) on)
+
+      rest : spanned k j js ≡ true → spanned k last (j ∷ js) ≡ true
+      rest later = or_right (keeps source k (visible_mark (span_around (min before (j - last)) (reach_after after j js) source j))) (spanned k j js) later
+
+      beyond : (ms : List ℕ) → js ≡ ms → (near k js ≡ true → j ≤ k → spanned k j js ≡ true) → k ≤ j + after → j < k → spanned k last (j ∷ js) ≡ true
+      beyond [] none others to later = this (omega arith) (omega (arith, to, ap (reach_after after j) none))
+      beyond (m ∷ ms) next others to later =
+          let order_next : IsAfter j (m ∷ ms) = subst (IsAfter j) next order.1 in
+          elim (cases_lt m k) [
+            | inl past ↦ rest (others (ap (near k) next ∙ or_left (is_line_near before after k m) (near k ms)
+                (is-near before after k m (omega arith) (omega (arith, to, order_next.0)))) (omega arith))
+            | inr here ↦ this (omega arith) (omega (arith, to, here, order_next.0, ap (reach_after after j) next))
+          ]
+
+      by : (near k js ≡ true → j ≤ k → spanned k j js ≡ true) → spanned k last (j ∷ js) ≡ true
+      by others = elim (cases_lt j k) [
+        | inl later ↦ elim (or_cases (is_line_near before after k j) (near k js) is) [
+          | inl at ↦ beyond js refl others (near-to before after k j at) later
+          | inr other ↦ rest (others other (omega arith))
+        ]
+        | inr sooner ↦ this (near-first before after k j (j ∷ js) (omega arith, order.1) is) (omega arith)
+      ]
 
 module _ (before after : ℕ) (source : List ℕ) (marks : List Annotation) where
   abbrev lines : List ℕ
   lines = kept_lines true source marks
 
   abbrev added : List Annotation
-  added = map visible_mark (map (span_around before after source) lines)
+  added = map visible_mark (spans_around before after source 0 lines)
+
+  all-lines : All (λ j. j < length (source_lines source)) lines
+  all-lines = kept-within (λ j. list_any (keeps source j) marks) (length (source_lines source))
 
   -- the spans around those that are kept keep those near one
   added-keep : (k : ℕ) → k < length (source_lines source) → list_any (keeps source k) added ≡ list_any (is_line_near before after k) lines
   added-keep k within =
-      any-map visible_mark (keeps source k) (map (span_around before after source) lines)
-      ∙ any-map (span_around before after source) (λ span. keeps source k (visible_mark span)) lines
-      ∙ any-same (λ j. keeps source k (visible_mark (span_around before after source j))) (is_line_near before after k) lines
-      (λ i d inside. keeps-near before after source (get_or lines i d) k
-      (kept-within (λ j. list_any (keeps source j) marks) (length (source_lines source)) i d inside) within)
+      both-same (list_any (keeps source k) added) (list_any (is_line_near before after k) lines)
+      (spanned-near before after source k 0 lines all-lines within)
+      (near-spanned before after source k 0 lines all-lines
+      (filtered-after (λ j. list_any (keeps source j) marks) 0 (length (source_lines source))) (omega arith) within)
+    where
+      both-same : (a b : Bool) → (a ≡ true → b ≡ true) → (b ≡ true → a ≡ true) → a ≡ b
+      both-same true b on back = sym (on refl)
+      both-same false true on back = back refl
+      both-same false false on back = refl
 
   -- a line that is kept is near itself
   kept-near : (k : ℕ) → k < length (source_lines source) → list_any (keeps source k) marks ≡ true → list_any (is_line_near before after k) lines ≡ true
@@ -128,7 +240,7 @@ unfolded-around before after source marks more =
     (kept_lines false source marks) (among-kept (λ j. true) (length (source_lines source)) k (omega arith))))
 
 kept-around : (before after : ℕ) (fold : Bool) (source : List ℕ) (marks : List Annotation)
-    → kept_lines fold source (marks ++ map visible_mark (cond fold (map (span_around before after source) (kept_lines true source marks)) []))
+    → kept_lines fold source (marks ++ map visible_mark (cond fold (spans_around before after source 0 (kept_lines true source marks)) []))
     ≡ lines_around before after (length (source_lines source)) (kept_lines fold source marks)
 kept-around before after true source marks = folded-around before after source marks
 kept-around before after false source marks = unfolded-around before after source marks (marks ++ [])

@@ -1,8 +1,8 @@
 -- The spans around lines: they are spans of the source, and reach from one line to another.
 use Rattle.std.proofs.Common.{◌≡◌, ◌≢◌, ◌∙◌, ℕ, zero, suc, ◌+◌, ◌-◌, ◌<◌, ◌≤◌, ltb, min, List, [], ◌∷◌, ◌++◌, length, take, drop, get_or, inl, inr, arith}
-use Rattle.std.proofs.Common.{All, map, true, refl, sym, ap, subst, append_assoc}
+use Rattle.std.proofs.Common.{All, map, true, refl, sym, ap, ap₂, subst, append-nil, append_assoc}
 use Rattle.std.proofs.lemmas.Bool.{cases_lt, cond-true, cond-false, lt-ltb, le-ltb}
-use Rattle.std.proofs.lemmas.List.{get_or-drop, get_or-map, get_or-take, length-map}
+use Rattle.std.proofs.lemmas.List.{drop-map, drop_all, get_or-drop, get_or-map, get_or-take, length-map}
 use Rattle.std.proofs.lemmas.List.Elements.{All-cons, All-head, All-nil, All-tail}
 use Rattle.std.proofs.lemmas.Str.{IsCharBoundary-before_ascii, IsCharBoundary-end}
 use Rattle.std.specs.Str.{IsCharBoundary, IsUtf8}
@@ -19,7 +19,7 @@ use Rattle.snippet_parts.proofs.TableLemmas.{length-starts_from, starts_from-at}
 use Rattle.snippet_parts.specs.Annotated.{KeptLine, annotated_lines, kept_line, seen_kept}
 use Rattle.snippet_parts.specs.Kept.{kept_lines}
 use Rattle.snippet_parts.specs.declared.entries.AnnotatedLineInfo.{AnnotatedLineInfo}
-use Rattle.snippet_shown.specs.Context.{close_of, span_around}
+use Rattle.snippet_shown.specs.Context.{close_of, reach_after, span_around, spans_around}
 use Rattle.snippet_shown.specs.WithContext.{HoldsSpan}
 
 -- ---- where a line closes
@@ -143,14 +143,14 @@ around-part before after source j utf8 within =
       to = close-border source last;
     }
 
--- and so is each
-pub around-parts : (before after : ℕ) (source : List ℕ) (js : List ℕ) → IsUtf8 source → All (λ j. j < length (source_lines source)) js
-    → All (HoldsSpan source) (map (span_around before after source) js)
-around-parts before after source [] utf8 within = All-nil (HoldsSpan source)
-around-parts before after source (j ∷ js) utf8 within =
-    All-cons (HoldsSpan source) (span_around before after source j) (map (span_around before after source) js)
-    (around-part before after source j utf8 (All-head (λ k. k < length (source_lines source)) j js within))
-    (around-parts before after source js utf8 (All-tail (λ k. k < length (source_lines source)) j js within))
+-- and so is each of those around lines
+pub around-parts : (before after : ℕ) (source : List ℕ) (last : ℕ) (js : List ℕ) → IsUtf8 source → All (λ j. j < length (source_lines source)) js
+    → All (HoldsSpan source) (spans_around before after source last js)
+around-parts before after source last [] utf8 within = All-nil (HoldsSpan source)
+around-parts before after source last (j ∷ js) utf8 within =
+    All-cons (HoldsSpan source) (span_around (min before (j - last)) (reach_after after j js) source j) (spans_around before after source j js)
+    (around-part (min before (j - last)) (reach_after after j js) source j utf8 (All-head (λ k. k < length (source_lines source)) j js within))
+    (around-parts before after source j js utf8 (All-tail (λ k. k < length (source_lines source)) j js within))
 
 -- ---- what the code reads
 
@@ -189,3 +189,35 @@ kept-number s marks infos i info are within is =
     let same : seen_kept info ≡ kept_line s marks (get_or ks i 0) = ap seen_kept is ∙ sym (get_or-map seen_kept infos i info (seen_kept info) within)
     ∙ ap (λ (ls : List KeptLine). get_or ls i (seen_kept info)) are ∙ get_or-map (kept_line s marks) ks i 0 (seen_kept info) some in
     (some, ap (λ (l : KeptLine). l.number) same)
+
+map-map : {X Y Z : Type 0} (f : X → Y) (g : Y → Z) (xs : List X) → map g (map f xs) ≡ map (λ x. g (f x)) xs
+map-map f g [] = refl
+map-map f g (x ∷ xs) = ap (λ ys. g (f x) ∷ ys) (map-map f g xs)
+
+-- the numbers of those that are kept
+pub kept-numbers : (s : Source) (marks : List Annotation) (infos : List AnnotatedLineInfo) → map seen_kept infos ≡ annotated_lines true s marks
+    → map (λ (info : AnnotatedLineInfo). info.line_index) infos ≡ map (λ k. s.first + k) (kept_lines true s.text marks)
+kept-numbers s marks infos are =
+    sym (map-map seen_kept (λ (l : KeptLine). l.number) infos) ∙ ap (map (λ (l : KeptLine). l.number)) are
+    ∙ map-map (kept_line s marks) (λ (l : KeptLine). l.number) (kept_lines true s.text marks)
+
+-- how far a span reaches doesn't depend on the number of the first line
+reach-shifted : (after first j : ℕ) (js : List ℕ) → reach_after after (first + j) (map (λ k. first + k) js) ≡ reach_after after j js
+reach-shifted after first j [] = refl
+reach-shifted after first j (k ∷ ks) = omega arith
+
+-- so it is that of the line's place among those that are kept
+pub reach-kept : (after : ℕ) (s : Source) (marks : List Annotation) (infos : List AnnotatedLineInfo) (i j number : ℕ)
+    → map seen_kept infos ≡ annotated_lines true s marks → number ≡ s.first + j
+    → reach_after after number (map (λ (info : AnnotatedLineInfo). info.line_index) (drop i infos))
+    ≡ reach_after after j (drop i (kept_lines true s.text marks))
+reach-kept after s marks infos i j number are at =
+    ap₂ (reach_after after) at (sym (drop-map (λ (info : AnnotatedLineInfo). info.line_index) i infos) ∙ ap (drop i) (kept-numbers s marks infos are)
+    ∙ drop-map (λ k. s.first + k) i (kept_lines true s.text marks))
+    ∙ reach-shifted after s.first j (drop i (kept_lines true s.text marks))
+
+-- where nothing is left of a list, what was made so far is what is made of all
+pub after-all : {X : Type 0} (F : List ℕ → List X) → (ks : List ℕ) (i : ℕ) (made all : List X) → length ks ≤ i → F [] ≡ [] → made ++ F (drop i ks) ≡ all
+    → made ≡ all
+after-all F ks i made all end none is =
+    sym (append-nil made) ∙ ap (λ rest. made ++ rest) (sym none ∙ sym (ap F (drop_all i ks end))) ∙ is

@@ -7,13 +7,13 @@ use Rattle.std.specs.declared.ops.Range.{Range}
 use Rattle.snippet_model.specs.declared.snippet.Annotation.{Annotation}
 use Rattle.snippet_model.specs.declared.snippet.Snippet.{Snippet}
 use Rattle.snippet_parts.specs.Kept.{kept_lines}
-use Rattle.snippet_shown.specs.Context.{context_spans, span_around, visible_mark}
+use Rattle.snippet_shown.specs.Context.{context_spans, spans_around, visible_mark}
 use Rattle.snippet_shown.specs.WithContext.{HoldsSpan, IsSnippetWithContext}
 
 -- where lines aren't folded no span is added
 unfolded-spans : (before after : ℕ) (s : Snippet Annotation) → s.fold ≡ false → context_spans before after s ≡ []
 unfolded-spans before after s none =
-    cond-false s.fold (map (span_around before after (cow_str_bytes s.source.text)) (kept_lines true (cow_str_bytes s.source.text) s.markers.items)) [] none
+    cond-false s.fold (spans_around before after (cow_str_bytes s.source.text) 0 (kept_lines true (cow_str_bytes s.source.text) s.markers.items)) [] none
 
 -- so the snippet stays
 pub unfolded-with : (before after : ℕ) (s : Snippet Annotation) → s.fold ≡ false → IsSnippetWithContext before after s s

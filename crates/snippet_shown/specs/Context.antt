@@ -1,5 +1,5 @@
 -- The lines around those that a snippet keeps, and the spans that keep them too.
-use Rattle.std.specs.Prelude.{ℕ, ◌+◌, ◌-◌, ◌&&◌, nat_le, nat_lt, min, Bool, true, false, List, [], None, length, map, filter, if◌then◌else◌}
+use Rattle.std.specs.Prelude.{ℕ, ◌+◌, ◌-◌, ◌&&◌, nat_le, nat_lt, min, Bool, true, false, List, [], ◌∷◌, None, length, map, filter, if◌then◌else◌}
 use Rattle.std.specs.Cow.{cow_str_bytes}
 use Rattle.std.specs.List.{list_any, range_with_len}
 use Rattle.std.specs.declared.ops.Range.{Range}
@@ -29,11 +29,23 @@ span_around before after source j =
     let ls = source_lines source in
     record { start = start_of ls (j - before); end = close_of source (min (j + after) (length ls - 1)) }
 
--- the spans around the lines that a snippet keeps, one for each of them, in order. Where lines aren't folded there are none, since all
--- lines are kept
+-- how many lines the span around line j reaches after it, given the later of some lines: `after`, but no further than the next of them, which has
+-- a span of its own
+abbrev pub reach_after : ℕ → ℕ → List ℕ → ℕ
+reach_after after j [] = after
+reach_after after j (k ∷ ks) = min after (k - j)
+
+-- the spans around some lines, one for each, in order. None reaches further than the lines next to its own among them: the one before the
+-- first is given
+abbrev pub spans_around : ℕ → ℕ → List ℕ → ℕ → List ℕ → List (Range ℕ)
+spans_around before after source last [] = []
+spans_around before after source last (j ∷ js) =
+    span_around (min before (j - last)) (reach_after after j js) source j ∷ spans_around before after source j js
+
+-- the spans around the lines that a snippet keeps. Where lines aren't folded there are none, since all lines are kept
 abbrev pub context_spans : ℕ → ℕ → Snippet Annotation → List (Range ℕ)
 context_spans before after s =
-    if s.fold then map (span_around before after (cow_str_bytes s.source.text)) (kept_lines true (cow_str_bytes s.source.text) s.markers.items) else []
+    if s.fold then spans_around before after (cow_str_bytes s.source.text) 0 (kept_lines true (cow_str_bytes s.source.text) s.markers.items) else []
 
 -- an annotation that keeps the lines of a span, and marks nothing
 abbrev pub visible_mark : Range ℕ → Annotation

@@ -40,7 +40,8 @@ pub fn spans_around(
 }
 
 /// The spans around the lines that a snippet keeps, which are given, where the lines of its source start at these
-/// bytes.
+/// bytes. None reaches further than the lines next to its own among them, so all together are hardly longer than the
+/// source.
 ///
 /// The one error is that memory ran out.
 fn spans_of(
@@ -54,17 +55,31 @@ fn spans_of(
     requires starts { starts.now ≡ spec_starts (cow_str_bytes snippet.now.source.text) }
     requires kept { map seen_kept kept.now ≡ annotated_lines true (numbered_source snippet.now)
         snippet.now.markers.items }
-    ensures value { IfOk result (λ spans. spans.items ≡ map (spec.span_around before after
-        (cow_str_bytes snippet.now.source.text)) (kept_lines true (cow_str_bytes snippet.now.source.text)
+    ensures value { IfOk result (λ spans. spans.items ≡ spec.spans_around before after
+        (cow_str_bytes snippet.now.source.text) 0 (kept_lines true (cow_str_bytes snippet.now.source.text)
         snippet.now.markers.items)) }
 {
     let source = snippet.source.as_str();
     let mut spans = Vec::with_capacity(alloc, kept.len())?;
-    for info in kept {
+    let mut last = 0;
+    for (i, info) in kept.iter().enumerate() {
         let line = info.line_index - snippet.line_start;
-        spans.push(span_around(before, after, source, starts, line))?;
+        let back = before.min(line.saturating_sub(last));
+        let on = reach_after(after, info, &kept[i + 1..]);
+        spans.push(span_around(back, on, source, starts, line))?;
+        last = line;
     }
     Ok(spans)
+}
+
+/// How many lines the span around a line reaches after it, among the lines that are kept: no further than the next.
+fn reach_after(after: usize, info: &AnnotatedLineInfo<'_>, later: &[AnnotatedLineInfo<'_>]) -> usize
+    ensures value { result ≡ spec.reach_after after info.now.line_index (map (λ i. i.line_index) later.now) }
+{
+    match later {
+        [next, ..] => after.min(next.line_index.saturating_sub(info.line_index)),
+        [] => after,
+    }
 }
 
 /// The span from `before` lines before a line to `after` lines after it, or as far as the source goes, whose lines

@@ -16,7 +16,7 @@ returns-in-Some-clause-parts c =
     let source : List ℕ = cow_str_bytes s.source.text in
     let ks : List ℕ = kept_lines true source s.markers.items in
     let utf8 : IsUtf8 source = subst (λ (m : Source). IsUtf8 m.text) c.in_ok-map.ensures.ok c.in_ok-map.ensures.utf8 in
-    IfOk-weaker c.spans_of.result _ _ (λ spans is. subst (All (HoldsSpan source)) (sym is) (around-parts c.args.before c.args.after source ks utf8
+    IfOk-weaker c.spans_of.result _ _ (λ spans is. subst (All (HoldsSpan source)) (sym is) (around-parts c.args.before c.args.after source 0 ks utf8
     (kept-within (λ k. list_any (keeps source k) s.markers.items) (length (source_lines source))))) c.spans_of.ensures.value
 
 pub returns-clause-parts : goal.returns-clause-parts
@@ -25,5 +25,5 @@ returns-clause-parts c =
     let source : List ℕ = cow_str_bytes s.source.text in
     let ks : List ℕ = kept_lines true source s.markers.items in
     let utf8 : IsUtf8 source = subst (λ (m : Source). IsUtf8 m.text) c.in_ok-map.ensures.ok c.in_ok-map.ensures.utf8 in
-    IfOk-weaker c.spans_of-in-None.result _ _ (λ spans is. subst (All (HoldsSpan source)) (sym is) (around-parts c.args.before c.args.after source ks utf8
+    IfOk-weaker c.spans_of-in-None.result _ _ (λ spans is. subst (All (HoldsSpan source)) (sym is) (around-parts c.args.before c.args.after source 0 ks utf8
     (kept-within (λ k. list_any (keeps source k) s.markers.items) (length (source_lines source))))) c.spans_of-in-None.ensures.value
