@@ -39,6 +39,7 @@ pub mod LineWords
 pub mod ListLemmas
 pub mod MarginWords
 pub mod MarkLemmas
+pub mod MarkdownLemmas
 pub mod NamedRows
 pub mod NotAround
 pub mod NotBarred

@@ -6,6 +6,7 @@ pub mod Forms
 pub mod GraphicForm
 pub mod Gutter
 pub mod Html
+pub mod Markdown
 pub mod HtmlStylesheet
 pub mod Laws
 pub mod Lent

@@ -12,6 +12,7 @@ mod gutter;
 mod html;
 mod html_stylesheet;
 mod layout;
+mod markdown;
 mod page;
 mod pages;
 pub mod parts;

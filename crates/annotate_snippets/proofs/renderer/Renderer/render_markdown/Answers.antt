@@ -1,0 +1,46 @@
+use Rattle.std.proofs.Common.{◌≡◌, ◌∙◌, List, ap, ap₂, string_bytes, subst, sym}
+use Rattle.std.specs.Cow.{cow_slice_items}
+use Rattle.snippet_model.specs.declared.snippet.Group.{Group}
+use Rattle.snippet_style.specs.Stylesheet.{is_plain_sheet}
+use Rattle.annotate_snippets.specs.AsSet.{IsAsSet}
+use Rattle.annotate_snippets.specs.Fault.{form_of}
+use Rattle.annotate_snippets.specs.Laws.Forms.{IsTextUnder}
+use Rattle.annotate_snippets.specs.Markdown.{markdown, title_above, unlinked}
+use Rattle.annotate_snippets.specs.declared.renderer.Renderer.{Renderer}
+use Rattle.annotate_snippets.specs.declared.renderer.form.Form.{Form}
+use Rattle.annotate_snippets.proofs.MarkdownLemmas.{markdown-laws, plain-under}
+use Rattle.annotate_snippets.proofs.renderer.Renderer.render_markdown.Goals as goal
+
+pub returns-clause-markdown : goal.returns-clause-markdown
+returns-clause-markdown c =
+    let r : Renderer = c.args.self.now in
+    let shown : List Group = c.deref.result.now in
+    let form : c.form_of-form.result ≡ form_of r = c.form_of-form.ensures.value in
+    let page : IsTextUnder (form_of r) (unlinked r) shown c.plain.result (string_bytes c.in_ok-page.page) =
+    subst (λ (f : Form). IsTextUnder f (unlinked r) shown c.plain.result (string_bytes c.in_ok-page.page)) form
+    (subst (λ (one : Renderer). IsTextUnder c.form_of-form.result one shown c.plain.result (string_bytes c.in_ok-page.page)) c.in_ok-unlinked.ensures.value
+    c.in_ok-page.ensures.text) in
+    record {
+      shown = shown;
+      set = subst (λ (gs : List Group). IsAsSet (form_of r) r c.args.groups.now gs) (sym c.deref.ensures.value)
+          (subst (λ (f : Form). IsAsSet f r c.args.groups.now (cow_slice_items c.in_ok-shown.shown)) form c.in_ok-shown.ensures.shown.set);
+      is = c.in_ok-text.ensures.value
+          ∙ ap₂ markdown (c.title_above.ensures.value ∙ ap₂ title_above form (c.deref-2.ensures.value ∙ sym c.deref.ensures.value))
+          (c.as_str.ensures.value ∙ plain-under r shown c.plain.result (string_bytes c.in_ok-page.page)
+          (ap is_plain_sheet c.plain.ensures.value) page);
+    }
+
+pub returns-clause-laws : goal.returns-clause-laws
+returns-clause-laws c =
+    let r : Renderer = c.args.self.now in
+    let shown : List Group = c.deref.result.now in
+    let form : c.form_of-form.result ≡ form_of r = c.form_of-form.ensures.value in
+    record {
+      shown = shown;
+      set = subst (λ (gs : List Group). IsAsSet (form_of r) r c.args.groups.now gs) (sym c.deref.ensures.value)
+          (subst (λ (f : Form). IsAsSet f r c.args.groups.now (cow_slice_items c.in_ok-shown.shown)) form c.in_ok-shown.ensures.shown.set);
+      laws = markdown-laws r shown c.plain.result (string_bytes c.in_ok-page.page) (string_bytes c.in_ok-text.text)
+          (subst (λ (f : Form). IsTextUnder f (unlinked r) shown c.plain.result (string_bytes c.in_ok-page.page)) form
+          (subst (λ (one : Renderer). IsTextUnder c.form_of-form.result one shown c.plain.result (string_bytes c.in_ok-page.page))
+          c.in_ok-unlinked.ensures.value c.in_ok-page.ensures.text));
+    }
