@@ -149,6 +149,7 @@ export interface More {
   sheets?: Sheet[] | null;
   /** The report is drawn as HTML. */
   html?: boolean | null;
+  markdown?: boolean | null;
   /** Sources that snippets name by their numbers. */
   sources?: string[] | null;
 }

@@ -42,7 +42,7 @@ def with_settings():
     """The cases that can be read and have one of the settings that the others lack."""
     found = []
     for name, report, text in readable():
-        if not report.get("html") and SETTINGS & set(report.get("settings") or {}):
+        if not report.get("html") and not report.get("markdown") and SETTINGS & set(report.get("settings") or {}):
             case = {"id": name, "settings": report["settings"], "groups": report["groups"]}
             found.append((case, {"id": name, "ok": [text]}))
     return found
@@ -58,11 +58,11 @@ def all_cases():
     return pairs
 
 
-def html_cases():
-    """The cases that are drawn as HTML, each with what is expected."""
+def cases_by_json():
+    """The cases that are drawn as HTML or in Markdown, each with what is expected."""
     found = []
     for name, case, text in readable():
-        if case.get("html"):
+        if case.get("html") or case.get("markdown"):
             answer = {"refused": case["refused"], "text": text} if "refused" in case else {"ok": [text]}
             found.append(({"id": name, **case}, {"id": name, **answer}))
     return found

@@ -7,7 +7,7 @@ import shutil
 from pathlib import Path
 
 import readme
-from cases import html_cases, places
+from cases import cases_by_json, places
 from facts import ROOT, Trouble, run
 
 HOME = ROOT / "bindings" / "rust"
@@ -41,7 +41,7 @@ def check(room, anstyle, yazgult, pairs):
     made = crate.examples()
     if run([made / "readme"]).decode() != readme.FIRST_TEXT:
         raise Trouble("the example in Rust draws another text than the README has")
-    compare(made / "cases", room, "Rust", pairs + html_cases())
+    compare(made / "cases", room, "Rust", pairs + cases_by_json())
     compare(made / "cases", room, "Rust, by lines and columns", places())
     as_html = [{**case, "html": True} for case, _ in pairs]
     answers = [json.loads(yazgult.answer_json(json.dumps(case, ensure_ascii=False))) for case in as_html]

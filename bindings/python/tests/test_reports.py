@@ -76,6 +76,11 @@ class Dicts(unittest.TestCase):
         self.assertEqual(Text(html).text, DRAWN.replace("here", "<here>"))
         self.assertIn('<span class="snippet-error">', html)
 
+    def test_markdown_has_the_plain_text_between_fences(self):
+        text = yazgult.render_markdown(report({"start": 4, "end": 5}))
+        self.assertEqual(text, f"**error\\: never read**\n\n```\n{DRAWN}\n```")
+        self.assertEqual(yazgult.render_markdown(report({"start": 4, "end": 5}), short_message=True), "```\na.rs:1:5: error: never read: here\n```")
+
     def test_sheets_and_settings(self):
         groups = report({"start": 4, "end": 5})
         plain, coloured = yazgult.render_sheets(groups, ["plain", "default"])

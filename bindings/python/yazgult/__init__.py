@@ -15,6 +15,7 @@ Drawing
     render          the text of a report, in colours with the sheet "default"
     render_sheets   its texts under several sheets
     render_html     its HTML, of which HTML_STYLESHEET has the colours
+    render_markdown its first title in bold, and its plain text between fences
     print_report    prints it as its terminal has it: with colours or without, and as wide
     answer_json     the answer to a report as a line of JSON
     version         the version of the library; __version__ is this package's
@@ -52,6 +53,7 @@ from .drawing import Sheet as Sheet
 from .drawing import answer_json as answer_json
 from .drawing import render as render
 from .drawing import render_html as render_html
+from .drawing import render_markdown as render_markdown
 from .drawing import render_sheets as render_sheets
 from .drawing import version as version
 from .errors import Error as Error

@@ -77,6 +77,17 @@ def render_html(
     return drawn({"html": True}, report, spans, sources, settings)[0]
 
 
+def render_markdown(
+    report: Union[Report, Groups],
+    *,
+    spans: str = "characters",
+    sources: Optional[Sequence[str]] = None,
+    **settings: Unpack[Settings],
+) -> str:
+    """A report in Markdown: its first title in bold, and its plain text between fences. The rest is as of `render`."""
+    return drawn({"markdown": True}, report, spans, sources, settings)[0]
+
+
 def answer_json(line: str) -> str:
     """What `replay --keep-going` answers to a line of JSON, a case as docs/REPORTS.md has it: a line of JSON too."""
     if not isinstance(line, str):

@@ -1,4 +1,5 @@
-//! A report as a line of JSON, as `docs/REPORTS.md` has it. It is written for what the form as bytes doesn't say: a report as HTML.
+//! A report as a line of JSON, as `docs/REPORTS.md` has it. It is written for what the form as bytes doesn't say: a report as HTML
+//! and in Markdown.
 
 use crate::grow::{put, reserve, Written};
 use crate::level::{Level, Name, Severity};
@@ -6,11 +7,13 @@ use crate::renderer::{DecorStyle, RenderError, Renderer};
 use crate::snippet::{Annotation, AnnotationKind, Element, Group, Id, Message, Origin, Patch, Snippet, Title};
 use std::ops::Range;
 
-/// The line of a report that is to be drawn as HTML by this renderer.
-pub(crate) fn html_line(renderer: &Renderer, groups: &[Group<'_>]) -> Result<Vec<u8>, RenderError> {
+/// The line of a report that is to be drawn by this renderer in a form: `html` or `markdown`.
+pub(crate) fn line_for(form: &str, renderer: &Renderer, groups: &[Group<'_>]) -> Result<Vec<u8>, RenderError> {
     let mut out = Vec::new();
     reserve(1024, &mut out)?;
-    raw("{\"id\":\"\",\"html\":true,\"settings\":", &mut out)?;
+    raw("{\"id\":\"\",\"", &mut out)?;
+    raw(form, &mut out)?;
+    raw("\":true,\"settings\":", &mut out)?;
     settings(renderer, &mut out)?;
     raw(",\"groups\":", &mut out)?;
     list(groups, group, &mut out)?;
@@ -100,6 +103,8 @@ fn optional<T>(
 fn settings(r: &Renderer, out: &mut Vec<u8>) -> Written {
     raw("{\"term_width\":", out)?;
     number(r.term_width, out)?;
+    flag_field("short_message", r.short_message, out)?;
+    flag_field("no_graphics", r.no_graphics, out)?;
     flag_field("unicode", r.decor_style == DecorStyle::Unicode, out)?;
     flag_field("anonymized_snippet", r.anonymized_snippet_line_numbers, out)?;
     flag_field("anonymized_origin", r.anonymized_origin_line_numbers, out)?;

@@ -192,8 +192,29 @@ impl Renderer {
     /// # Ok::<(), yazgult::renderer::RenderError>(())
     /// ```
     pub fn render_html(&self, groups: Report<'_>) -> Result<String, RenderError> {
-        let answer = library::draw_json(&json::html_line(self, groups)?)?;
+        let answer = library::draw_json(&json::line_for("html", self, groups)?)?;
         answer::only_json_text(&answer)?.ok_or_else(|| self.refusal_as_html(groups))
+    }
+
+    /// A report in Markdown, for who posts it where Markdown is read: in the graphic form the title of the first group in bold, and in
+    /// each form the text without codes and links between two fences. The sheet and [`hyperlink`](Renderer::hyperlink) aren't looked at.
+    ///
+    /// Each ASCII punctuation character of the title stands after a backslash, so nothing of it is taken for markup; its id links to its
+    /// address if that begins with `http:`, `https:` or `mailto:` and holds ASCII characters that are seen and nothing else. A fence is
+    /// one backquote longer than the longest run of them in the text, and at least three.
+    ///
+    /// ```
+    /// use yazgult::{Level, Origin, Renderer};
+    ///
+    /// let report = &[Level::ERROR.primary_title("no such file").element(Origin::path("a.conf"))];
+    /// let text = Renderer::plain().render_markdown(report)?;
+    /// assert_eq!(text, "**error\\: no such file**\n\n```\nerror: no such file\n--> a.conf\n```");
+    /// # Ok::<(), yazgult::renderer::RenderError>(())
+    /// ```
+    pub fn render_markdown(&self, groups: Report<'_>) -> Result<String, RenderError> {
+        let answer = library::draw_json(&json::line_for("markdown", self, groups)?)?;
+        // under no sheets a report is judged and gives no text
+        answer::only_json_text(&answer)?.ok_or_else(|| self.render_sheets(groups, &[]).err().unwrap_or(RenderError::Memory))
     }
 
     /// Why a report gave no HTML: it is refused as in the graphic form, else there was no memory.

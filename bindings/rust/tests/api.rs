@@ -157,6 +157,15 @@ fn html_is_of_the_graphic_form() {
 }
 
 #[test]
+fn markdown_has_the_plain_text_between_fences() {
+    let snippet = Snippet::source("a``b").annotation(AnnotationKind::Primary.span(0..1));
+    let report = &[Level::ERROR.primary_title("`t`").element(snippet)];
+    let text = Renderer::plain().render(report);
+    assert_eq!(Renderer::styled().render_markdown(report), Ok(format!("**error\\: \\`t\\`**\n\n```\n{text}\n```")));
+    assert_eq!(Renderer::plain().short_message(true).render_markdown(&[]), Err(RenderError::NoGroup));
+}
+
+#[test]
 fn addresses_of_the_web_and_of_mail_may_be_links() {
     for address in ["http:", "HTTPS://a", "mailto:a@b.example", "https://a.example/?x&y#\"'<>"] {
         assert!(is_link_address(address), "{address:?}");

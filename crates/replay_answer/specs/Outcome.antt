@@ -6,6 +6,7 @@ use Rattle.annotate_snippets.specs.Fault.{first_refusal, refusal_in}
 use Rattle.annotate_snippets.specs.Laws.Forms.{TextsWithLaws}
 use Rattle.annotate_snippets.specs.Refusal.{refusal_text}
 use Rattle.annotate_snippets.specs.Html.{HasHtmlLaws, IsReportHtml}
+use Rattle.annotate_snippets.specs.Markdown.{HasMarkdownLaws, IsReportMarkdown}
 use Rattle.annotate_snippets.specs.declared.renderer.form.Form.TheVariants.{Graphic}
 use Rattle.annotate_snippets.specs.declared.renderer.RenderError.{RenderError}
 use Rattle.annotate_snippets.specs.declared.renderer.RenderError.TheVariants.{NoGroup, NoTitle, SpanReversed, SpanPastEnd, SpanOffBoundary, PatchesOverlap}
@@ -35,14 +36,21 @@ abbrev pub IsHtmlOf : Case → List (List ℕ) → Type 0
 IsHtmlOf case texts =
     (text : List ℕ) × (texts ≡ text ∷ []) × IsReportHtml case.renderer case.groups.items text × HasHtmlLaws case.renderer case.groups.items text
 
--- the texts of a case, by whether HTML is asked for
-abbrev pub AreTextsAs : Bool → Case → List (List ℕ) → Type 0
-AreTextsAs true case texts = IsHtmlOf case texts
-AreTextsAs false case texts = TextsWithLaws case.renderer case.groups.items case.sheets.items texts
+-- one text, the report of a case in Markdown in its settings, with its laws
+abbrev pub IsMarkdownOf : Case → List (List ℕ) → Type 0
+IsMarkdownOf case texts =
+    (text : List ℕ) × (texts ≡ text ∷ []) × IsReportMarkdown case.renderer case.groups.items text × HasMarkdownLaws case.renderer case.groups.items text
 
--- the texts of a case show its report, in its settings and one under each of its sheets, each with its laws; or there is one, its HTML
+-- the texts of a case, by whether HTML, and whether Markdown is asked for
+abbrev pub AreTextsAs : Bool → Bool → Case → List (List ℕ) → Type 0
+AreTextsAs true markdown case texts = IsHtmlOf case texts
+AreTextsAs false true case texts = IsMarkdownOf case texts
+AreTextsAs false false case texts = TextsWithLaws case.renderer case.groups.items case.sheets.items texts
+
+-- the texts of a case show its report, in its settings and one under each of its sheets, each with its laws; or there is one, its HTML or its
+-- Markdown
 abbrev pub AreTextsOf : Case → List (List ℕ) → Type 0
-AreTextsOf case texts = AreTextsAs case.html case texts
+AreTextsOf case texts = AreTextsAs case.html case.markdown case texts
 
 -- a case becomes its texts, or the first refusal of its report, with the words of that refusal
 abbrev pub IsOutcomeOf : Case → Outcome → Type 0

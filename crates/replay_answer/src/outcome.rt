@@ -1,10 +1,11 @@
 //! What becomes of a case: texts or a refusal.
 
 ghost use Rattle.std.specs.Prelude.{◌≡◌, [], ◌∷◌, None, Err, IfOk, IfSome, IsOkUnless, alloc_error, map, string_bytes};
-ghost use Rattle.annotate_snippets.specs.Fault.{refusal_in};
+ghost use Rattle.annotate_snippets.specs.Fault.{first_refusal, refusal_in};
 ghost use Rattle.annotate_snippets.specs.declared.renderer.form.Form.TheVariants as form;
 ghost use Rattle.annotate_snippets.specs.Fits.{ReportFits};
-ghost use Rattle.replay_answer.specs.Outcome.{AreTextsOf, IsHtmlOf, IsOutcomeOf, refusal_name, refusal_of_case};
+ghost use Rattle.replay_answer.specs.Outcome.{AreTextsOf, IsHtmlOf, IsMarkdownOf, IsOutcomeOf};
+ghost use Rattle.replay_answer.specs.Outcome.{refusal_name, refusal_of_case};
 
 use crate::case::Case;
 use crate::spans::span_of;
@@ -14,7 +15,7 @@ use std::alloc::{AllocError, Global};
 /// What becomes of a case.
 #[derive(Drop)]
 pub enum Outcome {
-    /// A text under each sheet, in order; or the report as HTML alone.
+    /// A text under each sheet, in order; or the report as HTML, or in Markdown, alone.
     Texts(Vec<String>),
     /// The refusal, what it prints, and what is told of the span that it is about.
     Refused(RenderError, String, String),
@@ -36,7 +37,8 @@ pub fn outcome_of(alloc: Global, case: &Case<'_>) -> Result<Outcome, AllocError>
     }
 }
 
-/// The texts of a case: its report as HTML alone where that is asked for, else a text under each of its sheets.
+/// The texts of a case: its report as HTML, or else in Markdown, alone where that is asked for, and else a text under
+/// each of its sheets.
 ///
 /// # Errors
 ///
@@ -49,6 +51,9 @@ pub fn texts_of(alloc: Global, case: &Case<'_>) -> Result<Vec<String>, RenderErr
 {
     if case.html {
         return html_of(alloc, case);
+    }
+    if case.markdown {
+        return markdown_of(alloc, case);
     }
     case.renderer
         .render_sheets(alloc, &case.groups, &case.sheets)
@@ -63,6 +68,20 @@ fn html_of(alloc: Global, case: &Case<'_>) -> Result<Vec<String>, RenderError>
     ensures text { IfOk result (λ texts. IsHtmlOf case.now (map string_bytes texts.items)) }
 {
     let text = case.renderer.render_html(alloc, &case.groups)?;
+    let texts = alone(alloc, text)?;
+    Ok(texts)
+}
+
+/// The report of a case in Markdown, its one text.
+fn markdown_of(alloc: Global, case: &Case<'_>) -> Result<Vec<String>, RenderError>
+    requires fits { ReportFits case.now.groups.items }
+    ensures refused { IfSome (first_refusal case.now.renderer case.now.groups.items)
+        (λ refusal. result ≡ Err refusal) }
+    ensures renders { first_refusal case.now.renderer case.now.groups.items ≡ None
+        → IsOkUnless result (RenderError.Memory alloc_error) }
+    ensures text { IfOk result (λ texts. IsMarkdownOf case.now (map string_bytes texts.items)) }
+{
+    let text = case.renderer.render_markdown(alloc, &case.groups)?;
     let texts = alone(alloc, text)?;
     Ok(texts)
 }

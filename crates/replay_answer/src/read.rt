@@ -58,6 +58,7 @@ pub fn case_of<'v>(
         renderer: renderer_of(&case)?,
         sheets: sheets_of(&case)?,
         html: case.flag_or("html", false)?,
+        markdown: case.flag_or("markdown", false)?,
         groups: parts_at(&case, "groups", sources)?,
     })
 }

@@ -98,7 +98,7 @@ impl Shape {
         ensures value { lent_texts result.now ≡ names_of self }
     {
         match self {
-            Shape::Case => &["id", "settings", "sheets", "html", "sources", "groups"],
+            Shape::Case => &["id", "settings", "sheets", "html", "markdown", "sources", "groups"],
             Shape::Settings => SETTINGS,
             Shape::Sheet => SHEET,
             Shape::Style => &["fg", "bg", "effects"],

@@ -56,6 +56,9 @@ fn outcome(case: &Json) -> Result<Vec<String>, RenderError> {
     if case.flag("html", false) {
         return Ok(vec![renderer.render_html(&groups)?]);
     }
+    if case.flag("markdown", false) {
+        return Ok(vec![renderer.render_markdown(&groups)?]);
+    }
     renderer.render_sheets(&groups, &report::sheets(case))
 }
 
