@@ -11,3 +11,5 @@ pub mod GreedyLemmas
 pub mod WrapLemmas
 pub mod DrawnLemmas
 pub mod ReportLemmas
+pub mod MaskLemmas
+pub mod MaskBytes

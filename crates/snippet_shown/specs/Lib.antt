@@ -7,3 +7,5 @@ pub mod Letters
 pub mod Wrapped
 pub mod AsWrapped
 pub mod WrapLaws
+pub mod Masked
+pub mod AsMasked

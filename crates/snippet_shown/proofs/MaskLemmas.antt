@@ -1,0 +1,35 @@
+-- What masking makes of a text, character by character.
+use Rattle.std.proofs.Common.{◌≡◌, ℕ, chars, encode_utf8, encode_utf8_all, Bool, false, if◌then◌else◌, nat_lt, List, [], ◌∷◌, ◌++◌, map, refl, sym, ap, ◌∙◌}
+use Rattle.std.proofs.Common.{arith}
+use Rattle.std.specs.List.{list_any}
+use Rattle.std.specs.Str.{IsUtf8}
+use Rattle.std.proofs.lemmas.Str.{chars_from_encodes, encodes-append}
+use Rattle.std.proofs.lemmas.List.{append-nil, map-id}
+use Rattle.snippet_shown.specs.Masked.{is_masked, mask_of, masked}
+
+-- one more character
+pub masked-push : (cs : List ℕ) (c : ℕ) → masked (cs ++ c ∷ []) ≡ masked cs ++ mask_of c ∷ []
+masked-push [] c = refl
+masked-push (d ∷ cs) c = ap (λ (t : List ℕ). mask_of d ∷ t) (masked-push cs c)
+
+-- a text that holds none of the characters is masked as it is
+pub masked-none : (cs : List ℕ) → list_any is_masked cs ≡ false → masked cs ≡ cs
+masked-none [] none = refl
+masked-none (c ∷ cs) none =
+    let here : is_masked c ≡ false = grind arith in
+    let later : list_any is_masked cs ≡ false = grind arith in
+    ap (λ (t : Bool). (if t then (if nat_lt c 0x800 then 0xA4 else 0xFFFD) else c) ∷ masked cs) here ∙ ap (λ (t : List ℕ). c ∷ t) (masked-none cs later)
+
+-- one more character is written
+pub masked-written : (old new cs : List ℕ) (c p : ℕ) → new ≡ old ++ encode_utf8 p → old ≡ encode_utf8_all (masked cs) → p ≡ mask_of c
+    → new ≡ encode_utf8_all (masked (cs ++ c ∷ []))
+masked-written old new cs c p written before is =
+    written ∙ ap (λ t. t ++ encode_utf8 p) before ∙ ap (λ t. encode_utf8_all (masked cs) ++ t) (sym (append-nil (encode_utf8 p)))
+    ∙ sym (encodes-append (masked cs) (p ∷ []))
+    ∙ ap (λ q. encode_utf8_all (masked cs ++ q ∷ [])) is
+    ∙ ap encode_utf8_all (sym (masked-push cs c))
+
+-- bytes that spell what is shown for some characters have these characters
+pub masked-spelled : (bytes cs ds : List ℕ) → IsUtf8 bytes → bytes ≡ encode_utf8_all (masked cs) → map (λ x. x) cs ≡ ds → chars bytes ≡ masked ds
+masked-spelled bytes cs ds utf8 spelled all =
+    sym (chars_from_encodes (masked cs) bytes utf8 (sym spelled)) ∙ ap masked (sym (map-id cs) ∙ all)

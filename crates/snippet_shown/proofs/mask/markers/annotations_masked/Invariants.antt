@@ -1,0 +1,6 @@
+use Rattle.std.specs.List.{AllZip}
+use Rattle.snippet_shown.specs.AsMasked.{IsAnnotationMasked}
+use Rattle.snippet_shown.proofs.mask.markers.annotations_masked.Given as goal
+
+abbrev pub invariant-loop-annotation : goal.invariant-loop-annotation
+invariant-loop-annotation l = AllZip IsAnnotationMasked l.yielded l.masked.items
