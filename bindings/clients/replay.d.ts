@@ -14,6 +14,7 @@ export interface Settings {
   context_before?: number | null;
   context_after?: number | null;
   wrap?: boolean | null;
+  mask_controls?: boolean | null;
 }
 
 export type AnsiColor =

@@ -88,7 +88,8 @@ fn switches() -> bool {
         .hyperlink(true)
         .show_line_feeds(true)
         .context_lines(2, 1)
-        .wrap(true);
+        .wrap(true)
+        .mask_controls(true);
     is_switched(&renderer)
 }
 
@@ -106,6 +107,7 @@ fn is_switched(renderer: &Renderer) -> bool {
         && renderer.context_before == 2
         && renderer.context_after == 1
         && renderer.wrap
+        && renderer.mask_controls
 }
 
 /// Whether a renderer whose styles are taken away is as plain as the plain one.

@@ -215,8 +215,8 @@ fn set(alloc: Global) -> Result<Group<'static>, AllocError>
 {
     let mark = AnnotationKind::Primary
         .span(2..3)
-        .label(OptionCow::from("x\ny"));
-    let snippet = Snippet::source(alloc, "a\nb\nc").annotation(mark)?;
+        .label(OptionCow::from("x\ny\u{85}"));
+    let snippet = Snippet::source(alloc, "a\nb\nc\u{200f}").annotation(mark)?;
     titled(alloc, "a wide title", snippet)
 }
 

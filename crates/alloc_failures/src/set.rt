@@ -1,5 +1,5 @@
-//! A report that is made anew as a renderer is set, with its line feeds shown, lines around its span and a title that
-//! is wrapped: as a text, and as HTML.
+//! A report that is made anew as a renderer is set, with line feeds shown, controls masked, lines around its span and a
+//! title that is wrapped: as a text, and as HTML.
 ghost use Rattle.annotate_snippets.specs.Fits.{GroupFits, ReportFits};
 
 use crate::drawn::{print_form, print_refusal};
@@ -12,7 +12,8 @@ use std::alloc::Global;
 use std::io;
 
 /// Its text.
-const TEXT: &str = "error: a wide\n       title\n  |\n1 | a\n2 | b\n  | ^ x\u{240a}y\n3 | c\n  |";
+const TEXT: &str =
+    "error: a wide\n       title\n  |\n1 | a\n2 | b\n  | ^ x\u{240a}y\u{a4}\n3 | c\u{fffd}\n  |";
 
 /// Its HTML.
 const HTML: &str = concat!(
@@ -22,8 +23,8 @@ const HTML: &str = concat!(
     "<span class=\"snippet-line-number\">1</span> <span class=\"snippet-line-number\">|</span> a\n",
     "<span class=\"snippet-line-number\">2</span> <span class=\"snippet-line-number\">|</span> b\n",
     "  <span class=\"snippet-line-number\">|</span> <span class=\"snippet-error\">^</span> ",
-    "<span class=\"snippet-error\">x\u{240a}y</span>\n",
-    "<span class=\"snippet-line-number\">3</span> <span class=\"snippet-line-number\">|</span> c\n",
+    "<span class=\"snippet-error\">x\u{240a}y\u{a4}</span>\n",
+    "<span class=\"snippet-line-number\">3</span> <span class=\"snippet-line-number\">|</span> c\u{fffd}\n",
     "  <span class=\"snippet-line-number\">|</span>",
 );
 
@@ -49,6 +50,7 @@ fn print_report(rt: &(impl Print + AllocGlobal), groups: Report<'_>) -> io::Resu
     let renderer = Renderer::plain()
         .term_width(13)
         .show_line_feeds(true)
+        .mask_controls(true)
         .context_lines(1, 1)
         .wrap(true);
     print_form(rt, groups, &renderer, "  graphic form", TEXT)?;

@@ -1,40 +1,49 @@
 -- What the report that is shown has in common with the one in whose place it is, and that what is shown of it shows the report.
 use Rattle.std.proofs.Common.{◌≡◌, ◌∙◌, ℕ, Bool, true, false, List, [], ◌∷◌, Option, None}
-use Rattle.std.proofs.Common.{◌⊎◌, inl, inr, sym, subst}
-use Rattle.std.specs.List.{AllZip}
+use Rattle.std.proofs.Common.{◌⊎◌, inl, inr, sym, subst, refl, All, chars, if◌then◌else◌}
+use Rattle.std.proofs.lemmas.Bool.{false≢true}
+use Rattle.std.proofs.lemmas.List.Elements.{All-contains, All-weaker}
+use Rattle.std.specs.List.{AllZip, Contains, flat_map}
 use Rattle.snippet_model.proofs.ZipLemmas.{AllZip-weaker}
 use Rattle.snippet_model.specs.Fits.{ReportFits}
 use Rattle.snippet_model.specs.Trusted.{trusted_texts}
 use Rattle.snippet_model.specs.declared.snippet.Element.{Element}
 use Rattle.snippet_model.specs.declared.snippet.Group.{Group}
 use Rattle.snippet_model.specs.declared.snippet.Title.{Title}
+use Rattle.snippet_shown.specs.AsMasked.{IsElementMasked, IsGroupMasked, IsTitleMasked}
 use Rattle.snippet_shown.specs.AsSet.{IsElementAsSet, IsGroupAsSet, IsTitleAsSet}
 use Rattle.snippet_shown.specs.AsWrapped.{IsElementWrapped, IsGroupWrapped, IsTitleWrapped}
 use Rattle.snippet_shown.specs.Remade.{IsGroupMade, Stays}
 use Rattle.snippet_shown.specs.WithContext.{IsElementWithContext, IsGroupWithContext}
 use Rattle.snippet_style.specs.declared.stylesheet.Stylesheet.{Stylesheet}
+use Rattle.snippet_text.specs.Normalized.{is_listed}
 use Rattle.snippet_text_form.specs.Form.{form_text}
 use Rattle.snippet_text_form.specs.Lines.{lines_of_paragraphs}
-use Rattle.annotate_snippets.specs.AsSet.{IsAsSet, IsDrawableAsSet, IsRemade, IsShownFor, IsStep, adds_context, shows_as_given, wraps}
+use Rattle.annotate_snippets.specs.AsSet.{IsAsSet, IsDrawableAsSet, IsMaskedFor, IsRemade, IsShownFor, IsStep, adds_context, shows_as_given, wraps}
 use Rattle.annotate_snippets.specs.Fault.{first_fault, form_of, missing_title, refusal_in}
-use Rattle.annotate_snippets.specs.Forms.{AreFree, ShowsForm, ShowsReport, TextsShown, links_in}
+use Rattle.annotate_snippets.specs.Forms.{AreFree, ShowsForm, ShowsReport, TextsShown, links_in, plain_in}
 use Rattle.annotate_snippets.specs.GraphicForm.{graphic_form}
 use Rattle.annotate_snippets.specs.Gutter.{gutter_of_report}
 use Rattle.annotate_snippets.specs.Laws.Context.{ShowsLinesAround}
 use Rattle.annotate_snippets.specs.Laws.Feeds.{HasOneLineTexts, page_lines, text_lines}
 use Rattle.annotate_snippets.specs.Laws.Forms.{FormLaws, HasLaws, LawsIn}
+use Rattle.annotate_snippets.specs.Laws.Free.{IsFreeBut}
+use Rattle.annotate_snippets.specs.Laws.Masked.{HasNoControls}
 use Rattle.annotate_snippets.specs.Laws.TextLines.{report_paragraphs}
+use Rattle.annotate_snippets.specs.Laws.Wrapped.{AreRewrapped}
 use Rattle.annotate_snippets.specs.Page.{page_text}
 use Rattle.annotate_snippets.specs.TextForm.{text_form}
 use Rattle.annotate_snippets.specs.Written.{IsTextIn, ShowsIn, WritesPart, WritesText}
 use Rattle.annotate_snippets.specs.declared.renderer.Renderer.{Renderer}
 use Rattle.annotate_snippets.specs.declared.renderer.form.Form.{Form}
 use Rattle.annotate_snippets.specs.declared.renderer.form.Form.TheVariants.{Graphic, Short, Text}
-use Rattle.annotate_snippets.proofs.AsSetSteps.{feeds-set, remade-set, unset-same}
+use Rattle.annotate_snippets.proofs.AsSetSteps.{context-set, feeds-set, mask-set, remade-set, unset-same, wrap-set}
 use Rattle.annotate_snippets.proofs.ContextShown.{around-set, context-faithful, plain-around}
 use Rattle.annotate_snippets.proofs.FaultLemmas.{groups-drawable, titled, unrefused}
 use Rattle.annotate_snippets.proofs.FeedsShown.{feeds-faithful, plain-fed}
-use Rattle.annotate_snippets.proofs.FormsShown.{are-free}
+use Rattle.annotate_snippets.proofs.FormsShown.{are-free, free-in}
+use Rattle.annotate_snippets.proofs.MaskLaws.{around-clean, masked-clean, wrapped-clean}
+use Rattle.annotate_snippets.proofs.MaskShown.{mask-faithful, masked-line, masked-unlisted}
 use Rattle.annotate_snippets.proofs.RemadeLemmas.{IsFaithful, Keeps, keeps, keeps-own, keeps-then, refusal-kept}
 use Rattle.annotate_snippets.proofs.WrapShown.{rewrapped-set, wrap-faithful, wrapped-line}
 
@@ -61,18 +70,32 @@ pub around-keeps : (adds : Bool) (before after : ℕ) (fed around : List Group) 
 around-keeps adds before after fed around step =
     step-keeps adds Stays (IsElementWithContext before after) (context-faithful before after) fed around step
 
+pub mask-keeps : (masks : Bool) (fed masked : List Group) → IsStep masks IsGroupMasked fed masked → Keeps fed masked
+mask-keeps masks fed masked step = step-keeps masks IsTitleMasked IsElementMasked mask-faithful fed masked step
+
+pub wrap-keeps : (form : Form) (r : Renderer) (around shown : List Group)
+    → IsStep (wraps form r) (IsGroupWrapped r.term_width (gutter_of_report r around)) around shown → Keeps around shown
+wrap-keeps form r around shown step =
+    let beside : ℕ = gutter_of_report r around in
+    step-keeps (wraps form r) (IsTitleWrapped r.term_width) (IsElementWrapped r.term_width beside) (wrap-faithful r.term_width beside) around shown step
+
+-- what is shown of a masked report keeps what that has
+masked-keeps : (form : Form) (r : Renderer) (groups shown : List Group) (made : IsRemade form r groups shown) → Keeps made.masked shown
+masked-keeps form r groups shown made =
+    keeps-then made.masked made.around shown
+    (around-keeps (adds_context form r) r.context_before r.context_after made.masked made.around made.context)
+    (wrap-keeps form r made.around shown made.wrap)
+
 pub set-keeps : (form : Form) (r : Renderer) (groups shown : List Group) → IsAsSet form r groups shown → Keeps groups shown
 set-keeps form r groups shown set = by (shows_as_given form r) set
   where
     by : (given : Bool) → IsShownFor given form r groups shown → Keeps groups shown
     by true same = subst (Keeps groups) (sym same) (keeps-own groups)
     by false made =
-        let beside : ℕ = gutter_of_report r made.around in
-        keeps-then groups made.around shown
-        (keeps-then groups made.fed made.around (fed-keeps r.show_line_feeds groups made.fed made.feeds)
-        (around-keeps (adds_context form r) r.context_before r.context_after made.fed made.around made.context))
-        (step-keeps (wraps form r) (IsTitleWrapped r.term_width) (IsElementWrapped r.term_width beside) (wrap-faithful r.term_width beside) made.around shown
-        made.wrap)
+        keeps-then groups made.masked shown
+        (keeps-then groups made.fed made.masked (fed-keeps r.show_line_feeds groups made.fed made.feeds)
+        (mask-keeps r.mask_controls made.fed made.masked made.mask))
+        (masked-keeps form r groups shown made)
 
 -- where it isn't refused, and its texts fit, it can be drawn
 pub drawable-set : (form : Form) (r : Renderer) (groups shown : List Group) → IsAsSet form r groups shown → ReportFits shown → refusal_in form groups ≡ None
@@ -85,22 +108,36 @@ drawable-set form r groups shown set fits none =
       titled = titled (missing_title form shown) (first_fault shown) same;
     }
 
--- ---- what changes: no line feed
+-- what goes over to a report that a step makes goes over to what is shown after it
+over : (P : List Group → Type 0) (Made : Group → Group → Type 0) (asked : Bool) (xs ys : List Group) → (AllZip Made xs ys → P xs → P ys)
+    → IsStep asked Made xs ys → P xs → P ys
+over P Made true xs ys step pairs holds = step pairs holds
+over P Made false xs ys step same holds = subst P (sym same) holds
+
+-- ---- what changes: no line feed, no control
 
 -- where line feeds are shown, no label, path, id and name of a level of what is shown holds one
 pub plain-set : (form : Form) (r : Renderer) (groups shown : List Group) → IsAsSet form r groups shown → r.show_line_feeds ≡ true → HasOneLineTexts shown
 plain-set form r groups shown set asked =
     let made : IsRemade form r groups shown = remade-set form r groups shown (feeds-set form r asked) set in
     let pairs : AllZip (IsGroupAsSet true) groups made.fed = subst (λ (feeds : Bool). AllZip (IsGroupAsSet feeds) groups made.fed) asked made.feeds in
-    over (IsGroupWrapped r.term_width (gutter_of_report r made.around)) (wraps form r) made.around shown
+    over HasOneLineTexts (IsGroupWrapped r.term_width (gutter_of_report r made.around)) (wraps form r) made.around shown
     (wrapped-line r.term_width (gutter_of_report r made.around) made.around shown) made.wrap
-    (over (IsGroupWithContext r.context_before r.context_after) (adds_context form r) made.fed made.around
-    (plain-around r.context_before r.context_after made.fed made.around) made.context (plain-fed groups made.fed pairs))
-  where
-    over : (Made : Group → Group → Type 0) (asked : Bool) (xs ys : List Group) → (AllZip Made xs ys → HasOneLineTexts xs → HasOneLineTexts ys)
-        → IsStep asked Made xs ys → HasOneLineTexts xs → HasOneLineTexts ys
-    over Made true xs ys step pairs plain = step pairs plain
-    over Made false xs ys step same plain = subst HasOneLineTexts (sym same) plain
+    (over HasOneLineTexts (IsGroupWithContext r.context_before r.context_after) (adds_context form r) made.masked made.around
+    (plain-around r.context_before r.context_after made.masked made.around) made.context
+    (over HasOneLineTexts IsGroupMasked r.mask_controls made.fed made.masked (masked-line made.fed made.masked) made.mask (plain-fed groups made.fed pairs)))
+
+-- where controls are masked, no text of what is shown holds one
+clean-set : (form : Form) (r : Renderer) (groups shown : List Group) → IsAsSet form r groups shown → r.mask_controls ≡ true → HasNoControls shown
+clean-set form r groups shown set asked =
+    let made : IsRemade form r groups shown = remade-set form r groups shown (mask-set form r asked) set in
+    let beside : ℕ = gutter_of_report r made.around in
+    let pairs : AllZip IsGroupMasked made.fed made.masked =
+    subst (λ (masks : Bool). IsStep masks IsGroupMasked made.fed made.masked) asked made.mask in
+    over HasNoControls (IsGroupWrapped r.term_width beside) (wraps form r) made.around shown
+    (wrapped-clean r.term_width beside made.around shown) made.wrap
+    (over HasNoControls (IsGroupWithContext r.context_before r.context_after) (adds_context form r) made.masked made.around
+    (around-clean r.context_before r.context_after made.masked made.around) made.context (masked-clean made.fed made.masked pairs))
 
 -- ---- what is shown shows the report
 
@@ -116,25 +153,83 @@ text-laws Text r shown is laws asked plain = laws.lines asked plain
 text-laws Graphic r shown is laws asked plain = cc
 text-laws Short r shown is laws asked plain = cc
 
-around-laws : (form : Form) (r : Renderer) (groups shown : List Group) → IsAsSet form r groups shown → FormLaws form r shown
-    → adds_context form r ≡ true → ShowsLinesAround r.context_before r.context_after groups (graphic_form r shown)
-around-laws Graphic r groups shown set laws asked = around-set Graphic r groups shown (graphic_form r shown) set laws asked
-around-laws Short r groups shown set laws asked = cc
-around-laws Text r groups shown set laws asked = cc
+around-laws : (form : Form) (r : Renderer) (groups shown : List Group) (made : IsRemade form r groups shown) (masks : Bool) → r.mask_controls ≡ masks
+    → FormLaws form r shown → adds_context form r ≡ true
+    → ShowsLinesAround r.context_before r.context_after (if masks then made.masked else groups) (graphic_form r shown)
+around-laws Graphic r groups shown made masks set laws asked = around-set Graphic r groups shown (graphic_form r shown) made masks set laws asked
+around-laws Short r groups shown made masks set laws asked = cc
+around-laws Text r groups shown made masks set laws asked = cc
+
+-- where controls are masked, the plain text holds no listed character
+unlisted-laws : (form : Form) (r : Renderer) (groups shown : List Group) → IsAsSet form r groups shown → FormLaws form r shown → r.mask_controls ≡ true
+    → All (λ c. is_listed c ≡ false) (plain_in form r shown)
+unlisted-laws form r groups shown set laws asked =
+    let made : IsRemade form r groups shown = remade-set form r groups shown (mask-set form r asked) set in
+    let pairs : AllZip IsGroupMasked made.fed made.masked =
+    subst (λ (masks : Bool). IsStep masks IsGroupMasked made.fed made.masked) asked made.mask in
+    let free : IsFreeBut (trusted_texts made.masked) (plain_in form r shown) =
+    (masked-keeps form r groups shown made).free (plain_in form r shown) (free-in r shown form laws) in
+    All-weaker (λ c. is_listed c ≡ true → Contains (flat_map chars (trusted_texts made.masked)) c) (λ c. is_listed c ≡ false)
+    (λ c own. by c (is_listed c) refl (flat_map chars (trusted_texts made.masked)) own (masked-unlisted made.fed made.masked pairs)) (plain_in form r shown)
+    free
+  where
+    by : (c : ℕ) (listed : Bool) → is_listed c ≡ listed → (texts : List ℕ) → (is_listed c ≡ true → Contains texts c)
+        → All (λ d. is_listed d ≡ false) texts → listed ≡ false
+    by c false is texts own none = refl
+    by c true is texts own none =
+        absurd (false≢true (sym (All-contains (λ d. is_listed d ≡ false) texts c none (own is)) ∙ is))
+
+-- what is said of the report whose lines and words are shown
+record IsOfBase (r : Renderer) (groups shown : List Group) : Type 0 where
+  masked : List Group
+  masks : IsMaskedFor r.mask_controls r groups masked
+  around : adds_context (form_of r) r ≡ true → ShowsLinesAround r.context_before r.context_after masked (graphic_form r shown)
+  wrapped : wraps (form_of r) r ≡ true → AreRewrapped r masked shown
+
+of-base : (r : Renderer) (groups shown : List Group) → IsAsSet (form_of r) r groups shown → FormLaws (form_of r) r shown → IsOfBase r groups shown
+of-base r groups shown set laws = by r.mask_controls refl
+  where
+    by : (masks : Bool) → r.mask_controls ≡ masks → IsOfBase r groups shown
+    by true asked =
+        let made : IsRemade (form_of r) r groups shown = remade-set (form_of r) r groups shown (mask-set (form_of r) r asked) set in
+        let pairs : AllZip IsGroupMasked made.fed made.masked =
+        subst (λ (given : Bool). IsStep given IsGroupMasked made.fed made.masked) asked made.mask in
+        record {
+          masked = made.masked;
+          masks = subst (λ (given : Bool). IsMaskedFor given r groups made.masked) (sym asked)
+              (record { fed = made.fed; feeds = made.feeds; mask = pairs });
+          around = around-laws (form_of r) r groups shown made true asked laws;
+          wrapped = rewrapped-set (form_of r) r groups shown made true asked;
+        }
+    by false none =
+        record {
+          masked = groups;
+          masks = subst (λ (given : Bool). IsMaskedFor given r groups groups) (sym none) refl;
+          around = λ asked. around-laws (form_of r) r groups shown
+              (remade-set (form_of r) r groups shown (context-set (form_of r) r asked) set) false none laws asked;
+          wrapped = λ asked. rewrapped-set (form_of r) r groups shown
+              (remade-set (form_of r) r groups shown (wrap-set (form_of r) r asked) set) false none asked;
+        }
 
 module _ (r : Renderer) (groups shown : List Group) (set : IsAsSet (form_of r) r groups shown) where
   -- a text that has the laws of the form, for what is shown, has those of the report
   pub set-laws : (sheet : Stylesheet) (text : List ℕ) → LawsIn (form_of r) r shown sheet text → HasLaws r groups sheet text
-  set-laws sheet text laws = record {
-    shown = shown;
-    set = set;
-    laws = laws;
-    one_line = plain-set (form_of r) r groups shown set;
-    lines = λ asked graphic. graphic-laws (form_of r) r shown graphic laws.form_laws (plain-set (form_of r) r groups shown set asked);
-    paragraphs = λ asked spoken. text-laws (form_of r) r shown spoken laws.form_laws asked (plain-set (form_of r) r groups shown set asked);
-    around = around-laws (form_of r) r groups shown set laws.form_laws;
-    wrapped = rewrapped-set (form_of r) r groups shown set;
-  }
+  set-laws sheet text laws =
+      let based : IsOfBase r groups shown = of-base r groups shown set laws.form_laws in
+      record {
+        shown = shown;
+        set = set;
+        laws = laws;
+        one_line = plain-set (form_of r) r groups shown set;
+        lines = λ asked graphic. graphic-laws (form_of r) r shown graphic laws.form_laws (plain-set (form_of r) r groups shown set asked);
+        paragraphs = λ asked spoken. text-laws (form_of r) r shown spoken laws.form_laws asked (plain-set (form_of r) r groups shown set asked);
+        clean = clean-set (form_of r) r groups shown set;
+        unlisted = unlisted-laws (form_of r) r groups shown set laws.form_laws;
+        masked = based.masked;
+        masks = based.masks;
+        around = based.around;
+        wrapped = based.wrapped;
+      }
 
   -- and so have texts
   pub set-texts-laws : (sheets : List Stylesheet) (texts : List (List ℕ)) → AllZip (LawsIn (form_of r) r shown) sheets texts

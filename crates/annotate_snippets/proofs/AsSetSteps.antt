@@ -31,22 +31,35 @@ remade-set form r groups shown some set =
 
 -- so it is where line feeds are shown, where lines around those that are kept are, and where titles and messages are wrapped
 pub feeds-set : (form : Form) (r : Renderer) → r.show_line_feeds ≡ true → shows_as_given form r ≡ false
-feeds-set form r asked = ap (λ (feeds : Bool). not feeds && not (adds_context form r) && not (wraps form r)) asked
+feeds-set form r asked = ap (λ (feeds : Bool). not feeds && not r.mask_controls && not (adds_context form r) && not (wraps form r)) asked
 
 pub context-set : (form : Form) (r : Renderer) → adds_context form r ≡ true → shows_as_given form r ≡ false
 context-set form r asked =
-    ap (λ (adds : Bool). not r.show_line_feeds && not adds && not (wraps form r)) asked ∙ none (not r.show_line_feeds) (not (wraps form r))
+    ap (λ (adds : Bool). not r.show_line_feeds && not r.mask_controls && not adds && not (wraps form r)) asked
+    ∙ none (not r.show_line_feeds) (not r.mask_controls)
   where
-    none : (b c : Bool) → (b && false && c) ≡ false
-    none true c = refl
-    none false c = refl
-
-pub wrap-set : (form : Form) (r : Renderer) → wraps form r ≡ true → shows_as_given form r ≡ false
-wrap-set form r asked =
-    ap (λ (wrap : Bool). not r.show_line_feeds && not (adds_context form r) && not wrap) asked ∙ none (not r.show_line_feeds) (not (adds_context form r))
-  where
-    none : (b c : Bool) → (b && c && false) ≡ false
+    none : (b c : Bool) → (b && c && false && not (wraps form r)) ≡ false
     none true true = refl
     none true false = refl
     none false true = refl
     none false false = refl
+
+pub wrap-set : (form : Form) (r : Renderer) → wraps form r ≡ true → shows_as_given form r ≡ false
+wrap-set form r asked =
+    ap (λ (wrap : Bool). not r.show_line_feeds && not r.mask_controls && not (adds_context form r) && not wrap) asked
+    ∙ none (not r.show_line_feeds) (not r.mask_controls) (not (adds_context form r))
+  where
+    none : (b c d : Bool) → (b && c && d && false) ≡ false
+    none true true true = refl
+    none true true false = refl
+    none true false d = refl
+    none false true d = refl
+    none false false d = refl
+
+pub mask-set : (form : Form) (r : Renderer) → r.mask_controls ≡ true → shows_as_given form r ≡ false
+mask-set form r asked =
+    ap (λ (masks : Bool). not r.show_line_feeds && not masks && not (adds_context form r) && not (wraps form r)) asked ∙ none (not r.show_line_feeds)
+  where
+    none : (b : Bool) → (b && false && not (adds_context form r) && not (wraps form r)) ≡ false
+    none true = refl
+    none false = refl

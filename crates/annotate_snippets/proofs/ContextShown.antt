@@ -1,7 +1,7 @@
 -- A report with the lines around those that it keeps: what it has in common with the one in whose place it is shown, and that a page has just
 -- the source rows of the lines near one that is kept, and of each single line between two of these.
 use Rattle.std.proofs.Common.{◌≡◌, ◌∙◌, ℕ, ◌+◌, ◌||◌, Bool, true, false, not, List, [], ◌∷◌, ◌++◌, Option, None, Some, All, IfSome, length, map, arith}
-use Rattle.std.proofs.Common.{refl, sym, ap, ap₂, subst, append-nil}
+use Rattle.std.proofs.Common.{refl, sym, ap, ap₂, subst, append-nil, if◌then◌else◌}
 use Rattle.std.proofs.lemmas.List.Elements.{All-cons, All-head, All-nil, All-tail, All-weaker, filter_agree, filter_map-append}
 use Rattle.std.specs.Cow.{cow_str_bytes}
 use Rattle.std.specs.List.{AllZip, list_any, range_with_len, slice_get, slice_index_or}
@@ -28,11 +28,12 @@ use Rattle.snippet_model.specs.declared.snippet.Group.{Group}
 use Rattle.snippet_model.specs.declared.snippet.Snippet.{Snippet}
 use Rattle.snippet_model.specs.declared.snippet.Title.{Title}
 use Rattle.snippet_parts.specs.Kept.{kept_lines, keeps, with_between}
+use Rattle.snippet_shown.specs.AsMasked.{IsGroupMasked}
 use Rattle.snippet_shown.specs.AsSet.{IsAnnotationAsSet, IsElementAsSet, IsSnippetAsSet, IsTitleAsSet}
 use Rattle.snippet_shown.specs.AsWrapped.{IsElementWrapped, IsGroupWrapped, IsTitleWrapped}
 use Rattle.snippet_style.specs.Cell.{Cell}
 use Rattle.snippet_titles.specs.Title.{id_links}
-use Rattle.annotate_snippets.specs.AsSet.{IsAsSet, IsRemade, IsStep, adds_context, wraps}
+use Rattle.annotate_snippets.specs.AsSet.{IsRemade, IsStep, adds_context, wraps}
 use Rattle.annotate_snippets.specs.ElementContext.{context_at, drawn_elements, file_of_group, is_drawn, path_bytes, position_of_group}
 use Rattle.annotate_snippets.specs.Fault.{element_faults, faults_from, first_fault, number_after_lines, number_faults, refusal_of, span_faults}
 use Rattle.annotate_snippets.specs.Gutter.{gutter_of_report, layout_of_group}
@@ -47,7 +48,6 @@ use Rattle.annotate_snippets.specs.declared.renderer.Renderer.{Renderer}
 use Rattle.annotate_snippets.specs.declared.renderer.element_context.ElementContext.{ElementContext}
 use Rattle.annotate_snippets.specs.declared.renderer.error.RenderError.{RenderError}
 use Rattle.annotate_snippets.specs.declared.renderer.form.Form.{Form}
-use Rattle.annotate_snippets.proofs.AsSetSteps.{context-set, remade-set}
 use Rattle.annotate_snippets.proofs.BoundsLaws.{span-faultless}
 use Rattle.annotate_snippets.proofs.FaultLemmas.{groups-drawable}
 use Rattle.annotate_snippets.proofs.FeedsShown.{feeds-faithful}
@@ -265,7 +265,7 @@ module _ (before after : ℕ) where
 
 -- ---- the page
 
--- the snippet that stands in the place of one, after its texts are as they are set and with these lines
+-- the snippet that stands in the place of one, with these lines
 record IsAround (before after : ℕ) (a : Snippet Annotation) (e : Element) : Type 0 where
   shown : Snippet Annotation
   is : e ≡ Cause shown
@@ -276,6 +276,10 @@ snippet-around : (before after : ℕ) (feeds : Bool) (a : Snippet Annotation) (f
 snippet-around before after feeds a (Cause fed) (Cause b) is with = record { shown = b; is = refl; lines = lines-near before after feeds a fed b is with }
 snippet-around before after feeds a (Cause fed) e is with = absurd with
 snippet-around before after feeds a fed e is with = absurd is
+
+same-around : (before after : ℕ) (a : Snippet Annotation) (e : Element) → IsElementWithContext before after (Cause a) e → IsAround before after a e
+same-around before after a (Cause b) with = record { shown = b; is = refl; lines = ap with_between (keeps-around before after a b with).lines }
+same-around before after a e with = absurd with
 
 -- wrapped or not, a snippet stays
 cause-wrapped : (asked : Bool) (term_width gutter : ℕ) (xs ys : List Group) (s : Snippet Annotation) → IsStep asked (IsGroupWrapped term_width gutter) xs ys
@@ -292,27 +296,60 @@ cause-wrapped true term_width gutter xs ys s pairs i n g at drawn =
 cause-wrapped false term_width gutter xs ys s same i n g at drawn =
     record { group = g; there = ap (λ (gs : List Group). slice_get gs i) same ∙ at; other = Cause s; drawn = drawn; pair = refl }
 
+-- the snippet that is drawn in the place of one, with its lines
+record IsDrawnAround (before after : ℕ) (around : List Group) (i n : ℕ) (s : Snippet Annotation) : Type 0 where
+  group : Group
+  there : slice_get around i ≡ Some group
+  other : Element
+  drawn : slice_get (drawn_elements group) n ≡ Some other
+  found : IsAround before after s other
+
 -- the page of the report that is shown, as the renderer is set, has just these lines
-pub around-set : (form : Form) (r : Renderer) (groups shown : List Group) (page : Page) → IsAsSet form r groups shown → PageLaws r shown page
-    → adds_context form r ≡ true → ShowsLinesAround r.context_before r.context_after groups page
-around-set form r groups shown page set laws asked = record { lines = of_snippet }
+pub around-set : (form : Form) (r : Renderer) (groups shown : List Group) (page : Page) (made : IsRemade form r groups shown) (masks : Bool)
+    → r.mask_controls ≡ masks → PageLaws r shown page → adds_context form r ≡ true
+    → ShowsLinesAround r.context_before r.context_after (if masks then made.masked else groups) page
+around-set form r groups shown page made masks set laws asked =
+    record { lines = λ i n g part s at there drawn. by_step i n part s (before_step i n g s masks set at drawn) there }
   where
-    of_snippet : (i n : ℕ) (g : Group) (part : GroupPage) (s : Snippet Annotation) → slice_get groups i ≡ Some g → slice_get page i ≡ Some part
-        → slice_get (drawn_elements g) n ≡ Some (Cause s)
-        → lines_named (slice_index_or part.elements n []) ≡ lines_with_context r.context_before r.context_after s
-    of_snippet i n g part s at there drawn =
-        let before = r.context_before in
-        let after = r.context_after in
-        let feeds = r.show_line_feeds in
-        let made : IsRemade form r groups shown = remade-set form r groups shown (context-set form r asked) set in
-        let with : AllZip (IsGroupWithContext before after) made.fed made.around =
-        subst (λ (adds : Bool). IsStep adds (IsGroupWithContext before after) made.fed made.around) asked made.context in
+    before : ℕ
+    before = r.context_before
+
+    after : ℕ
+    after = r.context_after
+
+    feeds : Bool
+    feeds = r.show_line_feeds
+
+    with : AllZip (IsGroupWithContext before after) made.masked made.around
+    with = subst (λ (adds : Bool). IsStep adds (IsGroupWithContext before after) made.masked made.around) asked made.context
+
+    -- the snippet with its lines, of the masked report or of the given one
+    before_step : (i n : ℕ) (g : Group) (s : Snippet Annotation) (masked : Bool) → r.mask_controls ≡ masked
+        → slice_get (if masked then made.masked else groups) i ≡ Some g → slice_get (drawn_elements g) n ≡ Some (Cause s)
+        → IsDrawnAround before after made.around i n s
+    before_step i n g s true is at drawn =
+        let one : DrawnPair (IsElementWithContext before after) made.around i n (Cause s) =
+        drawn-pair Stays (IsElementWithContext before after) (context-faithful before after) made.masked made.around with i n g (Cause s) at drawn in
+        record { group = one.group; there = one.there; other = one.other; drawn = one.drawn; found = same-around before after s one.other one.pair }
+    before_step i n g s false is at drawn =
+        let same : made.masked ≡ made.fed = subst (λ (given : Bool). IsStep given IsGroupMasked made.fed made.masked) is made.mask in
         let one : DrawnPair (IsElementAsSet feeds) made.fed i n (Cause s) =
         drawn-pair (IsTitleAsSet feeds) (IsElementAsSet feeds) (feeds-faithful feeds) groups made.fed made.feeds i n g (Cause s) at drawn in
         let two : DrawnPair (IsElementWithContext before after) made.around i n one.other =
-        drawn-pair Stays (IsElementWithContext before after) (context-faithful before after) made.fed made.around with i n one.group one.other one.there
-        one.drawn in
-        let found : IsAround before after s two.other = snippet-around before after feeds s one.other two.other one.pair two.pair in
+        drawn-pair Stays (IsElementWithContext before after) (context-faithful before after) made.masked made.around with i n one.group one.other
+        (ap (λ (gs : List Group). slice_get gs i) same ∙ one.there) one.drawn in
+        record {
+          group = two.group;
+          there = two.there;
+          other = two.other;
+          drawn = two.drawn;
+          found = snippet-around before after feeds s one.other two.other one.pair two.pair;
+        }
+
+    by_step : (i n : ℕ) (part : GroupPage) (s : Snippet Annotation) → IsDrawnAround before after made.around i n s → slice_get page i ≡ Some part
+        → lines_named (slice_index_or part.elements n []) ≡ lines_with_context before after s
+    by_step i n part s two there =
+        let found : IsAround before after s two.other = two.found in
         let three : DrawnPair (λ a b. b ≡ a) shown i n (Cause found.shown) =
         cause-wrapped (wraps form r) r.term_width (gutter_of_report r made.around) made.around shown found.shown made.wrap i n two.group two.there
         (two.drawn ∙ ap (λ (e : Element). Some e) found.is) in

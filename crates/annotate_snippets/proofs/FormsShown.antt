@@ -74,7 +74,7 @@ page-shown r groups sheets texts are =
     }
 
 -- each form's laws say that its plain text is free
-free-in : (r : Renderer) (groups : List Group) (form : Form) → FormLaws form r groups → IsFreeBut (trusted_texts groups) (plain_in form r groups)
+pub free-in : (r : Renderer) (groups : List Group) (form : Form) → FormLaws form r groups → IsFreeBut (trusted_texts groups) (plain_in form r groups)
 free-in r groups Graphic laws = laws.free
 free-in r groups Short laws =
     subst (λ rows. IsFreeBut (trusted_texts groups) (plain_text rows)) (sym (page_is r groups laws.group laws.title laws.first laws.titled))

@@ -1,3 +1,4 @@
+pub mod AlignedLemmas
 pub mod AreTexts
 pub mod AroundLaws
 pub mod AsSetLemmas
@@ -40,6 +41,8 @@ pub mod ListLemmas
 pub mod MarginWords
 pub mod MarkLemmas
 pub mod MarkdownLemmas
+pub mod MaskLaws
+pub mod MaskShown
 pub mod NamedRows
 pub mod NotAround
 pub mod NotBarred

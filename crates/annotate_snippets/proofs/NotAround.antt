@@ -1,5 +1,5 @@
 -- Pages that lack a line near one that is kept, or have one that isn't: each contradicts what is said of lines around those that are kept.
-use Rattle.std.proofs.Common.{◌≡◌, ◌∙◌, ℕ, false, true, Vec, List, [], ◌∷◌, None, Some, ap, ap₂, codes, length, refl, subst, sym, arith}
+use Rattle.std.proofs.Common.{◌≡◌, ◌∙◌, ℕ, Bool, false, true, Vec, List, [], ◌∷◌, None, Some, ap, ap₂, codes, length, refl, subst, sym, arith}
 use Rattle.std.specs.List.{slice_get, slice_index_or}
 use Rattle.std.specs.Str.{chars}
 use Rattle.std.specs.declared.alloc.Global.{Global}
@@ -14,7 +14,7 @@ use Rattle.snippet_lines.specs.Lines.{source_lines, start_of}
 use Rattle.snippet_lines.specs.Place.{line_of}
 use Rattle.snippet_parts.specs.Kept.{kept_lines, with_between}
 use Rattle.snippet_style.specs.declared.stylesheet.Stylesheet.{Stylesheet}
-use Rattle.annotate_snippets.specs.AsSet.{adds_context}
+use Rattle.annotate_snippets.specs.AsSet.{IsMaskedFor, adds_context}
 use Rattle.annotate_snippets.specs.Laws.Context.{ShowsLinesAround, lines_with_context}
 use Rattle.annotate_snippets.specs.Fault.{form_of}
 use Rattle.annotate_snippets.specs.Laws.Forms.{HasLaws}
@@ -71,9 +71,11 @@ line_too_many v w page shows part at wrong =
 
 -- no text of such a report has a page that drops it
 pub text_without_context : (r : Renderer) (v : Vec Element Global) (w : Vec Annotation Global) (sheet : Stylesheet) (text : List ℕ)
-    → (has : HasLaws r (report v w) sheet text) → adds_context (form_of r) r ≡ true → r.context_before ≡ 0 → r.context_after ≡ 1
+    → (has : HasLaws r (report v w) sheet text) → r.mask_controls ≡ false → adds_context (form_of r) r ≡ true → r.context_before ≡ 0 → r.context_after ≡ 1
     → (part : GroupPage) → slice_get (graphic_form r has.shown) 0 ≡ Some part → lines_named (slice_index_or part.elements 0 []) ≡ 0 ∷ [] → ⊥
-text_without_context r v w sheet text has asked before after part at wrong =
+text_without_context r v w sheet text has plain asked before after part at wrong =
+    let given : has.masked ≡ report v w = subst (λ (masks : Bool). IsMaskedFor masks r (report v w) has.masked) plain has.masks in
+    let Shows : ℕ → ℕ → List Group → Type 0 = λ m n gs. ShowsLinesAround m n gs (graphic_form r has.shown) in
+    let lines : Shows r.context_before r.context_after (report v w) = subst (Shows r.context_before r.context_after) given (has.around asked) in
     context_line_dropped v w (graphic_form r has.shown)
-    (subst (λ (n : ℕ). ShowsLinesAround 0 n (report v w) (graphic_form r has.shown)) after
-    (subst (λ (n : ℕ). ShowsLinesAround n r.context_after (report v w) (graphic_form r has.shown)) before (has.around asked))) part at wrong
+    (subst (λ (n : ℕ). Shows 0 n (report v w)) after (subst (λ (n : ℕ). Shows n r.context_after (report v w)) before lines)) part at wrong

@@ -13,7 +13,7 @@ use Rattle.snippet_text.proofs.WidthLemmas.{unicode_width}
 use Rattle.snippet_text.specs.Width.{char_width}
 use Rattle.snippet_shown.specs.Letters.{Letter, letters_of}
 use Rattle.snippet_shown.specs.WrapLaws.{AreWithin, IsRewrapped, columns_of, lines_in, words_of}
-use Rattle.annotate_snippets.specs.AsSet.{wraps}
+use Rattle.annotate_snippets.specs.AsSet.{IsMaskedFor, wraps}
 use Rattle.annotate_snippets.specs.Fault.{form_of}
 use Rattle.annotate_snippets.specs.Laws.Forms.{HasLaws}
 use Rattle.annotate_snippets.specs.Laws.Wrapped.{AreRewrapped, IsTextRewrapped, IsTitleRewrapped}
@@ -108,11 +108,14 @@ pub code_torn : (room : ℕ) (a b : CowStr Global) → cow_str_bytes a ≡ coded
 code_torn room a b is shown texts = tears room (by_bytes room true a b coded torn is shown texts)
 
 -- so no text of a report with that title has the laws of one that is wrapped, if the title that is shown has lost a word
-pub word_lost : (r : Renderer) (g s : Group) (sheet : Stylesheet) (text : List ℕ) (a b : Title) → wraps (form_of r) r ≡ true
+pub word_lost : (r : Renderer) (g s : Group) (sheet : Stylesheet) (text : List ℕ) (a b : Title) → r.mask_controls ≡ false
+    → wraps (form_of r) r ≡ true
     → (has : HasLaws r (g ∷ []) sheet text) → has.shown ≡ s ∷ [] → g.title ≡ Some a → s.title ≡ Some b → cow_str_bytes a.text ≡ given
     → cow_str_bytes b.text ≡ codes "the\nchecker" → ⊥
-word_lost r g s sheet text a b asked has one titled entitled is shown =
-    let pairs : AreRewrapped r (g ∷ []) (s ∷ []) = subst (AreRewrapped r (g ∷ [])) one (has.wrapped asked) in
+word_lost r g s sheet text a b plain asked has one titled entitled is shown =
+    let pairs : AreRewrapped r (g ∷ []) (s ∷ []) = subst (AreRewrapped r (g ∷ [])) one
+    (subst (λ (gs : List Group). AreRewrapped r gs has.shown) (subst (λ (masks : Bool). IsMaskedFor masks r (g ∷ []) has.masked) plain has.masks)
+    (has.wrapped asked)) in
     let first : SameOption (IsTitleRewrapped r.term_width) (Some a) (Some b) =
     subst (λ (t : Option Title). SameOption (IsTitleRewrapped r.term_width) (Some a) t) entitled
     (subst (λ (t : Option Title). SameOption (IsTitleRewrapped r.term_width) t s.title) titled pairs.0.0) in

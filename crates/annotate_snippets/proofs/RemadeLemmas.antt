@@ -1,18 +1,18 @@
--- What a report that is made of another, title by title and element by element, has in common with it: its faults, its links, and, but for
--- line feeds, the characters of its trusted texts.
+-- What a report that is made of another, title by title and element by element, has in common with it: its faults, its links, and the listed
+-- characters of its trusted texts.
 use Rattle.std.proofs.Common.{◌≡◌, ◌∙◌, ℕ, Bool, true, List, [], ◌∷◌, ◌++◌, Option, None, Some, All, IfSome, if◌then◌else◌, is_none, ◌⊎◌, inl, inr}
 use Rattle.std.proofs.Common.{refl, sym, ap, ap₂, subst, chars}
 use Rattle.std.proofs.lemmas.Bool.{false≢true}
 use Rattle.std.proofs.lemmas.List.Elements.{All-contains, All-contains_itself, All-weaker, Contains-append_cases, Contains-append_left, Contains-append_right}
 use Rattle.std.specs.List.{AllZip, Contains, flat_map, slice_get}
 use Rattle.std.specs.Option.{option_or, option_to_list}
-use Rattle.snippet_model.specs.Fits.{ElementFits, GroupFits, ReportFits, TitleFits}
+use Rattle.snippet_model.specs.Fits.{ElementFits, ReportFits, TitleFits}
 use Rattle.snippet_model.specs.Same.{SameOption}
 use Rattle.snippet_model.specs.Trusted.{trusted_of_element, trusted_of_title, trusted_texts}
 use Rattle.snippet_model.specs.declared.snippet.Element.{Element}
 use Rattle.snippet_model.specs.declared.snippet.Group.{Group}
 use Rattle.snippet_model.specs.declared.snippet.Title.{Title}
-use Rattle.snippet_shown.specs.Remade.{IsGroupMade}
+use Rattle.snippet_shown.specs.Remade.{IsGroupMade, IsGroupTaken}
 use Rattle.snippet_text.specs.Normalized.{is_listed}
 use Rattle.snippet_titles.specs.Title.{id_links}
 use Rattle.annotate_snippets.specs.ElementContext.{drawn_elements, is_drawn}
@@ -25,49 +25,46 @@ use Rattle.annotate_snippets.specs.declared.renderer.Renderer.{Renderer}
 use Rattle.annotate_snippets.specs.declared.renderer.error.RenderError.TheVariants.{NoTitle}
 use Rattle.annotate_snippets.specs.declared.renderer.form.Form.{Form}
 use Rattle.annotate_snippets.specs.declared.renderer.form.Form.TheVariants.{Graphic, Short, Text}
-use Rattle.annotate_snippets.proofs.OneLineTexts.{IsOneLineElement, IsOneLineGroup, IsOneLineTitle, one_line_groups, one_line_texts}
+use Rattle.annotate_snippets.proofs.OneLineTexts.{IsOneLineElement, IsOneLineTitle, one_line_groups, one_line_texts}
 use Rattle.annotate_snippets.proofs.PairedLemmas.{Paired, all-over, chosen, faults-same, first-pair, flat-same, flat-zip, option-same, option-zip, paired}
 use Rattle.snippet_suggest.proofs.BodyLaws.{zip_append}
 
 -- ---- texts
 
--- each character of the second text is one of the first, or a line feed
+-- each listed character of the second text is one of the first
 abbrev pub IsOf : List ℕ → ℕ → Type 0
-IsOf cs c = (c ≡ 10) ⊎ Contains cs c
+IsOf cs c = is_listed c ≡ true → Contains cs c
 
 abbrev pub IsTextOf : List ℕ → List ℕ → Type 0
 IsTextOf a b = All (IsOf (chars a)) (chars b)
 
 pub same-text : (a b : List ℕ) → b ≡ a → IsTextOf a b
 same-text a b same =
-    subst (IsTextOf a) (sym same) (All-weaker (Contains (chars a)) (IsOf (chars a)) (λ c own. inr own) (chars a) (All-contains_itself (chars a)))
+    subst (IsTextOf a) (sym same) (All-weaker (Contains (chars a)) (IsOf (chars a)) (λ c own listed. own) (chars a) (All-contains_itself (chars a)))
 
 pub own-texts : (texts : List (List ℕ)) → AllZip IsTextOf texts texts
 own-texts [] = tt
 own-texts (text ∷ texts) = (same-text text text refl, own-texts texts)
 
 -- so is each of texts
-Contains-texts : (given shown : List (List ℕ)) → AllZip IsTextOf given shown → (c : ℕ) → Contains (flat_map chars shown) c
-    → (c ≡ 10) ⊎ Contains (flat_map chars given) c
-Contains-texts [] [] pairs c own = inr own
-Contains-texts [] (y ∷ ys) pairs c own = absurd pairs
-Contains-texts (x ∷ xs) [] pairs c own = absurd pairs
-Contains-texts (x ∷ xs) (y ∷ ys) pairs c own =
+Contains-texts : (given shown : List (List ℕ)) → AllZip IsTextOf given shown → (c : ℕ) → is_listed c ≡ true → Contains (flat_map chars shown) c
+    → Contains (flat_map chars given) c
+Contains-texts [] [] pairs c listed own = own
+Contains-texts [] (y ∷ ys) pairs c listed own = absurd pairs
+Contains-texts (x ∷ xs) [] pairs c listed own = absurd pairs
+Contains-texts (x ∷ xs) (y ∷ ys) pairs c listed own =
     elim (Contains-append_cases (chars y) (flat_map chars ys) c own) [
-      | inl first ↦ elim (All-contains (IsOf (chars x)) (chars y) c pairs.0 first) [
-        | inl feed ↦ inl feed
-        | inr here ↦ inr (Contains-append_left (chars x) (flat_map chars xs) c here)
-      ]
-      | inr later ↦ elim (Contains-texts xs ys pairs.1 c later) [
-        | inl feed ↦ inl feed
-        | inr here ↦ inr (Contains-append_right (chars x) (flat_map chars xs) c here)
-      ]
+      | inl first ↦ Contains-append_left (chars x) (flat_map chars xs) c (All-contains (IsOf (chars x)) (chars y) c pairs.0 first listed)
+      | inr later ↦ Contains-append_right (chars x) (flat_map chars xs) c (Contains-texts xs ys pairs.1 c listed later)
     ]
 
--- and a listed one is one of the given
-listed-own : (c : ℕ) (cs : List ℕ) → is_listed c ≡ true → (c ≡ 10) ⊎ Contains cs c → Contains cs c
-listed-own c cs listed (inl feed) = absurd (false≢true (sym (ap is_listed feed) ∙ listed))
-listed-own c cs listed (inr own) = own
+-- each character of the second text is one of the first, or a line feed, which isn't listed
+pub text-own : (a b : List ℕ) → All (λ c. (c ≡ 10) ⊎ Contains (chars a) c) (chars b) → IsTextOf a b
+text-own a b own =
+    All-weaker (λ c. (c ≡ 10) ⊎ Contains (chars a) c) (IsOf (chars a)) (λ c is listed. elim is [
+      | inl feed ↦ absurd (false≢true (sym (ap is_listed feed) ∙ listed))
+      | inr here ↦ here
+    ]) (chars b) own
 
 -- ---- what is asked of the parts
 
@@ -122,35 +119,42 @@ module _ (T : Title → Title → Type 0) (E : Element → Element → Type 0) w
   missing-made Short (a ∷ gs) (b ∷ bs) pairs =
       ap (λ (missing : Bool). if missing then Some NoTitle else None) (title-there T a.title b.title pairs.0.1)
 
-  -- what goes over to the title and to the elements goes over to all groups: that their texts fit
+  -- what goes over to the title and to the elements goes over to all groups
+  pub over-made : (P : Title → Type 0) (Q : Element → Type 0) → ((a b : Title) → T a b → P a → P b) → ((a b : Element) → E a b → Q a → Q b)
+      → (groups shown : List Group) → AllZip Made groups shown → All (IsGroupTaken P Q) groups → All (IsGroupTaken P Q) shown
+  over-made P Q title element groups shown pairs all =
+      all-over Made (IsGroupTaken P Q) (λ a b is own. (
+        over-title a.title b.title is.1 own.0,
+        all-over E Q element a.elements.items b.elements.items is.2 own.1,
+      )) groups shown pairs all
+    where
+      over-title : (a b : Option Title) → SameOption T a b → IfSome a P → IfSome b P
+      over-title None None is holds = tt
+      over-title None (Some b) is holds = cc
+      over-title (Some a) None is holds = absurd is
+      over-title (Some a) (Some b) is holds = title a b is holds
+
+  -- that their texts fit
   pub fits-made : ((a b : Title) → T a b → TitleFits a → TitleFits b) → ((a b : Element) → E a b → ElementFits a → ElementFits b)
       → (groups shown : List Group) → AllZip Made groups shown → ReportFits groups → ReportFits shown
-  fits-made title element groups shown pairs fits =
-      all-over Made GroupFits (λ a b is fit. (
-        over-title TitleFits title a.title b.title is.1 fit.0,
-        all-over E ElementFits element a.elements.items b.elements.items is.2 fit.1,
-      )) groups shown pairs fits
-    where
-      over-title : (P : Title → Type 0) → ((a b : Title) → T a b → P a → P b) → (a b : Option Title) → SameOption T a b → IfSome a P → IfSome b P
-      over-title P over None None is holds = tt
-      over-title P over None (Some b) is holds = cc
-      over-title P over (Some a) None is holds = absurd is
-      over-title P over (Some a) (Some b) is holds = over a b is holds
+  fits-made title element groups shown pairs fits = over-made TitleFits ElementFits title element groups shown pairs fits
 
   -- and that those that may be on one line only are
   pub line-made : ((a b : Title) → T a b → IsOneLineTitle a → IsOneLineTitle b) → ((a b : Element) → E a b → IsOneLineElement a → IsOneLineElement b)
       → (groups shown : List Group) → AllZip Made groups shown → HasOneLineTexts groups → HasOneLineTexts shown
   line-made title element groups shown pairs plain =
-      one_line_texts shown (all-over Made IsOneLineGroup (λ a b is texts. (
-        over-title a.title b.title is.1 texts.0,
-        all-over E IsOneLineElement element a.elements.items b.elements.items is.2 texts.1,
-      )) groups shown pairs (one_line_groups groups plain))
-    where
-      over-title : (a b : Option Title) → SameOption T a b → IfSome a IsOneLineTitle → IfSome b IsOneLineTitle
-      over-title None None is holds = tt
-      over-title None (Some b) is holds = cc
-      over-title (Some a) None is holds = absurd is
-      over-title (Some a) (Some b) is holds = title a b is holds
+      one_line_texts shown (over-made IsOneLineTitle IsOneLineElement title element groups shown pairs (one_line_groups groups plain))
+
+  -- what holds of their trusted texts, in pairs, holds of all trusted texts
+  pub trusted-zip : (Q : List ℕ → List ℕ → Type 0) → ((a b : Title) → T a b → AllZip Q (trusted_of_title a) (trusted_of_title b))
+      → ((a b : Element) → E a b → AllZip Q (trusted_of_element a) (trusted_of_element b)) → (groups shown : List Group) → AllZip Made groups shown
+      → AllZip Q (trusted_texts groups) (trusted_texts shown)
+  trusted-zip Q title element groups shown pairs =
+      flat-zip Made Q (λ g. flat_map trusted_of_title (option_to_list g.title) ++ flat_map trusted_of_element g.elements.items)
+      (λ a b is. zip_append Q (flat_map trusted_of_title (option_to_list a.title)) (flat_map trusted_of_element a.elements.items)
+      (flat_map trusted_of_title (option_to_list b.title)) (flat_map trusted_of_element b.elements.items)
+      (option-zip T Q trusted_of_title title a.title b.title is.1)
+      (flat-zip E Q trusted_of_element element a.elements.items b.elements.items is.2)) groups shown pairs
 
   module _ (faithful : IsFaithful T E) where
     fault-made : (groups shown : List Group) → AllZip Made groups shown → first_fault shown ≡ first_fault groups
@@ -170,21 +174,13 @@ module _ (T : Title → Title → Type 0) (E : Element → Element → Type 0) w
     links-made Text r groups shown pairs = report-links r groups shown pairs
     links-made Short r groups shown pairs = report-links r _ _ (first-pair Made groups shown pairs)
 
-    trusted-made : (groups shown : List Group) → AllZip Made groups shown → AllZip IsTextOf (trusted_texts groups) (trusted_texts shown)
-    trusted-made groups shown pairs =
-        flat-zip Made IsTextOf (λ g. flat_map trusted_of_title (option_to_list g.title) ++ flat_map trusted_of_element g.elements.items)
-        (λ a b is. zip_append IsTextOf (flat_map trusted_of_title (option_to_list a.title)) (flat_map trusted_of_element a.elements.items)
-        (flat_map trusted_of_title (option_to_list b.title)) (flat_map trusted_of_element b.elements.items)
-        (option-zip T IsTextOf trusted_of_title faithful.trusted_title a.title b.title is.1)
-        (flat-zip E IsTextOf trusted_of_element faithful.trusted a.elements.items b.elements.items is.2)) groups shown pairs
-
     free-made : (groups shown : List Group) → AllZip Made groups shown → (text : List ℕ) → IsFreeBut (trusted_texts shown) text
         → IsFreeBut (trusted_texts groups) text
     free-made groups shown pairs text free =
         All-weaker (λ c. is_listed c ≡ true → Contains (flat_map chars (trusted_texts shown)) c)
         (λ c. is_listed c ≡ true → Contains (flat_map chars (trusted_texts groups)) c)
-        (λ c own listed. listed-own c (flat_map chars (trusted_texts groups)) listed
-        (Contains-texts (trusted_texts groups) (trusted_texts shown) (trusted-made groups shown pairs) c (own listed))) text free
+        (λ c own listed. Contains-texts (trusted_texts groups) (trusted_texts shown)
+        (trusted-zip IsTextOf faithful.trusted_title faithful.trusted groups shown pairs) c listed (own listed)) text free
 
     -- the report keeps what its parts keep
     pub keeps : (groups shown : List Group) → AllZip Made groups shown → Keeps groups shown

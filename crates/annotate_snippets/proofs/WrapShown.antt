@@ -1,10 +1,10 @@
 -- A report whose titles and messages are wrapped: what it has in common with the one in whose place it is shown, and what follows of its texts.
 use Rattle.std.proofs.Common.{◌≡◌, ◌∙◌, ℕ, ◌+◌, ◌-◌, ◌≤◌, Bool, true, false, List, [], ◌∷◌, Option, None, Some, All, fold, if◌then◌else◌, max}
-use Rattle.std.proofs.Common.{refl, sym, ap, ap₂, subst, chars, arith}
+use Rattle.std.proofs.Common.{◌⊎◌, refl, sym, ap, ap₂, subst, chars, arith}
 use Rattle.std.proofs.lemmas.Bool.{false≢true}
 use Rattle.std.proofs.lemmas.List.Elements.{All-weaker}
 use Rattle.std.specs.Cow.{cow_str_bytes}
-use Rattle.std.specs.List.{AllZip, flat_map}
+use Rattle.std.specs.List.{AllZip, Contains, flat_map}
 use Rattle.std.specs.declared.alloc.Global.{Global}
 use Rattle.std.specs.declared.borrow.CowStr.{CowStr}
 use Rattle.snippet_model.proofs.ZipLemmas.{AllZip-weaker}
@@ -21,6 +21,7 @@ use Rattle.snippet_model.specs.declared.snippet.Message as message
 use Rattle.snippet_model.specs.declared.snippet.Title.{Title}
 use Rattle.snippet_shown.proofs.DrawnLemmas.{message-within, title-within}
 use Rattle.snippet_shown.proofs.WrapLemmas.{wrapped-chars, wrapped-laws}
+use Rattle.snippet_shown.specs.AsMasked.{IsGroupMasked}
 use Rattle.snippet_shown.specs.AsSet.{IsElementAsSet, IsGroupAsSet, IsTitleAsSet}
 use Rattle.snippet_shown.specs.AsWrapped.{IsElementWrappable, IsElementWrapped, IsGroupWrapped, IsTextWrapped, IsTitleWrapped, room_of_message, room_of_title}
 use Rattle.snippet_shown.specs.Letters.{letters_of}
@@ -33,7 +34,7 @@ use Rattle.snippet_titles.specs.ShownHeading.{heading_texts}
 use Rattle.snippet_titles.specs.Title.{id_links}
 use Rattle.snippet_titles.specs.declared.style.MessageContext.{MessageContext}
 use Rattle.snippet_titles.specs.declared.style.TitleStyle.TheVariants as style
-use Rattle.annotate_snippets.specs.AsSet.{IsAsSet, IsRemade, IsStep, adds_context, wraps}
+use Rattle.annotate_snippets.specs.AsSet.{IsRemade, IsStep, adds_context, wraps}
 use Rattle.annotate_snippets.specs.ElementContext.{is_drawn}
 use Rattle.annotate_snippets.specs.Fault.{element_faults}
 use Rattle.annotate_snippets.specs.Gutter.{gutter_of_report, width_wanted}
@@ -41,10 +42,9 @@ use Rattle.annotate_snippets.specs.Laws.Feeds.{HasOneLineTexts}
 use Rattle.annotate_snippets.specs.Laws.Wrapped.{AreRewrapped, IsElementRewrapped, IsGroupRewrapped, IsTextRewrapped, IsTitleRewrapped}
 use Rattle.annotate_snippets.specs.declared.renderer.Renderer.{Renderer}
 use Rattle.annotate_snippets.specs.declared.renderer.form.Form.{Form}
-use Rattle.annotate_snippets.proofs.AsSetSteps.{remade-set, wrap-set}
 use Rattle.annotate_snippets.proofs.OneLineTexts.{IsOneLineElement, IsOneLineId, IsOneLineName}
 use Rattle.annotate_snippets.proofs.PairedLemmas.{compose, flat-zip}
-use Rattle.annotate_snippets.proofs.RemadeLemmas.{IsFaithful, IsOf, IsTextOf, line-made}
+use Rattle.annotate_snippets.proofs.RemadeLemmas.{IsFaithful, IsTextOf, line-made, text-own}
 
 -- ---- texts
 
@@ -63,7 +63,9 @@ rewrapped room trusted a b is =
     (wrapped-laws room trusted (chars (cow_str_bytes a)))
 
 IsTextOf-wrapped : (room : ℕ) (trusted : Bool) (a b : CowStr Global) → IsTextWrapped room trusted a b → IsTextOf (cow_str_bytes a) (cow_str_bytes b)
-IsTextOf-wrapped room trusted a b is = subst (All (IsOf (chars (cow_str_bytes a)))) (sym is) (wrapped-chars room trusted (chars (cow_str_bytes a)))
+IsTextOf-wrapped room trusted a b is =
+    text-own (cow_str_bytes a) (cow_str_bytes b) (subst (All (λ c. (c ≡ 10) ⊎ Contains (chars (cow_str_bytes a)) c)) (sym is)
+    (wrapped-chars room trusted (chars (cow_str_bytes a))))
 
 -- what stands before a text, by its level and its id
 abbrev label_of : Level → Option Id → List ℕ
@@ -286,16 +288,27 @@ module _ (term_width gutter : ℕ) where
 -- ---- all steps
 
 -- the titles and messages that are shown where they are wrapped
-pub rewrapped-set : (form : Form) (r : Renderer) (groups shown : List Group) → IsAsSet form r groups shown → wraps form r ≡ true
-    → AreRewrapped r groups shown
-rewrapped-set form r groups shown set asked =
-    let made : IsRemade form r groups shown = remade-set form r groups shown (wrap-set form r asked) set in
-    let around : List Group = made.around in
-    let pairs : AllZip (IsGroupWrapped r.term_width (gutter_of_report r around)) around shown =
-    subst (λ (wrap : Bool). IsStep wrap (IsGroupWrapped r.term_width (gutter_of_report r around)) around shown) asked made.wrap in
-    let last : AreRewrapped r around shown =
-    wrapped-laws-hold r.term_width (gutter_of_report r around) r around shown refl refl pairs in
-    let beside : ℕ = gutter_of_report r shown in
-    compose (IsGroupAsSet r.show_line_feeds) (IsGroupRewrapped r.term_width beside) (IsGroupRewrapped r.term_width beside)
-    (group-fed r.term_width beside r.show_line_feeds) groups made.fed shown made.feeds
-    (around-same r.term_width beside (adds_context form r) r.context_before r.context_after made.fed around shown made.context last)
+pub rewrapped-set : (form : Form) (r : Renderer) (groups shown : List Group) (made : IsRemade form r groups shown) (masks : Bool) → r.mask_controls ≡ masks
+    → wraps form r ≡ true → AreRewrapped r (if masks then made.masked else groups) shown
+rewrapped-set form r groups shown made masks set asked =
+    by masks (subst (λ (given : Bool). IsStep given IsGroupMasked made.fed made.masked) set made.mask)
+  where
+    beside : ℕ
+    beside = gutter_of_report r shown
+
+    around : List Group
+    around = made.around
+
+    last : AreRewrapped r made.masked shown
+    last =
+        let pairs : AllZip (IsGroupWrapped r.term_width (gutter_of_report r around)) around shown =
+        subst (λ (wrap : Bool). IsStep wrap (IsGroupWrapped r.term_width (gutter_of_report r around)) around shown) asked made.wrap in
+        around-same r.term_width beside (adds_context form r) r.context_before r.context_after made.masked around shown made.context
+        (wrapped-laws-hold r.term_width (gutter_of_report r around) r around shown refl refl pairs)
+
+    by : (masks : Bool) → IsStep masks IsGroupMasked made.fed made.masked → AreRewrapped r (if masks then made.masked else groups) shown
+    by true pairs = last
+    by false same =
+        compose (IsGroupAsSet r.show_line_feeds) (IsGroupRewrapped r.term_width beside) (IsGroupRewrapped r.term_width beside)
+        (group-fed r.term_width beside r.show_line_feeds) groups made.fed shown made.feeds
+        (subst (λ (gs : List Group). AllZip (IsGroupRewrapped r.term_width beside) gs shown) same last)

@@ -8,6 +8,7 @@ pub mod Groups
 pub mod Labels
 pub mod Lines
 pub mod Marks
+pub mod Masked
 pub mod Numbers
 pub mod Page
 pub mod Paths

@@ -114,6 +114,7 @@ unlinked r = record {
   context_before = r.context_before;
   context_after = r.context_after;
   wrap = r.wrap;
+  mask_controls = r.mask_controls;
 }
 
 -- the bytes of a report's plain text in the form that the renderer is set to

@@ -20,6 +20,7 @@ plain_settings =
       context_before = 0;
       context_after = 0;
       wrap = false;
+      mask_controls = false;
     }
 
 -- the plain settings with the default sheet's codes in place of none, and with links

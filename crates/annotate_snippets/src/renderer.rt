@@ -80,6 +80,8 @@ pub struct Renderer {
     pub context_after: usize,
     /// Whether lines of titles and messages that are wider than the terminal are broken at blanks.
     pub wrap: bool,
+    /// Whether controls are masked that could change how a terminal shows the text around them.
+    pub mask_controls: bool,
 }
 
 impl Renderer {

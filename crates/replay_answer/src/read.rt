@@ -85,6 +85,7 @@ fn settings_of(node: &Node<'_, '_>) -> Result<Renderer, Fault>
     let show_line_feeds = node.flag_or("show_line_feeds", false)?;
     let (context_before, context_after) = context_of(node)?;
     let wrap = node.flag_or("wrap", false)?;
+    let mask_controls = node.flag_or("mask_controls", false)?;
     Ok(Renderer {
         no_graphics,
         short_message,
@@ -97,6 +98,7 @@ fn settings_of(node: &Node<'_, '_>) -> Result<Renderer, Fault>
         context_before,
         context_after,
         wrap,
+        mask_controls,
         stylesheet: Stylesheet::plain(),
     })
 }

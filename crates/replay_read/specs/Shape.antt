@@ -10,7 +10,7 @@ abbrev pub names_of : Shape → List (List ℕ)
 names_of shape.Case = codes "id" ∷ codes "settings" ∷ codes "sheets" ∷ codes "html" ∷ codes "markdown" ∷ codes "sources" ∷ codes "groups" ∷ []
 names_of shape.Settings = codes "no_graphics" ∷ codes "short_message" ∷ codes "term_width" ∷ codes "unicode" ∷ codes "anonymized_snippet"
     ∷ codes "anonymized_origin" ∷ codes "hyperlink" ∷ codes "show_line_feeds" ∷ codes "context_before"
-    ∷ codes "context_after" ∷ codes "wrap" ∷ []
+    ∷ codes "context_after" ∷ codes "wrap" ∷ codes "mask_controls" ∷ []
 names_of shape.Sheet = codes "error" ∷ codes "warning" ∷ codes "info" ∷ codes "note" ∷ codes "help" ∷ codes "line_num" ∷ codes "emphasis" ∷ codes "none"
     ∷ codes "context" ∷ codes "addition" ∷ codes "removal" ∷ []
 names_of shape.Style = codes "fg" ∷ codes "bg" ∷ codes "effects" ∷ []

@@ -22,6 +22,7 @@ const SETTINGS: &[&str] = &[
     "context_before",
     "context_after",
     "wrap",
+    "mask_controls",
 ];
 
 /// The fields of a sheet.
@@ -98,7 +99,9 @@ impl Shape {
         ensures value { lent_texts result.now ≡ names_of self }
     {
         match self {
-            Shape::Case => &["id", "settings", "sheets", "html", "markdown", "sources", "groups"],
+            Shape::Case => &[
+                "id", "settings", "sheets", "html", "markdown", "sources", "groups",
+            ],
             Shape::Settings => SETTINGS,
             Shape::Sheet => SHEET,
             Shape::Style => &["fg", "bg", "effects"],

@@ -18,6 +18,7 @@ use Rattle.snippet_grid.specs.Woven.{IsWoven, links_of}
 use Rattle.snippet_style.specs.Cell.{Cell}
 use Rattle.snippet_style.specs.Stylesheet.{is_plain_sheet}
 use Rattle.snippet_style.specs.declared.stylesheet.Stylesheet.{Stylesheet}
+use Rattle.snippet_text.specs.Normalized.{is_listed}
 use Rattle.snippet_text_form.specs.Form.{form_text}
 use Rattle.snippet_text_form.specs.Lines.{lines_of_paragraphs}
 use Rattle.snippet_text_form.specs.TextOrder.{StandInOrder}
@@ -25,7 +26,7 @@ use Rattle.snippet_titles.specs.Origin.{origin_text}
 use Rattle.snippet_titles.specs.ShortRows.{short_texts}
 use Rattle.snippet_titles.specs.ShownHeading.{IsFreeButText}
 use Rattle.annotate_snippets.specs.ElementContext.{path_bytes}
-use Rattle.annotate_snippets.specs.AsSet.{IsAsSet, adds_context, wraps}
+use Rattle.annotate_snippets.specs.AsSet.{IsAsSet, IsMaskedFor, adds_context, wraps}
 use Rattle.annotate_snippets.specs.Laws.Context.{ShowsLinesAround}
 use Rattle.annotate_snippets.specs.Fault.{form_of}
 use Rattle.annotate_snippets.specs.Laws.Feeds.{HasOneLineTexts, page_lines, text_lines}
@@ -33,6 +34,7 @@ use Rattle.annotate_snippets.specs.Forms.{links_in, plain_in, short_links, Shows
 use Rattle.annotate_snippets.specs.GraphicForm.{graphic_form}
 use Rattle.annotate_snippets.specs.Gutter.{numbered_source}
 use Rattle.annotate_snippets.specs.Page.{page_text}
+use Rattle.annotate_snippets.specs.Laws.Masked.{HasNoControls}
 use Rattle.annotate_snippets.specs.Laws.Page.{PageLaws}
 use Rattle.annotate_snippets.specs.Laws.TextLines.{report_paragraphs}
 use Rattle.annotate_snippets.specs.Laws.Wrapped.{AreRewrapped}
@@ -108,10 +110,12 @@ pub record IsTextUnder (form : Form) (r : Renderer) (groups : List Group) (sheet
 
 -- a text has the laws of the form that the renderer is set to, for the report that is shown in place of one. Where the renderer is set to
 -- show line feeds, no label, path, id and name of a level of that holds one; so in the graphic form the lines of its plain text are the rows
--- of its page, and in the text form those of its paragraphs, whatever the report holds. Where it is set to show lines around those that are
--- kept, the page has for each annotated snippet of the given report just the source rows of the lines near one that it keeps, and of each
--- single line between two of these. Where it is set to wrap, no text of a title or message has lost a word, and none of their rows is wider
--- than the terminal
+-- of its page, and in the text form those of its paragraphs, whatever the report holds. Where it is set to mask controls, no text of that
+-- holds a masked one, the plain text holds no listed character, whatever is trusted, and what follows is said of the masked report, else of
+-- the given one. Where it is set to show
+-- lines around those that are kept, the page has for each of its annotated snippets just the source rows of the lines near one that it keeps,
+-- and of each single line between two of these. Where it is set to wrap, no text of a title or message has lost a word, and none of their
+-- rows is wider than the terminal
 pub record HasLaws (r : Renderer) (groups : List Group) (sheet : Stylesheet) (text : List ℕ) : Type 0 where
   pub shown : List Group
   pub set : IsAsSet (form_of r) r groups shown
@@ -119,8 +123,12 @@ pub record HasLaws (r : Renderer) (groups : List Group) (sheet : Stylesheet) (te
   pub one_line : r.show_line_feeds ≡ true → HasOneLineTexts shown
   pub lines : r.show_line_feeds ≡ true → form_of r ≡ Graphic → text_lines (page_text (graphic_form r shown)) ≡ page_lines (graphic_form r shown)
   pub paragraphs : r.show_line_feeds ≡ true → form_of r ≡ Text → text_lines (form_text (text_form r shown)) ≡ lines_of_paragraphs (report_paragraphs r shown)
-  pub around : adds_context (form_of r) r ≡ true → ShowsLinesAround r.context_before r.context_after groups (graphic_form r shown)
-  pub wrapped : wraps (form_of r) r ≡ true → AreRewrapped r groups shown
+  pub clean : r.mask_controls ≡ true → HasNoControls shown
+  pub unlisted : r.mask_controls ≡ true → All (λ c. is_listed c ≡ false) (plain_in (form_of r) r shown)
+  pub masked : List Group
+  pub masks : IsMaskedFor r.mask_controls r groups masked
+  pub around : adds_context (form_of r) r ≡ true → ShowsLinesAround r.context_before r.context_after masked (graphic_form r shown)
+  pub wrapped : wraps (form_of r) r ≡ true → AreRewrapped r masked shown
 
 -- texts show a report, one under each of these sheets, and each has its laws: what `render_sheets` says of them
 pub record TextsWithLaws (r : Renderer) (groups : List Group) (sheets : List Stylesheet) (texts : List (List ℕ)) : Type 0 where

@@ -29,6 +29,7 @@ impl Renderer {
             context_before: 0,
             context_after: 0,
             wrap: false,
+            mask_controls: false,
         }
     }
 
@@ -260,6 +261,19 @@ impl Renderer {
         ensures changed { result ≡ record self { wrap = wrap } }
     {
         self.wrap = wrap;
+        self
+    }
+
+    /// Whether controls are masked that could change how a terminal shows the text around them: U+0080 to U+009F, the
+    /// marks of direction U+061C, U+200E and U+200F, and the separators U+2028 and U+2029. For each stands a sign of as
+    /// many bytes, `¤`, U+00A4, or U+FFFD, in all texts but addresses, so that spans stay. In secondary titles and
+    /// messages the listed characters are shown as they are in other texts.
+    ///
+    /// They are drawn as they are unless this says otherwise.
+    pub fn mask_controls(mut self, mask_controls: bool) -> Renderer
+        ensures changed { result ≡ record self { mask_controls = mask_controls } }
+    {
+        self.mask_controls = mask_controls;
         self
     }
 }

@@ -2,6 +2,7 @@
 ghost use Rattle.std.specs.Prelude.{◌≡◌, ◌≤◌, All, Err, IfOk, IfSome, IsOkUnless, None, alloc_error};
 ghost use Rattle.std.specs.Cow.{cow_slice_items};
 ghost use Rattle.snippet_model.specs.Fits.{ReportFits};
+ghost use Rattle.snippet_shown.specs.AsMasked.{IsGroupMasked};
 ghost use Rattle.snippet_shown.specs.AsWrapped.{IsGroupWrapped};
 ghost use Rattle.snippet_shown.specs.WithContext.{IsGroupSound, IsGroupWithContext};
 ghost use Rattle.annotate_snippets.specs.AsSet as set;
@@ -19,7 +20,7 @@ use crate::renderer::validate::first_refusal;
 use crate::snippet::Report;
 use snippet_model::report_fits;
 use snippet_model::snippet::Group;
-use snippet_shown::{LinesAround, Wrapping, groups_as_set, groups_remade};
+use snippet_shown::{LinesAround, Masking, Wrapping, groups_as_set, groups_remade};
 use std::alloc::{AllocError, Global};
 use std::borrow::CowSlice;
 
@@ -28,7 +29,10 @@ impl Renderer {
     pub(crate) fn shows_as_given(&self, form: Form) -> bool
         ensures value { result ≡ set.shows_as_given form self.now }
     {
-        !self.show_line_feeds && !self.adds_context(form) && !self.wraps(form)
+        !self.show_line_feeds
+            && !self.mask_controls
+            && !self.adds_context(form)
+            && !self.wraps(form)
     }
 
     /// Whether lines around those that are kept are shown too: in the graphic form, where a number of them is set.
@@ -52,8 +56,8 @@ impl Renderer {
     }
 
     /// The report that is shown in a form in place of one: the one given, where nothing is set that makes another of
-    /// it; else that with its line feeds shown, then with the lines around those that it keeps, and then with its
-    /// titles and messages wrapped.
+    /// it; else that with its line feeds shown, then with its controls masked, then with the lines around those that it
+    /// keeps, and then with its titles and messages wrapped.
     ///
     /// # Errors
     ///
@@ -95,8 +99,27 @@ impl Renderer {
     {
         let made = groups_as_set(alloc, self.show_line_feeds, groups)?;
         let fed = fitting(made)?;
-        let around = self.with_context(alloc, form, fed)?;
+        let masked = self.with_masks(alloc, fed)?;
+        let around = self.with_context(alloc, form, masked)?;
         self.with_wrapped(alloc, form, around)
+    }
+
+    /// A report with the controls of its texts masked, where that is set.
+    fn with_masks<'a>(
+        &self,
+        alloc: Global,
+        groups: Vec<Group<'a>>,
+    ) -> Result<Vec<Group<'a>>, AllocError>
+        requires fits { ReportFits groups.items }
+        ensures made { IfOk result (λ made. IsStep self.now.mask_controls IsGroupMasked groups.entry.items made.items) }
+        ensures fits { IfOk result (λ made. ReportFits made.items) }
+    {
+        if self.mask_controls {
+            let made = groups_remade(alloc, &Masking, groups)?;
+            fitting(made)
+        } else {
+            Ok(groups)
+        }
     }
 
     /// A report with the lines around those that it keeps, where they are shown.

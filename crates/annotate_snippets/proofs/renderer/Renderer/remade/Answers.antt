@@ -4,34 +4,37 @@ use Rattle.std.specs.List.{AllZip}
 use Rattle.snippet_model.specs.declared.snippet.Group.{Group}
 use Rattle.snippet_shown.specs.AsSet.{IsGroupAsSet}
 use Rattle.annotate_snippets.specs.AsSet.{adds_context}
-use Rattle.annotate_snippets.proofs.AsSetLemmas.{around-keeps, fed-keeps}
+use Rattle.annotate_snippets.proofs.AsSetLemmas.{around-keeps, fed-keeps, mask-keeps}
 use Rattle.annotate_snippets.proofs.ContextShown.{groups-sound}
-use Rattle.annotate_snippets.proofs.RemadeLemmas.{Keeps}
+use Rattle.annotate_snippets.proofs.RemadeLemmas.{Keeps, keeps-then}
 use Rattle.annotate_snippets.proofs.renderer.Renderer.remade.Goals as goal
 
 pub with_context-requires : goal.with_context-requires
 with_context-requires c =
-    let feeds = c.args.self.now.show_line_feeds in
+    let r = c.args.self.now in
     let groups : List Group = c.args.groups.now in
     let fed : List Group = c.in_ok-fed.fed.items in
+    let masked : List Group = c.in_ok-masked.masked.items in
     let same : fed ≡ c.in_ok-made.made.items = ap (λ v. v.items) c.in_ok-fed.ensures.same in
-    let pairs : AllZip (IsGroupAsSet feeds) groups fed =
-    subst (λ (gs : List Group). AllZip (IsGroupAsSet feeds) groups gs) (sym same) c.in_ok-made.ensures.set in
-    let kept : Keeps groups fed = fed-keeps feeds groups fed pairs in
-    record { sound = groups-sound fed c.in_ok-fed.ensures.fits (kept.fault ∙ c.requires.faultless); fits = c.in_ok-fed.ensures.fits }
+    let pairs : AllZip (IsGroupAsSet r.show_line_feeds) groups fed =
+    subst (λ (gs : List Group). AllZip (IsGroupAsSet r.show_line_feeds) groups gs) (sym same) c.in_ok-made.ensures.set in
+    let kept : Keeps groups masked =
+    keeps-then groups fed masked (fed-keeps r.show_line_feeds groups fed pairs) (mask-keeps r.mask_controls fed masked c.in_ok-masked.ensures.made) in
+    record { sound = groups-sound masked c.in_ok-masked.ensures.fits (kept.fault ∙ c.requires.faultless); fits = c.in_ok-masked.ensures.fits }
 
 pub with_wrapped-requires : goal.with_wrapped-requires
 with_wrapped-requires c =
     let r = c.args.self.now in
-    let feeds = r.show_line_feeds in
     let groups : List Group = c.args.groups.now in
     let fed : List Group = c.in_ok-fed.fed.items in
+    let masked : List Group = c.in_ok-masked.masked.items in
     let same : fed ≡ c.in_ok-made.made.items = ap (λ v. v.items) c.in_ok-fed.ensures.same in
-    let pairs : AllZip (IsGroupAsSet feeds) groups fed =
-    subst (λ (gs : List Group). AllZip (IsGroupAsSet feeds) groups gs) (sym same) c.in_ok-made.ensures.set in
-    let kept : Keeps groups fed = fed-keeps feeds groups fed pairs in
-    let around : Keeps fed c.in_ok-around.around.items =
-    around-keeps (adds_context c.args.form r) r.context_before r.context_after fed c.in_ok-around.around.items c.in_ok-around.ensures.made in
+    let pairs : AllZip (IsGroupAsSet r.show_line_feeds) groups fed =
+    subst (λ (gs : List Group). AllZip (IsGroupAsSet r.show_line_feeds) groups gs) (sym same) c.in_ok-made.ensures.set in
+    let kept : Keeps groups masked =
+    keeps-then groups fed masked (fed-keeps r.show_line_feeds groups fed pairs) (mask-keeps r.mask_controls fed masked c.in_ok-masked.ensures.made) in
+    let around : Keeps masked c.in_ok-around.around.items =
+    around-keeps (adds_context c.args.form r) r.context_before r.context_after masked c.in_ok-around.around.items c.in_ok-around.ensures.made in
     record { fits = c.in_ok-around.ensures.fits; faultless = around.fault ∙ kept.fault ∙ c.requires.faultless }
 
 pub returns-clause-set : goal.returns-clause-set
@@ -43,5 +46,13 @@ returns-clause-set c =
     let pairs : AllZip (IsGroupAsSet feeds) groups fed =
     subst (λ (gs : List Group). AllZip (IsGroupAsSet feeds) groups gs) (sym same) c.in_ok-made.ensures.set in
     IfOk-weaker c.with_wrapped.result _ _
-    (λ shown wrap. record { fed = fed; around = c.in_ok-around.around.items; feeds = pairs; context = c.in_ok-around.ensures.made; wrap = wrap })
+    (λ shown wrap. record {
+      fed = fed;
+      masked = c.in_ok-masked.masked.items;
+      around = c.in_ok-around.around.items;
+      feeds = pairs;
+      mask = c.in_ok-masked.ensures.made;
+      context = c.in_ok-around.ensures.made;
+      wrap = wrap;
+    })
     c.with_wrapped.ensures.made

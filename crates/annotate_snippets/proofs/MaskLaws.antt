@@ -1,0 +1,207 @@
+-- Where controls are masked, no text of the report that is shown holds one: masking leaves none, and what is made of it then brings none.
+use Rattle.std.proofs.Common.{◌≡◌, ◌⊎◌, inl, inr, ℕ, Bool, true, false, List, [], ◌∷◌, ◌++◌, Option, None, Some, All, IfSome, codes, map, refl}
+use Rattle.std.proofs.Common.{sym, ap, subst, arith}
+use Rattle.std.proofs.lemmas.Bool.Decides.{nat_tests}
+use Rattle.std.proofs.lemmas.List.Elements.{All-append, All-cons, All-contains, All-head, All-nil, All-tail, All-weaker}
+use Rattle.std.specs.Cow.{cow_str_bytes}
+use Rattle.std.specs.List.{AllZip, Contains, flat_map, list_any}
+use Rattle.std.specs.Str.{chars}
+use Rattle.std.specs.declared.alloc.Global.{Global}
+use Rattle.std.specs.declared.borrow.CowStr.{CowStr}
+use Rattle.std.specs.declared.ops.Range.{Range}
+use Rattle.snippet_model.specs.Level.{name_of, shown_name}
+use Rattle.snippet_model.specs.Same.{SameOption}
+use Rattle.snippet_model.specs.Source.{SourceSeen}
+use Rattle.snippet_model.specs.StandardName.{standard_name_of}
+use Rattle.snippet_model.specs.declared.level.Level.{Level}
+use Rattle.snippet_model.specs.declared.level.LevelName.{LevelName}
+use Rattle.snippet_model.specs.declared.level.LevelName.TheVariants.{Standard, Hidden, Own}
+use Rattle.snippet_model.specs.declared.snippet.Annotation.{Annotation}
+use Rattle.snippet_model.specs.declared.snippet.Element.{Element}
+use Rattle.snippet_model.specs.declared.snippet.Element.TheVariants.{Message, Cause, Suggestion, Origin, Padding}
+use Rattle.snippet_model.specs.declared.snippet.Group.{Group}
+use Rattle.snippet_model.specs.declared.snippet.Id.{Id}
+use Rattle.snippet_model.specs.declared.snippet.Snippet.{Snippet}
+use Rattle.snippet_model.specs.declared.snippet.Title.{Title}
+use Rattle.snippet_shown.proofs.WrapLemmas.{wrapped-chars}
+use Rattle.snippet_shown.specs.AsMasked.{IsAnnotationMasked, IsElementMasked, IsGroupMasked, IsIdMasked, IsNameMasked, IsPatchMasked, IsTitleMasked}
+use Rattle.snippet_shown.specs.AsWrapped.{IsElementWrapped, IsGroupWrapped, IsTextWrapped, IsTitleWrapped, room_of_message, room_of_title}
+use Rattle.snippet_shown.specs.Context.{context_spans, visible_mark}
+use Rattle.snippet_shown.specs.Masked.{IsTextMasked, is_masked, mask_of, masked, masked_in}
+use Rattle.snippet_shown.specs.Remade.{IsGroupTaken, Stays}
+use Rattle.snippet_shown.specs.WithContext.{IsElementWithContext, IsGroupWithContext, IsSnippetWithContext}
+use Rattle.snippet_style.specs.declared.role.LevelInner.{LevelInner}
+use Rattle.snippet_style.specs.declared.role.LevelInner.TheVariants.{Error, Warning, Info, Note, Help}
+use Rattle.snippet_text.specs.Normalized.{norm, shown}
+use Rattle.snippet_titles.proofs.OriginFree.{each-fails}
+use Rattle.annotate_snippets.specs.Laws.Masked.{HasNoControls, IsClean, IsCleanElement, IsCleanTitle}
+use Rattle.annotate_snippets.proofs.PairedLemmas.{all-second}
+use Rattle.annotate_snippets.proofs.RemadeLemmas.{over-made}
+
+abbrev Clean : ℕ → Type 0
+Clean c = is_masked c ≡ false
+
+-- ---- masked texts
+
+clean-mask : (c : ℕ) → is_masked (mask_of c) ≡ false
+clean-mask c = grind (arith, nat_tests)
+
+clean-masked : (cs : List ℕ) → All Clean (masked cs)
+clean-masked [] = All-nil Clean
+clean-masked (c ∷ cs) = All-cons Clean (mask_of c) (map mask_of cs) (clean-mask c) (clean-masked cs)
+
+clean-shown : (c : ℕ) → is_masked c ≡ false → list_any is_masked (shown c) ≡ false
+clean-shown c none = grind (arith, nat_tests)
+
+clean-norm : (cs : List ℕ) → All Clean cs → All Clean (norm cs)
+unfolding norm
+clean-norm [] all = All-nil Clean
+clean-norm (c ∷ cs) all =
+    All-append Clean (shown c) (flat_map shown cs) (each-fails is_masked (shown c) (clean-shown c (All-head Clean c cs all)))
+    (clean-norm cs (All-tail Clean c cs all))
+
+clean-in : (trusted : Bool) (cs : List ℕ) → All Clean (masked_in trusted cs)
+clean-in true cs = clean-norm (masked cs) (clean-masked cs)
+clean-in false cs = clean-masked cs
+
+text-clean : (trusted : Bool) (a b : CowStr Global) → IsTextMasked trusted a b → IsClean (cow_str_bytes b)
+text-clean trusted a b is = subst (All Clean) (sym is) (clean-in trusted (chars (cow_str_bytes a)))
+
+option-clean : (a b : Option (CowStr Global)) → SameOption (IsTextMasked false) a b → IfSome b (λ t. IsClean (cow_str_bytes t))
+option-clean None None is = tt
+option-clean None (Some b) is = cc
+option-clean (Some a) None is = absurd is
+option-clean (Some a) (Some b) is = text-clean false a b is
+
+standard-clean : (kind : LevelInner) → IsClean (standard_name_of kind)
+unfolding chars
+standard-clean Error = each-fails is_masked (codes "error") refl
+standard-clean Warning = each-fails is_masked (codes "warning") refl
+standard-clean Info = each-fails is_masked (codes "info") refl
+standard-clean Note = each-fails is_masked (codes "note") refl
+standard-clean Help = each-fails is_masked (codes "help") refl
+
+nameless-clean : IsClean []
+unfolding chars
+nameless-clean = All-nil Clean
+
+name-clean : (kind : LevelInner) (a b : LevelName) → IsNameMasked a b → IsClean (shown_name kind b)
+name-clean kind (Own a) (Own b) is = text-clean false a b is
+name-clean kind (Own a) Standard is = standard-clean kind
+name-clean kind (Own a) Hidden is = nameless-clean
+name-clean kind Standard Standard is = standard-clean kind
+name-clean kind Standard Hidden is = nameless-clean
+name-clean kind Standard (Own b) is = cc
+name-clean kind Hidden Standard is = standard-clean kind
+name-clean kind Hidden Hidden is = nameless-clean
+name-clean kind Hidden (Own b) is = cc
+
+id-clean : (a b : Option Id) → SameOption IsIdMasked a b → IfSome b (λ (id : Id). IfSome id.id (λ t. IsClean (cow_str_bytes t)))
+id-clean None None is = tt
+id-clean None (Some b) is = cc
+id-clean (Some a) None is = absurd is
+id-clean (Some a) (Some b) is = option-clean a.id b.id is.0
+
+title-clean : (a b : Option Title) → SameOption IsTitleMasked a b → IfSome b IsCleanTitle
+title-clean None None is = tt
+title-clean None (Some b) is = cc
+title-clean (Some a) None is = absurd is
+title-clean (Some a) (Some b) is = (
+  name-clean b.level.kind a.level.name b.level.name is.0.0,
+  id-clean a.id b.id is.1,
+  text-clean a.allows_styling a.text b.text is.2,
+)
+
+element-clean : (a b : Element) → IsElementMasked a b → IsCleanElement b
+element-clean (Message a) (Message b) is =
+    (name-clean b.level.kind a.level.name b.level.name is.0.0, text-clean true a.text b.text is.1)
+element-clean (Cause a) (Cause b) is = (
+  text-clean false a.source.text b.source.text is.2.0,
+  option-clean a.path b.path is.0,
+  all-second IsAnnotationMasked (λ m. IfSome m.label (λ t. IsClean (cow_str_bytes t))) (λ x y pair. option-clean x.label y.label pair.1)
+      a.markers.items b.markers.items is.3,
+)
+element-clean (Suggestion a) (Suggestion b) is = (
+  text-clean false a.source.text b.source.text is.2.0,
+  option-clean a.path b.path is.0,
+  all-second IsPatchMasked (λ p. IsClean (cow_str_bytes p.replacement)) (λ x y pair. text-clean false x.replacement y.replacement pair.1.0)
+      a.markers.items b.markers.items is.3,
+)
+element-clean (Origin a) (Origin b) is = text-clean false a.path b.path is.0
+element-clean (Padding a) (Padding b) is = tt
+element-clean a b is = absurd is
+
+-- no text of a masked report holds one
+pub masked-clean : (groups shown : List Group) → AllZip IsGroupMasked groups shown → HasNoControls shown
+masked-clean groups shown pairs =
+    all-second IsGroupMasked (IsGroupTaken IsCleanTitle IsCleanElement) (λ a b is. (
+      title-clean a.title b.title is.1,
+      all-second IsElementMasked IsCleanElement element-clean a.elements.items b.elements.items is.2,
+    )) groups shown pairs
+
+-- ---- lines around those that are kept
+
+added-clean : (marks : List Annotation) (spans : List (Range ℕ)) → All (λ (a : Annotation). IfSome a.label (λ t. IsClean (cow_str_bytes t))) marks
+    → All (λ (a : Annotation). IfSome a.label (λ t. IsClean (cow_str_bytes t))) (marks ++ map visible_mark spans)
+added-clean [] [] all = All-nil (λ (a : Annotation). IfSome a.label (λ t. IsClean (cow_str_bytes t)))
+added-clean [] (span ∷ spans) all =
+    All-cons (λ (a : Annotation). IfSome a.label (λ t. IsClean (cow_str_bytes t))) (visible_mark span) (map visible_mark spans) tt (added-clean [] spans all)
+added-clean (a ∷ marks) spans all =
+    let Labelled : Annotation → Type 0 = λ m. IfSome m.label (λ t. IsClean (cow_str_bytes t)) in
+    All-cons Labelled a (marks ++ map visible_mark spans) (All-head Labelled a marks all) (added-clean marks spans (All-tail Labelled a marks all))
+
+module _ (before after : ℕ) where
+  cause-around : (a b : Snippet Annotation) → IsSnippetWithContext before after a b → IsCleanElement (Cause a) → IsCleanElement (Cause b)
+  cause-around a b is clean = (
+    subst (λ (s : SourceSeen). IsClean (cow_str_bytes s.text)) (sym is.source) clean.0,
+    subst (λ (path : Option (CowStr Global)). IfSome path (λ t. IsClean (cow_str_bytes t))) (sym is.path) clean.1,
+    subst (All (λ (m : Annotation). IfSome m.label (λ t. IsClean (cow_str_bytes t)))) (sym is.markers)
+        (added-clean a.markers.items (context_spans before after a) clean.2),
+  )
+
+  element-around : (a b : Element) → IsElementWithContext before after a b → IsCleanElement a → IsCleanElement b
+  element-around (Message a) (Message b) is clean = subst (λ m. IsCleanElement (Message m)) (sym is) clean
+  element-around (Cause a) (Cause b) is clean = cause-around a b is clean
+  element-around (Suggestion a) (Suggestion b) is clean = subst (λ s. IsCleanElement (Suggestion s)) (sym is) clean
+  element-around (Origin a) (Origin b) is clean = subst (λ o. IsCleanElement (Origin o)) (sym is) clean
+  element-around (Padding a) (Padding b) is clean = tt
+  element-around a b is clean = absurd is
+
+  pub around-clean : (groups shown : List Group) → AllZip (IsGroupWithContext before after) groups shown → HasNoControls groups → HasNoControls shown
+  around-clean groups shown pairs clean =
+      over-made Stays (IsElementWithContext before after) IsCleanTitle IsCleanElement (λ a b is own. subst IsCleanTitle (sym is) own) element-around
+      groups shown pairs clean
+
+-- ---- wrapped titles and messages
+
+text-wrapped : (room : ℕ) (trusted : Bool) (a b : CowStr Global) → IsTextWrapped room trusted a b → IsClean (cow_str_bytes a) → IsClean (cow_str_bytes b)
+text-wrapped room trusted a b is clean =
+    let given : List ℕ = chars (cow_str_bytes a) in
+    All-weaker (λ c. (c ≡ 10) ⊎ Contains given c) Clean (λ c own. elim own [
+      | inl feed ↦ ap is_masked feed
+      | inr here ↦ All-contains Clean given c clean here
+    ]) (chars (cow_str_bytes b)) (subst (All (λ c. (c ≡ 10) ⊎ Contains given c)) (sym is) (wrapped-chars room trusted given))
+
+module _ (term_width gutter : ℕ) where
+  title-wrapped : (a b : Title) → IsTitleWrapped term_width a b → IsCleanTitle a → IsCleanTitle b
+  title-wrapped a b is clean = (
+    subst (λ (level : Level). IsClean (name_of level)) (sym is.0) clean.0,
+    subst (λ (id : Option Id). IfSome id (λ (i : Id). IfSome i.id (λ t. IsClean (cow_str_bytes t)))) (sym is.1) clean.1,
+    text-wrapped (room_of_title term_width a) a.allows_styling a.text b.text is.2 clean.2,
+  )
+
+  element-wrapped : (a b : Element) → IsElementWrapped term_width gutter a b → IsCleanElement a → IsCleanElement b
+  element-wrapped (Message a) (Message b) is clean = (
+    subst (λ (level : Level). IsClean (name_of level)) (sym is.0) clean.0,
+    text-wrapped (room_of_message term_width gutter a) true a.text b.text is.1 clean.1,
+  )
+  element-wrapped (Cause a) (Cause b) is clean = subst (λ s. IsCleanElement (Cause s)) (sym is) clean
+  element-wrapped (Suggestion a) (Suggestion b) is clean = subst (λ s. IsCleanElement (Suggestion s)) (sym is) clean
+  element-wrapped (Origin a) (Origin b) is clean = subst (λ o. IsCleanElement (Origin o)) (sym is) clean
+  element-wrapped (Padding a) (Padding b) is clean = tt
+  element-wrapped a b is clean = absurd is
+
+  pub wrapped-clean : (groups shown : List Group) → AllZip (IsGroupWrapped term_width gutter) groups shown → HasNoControls groups → HasNoControls shown
+  wrapped-clean groups shown pairs clean =
+      over-made (IsTitleWrapped term_width) (IsElementWrapped term_width gutter) IsCleanTitle IsCleanElement title-wrapped element-wrapped groups shown
+      pairs clean
