@@ -41,16 +41,16 @@ static void choose(void) {
     static const size_t widths[] = {0, 0, 0, 140, 80, 40, 20, 1, SIZE_MAX};
     yazgult_renderer *it = &how.renderer;
     int *const flags[] = {&it->unicode, &it->wrap, &it->short_message, &it->no_graphics, &it->hyperlink, &it->show_line_feeds,
-                          &it->anonymized_origin, &it->anonymized_snippet};
+                          &it->anonymized_origin, &it->anonymized_snippet, &it->mask_controls};
     static const char *const names[] = {"unicode", "wrap", "short_message", "no_graphics", "hyperlink", "show_line_feeds", "anonymized_origin",
-                                        "anonymized_snippet"};
+                                        "anonymized_snippet", "mask_controls"};
     json.length = 0;
     how.sheet = rarely(2) ? YAZGULT_SHEET_PLAIN : YAZGULT_SHEET_DEFAULT;
     it->term_width = OF(widths);
     it->context_before = rarely(4) ? below(3) : 0;
     it->context_after = rarely(4) ? below(3) : 0;
     put("{\"id\":\"\\\"ok\\\":[\",\"settings\":{");
-    for (int i = 0; i < 8; i++) {
+    for (int i = 0; i < 9; i++) {
         *flags[i] = rarely(6);
         if (*flags[i]) {
             put("\"");

@@ -3,6 +3,7 @@
 A case is one as docs/REPORTS.md has it, and a right one: nothing is asked here. Its spans are in bytes.
 """
 
+VERSION = b"\2"
 KINDS = ("error", "warning", "info", "note", "help")
 MARKS = ("primary", "context", "visible")
 PARTS = ("error", "warning", "info", "note", "help", "line_num", "emphasis", "none", "context", "addition", "removal")
@@ -24,7 +25,7 @@ REFUSALS += [("PatchesOverlap", ("group", "element", "first", "second")), ("Line
 def bytes_of(case):
     """The bytes of a case."""
     sheets = ["plain"] if case.get("sheets") is None else case["sheets"]
-    return settings(case.get("settings") or {}) + many(sheets, sheet) + many(case["groups"], group)
+    return VERSION + settings(case.get("settings") or {}) + many(sheets, sheet) + many(case["groups"], group)
 
 
 def number(value):
@@ -59,7 +60,12 @@ def settings(given):
     width = number(140 if given.get("term_width") is None else given["term_width"])
     made = flags["anonymized_origin"] + flags["anonymized_snippet"] + width + flags["unicode"] + flags["hyperlink"]
     made += flags["short_message"] + flags["no_graphics"] + flags["show_line_feeds"]
-    return made + numbers["context_before"] + numbers["context_after"] + flags["wrap"]
+    later = [(0, 1)] if given.get("mask_controls") else []
+    return made + numbers["context_before"] + numbers["context_after"] + flags["wrap"] + many(later, pair)
+
+
+def pair(setting):
+    return bytes([setting[0]]) + number(setting[1])
 
 
 def sheet(given):

@@ -19,7 +19,7 @@ struct yazgult_formatted {
 
 /* The bytes are the list of groups in the form of docs/BINDINGS.md; before it YAZGULT_HEAD bytes are free for the settings and the sheet,
  * which are known when it is drawn. After each call it is a whole list. */
-enum { YAZGULT_HEAD = 32 + 8 + 11 * 12 };
+enum { YAZGULT_HEAD = 1 + 32 + 8 + 9 + 8 + 11 * 12 };
 
 typedef struct yazgult_report {
     yazgult_buffer bytes, steps, lines;
@@ -219,19 +219,26 @@ static inline size_t yazgult_put_head(yazgult_report *report, const yazgult_rend
     static const signed char colors[11] = {9, 3, 12, 10, 14, 12, -1, -1, 12, 10, 9};
     static const unsigned char bold[11] = {1, 1, 1, 1, 1, 1, 1, 0, 1, 0, 0};
     unsigned char head[YAZGULT_HEAD] = {0};
-    size_t length = 40;
-    head[0] = renderer->anonymized_origin != 0;
-    head[1] = renderer->anonymized_snippet != 0;
-    yazgult_set_number(head + 2, renderer->term_width ? renderer->term_width : 140);
-    head[10] = renderer->unicode != 0;
-    head[11] = renderer->hyperlink != 0;
-    head[12] = renderer->short_message != 0;
-    head[13] = renderer->no_graphics != 0;
-    head[14] = renderer->show_line_feeds != 0;
-    yazgult_set_number(head + 15, renderer->context_before);
-    yazgult_set_number(head + 23, renderer->context_after);
-    head[31] = renderer->wrap != 0;
-    yazgult_set_number(head + 32, 1);
+    size_t length = 41;
+    head[0] = 2; /* the version */
+    head[1] = renderer->anonymized_origin != 0;
+    head[2] = renderer->anonymized_snippet != 0;
+    yazgult_set_number(head + 3, renderer->term_width ? renderer->term_width : 140);
+    head[11] = renderer->unicode != 0;
+    head[12] = renderer->hyperlink != 0;
+    head[13] = renderer->short_message != 0;
+    head[14] = renderer->no_graphics != 0;
+    head[15] = renderer->show_line_feeds != 0;
+    yazgult_set_number(head + 16, renderer->context_before);
+    yazgult_set_number(head + 24, renderer->context_after);
+    head[32] = renderer->wrap != 0;
+    yazgult_set_number(head + 33, renderer->mask_controls != 0); /* how many later settings there are */
+    if (renderer->mask_controls) {
+        yazgult_set_number(head + 42, 1); /* after the setting's kind */
+        length += 9;
+    }
+    yazgult_set_number(head + length, 1);
+    length += 8;
     for (int i = 0; i < 11; i++) {
         int is_styled = sheet == YAZGULT_SHEET_DEFAULT, has_color = is_styled && colors[i] >= 0;
         head[length++] = (unsigned char)has_color;

@@ -7,8 +7,8 @@ from facts import ROOT, Trouble
 
 DATA = ROOT / "crates" / "replay" / "data"
 READABLE = ROOT / "crates" / "replay" / "cases"
-# Settings that no case of crates/replay/data has.
-SETTINGS = {"show_line_feeds", "context_before", "context_after", "wrap"}
+# Settings that few cases of crates/replay/data have.
+SETTINGS = {"show_line_feeds", "context_before", "context_after", "wrap", "mask_controls"}
 # How many cases are tried, beside the worked rows.
 COUNT = 1000
 

@@ -33,6 +33,7 @@ class Settings(TypedDict, total=False):
     context_before: int
     context_after: int
     wrap: bool
+    mask_controls: bool
 
 
 def render(
@@ -49,7 +50,7 @@ def render(
     count, "characters" or "bytes", in each snippet that has no `unit`; `sources` are texts that snippets name by their numbers.
 
     Settings are `no_graphics`, `short_message`, `term_width`, `unicode`, `anonymized_snippet`, `anonymized_origin`, `hyperlink`,
-    `show_line_feeds`, `context_before`, `context_after` and `wrap`, as that page has them.
+    `show_line_feeds`, `context_before`, `context_after`, `wrap` and `mask_controls`, as that page has them.
     """
     return render_sheets(report, [sheet], spans=spans, sources=sources, **settings)[0]
 

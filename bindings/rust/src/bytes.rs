@@ -6,10 +6,17 @@ use crate::renderer::{Color, DecorStyle, Effects, RenderError, Renderer, Style, 
 use crate::snippet::{Annotation, Element, Group, Id, Message, Origin, Patch, Snippet, Title};
 use std::ops::Range;
 
+/// The version of the form.
+const VERSION: u8 = 2;
+
+/// The kind of the later setting `mask_controls`.
+const MASK_CONTROLS: u8 = 0;
+
 /// The bytes of a report, drawn by this renderer under these sheets.
 pub(crate) fn report(renderer: &Renderer, sheets: &[Stylesheet], groups: &[Group<'_>]) -> Result<Vec<u8>, RenderError> {
     let mut out = Vec::new();
     reserve(1024, &mut out)?;
+    byte(VERSION, &mut out)?;
     settings(renderer, &mut out)?;
     list(sheets, sheet, &mut out)?;
     list(groups, group, &mut out)?;
@@ -59,7 +66,13 @@ fn settings(r: &Renderer, out: &mut Vec<u8>) -> Written {
     put(&[r.hyperlink, r.short_message, r.no_graphics, r.show_line_feeds].map(u8::from), out)?;
     number(r.context_before, out)?;
     number(r.context_after, out)?;
-    byte(r.wrap, out)
+    byte(r.wrap, out)?;
+    list(if r.mask_controls { &[(MASK_CONTROLS, 1)] } else { &[] }, later, out)
+}
+
+fn later(&(kind, value): &(u8, usize), out: &mut Vec<u8>) -> Written {
+    byte(kind, out)?;
+    number(value, out)
 }
 
 fn sheet(s: &Stylesheet, out: &mut Vec<u8>) -> Written {

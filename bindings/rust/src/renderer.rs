@@ -86,6 +86,7 @@ pub struct Renderer {
     pub(crate) context_before: usize,
     pub(crate) context_after: usize,
     pub(crate) wrap: bool,
+    pub(crate) mask_controls: bool,
 }
 
 impl Renderer {
@@ -111,6 +112,7 @@ impl Renderer {
             context_before: 0,
             context_after: 0,
             wrap: false,
+            mask_controls: false,
         }
     }
 

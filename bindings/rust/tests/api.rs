@@ -103,7 +103,8 @@ fn renderers_are_made_in_constants() {
         .anonymized_origin_line_numbers(true)
         .show_line_feeds(true)
         .context_lines(2, 1)
-        .wrap(true);
+        .wrap(true)
+        .mask_controls(true);
     const STYLED: Renderer = Renderer::styled()
         .error(DEFAULT_ERROR_STYLE)
         .warning(DEFAULT_WARNING_STYLE)

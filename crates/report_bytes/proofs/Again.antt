@@ -1,7 +1,7 @@
 -- What has bytes is read from them again.
 use Rattle.std.proofs.Common.{◌≡◌, ℕ, ◌^◌, ◌<◌, true, false, cond, ltb, List, [], ◌∷◌, ◌++◌, length, take, drop, Option, Some, None, Result, Ok, Err, refl}
 use Rattle.std.proofs.Common.{sym, ap, ◌∙◌, arith}
-use Rattle.std.specs.Prelude.{IfSome, IsOkUnless}
+use Rattle.std.specs.Prelude.{◌==◌, if◌then◌else◌, IfSome, IsOkUnless}
 use Rattle.std.specs.Int.{w64, from_le_bytes, to_le_bytes}
 use Rattle.std.specs.Cow.{cow_str_bytes}
 use Rattle.std.specs.List.{AllByRecursion}
@@ -16,15 +16,16 @@ use Rattle.snippet_style.specs.declared.style.AnsiColor.{AnsiColor}
 use Rattle.snippet_style.specs.declared.style.AnsiColor.TheVariants as ansi
 use Rattle.snippet_style.specs.declared.style.Color.TheVariants.{Ansi, Ansi256, Rgb}
 use Rattle.report_bytes.specs.Bytes.{number_then, flag_then, text_then, option_then, members_then, list_then, severity_number, mark_number, decor_number}
-use Rattle.report_bytes.specs.Bytes.{ansi_number, settings_then, color_then, effects_then, style_then, sheet_then, name_then, level_then, id_then}
+use Rattle.report_bytes.specs.Bytes.{ansi_number, later_then, settings_then, color_then, effects_then, style_then, sheet_then, name_then, level_then, id_then}
 use Rattle.report_bytes.specs.Bytes.{title_then, message_then, span_then, annotation_then, patch_then, snippet_then, origin_then, element_then, group_then}
 use Rattle.report_bytes.specs.Reading.{◌>>=◌, fault_at, read_number, after_number, after_flag, after_kind, after_text, after_option, after_members, after_list}
+use Rattle.report_bytes.specs.Reading.{after_later, after_pairs}
 use Rattle.report_bytes.specs.Reading.{after_settings, after_color, after_effects, after_style, after_levels, after_parts, after_sheet, after_name}
 use Rattle.report_bytes.specs.Reading.{after_level, after_id, after_title, after_message, after_span, after_annotation, after_patch, after_snippet}
 use Rattle.report_bytes.specs.Reading.{after_origin, after_element, after_group}
 use Rattle.report_bytes.specs.Report.{IsText, IsListOf, IsName, IsId, IsTitle, IsAnnotation, IsPatch, IsSnippet, IsElement, IsGroup}
 use Rattle.report_bytes.specs.declared.fault.ByteFault.{ByteFault}
-use Rattle.report_bytes.specs.declared.fault.Wrong.TheVariants.{Short}
+use Rattle.report_bytes.specs.declared.fault.Wrong.TheVariants.{Flag, Short}
 use Rattle.report_bytes.specs.declared.fault.ReadError.{ReadError}
 use Rattle.report_bytes.specs.declared.fault.ReadError.TheVariants as errors
 use Rattle.snippet_model.specs.declared.level.LevelName.TheVariants.{Standard, Hidden, Own}
@@ -161,17 +162,27 @@ decor_again : (d : DecorStyle) (rest : List ℕ) → after_kind 2 (decor_number 
 decor_again decor.Ascii rest = refl
 decor_again decor.Unicode rest = refl
 
+later_again : Again later_then after_later Any
+unfolding after_later
+later_again false rest _ = ap (λ (n : Result (ℕ × List ℕ) ByteFault). n >>= λ n. after_pairs n.0 n.1) (number_read 0 rest (omega arith))
+later_again true rest _ =
+    ap (λ (n : Result (ℕ × List ℕ) ByteFault). n >>= λ n. after_pairs n.0 n.1) (number_read 1 (0 ∷ number_then 1 rest) (omega arith))
+    ∙ ap (λ (n : Result (ℕ × List ℕ) ByteFault).
+    (n >>= λ n. if n.0 == 1 then Ok n.1 else Err (fault_at Flag (number_then 1 rest))) >>= λ rest. if 1 == 1 then Ok rest else after_kind 0 rest)
+    (number_read 1 rest (omega arith))
+
 pub settings_again : Again settings_then after_settings Any
 unfolding after_settings
 settings_again s rest _ =
-    let around = number_then s.context_before (number_then s.context_after (flag_then s.wrap rest)) in
+    let last = flag_then s.wrap (later_then s.mask_controls rest) in
+    let around = number_then s.context_before (number_then s.context_after last) in
     seq _ (flag_again s.anonymized_origin_line_numbers _ tt) (seq _ (flag_again s.anonymized_snippet_line_numbers _ tt)
     (seq_number s.term_width (decor_number s.decor_style ∷ flag_then s.hyperlink (flag_then s.short_message
     (flag_then s.no_graphics (flag_then s.show_line_feeds around)))) _
     (seq _ (decor_again s.decor_style _) (seq _ (flag_again s.hyperlink _ tt)
     (seq _ (flag_again s.short_message _ tt) (seq _ (flag_again s.no_graphics _ tt) (seq _ (flag_again s.show_line_feeds _ tt)
-    (seq_number s.context_before (number_then s.context_after (flag_then s.wrap rest)) _
-    (seq_number s.context_after (flag_then s.wrap rest) _ (flag_again s.wrap rest tt))))))))))
+    (seq_number s.context_before (number_then s.context_after last) _
+    (seq_number s.context_after last _ (seq _ (flag_again s.wrap _ tt) (later_again s.mask_controls rest tt)))))))))))
 
 -- ---- groups
 

@@ -1,5 +1,5 @@
 -- Reading a report from bytes, from left to right: what is left once a thing is read, or the first fault that is met.
-use Rattle.std.specs.Prelude.{◌≡◌, ℕ, zero, suc, ◌^◌, Bool, true, false, List, [], ◌∷◌, length, take, drop, Result, Ok, Err, nat_lt, if◌then◌else◌}
+use Rattle.std.specs.Prelude.{◌≡◌, ℕ, zero, suc, ◌^◌, Bool, true, false, List, [], ◌∷◌, length, take, drop, Result, Ok, Err, ◌==◌, nat_lt, if◌then◌else◌}
 use Rattle.std.specs.Int.{w64, from_le_bytes}
 use Rattle.std.specs.Str.{is_utf8}
 use Rattle.report_bytes.specs.declared.fault.ByteFault.{ByteFault}
@@ -79,6 +79,19 @@ after_list after bytes = read_number bytes >>= λ n. after_members after n.0 n.1
 
 -- ---- settings and sheets
 
+-- the number 1, which a later setting has
+abbrev pub after_one : List ℕ → Result (List ℕ) ByteFault
+after_one bytes = read_number bytes >>= λ n. if n.0 == 1 then Ok n.1 else Err (fault_at Flag bytes)
+
+-- so many later settings: there is one kind, so a second one names none
+abbrev pub after_pairs : ℕ → List ℕ → Result (List ℕ) ByteFault
+after_pairs count bytes =
+    if count == 0 then Ok bytes
+    else after_kind 1 bytes >>= after_one >>= λ rest. if count == 1 then Ok rest else after_kind 0 rest
+
+unfoldable pub after_later : List ℕ → Result (List ℕ) ByteFault
+after_later bytes = read_number bytes >>= λ n. after_pairs n.0 n.1
+
 unfoldable pub after_settings : List ℕ → Result (List ℕ) ByteFault
 after_settings bytes = do
   rest ← after_flag bytes
@@ -91,7 +104,8 @@ after_settings bytes = do
   rest ← after_flag rest
   rest ← after_number rest
   rest ← after_number rest
-  after_flag rest
+  rest ← after_flag rest
+  after_later rest
 
 -- one byte of a colour
 abbrev pub after_byte : List ℕ → Result (List ℕ) ByteFault

@@ -1,8 +1,9 @@
 //! A report with all that it is drawn by, and how it is read.
 
-ghost use Rattle.std.specs.Prelude.{◌≡◌, [], IfOk, IsOkUnless};
+ghost use Rattle.std.specs.Prelude.{◌≡◌, [], ◌∷◌, IfOk, IsOkUnless};
 ghost use Rattle.snippet_model.specs.Fits.{ReportFits};
-ghost use Rattle.report_bytes.specs.Request.{IsReport, after_request, request_bytes};
+ghost use Rattle.report_bytes.specs.Request as spec;
+ghost use Rattle.report_bytes.specs.Request.{IsReport, after_request, after_version, request_bytes};
 ghost use Rattle.report_bytes.specs.declared.request.DrawRequest.{DrawRequest};
 ghost use Rattle.report_bytes.specs.Reading.{Gives};
 ghost use Rattle.report_bytes.specs.declared.fault.ReadError.TheVariants.{Memory};
@@ -50,7 +51,8 @@ fn whole(alloc: Global, bytes: &[u8]) -> Result<DrawRequest<'_>, ReadError>
     ensures left { Gives (λ request. []) result (after_request bytes.now) }
     ensures fits { IfOk result (λ request. ReportFits request.groups.items) }
 {
-    let (settings, rest) = settings_at(bytes)?;
+    let rest = version(bytes)?;
+    let (settings, rest) = settings_at(rest)?;
     let (sheets, rest) = list(alloc, rest)?;
     let (groups, rest) = list(alloc, rest)?;
     if !rest.is_empty() {
@@ -61,4 +63,16 @@ fn whole(alloc: Global, bytes: &[u8]) -> Result<DrawRequest<'_>, ReadError>
         sheets,
         groups,
     })
+}
+
+/// What is left after the version of the form, the first byte.
+fn version(bytes: &[u8]) -> Result<&[u8], ReadError>
+    ensures left { Gives (λ x. x.now) result (after_version bytes.now) }
+    ensures spelled { IfOk result (λ rest. bytes.now ≡ spec.version ∷ rest.now) }
+{
+    match bytes {
+        [] => Err(ReadError::at(Wrong::Short, bytes)),
+        [2, rest @ ..] => Ok(rest),
+        [_, ..] => Err(ReadError::at(Wrong::Kind, bytes)),
+    }
 }

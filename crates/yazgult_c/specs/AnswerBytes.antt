@@ -36,7 +36,7 @@ renderer_of s =
       context_before = s.context_before;
       context_after = s.context_after;
       wrap = s.wrap;
-      mask_controls = false;
+      mask_controls = s.mask_controls;
     }
 
 -- a refusal as an answer; that there was no memory is no refusal

@@ -82,6 +82,6 @@ fn renderer(settings: &Settings) -> Renderer
         context_before: settings.context_before,
         context_after: settings.context_after,
         wrap: settings.wrap,
-        mask_controls: false,
+        mask_controls: settings.mask_controls,
     }
 }

@@ -24,6 +24,7 @@ pub fn renderer(case: &Json) -> Renderer {
         .show_line_feeds(s.flag("show_line_feeds", false))
         .context_lines(s.number("context_before").unwrap_or(0), s.number("context_after").unwrap_or(0))
         .wrap(s.flag("wrap", false))
+        .mask_controls(s.flag("mask_controls", false))
 }
 
 /// The sheets of a case: the plain one where none is named.

@@ -162,4 +162,19 @@ impl Renderer {
         self.wrap = wrap;
         self
     }
+
+    /// Whether the controls of texts are drawn as signs that could change how a terminal shows the text around them: U+0080 to U+009F,
+    /// U+061C, U+200E, U+200F, U+2028 and U+2029 in all texts but addresses, and in secondary titles and messages those of ASCII too. They
+    /// are drawn as they are unless this says otherwise.
+    ///
+    /// ```
+    /// use yazgult::{Group, Level, Renderer};
+    ///
+    /// let report = &[Group::with_title(Level::ERROR.primary_title("a\u{9b}31mb\u{200f}"))];
+    /// assert_eq!(Renderer::plain().mask_controls(true).render(report), "error: a¤31mb\u{fffd}");
+    /// ```
+    pub const fn mask_controls(mut self, mask_controls: bool) -> Self {
+        self.mask_controls = mask_controls;
+        self
+    }
 }
