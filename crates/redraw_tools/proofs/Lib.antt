@@ -1,6 +1,7 @@
+pub mod Cutting
 pub mod GoingOn
+pub mod LastChanged
 pub mod LinkLemmas
 pub mod ListLemmas
 pub mod Listed
-pub mod Parting
 pub mod Rows

@@ -1,7 +1,13 @@
+pub mod Cut
 pub mod Edits
+pub mod Eslint
+pub mod Excerpt
 pub mod Filling
+pub mod Found
 pub mod Heading
 pub mod Links
+pub mod Lsp
+pub mod Path
 pub mod Places
 pub mod Primary
 pub mod Region
@@ -9,4 +15,5 @@ pub mod Result
 pub mod Rule
 pub mod Said
 pub mod Steps
+pub mod Told
 pub mod Units

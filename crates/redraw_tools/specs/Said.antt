@@ -1,18 +1,25 @@
--- What a line of a compiler says of its place, as a finding.
-use Rattle.std.specs.Prelude.{◌≡◌, ◌==◌, ◌+◌, ◌-◌, ◌^◌, ℕ, Bool, true, false, List, [], ◌∷◌, Option, Some, None, bytes_eq, codes}
-use Rattle.std.specs.Prelude.{if◌then◌else◌, nat_lt, string_bytes}
-use Rattle.std.specs.Borrow.{Bor}
-use Rattle.redraw_report.specs.declared.diagnostic.Child.{Child}
-use Rattle.redraw_report.specs.declared.diagnostic.Code.{Code}
-use Rattle.redraw_report.specs.declared.diagnostic.Diagnostic.{Diagnostic}
-use Rattle.redraw_report.specs.declared.diagnostic.FileSpan.{FileSpan}
-use Rattle.redraw_report.specs.declared.diagnostic.Region.{Region}
-use Rattle.redraw_report.specs.declared.diagnostic.Region.TheVariants as region
+-- What a line of a compiler says of its place: the level, the name of the rule, and the message.
+use Rattle.std.specs.Prelude.{ℕ, ◌==◌, ◌&&◌, ◌||◌, Bool, true, false, List, [], ◌∷◌, Option, Some, None, bytes_eq, codes, drop, length, nat_le, nat_lt, suc}
+use Rattle.std.specs.Prelude.{if◌then◌else◌, option_and_then, option_map, unwrap_or}
+use Rattle.std.specs.Char.{is_ascii_digit, is_ascii_uppercase}
+use Rattle.std.specs.List.{list_all, list_any}
+use Rattle.std.specs.Option.{option_or}
+use Rattle.std.specs.Str.{trim_end, trim_start}
+use Rattle.json_lines.specs.Field.{lent_text}
 use Rattle.redraw_report.specs.declared.diagnostic.Severity.{Severity}
 use Rattle.redraw_report.specs.declared.diagnostic.Severity.TheVariants.{Error, Warning, Info, Note, Help}
-use Rattle.redraw_report.specs.declared.diagnostic.Unit as unit_type
-use Rattle.redraw_tools.specs.declared.heading.Heading.{Heading}
+use Rattle.redraw_tools.specs.Cut.{Parts, after, before, parted, parted_last}
 use Rattle.redraw_tools.specs.declared.said.Said.{Said}
+
+-- what is said of a place, and whether the tool counts columns from 0
+pub record Says : Type 0 where
+  pub severity : Severity
+  pub id : Option (List ℕ)
+  pub message : List ℕ
+  pub is_from_zero : Bool
+
+abbrev pub said_view : Said → Says
+said_view s = record { severity = s.severity; id = lent_text s.id; message = s.message.now; is_from_zero = s.is_from_zero }
 
 -- the level that these words name
 abbrev pub level_of : List ℕ → Option Severity
@@ -34,57 +41,95 @@ level_of words =
     else if bytes_eq words (codes "hint") then Some Help
     else None
 
--- one more, as far as that fits in 64 bits
-abbrev pub next : ℕ → ℕ
-next n = if nat_lt n (2 ^ 64 - 1) then n + 1 else n
+-- the level that a code of pylint has by its letter: E and F, W, and others
+abbrev pub level_by_letter : ℕ → Severity
+level_by_letter c = if c == 69 || c == 70 then Error else if c == 87 then Warning else Info
 
--- the column as it is counted from 1: by pylint from 0, and 0 of another tool is none
-abbrev pub column_of : Option ℕ → Bool → Option ℕ
-column_of None is_from_zero = None
-column_of (Some column) true = Some (next column)
-column_of (Some column) false = if column == 0 then None else Some column
+abbrev pub level_by : List ℕ → Severity
+level_by [] = Info
+level_by (c ∷ cs) = level_by_letter c
 
--- the point that a line names: its line where it names no column, and the start of the file where it is of no line
-abbrev pub region_at : Heading → Bool → unit_type.Unit → Region
-region_at h is_from_zero unit =
-    if h.line == 0 then region.Bytes 0 0
-    else region.Lines record {
-      start_line = h.line;
-      start_column = column_of h.column is_from_zero;
-      end_line = h.line;
-      end_column = column_of h.column is_from_zero;
-      unit = unit;
-    }
+-- how many capital letters some bytes begin with
+abbrev pub capitals_before : List ℕ → ℕ
+capitals_before [] = 0
+capitals_before (c ∷ cs) = if is_ascii_uppercase c then suc (capitals_before cs) else 0
 
--- a place is that of a line, as the point of a report, with nothing said at it
-pub record IsPlaceOf (h : Heading) (is_from_zero : Bool) (unit : unit_type.Unit) (span : FileSpan) : Type 0 where
-  pub region : span.region ≡ region_at h is_from_zero unit
-  pub primary : span.is_primary ≡ true
-  pub label : span.label ≡ None
-  pub carried : span.carried ≡ None
+abbrev pub is_long_number : List ℕ → Bool
+is_long_number cs = nat_le 2 (length cs) && list_all is_ascii_digit cs
 
--- these places are that of a line alone
-abbrev pub ArePlaceOf : Heading → Bool → unit_type.Unit → List FileSpan → Type 0
-ArePlaceOf h is_from_zero unit spans = (span : FileSpan) × (spans ≡ span ∷ []) × IsPlaceOf h is_from_zero unit span
+-- whether a word is a code: some capital letters, and then two digits or more
+abbrev pub is_code : List ℕ → Bool
+is_code word = nat_lt 0 (capitals_before word) && is_long_number (drop (capitals_before word) word)
 
--- the name of a rule is this one, where there is one
-abbrev pub IsNameOf : Option (Bor (List ℕ)) → Option Code → Type 0
-IsNameOf None None = Unit {0}
-IsNameOf None (Some code) = ⊥
-IsNameOf (Some id) None = ⊥
-IsNameOf (Some id) (Some code) = (string_bytes code.id ≡ id.now) × (code.url ≡ None)
+abbrev pub code_in : List ℕ → Option (List ℕ)
+code_in word = if is_code word then Some word else None
 
--- a finding is what is said of a place
-pub record IsFindingOf (h : Heading) (s : Said) (unit : unit_type.Unit) (d : Diagnostic) : Type 0 where
-  pub severity : d.severity ≡ s.severity
-  pub message : string_bytes d.message ≡ s.message.now
-  pub name : IsNameOf s.id d.code
-  pub places : ArePlaceOf h s.is_from_zero unit d.spans.items
-  pub children : d.children.items ≡ []
+-- whether a byte is a blank or a bracket
+abbrev pub is_blank_or_bracket : ℕ → Bool
+is_blank_or_bracket b = b == 32 || (b == 9 || (b == 91 || (b == 93 || (b == 40 || b == 41))))
 
--- and so is a note
-pub record IsNoteOf (h : Heading) (s : Said) (unit : unit_type.Unit) (note : Child) : Type 0 where
-  pub severity : note.severity ≡ s.severity
-  pub message : string_bytes note.message ≡ s.message.now
-  pub places : ArePlaceOf h s.is_from_zero unit note.spans.items
-  pub alternatives : note.alternatives.items ≡ []
+-- what comes before brackets at the end of a text, and what stands in them, which isn't empty and has neither blanks nor brackets
+abbrev pub if_name : Parts → Option Parts
+if_name p = if length p.1 == 0 || list_any is_blank_or_bracket p.1 then None else Some (trim_end p.0, p.1)
+
+abbrev pub after_last : List ℕ → (opening closing : List ℕ) → Option Parts
+after_last text opening closing = option_and_then if_name (option_and_then (parted_last opening) (before closing text))
+
+-- a message with the name of its rule, and one without
+abbrev pub said_by : Severity → (id message : List ℕ) → Bool → Says
+said_by severity id message is_from_zero =
+    record { severity = severity; id = Some id; message = message; is_from_zero = is_from_zero }
+
+abbrev pub unnamed : Severity → List ℕ → Says
+unnamed severity text = record { severity = severity; id = None; message = text; is_from_zero = false }
+
+abbrev pub named : Severity → Parts → Says
+named severity p = said_by severity p.1 p.0 false
+
+-- `MESSAGE [ID]`, or a message
+abbrev pub with_id_after : Severity → List ℕ → Says
+with_id_after severity text =
+    unwrap_or (option_map (named severity) (after_last text (codes " [") (codes "]"))) (unnamed severity text)
+
+-- `error TS2304: MESSAGE`, and `C0114: MESSAGE`, where the column is counted from 0
+abbrev pub with_code : Option Severity → Option (List ℕ) → List ℕ → Bool → Option Says
+with_code (Some severity) (Some id) message is_from_zero = Some (said_by severity id message is_from_zero)
+with_code (Some severity) None message is_from_zero = None
+with_code None id message is_from_zero = None
+
+abbrev pub coded_level_by : Option Parts → (word message : List ℕ) → Option Says
+coded_level_by (Some p) word message = with_code (level_of p.0) (code_in p.1) message false
+coded_level_by None word message = with_code (Some (level_by word)) (code_in word) message true
+
+abbrev pub coded_level : (word message : List ℕ) → Option Says
+coded_level word message = coded_level_by (parted_last (codes " ") word) word message
+
+-- `warning: MESSAGE [ID]`
+abbrev pub leveled_by : Option Severity → Parts → Option Says
+leveled_by (Some severity) p = Some (with_id_after severity (trim_start p.1))
+leveled_by None p = coded_level p.0 p.1
+
+abbrev pub leveled : List ℕ → Option Says
+leveled text = option_and_then (λ (p : Parts). leveled_by (level_of p.0) p) (parted (codes ": ") text)
+
+-- `[warning] MESSAGE (ID)`
+abbrev pub named_in_brackets : List ℕ → Severity → Says
+named_in_brackets message severity =
+    unwrap_or (option_map (named severity) (after_last message (codes " (") (codes ")"))) (with_id_after severity message)
+
+abbrev pub bracketed_by : Parts → Option Says
+bracketed_by p = option_map (named_in_brackets p.1) (level_of p.0)
+
+abbrev pub bracketed : List ℕ → Option Says
+bracketed text = option_and_then bracketed_by (option_and_then (parted (codes "] ")) (after (codes "[") text))
+
+-- `E501 MESSAGE`, or a message that may have a name: a warning
+abbrev pub coded : List ℕ → Option Says
+coded text = option_and_then (λ (p : Parts). with_code (Some Warning) (code_in p.0) p.1 false) (parted (codes " ") text)
+
+abbrev pub unleveled : List ℕ → Says
+unleveled text = unwrap_or (coded text) (with_id_after Warning text)
+
+-- what a text says
+abbrev pub said_of : List ℕ → Says
+said_of text = unwrap_or (option_or (leveled text) (bracketed text)) (unleveled text)

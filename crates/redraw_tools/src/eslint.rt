@@ -1,17 +1,17 @@
 //! ESLint's log: a list of files, each with the messages about it.
+ghost use Rattle.std.specs.Prelude.{◌≡◌, ◌++◌, ◌∷◌, [], IfOk, OnOk, map, option_map};
+ghost use Rattle.std.specs.List.{filter_map};
+ghost use Rattle.serde_json.specs.View.{view};
+ghost use Rattle.json_lines.specs.Field.{lent_text};
+ghost use Rattle.redraw_tools.specs.Eslint as spec;
+ghost use Rattle.redraw_tools.specs.Eslint.{fix_in, suggestion_in};
+ghost use Rattle.redraw_tools.specs.Found.{found_view, place_view, remark_view};
 
+use crate::parts::{NO_MESSAGE, START, UNDESCRIBED, add_place, code_of, edit_of, help_of};
 use json_lines::lenient::{LenientNode, Problems};
-use redraw_report::diagnostic::{
-    Child, Code, Diagnostic, FileSpan, LineRegion, Region, Severity, SuggestedEdit, Unit,
-};
+use redraw_report::diagnostic::{Child, Diagnostic, FileSpan, LineRegion, Region, Severity, Unit};
 use serde_json::Value;
 use std::alloc::{AllocError, Global};
-
-/// What stands where a message says nothing.
-const NO_MESSAGE: &str = "there is no message";
-
-/// What stands over a fix that isn't described.
-const UNDESCRIBED: &str = "apply this fix";
 
 /// What a message reports of its file; `None` for a value that is no object, which is reported.
 pub fn eslint_finding(
@@ -19,7 +19,10 @@ pub fn eslint_finding(
     file: &LenientNode<'_, '_>,
     reported: &LenientNode<'_, '_>,
     problems: &mut Problems,
-) -> Result<Option<Diagnostic>, AllocError> {
+) -> Result<Option<Diagnostic>, AllocError>
+    ensures value { IfOk result (λ found. option_map found_view found
+        ≡ spec.finding_in (view file.now.value.now) (view reported.now.value.now)) }
+{
     if !reported.is_object(problems) {
         return Ok(None);
     }
@@ -28,7 +31,7 @@ pub fn eslint_finding(
     Ok(Some(Diagnostic {
         severity: severity_of(reported.number("severity", problems)),
         message: String::from_str(alloc, message)?,
-        code: code_of(alloc, reported.text("ruleId", problems))?,
+        code: code_of(alloc, reported.text("ruleId", problems), None)?,
         spans: spans_of(alloc, path, reported, problems)?,
         children: fixes_of(alloc, path, reported, problems)?,
         homes: Vec::new(alloc),
@@ -36,21 +39,12 @@ pub fn eslint_finding(
 }
 
 /// The level that a number stands for.
-fn severity_of(number: Option<usize>) -> Severity {
+fn severity_of(number: Option<usize>) -> Severity
+    ensures value { result ≡ spec.severity_by number }
+{
     match number {
         Some(2) => Severity::Error,
         _ => Severity::Warning,
-    }
-}
-
-/// The name of a rule.
-fn code_of(alloc: Global, rule: Option<&str>) -> Result<Option<Code>, AllocError> {
-    match rule {
-        Some(rule) => Ok(Some(Code {
-            id: String::from_str(alloc, rule)?,
-            url: None,
-        })),
-        None => Ok(None),
     }
 }
 
@@ -60,24 +54,24 @@ fn spans_of(
     path: Option<&str>,
     reported: &LenientNode<'_, '_>,
     problems: &mut Problems,
-) -> Result<Vec<FileSpan>, AllocError> {
+) -> Result<Vec<FileSpan>, AllocError>
+    ensures are { IfOk result (λ spans. map place_view spans.items
+        ≡ spec.places_in (lent_text path.entry) (view reported.now.value.now)) }
+{
     let mut spans = Vec::new(alloc);
     if let Some(path) = path {
-        spans.push(FileSpan {
-            file: String::from_str(alloc, path)?,
-            region: region_of(reported, problems),
-            label: None,
-            is_primary: true,
-            carried: None,
-        })?;
+        let file = String::from_str(alloc, path)?;
+        add_place(&mut spans, file, region_of(reported, problems), None, true)?;
     }
     Ok(spans)
 }
 
 /// The region of a message. Without an end it is a point, and without a line the start of its file.
-fn region_of(reported: &LenientNode<'_, '_>, problems: &mut Problems) -> Region {
+fn region_of(reported: &LenientNode<'_, '_>, problems: &mut Problems) -> Region
+    ensures value { result ≡ spec.region_in (view reported.now.value.now) }
+{
     let Some(start_line) = reported.from_one("line", problems) else {
-        return Region::Bytes { start: 0, end: 0 };
+        return START;
     };
     let start_column = reported.from_one("column", problems);
     let end_column = reported.from_one("endColumn", problems);
@@ -96,19 +90,50 @@ fn fixes_of(
     path: Option<&str>,
     reported: &LenientNode<'_, '_>,
     problems: &mut Problems,
-) -> Result<Vec<Child>, AllocError> {
+) -> Result<Vec<Child>, AllocError>
+    ensures are { IfOk result (λ fixes. map remark_view fixes.items
+        ≡ spec.remarks_in (lent_text path.entry) (view reported.now.value.now)) }
+{
     let mut children = Vec::new(alloc);
-    let Some(path) = path else {
-        return Ok(children);
-    };
-    add_fix(&mut children, alloc, path, reported, UNDESCRIBED, problems)?;
+    if let Some(path) = path {
+        add_fix(&mut children, alloc, path, UNDESCRIBED, reported, problems)?;
+        add_suggestions(&mut children, alloc, path, reported, problems)?;
+    }
+    Ok(children)
+}
+
+/// Adds the fix of each suggestion of a message.
+fn add_suggestions(
+    children: &mut Vec<Child>,
+    alloc: Global,
+    path: &str,
+    reported: &LenientNode<'_, '_>,
+    problems: &mut Problems,
+) -> Result<(), AllocError>
+    ensures added { OnOk result (map remark_view children.new.items ≡ map remark_view children.old.items
+        ++ spec.suggestions_in path.now (view reported.now.value.now)) }
+{
     let suggestions = reported.list("suggestions", problems);
     for (index, value) in suggestions.items.iter().enumerate() {
         let suggestion = suggestions.node(index, value);
-        let message = suggestion.text("desc", problems).unwrap_or(UNDESCRIBED);
-        add_fix(&mut children, alloc, path, &suggestion, message, problems)?;
+        add_suggestion(children, alloc, path, &suggestion, problems)?;
     }
-    Ok(children)
+    Ok(())
+}
+
+/// Adds the fix of a suggestion.
+fn add_suggestion(
+    children: &mut Vec<Child>,
+    alloc: Global,
+    path: &str,
+    suggestion: &LenientNode<'_, '_>,
+    problems: &mut Problems,
+) -> Result<(), AllocError>
+    ensures added { OnOk result (map remark_view children.new.items ≡ map remark_view children.old.items
+        ++ filter_map (suggestion_in path.now) (view suggestion.now.value.now ∷ [])) }
+{
+    let message = suggestion.text("desc", problems).unwrap_or(UNDESCRIBED);
+    add_fix(children, alloc, path, message, suggestion, problems)
 }
 
 /// Adds the fix of an object, if it has one. One with something wrong in it is left out.
@@ -116,44 +141,53 @@ fn add_fix(
     children: &mut Vec<Child>,
     alloc: Global,
     path: &str,
-    object: &LenientNode<'_, '_>,
     message: &str,
+    object: &LenientNode<'_, '_>,
     problems: &mut Problems,
-) -> Result<(), AllocError> {
-    let Some(fix) = object.object("fix", problems) else {
-        return Ok(());
-    };
-    let range = fix.needed_list("range", problems);
-    let text = fix.needed_text("text", problems);
-    if let (Some((start, end)), Some(text)) = (range_of(range.items), text) {
-        let mut edits = Vec::new(alloc);
-        edits.push(SuggestedEdit {
-            file: String::from_str(alloc, path)?,
-            region: Region::Chars {
-                start,
-                end,
-                unit: Unit::Utf16,
-            },
-            replacement: String::from_str(alloc, text)?,
-            carried: None,
-        })?;
-        let mut alternatives = Vec::new(alloc);
-        alternatives.push(edits)?;
-        children.push(Child {
-            severity: Severity::Help,
-            message: String::from_str(alloc, message)?,
-            spans: Vec::new(alloc),
-            alternatives,
-            goes_on: false,
-        })?;
+) -> Result<(), AllocError>
+    ensures added { OnOk result (map remark_view children.new.items ≡ map remark_view children.old.items
+        ++ filter_map (fix_in path.now message.now) (view object.now.value.now ∷ [])) }
+{
+    if let Some(fix) = object.object("fix", problems) {
+        if let Some(help) = fix_of(alloc, path, message, &fix, problems)? {
+            children.push(help)?;
+        }
     }
     Ok(())
 }
 
+/// The help that suggests a fix.
+fn fix_of(
+    alloc: Global,
+    path: &str,
+    message: &str,
+    fix: &LenientNode<'_, '_>,
+    problems: &mut Problems,
+) -> Result<Option<Child>, AllocError>
+    ensures value { IfOk result (λ help. option_map remark_view help
+        ≡ spec.fix_of path.now message.now (view fix.now.value.now)) }
+{
+    let range = range_of(fix.needed_list("range", problems).items);
+    match (range, fix.needed_text("text", problems)) {
+        (Some(region), Some(text)) => {
+            let mut edits = Vec::new(alloc);
+            edits.push(edit_of(alloc, path, region, text, None)?)?;
+            Ok(Some(help_of(alloc, String::from_str(alloc, message)?, edits)?))
+        }
+        _ => Ok(None),
+    }
+}
+
 /// A range of two whole numbers.
-fn range_of(items: &[Value]) -> Option<(usize, usize)> {
+fn range_of(items: &[Value]) -> Option<Region>
+    ensures value { result ≡ spec.range_of (map view items.now) }
+{
     match items {
-        [start, end] => Some((start.as_u64()? as usize, end.as_u64()? as usize)),
+        [start, end] => Some(Region::Chars {
+            start: start.as_u64()? as usize,
+            end: end.as_u64()? as usize,
+            unit: Unit::Utf16,
+        }),
         _ => None,
     }
 }

@@ -1,4 +1,7 @@
 //! The rows that a compiler prints below a finding: lines of the source, with marks below them.
+ghost use Rattle.std.specs.Prelude.{◌≡◌, ◌≤◌, length};
+ghost use Rattle.std.specs.List.{list_all};
+ghost use Rattle.redraw_tools.specs.Excerpt as spec;
 
 /// What a row is.
 #[derive(Clone, Copy, PartialEq, Eq)]
@@ -12,7 +15,7 @@ pub enum Row {
 
 /// What a row is, which has no line feed.
 pub fn row_of(row: &[u8]) -> Row {
-    if has_gutter(row) {
+    if gutter_length(row) > 0 {
         Row::Gutter
     } else if are_marks(row) {
         Row::Marks
@@ -23,26 +26,35 @@ pub fn row_of(row: &[u8]) -> Row {
 
 /// How many columns the marks of a row have that begin at the caret, where the row has marks alone, be they after a
 /// gutter or not.
-pub fn marked_width(row: &[u8]) -> Option<usize> {
+pub fn marked_width(row: &[u8]) -> Option<usize>
+    ensures value { result ≡ spec.marked_width row.now }
+{
     let marks = after_gutter(row);
-    if !are_marks(marks) {
-        return None;
+    if are_marks(marks) {
+        Some(marks_before(&marks[before_caret(marks)..]))
+    } else {
+        None
     }
-    Some(width_after(&marks[before_caret(marks).min(marks.len())..]))
-}
-
-/// Whether a row begins with a gutter.
-fn has_gutter(row: &[u8]) -> bool {
-    gutter_length(row) > 0
 }
 
 /// How many bytes a gutter has with its bar; none where a row has no gutter.
-fn gutter_length(row: &[u8]) -> usize {
-    if !matches!(row, [b' ', ..]) {
-        return 0;
+fn gutter_length(row: &[u8]) -> usize
+    ensures value { result ≡ spec.gutter_length row.now }
+    ensures within { result ≤ length row.now }
+{
+    match row {
+        [b' ', ..] => bar_after(row),
+        _ => 0,
     }
-    for at in 0..row.len() {
-        match row[at] {
+}
+
+/// How many bytes come up to a bar and with it; none where something that is in no gutter comes before.
+fn bar_after(row: &[u8]) -> usize
+    ensures value { result ≡ spec.bar_after 0 row.now }
+    ensures within { result ≤ length row.now }
+{
+    for (at, byte) in row.iter().enumerate() {
+        match *byte {
             b'|' => return at + 1,
             b' ' | b'0'..=b'9' | b'+' | b'-' => {}
             _ => return 0,
@@ -52,9 +64,11 @@ fn gutter_length(row: &[u8]) -> usize {
 }
 
 /// What stands after the gutter of a row that has no number there, or the row where it has no gutter.
-fn after_gutter(row: &[u8]) -> &[u8] {
+fn after_gutter(row: &[u8]) -> &[u8]
+    ensures value { result.now ≡ spec.after_gutter row.now }
+{
     let length = gutter_length(row);
-    if length <= row.len() && is_blank(&row[..length.saturating_sub(1).min(row.len())]) {
+    if are_blank(&row[..length.saturating_sub(1)]) {
         &row[length..]
     } else {
         row
@@ -62,49 +76,76 @@ fn after_gutter(row: &[u8]) -> &[u8] {
 }
 
 /// Whether some bytes are nothing but blanks.
-fn is_blank(bytes: &[u8]) -> bool {
-    for byte in bytes {
-        if *byte != b' ' {
-            return false;
-        }
-    }
-    true
+fn are_blank(bytes: &[u8]) -> bool
+    ensures value { result ≡ list_all spec.is_blank bytes.now }
+{
+    bytes.iter().all(|byte| is_blank(*byte))
+}
+
+/// Whether a byte is a blank.
+fn is_blank(byte: u8) -> bool
+    ensures value { result ≡ spec.is_blank byte }
+{
+    byte == b' '
 }
 
 /// Whether a row has marks alone, after blanks, and a caret among them.
-fn are_marks(row: &[u8]) -> bool {
-    for byte in row {
-        if !matches!(*byte, b' ' | b'\t' | b'^' | b'~' | b'\r') {
-            return false;
-        }
-    }
-    before_caret(row) < row.len()
+fn are_marks(row: &[u8]) -> bool
+    ensures value { result ≡ spec.are_marks row.now }
+{
+    have_marks_alone(row) && before_caret(row) < row.len()
+}
+
+/// Whether some bytes are nothing but what stands in a row of marks.
+fn have_marks_alone(bytes: &[u8]) -> bool
+    ensures value { result ≡ list_all spec.is_in_marks bytes.now }
+{
+    bytes.iter().all(|byte| is_in_marks(*byte))
+}
+
+/// Whether a byte is one of a row of marks.
+fn is_in_marks(byte: u8) -> bool
+    ensures value { result ≡ spec.is_in_marks byte }
+{
+    matches!(byte, b' ' | b'\t' | b'^' | b'~' | b'\r')
 }
 
 /// How many bytes stand before the first caret of a row.
-fn before_caret(row: &[u8]) -> usize {
-    for at in 0..row.len() {
-        if row[at] == b'^' {
+fn before_caret(row: &[u8]) -> usize
+    ensures value { result ≡ spec.before_caret row.now }
+    ensures within { result ≤ length row.now }
+{
+    for (at, byte) in row.iter().enumerate() {
+        if *byte == b'^' {
             return at;
         }
     }
     row.len()
 }
 
-/// How many marks stand in a row at the start of some bytes.
-fn width_after(bytes: &[u8]) -> usize {
-    for at in 0..bytes.len() {
-        if !matches!(bytes[at], b'^' | b'~') {
+/// How many marks some bytes begin with.
+fn marks_before(bytes: &[u8]) -> usize
+    ensures value { result ≡ spec.marks_before bytes.now }
+{
+    for (at, byte) in bytes.iter().enumerate() {
+        if !is_mark(*byte) {
             return at;
         }
     }
     bytes.len()
 }
 
+/// Whether a byte is a mark.
+fn is_mark(byte: u8) -> bool
+    ensures value { result ≡ spec.is_mark byte }
+{
+    byte == b'^' || byte == b'~'
+}
+
 /// Whether a row that stands below marks says what is to stand at one of them: it begins there, or one column after.
 pub fn stands_below(row: &[u8], marks: &[u8]) -> bool {
-    for at in 0..row.len() {
-        if row[at] != b' ' {
+    for (at, byte) in row.iter().enumerate() {
+        if *byte != b' ' {
             return at > 0 && (is_mark_at(marks, at) || is_mark_at(marks, at - 1));
         }
     }
@@ -113,5 +154,8 @@ pub fn stands_below(row: &[u8], marks: &[u8]) -> bool {
 
 /// Whether a mark stands in a row at this column, from 0.
 fn is_mark_at(marks: &[u8], at: usize) -> bool {
-    at < marks.len() && matches!(marks[at], b'^' | b'~')
+    match marks.get(at) {
+        Some(byte) => is_mark(*byte),
+        None => false,
+    }
 }

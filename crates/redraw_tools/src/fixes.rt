@@ -8,6 +8,7 @@ ghost use Rattle.redraw_tools.specs.Edits.{edit_in, edit_view, edits_if_named, e
 
 use crate::location::Context;
 use crate::message::part_text_in;
+use crate::parts::{UNDESCRIBED, edit_of, help_of};
 use crate::region::{carried_in, region_of};
 use crate::uri::path_in;
 use json_lines::lenient::{LenientNode, List, Problems};
@@ -15,9 +16,6 @@ use redraw_report::diagnostic::{
     Carried, Child, LineRegion, Region, Severity, SuggestedEdit, Unit,
 };
 use std::alloc::{AllocError, Global};
-
-/// What stands over a fix that isn't described.
-const UNDESCRIBED: &str = "apply this fix";
 
 /// Adds what is said of a list of fixes: one help for each description, with the fixes of that description, one of
 /// which is to be made. Those of one description have to stand in a row. A fix with something wrong in it is left out.
@@ -70,7 +68,7 @@ fn add_fix(
 ) -> Result<(), AllocError> {
     match last_said(children, message.as_str()) {
         Some(last) => last.alternatives.push(edits)?,
-        None => children.push(help_of(message, edits, context)?)?,
+        None => children.push(help_of(context.alloc, message, edits)?)?,
     };
     Ok(())
 }
@@ -83,23 +81,6 @@ fn last_said<'c>(children: &'c mut Vec<Child>, message: &str) -> Option<&'c mut 
         }
         _ => None,
     }
-}
-
-/// The help that one fix makes.
-fn help_of(
-    message: String,
-    edits: Vec<SuggestedEdit>,
-    context: &Context<'_, '_>,
-) -> Result<Child, AllocError> {
-    let mut alternatives = Vec::new(context.alloc);
-    alternatives.push(edits)?;
-    Ok(Child {
-        severity: Severity::Help,
-        message,
-        spans: Vec::new(context.alloc),
-        alternatives,
-        goes_on: false,
-    })
 }
 
 /// The edits of a fix, in all files; `None` where something is wrong with one of them, which is reported: the others
@@ -189,14 +170,14 @@ fn add_replacement(
     ensures added { OnOk result (map edit_view edits.new.items ≡ map edit_view edits.old.items
         ++ filter_map (edit_in context.now.unit) (view replacement.now.value.now ∷ [])) }
 {
-    if let Some(edit) = edit_of(replacement, file, context, problems)? {
+    if let Some(edit) = edit_at(replacement, file, context, problems)? {
         edits.push(edit)?;
     }
     Ok(())
 }
 
 /// The edit of a replacement. One whose content is no text isn't one that can be drawn.
-fn edit_of(
+fn edit_at(
     replacement: &LenientNode<'_, '_>,
     file: &str,
     context: &Context<'_, '_>,
@@ -266,14 +247,7 @@ fn edit_with(
     } else {
         region
     };
-    let file = String::from_str(alloc, file)?;
-    let replacement = String::from_str(alloc, text)?;
-    Ok(SuggestedEdit {
-        file,
-        region,
-        replacement,
-        carried,
-    })
+    edit_of(alloc, file, region, text, carried)
 }
 
 /// The text that a replacement puts in: none where it only takes text away.

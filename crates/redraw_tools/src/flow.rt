@@ -3,6 +3,7 @@ ghost use Rattle.std.specs.Prelude.{◌≡◌, ◌<◌, IfSome, OnOk, length};
 ghost use Rattle.redraw_tools.specs.Places.{GoesOn};
 
 use crate::location::{Context, message_at, place_at};
+use crate::parts::remark_of;
 use crate::steps::{left_out, shown_steps, step_label};
 use json_lines::lenient::{LenientNode, List, Problems};
 use redraw_report::diagnostic::{Child, FileSpan, Severity};
@@ -175,12 +176,7 @@ fn text_of(text: &Option<String>) -> Option<&str> {
 fn add_note(told: &mut Told, message: String, context: &Context<'_, '_>) -> Result<(), AllocError>
     ensures kept { told.new.spans ≡ told.old.spans }
 {
-    told.children.push(Child {
-        severity: Severity::Note,
-        message,
-        spans: Vec::new(context.alloc),
-        alternatives: Vec::new(context.alloc),
-        goes_on: false,
-    })?;
+    told.children
+        .push(remark_of(context.alloc, Severity::Note, message))?;
     Ok(())
 }

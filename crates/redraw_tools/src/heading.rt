@@ -3,8 +3,12 @@
 //! `FILE:LINE:COL: TEXT` and `FILE:LINE: TEXT` are such lines, and `FILE(LINE,COL): TEXT` and `FILE(LINE): TEXT`. A
 //! drive at the beginning, as `C:\` or `C:/`, belongs to FILE; elsewhere a file with a colon in its name isn't known.
 //! After the last colon one blank stands, and then the text: lines that go on with more are further in.
-ghost use Rattle.std.specs.Prelude.{◌≡◌, ◌++◌, ◌∷◌, [], ℕ, List, IfSome};
-ghost use Rattle.redraw_tools.specs.Heading.{IsAfterColon, IsColumnIn, IsHeading, IsInBrackets, IsNamed, Writes};
+ghost use Rattle.std.specs.Prelude.{◌≡◌, option_map};
+ghost use Rattle.json_lines.specs.Field.{lent_text};
+ghost use Rattle.redraw_tools.specs.Heading as spec;
+ghost use Rattle.redraw_tools.specs.Heading.{column_view, line_view, named_view};
+
+use crate::cut::{after, before, number_of, parted, parted_last};
 
 /// A place, and what is said of it.
 #[derive(Clone, Copy)]
@@ -29,181 +33,109 @@ struct Named<'t> {
     rest: &'t str,
 }
 
-/// A line and a column, and what comes after them or before them.
-#[derive(Clone, Copy)]
-struct Numbers<'t> {
-    line: usize,
-    column: Option<usize>,
-    other: &'t str,
-}
-
 /// The place that a line begins with, which has no line feed.
 pub fn heading_of(line: &str) -> Option<Heading<'_>>
-    ensures reads { IfSome result (λ heading. IsHeading line.now heading) }
+    ensures value { option_map line_view result ≡ spec.heading_of line.now }
 {
-    match named_in(line) {
-        Some(named) => match in_brackets(named) {
-            Some(heading) => Some(heading),
-            None => after_colons(named),
-        },
-        None => None,
+    let named = named_in(line)?;
+    match in_brackets(named) {
+        Some(heading) => Some(heading),
+        None => after_colons(named),
     }
 }
 
 /// The file that a line begins with, up to a colon.
 fn named_in(line: &str) -> Option<Named<'_>>
-    ensures named { IfSome result (λ named. IsNamed line.now named.drive named.file.now named.rest.now) }
+    ensures value { option_map named_view result ≡ spec.named_in line.now }
 {
-    match at_colon(line) {
-        Some((letter, rest)) if is_drive(letter, rest) => match at_colon(rest) {
-            Some((file, rest)) => Some(Named {
-                drive: Some(letter),
-                file,
-                rest,
-            }),
-            None => None,
-        },
-        Some((file, rest)) => Some(Named {
-            drive: None,
-            file,
-            rest,
-        }),
-        None => None,
+    let (file, rest) = parted(line, ":")?;
+    if !is_drive(file, rest) {
+        let drive = None;
+        return Some(Named { drive, file, rest });
     }
+    let drive = Some(file);
+    let (file, rest) = parted(rest, ":")?;
+    Some(Named { drive, file, rest })
 }
 
 /// Whether this stands for a drive before a colon and that.
-fn is_drive(letter: &str, rest: &str) -> bool {
-    matches!(letter.as_bytes(), [letter] if letter.is_ascii_alphabetic())
-        && matches!(rest.as_bytes(), [b'\\' | b'/', ..])
+fn is_drive(letter: &str, rest: &str) -> bool
+    ensures value { result ≡ spec.is_drive letter.now rest.now }
+{
+    match (letter.as_bytes(), rest.as_bytes()) {
+        ([letter], [b'\\' | b'/', ..]) => letter.is_ascii_alphabetic(),
+        _ => false,
+    }
 }
 
 /// A place whose line and column stand in brackets.
 fn in_brackets(named: Named<'_>) -> Option<Heading<'_>>
-    ensures reads { IfSome result (λ heading. (heading.drive ≡ named.entry.drive)
-        × (named.entry.rest.now ≡ 32 ∷ heading.text.now)
-        × IsInBrackets named.entry.file.now heading.file.now heading.line heading.column) }
+    ensures value { option_map line_view result ≡ spec.in_brackets (named_view named.entry) }
 {
-    match (bracketed(named.file), text_after(named.rest)) {
-        (Some(numbers), Some(text)) => Some(Heading {
-            drive: named.drive,
-            file: numbers.other,
-            line: numbers.line,
-            column: numbers.column,
-            text,
-        }),
-        _ => None,
-    }
+    let text = text_after(named.rest)?;
+    let (file, inner) = parted_last(before(named.file, ")")?, "(")?;
+    let (line, column) = numbers_in(inner)?;
+    Some(Heading {
+        drive: named.drive,
+        file,
+        line,
+        column,
+        text,
+    })
 }
 
-/// The numbers in brackets that a text ends with, and what comes before them.
-fn bracketed(name: &str) -> Option<Numbers<'_>>
-    ensures reads { IfSome result (λ numbers. IsInBrackets name.now numbers.other.now numbers.line numbers.column) }
+/// The line, and the column if there is one, that stand in brackets.
+fn numbers_in(inner: &str) -> Option<(usize, Option<usize>)>
+    ensures value { result ≡ spec.numbers_in inner.now }
 {
-    let (other, inner) = at_bracket(before_bracket(name)?)?;
-    match at_comma(inner) {
-        Some((line, column)) => Some(Numbers {
-            line: number_of(line)?,
-            column: Some(number_of(column)?),
-            other,
-        }),
-        None => Some(Numbers {
-            line: number_of(inner)?,
-            column: None,
-            other,
-        }),
+    match parted(inner, ",") {
+        Some((line, column)) => Some((number_of(line)?, Some(number_of(column)?))),
+        None => Some((number_of(inner)?, None)),
     }
 }
 
 /// A place whose line and column stand after colons.
 fn after_colons(named: Named<'_>) -> Option<Heading<'_>>
-    ensures reads { IfSome result (λ heading. (heading.drive ≡ named.entry.drive)
-        × (heading.file.now ≡ named.entry.file.now)
-        × IsAfterColon named.entry.rest.now heading.line heading.column heading.text.now) }
+    ensures value { option_map line_view result ≡ spec.after_colons (named_view named.entry) }
 {
-    let (line, rest) = at_colon(named.rest)?;
+    let (line, rest) = parted(named.rest, ":")?;
     let line = number_of(line)?;
-    let numbers = column_in(line, rest)?;
+    let (column, text) = column_in(rest)?;
     Some(Heading {
         drive: named.drive,
         file: named.file,
-        line: numbers.line,
-        column: numbers.column,
-        text: numbers.other,
+        line,
+        column,
+        text,
     })
 }
 
 /// The column that comes after a line and its colon, if one does, and the text after it.
-fn column_in(line: usize, rest: &str) -> Option<Numbers<'_>>
-    ensures reads { IfSome result (λ numbers. (numbers.line ≡ line)
-        × IsColumnIn rest.now numbers.column numbers.other.now) }
+fn column_in(rest: &str) -> Option<(Option<usize>, &str)>
+    ensures value { option_map column_view result ≡ spec.column_in rest.now }
 {
     match text_after(rest) {
-        Some(text) => Some(Numbers {
-            line,
-            column: None,
-            other: text,
-        }),
+        Some(text) => Some((None, text)),
         None => {
-            let (digits, after) = at_colon(rest)?;
-            Some(Numbers {
-                line,
-                column: Some(number_of(digits)?),
-                other: text_after(after)?,
-            })
+            let (digits, after) = parted(rest, ":")?;
+            Some((Some(number_of(digits)?), text_after(after)?))
         }
-    }
-}
-
-/// A number of decimal digits alone.
-fn number_of(digits: &str) -> Option<usize>
-    ensures written { IfSome result (λ number. Writes digits.now number) }
-{
-    match digits.as_bytes() {
-        [b'+', ..] => None,
-        _ => digits.parse().ok(),
     }
 }
 
 /// The text that comes after one blank.
 fn text_after(rest: &str) -> Option<&str>
-    ensures after { IfSome result (λ text. rest.now ≡ 32 ∷ text.now) }
+    ensures value { lent_text result ≡ spec.text_after rest.now }
 {
-    match rest.strip_prefix(' ') {
+    match after(rest, " ") {
         Some(text) if is_text(text) => Some(text),
         _ => None,
     }
 }
 
 /// Whether this begins with something that is no blank.
-fn is_text(text: &str) -> bool {
+fn is_text(text: &str) -> bool
+    ensures value { result ≡ spec.is_text text.now }
+{
     !matches!(text.as_bytes(), [] | [b' ' | b'\t', ..])
-}
-
-/// What stands before and after the first colon of a text.
-fn at_colon(text: &str) -> Option<(&str, &str)>
-    ensures parted { IfSome result (λ parts. text.now ≡ parts.0.now ++ 58 ∷ parts.1.now) }
-{
-    text.split_once(':')
-}
-
-/// What stands before and after the first comma of a text.
-fn at_comma(text: &str) -> Option<(&str, &str)>
-    ensures parted { IfSome result (λ parts. text.now ≡ parts.0.now ++ 44 ∷ parts.1.now) }
-{
-    text.split_once(',')
-}
-
-/// What stands before and after the last opening bracket of a text.
-fn at_bracket(text: &str) -> Option<(&str, &str)>
-    ensures parted { IfSome result (λ parts. text.now ≡ parts.0.now ++ 40 ∷ parts.1.now) }
-{
-    text.rsplit_once('(')
-}
-
-/// What stands before a closing bracket at the end of a text.
-fn before_bracket(text: &str) -> Option<&str>
-    ensures before { IfSome result (λ front. text.now ≡ front.now ++ 41 ∷ []) }
-{
-    text.strip_suffix(')')
 }

@@ -7,6 +7,7 @@
 //! aren't named here are skipped. What lines report is `lines::reported`.
 #![tactic(auto)]
 
+pub mod cut;
 pub mod eslint;
 pub mod excerpt;
 pub mod expectation;
@@ -19,6 +20,7 @@ pub mod location;
 pub mod log;
 pub mod lsp;
 pub mod message;
+pub mod parts;
 pub mod placeholders;
 pub mod primary;
 pub mod region;

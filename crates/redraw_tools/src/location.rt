@@ -6,6 +6,7 @@ ghost use Rattle.redraw_tools.specs.Places as spec;
 ghost use Rattle.redraw_tools.specs.Places.{annotation_in, annotations_of, part_of, place_in, placed, span_view};
 
 use crate::message::part_text_in;
+use crate::parts::START;
 use crate::region::{carried_of, region_of};
 use crate::rule::SarifRule;
 use crate::uri::path_in;
@@ -14,9 +15,6 @@ use redraw_report::diagnostic::{FileSpan, Region, Unit};
 use serde_json::Value;
 use std::alloc::{AllocError, Global};
 use std::cell::Cell;
-
-/// The start of a file.
-const START: Region = Region::Bytes { start: 0, end: 0 };
 
 /// What the parts of a result refer to.
 #[derive(Clone, Copy)]

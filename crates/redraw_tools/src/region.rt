@@ -6,7 +6,7 @@ ghost use Rattle.redraw_tools.specs.Region as spec;
 ghost use Rattle.redraw_tools.specs.Units.{snippet_at};
 
 use crate::expectation::SarifExpectation;
-use crate::units::{offset_unit, region_unit, snippet_at};
+use crate::units::{lines_from, offset_unit, place_number, region_unit, snippet_at};
 use json_lines::lenient::{LenientNode, Problems};
 use redraw_report::diagnostic::{Carried, LineRegion, Region, Unit};
 use redraw_report::locate::place_from;
@@ -100,13 +100,17 @@ pub fn carried_in(
     unit: Unit,
     problems: &mut Problems,
 ) -> Result<Option<Carried>, AllocError> {
-    let (Some(snippet), Some(first_line)) = (snippet_in(region, problems), first_line_of(region))
-    else {
+    let (Some(snippet), Some(first_line)) = (
+        snippet_in(region, problems),
+        place_number(region.value, "startLine"),
+    ) else {
         return Ok(None);
     };
-    // What is wrong with the region itself is reported where it is read.
-    let mut told_elsewhere = Problems::new(alloc);
-    let lines = line_region(region, first_line, unit, &mut told_elsewhere);
+    let lines = lines_from(region.value, first_line, unit);
+    let lines = LineRegion {
+        unit: region_unit(&lines, Some(snippet)),
+        ..lines
+    };
     let before = lines.start_column.unwrap_or(1).saturating_sub(1);
     let is_whole = has_whole_lines(&lines, before, snippet);
     let blanks = if is_whole { 0 } else { before };
@@ -122,14 +126,6 @@ fn snippet_in<'v>(region: &LenientNode<'v, '_>, problems: &mut Problems) -> Opti
     match region.object("snippet", problems) {
         Some(snippet) => snippet.text("text", problems),
         None => None,
-    }
-}
-
-/// The line that a region begins on.
-fn first_line_of(region: &LenientNode<'_, '_>) -> Option<usize> {
-    match region.value.get("startLine").and_then(Value::as_u64) {
-        Some(number) if number > 0 => Some(number as usize),
-        _ => None,
     }
 }
 

@@ -6,7 +6,9 @@ ghost use Rattle.json_lines.specs.Lenient.{field_in, text_in};
 ghost use Rattle.redraw_tools.specs.Rule as spec;
 ghost use Rattle.redraw_tools.specs.Rule.{level_of, name_of, rule_data};
 
+use crate::cut::are_digits;
 use crate::expectation::SarifExpectation;
+use crate::parts;
 use crate::rules::RunRules;
 use json_lines::lenient::{LenientNode, Problems, field_at, text_at};
 use redraw_report::diagnostic::{Code, Severity};
@@ -111,14 +113,11 @@ pub fn code_of<'v>(
     ensures value { IfOk result (λ code. spec.code_view code
         ≡ name_of severity (view reported.now) (rule_data rule.now)) }
 {
-    match said_name(reported, rule, severity) {
-        Some(id) => {
-            let id = String::from_str(alloc, id)?;
-            let url = owned(alloc, rule.text("helpUri"))?;
-            Ok(Some(Code { id, url }))
-        }
-        None => Ok(None),
-    }
+    parts::code_of(
+        alloc,
+        said_name(reported, rule, severity),
+        rule.text("helpUri"),
+    )
 }
 
 /// The name of a result's rule, if it says something.
@@ -167,22 +166,7 @@ fn is_level(id: &str, severity: Severity) -> bool
 fn is_number(id: &str) -> bool
     ensures value { result ≡ spec.is_number id.now }
 {
-    for byte in id.as_bytes() {
-        if !byte.is_ascii_digit() {
-            return false;
-        }
-    }
-    true
-}
-
-/// A copy of a text, if there is one.
-fn owned(alloc: Global, text: Option<&str>) -> Result<Option<String>, AllocError>
-    ensures value { IfOk result (λ copy. option_map string_bytes copy ≡ lent_text text.entry) }
-{
-    match text {
-        Some(text) => Ok(Some(String::from_str(alloc, text)?)),
-        None => Ok(None),
-    }
+    are_digits(id.as_bytes())
 }
 
 /// How severe a result is: by its level, else a note where it isn't of the kind `fail`, else by its rule, else a

@@ -1,6 +1,6 @@
 //! The rules of the parts of a tool, by their ids.
 
-use json_lines::lenient::{field_at, text_field};
+use json_lines::lenient::{field_at, items_of, text_field};
 use serde_json::Value;
 use std::alloc::{AllocError, Global};
 use std::collections::{BTreeMap, BTreeSet};
@@ -116,13 +116,5 @@ fn new_id<'v>(by_id: &BTreeMap<&'v str, &'v Value>, rule: &'v Value) -> Option<&
     match text_field(rule, "id") {
         Some(id) if !id.is_empty() && !by_id.contains_key(id) => Some(id),
         _ => None,
-    }
-}
-
-/// The items of a list, if there is one.
-fn items_of(list: Option<&Value>) -> &[Value] {
-    match list {
-        Some(Value::Array(items)) => items.as_slice(),
-        _ => &[],
     }
 }

@@ -8,9 +8,14 @@
 //! | yamllint | `[warning] MESSAGE (ID)` |
 //! | flake8 | `E501 MESSAGE` |
 //! | go vet | `MESSAGE` |
-ghost use Rattle.std.specs.Prelude.{◌≡◌};
+ghost use Rattle.std.specs.Prelude.{◌≡◌, ◌≤◌, length, option_map};
+ghost use Rattle.std.specs.List.{list_any};
+ghost use Rattle.json_lines.specs.Field.{lent_text};
+ghost use Rattle.redraw_tools.specs.Cut.{lent_parts};
 ghost use Rattle.redraw_tools.specs.Said as spec;
+ghost use Rattle.redraw_tools.specs.Said.{said_view};
 
+use crate::cut::{after, are_digits, before, parted, parted_last};
 use redraw_report::diagnostic::Severity;
 
 /// What is said of a place.
@@ -25,7 +30,9 @@ pub struct Said<'t> {
 }
 
 /// What this text says.
-pub fn said_of(text: &str) -> Said<'_> {
+pub fn said_of(text: &str) -> Said<'_>
+    ensures value { said_view result ≡ spec.said_of text.now }
+{
     match leveled(text) {
         Some(said) => said,
         None => match bracketed(text) {
@@ -36,30 +43,45 @@ pub fn said_of(text: &str) -> Said<'_> {
 }
 
 /// What a text says that begins with a level or a code, and a colon.
-fn leveled(text: &str) -> Option<Said<'_>> {
-    let (word, message) = text.split_once(": ")?;
-    if let Some(severity) = level_of(word) {
-        return Some(with_id_after(severity, message.trim_start()));
+fn leveled(text: &str) -> Option<Said<'_>>
+    ensures value { option_map said_view result ≡ spec.leveled text.now }
+{
+    let (word, message) = parted(text, ": ")?;
+    match level_of(word) {
+        Some(severity) => Some(with_id_after(severity, message.trim_start())),
+        None => coded_level(word, message),
     }
-    if let Some((level, id)) = word.rsplit_once(' ') {
-        return Some(said_by(level_of(level)?, code_in(id)?, message, false));
+}
+
+/// What a message says after a word that is a code, or a level and a code.
+fn coded_level<'t>(word: &'t str, message: &'t str) -> Option<Said<'t>>
+    ensures value { option_map said_view result ≡ spec.coded_level word.now message.now }
+{
+    match parted_last(word, " ") {
+        Some((level, id)) => {
+            let severity = level_of(level)?;
+            Some(said_by(severity, code_in(id)?, message, false))
+        }
+        None => Some(said_by(level_by(word), code_in(word)?, message, true)),
     }
-    let id = code_in(word)?;
-    Some(said_by(level_by(id), id, message, true))
 }
 
 /// What a text says that begins with a level in brackets, and ends with the name of the rule in such.
-fn bracketed(text: &str) -> Option<Said<'_>> {
-    let (level, message) = text.strip_prefix('[')?.split_once("] ")?;
+fn bracketed(text: &str) -> Option<Said<'_>>
+    ensures value { option_map said_view result ≡ spec.bracketed text.now }
+{
+    let (level, message) = parted(after(text, "[")?, "] ")?;
     let severity = level_of(level)?;
-    match after_last(message, " (", ')') {
+    match after_last(message, " (", ")") {
         Some((message, id)) => Some(said_by(severity, id, message, false)),
         None => Some(with_id_after(severity, message)),
     }
 }
 
 /// What a text says that names no level: it is a warning, which may begin with a code.
-fn unleveled(text: &str) -> Said<'_> {
+fn unleveled(text: &str) -> Said<'_>
+    ensures value { said_view result ≡ spec.unleveled text.now }
+{
     match coded(text) {
         Some(said) => said,
         None => with_id_after(Severity::Warning, text),
@@ -67,13 +89,17 @@ fn unleveled(text: &str) -> Said<'_> {
 }
 
 /// What a text says that begins with a code, and a blank.
-fn coded(text: &str) -> Option<Said<'_>> {
-    let (word, message) = text.split_once(' ')?;
+fn coded(text: &str) -> Option<Said<'_>>
+    ensures value { option_map said_view result ≡ spec.coded text.now }
+{
+    let (word, message) = parted(text, " ")?;
     Some(said_by(Severity::Warning, code_in(word)?, message, false))
 }
 
 /// A message with the name of its rule.
-fn said_by<'t>(severity: Severity, id: &'t str, message: &'t str, is_from_zero: bool) -> Said<'t> {
+fn said_by<'t>(severity: Severity, id: &'t str, message: &'t str, is_from_zero: bool) -> Said<'t>
+    ensures value { said_view result ≡ spec.said_by severity id.now message.now is_from_zero }
+{
     Said {
         severity,
         id: Some(id),
@@ -83,8 +109,10 @@ fn said_by<'t>(severity: Severity, id: &'t str, message: &'t str, is_from_zero: 
 }
 
 /// A message that may have the name of its rule in brackets at its end.
-fn with_id_after(severity: Severity, text: &str) -> Said<'_> {
-    match after_last(text, " [", ']') {
+fn with_id_after(severity: Severity, text: &str) -> Said<'_>
+    ensures value { said_view result ≡ spec.with_id_after severity text.now }
+{
+    match after_last(text, " [", "]") {
         Some((message, id)) => said_by(severity, id, message, false),
         None => Said {
             severity,
@@ -96,8 +124,10 @@ fn with_id_after(severity: Severity, text: &str) -> Said<'_> {
 }
 
 /// What stands in brackets at the end of a text, without blanks and brackets in it, and what comes before them.
-fn after_last<'t>(text: &'t str, opening: &str, closing: char) -> Option<(&'t str, &'t str)> {
-    let (message, inner) = text.strip_suffix(closing)?.rsplit_once(opening)?;
+fn after_last<'t>(text: &'t str, opening: &str, closing: &str) -> Option<(&'t str, &'t str)>
+    ensures value { lent_parts result ≡ spec.after_last text.now opening.now closing.now }
+{
+    let (message, inner) = parted_last(before(text, closing)?, opening)?;
     if inner.is_empty() || has_blank_or_bracket(inner) {
         return None;
     }
@@ -105,13 +135,19 @@ fn after_last<'t>(text: &'t str, opening: &str, closing: char) -> Option<(&'t st
 }
 
 /// Whether a blank or a bracket stands in a text.
-fn has_blank_or_bracket(text: &str) -> bool {
-    for byte in text.as_bytes() {
-        if matches!(*byte, b' ' | b'\t' | b'[' | b']' | b'(' | b')') {
-            return true;
-        }
-    }
-    false
+fn has_blank_or_bracket(text: &str) -> bool
+    ensures value { result ≡ list_any spec.is_blank_or_bracket text.now }
+{
+    text.as_bytes()
+        .iter()
+        .any(|byte| is_blank_or_bracket(*byte))
+}
+
+/// Whether a byte is a blank or a bracket.
+fn is_blank_or_bracket(byte: u8) -> bool
+    ensures value { result ≡ spec.is_blank_or_bracket byte }
+{
+    matches!(byte, b' ' | b'\t' | b'[' | b']' | b'(' | b')')
 }
 
 /// The level that these words name.
@@ -132,7 +168,9 @@ fn level_of(words: &str) -> Option<Severity>
 }
 
 /// The level that a code of pylint has by its letter.
-fn level_by(code: &str) -> Severity {
+fn level_by(code: &str) -> Severity
+    ensures value { result ≡ spec.level_by code.now }
+{
     match code.as_bytes() {
         [b'E' | b'F', ..] => Severity::Error,
         [b'W', ..] => Severity::Warning,
@@ -140,28 +178,41 @@ fn level_by(code: &str) -> Severity {
     }
 }
 
-/// A word that is a code: some capital letters, and then two digits or more.
-fn code_in(word: &str) -> Option<&str> {
-    let letters = word.trim_end_matches(is_digit);
-    let digits = word.len().saturating_sub(letters.len());
-    if digits >= 2 && !letters.is_empty() && is_capital(letters) {
+/// A word, if it is a code: some capital letters, and then two digits or more.
+fn code_in(word: &str) -> Option<&str>
+    ensures value { lent_text result ≡ spec.code_in word.now }
+{
+    if is_code(word.as_bytes()) {
         Some(word)
     } else {
         None
     }
 }
 
-/// Whether a character is a decimal digit.
-fn is_digit(character: char) -> bool {
-    character.is_ascii_digit()
+/// Whether a word is a code.
+fn is_code(word: &[u8]) -> bool
+    ensures value { result ≡ spec.is_code word.now }
+{
+    let letters = capitals_before(word);
+    letters > 0 && is_long_number(&word[letters..])
 }
 
-/// Whether all characters of a text are capital letters.
-fn is_capital(text: &str) -> bool {
-    for byte in text.as_bytes() {
+/// Whether some bytes are two digits or more, and nothing else.
+fn is_long_number(bytes: &[u8]) -> bool
+    ensures value { result ≡ spec.is_long_number bytes.now }
+{
+    bytes.len() >= 2 && are_digits(bytes)
+}
+
+/// How many capital letters some bytes begin with.
+fn capitals_before(bytes: &[u8]) -> usize
+    ensures value { result ≡ spec.capitals_before bytes.now }
+    ensures within { result ≤ length bytes.now }
+{
+    for (at, byte) in bytes.iter().enumerate() {
         if !byte.is_ascii_uppercase() {
-            return false;
+            return at;
         }
     }
-    true
+    bytes.len()
 }

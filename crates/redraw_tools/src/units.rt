@@ -176,7 +176,7 @@ pub fn lines_from(region: &Value, start_line: usize, unit: Unit) -> LineRegion
 }
 
 /// The line or the column in the field of this name, counted from 1.
-fn place_number(region: &Value, name: &str) -> Option<usize>
+pub fn place_number(region: &Value, name: &str) -> Option<usize>
     ensures value { result ≡ from_one name.now (view region.now) }
 {
     match region.get(name) {

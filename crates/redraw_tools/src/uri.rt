@@ -1,9 +1,11 @@
 //! The files that a log names by addresses.
-ghost use Rattle.std.specs.Prelude.{◌≡◌, IfOk, is_some, option_map};
+ghost use Rattle.std.specs.Prelude.{◌≡◌, IfOk, is_some, option_map, string_bytes};
 ghost use Rattle.serde_json.specs.View.{view};
 ghost use Rattle.json_lines.specs.Lenient.{item_in};
+ghost use Rattle.redraw_tools.specs.Path as path;
 ghost use Rattle.redraw_tools.specs.Places as spec;
 
+use crate::cut::after;
 use crate::expectation::SarifExpectation;
 use json_lines::lenient::{LenientNode, Problems, field_at, item_at, text_at, text_field};
 use percent_encoding::percent_decode;
@@ -87,7 +89,9 @@ fn path_at(alloc: Global, run: &Value, address: Address<'_>) -> Result<String, A
 }
 
 /// The path that an address names by itself.
-pub fn path_of_uri(alloc: Global, uri: &str) -> Result<String, AllocError> {
+pub fn path_of_uri(alloc: Global, uri: &str) -> Result<String, AllocError>
+    ensures value { IfOk result (λ found. string_bytes found ≡ path.path_of uri.now) }
+{
     decoded(alloc, local(uri))
 }
 
@@ -161,21 +165,40 @@ fn joined(alloc: Global, base: &str, uri: &str) -> Result<String, AllocError> {
 
 /// An address of a file without `file:`, without an empty host, and without the slash before the letter of a drive;
 /// another address without `./` before it.
-fn local(uri: &str) -> &str {
-    let Some(rest) = uri.strip_prefix("file:") else {
-        return uri.strip_prefix("./").unwrap_or(uri);
-    };
-    let path = rest.strip_prefix("//").unwrap_or(rest);
-    match path.as_bytes() {
-        [b'/', _, b':', ..] => path.strip_prefix('/').unwrap_or(path),
-        _ => path,
+fn local(uri: &str) -> &str
+    ensures value { result.now ≡ path.local uri.now }
+{
+    match after(uri, "file:") {
+        Some(rest) => without_slash(after(rest, "//").unwrap_or(rest)),
+        None => after(uri, "./").unwrap_or(uri),
+    }
+}
+
+/// A path without the slash before the letter of a drive.
+fn without_slash(found: &str) -> &str
+    ensures value { result.now ≡ path.without_slash found.now }
+{
+    match found.as_bytes() {
+        [b'/', _, b':', ..] => after(found, "/").unwrap_or(found),
+        _ => found,
     }
 }
 
 /// A path with characters for its escapes, unless these don't give characters.
-fn decoded(alloc: Global, path: &str) -> Result<String, AllocError> {
+fn decoded(alloc: Global, escaped: &str) -> Result<String, AllocError>
+    ensures value { IfOk result (λ text. string_bytes text ≡ path.decoded escaped.now) }
+{
     let mut bytes = Vec::new(alloc);
-    percent_decode(path.as_bytes()).append_to(&mut bytes)?;
-    let text = str::from_utf8(bytes.as_slice()).unwrap_or(path);
-    String::from_str(alloc, text)
+    percent_decode(escaped.as_bytes()).append_to(&mut bytes)?;
+    String::from_str(alloc, text_or(bytes.as_slice(), escaped))
+}
+
+/// Some bytes, if they are a text, else another text.
+fn text_or<'t>(bytes: &'t [u8], other: &'t str) -> &'t str
+    ensures value { result.now ≡ path.if_text bytes.now other.now }
+{
+    match str::from_utf8(bytes) {
+        Ok(text) => text,
+        Err(_) => other,
+    }
 }

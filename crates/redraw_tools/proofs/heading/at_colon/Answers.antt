@@ -1,6 +1,0 @@
-use Rattle.std.proofs.Common.{arith}
-use Rattle.redraw_tools.proofs.Parting.{parted}
-use Rattle.redraw_tools.proofs.heading.at_colon.Goals as goal
-
-pub returns : goal.returns
-returns c = record { parted = parted 58 c.args.text.now c.split_once.result c.split_once.ensures.cases (omega arith) }
