@@ -1,3 +1,4 @@
+pub mod Bases
 pub mod Cutting
 pub mod GoingOn
 pub mod LastChanged

@@ -2,7 +2,7 @@
 use Rattle.std.specs.Prelude.{ℕ, ◌-◌, ◌==◌, ◌&&◌, Bool, false, nat_lt, List, [], ◌∷◌, Option, Some, None, codes, is_some, string_bytes}
 use Rattle.std.specs.Prelude.{if◌then◌else◌, option_and_then, option_map}
 use Rattle.std.specs.List.{filter_map, flat_map}
-use Rattle.std.specs.Option.{option_or}
+use Rattle.std.specs.Option.{option_map_or, option_or}
 use Rattle.serde_json.specs.Data.{Data}
 use Rattle.json_lines.specs.Field.{given}
 use Rattle.json_lines.specs.Lenient.{list_at, object_at, text_at}
@@ -10,7 +10,7 @@ use Rattle.redraw_report.specs.declared.diagnostic.Region.{Region}
 use Rattle.redraw_report.specs.declared.diagnostic.Region.TheVariants as region
 use Rattle.redraw_report.specs.declared.diagnostic.SuggestedEdit.{SuggestedEdit}
 use Rattle.redraw_report.specs.declared.diagnostic.Unit.{Unit}
-use Rattle.redraw_tools.specs.Places.{names_file}
+use Rattle.redraw_tools.specs.Places.{file_in}
 use Rattle.redraw_tools.specs.Region.{region_in}
 
 -- the part that goes: without columns all of its lines, with the blanks that they begin with
@@ -43,35 +43,39 @@ inserted_in d =
     if is_some (given (codes "insertedContent") d) then option_and_then (text_at (codes "text")) (object_at (codes "insertedContent") d)
     else Some []
 
--- an edit: the part that goes, and the text that comes
+-- an edit: its file, the part that goes, and the text that comes
 pub record Edit : Type 0 where
+  pub file : List ℕ
   pub region : Region
   pub text : List ℕ
 
 abbrev pub edit_view : SuggestedEdit → Edit
-edit_view e = record { region = e.region; text = string_bytes e.replacement }
+edit_view e = record { file = string_bytes e.file; region = e.region; text = string_bytes e.replacement }
 
-abbrev pub edit_with : List ℕ → Region → Edit
-edit_with [] r = record { region = before_line_end r; text = [] }
-edit_with (b ∷ bs) r = record { region = r; text = b ∷ bs }
+abbrev pub region_for : List ℕ → Region → Region
+region_for [] r = before_line_end r
+region_for (b ∷ bs) r = r
+
+abbrev pub edit_with : (file text : List ℕ) → Region → Edit
+edit_with file text r = record { file = file; region = region_for text r; text = text }
 
 -- the edit of a replacement: of its `deletedRegion` and its `insertedContent`; none where one of them is wrong
-abbrev pub edit_by : Option Region → Option (List ℕ) → Option Edit
-edit_by (Some r) (Some text) = Some (edit_with text r)
-edit_by (Some r) None = None
-edit_by None text = None
+abbrev pub edit_by : List ℕ → Option Region → Option (List ℕ) → Option Edit
+edit_by file (Some r) (Some text) = Some (edit_with file text r)
+edit_by file (Some r) None = None
+edit_by file None text = None
 
-abbrev pub edit_in : Unit → Data → Option Edit
-edit_in unit d =
-    edit_by (option_and_then (λ deleted. deleted_in deleted unit) (object_at (codes "deletedRegion") d)) (inserted_in d)
+abbrev pub edit_in : Unit → List ℕ → Data → Option Edit
+edit_in unit file d =
+    edit_by file (option_and_then (λ deleted. deleted_in deleted unit) (object_at (codes "deletedRegion") d)) (inserted_in d)
 
 -- the edits of a change, which names one file
-abbrev pub edits_of_change : Unit → Data → List Edit
-edits_of_change unit change = filter_map (edit_in unit) (list_at (codes "replacements") change)
+abbrev pub edits_of_change : Unit → Data → List ℕ → List Edit
+edits_of_change unit change file = filter_map (edit_in unit file) (list_at (codes "replacements") change)
 
 -- the edits of a fix: of each of its changes that names a file
 abbrev pub edits_if_named : Data → Unit → Data → List Edit
-edits_if_named run unit change = if names_file run change then edits_of_change unit change else []
+edits_if_named run unit change = option_map_or (edits_of_change unit change) (file_in run change) []
 
 abbrev pub edits_of_fix : Data → Unit → Data → List Edit
 edits_of_fix run unit fix = flat_map (edits_if_named run unit) (list_at (codes "artifactChanges") fix)

@@ -6,6 +6,7 @@ pub mod Filling
 pub mod Found
 pub mod Heading
 pub mod Links
+pub mod Log
 pub mod Lsp
 pub mod Path
 pub mod Places

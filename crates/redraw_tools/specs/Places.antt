@@ -1,8 +1,7 @@
 -- Which places a result of a SARIF log has: of each the part of its file, and whether it is the point of the report.
-use Rattle.std.specs.Prelude.{◌≡◌, ℕ, Bool, true, false, List, ◌++◌, Option, Some, None, codes, is_some, map, unwrap_or}
+use Rattle.std.specs.Prelude.{◌≡◌, ℕ, Bool, true, List, ◌++◌, Option, Some, None, codes, false, is_some, map, string_bytes, unwrap_or}
 use Rattle.std.specs.Prelude.{if◌then◌else◌, option_and_then, option_map}
 use Rattle.std.specs.List.{filter_map, flat_map}
-use Rattle.std.specs.Option.{option_map_or}
 use Rattle.serde_json.specs.Data.{Data}
 use Rattle.serde_json.specs.Find.{get}
 use Rattle.json_lines.specs.Field.{as_whole}
@@ -11,19 +10,21 @@ use Rattle.redraw_report.specs.declared.diagnostic.FileSpan.{FileSpan}
 use Rattle.redraw_report.specs.declared.diagnostic.Region.{Region}
 use Rattle.redraw_report.specs.declared.diagnostic.Region.TheVariants as region
 use Rattle.redraw_report.specs.declared.diagnostic.Unit.{Unit}
+use Rattle.redraw_tools.specs.Path.{Address, path_at}
 use Rattle.redraw_tools.specs.Primary.{chosen}
 use Rattle.redraw_tools.specs.Region.{region_in}
 
--- a place as it is marked: the part of its file, and whether it is the point of the report
+-- a place as it is marked: its file, the part of it, and whether it is the point of the report
 pub record Marked : Type 0 where
+  pub file : List ℕ
   pub region : Region
   pub is_primary : Bool
 
-abbrev pub marked : Bool → Region → Marked
-marked is_primary r = record { region = r; is_primary = is_primary }
+abbrev pub marked : List ℕ → Region → Marked
+marked file r = record { file = file; region = r; is_primary = false }
 
 abbrev pub span_view : FileSpan → Marked
-span_view span = marked span.is_primary span.region
+span_view span = record { file = string_bytes span.file; region = span.region; is_primary = span.is_primary }
 
 -- the same places, and more after them
 abbrev pub GoesOn : List FileSpan → List FileSpan → Type 0
@@ -38,14 +39,17 @@ abbrev pub numbered : Data → Data → Option Data
 numbered run location =
     numbered_by (get (codes "artifacts") run) (option_and_then as_whole (get (codes "index") location))
 
--- whether an artifact's location names a file: it has an address, or the number of an artifact that has one
-abbrev pub has_address : Data → Data → Bool
-has_address run location =
-    is_some (text_in (codes "uri") (if is_some (get (codes "uri") location) then Some location else numbered run location))
+-- the address that an artifact's location has, with the name of its base: its own, or that of the artifact with its number
+abbrev pub addressed : Data → Data → Option Data
+addressed run location = if is_some (get (codes "uri") location) then Some location else numbered run location
 
--- whether an object names a file, by its `artifactLocation`
-abbrev pub names_file : Data → Data → Bool
-names_file run d = option_map_or (has_address run) (object_at (codes "artifactLocation") d) false
+abbrev pub address_of : Data → Data → Option Address
+address_of run location =
+    option_map (λ uri. (uri, text_in (codes "uriBaseId") (addressed run location))) (text_in (codes "uri") (addressed run location))
+
+-- the file that an object names, by its `artifactLocation`
+abbrev pub file_in : Data → Data → Option (List ℕ)
+file_in run d = option_map (path_at run) (option_and_then (address_of run) (object_at (codes "artifactLocation") d))
 
 -- the part of its file that a physical location is: its region, or the start of the file
 abbrev pub part_in : Unit → Option Data → Region
@@ -55,21 +59,26 @@ part_in unit (Some d) = unwrap_or (region_in d unit) (region.Bytes 0 0)
 abbrev pub part_of : Unit → Data → Region
 part_of unit physical = part_in unit (object_at (codes "region") physical)
 
-abbrev pub part_if : Data → Unit → Data → Option Region
-part_if run unit physical = if names_file run physical then Some (part_of unit physical) else None
-
 -- the part of a file that a location is, if it has a file
-abbrev pub placed : Data → Unit → Data → Option Region
-placed run unit location = option_and_then (part_if run unit) (object_at (codes "physicalLocation") location)
+abbrev pub placed_in : Data → Unit → Data → Option Marked
+placed_in run unit physical = option_map (λ file. marked file (part_of unit physical)) (file_in run physical)
+
+abbrev pub placed : Data → Unit → Data → Option Marked
+placed run unit location = option_and_then (placed_in run unit) (object_at (codes "physicalLocation") location)
 
 -- the place of a location
+abbrev pub as_primary : Bool → Marked → Marked
+as_primary is_primary m = record m { is_primary = is_primary }
+
 abbrev pub place_in : Data → Unit → Bool → Data → Option Marked
-place_in run unit is_primary location = option_map (marked is_primary) (placed run unit location)
+place_in run unit is_primary location = option_map (as_primary is_primary) (placed run unit location)
 
 -- the places that a location has beside its own: its annotations, in the same file
+abbrev pub with_part : Option Region → Marked → Option Marked
+with_part part m = option_map (λ r. record m { region = r }) part
+
 abbrev pub annotation_in : Data → Unit → Data → Data → Option Marked
-annotation_in run unit location d =
-    if is_some (placed run unit location) then option_map (marked false) (region_in d unit) else None
+annotation_in run unit location d = option_and_then (with_part (region_in d unit)) (placed run unit location)
 
 abbrev pub annotations_of : Data → Unit → Data → List Marked
 annotations_of run unit location = filter_map (annotation_in run unit location) (list_at (codes "annotations") location)

@@ -165,5 +165,6 @@ abbrev pub reported_by : Unit → List (List ℕ) → Option Found
 reported_by unit [] = None
 reported_by unit (line ∷ more) = option_map (λ l. with_lines unit (finding_of unit l) more) (heading_of line)
 
+-- what a text of lines tells: what its first line begins, with the others
 abbrev pub reported : Unit → List ℕ → Option Found
 reported unit text = reported_by unit (lines text)

@@ -1,5 +1,5 @@
 //! The fixes that a result suggests.
-ghost use Rattle.std.specs.Prelude.{◌≡◌, ◌++◌, ◌∷◌, [], IfOk, IfSome, OnOk, map, option_map, string_bytes};
+ghost use Rattle.std.specs.Prelude.{◌≡◌, ◌++◌, ◌∷◌, [], IfOk, IfSome, OnOk, map, option_map};
 ghost use Rattle.std.specs.List.{filter_map};
 ghost use Rattle.serde_json.specs.View.{view};
 ghost use Rattle.json_lines.specs.Field.{lent_text};
@@ -144,7 +144,7 @@ fn add_replacements(
     problems: &mut Problems,
 ) -> Result<(), AllocError>
     ensures added { OnOk result (map edit_view edits.new.items ≡ map edit_view edits.old.items
-        ++ edits_of_change context.now.unit (view change.now.value.now)) }
+        ++ edits_of_change context.now.unit (view change.now.value.now) file.now) }
 {
     let replacements = change.needed_list("replacements", problems);
     for (index, value) in replacements.items.iter().enumerate() {
@@ -168,7 +168,7 @@ fn add_replacement(
     problems: &mut Problems,
 ) -> Result<(), AllocError>
     ensures added { OnOk result (map edit_view edits.new.items ≡ map edit_view edits.old.items
-        ++ filter_map (edit_in context.now.unit) (view replacement.now.value.now ∷ [])) }
+        ++ filter_map (edit_in context.now.unit file.now) (view replacement.now.value.now ∷ [])) }
 {
     if let Some(edit) = edit_at(replacement, file, context, problems)? {
         edits.push(edit)?;
@@ -184,8 +184,7 @@ fn edit_at(
     problems: &mut Problems,
 ) -> Result<Option<SuggestedEdit>, AllocError>
     ensures value { IfOk result (λ edit. option_map edit_view edit
-        ≡ edit_in context.now.unit (view replacement.now.value.now)) }
-    ensures file { IfOk result (λ edit. IfSome edit (λ e. string_bytes e.file ≡ file.now)) }
+        ≡ edit_in context.now.unit file.now (view replacement.now.value.now)) }
 {
     let Some(deleted) = replacement.needed("deletedRegion", problems) else {
         return Ok(None);
@@ -239,8 +238,7 @@ fn edit_with(
     text: &str,
     carried: Option<Carried>,
 ) -> Result<SuggestedEdit, AllocError>
-    ensures value { IfOk result (λ edit. edit_view edit ≡ spec.edit_with text.now region) }
-    ensures file { IfOk result (λ edit. string_bytes edit.file ≡ file.now) }
+    ensures value { IfOk result (λ edit. edit_view edit ≡ spec.edit_with file.now text.now region) }
 {
     let region = if text.is_empty() {
         before_line_end(region)

@@ -1,5 +1,5 @@
 //! The places that a result names.
-ghost use Rattle.std.specs.Prelude.{◌≡◌, ◌++◌, ◌∷◌, [], IfOk, IfSome, OnOk, false, map, option_map};
+ghost use Rattle.std.specs.Prelude.{◌≡◌, ◌++◌, ◌∷◌, [], IfOk, IfSome, OnOk, false, map, option_map, string_bytes};
 ghost use Rattle.std.specs.List.{filter_map, flat_map};
 ghost use Rattle.serde_json.specs.View.{view};
 ghost use Rattle.redraw_tools.specs.Places as spec;
@@ -160,7 +160,7 @@ pub fn place_at(
     problems: &mut Problems,
 ) -> Result<Option<FileSpan>, AllocError>
     ensures value { IfOk result (λ span. option_map span_view span
-        ≡ place_in (view context.now.run.now) context.now.unit false (view location.now.value.now)) }
+        ≡ placed (view context.now.run.now) context.now.unit (view location.now.value.now)) }
 {
     let Some(physical) = location.object("physicalLocation", problems) else {
         return Ok(None);
@@ -179,7 +179,7 @@ fn place_in(
     problems: &mut Problems,
 ) -> Result<FileSpan, AllocError>
     ensures value { IfOk result (λ span. span_view span
-        ≡ spec.marked false (part_of context.now.unit (view physical.now.value.now))) }
+        ≡ spec.marked (string_bytes file) (part_of context.now.unit (view physical.now.value.now))) }
 {
     let region = physical.object("region", problems);
     let around = physical.object("contextRegion", problems);

@@ -1,4 +1,7 @@
 //! The logs that are values of JSON, of whichever tool, as runs of which each has results.
+ghost use Rattle.std.specs.Prelude.{◌≡◌, IfOk, map};
+ghost use Rattle.serde_json.specs.View.{view};
+ghost use Rattle.redraw_tools.specs.Log.{IsReportedBy, IsRunOf, results_in};
 
 use crate::eslint::eslint_finding;
 use crate::lsp::lsp_finding;
@@ -35,7 +38,9 @@ impl<'v, 'p> LogRun<'v, 'p> {
         node: LenientNode<'v, 'p>,
         columns: Option<Unit>,
         problems: &mut Problems,
-    ) -> LogRun<'v, 'p> {
+    ) -> LogRun<'v, 'p>
+        ensures is { IsRunOf form columns (view node.entry.value.now) result }
+    {
         match form {
             LogForm::Sarif => LogRun::Sarif(SarifRun::new(alloc, node, columns, problems)),
             LogForm::Eslint => LogRun::Eslint(node),
@@ -44,7 +49,9 @@ impl<'v, 'p> LogRun<'v, 'p> {
     }
 
     /// The results of the run.
-    pub fn results(&self, problems: &mut Problems) -> List<'v, '_> {
+    pub fn results(&self, problems: &mut Problems) -> List<'v, '_>
+        ensures value { map view result.items.now ≡ results_in self.now }
+    {
         match self {
             LogRun::Sarif(run) => run.results(problems),
             LogRun::Eslint(file) => file.list("messages", problems),
@@ -58,7 +65,9 @@ impl<'v, 'p> LogRun<'v, 'p> {
         alloc: Global,
         reported: &LenientNode<'v, '_>,
         problems: &mut Problems,
-    ) -> Result<Option<Diagnostic>, AllocError> {
+    ) -> Result<Option<Diagnostic>, AllocError>
+        ensures is { IfOk result (IsReportedBy self.now (view reported.now.value.now)) }
+    {
         match self {
             LogRun::Sarif(run) => run.finding(alloc, reported, problems),
             LogRun::Eslint(file) => eslint_finding(alloc, file, reported, problems),

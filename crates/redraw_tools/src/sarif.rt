@@ -1,6 +1,7 @@
 //! The runs of a log, and the findings of their results.
-ghost use Rattle.std.specs.Prelude.{◌≡◌, IfOk, IfSome};
+ghost use Rattle.std.specs.Prelude.{◌≡◌, IfOk, IfSome, codes, map};
 ghost use Rattle.serde_json.specs.View.{view};
+ghost use Rattle.json_lines.specs.Lenient.{list_at};
 ghost use Rattle.redraw_tools.specs.Places.{ArePlaces};
 ghost use Rattle.redraw_tools.specs.Result.{ArePlacesAndSteps, IsResultOf, IsTold};
 ghost use Rattle.redraw_tools.specs.Units as units;
@@ -51,7 +52,9 @@ impl<'v, 'p> SarifRun<'v, 'p> {
     }
 
     /// The results of the run.
-    pub fn results(&self, problems: &mut Problems) -> List<'v, '_> {
+    pub fn results(&self, problems: &mut Problems) -> List<'v, '_>
+        ensures value { map view result.items.now ≡ list_at (codes "results") (view self.now.node.value.now) }
+    {
         self.node.list("results", problems)
     }
 

@@ -1,11 +1,12 @@
 //! The files that a log names by addresses.
-ghost use Rattle.std.specs.Prelude.{◌≡◌, IfOk, is_some, option_map, string_bytes};
+ghost use Rattle.std.specs.Prelude.{◌≡◌, IfOk, OnOk, option_map, string_bytes};
 ghost use Rattle.serde_json.specs.View.{view};
+ghost use Rattle.json_lines.specs.Field.{lent_text};
 ghost use Rattle.json_lines.specs.Lenient.{item_in};
 ghost use Rattle.redraw_tools.specs.Path as path;
 ghost use Rattle.redraw_tools.specs.Places as spec;
 
-use crate::cut::after;
+use crate::cut::{after, before};
 use crate::expectation::SarifExpectation;
 use json_lines::lenient::{LenientNode, Problems, field_at, item_at, text_at, text_field};
 use percent_encoding::percent_decode;
@@ -38,8 +39,8 @@ pub fn path_in(
     run: &Value,
     problems: &mut Problems,
 ) -> Result<Option<String>, AllocError>
-    ensures named { IfOk result (λ path. is_some path
-        ≡ spec.names_file (view run.now) (view object.now.value.now)) }
+    ensures value { IfOk result (λ found. option_map string_bytes found
+        ≡ spec.file_in (view run.now) (view object.now.value.now)) }
 {
     let Some(location) = object.needed("artifactLocation", problems) else {
         return Ok(None);
@@ -55,7 +56,7 @@ pub fn path_in(
 
 /// The address of an artifact's location: its own, or that of the artifact with its number.
 fn address_of<'v>(run: &'v Value, location: &'v Value) -> Option<Address<'v>>
-    ensures named { is_some result ≡ spec.has_address (view run.now) (view location.now) }
+    ensures value { option_map path.address_view result ≡ spec.address_of (view run.now) (view location.now) }
 {
     let named = match location.get("uri") {
         Some(_) => Some(location),
@@ -82,7 +83,10 @@ fn artifact_location<'v>(run: &'v Value, location: &Value) -> Option<&'v Value>
 
 /// The path that an address names, after its base, which may have a base itself. A base without an address adds
 /// nothing.
-fn path_at(alloc: Global, run: &Value, address: Address<'_>) -> Result<String, AllocError> {
+fn path_at(alloc: Global, run: &Value, address: Address<'_>) -> Result<String, AllocError>
+    ensures value { IfOk result (λ found. string_bytes found
+        ≡ path.path_at (view run.now) (path.address_view address.entry)) }
+{
     let mut whole = String::from_str(alloc, address.uri)?;
     add_bases(alloc, run, address.base, &mut whole)?;
     decoded(alloc, local(whole.as_str()))
@@ -101,18 +105,29 @@ fn add_bases(
     run: &Value,
     base: Option<&str>,
     whole: &mut String,
-) -> Result<(), AllocError> {
+) -> Result<(), AllocError>
+    ensures value { OnOk result (string_bytes whole.new
+        ≡ path.based BASES (view run.now) (lent_text base.entry) (string_bytes whole.old)) }
+{
     let mut base = base;
-    for _ in 0..BASES {
+    for _count in 0..BASES {
         let Some(location) = base_location(run, base) else {
-            break;
+            return Ok(());
         };
-        if let Some(before) = text_field(location, "uri") {
-            *whole = joined(alloc, before, whole.as_str())?;
-        }
+        *whole = after_base(alloc, location, whole.as_str())?;
         base = text_field(location, BASE);
     }
     Ok(())
+}
+
+/// An address after the one of this base.
+fn after_base(alloc: Global, location: &Value, uri: &str) -> Result<String, AllocError>
+    ensures value { IfOk result (λ whole. string_bytes whole ≡ path.after_base (view location.now) uri.now) }
+{
+    match text_field(location, "uri") {
+        Some(base) => joined(alloc, base, uri),
+        None => String::from_str(alloc, uri),
+    }
 }
 
 /// The folders that addresses of a run are relative to, by absolute paths with a slash at their end: where one isn't
@@ -146,7 +161,9 @@ fn add_base(
 }
 
 /// The location of the base of this name.
-fn base_location<'v>(run: &'v Value, id: Option<&str>) -> Option<&'v Value> {
+fn base_location<'v>(run: &'v Value, id: Option<&str>) -> Option<&'v Value>
+    ensures value { option_map (λ v. view v.now) result ≡ path.base_location (view run.now) (lent_text id.entry) }
+{
     match id {
         Some(id) => field_at(run.get(BASE_IDS), id),
         None => None,
@@ -154,13 +171,22 @@ fn base_location<'v>(run: &'v Value, id: Option<&str>) -> Option<&'v Value> {
 }
 
 /// An address below another one.
-fn joined(alloc: Global, base: &str, uri: &str) -> Result<String, AllocError> {
-    let slash = if base.is_empty() || base.ends_with('/') {
+fn joined(alloc: Global, base: &str, uri: &str) -> Result<String, AllocError>
+    ensures value { IfOk result (λ whole. string_bytes whole ≡ path.joined base.now uri.now) }
+{
+    let slash = slash_after(base);
+    format!(in alloc; "{base}{slash}{uri}")
+}
+
+/// The slash that is to stand after an address before another.
+fn slash_after(base: &str) -> &str
+    ensures value { result.now ≡ path.slash_after base.now }
+{
+    if base.is_empty() || before(base, "/").is_some() {
         ""
     } else {
         "/"
-    };
-    format!(in alloc; "{base}{slash}{uri}")
+    }
 }
 
 /// An address of a file without `file:`, without an empty host, and without the slash before the letter of a drive;

@@ -8,4 +8,4 @@ use Rattle.redraw_tools.proofs.fixes.add_replacements.Given as goal
 abbrev pub invariant-loop-index : goal.invariant-loop-index
 invariant-loop-index l =
     map edit_view l.edits.items
-    ≡ map edit_view l.initial.edits.items ++ filter_map (edit_in l.context.unit) (map view (take l.index l.value-items))
+    ≡ map edit_view l.initial.edits.items ++ filter_map (edit_in l.context.unit l.file) (map view (take l.index l.value-items))
