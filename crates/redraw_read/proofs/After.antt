@@ -1,14 +1,14 @@
 -- What comes after some words in a text.
-use Rattle.std.proofs.Common.{◌≡◌, ℕ, suc, zero, ◌+◌, ◌<◌, ◌≤◌, false, List, [], ◌∷◌, ◌++◌, Option, Some, None, drop, take, eqb, length}
+use Rattle.std.proofs.Common.{◌≡◌, ◌≢◌, ℕ, suc, zero, ◌+◌, ◌-◌, ◌<◌, ◌≤◌, false, List, [], ◌∷◌, ◌++◌, Option, Some, None, drop, take, eqb, length}
 use Rattle.std.proofs.Common.{refl, sym, ap, ◌∙◌, arith, if◌then◌else◌, ⊎_elim}
-use Rattle.std.specs.List.{starts_with}
+use Rattle.std.specs.List.{ends_with, starts_with}
 use Rattle.std.specs.Option.{MatchOption, option_or}
-use Rattle.std.specs.Str.Pattern.{FindsText, FindsTextPrefix, LacksTextAt, StripsPrefix}
+use Rattle.std.specs.Str.Pattern.{FindsText, FindsTextPrefix, FindsTextSuffix, LacksTextAt, StripsPrefix, StripsSuffix}
 use Rattle.std.specs.Borrow.{Bor}
 use Rattle.std.proofs.lemmas.Bool.{cases_Bool}
 use Rattle.std.proofs.lemmas.Bool.Decides.{Decides-eqb}
-use Rattle.std.proofs.lemmas.Slice.Eq.{starts_is}
-use Rattle.redraw_read.specs.Rendered.{after, after_first}
+use Rattle.std.proofs.lemmas.Slice.Eq.{ends_is, starts_is}
+use Rattle.redraw_read.specs.Rendered.{after, after_first, before}
 use Rattle.redraw_report.specs.Report.{lent}
 
 -- words that don't begin a text
@@ -28,6 +28,18 @@ pub stripped : (n s : List ℕ) (r : Option (Bor (List ℕ)))
 stripped n s None h = sym (after-lacking n s h)
 stripped n s (Some x) h =
     ap Some (h.2 ∙ ap (λ k. drop k s) h.1.0) ∙ sym (after-begun n s _ h.1.1)
+
+-- words that don't end a text
+lacks_end : (n s : List ℕ) → ((front : List ℕ) → s ≢ front ++ n) → ends_with eqb s n ≡ false
+lacks_end n s h = ⊎_elim (λ e. absurd (h _ ((ends_is Decides-eqb s n _ refl).0 e))) (λ e. e) (cases_Bool (ends_with eqb s n))
+
+-- what `strip_suffix` leaves
+pub cut : (n s : List ℕ) (r : Option (Bor (List ℕ)))
+    → MatchOption r (FindsTextSuffix n s None) (λ x. StripsSuffix (FindsTextSuffix n) s x.now) → lent r ≡ before n s
+cut n s None h = sym (ap (λ t. if t then Some (take (length s - length n) s) else None) (lacks_end n s h))
+cut n s (Some x) h =
+    ap Some (h.2 ∙ ap (λ k. take (length s - k) s) h.1.0)
+    ∙ sym (ap (λ t. if t then Some (take (length s - length n) s) else None) ((ends_is Decides-eqb s n _ refl).1 _ h.1.1))
 
 -- where the words stand first, what comes after them there is what is asked
 first-found : (n s : List ℕ) (i j : ℕ) → ((k : ℕ) → k < i → LacksTextAt n s k) → drop i s ≡ n ++ drop j s → j ≡ i + length n

@@ -20,4 +20,5 @@ pub mod PrimaryParts
 mod Rows
 pub mod Settled
 pub mod Shown
+pub mod Targeted
 pub mod Walked

@@ -1,15 +1,17 @@
 -- What isn't as rustc's text shows it: what wrong bodies leave of small diagnostics contradicts what is said of showing them.
-use Rattle.std.proofs.Common.{◌≡◌, ◌∙◌, ℕ, true, false, List, [], ◌∷◌, Option, Some, ap, arith, codes, get_or, length, refl, string_bytes, unwrap_or}
+use Rattle.std.proofs.Common.{◌≡◌, ◌∙◌, ℕ, Bool, true, false, List, [], ◌∷◌, None, Option, Some, ap, arith, codes, get_or, length, refl, string_bytes, unwrap_or}
 use Rattle.std.specs.Fmt.{digits}
 use Rattle.std.specs.Global.{Vec}
-use Rattle.std.specs.Str.{chars, trim_start}
+use Rattle.std.specs.Str.{chars, trim, trim_start}
 use Rattle.redraw_report.specs.declared.diagnostic.Child.{Child}
 use Rattle.redraw_report.specs.declared.diagnostic.Diagnostic.{Diagnostic}
 use Rattle.redraw_report.specs.declared.diagnostic.SuggestedEdit.{SuggestedEdit}
 use Rattle.redraw_report.specs.declared.diagnostic.FileSpan.{FileSpan}
 use Rattle.redraw_read.specs.AsShown.{ChildSeen, IsAsShown, are_one, child_seen, child_shown, column_shown, message_line, names_place, settled}
 use Rattle.redraw_read.specs.AsShown.{shown_with, suggestion_shown}
+use Rattle.redraw_read.specs.Labels.{label_text, labelled, own_place, takes, with_labels}
 use Rattle.redraw_read.specs.Rendered.{Nowhere, way}
+use Rattle.redraw_read.specs.declared.labels.EditLabel.{EditLabel}
 
 -- of a suggestion that is shown nowhere no child is left
 none_left : (text : List ℕ) (c : ChildSeen) (edits : Vec SuggestedEdit) (more : List (Vec SuggestedEdit)) → c.alternatives ≡ edits ∷ more
@@ -17,9 +19,10 @@ none_left : (text : List ℕ) (c : ChildSeen) (edits : Vec SuggestedEdit) (more 
 none_left text c edits more has nowhere = ap (λ (a : List (Vec SuggestedEdit)). shown_with text a c) has ∙ ap (λ w. suggestion_shown w c) nowhere
 
 -- the suggestion is still there
-pub suggestion_kept : (text : List ℕ) (old : Diagnostic) (c : Child) (edits : Vec SuggestedEdit) (more : List (Vec SuggestedEdit)) → old.children.items ≡ c ∷ []
-    → c.alternatives.items ≡ edits ∷ more → way (message_line (string_bytes c.message)) text ≡ Nowhere → IsAsShown text old old → ⊥
-suggestion_kept text old c edits more one has nowhere shown =
+pub suggestion_kept : (text : List ℕ) (first : Bool) (old : Diagnostic) (c : Child) (edits : Vec SuggestedEdit) (more : List (Vec SuggestedEdit))
+    → old.children.items ≡ c ∷ [] → c.alternatives.items ≡ edits ∷ more → way (message_line (string_bytes c.message)) text ≡ Nowhere
+    → IsAsShown text first old old → ⊥
+suggestion_kept text first old c edits more one has nowhere shown =
     let all = rw one at shown.children in
     let none = none_left text (child_seen c) edits more has nowhere in
     absurd (omega (arith, ap length (rw none at all)))
@@ -44,3 +47,21 @@ pub role_kept : (a b : FileSpan) → a.is_primary ≡ true → are_one a b ≡ t
 role_kept a b primary one other same =
     let role : b.is_primary ≡ true = ap (λ (l : List FileSpan). (get_or l 1 b).is_primary) same ∙ rw (primary, one) refl in
     absurd (cc (role, other))
+
+-- the label of a suggestion is lost, where a primary place lies without one
+pub label_lost : (l : EditLabel) (s : FileSpan) → takes l s ≡ true → s.label ≡ None → s ∷ [] ≡ with_labels false (l ∷ []) (s ∷ []) → ⊥
+label_lost l s taken bare same =
+    let put : s ∷ [] ≡ labelled l s ∷ [] = rw taken at same in
+    let is : s.label ≡ Some l.label = ap (λ (spans : List FileSpan). (get_or spans 0 s).label) put in
+    absurd (cc (bare, is))
+
+-- it stands at a place that isn't where its edit is
+pub label_elsewhere : (l : EditLabel) (s : FileSpan) → takes l s ≡ false → labelled l s ∷ [] ≡ with_labels false (l ∷ []) (s ∷ []) → ⊥
+label_elsewhere l s apart same =
+    let put : labelled l s ∷ [] ≡ s ∷ own_place l ∷ [] = rw apart at same in
+    absurd (omega (arith, ap length put))
+
+-- carets that stand right of a label aren't part of it, and what is to stand there is
+pub carets_cut : label_text (codes "try this: `b`   ^^") (codes "try this") (codes "b") ≡ codes "try this: `b`"
+unfolding trim
+carets_cut = refl

@@ -15,7 +15,7 @@ use Rattle.redraw_report.specs.contracts.diagnostic.RegionOrd.TheImpl as order
 use Rattle.redraw_report.specs.contracts.diagnostic.RegionPartialEq.TheImpl as equality
 use Rattle.redraw_report.specs.declared.diagnostic.FileSpan.{FileSpan}
 use Rattle.redraw_report.specs.declared.diagnostic.Region.{Region}
-use Rattle.redraw_read.specs.AsShown.{are_one, is_at_primary}
+use Rattle.redraw_read.specs.AsShown.{are_one}
 use Rattle.redraw_read.specs.Roles.{ArePrimaryParts, FilePart, IsPartOf, part_cmp}
 
 both_equal : (a b : Ordering) → is_eq (ordering_then a b) ≡ (is_eq a && is_eq b)
@@ -23,12 +23,17 @@ both_equal Less b = refl
 both_equal Equal b = refl
 both_equal Greater b = refl
 
--- parts are one where the places are
-same_parts : (q r : FilePart) (s t : FileSpan) → IsPartOf q s → IsPartOf r t → is_eq (part_cmp q r) ≡ are_one s t
-same_parts q r s t is other_is =
+-- parts are one where their regions and files are
+pub equal_parts : (q r : FilePart) → is_eq (part_cmp q r) ≡ ((equality.ghosts).eq q.0 r.0 && bytes_eq q.1.now r.1.now)
+equal_parts q r =
     both_equal ((order.ghosts).cmp q.0 r.0) (slice_cmp nat_cmp q.1.now r.1.now)
     ∙ ap (λ (b : Bool). b && is_eq (slice_cmp nat_cmp q.1.now r.1.now)) (sym (laws.matches_eq-law q.0 r.0))
     ∙ ap (λ (b : Bool). (equality.ghosts).eq q.0 r.0 && b) (is_eq-slice_cmp q.1.now r.1.now)
+
+-- and where the places are
+same_parts : (q r : FilePart) (s t : FileSpan) → IsPartOf q s → IsPartOf r t → is_eq (part_cmp q r) ≡ are_one s t
+same_parts q r s t is other_is =
+    equal_parts q r
     ∙ ap (λ (a : Region). (equality.ghosts).eq a r.0 && bytes_eq q.1.now r.1.now) is.0
     ∙ ap (λ (a : Region). (equality.ghosts).eq s.region a && bytes_eq q.1.now r.1.now) other_is.0
     ∙ ap (λ l. (equality.ghosts).eq s.region t.region && bytes_eq l r.1.now) is.1

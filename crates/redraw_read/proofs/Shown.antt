@@ -1,24 +1,39 @@
 -- How children are shown one after another.
-use Rattle.std.proofs.Common.{◌≡◌, ◌∙◌, ◌||◌, ◌++◌, ℕ, Bool, true, false, List, [], ◌∷◌, map, refl, sym}
-use Rattle.std.specs.List.{flat_map, list_any}
-use Rattle.std.proofs.lemmas.List.{append-nil, map-append}
-use Rattle.std.proofs.lemmas.List.Folds.{list_any-append}
+use Rattle.std.proofs.Common.{◌≡◌, ◌∙◌, ◌++◌, ℕ, List, [], ◌∷◌, ap, arith, length, map, refl, sym}
+use Rattle.std.specs.List.{flat_map}
+use Rattle.std.proofs.lemmas.List.{append-nil, append_assoc, map-append}
 use Rattle.std.proofs.lemmas.Grind.{flat_map-append}
 use Rattle.redraw_report.specs.declared.diagnostic.Child.{Child}
-use Rattle.redraw_read.specs.AsShown.{ChildSeen, child_seen, child_shown, labels}
+use Rattle.redraw_read.specs.AsShown.{ChildSeen, child_seen, child_shown, labels_of, told_by}
+use Rattle.redraw_read.specs.Labels.{LabelSeen}
+use Rattle.redraw_report.specs.declared.diagnostic.SuggestedEdit.{SuggestedEdit}
+use Rattle.std.specs.Global.{Vec}
+use Rattle.redraw_read.specs.Rendered.{Way, Group, Message, Label, Nowhere}
 
-neither : (x y : Bool) → (x || y) ≡ false → (x ≡ false) × (y ≡ false)
-neither true y e = absurd (cc e)
-neither false y e = (refl, e)
+-- nothing is told of a child without edits
+pub none-told : (w : Way) (message : List ℕ) (alternatives : List (Vec SuggestedEdit)) → length alternatives ≡ 0 → told_by w message alternatives ≡ []
+none-told w message (edits ∷ more) none = absurd (omega (arith, none))
+none-told (Group title) message [] none = refl
+none-told (Message said) message [] none = refl
+none-told (Label row) message [] none = refl
+none-told Nowhere message [] none = refl
 
--- the places are kept by one more child, where none becomes a label
-pub kept-next : {S : Type 0} (text : List ℕ) (children : List Child) (c : Child) (a b d : S)
-    → (list_any (labels text) (map child_seen children) ≡ false → b ≡ a)
-    → (labels text (child_seen c) ≡ false → d ≡ b) → list_any (labels text) (map child_seen (children ++ c ∷ [])) ≡ false → d ≡ a
-kept-next text children c a b d before here none =
-    let all = rw (map-append child_seen children (c ∷ []), list_any-append (labels text) (map child_seen children) (child_seen c ∷ [])) at none in
-    let parts = neither (list_any (labels text) (map child_seen children)) (labels text (child_seen c) || false) all in
-    here (neither (labels text (child_seen c)) false parts.1).0 ∙ before parts.0
+-- the labels that are told of the children, by one more
+pub told-next : (text : List ℕ) (children : List Child) (c : Child) (first old new : List LabelSeen)
+    → old ≡ first ++ flat_map (labels_of text) (map child_seen children) → new ≡ old ++ labels_of text (child_seen c)
+    → new ≡ first ++ flat_map (labels_of text) (map child_seen (children ++ c ∷ []))
+told-next text children c first old new before here =
+    here ∙ ap (λ (l : List LabelSeen). l ++ labels_of text (child_seen c)) before
+    ∙ append_assoc first (flat_map (labels_of text) (map child_seen children)) (labels_of text (child_seen c))
+    ∙ ap (λ (l : List LabelSeen). first ++ l) (sym all)
+  where
+    all : flat_map (labels_of text) (map child_seen (children ++ c ∷ [])) ≡ flat_map (labels_of text) (map child_seen children) ++ labels_of text (child_seen c)
+    all =
+        rw (
+          map-append child_seen children (c ∷ []),
+          flat_map-append (labels_of text) (map child_seen children) (child_seen c ∷ []),
+          append-nil (labels_of text (child_seen c)),
+        ) refl
 
 -- what the children become, by one more
 pub shown-next : (text : List ℕ) (children : List Child) (c : Child) (old new : List ChildSeen) → old ≡ flat_map (child_shown text) (map child_seen children)

@@ -1,5 +1,5 @@
 -- What rustc's own text of a diagnostic changes of it: the columns of its places, its children, and which places are its point.
-use Rattle.std.specs.Prelude.{◌≡◌, ℕ, ◌-◌, ◌++◌, ◌==◌, ◌&&◌, nat_lt, Bool, true, false, List, [], ◌∷◌, Option, Some, None, codes, drop, is_some, map}
+use Rattle.std.specs.Prelude.{◌≡◌, ℕ, ◌-◌, ◌++◌, ◌==◌, ◌&&◌, nat_lt, Bool, false, List, [], ◌∷◌, Option, Some, None, codes, drop, is_some, map}
 use Rattle.std.specs.Prelude.{string_bytes, if◌then◌else◌}
 use Rattle.std.specs.Fmt.{decimal}
 use Rattle.std.specs.Global.{Vec}
@@ -15,8 +15,10 @@ use Rattle.redraw_report.specs.declared.diagnostic.FileSpan.{FileSpan}
 use Rattle.redraw_report.specs.declared.diagnostic.Region.{Region}
 use Rattle.redraw_report.specs.declared.diagnostic.Region.TheVariants as region
 use Rattle.redraw_report.specs.declared.diagnostic.Severity.{Severity}
+use Rattle.redraw_read.specs.Labels.{LabelSeen, label_for, label_seen, with_labels}
 use Rattle.redraw_read.specs.Rendered.{Way, Group, Message, Label, Nowhere, after_first, way}
 use Rattle.redraw_read.specs.ShownLines.{is_there}
+use Rattle.redraw_read.specs.declared.labels.EditLabel.{EditLabel}
 use Rattle.redraw_read.specs.declared.rendered.Stand.TheVariants as stand
 
 -- ---- columns
@@ -85,20 +87,16 @@ shown_with text (edits ∷ more) c = suggestion_shown (way (message_line c.messa
 abbrev pub child_shown : List ℕ → ChildSeen → List ChildSeen
 child_shown text c = shown_with text c.alternatives c
 
--- whether a suggestion is shown as a label
-abbrev pub is_label : Way → Bool
-is_label (Group title) = false
-is_label (Message said) = false
-is_label (Label label) = true
-is_label Nowhere = false
+-- the labels that a suggestion with these alternatives is told by, which is shown in this way
+abbrev pub told_by : Way → (message : List ℕ) → List (Vec SuggestedEdit) → List LabelSeen
+told_by (Group title) message alternatives = []
+told_by (Message said) message alternatives = []
+told_by (Label row) message alternatives = label_for row message alternatives
+told_by Nowhere message alternatives = []
 
--- whether a child with these alternatives becomes a label
-abbrev pub labels_with : List ℕ → List (Vec SuggestedEdit) → ChildSeen → Bool
-labels_with text [] c = false
-labels_with text (edits ∷ more) c = is_label (way (message_line c.message) text)
-
-abbrev pub labels : List ℕ → ChildSeen → Bool
-labels text c = labels_with text c.alternatives c
+-- the labels that are told of a child: of one that has edits, the label that it is shown as, if it is
+abbrev pub labels_of : List ℕ → ChildSeen → List LabelSeen
+labels_of text c = told_by (way (message_line c.message) text) (message_line c.message) c.alternatives
 
 -- ---- roles
 
@@ -126,8 +124,10 @@ settled spans = map (λ (s : FileSpan). record s { is_primary = is_at_primary sp
 abbrev pub has_escape : List ℕ → Bool
 has_escape text = is_some (after_first (27 ∷ []) text)
 
--- a diagnostic is as a text shows it: its children are what the text makes of them; and where none of them becomes a label, its places are
--- those that were given, as the text shows them, each primary where a primary one lies
-pub record IsAsShown (text : List ℕ) (old new : Diagnostic) : Type 0 where
+-- a diagnostic is as a text shows it: its children are what the text makes of them, and its places are those that were given, as the text
+-- shows them, with the labels that children become, each primary where a primary one lies. Labels may be put first
+pub record IsAsShown (text : List ℕ) (are_first : Bool) (old new : Diagnostic) : Type 0 where
   pub children : map child_seen new.children.items ≡ flat_map (child_shown text) (map child_seen old.children.items)
-  pub places : list_any (labels text) (map child_seen old.children.items) ≡ false → new.spans.items ≡ settled (map (place_shown text) old.spans.items)
+  pub labels : List EditLabel
+  pub told : map label_seen labels ≡ flat_map (labels_of text) (map child_seen old.children.items)
+  pub places : new.spans.items ≡ settled (with_labels are_first labels (map (place_shown text) old.spans.items))

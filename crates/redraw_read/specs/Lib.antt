@@ -4,6 +4,7 @@ pub mod Counted
 pub mod Edits
 pub mod Extract
 pub mod FileIndex
+pub mod Labels
 pub mod Loaded
 pub mod Order
 pub mod Placed
@@ -13,4 +14,5 @@ pub mod Roles
 pub mod Rustc
 pub mod ShownLines
 pub mod Spans
+pub mod Targets
 pub mod Told

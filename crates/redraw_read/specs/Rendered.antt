@@ -1,6 +1,7 @@
 -- How a suggestion is shown, which rustc's own text of a diagnostic tells.
-use Rattle.std.specs.Prelude.{ℕ, eqb, ◌==◌, ◌&&◌, ◌||◌, Bool, false, List, [], ◌∷◌, Option, Some, None, codes, drop, length, if◌then◌else◌}
-use Rattle.std.specs.List.{slice_split, starts_with}
+use Rattle.std.specs.Prelude.{ℕ, eqb, ◌-◌, ◌==◌, ◌&&◌, ◌||◌, Bool, false, List, [], ◌∷◌, Option, Some, None, codes, drop, length}
+use Rattle.std.specs.Prelude.{take, if◌then◌else◌}
+use Rattle.std.specs.List.{ends_with, slice_split, starts_with}
 use Rattle.std.specs.Option.{option_and_then, option_map, option_map_or, option_or}
 use Rattle.std.specs.Str.{trim_start}
 use Rattle.redraw_read.specs.declared.rendered.Manner.{Manner}
@@ -11,6 +12,10 @@ use Rattle.redraw_read.specs.declared.rendered.Stand.TheVariants as stand
 -- what comes after these words at the start of a text, where they stand there
 abbrev pub after : List ℕ → List ℕ → Option (List ℕ)
 after words text = if starts_with eqb text words then Some (drop (length words) text) else None
+
+-- what comes before these words at the end of a text, where they stand there
+abbrev pub before : List ℕ → List ℕ → Option (List ℕ)
+before words text = if ends_with eqb text words then Some (take (length text - length words) text) else None
 
 -- what comes after the first place in a text where these words stand
 abbrev pub after_first : List ℕ → List ℕ → Option (List ℕ)

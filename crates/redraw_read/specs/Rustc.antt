@@ -68,10 +68,11 @@ if_whole (Some text) = if ends_with eqb text (codes "\n\n") then Some text else 
 abbrev pub IsOwnText : Data → Option (List ℕ) → Type 0
 IsOwnText d text = (said : Option (List ℕ)) × (optional_at as_str (codes "rendered") d ≡ Some said) × (text ≡ if_whole said)
 
--- a diagnostic is as its own text shows it, without styles; it stays where there is no text
-abbrev pub IsShownBy : Option (List ℕ) → Diagnostic → Diagnostic → Type 0
-IsShownBy None old new = new ≡ old
-IsShownBy (Some text) old new = (plain : List ℕ) × (has_escape text ≡ false → plain ≡ text) × IsAsShown plain old new
+-- a diagnostic is as its own text shows it, without styles; it stays where there is no text. Labels may be put first
+abbrev pub IsShownBy : Bool → Option (List ℕ) → Diagnostic → Diagnostic → Type 0
+IsShownBy are_first None old new = new ≡ old
+IsShownBy are_first (Some text) old new =
+    (plain : List ℕ) × (has_escape text ≡ false → plain ≡ text) × IsAsShown plain are_first old new
 
 -- whether some places are several, one of them without lines
 abbrev pub are_several : List FileSpan → Bool
@@ -90,5 +91,5 @@ pub record IsReadAs (d : Data) (result : Diagnostic) : Type 0 where
   pub text : Option (List ℕ)
   pub own : IsOwnText d text
   pub shown : Diagnostic
-  pub shows : IsShownBy text told shown
+  pub shows : IsShownBy reader.puts_labels_first text told shown
   pub apart : has_several shown ≡ false → result ≡ shown

@@ -1,24 +1,25 @@
 //! How a suggestion is shown, which rustc's own text of a diagnostic tells: its JSON says of each suggestion only what
 //! it changes.
 
-ghost use Rattle.std.specs.Prelude.{◌≡◌, ◌==◌, ◌++◌, ℕ, List, [], IfOk, OnOk, false, map, string_bytes};
-ghost use Rattle.std.specs.List.{before_first, flat_map, list_any, slice_split};
-ghost use Rattle.redraw_read.specs.AsShown.{IsAsShown, child_seen, child_shown, has_escape, is_label};
-ghost use Rattle.redraw_read.specs.AsShown.{labels, place_shown};
+ghost use Rattle.std.specs.Prelude.{◌≡◌, ◌==◌, ◌++◌, ℕ, [], IfOk, List, OnOk, false, map, string_bytes};
+ghost use Rattle.std.specs.List.{before_first, flat_map, slice_split};
+ghost use Rattle.redraw_read.specs.AsShown.{IsAsShown, child_seen, child_shown, has_escape, labels_of, place_shown};
 ghost use Rattle.redraw_read.specs.AsShown.{message_line, suggestion_shown, with_first_line};
 ghost use Rattle.json_lines.specs.Field.{lent_text};
+ghost use Rattle.redraw_read.specs.Labels as labels_spec;
+ghost use Rattle.redraw_read.specs.Labels.{label_for, label_seen};
 ghost use Rattle.redraw_read.specs.Rendered as spec;
 ghost use Rattle.redraw_read.specs.Rustc as spec_of;
 ghost use Rattle.redraw_read.specs.Rendered.{way, way_by, way_of};
 ghost use Rattle.redraw_read.specs.Told.{KeepsHeading};
 ghost use Rattle.redraw_report.specs.Report.{lent};
 
-use crate::labels::{EditLabel, label_of, with_labels};
+use crate::labels::{EditLabel, label_text, with_labels};
 use crate::manners::Manners;
 use crate::plain::without_styles;
 use crate::roles::settle_roles;
 use crate::words::{after, after_first, begins_with, finishes_with};
-use redraw_report::diagnostic::{Child, Diagnostic};
+use redraw_report::diagnostic::{Child, Diagnostic, SuggestedEdit};
 use snippet_text::normalized;
 use std::alloc::{AllocError, Global};
 
@@ -238,7 +239,7 @@ pub fn as_rendered(
 ) -> Result<Diagnostic, AllocError>
     ensures headed { IfOk result (KeepsHeading diagnostic) }
     ensures shown { IfOk result (λ shown. (plain : List ℕ) × (has_escape text.now ≡ false → plain ≡ text.now)
-        × IsAsShown plain diagnostic shown) }
+        × IsAsShown plain puts_labels_first diagnostic shown) }
 {
     let text = without_styles(alloc, text)?;
     as_shown(alloc, text.as_str(), diagnostic, puts_labels_first)
@@ -252,7 +253,7 @@ fn as_shown(
     puts_labels_first: bool,
 ) -> Result<Diagnostic, AllocError>
     ensures headed { IfOk result (KeepsHeading diagnostic) }
-    ensures shown { IfOk result (IsAsShown text.now diagnostic) }
+    ensures shown { IfOk result (IsAsShown text.now puts_labels_first diagnostic) }
 {
     let mut manners = Manners::new(alloc, text, suggestion_count(&diagnostic.children))?;
     let spans = manners.show_columns(alloc, diagnostic.spans)?;
@@ -287,8 +288,8 @@ fn shown_children(
 ) -> Result<Vec<Child>, AllocError>
     ensures each { IfOk result (λ shown. map child_seen shown.items
         ≡ flat_map (child_shown manners.old.text.now) (map child_seen children.items)) }
-    ensures kept { list_any (labels manners.old.text.now) (map child_seen children.items) ≡ false
-        → OnOk result (told.new.items ≡ told.old.items) }
+    ensures told { OnOk result (map label_seen told.new.items ≡ map label_seen told.old.items
+        ++ flat_map (labels_of manners.old.text.now) (map child_seen children.items)) }
 {
     let mut shown = Vec::new(alloc);
     for child in children {
@@ -308,8 +309,8 @@ fn show_child(
     ensures text { manners.new.text.now ≡ manners.old.text.now }
     ensures added { OnOk result (map child_seen shown.new.items
         ≡ map child_seen shown.old.items ++ child_shown manners.old.text.now (child_seen child)) }
-    ensures kept { labels manners.old.text.now (child_seen child) ≡ false
-        → OnOk result (told.new.items ≡ told.old.items) }
+    ensures told { OnOk result (map label_seen told.new.items
+        ≡ map label_seen told.old.items ++ labels_of manners.old.text.now (child_seen child)) }
 {
     if child.alternatives.is_empty() {
         Ok(shown.push(with_columns(alloc, manners, child)?)?)
@@ -345,8 +346,8 @@ fn show_suggestion(
     ensures text { manners.new.text.now ≡ manners.old.text.now }
     ensures added { OnOk result (map child_seen shown.new.items ≡ map child_seen shown.old.items
         ++ suggestion_shown (way (message_line (string_bytes child.message)) manners.old.text.now) (child_seen child)) }
-    ensures kept { is_label (way (message_line (string_bytes child.message)) manners.old.text.now) ≡ false
-        → OnOk result (told.new.items ≡ told.old.items) }
+    ensures told { OnOk result (map label_seen told.new.items
+        ≡ map label_seen told.old.items ++ labels_of manners.old.text.now (child_seen child)) }
 {
     let message = first_line(alloc, child.message.as_str())?;
     match manners.manner_of(message)? {
@@ -420,20 +421,42 @@ fn redrawn(alloc: Global, message: &str, line: &str) -> Result<String, AllocErro
     }
 }
 
-/// Adds the label that a suggestion is shown as, for the place of its edit.
+/// Adds the label that a suggestion is shown as in this row, for the place of its edit.
 fn add_label(
     alloc: Global,
-    label: &str,
+    row: &str,
     child: Child,
     labels: &mut Vec<EditLabel>,
-) -> Result<(), AllocError> {
-    let mut alternatives = child.alternatives;
-    let mut edits = alternatives.pop().unwrap_or(Vec::new(alloc));
-    if let Some(edit) = edits.pop() {
-        let message = first_line(alloc, child.message.as_str())?;
-        let told = label_of(label, message.as_str(), edit.replacement.as_str());
-        let label = format!(in alloc; "help: {told}")?;
-        labels.push(EditLabel { edit, label })?;
+) -> Result<(), AllocError>
+    ensures added { OnOk result (map label_seen labels.new.items ≡ map label_seen labels.old.items
+        ++ label_for row.now (message_line (string_bytes child.message)) child.alternatives.items) }
+{
+    let message = first_line(alloc, child.message.as_str())?;
+    match last_edit(child.alternatives) {
+        Some(edit) => Ok(labels.push(edit_label(alloc, row, message.as_str(), edit)?)?),
+        None => Ok(()),
     }
-    Ok(())
+}
+
+/// The last edit of the last of some alternatives.
+fn last_edit(alternatives: Vec<Vec<SuggestedEdit>>) -> Option<SuggestedEdit>
+    ensures value { result ≡ labels_spec.last_edit alternatives.items }
+{
+    let mut alternatives = alternatives;
+    let mut edits = alternatives.pop()?;
+    edits.pop()
+}
+
+/// The label in this row, from its message on, of an edit.
+fn edit_label(
+    alloc: Global,
+    row: &str,
+    message: &str,
+    edit: SuggestedEdit,
+) -> Result<EditLabel, AllocError>
+    ensures value { IfOk result (λ told. label_seen told ≡ labels_spec.label_of row.now message.now edit) }
+{
+    let told = label_text(row, message, edit.replacement.as_str());
+    let label = format!(in alloc; "help: {told}")?;
+    Ok(EditLabel { edit, label })
 }

@@ -36,10 +36,10 @@ fn roles_of(alloc: Global, spans: &[FileSpan]) -> Result<Vec<bool>, AllocError>
 }
 
 /// A part of a file, as it is looked up: none of the others is looked at for it.
-type FilePart<'a> = (Region, &'a str);
+pub type FilePart<'a> = (Region, &'a str);
 
 /// The part of a file that a place is.
-fn part_of<'a>(span: &'a FileSpan) -> FilePart<'a>
+pub fn part_of<'a>(span: &'a FileSpan) -> FilePart<'a>
     ensures of { IsPartOf result span.now }
 {
     (span.region, span.file.as_str())

@@ -46,7 +46,8 @@ fn shown_diagnostic(
 ) -> Result<Diagnostic, Fault>
     ensures headed { IfOk result (IsHeaded (view node.now.value.now)) }
     ensures shown { IfOk result (λ shown. (told : Diagnostic)
-        × IsToldBy reader.now (view node.now.value.now) told × IsShownBy (lent_text text.entry) told shown) }
+        × IsToldBy reader.now (view node.now.value.now) told
+        × IsShownBy reader.now.puts_labels_first (lent_text text.entry) told shown) }
 {
     let diagnostic = told_diagnostic(node, reader)?;
     match text {

@@ -35,3 +35,10 @@ pub fn after_first<'t>(text: &'t str, words: &str) -> Option<&'t str>
         None => None,
     }
 }
+
+/// What comes before these words at the end of a text, where they stand there.
+pub fn before<'t>(text: &'t str, words: &str) -> Option<&'t str>
+    ensures value { lent result ≡ spec.before words.now text.now }
+{
+    text.strip_suffix(words)
+}

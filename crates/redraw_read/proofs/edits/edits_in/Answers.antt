@@ -1,6 +1,5 @@
-use Rattle.std.proofs.Common.{[], ◌∷◌, ◌++◌, Option, subst}
+use Rattle.std.proofs.Common.{[], ◌∷◌, ◌++◌, subst}
 use Rattle.serde_json.specs.View.{view}
-use Rattle.redraw_report.specs.declared.diagnostic.SuggestedEdit.{SuggestedEdit}
 use Rattle.redraw_read.specs.Edits.{MayEdit}
 use Rattle.redraw_read.proofs.Listed.{found_next, items_next}
 use Rattle.redraw_read.proofs.edits.edits_in.Goals as goal

@@ -9,10 +9,10 @@ returns-in_ok-as_rendered-in-Some-clause-shown c =
     let shown = c.in_ok-as_rendered-in-Some.field-0 in (
       told,
       c.in_ok-diagnostic.ensures.is,
-      subst (λ o. IsShownBy (lent_text o) told shown) (sym c.in-Some.is) c.in_ok-as_rendered-in-Some.ensures.shown,
+      subst (λ o. IsShownBy c.args.reader.now.puts_labels_first (lent_text o) told shown) (sym c.in-Some.is) c.in_ok-as_rendered-in-Some.ensures.shown,
     )
 
 pub returns-in-None-clause-shown : goal.returns-in-None-clause-shown
 returns-in-None-clause-shown c =
     let told = c.in_ok-diagnostic.diagnostic in
-    (told, c.in_ok-diagnostic.ensures.is, subst (λ o. IsShownBy (lent_text o) told told) (sym c.in-None.is) refl)
+    (told, c.in_ok-diagnostic.ensures.is, subst (λ o. IsShownBy c.args.reader.now.puts_labels_first (lent_text o) told told) (sym c.in-None.is) refl)

@@ -1,6 +1,6 @@
 use Rattle.std.proofs.Common.{◌∙◌, sym}
 use Rattle.serde_json.specs.View.{view}
-use Rattle.redraw_read.proofs.Listed.{beside_none, beside_some}
+use Rattle.redraw_read.proofs.Listed.{beside_none}
 use Rattle.redraw_read.proofs.rustc.spans_beside.Goals as goal
 
 pub returns : goal.returns
