@@ -2,14 +2,14 @@
 use Rattle.std.proofs.Common.{◌≡◌, ◌∙◌, ℕ, Bool, true, false, List, [], ◌∷◌, None, Option, Some, ap, arith, codes, get_or, length, refl, string_bytes, unwrap_or}
 use Rattle.std.specs.Fmt.{digits}
 use Rattle.std.specs.Global.{Vec}
-use Rattle.std.specs.Str.{chars, trim, trim_start}
+use Rattle.std.specs.Str.{chars, trim_start}
 use Rattle.redraw_report.specs.declared.diagnostic.Child.{Child}
 use Rattle.redraw_report.specs.declared.diagnostic.Diagnostic.{Diagnostic}
 use Rattle.redraw_report.specs.declared.diagnostic.SuggestedEdit.{SuggestedEdit}
 use Rattle.redraw_report.specs.declared.diagnostic.FileSpan.{FileSpan}
 use Rattle.redraw_read.specs.AsShown.{ChildSeen, IsAsShown, are_one, child_seen, child_shown, column_shown, message_line, names_place, settled}
 use Rattle.redraw_read.specs.AsShown.{shown_with, suggestion_shown}
-use Rattle.redraw_read.specs.Labels.{label_text, labelled, own_place, takes, with_labels}
+use Rattle.redraw_read.specs.Labels.{after_replacement, labelled, own_place, takes, with_labels, without_carets}
 use Rattle.redraw_read.specs.Rendered.{Nowhere, way}
 use Rattle.redraw_read.specs.declared.labels.EditLabel.{EditLabel}
 
@@ -62,6 +62,5 @@ label_elsewhere l s apart same =
     absurd (omega (arith, ap length put))
 
 -- carets that stand right of a label aren't part of it, and what is to stand there is
-pub carets_cut : label_text (codes "try this: `b`   ^^") (codes "try this") (codes "b") ≡ codes "try this: `b`"
-unfolding trim
+pub carets_cut : without_carets (after_replacement (codes "b") (codes ": `b`   ^^")) (codes "try: `b`   ^^") ≡ codes "try: `b`"
 carets_cut = refl

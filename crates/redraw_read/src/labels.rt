@@ -250,11 +250,7 @@ fn add_bare<'a>(
 }
 
 /// Takes out the indices that are kept by a part of a file.
-fn indices_out<'a>(
-    alloc: Global,
-    bare: &mut BarePlaces<'a>,
-    part: FilePart<'a>,
-) -> VecDeque<usize>
+fn indices_out<'a>(alloc: Global, bare: &mut BarePlaces<'a>, part: FilePart<'a>) -> VecDeque<usize>
     ensures value { result.items ≡ kept_by bare.old part.entry }
     ensures out { UpdatesBy part_cmp (part_cmp part.entry) bare.old bare.new None }
 {

@@ -12,8 +12,8 @@ returns c =
       taken = λ spans are. (
         lead-popped indices.items c.pop_front-first.new.self.items c.pop_front-first.result c.pop_front-first.ensures.items
             (λ less. c.pop_front-first.ensures.variant.1 (omega (arith, less, indices.ok)))
-        ∙ ap lead c.indices_out-indices.ensures.value
-        ∙ first-kept old k c.args.label.now spans (refl, c.as_str.ensures.value) are,
+            ∙ ap lead c.indices_out-indices.ensures.value
+            ∙ first-kept old k c.args.label.now spans (refl, c.as_str.ensures.value) are,
         taken-out old c.indices_out-indices.new.bare c.insert.new.self k c.pop_front-first.new.self c.args.label.now spans c.indices_out-indices.ensures.out
             c.in_ok-insert.ensures.updates (refl, c.as_str.ensures.value)
             (c.pop_front-first.ensures.rest ∙ ap (drop 1) c.indices_out-indices.ensures.value) are,
