@@ -5,6 +5,7 @@ pub mod Begins
 pub mod Begun
 pub mod Counting
 pub mod GivenRoles
+pub mod Homes
 pub mod Indexed
 pub mod KnownManners
 pub mod LeastNumber

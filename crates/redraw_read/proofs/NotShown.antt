@@ -1,5 +1,6 @@
 -- What isn't as rustc's text shows it: what wrong bodies leave of small diagnostics contradicts what is said of showing them.
-use Rattle.std.proofs.Common.{◌≡◌, ◌∙◌, ℕ, Bool, true, false, List, [], ◌∷◌, None, Option, Some, ap, arith, codes, get_or, length, refl, string_bytes, unwrap_or}
+use Rattle.std.proofs.Common.{◌≡◌, ◌∙◌, ℕ, Bool, true, false, List, [], ◌∷◌, None, Option, Some, ap, arith, codes, get_or}
+use Rattle.std.proofs.Common.{length, refl, string_bytes, unwrap_or}
 use Rattle.std.specs.Fmt.{digits}
 use Rattle.std.specs.Global.{Vec}
 use Rattle.std.specs.Str.{chars, trim_start}

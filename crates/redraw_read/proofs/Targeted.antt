@@ -1,6 +1,6 @@
 -- How labels find the places that they go to, one after another.
-use Rattle.std.proofs.Common.{◌≡◌, ◌∙◌, ℕ, suc, ◌+◌, ◌<◌, ◌≤◌, ◌&&◌, Bool, true, false, cond, List, [], ◌∷◌, ◌++◌, Option, Some, None, ap, append-nil, append_assoc, arith, drop}
-use Rattle.std.proofs.Common.{get_or, if◌then◌else◌, length, refl, slice_set, string_bytes, sym, take, take-suc, zero}
+use Rattle.std.proofs.Common.{◌≡◌, ◌∙◌, ℕ, zero, suc, ◌+◌, ◌<◌, ◌≤◌, ◌&&◌, Bool, true, false, cond, List, [], ◌∷◌, ◌++◌, Option, Some, None}
+use Rattle.std.proofs.Common.{ap, append-nil, append_assoc, arith, drop, get_or, if◌then◌else◌, length, refl, slice_set, string_bytes, sym, take, take-suc}
 use Rattle.std.specs.BTreeMap.{BTreeMap, Updates, UpdatesBy, get}
 use Rattle.std.specs.Global.{Global}
 use Rattle.std.specs.List.{last_or}
@@ -84,7 +84,8 @@ pub indices-push : (test : FileSpan → Bool) (spans : List FileSpan) (s : FileS
     → indices_of 0 test (spans ++ s ∷ []) ≡ indices_of 0 test spans ++ (if test s then length spans ∷ [] else [])
 unfolding one
 indices-push test spans s =
-    indices-one 0 test spans s ∙ ap (λ k. indices_of 0 test spans ++ (if test s then k ∷ [] else [])) (let e : 0 + length spans ≡ length spans = omega arith in e)
+    indices-one 0 test spans s
+    ∙ ap (λ k. indices_of 0 test spans ++ (if test s then k ∷ [] else [])) (let e : 0 + length spans ≡ length spans = omega arith in e)
 
 indices-by : (is other : Bool) → is ≡ other → (n : ℕ) (rest others : List ℕ) → rest ≡ others
     → (if is then n ∷ rest else rest) ≡ (if other then n ∷ others else others)
@@ -195,14 +196,18 @@ at_other k q e s is =
     (ap (λ (b : Bool). b && bytes_eq (string_bytes s.file) q.1.now) (laws-law.congr s.region k.0 q.0 two.0)
     ∙ ap (λ (f : List ℕ). (equality.ghosts).eq k.0 q.0 && bytes_eq f q.1.now) ((bytes_eq-Decides (string_bytes s.file) k.1.now).0 two.1) ∙ e)
 
+-- what is kept, where something is
+abbrev items_of : Option (VecDeque ℕ Global) → List ℕ
+items_of o = option_map_or (λ (v : VecDeque ℕ Global). v.items) o []
+
 -- what is kept by a part, once it was taken out and put in again
 kept_once : (old mid new : BTreeMap FilePart (VecDeque ℕ Global)) (k : FilePart) (w : VecDeque ℕ Global) → UpdatesBy part_cmp (part_cmp k) old mid None
     → Updates part_cmp mid new k (Some w) → (q : FilePart) → kept_by new q ≡ (if are_parts k q then w.items else kept_by old q)
 kept_once old mid new k w out in_again q =
-    ap (λ (o : Option (VecDeque ℕ Global)). option_map_or (λ (v : VecDeque ℕ Global). v.items) o []) (in_again.0 q ∙ ap (λ (o : Option (VecDeque ℕ Global)). cond (is_eq (part_cmp k q)) (Some w) o) (out.0 q))
+    ap items_of (in_again.0 q ∙ ap (λ (o : Option (VecDeque ℕ Global)). cond (is_eq (part_cmp k q)) (Some w) o) (out.0 q))
     ∙ by (is_eq (part_cmp k q)) ∙ ap (λ (b : Bool). if b then w.items else kept_by old q) (equal_parts k q)
   where
-    by : (b : Bool) → option_map_or (λ (v : VecDeque ℕ Global). v.items) (cond b (Some w) (cond b None (get part_cmp old q))) [] ≡ (if b then w.items else kept_by old q)
+    by : (b : Bool) → items_of (cond b (Some w) (cond b None (get part_cmp old q))) ≡ (if b then w.items else kept_by old q)
     by true = refl
     by false = refl
 

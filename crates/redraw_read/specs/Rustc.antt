@@ -5,7 +5,7 @@ use Rattle.std.specs.Global.{Vec}
 use Rattle.std.specs.List.{All, AllZip, ends_with, flat_map, list_any}
 use Rattle.json_lines.specs.Field.{optional_at}
 use Rattle.serde_json.specs.Data.{Data}
-use Rattle.serde_json.specs.Find.{as_str}
+use Rattle.serde_json.specs.Find.{as_str, get}
 use Rattle.redraw_report.specs.declared.diagnostic.Child.{Child}
 use Rattle.redraw_report.specs.declared.diagnostic.Diagnostic.{Diagnostic}
 use Rattle.redraw_report.specs.declared.diagnostic.FileSpan.{FileSpan}
@@ -93,3 +93,7 @@ pub record IsReadAs (d : Data) (result : Diagnostic) : Type 0 where
   pub shown : Diagnostic
   pub shows : IsShownBy reader.puts_labels_first text told shown
   pub apart : has_several shown ≡ false → result ≡ shown
+
+-- what a message of cargo is read as: what the value of its field `message` is
+abbrev pub IsPackagedAs : Data → Diagnostic → Type 0
+IsPackagedAs d result = (message : Data) × (get (codes "message") d ≡ Some message) × IsReadAs message result

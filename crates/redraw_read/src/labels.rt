@@ -267,7 +267,8 @@ fn take_first<'a>(
     label: &'a EditLabel,
 ) -> Result<Option<usize>, AllocError>
     ensures taken { (spans : List FileSpan) → AreBarePlaces bare.old spans
-        → IfOk result (λ first. (first ≡ target label.now spans) × AreBarePlaces bare.new (with_label label.now spans)) }
+        → IfOk result (λ first. (first ≡ target label.now spans)
+        × AreBarePlaces bare.new (with_label label.now spans)) }
 {
     let part = (label.edit.region, label.edit.file.as_str());
     let mut indices = indices_out(alloc, bare, part);

@@ -12,11 +12,12 @@ returns-in-Some c =
     let edit = c.in-Some.edit in
     let told = c.in_ok-edit_label-in-Some.field-0 in
     let old = c.args.labels.now.items in
+    let message = message_line (string_bytes c.args.child.message) in
     record {
       added = ap (map label_seen) c.in_ok-push-in-Some.ensures.items ∙ map-append label_seen old (told ∷ [])
           ∙ ap (λ (l : LabelSeen). map label_seen old ++ l ∷ []) c.in_ok-edit_label-in-Some.ensures.value
           ∙ ap (λ m. map label_seen old ++ label_of row m edit ∷ [])
           (c.as_str-in-Some.ensures.value ∙ c.in_ok-message.ensures.value ∙ ap message_line c.as_str.ensures.value)
-          ∙ ap (λ (o : Option SuggestedEdit). map label_seen old ++ option_to_list (option_map (label_of row (message_line (string_bytes c.args.child.message))) o))
+          ∙ ap (λ (o : Option SuggestedEdit). map label_seen old ++ option_to_list (option_map (label_of row message) o))
           c.in-Some.ensures.value;
     }

@@ -10,7 +10,8 @@ returns-in-Label-clause-told c =
     let text = c.args.manners.now.text.now in
     let message = message_line (string_bytes c.args.child.message) in
     let is : Label c.in-Label.label.now ≡ way message text =
-    sym (ap way_of c.in-Label.is) ∙ c.in_ok-title.ensures.value ∙ ap (λ m. way m text) (c.in_ok-message.ensures.value ∙ ap message_line c.as_str.ensures.value) in
+    sym (ap way_of c.in-Label.is) ∙ c.in_ok-title.ensures.value
+    ∙ ap (λ m. way m text) (c.in_ok-message.ensures.value ∙ ap message_line c.as_str.ensures.value) in
     on_ok_weaker c.add_label.result
     (λ added. added ∙ ap (λ (w : Way). map label_seen c.args.told.now.items ++ told_by w message c.args.child.alternatives.items) is)
     c.add_label.ensures.added

@@ -1,0 +1,31 @@
+-- The files of a package are no part of what a diagnostic is read as.
+use Rattle.std.proofs.Common.{◌≡◌, Bool, List, ℕ, Option, None, Some, String, ap}
+use Rattle.std.specs.Global.{Global, Vec}
+use Rattle.serde_json.specs.Data.{Data}
+use Rattle.redraw_report.specs.declared.diagnostic.Diagnostic.{Diagnostic}
+use Rattle.redraw_read.specs.Rustc.{IsReadAs, IsShownBy}
+
+shows_homes : (first : Bool) (text : Option (List ℕ)) (old new : Diagnostic) (homes : Vec (String Global)) → IsShownBy first text old new
+    → IsShownBy first text (record old { homes = homes }) (record new { homes = homes })
+shows_homes first None old new homes shows = ap (λ (d : Diagnostic). record d { homes = homes }) shows
+shows_homes first (Some text) old new homes shows = (
+  shows.0,
+  shows.1,
+  record { children = shows.2.children; labels = shows.2.labels; told = shows.2.told; places = shows.2.places },
+)
+
+pub reads_homes : (d : Data) (diagnostic : Diagnostic) (homes : Vec (String Global)) → IsReadAs d diagnostic → IsReadAs d (record diagnostic { homes = homes })
+reads_homes d diagnostic homes reads = record {
+  reader = reads.reader;
+  told = record reads.told { homes = homes };
+  tells = record {
+    headed = record { heading = reads.tells.headed.heading; code = reads.tells.headed.code };
+    places = reads.tells.places;
+    children = reads.tells.children;
+  };
+  text = reads.text;
+  own = reads.own;
+  shown = record reads.shown { homes = homes };
+  shows = shows_homes reads.reader.puts_labels_first reads.text reads.told reads.shown homes reads.shows;
+  apart = λ none. ap (λ (x : Diagnostic). record x { homes = homes }) (reads.apart none);
+}
