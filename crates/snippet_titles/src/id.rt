@@ -75,7 +75,7 @@ pub(crate) fn shown_text<'r>(alloc: Global, text: &'r CowStr<'_>) -> Result<CowS
 }
 
 /// What stands before an id's text.
-pub(crate) fn opening_bracket(hidden: bool) -> &'static str
+pub fn opening_bracket(hidden: bool) -> &'static str
     ensures value { chars result.now ≡ spec.opening_bracket_of hidden }
     ensures length { length result.now ≡ length (spec.opening_bracket_of hidden) }
     ensures short { length result.now ≤ 1 }
@@ -84,7 +84,7 @@ pub(crate) fn opening_bracket(hidden: bool) -> &'static str
 }
 
 /// What stands after an id's text.
-pub(crate) fn closing_bracket(hidden: bool) -> &'static str
+pub fn closing_bracket(hidden: bool) -> &'static str
     ensures value { chars result.now ≡ spec.closing_bracket_of hidden }
     ensures short { length result.now ≤ 1 }
 {

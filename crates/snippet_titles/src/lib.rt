@@ -15,7 +15,7 @@ pub mod title;
 
 pub use head::{draw_nameless_head, draw_opening_head, draw_primary_head, draw_secondary_head};
 pub use heading::{colon, draw_heading, is_hidden, label_width, shown_name};
-pub use id::{address_of, is_set};
+pub use id::{address_of, closing_bracket, is_set, opening_bracket};
 pub use origin::{FileStart, OriginLayout, OriginLocation, draw_origin, origin_text};
 pub use printed::{is_plain_heading, print_heading};
 pub use separators::{draw_closing, draw_padding, draw_separator};

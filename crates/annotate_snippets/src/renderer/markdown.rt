@@ -16,7 +16,6 @@ ghost use Rattle.std.specs.Option.{option_copied, option_map};
 ghost use Rattle.std.specs.Cow.{cow_str_bytes};
 ghost use Rattle.snippet_model.specs.Fits.{ReportFits};
 ghost use Rattle.snippet_model.specs.Heading.{heading_of_title};
-ghost use Rattle.snippet_titles.specs.HeadingRows as titles;
 ghost use Rattle.annotate_snippets.specs.Fault as fault;
 ghost use Rattle.annotate_snippets.specs.Fault.{IsWithinBounds};
 ghost use Rattle.annotate_snippets.specs.Markdown as spec;
@@ -30,7 +29,7 @@ use crate::snippet::Report;
 use snippet_model::snippet::{Group, Id, Title};
 use snippet_style::Stylesheet;
 use snippet_text::{is_link_address, normalized};
-use snippet_titles::{colon, is_hidden, shown_name};
+use snippet_titles::{closing_bracket, colon, is_hidden, opening_bracket, shown_name};
 use std::alloc::{AllocError, Global};
 
 impl Renderer {
@@ -155,20 +154,6 @@ fn push_id(alloc: Global, out: &mut String, hidden: bool, id: Option<&Id>) -> Re
     push_escaped(out, opening_bracket(hidden))?;
     push_linked(out, link_of(id), shown.as_str())?;
     push_escaped(out, closing_bracket(hidden))
-}
-
-/// What stands before an id's text.
-fn opening_bracket(hidden: bool) -> &'static str
-    ensures value { chars result.now ≡ titles.opening_bracket_of hidden }
-{
-    if hidden { "" } else { "[" }
-}
-
-/// What stands after an id's text.
-fn closing_bracket(hidden: bool) -> &'static str
-    ensures value { chars result.now ≡ titles.closing_bracket_of hidden }
-{
-    if hidden { "" } else { "]" }
 }
 
 /// The address of an id, if it may be a link.
