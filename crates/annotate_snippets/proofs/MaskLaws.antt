@@ -27,7 +27,8 @@ use Rattle.snippet_shown.proofs.WrapLemmas.{wrapped-chars}
 use Rattle.snippet_shown.specs.AsMasked.{IsAnnotationMasked, IsElementMasked, IsGroupMasked, IsIdMasked, IsNameMasked, IsPatchMasked, IsTitleMasked}
 use Rattle.snippet_shown.specs.AsWrapped.{IsElementWrapped, IsGroupWrapped, IsTextWrapped, IsTitleWrapped, room_of_message, room_of_title}
 use Rattle.snippet_shown.specs.Context.{context_spans, visible_mark}
-use Rattle.snippet_shown.specs.Masked.{IsTextMasked, is_masked, mask_of, masked, masked_in}
+use Rattle.snippet_lines.specs.Controls.{is_masked}
+use Rattle.snippet_shown.specs.Masked.{IsTextMasked, mask_of, masked, masked_in}
 use Rattle.snippet_shown.specs.Remade.{IsGroupTaken, Stays}
 use Rattle.snippet_shown.specs.WithContext.{IsElementWithContext, IsGroupWithContext, IsSnippetWithContext}
 use Rattle.snippet_style.specs.declared.role.LevelInner.{LevelInner}

@@ -30,7 +30,8 @@ use Rattle.snippet_model.specs.declared.snippet.Snippet.{Snippet}
 use Rattle.snippet_model.specs.declared.snippet.Title.{Title}
 use Rattle.snippet_shown.specs.AsMasked.{IsAnnotationMasked, IsElementMasked, IsGroupMasked, IsIdMasked, IsLevelMasked, IsTitleMasked}
 use Rattle.snippet_shown.specs.AsMasked.{IsNameMasked, IsPatchMasked, IsSnippetMasked}
-use Rattle.snippet_shown.specs.Masked.{IsTextMasked, is_masked, mask_of, masked}
+use Rattle.snippet_lines.specs.Controls.{is_masked}
+use Rattle.snippet_shown.specs.Masked.{IsTextMasked, mask_of, masked}
 use Rattle.snippet_shown.specs.Remade.{IsGroupTaken}
 use Rattle.snippet_shown.specs.WithContext.{IsAnyTitle}
 use Rattle.snippet_splice.specs.Edits.{Edit, edit_of}

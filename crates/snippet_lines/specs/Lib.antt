@@ -1,3 +1,4 @@
+pub mod Controls
 pub mod Lines
 pub mod Number
 pub mod OrderedBy

@@ -3,6 +3,7 @@
 
 pub mod clamp;
 pub mod columns;
+pub mod controls;
 pub mod counts;
 pub mod line_bounds;
 pub mod lines;
@@ -14,6 +15,7 @@ pub mod text_lines;
 
 pub use clamp::{Place, SpanAt, between};
 pub use columns::{ColumnUnit, Position, line_start, place_after, span_at};
+pub use controls::{has_masked, is_masked};
 pub use counts::{ends_with_line_feed, line_feed_count, newline_count_before};
 pub use lines::{CursorLines, EndLine, newline_count, without_line_end};
 pub use number::{LineNumbers, number_text};

@@ -1,9 +1,12 @@
 //! A source whose lines are found once.
-ghost use Rattle.std.specs.Prelude.{◌≡◌, IfOk};
+ghost use Rattle.std.specs.Prelude.{◌≡◌, IfOk, chars};
 ghost use Rattle.std.specs.Cow.{cow_str_bytes};
 ghost use Rattle.std.specs.Fmt.{debug_str};
+ghost use Rattle.std.specs.List.{list_any};
+ghost use Rattle.snippet_lines.specs.Controls.{is_masked};
 ghost use Rattle.snippet_lines.specs.Starts as spec;
 
+use crate::controls::has_masked;
 use memchr::memchr_iter;
 use snippet_text::CowStr;
 use std::alloc::{AllocError, Global};
@@ -24,18 +27,23 @@ pub struct SourceLines<'a> {
     source: CowStr<'a>,
     /// The byte at which each line starts. An empty source has one line.
     starts: Vec<usize>,
+    /// Whether it holds a control that `mask_controls` masks.
+    has_masked: bool,
 }
 
 impl<'a> Model for SourceLines<'a> {
-    ghost use Rattle.std.specs.Prelude.{◌≡◌, ℕ, List};
+    ghost use Rattle.std.specs.Prelude.{◌≡◌, ℕ, List, chars};
     ghost use Rattle.std.specs.Cow.{cow_str_bytes};
+    ghost use Rattle.std.specs.List.{list_any};
+    ghost use Rattle.snippet_lines.specs.Controls.{is_masked};
     ghost use Rattle.snippet_lines.specs.Starts.{line_starts};
 
     ghost Value = { List ℕ };
 
     ghost view = { λ lines. cow_str_bytes lines.source };
 
-    ghost invariant = { λ lines. lines.starts.items ≡ line_starts (cow_str_bytes lines.source) };
+    ghost invariant = { λ lines. (lines.starts.items ≡ line_starts (cow_str_bytes lines.source))
+        × (lines.has_masked ≡ list_any is_masked (chars (cow_str_bytes lines.source))) };
 }
 
 impl<'a> SourceLines<'a> {
@@ -51,7 +59,12 @@ impl<'a> SourceLines<'a> {
         ensures ok { IfOk result (λ lines. lines ≡ cow_str_bytes source.entry) }
     {
         let starts = line_starts(alloc, source.as_str())?;
-        Ok(SourceLines { source, starts })
+        let has_masked = has_masked(source.as_str());
+        Ok(SourceLines {
+            source,
+            starts,
+            has_masked,
+        })
     }
 
     /// The source.
@@ -66,6 +79,13 @@ impl<'a> SourceLines<'a> {
         ensures value { result.now ≡ spec.line_starts self.now }
     {
         self.starts.as_slice()
+    }
+
+    /// Whether the source holds a control that `mask_controls` masks.
+    pub fn has_masked(&self) -> bool
+        ensures value { result ≡ list_any is_masked (chars self.now) }
+    {
+        self.has_masked
     }
 }
 

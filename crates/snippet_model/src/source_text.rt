@@ -1,12 +1,14 @@
 //! The source of a snippet.
-ghost use Rattle.std.specs.Prelude.{◌≡◌, IfOk, IfSome, length, string_bytes, true};
+ghost use Rattle.std.specs.Prelude.{◌≡◌, IfOk, IfSome, chars, length, string_bytes, true};
 ghost use Rattle.std.specs.Cow.{cow_str_bytes};
 ghost use Rattle.std.specs.Option.{is_some};
 ghost use Rattle.std.specs.Fmt.{debug_str};
+ghost use Rattle.std.specs.List.{list_any};
+ghost use Rattle.snippet_lines.specs.Controls.{is_masked};
 ghost use Rattle.snippet_lines.specs.Starts as spec;
 ghost use Rattle.snippet_model.specs.Source.{SameSource, unindexed};
 
-use snippet_lines::SourceLines;
+use snippet_lines::{SourceLines, has_masked};
 use snippet_text::CowStr;
 use std::alloc::AllocError;
 use std::fmt;
@@ -20,12 +22,16 @@ pub struct SourceText<'a> {
     text: CowStr<'a>,
     /// The byte at which each line starts, where the lines are lent.
     starts: Option<&'a [usize]>,
+    /// Whether it holds a control that `mask_controls` masks, where that is known.
+    has_masked: Option<bool>,
 }
 
 impl<'a> Model for SourceText<'a> {
-    ghost use Rattle.std.specs.Prelude.{◌≡◌, IfSome};
+    ghost use Rattle.std.specs.Prelude.{◌≡◌, IfSome, chars};
     ghost use Rattle.std.specs.Cow.{cow_str_bytes};
+    ghost use Rattle.std.specs.List.{list_any};
     ghost use Rattle.std.specs.Option.{is_some};
+    ghost use Rattle.snippet_lines.specs.Controls.{is_masked};
     ghost use Rattle.snippet_lines.specs.Starts.{line_starts};
     ghost use Rattle.snippet_model.specs.Source.{SourceSeen};
 
@@ -33,8 +39,8 @@ impl<'a> Model for SourceText<'a> {
 
     ghost view = { λ source. record { text = source.text; is_indexed = is_some source.starts } };
 
-    ghost invariant = { λ source. IfSome source.starts
-        (λ starts. starts.now ≡ line_starts (cow_str_bytes source.text)) };
+    ghost invariant = { λ source. IfSome source.starts (λ starts. starts.now ≡ line_starts (cow_str_bytes source.text))
+        × IfSome source.has_masked (λ has. has ≡ list_any is_masked (chars (cow_str_bytes source.text))) };
 }
 
 impl<'a> SourceText<'a> {
@@ -42,7 +48,11 @@ impl<'a> SourceText<'a> {
     pub fn new(text: CowStr<'a>) -> SourceText<'a>
         ensures value { result ≡ unindexed text.entry }
     {
-        SourceText { text, starts: None }
+        SourceText {
+            text,
+            starts: None,
+            has_masked: None,
+        }
     }
 
     /// The text of a source whose lines were found before. It takes no memory.
@@ -53,6 +63,7 @@ impl<'a> SourceText<'a> {
         SourceText {
             text: CowStr::Borrowed(lines.source()),
             starts: Some(lines.starts()),
+            has_masked: Some(lines.has_masked()),
         }
     }
 
@@ -78,6 +89,16 @@ impl<'a> SourceText<'a> {
         self.starts
     }
 
+    /// Whether it holds a control that `mask_controls` masks. If its lines are lent, no character of it is looked at.
+    pub fn has_masked(&self) -> bool
+        ensures value { result ≡ list_any is_masked (chars (cow_str_bytes self.now.text)) }
+    {
+        match self.has_masked {
+            Some(known) => known,
+            None => has_masked(self.as_str()),
+        }
+    }
+
     /// A copy: the same text, and the same lines. The one error is that memory ran out.
     pub fn clone(&self) -> Result<SourceText<'a>, AllocError>
         ensures same { IfOk result (SameSource self.now) }
@@ -85,6 +106,7 @@ impl<'a> SourceText<'a> {
         Ok(SourceText {
             text: self.text.clone()?,
             starts: self.starts,
+            has_masked: self.has_masked,
         })
     }
 }

@@ -6,7 +6,8 @@ use Rattle.std.specs.Str.{IsUtf8}
 use Rattle.std.proofs.Math.Nat.{mod-lt}
 use Rattle.std.proofs.lemmas.Bool.Decides.{nat_tests}
 use Rattle.std.proofs.lemmas.Str.{encodes-chars}
-use Rattle.snippet_shown.specs.Masked.{IsAligned, byte_class, is_masked, mask_of, masked}
+use Rattle.snippet_lines.specs.Controls.{is_masked}
+use Rattle.snippet_shown.specs.Masked.{IsAligned, byte_class, mask_of, masked}
 
 -- ---- one character
 

@@ -5,7 +5,8 @@ use Rattle.std.specs.List.{list_any}
 use Rattle.std.specs.Str.{IsUtf8}
 use Rattle.std.proofs.lemmas.Str.{chars_from_encodes, encodes-append}
 use Rattle.std.proofs.lemmas.List.{append-nil, map-id}
-use Rattle.snippet_shown.specs.Masked.{is_masked, mask_of, masked}
+use Rattle.snippet_lines.specs.Controls.{is_masked}
+use Rattle.snippet_shown.specs.Masked.{mask_of, masked}
 
 -- one more character
 pub masked-push : (cs : List ℕ) (c : ℕ) → masked (cs ++ c ∷ []) ≡ masked cs ++ mask_of c ∷ []

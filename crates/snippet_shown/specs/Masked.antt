@@ -1,16 +1,11 @@
 -- Controls that are masked: characters that could change how a terminal shows the text around them, and that are drawn as they are elsewhere.
-use Rattle.std.specs.Prelude.{◌≡◌, ℕ, ◌==◌, ◌||◌, nat_lt, Bool, true, false, List, chars, if◌then◌else◌, map}
+use Rattle.std.specs.Prelude.{◌≡◌, ℕ, nat_lt, Bool, true, false, List, chars, if◌then◌else◌, map}
 use Rattle.std.specs.Cow.{cow_str_bytes}
 use Rattle.std.specs.List.{AllZip}
-use Rattle.std.specs.Int.{is_in_range}
 use Rattle.std.specs.declared.alloc.Global.{Global}
 use Rattle.std.specs.declared.borrow.CowStr.{CowStr}
+use Rattle.snippet_lines.specs.Controls.{is_masked}
 use Rattle.snippet_text.specs.Normalized.{norm}
-
--- whether a character is masked: a control from U+0080 to U+009F, a mark of direction, U+061C, U+200E or U+200F, or a separator of lines or
--- of paragraphs, U+2028 or U+2029
-abbrev pub is_masked : ℕ → Bool
-is_masked c = is_in_range 0x80 0x9F c || c == 0x61C || is_in_range 0x200E 0x200F c || is_in_range 0x2028 0x2029 c
 
 -- what stands in the place of a character: of one that is masked a sign of as many bytes, U+00A4 for two and U+FFFD for three, and of any
 -- other the character itself

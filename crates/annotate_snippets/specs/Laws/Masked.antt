@@ -7,7 +7,7 @@ use Rattle.snippet_model.specs.declared.snippet.Element.TheVariants as element
 use Rattle.snippet_model.specs.declared.snippet.Group.{Group}
 use Rattle.snippet_model.specs.declared.snippet.Id.{Id}
 use Rattle.snippet_model.specs.declared.snippet.Title.{Title}
-use Rattle.snippet_shown.specs.Masked.{is_masked}
+use Rattle.snippet_lines.specs.Controls.{is_masked}
 use Rattle.snippet_shown.specs.Remade.{IsGroupTaken}
 
 -- a text that holds none

@@ -1,26 +1,13 @@
 //! Characters that are masked, and texts of which they are.
 ghost use Rattle.std.specs.Prelude.{◌≡◌, chars, false, string_bytes, IfOk};
-ghost use Rattle.std.specs.List.{list_any};
 ghost use Rattle.snippet_model.specs.Same.{SameOption};
 ghost use Rattle.snippet_shown.specs.Masked as spec;
 ghost use Rattle.snippet_shown.specs.Masked.{IsAligned, IsMaskedInPlace, IsTextMasked};
 
+use snippet_lines::{has_masked, is_masked};
 use snippet_model::SourceText;
 use snippet_text::{CowStr, normalize_untrusted_str};
 use std::alloc::{AllocError, Global};
-
-/// Whether a character is masked: a control from U+0080 on, a mark of direction, or a separator of lines or paragraphs.
-fn is_masked(c: char) -> bool
-    ensures value { result ≡ spec.is_masked c }
-{
-    matches!(
-        c,
-        '\u{80}'..='\u{9f}'
-            | '\u{61c}'
-            | '\u{200e}'..='\u{200f}'
-            | '\u{2028}'..='\u{2029}'
-    )
-}
 
 /// What stands in the place of a character: of one that is masked a sign of as many bytes, of any other itself.
 fn mask_of(c: char) -> char
@@ -33,13 +20,6 @@ fn mask_of(c: char) -> char
     } else {
         '\u{fffd}'
     }
-}
-
-/// Whether a text holds a character that is masked.
-fn has_masked(text: &str) -> bool
-    ensures value { result ≡ list_any spec.is_masked (chars text.now) }
-{
-    text.chars().any(|c| is_masked(c))
 }
 
 /// A text, each of its characters masked.
@@ -101,7 +81,7 @@ pub fn source_masked<'a>(
 ) -> Result<SourceText<'a>, AllocError>
     ensures masked { IfOk result (λ masked. IsMaskedInPlace source.entry.text masked.text) }
 {
-    if has_masked(source.as_str()) {
+    if source.has_masked() {
         let masked = replaced(alloc, source.as_str())?;
         Ok(SourceText::new(CowStr::Owned(masked)))
     } else {

@@ -1,7 +1,5 @@
-use Rattle.std.proofs.Common.{◌∙◌, ap, chars, sym}
+use Rattle.std.proofs.Common.{◌∙◌, chars, sym}
 use Rattle.std.specs.Cow.{cow_str_bytes}
-use Rattle.std.specs.List.{list_any}
-use Rattle.snippet_shown.specs.Masked.{is_masked}
 use Rattle.snippet_shown.proofs.MaskBytes.{aligned-own}
 use Rattle.snippet_shown.proofs.MaskLemmas.{masked-none}
 use Rattle.snippet_shown.proofs.mask.text.source_masked.Goals as goal
@@ -12,7 +10,7 @@ returns c =
     record {
       masked = (
         sym (masked-none (chars text)
-            (ap (λ bytes. list_any is_masked (chars bytes)) (sym c.as_str.ensures.value) ∙ sym c.has_masked.ensures.value ∙ c.if-has_masked.false)),
+            (sym c.has_masked.ensures.value ∙ c.if-has_masked.false)),
         aligned-own text,
       );
     }
