@@ -147,12 +147,12 @@ impl AnsiColor {
     }
 
     /// The bright form of the colour, or the dark one.
-    pub const fn bright(self, yes: bool) -> Self {
+    pub fn bright(self, yes: bool) -> Self {
         Self::ALL[self as usize % 8 + if yes { 8 } else { 0 }]
     }
 
     /// Whether it is one of the bright forms.
-    pub const fn is_bright(self) -> bool {
+    pub fn is_bright(self) -> bool {
         self as usize >= 8
     }
 }

@@ -1,7 +1,7 @@
 //! Styles.
 
 use crate::codes::Codes;
-use crate::{Ansi256Color, AnsiColor, Color, Effects, RgbColor};
+use crate::{Color, Effects};
 use std::fmt::{self, Display};
 #[cfg(feature = "std")]
 use std::io::{self, Write};
@@ -164,30 +164,6 @@ impl Display for Style {
 impl From<Effects> for Style {
     fn from(effects: Effects) -> Self {
         Style::new().effects(effects)
-    }
-}
-
-impl From<Color> for Style {
-    fn from(color: Color) -> Self {
-        color.on_default()
-    }
-}
-
-impl From<AnsiColor> for Style {
-    fn from(color: AnsiColor) -> Self {
-        color.on_default()
-    }
-}
-
-impl From<Ansi256Color> for Style {
-    fn from(color: Ansi256Color) -> Self {
-        color.on_default()
-    }
-}
-
-impl From<RgbColor> for Style {
-    fn from(color: RgbColor) -> Self {
-        color.on_default()
     }
 }
 
