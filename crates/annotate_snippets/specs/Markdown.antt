@@ -101,31 +101,24 @@ markdown title page = title_in_markdown title ++ fence page ++ (10 ∷ []) ++ pa
 
 -- a renderer that is set alike but links nowhere
 abbrev pub unlinked : Renderer → Renderer
-unlinked r = record {
-  anonymized_origin_line_numbers = r.anonymized_origin_line_numbers;
-  anonymized_snippet_line_numbers = r.anonymized_snippet_line_numbers;
-  term_width = r.term_width;
-  decor_style = r.decor_style;
-  stylesheet = r.stylesheet;
-  hyperlink = false;
-  short_message = r.short_message;
-  no_graphics = r.no_graphics;
-  show_line_feeds = r.show_line_feeds;
-  context_before = r.context_before;
-  context_after = r.context_after;
-  wrap = r.wrap;
-  mask_controls = r.mask_controls;
-}
+unlinked r = record r { hyperlink = false }
+
+-- and one that is set alike but wraps nothing
+abbrev pub unwrapped : Renderer → Renderer
+unwrapped r = record r { wrap = false }
 
 -- the bytes of a report's plain text in the form that the renderer is set to
 abbrev pub plain_page : Renderer → List Group → List ℕ
 plain_page r groups = encode_utf8_all (plain_in (form_of r) (unlinked r) groups)
 
--- a text is a report in Markdown, as the renderer is set: it is that of the report that is shown in place of it
+-- a text is a report in Markdown, as the renderer is set: the page is that of the report that is shown in place of it, and the title above it
+-- stands in one line, as that of the report that would be shown if nothing were wrapped
 pub record IsReportMarkdown (r : Renderer) (groups : List Group) (text : List ℕ) : Type 0 where
   pub shown : List Group
+  pub whole : List Group
   pub set : IsAsSet (form_of r) r groups shown
-  pub is : text ≡ markdown (title_above (form_of r) shown) (plain_page r shown)
+  pub unbroken : IsAsSet (form_of r) (unwrapped r) groups whole
+  pub is : text ≡ markdown (title_above (form_of r) whole) (plain_page r shown)
 
 -- ---- what follows
 

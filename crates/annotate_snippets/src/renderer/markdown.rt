@@ -34,9 +34,9 @@ use std::alloc::{AllocError, Global};
 
 impl Renderer {
     /// A report in Markdown, for who posts it where Markdown is read: in the graphic form the title of the first group
-    /// in bold, on a line of its own above an empty one; and in each form the text that [`render`](Renderer::render)
-    /// gives, without codes and links, on lines of its own between two fences. The sheet and `hyperlink` aren't looked
-    /// at.
+    /// in bold, on a line of its own above an empty one, whole if it is wrapped in the text; and in each form the text
+    /// that [`render`](Renderer::render) gives, without codes and links, on lines of its own between two fences. The
+    /// sheet and `hyperlink` aren't looked at.
     ///
     /// Each ASCII punctuation character of the title stands after a backslash, a line feed as a blank, and a listed
     /// character as it is shown elsewhere, so nothing of it is taken for markup. Its id links to its address where that
@@ -66,7 +66,9 @@ impl Renderer {
         let shown = self.shown(alloc, form, groups)?;
         let unlinked = self.unlinked()?;
         let page = text_in_form(alloc, &unlinked, form, &shown, &Stylesheet::plain())?;
-        let text = in_markdown(alloc, title_above(form, &shown), page.as_str())?;
+        let unwrapped = self.unwrapped()?;
+        let whole = unwrapped.shown(alloc, form, groups)?;
+        let text = in_markdown(alloc, title_above(form, &whole), page.as_str())?;
         Ok(text)
     }
 
@@ -74,9 +76,14 @@ impl Renderer {
     fn unlinked(&self) -> Result<Renderer, AllocError>
         ensures value { IfOk result (λ unlinked. unlinked ≡ spec.unlinked self.now) }
     {
-        let mut unlinked = self.clone()?;
-        unlinked.hyperlink = false;
-        Ok(unlinked)
+        Ok(self.clone()?.hyperlink(false))
+    }
+
+    /// A renderer that is set alike but wraps nothing.
+    fn unwrapped(&self) -> Result<Renderer, AllocError>
+        ensures value { IfOk result (λ unwrapped. unwrapped ≡ spec.unwrapped self.now) }
+    {
+        Ok(self.clone()?.wrap(false))
     }
 }
 

@@ -5,7 +5,7 @@ use Rattle.snippet_style.specs.Stylesheet.{is_plain_sheet}
 use Rattle.annotate_snippets.specs.AsSet.{IsAsSet}
 use Rattle.annotate_snippets.specs.Fault.{form_of}
 use Rattle.annotate_snippets.specs.Laws.Forms.{IsTextUnder}
-use Rattle.annotate_snippets.specs.Markdown.{markdown, title_above, unlinked}
+use Rattle.annotate_snippets.specs.Markdown.{markdown, title_above, unlinked, unwrapped}
 use Rattle.annotate_snippets.specs.declared.renderer.Renderer.{Renderer}
 use Rattle.annotate_snippets.specs.declared.renderer.form.Form.{Form}
 use Rattle.annotate_snippets.proofs.MarkdownLemmas.{markdown-laws, plain-under}
@@ -15,6 +15,7 @@ pub returns-clause-markdown : goal.returns-clause-markdown
 returns-clause-markdown c =
     let r : Renderer = c.args.self.now in
     let shown : List Group = c.deref.result.now in
+    let whole : List Group = c.deref-2.result.now in
     let form : c.form_of-form.result ≡ form_of r = c.form_of-form.ensures.value in
     let page : IsTextUnder (form_of r) (unlinked r) shown c.plain.result (string_bytes c.in_ok-page.page) =
     subst (λ (f : Form). IsTextUnder f (unlinked r) shown c.plain.result (string_bytes c.in_ok-page.page)) form
@@ -22,10 +23,15 @@ returns-clause-markdown c =
     c.in_ok-page.ensures.text) in
     record {
       shown = shown;
+      whole = whole;
       set = subst (λ (gs : List Group). IsAsSet (form_of r) r c.args.groups.now gs) (sym c.deref.ensures.value)
           (subst (λ (f : Form). IsAsSet f r c.args.groups.now (cow_slice_items c.in_ok-shown.shown)) form c.in_ok-shown.ensures.shown.set);
+      unbroken = subst (λ (gs : List Group). IsAsSet (form_of r) (unwrapped r) c.args.groups.now gs) (sym c.deref-2.ensures.value)
+          (subst (λ (f : Form). IsAsSet f (unwrapped r) c.args.groups.now (cow_slice_items c.in_ok-whole.whole)) form
+          (subst (λ (one : Renderer). IsAsSet c.form_of-form.result one c.args.groups.now (cow_slice_items c.in_ok-whole.whole))
+          c.in_ok-unwrapped.ensures.value c.in_ok-whole.ensures.shown.set));
       is = c.in_ok-text.ensures.value
-          ∙ ap₂ markdown (c.title_above.ensures.value ∙ ap₂ title_above form (c.deref-2.ensures.value ∙ sym c.deref.ensures.value))
+          ∙ ap₂ markdown (c.title_above.ensures.value ∙ ap (λ (f : Form). title_above f whole) form)
           (c.as_str.ensures.value ∙ plain-under r shown c.plain.result (string_bytes c.in_ok-page.page)
           (ap is_plain_sheet c.plain.ensures.value) page);
     }
