@@ -3,8 +3,10 @@ pub mod CommandLines
 pub mod Finding
 pub mod LookingAhead
 pub mod NotFound
+pub mod NotShortened
 pub mod NotWritten
 pub mod Paths
+pub mod Shortening
 pub mod Telling
 pub mod Unheeding
 pub mod Wording

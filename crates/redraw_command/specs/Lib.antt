@@ -8,6 +8,7 @@ pub mod Look
 pub mod LookAhead
 pub mod Scanned
 pub mod Seen
+pub mod Shortened
 pub mod Tally
 pub mod Told
 pub mod Unheeded

@@ -2,13 +2,14 @@
 
 ghost use Rattle.std.specs.Prelude.{◌≡◌, ◌≢◌, ◌++◌, ◌∷◌, [], codes, List, ℕ, IfOk, MatchOption, OnOk, nat_eq};
 ghost use Rattle.std.specs.Prelude.{option_map, string_bytes};
-ghost use Rattle.std.specs.List.{starts_with};
+ghost use Rattle.std.specs.List.{AllZip, starts_with};
 ghost use Rattle.redraw_command.specs.Arguments.{argument_at};
 ghost use Rattle.redraw_command.specs.Files as spec;
 ghost use Rattle.redraw_command.specs.Files.{IsBelow, IsShownFrom};
+ghost use Rattle.redraw_command.specs.Shortened.{IsChildFrom, IsDiagnosticFrom, IsEditFrom, IsPlaceFrom};
 
 use crate::terminal::Surroundings;
-use redraw_report::diagnostic::{Child, Diagnostic};
+use redraw_report::diagnostic::{Child, Diagnostic, FileSpan, SuggestedEdit};
 use std::alloc::{AllocError, Global};
 
 /// The path of the folder that files are read below, from the root of the machine, without a slash at its end; `None`
@@ -117,25 +118,51 @@ pub fn make_relative(
     alloc: Global,
     diagnostic: &mut Diagnostic,
     folder: &str,
-) -> Result<(), AllocError> {
-    for span in &mut diagnostic.spans {
-        shorten(alloc, &mut span.file, folder)?;
-    }
-    for child in &mut diagnostic.children {
+) -> Result<(), AllocError>
+    ensures shown { OnOk result (IsDiagnosticFrom folder.now diagnostic.old diagnostic.new) }
+{
+    make_places_relative(alloc, &mut diagnostic.spans, folder)?;
+    for child in diagnostic.children.iter_mut() {
         make_child_relative(alloc, child, folder)?;
     }
     Ok(())
 }
 
 /// Names each file of a child that lies below this folder by its path from there.
-fn make_child_relative(alloc: Global, child: &mut Child, folder: &str) -> Result<(), AllocError> {
-    for span in &mut child.spans {
+fn make_child_relative(alloc: Global, child: &mut Child, folder: &str) -> Result<(), AllocError>
+    ensures shown { OnOk result (IsChildFrom folder.now child.old child.new) }
+{
+    make_places_relative(alloc, &mut child.spans, folder)?;
+    for edits in child.alternatives.iter_mut() {
+        make_edits_relative(alloc, edits, folder)?;
+    }
+    Ok(())
+}
+
+/// Names the file of each of some places, if it lies below this folder, by its path from there.
+fn make_places_relative(
+    alloc: Global,
+    spans: &mut [FileSpan],
+    folder: &str,
+) -> Result<(), AllocError>
+    ensures shown { OnOk result (AllZip (IsPlaceFrom folder.now) spans.old spans.new) }
+{
+    for span in spans.iter_mut() {
         shorten(alloc, &mut span.file, folder)?;
     }
-    for edits in &mut child.alternatives {
-        for edit in edits {
-            shorten(alloc, &mut edit.file, folder)?;
-        }
+    Ok(())
+}
+
+/// The same of edits.
+fn make_edits_relative(
+    alloc: Global,
+    edits: &mut [SuggestedEdit],
+    folder: &str,
+) -> Result<(), AllocError>
+    ensures shown { OnOk result (AllZip (IsEditFrom folder.now) edits.old edits.new) }
+{
+    for edit in edits.iter_mut() {
+        shorten(alloc, &mut edit.file, folder)?;
     }
     Ok(())
 }
