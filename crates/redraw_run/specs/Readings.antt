@@ -1,13 +1,20 @@
 -- Which of the readings that the JSON of a diagnostic leaves open is drawn: the one whose drawing is rustc's own text.
-use Rattle.std.specs.Prelude.{◌≡◌, ℕ, ◌++◌, Bool, false, List, [], ◌∷◌, Option, Some, codes, if◌then◌else◌}
+use Rattle.std.specs.Prelude.{◌≡◌, ℕ, ◌++◌, Bool, false, true, List, [], ◌∷◌, Option, Some, codes, if◌then◌else◌}
 use Rattle.std.specs.List.{All}
 use Rattle.std.specs.Option.{IfSome, option_map_or}
 use Rattle.std.specs.Str.{bytes_eq}
 use Rattle.program.specs.OptionSettings.{settings_of}
+use Rattle.serde_json.specs.Data.{Data}
+use Rattle.redraw_read.specs.Rustc.{IsPackagedAs, IsReadAs}
 use Rattle.redraw_read.specs.declared.sources.File.{File}
 use Rattle.redraw_report.specs.declared.diagnostic.Diagnostic.{Diagnostic}
 use Rattle.redraw_run.specs.DrawnFinding.{ShowsFinding}
 use Rattle.redraw_run.specs.declared.look.ReportRenderer.{ReportRenderer}
+
+-- what a line is read as: what its value is, or what is in it, where it is a message of cargo
+abbrev pub IsReadFrom : (is_cargo : Bool) → Data → Diagnostic → Type 0
+IsReadFrom false d result = IsReadAs d result
+IsReadFrom true d result = IsPackagedAs d result
 
 -- as rustc draws: in the graphic form, without colours and links, in 140 columns, with line-drawing characters or in ASCII
 abbrev pub rustc_look : Bool → ReportRenderer

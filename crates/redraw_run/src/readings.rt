@@ -1,9 +1,10 @@
 //! Which reading of a diagnostic is drawn, where its JSON leaves that open: the one whose drawing is rustc's own text.
-ghost use Rattle.std.specs.Prelude.{◌≡◌, ◌++◌, Bool, IfOk, codes, false, string_bytes};
+ghost use Rattle.std.specs.Prelude.{◌≡◌, ◌⊎◌, ◌++◌, Bool, IfOk, codes, false, string_bytes};
 ghost use Rattle.std.specs.Str.{bytes_eq};
 ghost use Rattle.redraw_read.specs.AsShown.{has_escape};
 ghost use Rattle.redraw_run.specs.Readings as spec;
-ghost use Rattle.redraw_run.specs.Readings.{Candidate, IsChosenReading, IsDrawnIn, as_rustc_ends, is_meant};
+ghost use Rattle.redraw_run.specs.Readings.{Candidate, IsChosenReading, IsDrawnIn, IsReadFrom, as_rustc_ends, is_meant};
+ghost use Rattle.serde_json.specs.View.{view};
 
 use crate::look::ReportRenderer;
 use crate::text::drawn_of;
@@ -33,7 +34,9 @@ pub fn read_diagnostic<S: SourceFiles + Drop>(
     sources: &mut Sources<S>,
     line: &Node<'_, '_>,
     is_cargo: bool,
-) -> Result<Diagnostic, Fault> {
+) -> Result<Diagnostic, Fault>
+    ensures read { IfOk result (IsReadFrom is_cargo (view line.now.value.now)) }
+{
     let first = read_by(line, is_cargo, FIRST)?;
     let open = open_of(line, is_cargo)?;
     match text_if(open.is_any(), line, is_cargo)? {
@@ -47,7 +50,9 @@ pub fn read_diagnostic<S: SourceFiles + Drop>(
 }
 
 /// The diagnostic of a line, by this reading.
-fn read_by(line: &Node<'_, '_>, is_cargo: bool, reading: Reading) -> Result<Diagnostic, Fault> {
+fn read_by(line: &Node<'_, '_>, is_cargo: bool, reading: Reading) -> Result<Diagnostic, Fault>
+    ensures read { IfOk result (IsReadFrom is_cargo (view line.now.value.now)) }
+{
     if is_cargo {
         packaged_diagnostic_by(line, reading)
     } else {
@@ -91,6 +96,7 @@ fn choose<S: SourceFiles + Drop>(
 ) -> Result<Diagnostic, Fault>
     ensures chosen { IfOk result (λ d. (is_unicode : Bool)
         × IsChosenReading (spec.rustc_look is_unicode) text.now d) }
+    ensures read { IfOk result (λ d. (d ≡ first) ⊎ IsReadFrom is_cargo (view line.now.value.now) d) }
 {
     let look = rustc_look_for(text);
     let is_first = draws(sources, line.alloc, &look, &first, text)?;
