@@ -1,5 +1,5 @@
 -- A diagnostic whose paths are shown from a folder.
-use Rattle.std.specs.Prelude.{◌≡◌, ℕ, List, string_bytes}
+use Rattle.std.specs.Prelude.{◌≡◌, ℕ, List, Option, Some, None, string_bytes}
 use Rattle.std.specs.Global.{Vec}
 use Rattle.std.specs.List.{AllZip}
 use Rattle.redraw_command.specs.Files.{IsShownFrom}
@@ -33,3 +33,8 @@ pub record IsDiagnosticFrom (folder : List ℕ) (old new : Diagnostic) : Type 0 
   pub places : AllZip (IsPlaceFrom folder) old.spans.items new.spans.items
   pub children : AllZip (IsChildFrom folder) old.children.items new.children.items
   pub rest : new ≡ record old { spans = new.spans; children = new.children }
+
+-- a diagnostic as it is shown: from a folder, where there is one, and else as it is
+abbrev pub IsShownOf : Option (List ℕ) → Diagnostic → Diagnostic → Type 0
+IsShownOf None old new = new ≡ old
+IsShownOf (Some folder) old new = IsDiagnosticFrom folder old new

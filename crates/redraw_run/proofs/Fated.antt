@@ -1,11 +1,13 @@
 -- What becomes of parts becomes of the whole.
 use Rattle.std.proofs.Common.{◌≡◌, ◌++◌, ◌∙◌, List, [], ◌∷◌, ap, append_assoc, append-nil, false, inl, inr, refl, subst, sym, true}
+use Rattle.std.specs.Prelude.{Result, Ok, Err, IfOk}
+use Rattle.json_lines.specs.declared.fault.Fault.{Fault}
 use Rattle.serde_json.specs.Data.{Data, null}
 use Rattle.redraw_command.specs.declared.choice.Choice.{Choice}
 use Rattle.redraw_report.specs.declared.diagnostic.Diagnostic.{Diagnostic}
 use Rattle.redraw_run.specs.Deeds.{Deed, Drawn, Commanded, Compared, HandedOn, Told, Refused, LeftOut, Repeated, BuildFailed, IsPartOfDeeds}
-use Rattle.redraw_run.specs.Fates.{AreMessages, AreNone, AreResults, AreRuns, Each, IsChosen, IsFound, IsKnown, IsRepeated}
-use Rattle.redraw_run.specs.Fates.{IsResult, IsLogRun, IsShown}
+use Rattle.redraw_run.specs.Fates.{AreMessages, AreNone, AreResults, AreRuns, Each, IsChosen, IsDiagnosed, IsFound, IsKnown, IsRepeated}
+use Rattle.redraw_run.specs.Fates.{IsReportedAs, IsResult, IsLogRun, IsShown, IsWrong}
 use Rattle.redraw_run.specs.Fates.{Then}
 use Rattle.redraw_run.specs.declared.kind.Kind.{Kind}
 use Rattle.redraw_run.proofs.Doing.{part_as, part_then}
@@ -89,6 +91,24 @@ messages_then c ds h = subst (AreMessages c) (sym h.split) (messages_after c h.b
 pub chosen_again : (d : Diagnostic) (c : Choice) (ds : List Deed) → IsRepeated c ds → IsChosen d c ds
 chosen_again d c ds h = inl h
 
+-- what becomes of a finding of a kind becomes of it by a wider one
+pub reported_as : (P Q : Diagnostic → Type 0) → ((d : Diagnostic) → P d → Q d) → (c : Choice) (ds : List Deed) → IsReportedAs P c ds → IsReportedAs Q c ds
+reported_as P Q f c ds (inl h) = inl h
+reported_as P Q f c ds (inr (d, is, h)) = inr (d, f d is, h)
+
+pub diagnosed_as : (P Q : Diagnostic → Type 0) → ((d : Diagnostic) → P d → Q d) → (c : Choice) (ds : List Deed) → IsDiagnosed P c ds → IsDiagnosed Q c ds
+diagnosed_as P Q f c ds (inl h) = inl h
+diagnosed_as P Q f c ds (inr h) = inr (reported_as P Q f c ds h)
+
+-- what couldn't be read is left out
+pub unread_wrong : (fault : Fault) (c : Choice) (ds : List Deed) → IsReportedAs (λ (d : Diagnostic). Err fault ≡ Ok d) c ds → IsWrong c ds
+unread_wrong fault c ds (inl h) = h
+unread_wrong fault c ds (inr (d, is, h)) = absurd (cc is)
+
+-- what was read is of the kind that all is that is read
+pub read_is : (read : Result Diagnostic Fault) (P : Diagnostic → Type 0) → IfOk read P → (d : Diagnostic) → read ≡ Ok d → P d
+read_is read P all d is = subst (λ (r : Result Diagnostic Fault). IfOk r P) is all
+
 -- ---- logs
 
 pub found_some : (c : Choice) → (es : List Deed) × IsFound c es
@@ -134,8 +154,8 @@ runs_part c ds h = part_as {P = Then AreRuns IsLogRun} c ds (runs_more c) (part_
 -- ---- values
 
 -- what becomes of a value of this kind
-pub as_known : (k j : Kind) → k ≡ j → (c : Choice) (ds : List Deed) → IsKnown j c ds → IsKnown k c ds
-as_known k j is c ds h = subst (λ (x : Kind). IsKnown x c ds) (sym is) h
+pub as_known : (k j : Kind) (d : Data) → k ≡ j → (c : Choice) (ds : List Deed) → IsKnown j d c ds → IsKnown k d c ds
+as_known k j d is c ds h = subst (λ (x : Kind). IsKnown x d c ds) (sym is) h
 
 -- a test that fails doesn't hold
 pub never_true : false ≡ true → ⊥

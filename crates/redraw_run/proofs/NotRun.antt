@@ -9,6 +9,7 @@ use Rattle.redraw_command.specs.declared.choice.OutputForm.{OutputForm}
 use Rattle.redraw_command.specs.declared.choice.OutputForm.TheVariants.{Report}
 use Rattle.redraw_command.specs.declared.choice.Choice.{Choice}
 use Rattle.redraw_command.specs.declared.tally.Tally.{Tally}
+use Rattle.redraw_read.specs.Rustc.{IsPackagedAs, IsReadAs}
 use Rattle.redraw_report.specs.declared.diagnostic.Diagnostic.{Diagnostic}
 use Rattle.redraw_report.specs.declared.diagnostic.Severity.{Severity}
 use Rattle.redraw_report.specs.declared.diagnostic.Severity.TheVariants.{Error}
@@ -17,7 +18,7 @@ use Rattle.redraw_run.specs.declared.kind.Kind.{Kind}
 use Rattle.redraw_run.specs.declared.kind.Kind.TheVariants as kind
 use Rattle.redraw_run.specs.Deeds.{State, Deed, Drawn, Commanded, Compared, HandedOn, Told, Refused, LeftOut, Repeated, BuildFailed, tally_by, with_files}
 use Rattle.redraw_run.specs.Fates.{AreMessages, AreRuns, Each, IsDiagnosed, IsFound, IsKnown}
-use Rattle.redraw_run.specs.Fates.{IsFateOfPiece, IsLog, IsReported, IsResult, IsLogRun, IsShown, IsTaking}
+use Rattle.redraw_run.specs.Fates.{IsFateOfPiece, IsLog, IsReported, IsReportedAs, IsResult, IsLogRun, IsShown, IsTaking, IsWrong}
 use Rattle.redraw_run.specs.FindingLines.{names_line}
 use Rattle.redraw_run.specs.ReadLines.{IsPieceOf}
 use Rattle.redraw_run.specs.Run.{Finishes, nothing_begun}
@@ -84,21 +85,24 @@ taken_unhanded d c ds (inr (taken, inr (inr (inl (form, inr h))))) = subst Unhan
 taken_unhanded d c ds (inr (taken, inr (inr (inr (form, inl h))))) = subst Unhanded (sym h.2) tt
 taken_unhanded d c ds (inr (taken, inr (inr (inr (form, inr h))))) = subst Unhanded (sym h) tt
 
-reported_unhanded : (c : Choice) (ds : List Deed) → IsReported c ds → Unhanded ds
+wrong_unhanded : (c : Choice) (ds : List Deed) → IsWrong c ds → Unhanded ds
 unfolding Unhanded
-reported_unhanded c ds (inl h) = subst Unhanded (sym h.1) tt
-reported_unhanded c ds (inr h) = taken_unhanded h.0 c ds h.1
+wrong_unhanded c ds h = subst Unhanded (sym h.1) tt
 
-diagnosed_unhanded : (c : Choice) (ds : List Deed) → IsDiagnosed c ds → Unhanded ds
+reported_unhanded : (Is : Diagnostic → Type 0) (c : Choice) (ds : List Deed) → IsReportedAs Is c ds → Unhanded ds
+reported_unhanded Is c ds (inl h) = wrong_unhanded c ds h
+reported_unhanded Is c ds (inr (read, is, (d, shown, h))) = taken_unhanded d c ds h
+
+diagnosed_unhanded : (Is : Diagnostic → Type 0) (c : Choice) (ds : List Deed) → IsDiagnosed Is c ds → Unhanded ds
 unfolding Unhanded
-diagnosed_unhanded c ds (inl h) =
+diagnosed_unhanded Is c ds (inl h) =
     subst Unhanded (sym (h.split ∙ ap (λ es. es ++ h.after) h.first.1 ∙ ap (λ es. (LeftOut ∷ Told h.first.0 ∷ []) ++ es) h.next)) tt
-diagnosed_unhanded c ds (inr h) = reported_unhanded c ds h
+diagnosed_unhanded Is c ds (inr h) = reported_unhanded Is c ds h
 
 found_unhanded : (c : Choice) (ds : List Deed) → IsFound c ds → Unhanded ds
 unfolding Unhanded
 found_unhanded c ds (inl h) = subst Unhanded (sym h) tt
-found_unhanded c ds (inr h) = reported_unhanded c ds h
+found_unhanded c ds (inr h) = reported_unhanded (λ (d : Diagnostic). Unit {0}) c ds h
 
 result_unhanded : (c : Choice) (ds : List Deed) → IsResult c ds → Unhanded ds
 result_unhanded c ds h =
@@ -118,26 +122,26 @@ run_unhanded c ds h =
     (each_unhanded (λ (d : Data). IsResult) c (λ x es m. result_unhanded c es m) h.next.0 h.after h.next.1))
 
 log_unhanded : (c : Choice) (ds : List Deed) → IsLog c ds → Unhanded ds
-log_unhanded c ds (inl h) = reported_unhanded c ds h
+log_unhanded c ds (inl h) = wrong_unhanded c ds h
 log_unhanded c ds (inr h) = each_unhanded (λ (d : Data). IsLogRun) c (λ x es m. run_unhanded c es m) h.0 ds h.1
 
-known_unhanded : (k : Kind) (c : Choice) (ds : List Deed) → IsKnown k c ds → Unhanded ds
+known_unhanded : (k : Kind) (v : Data) (c : Choice) (ds : List Deed) → IsKnown k v c ds → Unhanded ds
 unfolding Unhanded
-known_unhanded kind.Rustc c ds h = diagnosed_unhanded c ds h
-known_unhanded kind.Cargo c ds h = diagnosed_unhanded c ds h
-known_unhanded kind.Failed c ds h = subst Unhanded (sym h) tt
-known_unhanded kind.Other c ds h = subst Unhanded (sym h) tt
-known_unhanded kind.Sarif c ds h = log_unhanded c ds h
-known_unhanded kind.Lsp c ds h = run_unhanded c ds h
-known_unhanded kind.LspNotification c ds h = run_unhanded c ds h
+known_unhanded kind.Rustc v c ds h = diagnosed_unhanded (IsReadAs v) c ds h
+known_unhanded kind.Cargo v c ds h = diagnosed_unhanded (IsPackagedAs v) c ds h
+known_unhanded kind.Failed v c ds h = subst Unhanded (sym h) tt
+known_unhanded kind.Other v c ds h = subst Unhanded (sym h) tt
+known_unhanded kind.Sarif v c ds h = log_unhanded c ds h
+known_unhanded kind.Lsp v c ds h = run_unhanded c ds h
+known_unhanded kind.LspNotification v c ds h = run_unhanded c ds h
 
-both_handed : (k : Kind) (c : Choice) (d : Diagnostic) (text line : List ℕ) → IsKnown k c (Drawn d text ∷ HandedOn line ∷ []) → ⊥
+both_handed : (k : Kind) (v : Data) (c : Choice) (d : Diagnostic) (text line : List ℕ) → IsKnown k v c (Drawn d text ∷ HandedOn line ∷ []) → ⊥
 unfolding Unhanded
-both_handed k c d text line h = known_unhanded k c (Drawn d text ∷ HandedOn line ∷ []) h
+both_handed k v c d text line h = known_unhanded k v c (Drawn d text ∷ HandedOn line ∷ []) h
 
 report_handed : (c : Choice) (d : Diagnostic) (text line : List ℕ) → IsReported c (Drawn d text ∷ HandedOn line ∷ []) → ⊥
 unfolding Unhanded
-report_handed c d text line h = reported_unhanded c (Drawn d text ∷ HandedOn line ∷ []) h
+report_handed c d text line h = reported_unhanded (λ (x : Diagnostic). Unit {0}) c (Drawn d text ∷ HandedOn line ∷ []) h
 
 runs_handed : (c : Choice) (d : Diagnostic) (text line : List ℕ) → AreRuns c (Drawn d text ∷ HandedOn line ∷ []) → ⊥
 unfolding Unhanded
@@ -149,24 +153,24 @@ pub drawn_and_handed_on : (line : List ℕ) (c : Choice) (d : Diagnostic) (text 
 drawn_and_handed_on line c d text (t, is, inl h) = cc h.1
 drawn_and_handed_on line c d text (t, is, inr (inl (begins, inl (none, h)))) = cc h.1
 drawn_and_handed_on line c d text (t, is, inr (inl (begins, inr (inl (none, h))))) = cc h
-drawn_and_handed_on line c d text (t, is, inr (inl (begins, inr (inr (v, reads, (Some k, of, h)))))) = both_handed k c d text line h
+drawn_and_handed_on line c d text (t, is, inr (inl (begins, inr (inr (v, reads, (Some k, of, h)))))) = both_handed k v c d text line h
 drawn_and_handed_on line c d text (t, is, inr (inl (begins, inr (inr (v, reads, (None, of, inl h)))))) = cc h.1
 drawn_and_handed_on line c d text (t, is, inr (inl (begins, inr (inr (v, reads, (None, of, inr h)))))) = cc h
 drawn_and_handed_on line c d text (t, is, inr (inr (inl (finding, asked, h)))) = report_handed c d text line h
 drawn_and_handed_on line c d text (t, is, inr (inr (inr (begins, h)))) = runs_handed c d text line h
 
 -- a diagnostic of rustc is drawn twice
-pub drawn_twice : (c : Choice) (d : Diagnostic) (text : List ℕ) → IsKnown kind.Rustc c (Drawn d text ∷ Drawn d text ∷ []) → ⊥
-drawn_twice c d text (inl h) =
+pub drawn_twice : (v : Data) (c : Choice) (d : Diagnostic) (text : List ℕ) → IsKnown kind.Rustc v c (Drawn d text ∷ Drawn d text ∷ []) → ⊥
+drawn_twice v c d text (inl h) =
     let all = h.split ∙ ap (λ es. es ++ h.after) h.first.1 ∙ ap (λ es. (LeftOut ∷ Told h.first.0 ∷ []) ++ es) h.next in cc all
-drawn_twice c d text (inr (inl h)) = cc h.1
-drawn_twice c d text (inr (inr (f, inl h))) = cc h.1
-drawn_twice c d text (inr (inr (f, inr (taken, inl h)))) = cc h.1
-drawn_twice c d text (inr (inr (f, inr (taken, inr (inl h))))) = cc h.1.1
-drawn_twice c d text (inr (inr (f, inr (taken, inr (inr (inl (form, inl h))))))) = cc h.1
-drawn_twice c d text (inr (inr (f, inr (taken, inr (inr (inl (form, inr h))))))) = cc h.1
-drawn_twice c d text (inr (inr (f, inr (taken, inr (inr (inr (form, inl h))))))) = cc h.2
-drawn_twice c d text (inr (inr (f, inr (taken, inr (inr (inr (form, inr h))))))) = cc h
+drawn_twice v c d text (inr (inl h)) = cc h.1
+drawn_twice v c d text (inr (inr (f, is, (e, shown, inl h)))) = cc h.1
+drawn_twice v c d text (inr (inr (f, is, (e, shown, inr (taken, inl h))))) = cc h.1
+drawn_twice v c d text (inr (inr (f, is, (e, shown, inr (taken, inr (inl h)))))) = cc h.1.1
+drawn_twice v c d text (inr (inr (f, is, (e, shown, inr (taken, inr (inr (inl (form, inl h)))))))) = cc h.1
+drawn_twice v c d text (inr (inr (f, is, (e, shown, inr (taken, inr (inr (inl (form, inr h)))))))) = cc h.1
+drawn_twice v c d text (inr (inr (f, is, (e, shown, inr (taken, inr (inr (inr (form, inl h)))))))) = cc h.2
+drawn_twice v c d text (inr (inr (f, is, (e, shown, inr (taken, inr (inr (inr (form, inr h)))))))) = cc h
 
 -- what another tool writes, here `a`, is handed on and told too
 pub noise_told : (c : Choice) (part : List ℕ) → IsFateOfPiece (97 ∷ 10 ∷ []) c (HandedOn (97 ∷ 10 ∷ []) ∷ Told part ∷ []) → ⊥

@@ -7,12 +7,14 @@ use Rattle.serde_json.specs.Data.{Data}
 use Rattle.serde_json.specs.Find.{get}
 use Rattle.serde_json.specs.Read.{read}
 use Rattle.redraw_command.specs.Choice.{IsTaken}
+use Rattle.redraw_command.specs.Shortened.{IsShownOf}
 use Rattle.redraw_command.specs.Line.{begins_document, begins_object, begins_utf16, mark}
 use Rattle.redraw_command.specs.Workflow.{command}
 use Rattle.redraw_command.specs.declared.choice.Choice.{Choice}
 use Rattle.redraw_command.specs.declared.choice.OutputForm.TheVariants.{Report, Workflow, Verify}
 use Rattle.redraw_command.specs.declared.stop.Stop.{Stop}
 use Rattle.redraw_command.specs.declared.stop.Stop.TheVariants.{Memory, Unwritable, Unreadable, Utf16}
+use Rattle.redraw_read.specs.Rustc.{IsPackagedAs, IsReadAs}
 use Rattle.redraw_report.specs.declared.diagnostic.Diagnostic.{Diagnostic}
 use Rattle.redraw_run.specs.Deeds.{State, Deed, Drawn, Commanded, Compared, HandedOn, Told, Refused, LeftOut, Repeated, BuildFailed, Does, IsCutShort}
 use Rattle.redraw_run.specs.Deeds.{IsPartOfDeeds}
@@ -97,17 +99,25 @@ IsChosen d c deeds = IsRepeated c deeds ⊎ IsDrawing d c deeds
 abbrev pub IsTaking : Diagnostic → Choice → List Deed → Type 0
 IsTaking d c deeds = ((IsTaken c d → ⊥) × (deeds ≡ [])) ⊎ (IsTaken c d × IsChosen d c deeds)
 
--- what becomes of what is to report a finding: it can't be read, and is left out; or this becomes of the finding that is read
+-- what becomes of a finding that is read: this of it with its paths as they are shown from a folder, or as they are
+abbrev pub IsTakingRead : Diagnostic → Choice → List Deed → Type 0
+IsTakingRead read c deeds = (d : Diagnostic) × ((folder : Option (List ℕ)) × IsShownOf folder read d) × IsTaking d c deeds
+
+-- what becomes of what is to report a finding of a kind: it can't be read, and is left out; or this becomes of such a one, which is read
+abbrev pub IsReportedAs : (Diagnostic → Type 0) → Choice → List Deed → Type 0
+IsReportedAs Is c deeds = IsWrong c deeds ⊎ ((read : Diagnostic) × Is read × IsTakingRead read c deeds)
+
+-- the same of any finding
 abbrev pub IsReported : Choice → List Deed → Type 0
-IsReported c deeds = IsWrong c deeds ⊎ ((d : Diagnostic) × IsTaking d c deeds)
+IsReported = IsReportedAs (λ (read : Diagnostic). Unit {0})
 
 -- what becomes of an error of rustc that can't be read: it is left out, one message says so, and the run fails
 abbrev pub IsErrorLost : Choice → List Deed → Type 0
 IsErrorLost = Then IsWrong IsFailed
 
--- what becomes of a diagnostic of rustc: that of an error that can't be read, else that of what is to report a finding
-abbrev pub IsDiagnosed : Choice → List Deed → Type 0
-IsDiagnosed c deeds = IsErrorLost c deeds ⊎ IsReported c deeds
+-- what becomes of a diagnostic of rustc: that of an error that can't be read, else that of what is to report a finding of a kind
+abbrev pub IsDiagnosed : (Diagnostic → Type 0) → Choice → List Deed → Type 0
+IsDiagnosed Is c deeds = IsErrorLost c deeds ⊎ IsReportedAs Is c deeds
 
 -- what becomes of a result of a log: after messages on what is wrong with it, this becomes of its finding, or it is left out
 abbrev pub IsFound : Choice → List Deed → Type 0
@@ -129,7 +139,7 @@ AreRuns c deeds = (runs : List Data) × Each (λ (run : Data). IsLogRun) runs c 
 
 -- what becomes of a log: its runs are no list, and it is left out; or this becomes of its runs
 abbrev pub IsLog : Choice → List Deed → Type 0
-IsLog c deeds = IsReported c deeds ⊎ AreRuns c deeds
+IsLog c deeds = IsWrong c deeds ⊎ AreRuns c deeds
 
 -- a value has a field of this name
 abbrev pub Has : List ℕ → Data → Type 0
@@ -203,29 +213,29 @@ IsOfKind d found =
     (Has (codes "runs") d × (found ≡ Some kind.Sarif))
     ⊎ (Lacks (codes "runs") d × IsMessageKind (text_field (codes "reason") d) d found)
 
--- what becomes of a value of a kind that is known: a diagnostic, alone or in a message of cargo; the last message of cargo says that the
--- build failed; any other message says nothing; and a log has runs
-abbrev pub IsKnown : Kind → Choice → List Deed → Type 0
-IsKnown kind.Rustc = IsDiagnosed
-IsKnown kind.Cargo = IsDiagnosed
-IsKnown kind.Failed = IsFailed
-IsKnown kind.Other = AreNone
-IsKnown kind.Sarif = IsLog
-IsKnown kind.Lsp = IsLogRun
-IsKnown kind.LspNotification = IsLogRun
+-- what becomes of a value of a kind that is known: a diagnostic, alone or in a message of cargo, is what it is read as; the last message
+-- of cargo says that the build failed; any other message says nothing; and a log has runs
+abbrev pub IsKnown : Kind → Data → Choice → List Deed → Type 0
+IsKnown kind.Rustc d = IsDiagnosed (IsReadAs d)
+IsKnown kind.Cargo d = IsDiagnosed (IsPackagedAs d)
+IsKnown kind.Failed d = IsFailed
+IsKnown kind.Other d = AreNone
+IsKnown kind.Sarif d = IsLog
+IsKnown kind.Lsp d = IsLogRun
+IsKnown kind.LspNotification d = IsLogRun
 
 -- what becomes of a value of no form that is known, which is this piece: it is left out as wrong, or handed on
 abbrev pub IsUnknown : List ℕ → Choice → List Deed → Type 0
 IsUnknown piece c deeds = IsWrong c deeds ⊎ IsHandedOn piece c deeds
 
 -- what becomes of a value of this kind, which is this piece
-abbrev pub IsOfFound : List ℕ → Option Kind → Choice → List Deed → Type 0
-IsOfFound piece None c deeds = IsUnknown piece c deeds
-IsOfFound piece (Some known) c deeds = IsKnown known c deeds
+abbrev pub IsOfFound : List ℕ → Data → Option Kind → Choice → List Deed → Type 0
+IsOfFound piece d None c deeds = IsUnknown piece c deeds
+IsOfFound piece d (Some known) c deeds = IsKnown known d c deeds
 
 -- what becomes of a value of JSON, which is this piece
 abbrev pub IsValue : List ℕ → Data → Choice → List Deed → Type 0
-IsValue piece d c deeds = (found : Option Kind) × IsOfKind d found × IsOfFound piece found c deeds
+IsValue piece d c deeds = (found : Option Kind) × IsOfKind d found × IsOfFound piece d found c deeds
 
 -- what may end a line
 abbrev pub IsLineEnd : List ℕ → Type 0

@@ -1,13 +1,15 @@
 //! Findings, drawn one after another as they are read.
 ghost use Rattle.std.specs.Prelude.{◌≡◌, ℕ, Bool, List, Option, option_map, ◌++◌, [], ◌∷◌, if◌then◌else◌, false, true};
-ghost use Rattle.std.specs.Prelude.{◌==◌, ◌≢◌, OnErr, OnOk, IfOk, IfErr, alloc_error};
+ghost use Rattle.std.specs.Prelude.{◌==◌, ◌≢◌, OnErr, OnOk, IfOk, IfErr, Ok, alloc_error};
 ghost use Rattle.std.specs.Prelude.{length, string_bytes};
+ghost use Rattle.redraw_command.specs.Arguments.{argument_at};
+ghost use Rattle.redraw_command.specs.Shortened.{IsShownOf};
 ghost use Rattle.redraw_command.specs.Seen.{IsSeen, digests_of};
 ghost use Rattle.redraw_command.specs.Tally.{one_more};
 ghost use Rattle.redraw_command.specs.Told.{Tells};
 ghost use Rattle.redraw_run.specs.Deeds.{Does, Happens, TellsAll, repeated, standing};
-ghost use Rattle.redraw_run.specs.Fates.{AreMessages, IsChosen, IsDrawing, IsTaking, LeavesOut, IsReported, IsShown};
-ghost use Rattle.redraw_run.specs.Fates.{IsHandedOn, IsWritten, IsWrong};
+ghost use Rattle.redraw_run.specs.Fates.{AreMessages, IsChosen, IsDrawing, IsTaking, LeavesOut, IsReportedAs, IsShown};
+ghost use Rattle.redraw_run.specs.Fates.{IsHandedOn, IsTakingRead, IsWritten, IsWrong};
 ghost use Rattle.redraw_run.specs.DrawnFinding.{DrawsFinding, IsCounted, IsLeftOut, IsUndrawn, ShowsFinding};
 ghost use Rattle.redraw_run.specs.DrawnFinding.{ending_after};
 ghost use Rattle.redraw_run.specs.ReadLines.{TellsUnless};
@@ -79,7 +81,7 @@ impl<S: SourceFiles + Drop> Drawing<'_, S> {
         out: &mut Stream<W>,
         err: &mut Stream<V>,
     ) -> Result<(), Stop>
-        ensures does { Happens result IsReported
+        ensures does { Happens result (IsReportedAs (λ d. read ≡ Ok d))
             (standing self.old (known W.contents out.old) (known V.contents err.old))
             (standing self.new (known W.contents out.new) (known V.contents err.new)) }
     {
@@ -140,19 +142,17 @@ impl<S: SourceFiles + Drop> Drawing<'_, S> {
     /// Draws a finding, if it is one of those that are asked for and cargo hasn't reported it before.
     pub fn take<W: Write, V: Write>(
         &mut self,
-        mut diagnostic: Diagnostic,
+        diagnostic: Diagnostic,
         message: Option<&Value>,
         out: &mut Stream<W>,
         err: &mut Stream<V>,
     ) -> Result<(), Stop>
-        ensures does { Happens result IsReported
+        ensures does { Happens result (IsTakingRead diagnostic)
             (standing self.old (known W.contents out.old) (known V.contents err.old))
             (standing self.new (known W.contents out.new) (known V.contents err.new)) }
     {
-        if let Some(folder) = self.shown_from() {
-            make_relative(self.alloc, &mut diagnostic, folder)?;
-        }
-        self.draw_chosen(&diagnostic, message, out, err)
+        let shown = as_shown(self.alloc, diagnostic, self.shown_from())?;
+        self.draw_chosen(&shown, message, out, err)
     }
 
     /// The folder that paths are shown from; none where reports are compared with rustc's texts, which have the paths
@@ -438,6 +438,23 @@ impl<S: SourceFiles + Drop> Drawing<'_, S> {
         self.tally = self.tally.with(diagnostic.severity, is_sum(diagnostic));
         self.tally.files = self.files.len();
         Ok(())
+    }
+}
+
+/// A finding with its paths as they are shown from a folder; as it is where there is none.
+fn as_shown(
+    alloc: Global,
+    mut diagnostic: Diagnostic,
+    folder: Option<&str>,
+) -> Result<Diagnostic, AllocError>
+    ensures shown { IfOk result (IsShownOf (argument_at folder.entry) diagnostic) }
+{
+    match folder {
+        Some(folder) => {
+            make_relative(alloc, &mut diagnostic, folder)?;
+            Ok(diagnostic)
+        }
+        None => Ok(diagnostic),
     }
 }
 

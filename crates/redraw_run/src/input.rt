@@ -213,7 +213,7 @@ impl Reading {
         out: &mut Stream<W>,
         err: &mut Stream<V>,
     ) -> Result<(), Stop>
-        ensures does { Happens result (IsKnown kind)
+        ensures does { Happens result (IsKnown kind (view value.now))
             (standing drawing.old (known W.contents out.old) (known V.contents err.old))
             (standing drawing.new (known W.contents out.new) (known V.contents err.new)) }
     {

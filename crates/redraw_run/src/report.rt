@@ -2,7 +2,9 @@
 ghost use Rattle.redraw_run.specs.Deeds.{Happens, standing};
 ghost use Rattle.redraw_run.specs.Fates.{AreRuns, IsDiagnosed, IsErrorLost, IsLog, IsLogRun};
 ghost use Rattle.output_stream.specs.Standing.{Standing, known};
-ghost use Rattle.std.specs.Prelude.{◌≡◌};
+ghost use Rattle.redraw_read.specs.Rustc.{IsPackagedAs, IsReadAs};
+ghost use Rattle.serde_json.specs.View.{view};
+ghost use Rattle.std.specs.Prelude.{◌≡◌, Ok};
 
 use crate::draw::Drawing;
 use crate::readings::read_diagnostic;
@@ -30,7 +32,7 @@ pub fn rustc_diagnostic<S: SourceFiles + Drop, W: Write, V: Write>(
     out: &mut Stream<W>,
     err: &mut Stream<V>,
 ) -> Result<(), Stop>
-    ensures does { Happens result IsDiagnosed
+    ensures does { Happens result (IsDiagnosed (IsReadAs (view node.now.value.now)))
         (standing drawing.old (known W.contents out.old) (known V.contents err.old))
         (standing drawing.new (known W.contents out.new) (known V.contents err.new)) }
 {
@@ -46,7 +48,7 @@ pub fn cargo_message<S: SourceFiles + Drop, W: Write, V: Write>(
     out: &mut Stream<W>,
     err: &mut Stream<V>,
 ) -> Result<(), Stop>
-    ensures does { Happens result IsDiagnosed
+    ensures does { Happens result (IsDiagnosed (IsPackagedAs (view node.now.value.now)))
         (standing drawing.old (known W.contents out.old) (known V.contents err.old))
         (standing drawing.new (known W.contents out.new) (known V.contents err.new)) }
 {
@@ -70,13 +72,14 @@ fn take_read<S: SourceFiles + Drop, W: Write, V: Write>(
     out: &mut Stream<W>,
     err: &mut Stream<V>,
 ) -> Result<(), Stop>
-    ensures does { Happens result IsDiagnosed
+    ensures does { Happens result (IsDiagnosed (λ d. read ≡ Ok d))
         (standing drawing.old (known W.contents out.old) (known V.contents err.old))
         (standing drawing.new (known W.contents out.new) (known V.contents err.new)) }
 {
     match read {
+        Ok(finding) => drawing.take(finding, message, out, err),
         Err(fault) if is_error(diagnostic) => lose(fault, drawing, err),
-        read => drawing.finding(read, message, out, err),
+        Err(fault) => drawing.finding(Err(fault), message, out, err),
     }
 }
 

@@ -1,6 +1,6 @@
 use Rattle.std.proofs.Common.{ap, inl, inr, refl, ◌∙◌}
 use Rattle.redraw_command.specs.declared.choice.Choice.{Choice}
-use Rattle.redraw_run.specs.Fates.{IsFindingOrText, IsHandedOn, IsReported}
+use Rattle.redraw_run.specs.Fates.{IsFindingOrText, IsHandedOn, IsTakingRead}
 use Rattle.redraw_run.proofs.Doing.{goes_after, goes_as, goes_err, stops_none}
 use Rattle.redraw_run.proofs.Done.{does_same}
 use Rattle.redraw_run.proofs.lines.draw_lines.Goals as goal
@@ -23,10 +23,11 @@ pub returns-in-Some : goal.returns-in-Some
 returns-in-Some g c =
     let lines = c.args.lines.now in
     let kept = c.in_ok-found.ensures.kept in
+    let found = c.in-Some.diagnostic in
     let asked = ap (λ (choice : Choice). choice.reads_lines) kept.1 ∙ c.if-not-drawing.false in
     record {
       does = goes_after (IsFindingOrText lines) _ _ _ c.take.result (does_same refl refl kept.2 kept.0 kept.1)
-          (goes_as IsReported (IsFindingOrText lines) _ _ c.take.result (λ ds h. inr (asked, h)) c.take.ensures.does);
+          (goes_as (IsTakingRead found) (IsFindingOrText lines) _ _ c.take.result (λ ds h. inr (asked, inr (found, tt, h))) c.take.ensures.does);
     }
 
 pub returns-in-None : goal.returns-in-None

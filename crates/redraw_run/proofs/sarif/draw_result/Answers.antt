@@ -1,5 +1,5 @@
 use Rattle.std.proofs.Common.{◌∙◌, inl, inr, refl}
-use Rattle.redraw_run.specs.Fates.{AreMessages, IsFound, IsReported, IsResult}
+use Rattle.redraw_run.specs.Fates.{AreMessages, IsFound, IsResult, IsTakingRead}
 use Rattle.redraw_run.proofs.Doing.{does_as, does_then, goes_as, goes_err, goes_then, stops_any, stops_none}
 use Rattle.redraw_run.proofs.Done.{does_same, does_tell_all}
 use Rattle.redraw_run.proofs.Fated.{found_some, result_part}
@@ -24,7 +24,7 @@ pub returns-in-Some : goal.returns-in-Some
 returns-in-Some g c =
     record {
       does = goes_then AreMessages IsFound _ _ _ c.take.result found_some (does_tell_all c.in_ok-tell_all.ensures.told refl refl refl refl)
-          (goes_as IsReported IsFound _ _ c.take.result (λ ds h. inr h) c.take.ensures.does);
+          (goes_as (IsTakingRead c.in-Some.diagnostic) IsFound _ _ c.take.result (λ ds h. inr (inr (c.in-Some.diagnostic, tt, h))) c.take.ensures.does);
     }
 
 pub returns : goal.returns

@@ -7,7 +7,7 @@ use Rattle.redraw_run.proofs.input.Reading.value.Goals as goal
 pub returns-in-Some : goal.returns-in-Some
 returns-in-Some g c =
     record {
-      does = goes_as (IsKnown c.in-Some.kind) (IsValue c.args.piece.now (view c.args.value.now)) _ _ c.known.result
+      does = goes_as (IsKnown c.in-Some.kind (view c.args.value.now)) (IsValue c.args.piece.now (view c.args.value.now)) _ _ c.known.result
           (λ ds h. (Some c.in-Some.kind, c.in-Some.ensures.kind, h)) c.known.ensures.does;
     }
 
