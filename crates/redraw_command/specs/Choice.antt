@@ -4,6 +4,8 @@ use Rattle.std.specs.Borrow.{Bor}
 use Rattle.std.specs.List.{Any, starts_with, ends_with}
 use Rattle.std.specs.Str.Iter.{HasSubslice}
 use Rattle.redraw_command.specs.declared.choice.Choice.{Choice}
+use Rattle.redraw_command.specs.declared.choice.OutputForm.{OutputForm}
+use Rattle.redraw_command.specs.declared.choice.OutputForm.TheVariants.{Report, Workflow, Verify}
 use Rattle.redraw_command.specs.declared.choice.Least.{Least}
 use Rattle.redraw_command.specs.declared.choice.Least.TheVariants as least
 use Rattle.redraw_report.specs.declared.diagnostic.Diagnostic.{Diagnostic}
@@ -50,6 +52,12 @@ IsIn text s = (s.is_primary ≡ true) × HasSubslice (string_bytes s.file) text
 abbrev pub AreIn : Option (Bor (List ℕ)) → List FileSpan → Type 0
 AreIn None spans = Unit {0}
 AreIn (Some text) spans = Any (IsIn text.now) spans
+
+-- the folder that paths are shown from, by the form: rustc's texts, with which reports are compared, have the paths as they are
+abbrev pub shown_from : OutputForm → Option (List ℕ) → Option (List ℕ)
+shown_from Report folder = folder
+shown_from Workflow folder = folder
+shown_from Verify folder = None
 
 -- a diagnostic is one of those that are asked for: by its level, and by its places
 abbrev pub IsTaken : Choice → Diagnostic → Type 0

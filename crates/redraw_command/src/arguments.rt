@@ -377,6 +377,7 @@ fn choice_of<'a>(matches: &ArgMatches<'a>) -> Choice<'a>
         has_duplicates: was_given(matches, "duplicates"),
         is_quiet: was_given(matches, "quiet"),
         reads_lines: was_given(matches, "lines"),
+        folder: None,
     }
 }
 

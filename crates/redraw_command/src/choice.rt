@@ -1,6 +1,7 @@
 //! Which findings are drawn, and in which form.
-ghost use Rattle.std.specs.Prelude.{◌≡◌, ◌↔◌, nat_eq, true};
+ghost use Rattle.std.specs.Prelude.{◌≡◌, ◌↔◌, nat_eq, option_map, string_bytes, true};
 ghost use Rattle.std.specs.List.{Any, starts_with, ends_with};
+ghost use Rattle.redraw_command.specs.Arguments.{argument_at};
 ghost use Rattle.redraw_command.specs.Choice as spec;
 ghost use Rattle.redraw_command.specs.Choice.{AreIn, IsIn, IsTaken};
 
@@ -40,6 +41,20 @@ pub struct Choice<'a> {
     pub is_quiet: bool,
     /// Whether lines of compilers are read, beside JSON.
     pub reads_lines: bool,
+    /// The folder that paths are shown from, where it is known. None is known before a run begins.
+    pub folder: Option<&'a str>,
+}
+
+/// The folder that paths are shown from; none where reports are compared with rustc's texts, which have the paths as
+/// they are.
+pub fn shown_from(form: OutputForm, folder: &Option<String>) -> Option<&str>
+    ensures value { argument_at result ≡ spec.shown_from form (option_map string_bytes folder.now) }
+{
+    match (folder, form) {
+        (Some(_), OutputForm::Verify) => None,
+        (Some(folder), _) => Some(folder.as_str()),
+        (None, _) => None,
+    }
 }
 
 impl Choice<'_> {

@@ -236,11 +236,7 @@ finishes held names a b is_whole err status drawn sum ends =
 
 pub cut_run : {File Standard : Type 0} (held : File ⊎ Standard → Option (List ℕ)) (names : List (List ℕ)) (a b : State) (err : Standing) (status : ℕ)
     → ArePartlyPrinted held names a b → (err ≡ b.err) ⊎ Tells b.err err → status ≡ 2 → Runs held names a b.out err status
-cut_run held names a b err status drawn told ends = inr (inl record { end = b; drawn = drawn; printed = refl; told = told; ends = ends })
-
-pub unbegun : {File Standard : Type 0} (held : File ⊎ Standard → Option (List ℕ)) (names : List (List ℕ)) (a : State) (err : Standing) (status : ℕ)
-    → TellsMemory a.err err → status ≡ 2 → Runs held names a a.out err status
-unbegun held names a err status told ends = inr (inr record { unprinted = refl; told = told; ends = ends })
+cut_run held names a b err status drawn told ends = inr record { end = b; drawn = drawn; printed = refl; told = told; ends = ends }
 
 -- what a run begins with
 pub run_from : (P : State → Type 0) (r looked : ReportRenderer) (c : Choice) (t : Tally) (out err : Standing) → r ≡ looked → t ≡ no_tally

@@ -9,13 +9,14 @@ use Rattle.clap.specs.declared.error.kind.ErrorKind.TheVariants.{DisplayHelp, Di
 use Rattle.output_stream.specs.Standing.{Standing}
 use Rattle.redraw_command.specs.Tally.{tally_status}
 use Rattle.redraw_command.specs.declared.choice.Choice.{Choice}
+use Rattle.redraw_command.specs.declared.arguments.RedrawRequest.{RedrawRequest}
 use Rattle.redraw_command.specs.declared.terminal.Surroundings.{Surroundings}
 use Rattle.redraw_command.proofs.CommandLines.{no_arguments}
 use Rattle.redraw_run.specs.Deeds.{Deed, State}
 use Rattle.redraw_run.specs.Fates.{Each}
 use Rattle.program.specs.Inputs.{hyphen}
 use Rattle.redraw_run.specs.Inputs.{AreAllIn, Input, IsOf, are_whole, asked_names, given_names, names_of}
-use Rattle.redraw_run.specs.Run.{Answers, AnswersBy, Finishes, Runs}
+use Rattle.redraw_run.specs.Run.{Answers, AnswersBy, Draws, Finishes, Runs}
 
 -- no file and no standard input can be opened
 abbrev pub Nothing : Type 0
@@ -51,8 +52,12 @@ unread_run : (held : Nothing → Option (List ℕ)) (names : List (List ℕ)) (n
     → names ≡ name ∷ rest → Runs held names a out err 0 → ⊥
 unread_run held names name rest a out err are (inl run) =
     unread_and_clean held name rest a out err (subst (λ (ns : List (List ℕ)). Finishes ⊥ ⊥ held ns a out err 0) are run)
-unread_run held names name rest a out err are (inr (inl cut)) = let two : ◌≡◌ {A = ℕ} 0 2 = cut.ends in cc two
-unread_run held names name rest a out err are (inr (inr none)) = let two : ◌≡◌ {A = ℕ} 0 2 = none.ends in cc two
+unread_run held names name rest a out err are (inr cut) = let two : ◌≡◌ {A = ℕ} 0 2 = cut.ends in cc two
+
+undrawn : (held : Nothing → Option (List ℕ)) (request : RedrawRequest) (around : Surroundings) (name : List ℕ) (rest : List (List ℕ))
+    (out err : Standing) → asked_names request.inputs ≡ name ∷ rest → Draws held request around out err out err 0 → ⊥
+undrawn held request around name rest out err are (inl (c, is, run)) = unread_run held (asked_names request.inputs) name rest _ out err are run
+undrawn held request around name rest out err are (inr none) = let two : ◌≡◌ {A = ℕ} 0 2 = none.ends in cc two
 
 -- some input is always asked for
 some_given : (names : List (Bor (List ℕ))) → (name : List ℕ) × (rest : List (List ℕ)) × (given_names names ≡ name ∷ rest)
@@ -76,7 +81,7 @@ by_answer held app around out err clean (inl h) = elim h.asked [
 by_answer held app around out err clean (inr (inl h)) = no_kind h.wrong.kind (fault_of app []) clean h.wrong.found
 by_answer held app around out err clean (inr (inr (inl h))) =
     let (name, rest, are) = some_asked h.request.inputs in
-    unread_run held (asked_names h.request.inputs) name rest _ out err are h.draws
+    undrawn held h.request around name rest out err are h.draws
 by_answer held app around out err clean (inr (inr (inr h))) = let two : ◌≡◌ {A = ℕ} 0 2 = h.ends in cc two
 
 -- the same where no arguments are given: a run that reads and writes nothing, and ends with the status 0

@@ -1,8 +1,11 @@
 -- What no run does: what wrong bodies do about small inputs contradicts what becomes of pieces and of runs.
-use Rattle.std.proofs.Common.{◌≡◌, ◌⊎◌, ◌++◌, ◌∙◌, ◌||◌, ℕ, Bool, List, [], ◌∷◌, Option, None, Some, ap, false, if◌then◌else◌, inl, inr, refl, subst, sym, true}
+use Rattle.std.proofs.Common.{◌≡◌, ◌≢◌, ◌⊎◌, ◌++◌, ◌∙◌, ◌||◌, ℕ, Bool, List, [], ◌∷◌, Option, None, Some, ap, false, if◌then◌else◌, inl, inr, refl, subst, sym}
+use Rattle.std.proofs.Common.{true}
 use Rattle.serde_json.specs.Data.{Data}
 use Rattle.output_stream.specs.Standing.{Standing}
+use Rattle.redraw_command.specs.Arguments.{argument_at}
 use Rattle.redraw_command.specs.Choice.{is_sum}
+use Rattle.redraw_command.specs.Shortened.{IsShownOf}
 use Rattle.redraw_command.specs.Line.{begins_document, begins_object}
 use Rattle.redraw_command.specs.Tally.{no_tally, tally_status, tallied}
 use Rattle.redraw_command.specs.declared.choice.OutputForm.{OutputForm}
@@ -171,6 +174,30 @@ drawn_twice v c d text (inr (inr (f, is, (e, shown, inr (taken, inr (inr (inl (f
 drawn_twice v c d text (inr (inr (f, is, (e, shown, inr (taken, inr (inr (inl (form, inr h)))))))) = cc h.1
 drawn_twice v c d text (inr (inr (f, is, (e, shown, inr (taken, inr (inr (inr (form, inl h)))))))) = cc h.2
 drawn_twice v c d text (inr (inr (f, is, (e, shown, inr (taken, inr (inr (inr (form, inr h)))))))) = cc h
+
+-- a finding is drawn of a diagnostic of rustc that its value isn't read as
+pub unread_drawn : (v : Data) (c : Choice) (d : Diagnostic) (text : List ℕ)
+    → ((read : Diagnostic) → IsReadAs v read → IsShownOf (argument_at c.folder) read d → ⊥) → IsKnown kind.Rustc v c (Drawn d text ∷ []) → ⊥
+unread_drawn v c d text none (inl h) =
+    let all = h.split ∙ ap (λ es. es ++ h.after) h.first.1 ∙ ap (λ es. (LeftOut ∷ Told h.first.0 ∷ []) ++ es) h.next in cc all
+unread_drawn v c d text none (inr (inl h)) = cc h.1
+unread_drawn v c d text none (inr (inr (f, is, (e, shown, inl h)))) = cc h.1
+unread_drawn v c d text none (inr (inr (f, is, (e, shown, inr (taken, inl h))))) = cc h.1
+unread_drawn v c d text none (inr (inr (f, is, (e, shown, inr (taken, inr (inl h)))))) =
+    none f is (subst (λ (x : Diagnostic). IsShownOf (argument_at c.folder) f x) (sym h.1.0) shown)
+unread_drawn v c d text none (inr (inr (f, is, (e, shown, inr (taken, inr (inr (inl (form, inl h)))))))) = cc h.1
+unread_drawn v c d text none (inr (inr (f, is, (e, shown, inr (taken, inr (inr (inl (form, inr h)))))))) = cc h.1
+unread_drawn v c d text none (inr (inr (f, is, (e, shown, inr (taken, inr (inr (inr (form, inl h)))))))) = cc h.2
+unread_drawn v c d text none (inr (inr (f, is, (e, shown, inr (taken, inr (inr (inr (form, inr h)))))))) = cc h
+
+same_level : (folder : Option (List ℕ)) (read d : Diagnostic) → IsShownOf folder read d → d.severity ≡ read.severity
+same_level None read d h = ap (λ (x : Diagnostic). x.severity) h
+same_level (Some folder) read d h = ap (λ (x : Diagnostic). x.severity) h.rest
+
+-- one is drawn of another level
+pub level_swapped : (v : Data) (c : Choice) (d : Diagnostic) (text : List ℕ) → ((read : Diagnostic) → IsReadAs v read → d.severity ≢ read.severity)
+    → IsKnown kind.Rustc v c (Drawn d text ∷ []) → ⊥
+level_swapped v c d text other h = unread_drawn v c d text (λ read is shown. other read is (same_level (argument_at c.folder) read d shown)) h
 
 -- what another tool writes, here `a`, is handed on and told too
 pub noise_told : (c : Choice) (part : List ℕ) → IsFateOfPiece (97 ∷ 10 ∷ []) c (HandedOn (97 ∷ 10 ∷ []) ∷ Told part ∷ []) → ⊥

@@ -6,6 +6,7 @@ use Rattle.json_lines.specs.Field.{flag_field, text_field}
 use Rattle.serde_json.specs.Data.{Data}
 use Rattle.serde_json.specs.Find.{get}
 use Rattle.serde_json.specs.Read.{read}
+use Rattle.redraw_command.specs.Arguments.{argument_at}
 use Rattle.redraw_command.specs.Choice.{IsTaken}
 use Rattle.redraw_command.specs.Shortened.{IsShownOf}
 use Rattle.redraw_command.specs.Line.{begins_document, begins_object, begins_utf16, mark}
@@ -99,9 +100,9 @@ IsChosen d c deeds = IsRepeated c deeds ⊎ IsDrawing d c deeds
 abbrev pub IsTaking : Diagnostic → Choice → List Deed → Type 0
 IsTaking d c deeds = ((IsTaken c d → ⊥) × (deeds ≡ [])) ⊎ (IsTaken c d × IsChosen d c deeds)
 
--- what becomes of a finding that is read: this of it with its paths as they are shown from a folder, or as they are
+-- what becomes of a finding that is read: this of it with its paths as they are shown from the folder
 abbrev pub IsTakingRead : Diagnostic → Choice → List Deed → Type 0
-IsTakingRead read c deeds = (d : Diagnostic) × ((folder : Option (List ℕ)) × IsShownOf folder read d) × IsTaking d c deeds
+IsTakingRead read c deeds = (d : Diagnostic) × IsShownOf (argument_at c.folder) read d × IsTaking d c deeds
 
 -- what becomes of what is to report a finding of a kind: it can't be read, and is left out; or this becomes of such a one, which is read
 abbrev pub IsReportedAs : (Diagnostic → Type 0) → Choice → List Deed → Type 0

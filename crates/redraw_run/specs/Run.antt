@@ -5,7 +5,9 @@ use Rattle.output_stream.specs.Standing.{Adds, BreaksOff, Standing}
 use Rattle.clap.specs.Simple.{App}
 use Rattle.redraw_command.specs.Tally.{no_tally, tally_status}
 use Rattle.redraw_command.specs.Told.{Tells, TellsMemory, TellsOfArguments}
-use Rattle.redraw_command.specs.Arguments.{AreWrong, AsksFor, AsksToShow, IsRedraw, Argument}
+use Rattle.redraw_command.specs.Arguments.{AreWrong, AsksFor, AsksToShow, IsRedraw, Argument, argument_at}
+use Rattle.redraw_command.specs.Choice.{shown_from}
+use Rattle.redraw_command.specs.Files.{folder_of}
 use Rattle.redraw_command.specs.declared.choice.Choice.{Choice}
 use Rattle.redraw_command.specs.declared.stop.Stop.{Stop}
 use Rattle.redraw_command.specs.declared.stop.Stop.TheVariants.{Memory, Unwritable, Unreadable, Utf16}
@@ -96,17 +98,24 @@ pub record IsUnbegun (old_out old_err out err : Standing) (status : ℕ) : Type 
 -- what a run does about the inputs of these names, and what it ends with
 abbrev pub Runs : {File Standard : Type 0} → (File ⊎ Standard → Option (List ℕ)) → List (List ℕ) → State → (out err : Standing) → ℕ → Type 0
 Runs {File} {Standard} held names a out err status =
-    Finishes File Standard held names a out err status ⊎ EndsCut File Standard held names a out err status ⊎ IsUnbegun a.out a.err out err status
+    Finishes File Standard held names a out err status ⊎ EndsCut File Standard held names a out err status
 
 -- nothing is done yet, where reports look so, these are drawn, and both streams hold this
 abbrev pub nothing_begun : ReportRenderer → Choice → Standing → Standing → State
 nothing_begun r c out err = record { renderer = r; choice = c; tally = no_tally; out = out; err = err }
 
--- a run draws what is asked for
+-- what a run draws, and in which form: what is asked for, its paths shown from the folder that is given or that it runs in
+pub record IsChoiceIn (request : RedrawRequest) (around : Surroundings) (c : Choice) : Type 0 where
+  pub folder : argument_at c.folder ≡ shown_from request.choice.form (folder_of (argument_at request.root) (argument_at around.folder))
+  pub rest : c ≡ record request.choice { folder = c.folder }
+
+-- a run draws what is asked for, or there is no memory to begin
 abbrev pub Draws : {File Standard : Type 0} → (File ⊎ Standard → Option (List ℕ)) → RedrawRequest → Surroundings
     → (old_out old_err out err : Standing) → ℕ → Type 0
 Draws held request around old_out old_err out err status =
-    Runs held (asked_names request.inputs) (nothing_begun (looks request.look around) request.choice old_out old_err) out err status
+    ((c : Choice) × IsChoiceIn request around c
+    × Runs held (asked_names request.inputs) (nothing_begun (looks request.look around) c old_out old_err) out err status)
+    ⊎ IsUnbegun old_out old_err out err status
 
 -- the arguments ask for the help or the version: a text is printed, and nothing is told
 pub record ShowsHelp (app : App) (args : List Argument) (old_out old_err out err : Standing) (status : ℕ) : Type 0 where

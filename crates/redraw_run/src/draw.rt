@@ -55,8 +55,6 @@ pub struct Drawing<'w, S: Drop> {
     pub log_sources: Sources<S>,
     /// The files that lines may name, where it is asked whether one is at hand.
     pub line_files: S,
-    /// The folder that paths are shown from, where it is known.
-    pub folder: Option<String>,
     /// What the columns of SARIF logs count, where that is asked for.
     pub columns: Option<Unit>,
     pub tally: Tally,
@@ -151,18 +149,8 @@ impl<S: SourceFiles + Drop> Drawing<'_, S> {
             (standing self.old (known W.contents out.old) (known V.contents err.old))
             (standing self.new (known W.contents out.new) (known V.contents err.new)) }
     {
-        let shown = as_shown(self.alloc, diagnostic, self.shown_from())?;
+        let shown = as_shown(self.alloc, diagnostic, self.choice.folder)?;
         self.draw_chosen(&shown, message, out, err)
-    }
-
-    /// The folder that paths are shown from; none where reports are compared with rustc's texts, which have the paths
-    /// as they are.
-    fn shown_from(&self) -> Option<&str> {
-        match (&self.folder, self.choice.form) {
-            (Some(_), OutputForm::Verify) => None,
-            (Some(folder), _) => Some(folder.as_str()),
-            (None, _) => None,
-        }
     }
 
     /// Draws a finding, if it is one of those that are asked for.

@@ -24,6 +24,7 @@ use crate::write::pass;
 use output_stream::Stream;
 use program::inputs::{STANDARD_INPUT, input_name, opened};
 use redraw_command::arguments::{RedrawRequest, matches_of, request_of};
+use redraw_command::choice::{Choice, shown_from};
 use redraw_command::relative::folder_of;
 use redraw_command::seen::{Names, SeenDiagnostics};
 use redraw_command::stop::Stop;
@@ -133,11 +134,13 @@ fn draw_all<'w, R: Files + Input + AllocGlobal, W: Write, V: Write>(
     let mut drawing = Drawing {
         alloc,
         renderer,
-        choice: request.choice,
+        choice: Choice {
+            folder: shown_from(request.choice.form, &folder),
+            ..request.choice
+        },
         sources: Sources::new(alloc, line_files),
         log_sources: Sources::new(alloc, log_files),
         line_files: asked_files,
-        folder,
         columns: request.columns,
         tally,
         seen: SeenDiagnostics::new(alloc),

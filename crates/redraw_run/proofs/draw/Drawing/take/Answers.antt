@@ -1,5 +1,4 @@
 use Rattle.std.proofs.Common.{refl}
-use Rattle.redraw_command.specs.Arguments.{argument_at}
 use Rattle.redraw_run.specs.Fates.{IsTaking, IsTakingRead}
 use Rattle.redraw_run.proofs.Doing.{goes_as, goes_err, stops_none}
 use Rattle.redraw_run.proofs.Done.{does_same}
@@ -15,8 +14,7 @@ returns-in_err-shown g c =
 pub returns : goal.returns
 returns g c =
     let shown = c.in_ok-shown.shown in
-    let from = argument_at c.shown_from.result in
     record {
       does = goes_as (IsTaking shown) (IsTakingRead c.args.diagnostic) _ _ c.draw_chosen.result
-          (λ ds h. (shown, (from, c.in_ok-shown.ensures.shown), h)) c.draw_chosen.ensures.does;
+          (λ ds h. (shown, c.in_ok-shown.ensures.shown, h)) c.draw_chosen.ensures.does;
     }
