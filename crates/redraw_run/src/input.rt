@@ -55,7 +55,8 @@ impl Reading {
         }
     }
 
-    /// Takes a piece of this form. What is told of one that is on one line gives the line's number.
+    /// Takes a piece of this form. What is told of one that is on one line, or is the lines of a finding, gives the
+    /// number of its first line; of a document of several lines, the way to a part does.
     fn piece<S: SourceFiles + Drop, W: Write, V: Write>(
         &mut self,
         bytes: &[u8],
@@ -68,7 +69,8 @@ impl Reading {
             (standing drawing.old (known W.contents out.old) (known V.contents err.old))
             (standing drawing.new (known W.contents out.new) (known V.contents err.new)) }
     {
-        drawing.line = if is_on_one_line(bytes) { self.line } else { 0 };
+        let has_number = is_on_one_line(bytes) || matches!(&form, Form::Finding);
+        drawing.line = if has_number { self.line } else { 0 };
         self.line = self.line.saturating_add(line_feeds(bytes));
         self.by_form(bytes, form, drawing, out, err)
     }
