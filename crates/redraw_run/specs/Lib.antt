@@ -10,3 +10,4 @@ pub mod Readings
 pub mod ReportLook
 pub mod Run
 pub mod Telling
+pub mod Word

@@ -1,5 +1,10 @@
 //! How long the places are that a tool names by a point: to the end of the word at it, or as many columns of a terminal
 //! as the tool put marks below it.
+ghost use Rattle.std.specs.Prelude.{◌≡◌, ℕ, ◌+◌, ◌-◌, ◌^◌, ◌≤◌, Some, drop, false, length, min};
+ghost use Rattle.redraw_report.specs.Region.{start_bytes};
+ghost use Rattle.redraw_report.specs.declared.diagnostic.Unit.TheVariants.{Bytes};
+ghost use Rattle.redraw_run.specs.Word as spec;
+ghost use Rattle.redraw_run.specs.Word.{IsUpToWord, is_wide, word_length};
 
 use redraw_read::source::Source;
 use redraw_read::sources::{SourceFiles, Sources};
@@ -47,7 +52,11 @@ fn with_word(source: &Source, region: Region) -> Region {
 }
 
 /// A point to the end of the word at it or of what was marked, or a line to the end of its text.
-fn marked(source: &Source, lines: LineRegion) -> LineRegion {
+fn marked(source: &Source, lines: LineRegion) -> LineRegion
+    ensures word { (column : ℕ) → lines.start_column ≡ Some column → lines.unit ≡ Bytes
+        → is_wide lines.start_column lines.end_column ≡ false
+        → IsUpToWord source.now.lines (start_bytes source.now.lines) lines column result }
+{
     let lookup = Lookup {
         text: source.text(),
         starts: &source.starts,
@@ -58,22 +67,31 @@ fn marked(source: &Source, lines: LineRegion) -> LineRegion {
         ..lines
     };
     let found = locate(lookup, Region::Lines(point));
-    let bytes = source.text().as_bytes();
     match lines.start_column {
-        Some(column) => LineRegion {
-            end_column: Some(column.saturating_add(units_in(
-                marked_text(bytes, found.span.start, lines),
-                0,
-                lines.unit,
-            ))),
-            ..lines
-        },
+        Some(column) => up_to_end(source.text().as_bytes(), found.span.start, column, lines),
         None => without_blanks(source, lines, found.span.start, found.span.end),
     }
 }
 
+/// A point in this column, which is at this byte, to the end of the word there or of what was marked.
+fn up_to_end(bytes: &[u8], start: usize, column: usize, lines: LineRegion) -> LineRegion
+    ensures word { start ≤ length bytes.now → lines.unit ≡ Bytes
+        → is_wide lines.start_column lines.end_column ≡ false → result ≡ record lines {
+          end_column = Some (min (column + word_length (drop start bytes.now)) (2 ^ 64 - 1));
+        } }
+{
+    let count = units_in(marked_text(bytes, start, lines), 0, lines.unit);
+    LineRegion {
+        end_column: Some(column.saturating_add(count)),
+        ..lines
+    }
+}
+
 /// What is marked of some bytes from here on: as many columns as the tool put marks below, or the word.
-fn marked_text(bytes: &[u8], start: usize, lines: LineRegion) -> &[u8] {
+fn marked_text(bytes: &[u8], start: usize, lines: LineRegion) -> &[u8]
+    ensures word { start ≤ length bytes.now → is_wide lines.start_column lines.end_column ≡ false
+        → length result.now ≡ word_length (drop start bytes.now) }
+{
     match (lines.start_column, lines.end_column) {
         (Some(first), Some(end)) if first < end => in_columns(bytes, start, end - first),
         _ => word_at(bytes, start),
@@ -133,14 +151,20 @@ fn without_blanks_after(bytes: &[u8]) -> &[u8] {
 }
 
 /// How many units some bytes have that are text and stand after so many.
-fn units_in(bytes: &[u8], before: usize, unit: Unit) -> usize {
-    match (str::from_utf8(bytes), unit) {
-        (_, Unit::Bytes) => bytes.len(),
-        (Ok(text), Unit::CodePoints) => text.chars().count(),
-        (Ok(text), Unit::Utf16 | Unit::Unsaid) => text.encode_utf16().count(),
-        (Ok(text), Unit::Display) => columns_of(text, before),
-        (Err(_), _) => 0,
+fn units_in(bytes: &[u8], before: usize, unit: Unit) -> usize
+    ensures bytes { unit ≡ Bytes → result ≡ length bytes.now }
+{
+    match unit {
+        Unit::Bytes => bytes.len(),
+        Unit::CodePoints => text_of(bytes).chars().count(),
+        Unit::Utf16 | Unit::Unsaid => text_of(bytes).encode_utf16().count(),
+        Unit::Display => columns_of(text_of(bytes), before),
     }
+}
+
+/// The text that some bytes are; none where they aren't UTF-8.
+fn text_of(bytes: &[u8]) -> &str {
+    str::from_utf8(bytes).unwrap_or("")
 }
 
 /// How many columns of a terminal a text takes that stands after so many, with tab stops eight apart.
@@ -154,17 +178,29 @@ fn columns_of(text: &str, before: usize) -> usize {
 }
 
 /// The word that begins at this byte: letters, digits, underscores and what isn't ASCII.
-fn word_at(bytes: &[u8], start: usize) -> &[u8] {
+fn word_at(bytes: &[u8], start: usize) -> &[u8]
+    ensures word { start ≤ length bytes.now → length result.now ≡ word_length (drop start bytes.now) }
+{
     let rest = &bytes[start.min(bytes.len())..];
-    for at in 0..rest.len() {
-        if !is_in_word(rest[at]) {
-            return &rest[..at];
+    &rest[..word_length(rest)]
+}
+
+/// How many bytes the word has that some bytes begin with.
+fn word_length(bytes: &[u8]) -> usize
+    ensures value { result ≡ spec.word_length bytes.now }
+    ensures within { result ≤ length bytes.now }
+{
+    for (at, byte) in bytes.iter().enumerate() {
+        if !is_in_word(*byte) {
+            return at;
         }
     }
-    rest
+    bytes.len()
 }
 
 /// Whether a byte is one of a word.
-fn is_in_word(byte: u8) -> bool {
-    byte == b'_' || byte >= 128 || byte.is_ascii_alphanumeric()
+fn is_in_word(byte: u8) -> bool
+    ensures value { result ≡ spec.is_in_word byte }
+{
+    byte == b'_' || (byte >= 128 || byte.is_ascii_alphanumeric())
 }
