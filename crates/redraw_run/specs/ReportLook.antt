@@ -19,14 +19,15 @@ shared_options look around =
       width = option_or look.width around.columns;
     }
 
--- how reports are drawn: in the settings of these options, with links in HTML and where codes are written and links are asked for, and
--- with line feeds shown; and as HTML where that is asked for
+-- how reports are drawn: in the settings of these options, with links in HTML and where codes are written and links are asked for, with
+-- line feeds shown and controls masked; and as HTML where that is asked for
 abbrev pub looks : Look → Surroundings → ReportRenderer
 looks look around =
     record {
       settings = record (settings_of (shared_options look around)) {
         hyperlink = look.html || (has_colors look around && has_links look around);
         show_line_feeds = true;
+        mask_controls = true;
       };
       is_html = look.html;
       is_workflow = look.github;

@@ -30,7 +30,8 @@ pub fn renderer_for(look: &Look, around: Surroundings<'_>) -> ReportRenderer
     };
     let settings = renderer_of(options)
         .hyperlink(look.html || has_colors && look.has_links(around))
-        .show_line_feeds(true);
+        .show_line_feeds(true)
+        .mask_controls(true);
     ReportRenderer {
         settings,
         is_html: look.html,

@@ -1,0 +1,4 @@
+fn main() {
+    let count: u32 = "a‎bc";
+    println!("{count}");
+}
