@@ -23,6 +23,8 @@ use Rattle.redraw_command.specs.declared.choice.OutputForm.TheVariants.{Report, 
 use Rattle.redraw_command.specs.declared.choice.Least.{Least}
 use Rattle.redraw_command.specs.declared.choice.Least.TheVariants as least
 use Rattle.redraw_command.specs.declared.terminal.Look.{Look}
+use Rattle.redraw_command.specs.declared.terminal.Markup.{Markup}
+use Rattle.redraw_command.specs.declared.terminal.Markup.TheVariants as markup
 use Rattle.redraw_command.specs.declared.terminal.When.{When}
 use Rattle.redraw_command.specs.declared.terminal.When.TheVariants.{Auto, Always, Never}
 use Rattle.redraw_command.specs.declared.arguments.RedrawRequest.{RedrawRequest}
@@ -37,7 +39,7 @@ parsed_rule name parser = record (valued_rule name) { parser = Some parser }
 abbrev pub form_rules : List Rule
 form_rules =
     flag_rule (codes "unicode") ∷ flag_rule (codes "text") ∷ flag_rule (codes "short") ∷ flag_rule (codes "github")
-    ∷ flag_rule (codes "html") ∷ flag_rule (codes "verify") ∷ []
+    ∷ flag_rule (codes "html") ∷ flag_rule (codes "markdown") ∷ flag_rule (codes "verify") ∷ []
 
 -- the other options that stand alone
 abbrev pub flag_rules : List Rule
@@ -130,6 +132,11 @@ unit_of argument =
 abbrev pub form_of : (is_verify is_github : Bool) → OutputForm
 form_of is_verify is_github = if is_verify then Verify else (if is_github then Workflow else Report)
 
+-- the markup that all is written in: of reports alone, and HTML where Markdown is asked for too
+abbrev pub markup_of : (is_html is_markdown is_report : Bool) → Markup
+markup_of is_html is_markdown is_report =
+    if is_html && is_report then markup.Html else (if is_markdown && is_report then markup.Markdown else markup.Bare)
+
 -- the argument that a reference leads to, if there is one
 abbrev pub argument_at : Option (Bor Argument) → Option Argument
 argument_at argument = option_map (λ (w : Bor Argument). w.now) argument
@@ -140,7 +147,8 @@ look_of found = record {
   unicode = was_given (codes "unicode") found;
   text = was_given (codes "text") found;
   short = was_given (codes "short") found;
-  html = was_given (codes "html") found && not (was_given (codes "github") found || was_given (codes "verify") found);
+  markup = markup_of (was_given (codes "html") found) (was_given (codes "markdown") found)
+      (not (was_given (codes "github") found || was_given (codes "verify") found));
   github = was_given (codes "github") found;
   colors = when_of (first_of (codes "color") found) (was_given (codes "styled") found);
   links = was_given (codes "links") found;

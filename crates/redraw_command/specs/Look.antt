@@ -1,11 +1,19 @@
--- When colours and links are written.
+-- In which markup all is written, and when colours and links are.
 use Rattle.std.specs.Prelude.{ℕ, Bool, true, false, ◌&&◌, ◌||◌, List, [], ◌∷◌, Option, Some, None, bytes_eq, codes, not, zero, suc}
 use Rattle.std.specs.Option.{option_and_then}
 use Rattle.program.specs.Numbers.{number_after_plus}
 use Rattle.redraw_command.specs.declared.terminal.Look.{Look}
+use Rattle.redraw_command.specs.declared.terminal.Markup.{Markup}
+use Rattle.redraw_command.specs.declared.terminal.Markup.TheVariants.{Bare, Html, Markdown}
 use Rattle.redraw_command.specs.declared.terminal.Surroundings.{Surroundings}
 use Rattle.redraw_command.specs.declared.terminal.When.{When}
 use Rattle.redraw_command.specs.declared.terminal.When.TheVariants.{Auto, Always, Never}
+
+-- whether a markup is that of HTML
+abbrev pub is_html : Markup → Bool
+is_html Bare = false
+is_html Html = true
+is_html Markdown = false
 
 -- whether codes are written, by when they are to be: always, never, or on a terminal that shows them
 abbrev pub are_written : When → Surroundings → Bool

@@ -12,7 +12,7 @@ ghost use Rattle.redraw_command.specs.Arguments.{parsed_rule, valued_rules, when
 ghost use Rattle.redraw_command.specs.Arguments.{argument_at, arguments_at};
 
 use crate::choice::{Choice, Least, OutputForm};
-use crate::terminal::{Look, When};
+use crate::terminal::{Look, Markup, When};
 use clap::builder::ValueParser;
 use clap::{Arg, ArgMatches, Command, Error};
 use program::command_line::{files, flag, valued, was_given};
@@ -105,6 +105,7 @@ fn with_forms<'a>(alloc: Global, command: Command<'a>) -> Result<Command<'a>, Al
         "Write each finding as a workflow command of GitHub, on one line",
     );
     let html = flag(alloc, "html", "Write one HTML document of all reports");
+    let markdown = flag(alloc, "markdown", "Write all reports in Markdown");
     let verify = flag(
         alloc,
         "verify",
@@ -116,6 +117,7 @@ fn with_forms<'a>(alloc: Global, command: Command<'a>) -> Result<Command<'a>, Al
         .arg(short)?
         .arg(github)?
         .arg(html)?
+        .arg(markdown)?
         .arg(verify)?;
     Ok(formed)
 }
@@ -328,10 +330,10 @@ fn look_of(matches: &ArgMatches<'_>) -> Look
         unicode: was_given(matches, "unicode"),
         text: was_given(matches, "text"),
         short: was_given(matches, "short"),
-        html: is_html(
+        markup: markup_of(
             was_given(matches, "html"),
-            was_given(matches, "github"),
-            was_given(matches, "verify"),
+            was_given(matches, "markdown"),
+            !(was_given(matches, "github") || was_given(matches, "verify")),
         ),
         github: was_given(matches, "github"),
         colors: colors_of(color, was_given(matches, "styled")),
@@ -341,11 +343,17 @@ fn look_of(matches: &ArgMatches<'_>) -> Look
     }
 }
 
-/// Whether reports are to be written as HTML: where that is asked for, and no other form is.
-fn is_html(is_asked: bool, is_github: bool, is_verify: bool) -> bool
-    ensures value { result ≡ is_asked && not (is_github || is_verify) }
+/// The markup that all is written in: of reports alone, and HTML where Markdown is asked for too.
+fn markup_of(is_html: bool, is_markdown: bool, is_report: bool) -> Markup
+    ensures value { result ≡ spec.markup_of is_html is_markdown is_report }
 {
-    is_asked && !(is_github || is_verify)
+    if is_html && is_report {
+        Markup::Html
+    } else if is_markdown && is_report {
+        Markup::Markdown
+    } else {
+        Markup::Bare
+    }
 }
 
 /// When colors are to be written, by the argument that says when, and whether they always are where none does.

@@ -14,6 +14,25 @@ pub enum When {
     Never,
 }
 
+/// The markup that all that is printed is written in.
+#[derive(Clone, Copy, PartialEq, Eq)]
+pub enum Markup {
+    /// None: a text for a terminal.
+    Bare,
+    /// One document in HTML.
+    Html,
+    Markdown,
+}
+
+impl Markup {
+    /// Whether it is that of HTML.
+    pub fn is_html(self) -> bool
+        ensures value { result ≡ spec.is_html self }
+    {
+        matches!(self, Markup::Html)
+    }
+}
+
 /// How reports are to look, by the options.
 #[derive(Clone, Copy)]
 pub struct Look {
@@ -23,8 +42,8 @@ pub struct Look {
     pub text: bool,
     /// Whether reports are written on one line each.
     pub short: bool,
-    /// Whether reports are written as HTML, in the graphic form, and all that is printed is one document.
-    pub html: bool,
+    /// The markup that all is written in. In HTML reports are in the graphic form.
+    pub markup: Markup,
     /// Whether findings are written as workflow commands of GitHub.
     pub github: bool,
     /// When reports are written with style codes.

@@ -26,7 +26,7 @@ use Rattle.redraw_run.specs.Deeds.{AreDeeds, AreTold, TellsAll, printed, told}
 use Rattle.redraw_run.specs.Deeds.{one_left_out, tally_by, with_files, repeated, Does, IsCutShort, IsUnwritable, Writes, Stops}
 use Rattle.redraw_run.specs.Deeds.{Happens}
 use Rattle.redraw_run.specs.DrawnFinding.{IsCounted, RefusesFinding, ShowsFinding, ending_after}
-use Rattle.redraw_run.specs.HtmlDocument.{handed}
+use Rattle.redraw_run.specs.Handed.{handed}
 use Rattle.redraw_run.specs.ReadLines.{PrintsBytes, SumsUp, TellsUnless}
 use Rattle.redraw_run.specs.Readings.{IsComparison}
 use Rattle.redraw_run.specs.Fates.{AreMessages, AreNone, IsCompared, IsFailed, IsHandedOn, LeavesOut, IsRepeated, IsShown, IsTelling, IsWritten, IsWrong, Then}
@@ -302,7 +302,7 @@ goes_compared a b (Err s) d is_same shown bytes form compared counted renderer c
 
 -- a line is handed on
 pub goes_handed : {T : Type 0} (a b : State) (r : Result T Stop) (line bytes : List ℕ) → b.tally ≡ a.tally → b.renderer ≡ a.renderer
-    → b.choice ≡ a.choice → b.err ≡ a.err → bytes ≡ handed a.renderer.is_html a.renderer.is_workflow line → Writes r a.out b.out bytes
+    → b.choice ≡ a.choice → b.err ≡ a.err → bytes ≡ handed a.renderer.markup a.renderer.is_workflow line → Writes r a.out b.out bytes
     → Happens r (IsHandedOn line) a b
 goes_handed a b (Ok x) line bytes tally renderer choice err is writes =
     record {

@@ -5,12 +5,22 @@ use Rattle.std.specs.List.{flat_map}
 use Rattle.output_stream.specs.Standing.{Adds, Standing}
 use Rattle.output_stream.proofs.Writing.{adds_twice}
 use Rattle.redraw_run.specs.Deeds.{State, printed}
-use Rattle.redraw_run.specs.HtmlDocument.{html_end, handed, html_start}
+use Rattle.redraw_command.specs.declared.terminal.Markup.TheVariants.{Html, Markdown}
+use Rattle.redraw_run.specs.Handed.{handed, indent}
+use Rattle.redraw_run.specs.HtmlDocument.{html_end, html_start}
 use Rattle.redraw_run.specs.Run.{Finishes}
 
 -- a tag that another tool writes, here its `<`, is handed on as it is
-pub tag_handed_on : (is_workflow : Bool) → handed true is_workflow (60 ∷ []) ≡ 60 ∷ [] → ⊥
+pub tag_handed_on : (is_workflow : Bool) → handed Html is_workflow (60 ∷ []) ≡ 60 ∷ [] → ⊥
 tag_handed_on is_workflow is = cc is
+
+-- markup that another tool writes, here `*` in a second line, is handed on as it is in Markdown
+pub mark_handed_on : (is_workflow : Bool) → handed Markdown is_workflow (10 ∷ 42 ∷ []) ≡ indent true ++ (10 ∷ 42 ∷ []) → ⊥
+mark_handed_on is_workflow is = cc is
+
+-- so is one after a carriage return, which ends a line there
+pub return_handed_on : (is_workflow : Bool) → handed Markdown is_workflow (13 ∷ 42 ∷ []) ≡ indent true ++ (13 ∷ 42 ∷ []) → ⊥
+return_handed_on is_workflow is = cc is
 
 -- a stream that holds nothing, and to which a write has failed or not
 abbrev nothing : Bool → Standing
@@ -18,11 +28,11 @@ nothing failed = record { held = Some []; has_failed = failed }
 
 -- a run that was to write a document, and ends with nothing written
 pub undocumented : {File Standard : Type 0} (held : File ⊎ Standard → Option (List ℕ)) (names : List (List ℕ)) (a : State) (failed : Bool) (err : Standing)
-    (status : ℕ) → a.renderer.is_html ≡ true → a.out.held ≡ Some [] → Finishes File Standard held names a (nothing failed) err status → ⊥
+    (status : ℕ) → a.renderer.markup ≡ Html → a.out.held ≡ Some [] → Finishes File Standard held names a (nothing failed) err status → ⊥
 undocumented held names a failed err status html empty run =
     let drawn = run.drawn in
     let within : List ℕ = flat_map (printed a.renderer) drawn.drawn.does.deeds in
-    let html_is = a.renderer.is_html in
+    let html_is = a.renderer.markup in
     let opened : Adds a.out drawn.last.out (html_start html_is ++ within) = adds_twice a.out drawn.opened drawn.last.out (html_start html_is) within
     drawn.opens drawn.drawn.does.out in
     let all : Adds a.out run.end.out ((html_start html_is ++ within) ++ html_end html_is) = adds_twice a.out drawn.last.out run.end.out

@@ -25,6 +25,7 @@ use Rattle.redraw_command.specs.Workflow.{command}
 use Rattle.redraw_command.specs.declared.choice.Choice.{Choice}
 use Rattle.redraw_command.specs.declared.choice.OutputForm.TheVariants.{Report}
 use Rattle.redraw_command.specs.declared.tally.Tally.{Tally}
+use Rattle.redraw_command.specs.declared.terminal.Markup.TheVariants.{Bare}
 use Rattle.redraw_read.specs.declared.sources.File.{File}
 use Rattle.redraw_report.specs.Report.{headed_of, is_bare, level_of, marked_parts, remark_section, section_of, sections_from, with_message}
 use Rattle.redraw_report.specs.View.{Headed, Section, headed_view, section_view}
@@ -124,7 +125,7 @@ by_groups f (g ∷ gs) first rest shown titled error none =
 
 -- no text at all for an error that is drawn, here in the text form
 pub nothing_drawn : (files : List File) (d : Diagnostic) → d.severity ≡ Error
-    → ShowsFinding record { settings = speaking; is_html = false; is_workflow = false } files d [] → ⊥
+    → ShowsFinding record { settings = speaking; markup = Bare; is_workflow = false } files d [] → ⊥
 nothing_drawn files d error shown =
     let f : Finding = shown.finding in
     let (first, rest, split, titled) = begins_titled (headed_of f) (section_of (headed_of f) (marked_parts f.marks.items)) f.remarks.items refl in

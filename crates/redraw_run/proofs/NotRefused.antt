@@ -11,6 +11,7 @@ use Rattle.annotate_snippets.specs.declared.renderer.form.Form.TheVariants.{Grap
 use Rattle.annotate_snippets.specs.declared.snippet.Element.{Element}
 use Rattle.annotate_snippets.specs.declared.snippet.Group.{Group}
 use Rattle.redraw_command.specs.Line.{begins_utf16}
+use Rattle.redraw_command.specs.Look.{is_html}
 use Rattle.redraw_command.specs.declared.stop.Stop.TheVariants.{Utf16}
 use Rattle.redraw_read.specs.declared.sources.File.{File}
 use Rattle.redraw_report.specs.Report.{headed_of, marked_parts, section_of, sections_from}
@@ -41,15 +42,15 @@ unfolding first_fault
 faultless g none = ap (λ (es : List Element). first_of (faults_from (element_faults 0) 0 es ++ [])) none
 
 -- the graphic form's refusals are those of HTML
-refusal_as : (is_html : Bool) (r : Renderer) (groups : List Group) → form_of r ≡ Graphic
-    → (if is_html then refusal_in Graphic groups else first_refusal r groups) ≡ refusal_in Graphic groups
+refusal_as : (html : Bool) (r : Renderer) (groups : List Group) → form_of r ≡ Graphic
+    → (if html then refusal_in Graphic groups else first_refusal r groups) ≡ refusal_in Graphic groups
 refusal_as true r groups graphic = refl
 refusal_as false r groups graphic = ap (λ (form : Form). refusal_in form groups) graphic
 
 unrefused : (r : ReportRenderer) (groups : List Group) (why : RenderError) → form_of r.settings ≡ Graphic → first_fault groups ≡ None
     → refusal_by r groups ≡ Some why → ⊥
 unrefused r groups why graphic none refused =
-    let never : refusal_by r groups ≡ None = refusal_as r.is_html r.settings groups graphic ∙ ap (λ (o : Option RenderError). option_or None o) none in
+    let never : refusal_by r groups ≡ None = refusal_as (is_html r.markup) r.settings groups graphic ∙ ap (λ (o : Option RenderError). option_or None o) none in
     cc (never, refused)
 
 by_groups : (r : ReportRenderer) (groups : List Group) (section : Section) (why : RenderError) → form_of r.settings ≡ Graphic

@@ -16,7 +16,7 @@ use Rattle.redraw_command.specs.declared.tally.Tally.{Tally}
 use Rattle.redraw_read.specs.declared.sources.File.{File}
 use Rattle.redraw_report.specs.declared.diagnostic.Diagnostic.{Diagnostic}
 use Rattle.redraw_run.specs.DrawnFinding.{RefusesFinding, ShowsFinding, ending_after}
-use Rattle.redraw_run.specs.HtmlDocument.{handed}
+use Rattle.redraw_run.specs.Handed.{handed}
 use Rattle.redraw_run.specs.Readings.{IsComparison}
 use Rattle.redraw_run.specs.declared.draw.Drawing.{Drawing}
 use Rattle.redraw_run.specs.declared.look.ReportRenderer.{ReportRenderer}
@@ -66,12 +66,12 @@ abbrev pub AreDeeds : ReportRenderer → Choice → List Deed → Type 0
 AreDeeds r c [] = Unit {0}
 AreDeeds r c (deed ∷ deeds) = IsDeed r c deed × AreDeeds r c deeds
 
--- what standard output is given by it. In HTML a line that is handed on has escapes, and among workflow commands it is none
+-- what standard output is given by it
 abbrev pub printed : ReportRenderer → Deed → List ℕ
 printed r (Drawn d text) = text ++ (ending_after r.settings.short_message d.severity ++ 10 ∷ [])
 printed r (Commanded d line) = line ++ 10 ∷ []
 printed r (Compared d is_same shown) = shown
-printed r (HandedOn line) = handed r.is_html r.is_workflow line
+printed r (HandedOn line) = handed r.markup r.is_workflow line
 printed r (Told line) = []
 printed r (Refused d why) = []
 printed r LeftOut = []

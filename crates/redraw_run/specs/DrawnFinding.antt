@@ -4,6 +4,7 @@ use Rattle.annotate_snippets.specs.Laws.Forms.{HasLaws}
 use Rattle.annotate_snippets.specs.Forms.{ShowsReport}
 use Rattle.annotate_snippets.specs.Fault.{first_refusal, refusal_in}
 use Rattle.annotate_snippets.specs.Html.{HasHtmlLaws, IsReportHtml}
+use Rattle.annotate_snippets.specs.Markdown.{HasMarkdownLaws, IsReportMarkdown}
 use Rattle.annotate_snippets.specs.declared.renderer.Renderer.{Renderer}
 use Rattle.annotate_snippets.specs.declared.renderer.error.RenderError.{RenderError}
 use Rattle.annotate_snippets.specs.declared.renderer.error.RenderError.TheVariants.{Memory}
@@ -11,11 +12,14 @@ use Rattle.annotate_snippets.specs.declared.renderer.form.Form.TheVariants.{Grap
 use Rattle.annotate_snippets.specs.declared.snippet.Group.{Group}
 use Rattle.output_stream.specs.Standing.{Adds, Standing}
 use Rattle.redraw_command.specs.Choice.{is_sum}
+use Rattle.redraw_command.specs.Look.{is_html}
 use Rattle.redraw_command.specs.Tally.{one_more, tallied, with_compared}
 use Rattle.redraw_command.specs.Workflow.{command}
 use Rattle.redraw_command.specs.declared.choice.OutputForm.{OutputForm}
 use Rattle.redraw_command.specs.declared.choice.OutputForm.TheVariants.{Report, Workflow, Verify}
 use Rattle.redraw_command.specs.declared.tally.Tally.{Tally}
+use Rattle.redraw_command.specs.declared.terminal.Markup.{Markup}
+use Rattle.redraw_command.specs.declared.terminal.Markup.TheVariants.{Bare, Html, Markdown}
 use Rattle.redraw_read.specs.Placed.{IsFindingOf, home_of}
 use Rattle.redraw_read.specs.declared.sources.File.{File}
 use Rattle.redraw_report.specs.Links.{HasSafeLinks}
@@ -27,19 +31,21 @@ use Rattle.redraw_report.specs.declared.diagnostic.Severity.TheVariants.{Error, 
 use Rattle.redraw_report.specs.declared.finding.Finding.{Finding}
 use Rattle.redraw_run.specs.declared.look.ReportRenderer.{ReportRenderer}
 
--- a text shows a report in a renderer's settings: as HTML, or under the renderer's sheet
-abbrev pub ShowsAs : Bool → Renderer → List Group → List ℕ → Type 0
-ShowsAs true r groups text = IsReportHtml r groups text
-ShowsAs false r groups text = ShowsReport r groups r.stylesheet text
+-- a text shows a report in a renderer's settings, in a markup: without one under the renderer's sheet
+abbrev pub ShowsAs : Markup → Renderer → List Group → List ℕ → Type 0
+ShowsAs Html r groups text = IsReportHtml r groups text
+ShowsAs Markdown r groups text = IsReportMarkdown r groups text
+ShowsAs Bare r groups text = ShowsReport r groups r.stylesheet text
 
 -- and has the laws of that
-abbrev pub HasLawsAs : Bool → Renderer → List Group → List ℕ → Type 0
-HasLawsAs true r groups text = HasHtmlLaws r groups text
-HasLawsAs false r groups text = HasLaws r groups r.stylesheet text
+abbrev pub HasLawsAs : Markup → Renderer → List Group → List ℕ → Type 0
+HasLawsAs Html r groups text = HasHtmlLaws r groups text
+HasLawsAs Markdown r groups text = HasMarkdownLaws r groups text
+HasLawsAs Bare r groups text = HasLaws r groups r.stylesheet text
 
 -- why a report gives no text: the first reason in order
 abbrev pub refusal_by : ReportRenderer → List Group → Option RenderError
-refusal_by r groups = if r.is_html then refusal_in Graphic groups else first_refusal r.settings groups
+refusal_by r groups = if is_html r.markup then refusal_in Graphic groups else first_refusal r.settings groups
 
 -- the text shows the report of the finding that the diagnostic reports, its places looked for in these files; and it has the laws of
 -- that report's text. The report leads nowhere but to addresses that may be links, and by these laws the text links to what the report
@@ -50,8 +56,8 @@ pub record ShowsFinding (r : ReportRenderer) (files : List File) (d : Diagnostic
   pub groups : List Group
   pub told : map section_view groups ≡ report_of finding
   pub safe : HasSafeLinks groups
-  pub shows : ShowsAs r.is_html r.settings groups text
-  pub laws : HasLawsAs r.is_html r.settings groups text
+  pub shows : ShowsAs r.markup r.settings groups text
+  pub laws : HasLawsAs r.markup r.settings groups text
 
 -- the library refuses for this reason, the first in order, the report of the finding that the diagnostic reports, its places looked for
 -- in these files

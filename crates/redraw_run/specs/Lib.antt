@@ -2,6 +2,7 @@ pub mod Deeds
 pub mod DrawnFinding
 pub mod Fates
 pub mod FindingLines
+pub mod Handed
 pub mod HtmlDocument
 pub mod Inputs
 pub mod Pieces

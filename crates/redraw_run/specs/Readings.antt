@@ -4,6 +4,7 @@ use Rattle.std.specs.List.{All}
 use Rattle.std.specs.Option.{IfSome, option_map_or}
 use Rattle.std.specs.Str.{bytes_eq}
 use Rattle.program.specs.OptionSettings.{settings_of}
+use Rattle.redraw_command.specs.declared.terminal.Markup.TheVariants.{Bare}
 use Rattle.serde_json.specs.Data.{Data}
 use Rattle.redraw_read.specs.Rustc.{IsPackagedAs, IsReadAs}
 use Rattle.redraw_read.specs.declared.sources.File.{File}
@@ -21,7 +22,7 @@ abbrev pub rustc_look : Bool → ReportRenderer
 rustc_look is_unicode =
     record {
       settings = settings_of record { unicode = is_unicode; text = false; short = false; styled = false; width = Some 140 };
-      is_html = false;
+      markup = Bare;
       is_workflow = false;
     }
 

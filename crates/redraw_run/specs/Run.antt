@@ -37,31 +37,31 @@ with_out a out = record a { out = out }
 pub record AreInputsPrinted (File Standard : Type 0) (held : File ⊎ Standard → Option (List ℕ)) (names : List (List ℕ)) (is_whole : Bool) (a b : State)
     : Type 0 where
   pub opened : Standing
-  pub opens : Adds a.out opened (html_start a.renderer.is_html)
+  pub opens : Adds a.out opened (html_start a.renderer.markup)
   pub last : State
   pub drawn : AreDrawn File Standard held names is_whole (with_out a opened) last
-  pub closes : Adds last.out b.out (html_end a.renderer.is_html)
+  pub closes : Adds last.out b.out (html_end a.renderer.markup)
   pub is : b ≡ with_out last b.out
 
 -- output couldn't be written where a document begins
 pub record IsCutAtFirst (a b : State) : Type 0 where
-  pub opens : BreaksOff a.out b.out (html_start a.renderer.is_html)
+  pub opens : BreaksOff a.out b.out (html_start a.renderer.markup)
   pub is : b ≡ with_out a b.out
 
 -- or where inputs were gone through
 pub record IsCutWithin (File Standard : Type 0) (held : File ⊎ Standard → Option (List ℕ)) (names : List (List ℕ)) (a b : State) : Type 0 where
   pub opened : Standing
-  pub opens : Adds a.out opened (html_start a.renderer.is_html)
+  pub opens : Adds a.out opened (html_start a.renderer.markup)
   pub drawn : AreCut File Standard held names (with_out a opened) b
 
 -- or where a document ends
 pub record IsCutAtLast (File Standard : Type 0) (held : File ⊎ Standard → Option (List ℕ)) (names : List (List ℕ)) (a b : State) : Type 0 where
   pub opened : Standing
-  pub opens : Adds a.out opened (html_start a.renderer.is_html)
+  pub opens : Adds a.out opened (html_start a.renderer.markup)
   pub is_whole : Bool
   pub last : State
   pub drawn : AreDrawn File Standard held names is_whole (with_out a opened) last
-  pub closes : BreaksOff last.out b.out (html_end a.renderer.is_html)
+  pub closes : BreaksOff last.out b.out (html_end a.renderer.markup)
   pub is : b ≡ with_out last b.out
 
 -- inputs are gone through up to where output couldn't be written

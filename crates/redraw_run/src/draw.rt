@@ -20,7 +20,6 @@ ghost use Rattle.redraw_read.specs.declared.sources.File.{File};
 ghost use Rattle.redraw_command.specs.declared.choice.OutputForm.TheVariants.{Report, Workflow};
 ghost use Rattle.output_stream.specs.Standing.{Adds, Standing, known};
 
-use crate::html::escaped;
 use crate::look::ReportRenderer;
 use crate::text::drawn_of;
 use crate::write::{pass, print};
@@ -33,7 +32,6 @@ use redraw_command::seen::{Names, SeenDiagnostics};
 use redraw_command::stop::Stop;
 use redraw_command::tally::Tally;
 use redraw_command::tell::tell;
-use redraw_command::unheeded::unheeded;
 use redraw_command::workflow::command_of;
 use redraw_read::place::load_files;
 use redraw_read::sources::{SourceFiles, Sources};
@@ -121,20 +119,14 @@ impl<S: SourceFiles + Drop> Drawing<'_, S> {
         tell_of(self.alloc, self.input, self.line, what, err);
     }
 
-    /// Hands on a line of the input as it is; in HTML with escapes, and among workflow commands as none.
+    /// Hands on a line of the input as it is; in HTML with escapes, in Markdown as code, and among workflow commands as
+    /// none.
     pub fn hand_on<W: Write>(&self, line: &[u8], out: &mut Stream<W>) -> Result<(), Stop>
         ensures does { (err : Standing) → Happens result (IsHandedOn line.now)
             (standing self.now (known W.contents out.old) err) (standing self.now (known W.contents out.new) err) }
     {
-        if self.renderer.is_html {
-            let escaped = escaped(self.alloc, line)?;
-            pass(&escaped, out)
-        } else if self.renderer.is_workflow {
-            let plain = unheeded(self.alloc, line)?;
-            pass(&plain, out)
-        } else {
-            pass(line, out)
-        }
+        let handed = self.renderer.handed(self.alloc, line)?;
+        pass(&handed, out)
     }
 
     /// Draws a finding, if it is one of those that are asked for and cargo hasn't reported it before.

@@ -7,6 +7,7 @@ ghost use Rattle.output_stream.specs.Standing.{known};
 
 use annotate_snippets::renderer::HTML_STYLESHEET;
 use output_stream::Stream;
+use redraw_command::terminal::Markup;
 use std::alloc::{AllocError, Global};
 use std::io::{self, Write};
 
@@ -34,11 +35,14 @@ const END: &str = "</pre>
 ";
 
 /// Begins a document, where HTML is written.
-pub fn begin<W: Write>(is_html: bool, out: &mut Stream<W>) -> io::Result<()>
+pub fn begin<W: Write>(markup: Markup, out: &mut Stream<W>) -> io::Result<()>
     ensures prints { PrintsBytes result (known W.contents out.old) (known W.contents out.new)
-        (spec.html_start is_html) }
+        (spec.html_start markup) }
 {
-    if is_html { print_head(out) } else { Ok(()) }
+    match markup {
+        Markup::Html => print_head(out),
+        Markup::Bare | Markup::Markdown => Ok(()),
+    }
 }
 
 /// Prints what stands before all that is drawn.
@@ -62,11 +66,14 @@ fn print_styles<W: Write>(out: &mut Stream<W>) -> io::Result<()>
 }
 
 /// Ends a document, where HTML is written.
-pub fn end<W: Write>(is_html: bool, out: &mut Stream<W>) -> io::Result<()>
+pub fn end<W: Write>(markup: Markup, out: &mut Stream<W>) -> io::Result<()>
     ensures prints { PrintsBytes result (known W.contents out.old) (known W.contents out.new)
-        (spec.html_end is_html) }
+        (spec.html_end markup) }
 {
-    if is_html { print(END, out) } else { Ok(()) }
+    match markup {
+        Markup::Html => print(END, out),
+        Markup::Bare | Markup::Markdown => Ok(()),
+    }
 }
 
 /// Prints a text, and hands on what was written.

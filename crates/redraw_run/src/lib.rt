@@ -5,6 +5,7 @@ mod difference;
 pub mod draw;
 pub mod files;
 pub mod finding_rows;
+pub mod handed;
 pub mod html;
 pub mod input;
 pub mod json_value;

@@ -4,14 +4,14 @@ ghost use Rattle.redraw_run.specs.ReportLook.{looks};
 
 use annotate_snippets::Renderer;
 use program::options::{Options, renderer_of};
-use redraw_command::terminal::{Look, Surroundings};
+use redraw_command::terminal::{Look, Markup, Surroundings};
 
 /// What draws reports: the library's renderer, and what else of the form of all that is printed matters.
 #[derive(Drop)]
 pub struct ReportRenderer {
     pub settings: Renderer,
-    /// Whether reports are drawn as HTML.
-    pub is_html: bool,
+    /// The markup that all is written in.
+    pub markup: Markup,
     /// Whether findings are written as workflow commands of GitHub, which no other line may be taken for.
     pub is_workflow: bool,
 }
@@ -24,17 +24,17 @@ pub fn renderer_for(look: &Look, around: Surroundings<'_>) -> ReportRenderer
     let options = Options {
         unicode: look.unicode,
         text: look.text,
-        short: look.short && !look.html,
+        short: look.short && !look.markup.is_html(),
         styled: has_colors,
         width: look.width.or(around.columns),
     };
     let settings = renderer_of(options)
-        .hyperlink(look.html || has_colors && look.has_links(around))
+        .hyperlink(look.markup.is_html() || has_colors && look.has_links(around))
         .show_line_feeds(true)
         .mask_controls(true);
     ReportRenderer {
         settings,
-        is_html: look.html,
+        markup: look.markup,
         is_workflow: look.github,
     }
 }

@@ -13,6 +13,7 @@ use json_lines::expectation::Expectation;
 use json_lines::fault::Fault;
 use json_lines::node::Node;
 use program::options::{Options, renderer_of};
+use redraw_command::terminal::Markup;
 use redraw_read::cargo::packaged_diagnostic_by;
 use redraw_read::place::load_files;
 use redraw_read::plain::without_styles;
@@ -133,7 +134,7 @@ fn rustc_look(is_unicode: bool) -> ReportRenderer
     };
     ReportRenderer {
         settings: renderer_of(options),
-        is_html: false,
+        markup: Markup::Bare,
         is_workflow: false,
     }
 }

@@ -183,10 +183,10 @@ fn draw_document<'r, R: Files + Input + AllocGlobal, S: SourceFiles + Drop, W: W
         (standing drawing.old (known W.contents out.old) (known V.contents err.old))
         (standing drawing.new (known W.contents out.new) (known V.contents err.new))) }
 {
-    let is_html = drawing.renderer.is_html;
-    html::begin(is_html, out)?;
+    let markup = drawing.renderer.markup;
+    html::begin(markup, out)?;
     let is_whole = draw_inputs(rt, names, drawing, out, err)?;
-    html::end(is_html, out)?;
+    html::end(markup, out)?;
     Ok(is_whole)
 }
 

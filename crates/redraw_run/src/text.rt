@@ -8,6 +8,7 @@ use crate::look::ReportRenderer;
 use annotate_snippets::Group;
 use annotate_snippets::renderer::RenderError;
 use annotate_snippets::snippet::report_fits;
+use redraw_command::terminal::Markup;
 use redraw_read::place::Placing;
 use redraw_read::sources::{SourceFiles, Sources};
 use redraw_report::diagnostic::Diagnostic;
@@ -60,16 +61,17 @@ fn render_fitting(
     groups: &Vec<Group<'_>>,
 ) -> Result<String, RenderError>
     ensures shows { IfOk result (λ text.
-        ShowsAs renderer.now.is_html renderer.now.settings groups.now.items (string_bytes text)) }
+        ShowsAs renderer.now.markup renderer.now.settings groups.now.items (string_bytes text)) }
     ensures laws { IfOk result (λ text.
-        HasLawsAs renderer.now.is_html renderer.now.settings groups.now.items (string_bytes text)) }
+        HasLawsAs renderer.now.markup renderer.now.settings groups.now.items (string_bytes text)) }
     ensures refused { IfErr result (IsRefusalOf renderer.now groups.now.items) }
 {
     if !report_fits(groups) {
-        Err(RenderError::Memory(AllocError))
-    } else if renderer.is_html {
-        renderer.settings.render_html(alloc, groups)
-    } else {
-        renderer.settings.render(alloc, groups)
+        return Err(RenderError::Memory(AllocError));
+    }
+    match renderer.markup {
+        Markup::Bare => renderer.settings.render(alloc, groups),
+        Markup::Html => renderer.settings.render_html(alloc, groups),
+        Markup::Markdown => renderer.settings.render_markdown(alloc, groups),
     }
 }

@@ -9,4 +9,5 @@ returns c =
     let short = c.in_ok-arg-3.ensures.shape c.flag-short.ensures.local ∙ ap₂ with_rule text c.flag-short.ensures.rule in
     let github = c.in_ok-arg-4.ensures.shape c.flag-github.ensures.local ∙ ap₂ with_rule short c.flag-github.ensures.rule in
     let html = c.in_ok-arg-5.ensures.shape c.flag-html.ensures.local ∙ ap₂ with_rule github c.flag-html.ensures.rule in
-    record { app = c.in_ok-formed.ensures.shape c.flag-verify.ensures.local ∙ ap₂ with_rule html c.flag-verify.ensures.rule }
+    let markdown = c.in_ok-arg-6.ensures.shape c.flag-markdown.ensures.local ∙ ap₂ with_rule html c.flag-markdown.ensures.rule in
+    record { app = c.in_ok-formed.ensures.shape c.flag-verify.ensures.local ∙ ap₂ with_rule markdown c.flag-verify.ensures.rule }
