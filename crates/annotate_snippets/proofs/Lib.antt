@@ -1,6 +1,7 @@
 pub mod AlignedLemmas
 pub mod AreTexts
 pub mod AroundLaws
+pub mod ArticleLemmas
 pub mod AsSetLemmas
 pub mod AsSetSteps
 pub mod Ascending

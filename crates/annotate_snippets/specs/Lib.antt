@@ -1,3 +1,4 @@
+pub mod Article
 pub mod ElementContext
 pub mod AsSet
 pub mod DrawnReport

@@ -1,6 +1,7 @@
 //! Draws reports, with the settings that they are drawn with.
 ghost use Rattle.std.specs.Prelude.{◌≡◌, [], ◌∷◌, Err, IfSome, IfOk, IsOkUnless, alloc_error, map, string_bytes, true};
 
+mod article;
 mod cause;
 mod drawn;
 mod element_context;
@@ -37,7 +38,7 @@ use crate::snippet::Report;
 pub use error::RenderError;
 use form::{Form, form_of};
 use html::page_html;
-pub use html_stylesheet::HTML_STYLESHEET;
+pub use html_stylesheet::{HTML_PAGE_STYLESHEET, HTML_STYLESHEET};
 use page::text_in_form;
 use pages::texts_in_form;
 pub use settings::DEFAULT_TERM_WIDTH;

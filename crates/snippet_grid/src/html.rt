@@ -36,7 +36,7 @@ const PLAIN: TagLook<'static> = TagLook {
 };
 
 /// Adds a text, with what HTML gives a meaning escaped.
-fn push_escaped(out: &mut String, text: &str) -> Result<(), AllocError>
+pub fn push_escaped(out: &mut String, text: &str) -> Result<(), AllocError>
     ensures added { OnOk result
         (string_bytes out.new ≡ string_bytes out.old ++ encode_utf8_all (spec.escaped (chars text.now))) }
 {

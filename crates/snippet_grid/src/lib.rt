@@ -19,6 +19,7 @@ mod words;
 
 pub use codes::SheetCodes;
 pub use grid::StyledBuffer;
+pub use html::push_escaped;
 pub use layout::Layout;
 pub use printed_row::PrintedRow;
 pub use styled_char::StyledChar;

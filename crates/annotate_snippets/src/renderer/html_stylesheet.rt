@@ -32,6 +32,19 @@ pub const HTML_STYLESHEET: &str = ".snippet-error { color: #b3001b; font-weight:
 }
 ";
 
+/// What a stylesheet has to say beside [`HTML_STYLESHEET`] for what
+/// [`Renderer::render_html_page`](crate::Renderer::render_html_page) gives: the words stand beside the drawing for who
+/// listens, and aren't seen.
+pub const HTML_PAGE_STYLESHEET: &str = ".snippet-text {
+  position: absolute;
+  width: 1px;
+  height: 1px;
+  margin: 0;
+  overflow: hidden;
+  clip-path: inset(50%);
+}
+";
+
 /// Proves, and does nothing else, that the stylesheet has a rule for the class of each role, and for no other class.
 fn prove_classes()
     ensures each { (level : LevelInner) → (role : ElementStyle) → class_of level role ≢ []

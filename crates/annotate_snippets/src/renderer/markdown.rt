@@ -73,14 +73,14 @@ impl Renderer {
     }
 
     /// A renderer that is set alike but links nowhere.
-    fn unlinked(&self) -> Result<Renderer, AllocError>
+    pub(crate) fn unlinked(&self) -> Result<Renderer, AllocError>
         ensures value { IfOk result (λ unlinked. unlinked ≡ spec.unlinked self.now) }
     {
         Ok(self.clone()?.hyperlink(false))
     }
 
     /// A renderer that is set alike but wraps nothing.
-    fn unwrapped(&self) -> Result<Renderer, AllocError>
+    pub(crate) fn unwrapped(&self) -> Result<Renderer, AllocError>
         ensures value { IfOk result (λ unwrapped. unwrapped ≡ spec.unwrapped self.now) }
     {
         Ok(self.clone()?.wrap(false))
@@ -88,7 +88,7 @@ impl Renderer {
 }
 
 /// The title that stands above the fence: in the graphic form that of the first group.
-fn title_above<'r>(form: Form, groups: &'r [Group<'r>]) -> Option<&'r Title<'r>>
+pub(crate) fn title_above<'r>(form: Form, groups: &'r [Group<'r>]) -> Option<&'r Title<'r>>
     ensures value { option_copied result ≡ spec.title_above form groups.now }
 {
     match (form, groups) {
@@ -164,7 +164,7 @@ fn push_id(alloc: Global, out: &mut String, hidden: bool, id: Option<&Id>) -> Re
 }
 
 /// The address of an id, if it may be a link.
-fn link_of<'r>(id: &'r Id<'_>) -> Option<&'r str>
+pub(crate) fn link_of<'r>(id: &'r Id<'_>) -> Option<&'r str>
     ensures value { option_copied result ≡ spec.link_of (option_map cow_str_bytes id.now.url) }
 {
     match &id.url {
