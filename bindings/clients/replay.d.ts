@@ -150,6 +150,9 @@ export interface More {
   sheets?: Sheet[] | null;
   /** The report is drawn as HTML. */
   html?: boolean | null;
+  /** The report is drawn as what stands in an article of a page. */
+  html_page?: boolean | null;
+  /** The report is drawn in Markdown. */
   markdown?: boolean | null;
   /** Sources that snippets name by their numbers. */
   sources?: string[] | null;

@@ -9,6 +9,8 @@ DATA = ROOT / "crates" / "replay" / "data"
 READABLE = ROOT / "crates" / "replay" / "cases"
 # Settings that few cases of crates/replay/data have.
 SETTINGS = {"show_line_feeds", "context_before", "context_after", "wrap", "mask_controls"}
+# The fields by which a case is drawn as something else than a text under each sheet.
+FORMS = ("html", "html_page", "markdown")
 # How many cases are tried, beside the worked rows.
 COUNT = 1000
 
@@ -42,7 +44,7 @@ def with_settings():
     """The cases that can be read and have one of the settings that the others lack."""
     found = []
     for name, report, text in readable():
-        if not report.get("html") and not report.get("markdown") and SETTINGS & set(report.get("settings") or {}):
+        if not any(map(report.get, FORMS)) and SETTINGS & set(report.get("settings") or {}):
             case = {"id": name, "settings": report["settings"], "groups": report["groups"]}
             found.append((case, {"id": name, "ok": [text]}))
     return found
@@ -59,10 +61,10 @@ def all_cases():
 
 
 def cases_by_json():
-    """The cases that are drawn as HTML or in Markdown, each with what is expected."""
+    """The cases that are drawn as HTML, as articles or in Markdown, each with what is expected."""
     found = []
     for name, case, text in readable():
-        if case.get("html") or case.get("markdown"):
+        if any(map(case.get, FORMS)):
             answer = {"refused": case["refused"], "text": text} if "refused" in case else {"ok": [text]}
             found.append(({"id": name, **case}, {"id": name, **answer}))
     return found

@@ -31,6 +31,8 @@ def answer_of(yazgult, case):
     try:
         if case.get("html"):
             return {"id": case["id"], "ok": [yazgult.render_html(case["groups"], **how)]}
+        if case.get("html_page"):
+            return {"id": case["id"], "ok": [yazgult.render_html_page(case["groups"], **how)]}
         if case.get("markdown"):
             return {"id": case["id"], "ok": [yazgult.render_markdown(case["groups"], **how)]}
         sheets = ["plain"] if case.get("sheets") is None else case["sheets"]

@@ -11,10 +11,9 @@ from cases import cases_by_json, places
 from facts import ROOT, Trouble, run
 
 HOME = ROOT / "bindings" / "rust"
-HTML_STYLESHEETS = {
-    HOME / "src" / "renderer" / "html_stylesheet.css": r"(.*)",
-    ROOT / "crates" / "annotate_snippets" / "src" / "renderer" / "html_stylesheet.rt": r'HTML_STYLESHEET: &str = "(.*?)";',
-}
+# The stylesheets for HTML: a file of the Rust crate for each, and the constant of the library.
+STYLESHEETS = ROOT / "crates" / "annotate_snippets" / "src" / "renderer" / "html_stylesheet.rt"
+HTML_STYLESHEETS = {"html_stylesheet.css": "HTML_STYLESHEET", "html_page_stylesheet.css": "HTML_PAGE_STYLESHEET"}
 
 
 class Crate:
@@ -53,10 +52,11 @@ def check(room, anstyle, yazgult, pairs):
 
 
 def check_stylesheets():
-    """Compares the stylesheet for HTML that the Rust crate has with the library's."""
-    texts = [re.search(pattern, path.read_text(), re.S).group(1) for path, pattern in HTML_STYLESHEETS.items()]
-    if len(set(texts)) != 1 or not texts[0]:
-        raise Trouble(f"{' and '.join(str(it.relative_to(ROOT)) for it in HTML_STYLESHEETS)} have different stylesheets")
+    """Compares the stylesheets for HTML that the Rust crate has with the library's."""
+    for name, constant in HTML_STYLESHEETS.items():
+        text = (HOME / "src" / "renderer" / name).read_text()
+        if not text or f'pub const {constant}: &str = "{text}";' not in STYLESHEETS.read_text():
+            raise Trouble(f"{name} and {STYLESHEETS.relative_to(ROOT)} have different stylesheets")
 
 
 def compare(program, room, what, pairs):

@@ -81,6 +81,7 @@ class Package(unittest.TestCase):
     def test_the_colours_of_html_are_those_of_the_library(self):
         source = (ROOT / "crates" / "annotate_snippets" / "src" / "renderer" / "html_stylesheet.rt").read_text(encoding="utf-8")
         self.assertIn(f'pub const HTML_STYLESHEET: &str = "{yazgult.HTML_STYLESHEET}";', source)
+        self.assertIn(f'pub const HTML_PAGE_STYLESHEET: &str = "{yazgult.HTML_PAGE_STYLESHEET}";', source)
 
 
 class Library(unittest.TestCase):

@@ -76,6 +76,15 @@ class Dicts(unittest.TestCase):
         self.assertEqual(Text(html).text, DRAWN.replace("here", "<here>"))
         self.assertIn('<span class="snippet-error">', html)
 
+    def test_an_article_has_a_heading_a_drawing_and_words(self):
+        groups = report({"start": 4, "end": 5, "label": "<here>"})
+        drawing, words = yazgult.render_html(groups), yazgult.render(groups, no_graphics=True)
+        self.assertEqual(
+            yazgult.render_html_page(groups),
+            f'<h2>error: never read</h2>\n<pre aria-hidden="true">\n{drawing}</pre>\n'
+            f'<pre class="snippet-text">\n{words.replace("<", "&lt;").replace(">", "&gt;")}</pre>',
+        )
+
     def test_markdown_has_the_plain_text_between_fences(self):
         text = yazgult.render_markdown(report({"start": 4, "end": 5}))
         self.assertEqual(text, f"**error\\: never read**\n\n```\n{DRAWN}\n```")
@@ -208,8 +217,8 @@ class Classes(unittest.TestCase):
     def test_a_notebook_shows_a_report_in_colours(self):
         made = Report(report({"start": 4, "end": 5, "label": "<here>"}))
         html = made._repr_html_()
-        self.assertEqual(Text(html).text, DRAWN.replace("here", "<here>"))
-        self.assertIn(yazgult.HTML_STYLESHEET, html)
+        self.assertIn(f"<article>{yazgult.render_html_page(made)}</article>", html)
+        self.assertIn(yazgult.HTML_STYLESHEET + yazgult.HTML_PAGE_STYLESHEET, html)
 
 
 if __name__ == "__main__":

@@ -15,6 +15,8 @@ Drawing
     render          the text of a report, in colours with the sheet "default"
     render_sheets   its texts under several sheets
     render_html     its HTML, of which HTML_STYLESHEET has the colours
+    render_html_page
+                    its heading, drawing and words, for <article>; HTML_PAGE_STYLESHEET hides the words from sight
     render_markdown its first title in bold, and its plain text between fences
     print_report    prints it as its terminal has it: with colours or without, and as wide
     answer_json     the answer to a report as a line of JSON
@@ -53,6 +55,7 @@ from .drawing import Sheet as Sheet
 from .drawing import answer_json as answer_json
 from .drawing import render as render
 from .drawing import render_html as render_html
+from .drawing import render_html_page as render_html_page
 from .drawing import render_markdown as render_markdown
 from .drawing import render_sheets as render_sheets
 from .drawing import version as version
@@ -84,6 +87,7 @@ from .report import Report as Report
 from .report import Snippet as Snippet
 from .report import Suggestion as Suggestion
 from .report import Title as Title
+from .stylesheet import HTML_PAGE_STYLESHEET as HTML_PAGE_STYLESHEET
 from .stylesheet import HTML_STYLESHEET as HTML_STYLESHEET
 from .terminal import print_report as print_report
 

@@ -78,6 +78,18 @@ def render_html(
     return drawn({"html": True}, report, spans, sources, settings)[0]
 
 
+def render_html_page(
+    report: Union[Report, Groups],
+    *,
+    spans: str = "characters",
+    sources: Optional[Sequence[str]] = None,
+    **settings: Unpack[Settings],
+) -> str:
+    """A report as HTML, for `<article>`: a heading, the drawing, and its text form for who listens, which HTML_PAGE_STYLESHEET hides from
+    sight. The rest is as of `render`."""
+    return drawn({"html_page": True}, report, spans, sources, settings)[0]
+
+
 def render_markdown(
     report: Union[Report, Groups],
     *,

@@ -259,11 +259,11 @@ class Report:
         print_report(self, sys.stderr if file is None else file, **settings)
 
     def _repr_html_(self) -> str:
-        """The report for a notebook, which shows it in colours."""
-        from .drawing import render_html
-        from .stylesheet import HTML_STYLESHEET
+        """The report for a notebook, which shows it in colours, and reads it aloud in words."""
+        from .drawing import render_html_page
+        from .stylesheet import HTML_PAGE_STYLESHEET, HTML_STYLESHEET
 
-        return f"<style>{HTML_STYLESHEET}</style><pre>{render_html(self)}</pre>"
+        return f"<style>{HTML_STYLESHEET}{HTML_PAGE_STYLESHEET}</style><article>{render_html_page(self)}</article>"
 
 
 Groups = Sequence[Union[Group, Mapping[str, Any]]]

@@ -23,3 +23,14 @@ HTML_STYLESHEET = """.snippet-error { color: #b3001b; font-weight: bold; }
   .snippet-removal { color: #ff7b72; }
 }
 """
+
+# What a page of articles has beside them: the words of `render_html_page` stand beside the drawing for who listens, and aren't seen.
+HTML_PAGE_STYLESHEET = """.snippet-text {
+  position: absolute;
+  width: 1px;
+  height: 1px;
+  margin: 0;
+  overflow: hidden;
+  clip-path: inset(50%);
+}
+"""

@@ -1,5 +1,5 @@
-//! A report as a line of JSON, as `docs/REPORTS.md` has it. It is written for what the form as bytes doesn't say: a report as HTML
-//! and in Markdown.
+//! A report as a line of JSON, as `docs/REPORTS.md` has it. It is written for what the form as bytes doesn't say: a report as HTML, as an
+//! article of a page and in Markdown.
 
 use crate::grow::{put, reserve, Written};
 use crate::level::{Level, Name, Severity};
@@ -7,7 +7,7 @@ use crate::renderer::{DecorStyle, RenderError, Renderer};
 use crate::snippet::{Annotation, AnnotationKind, Element, Group, Id, Message, Origin, Patch, Snippet, Title};
 use std::ops::Range;
 
-/// The line of a report that is to be drawn by this renderer in a form: `html` or `markdown`.
+/// The line of a report that is to be drawn by this renderer in a form: `html`, `html_page` or `markdown`.
 pub(crate) fn line_for(form: &str, renderer: &Renderer, groups: &[Group<'_>]) -> Result<Vec<u8>, RenderError> {
     let mut out = Vec::new();
     reserve(1024, &mut out)?;

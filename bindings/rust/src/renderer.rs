@@ -41,6 +41,10 @@ use crate::{answer, bytes, json, library};
 /// ```
 pub const HTML_STYLESHEET: &str = include_str!("renderer/html_stylesheet.css");
 
+/// What a stylesheet has to say beside [`HTML_STYLESHEET`] for what [`Renderer::render_html_page`] gives: the words stand beside the
+/// drawing for who listens, and aren't seen.
+pub const HTML_PAGE_STYLESHEET: &str = include_str!("renderer/html_page_stylesheet.css");
+
 /// The characters that strokes are drawn with.
 ///
 /// ```
@@ -195,6 +199,26 @@ impl Renderer {
     /// ```
     pub fn render_html(&self, groups: Report<'_>) -> Result<String, RenderError> {
         let answer = library::draw_json(&json::line_for("html", self, groups)?)?;
+        answer::only_json_text(&answer)?.ok_or_else(|| self.refusal_as_html(groups))
+    }
+
+    /// A report as HTML, for an `<article>`: a heading, `<h2>`, with the level, the id and the text of the first group's title, if that has
+    /// one; the drawing, as [`render_html`](Renderer::render_html) gives it without links, in a `<pre>` that is hidden from who listens;
+    /// and the text form in a `<pre>` of the class `snippet-text`, which [`HTML_PAGE_STYLESHEET`] hides from sight.
+    ///
+    /// Where [`hyperlink`](Renderer::hyperlink) is set, the id in the heading links to its address, if that may be a link.
+    ///
+    /// ```
+    /// use yazgult::{Level, Origin, Renderer};
+    ///
+    /// let report = &[Level::ERROR.primary_title("no <file>").element(Origin::path("a.conf"))];
+    /// let article = Renderer::plain().render_html_page(report)?;
+    /// assert!(article.starts_with("<h2>error: no &lt;file&gt;</h2>\n<pre aria-hidden=\"true\">\n"));
+    /// assert!(article.ends_with("<pre class=\"snippet-text\">\nerror: no &lt;file&gt;\n at a.conf</pre>"));
+    /// # Ok::<(), yazgult::renderer::RenderError>(())
+    /// ```
+    pub fn render_html_page(&self, groups: Report<'_>) -> Result<String, RenderError> {
+        let answer = library::draw_json(&json::line_for("html_page", self, groups)?)?;
         answer::only_json_text(&answer)?.ok_or_else(|| self.refusal_as_html(groups))
     }
 

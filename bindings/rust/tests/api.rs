@@ -158,6 +158,20 @@ fn html_is_of_the_graphic_form() {
 }
 
 #[test]
+fn an_article_has_a_heading_a_drawing_and_words() {
+    let snippet = Snippet::source("a & b").annotation(AnnotationKind::Primary.span(0..1).label("<here>"));
+    let title = Level::ERROR.primary_title("e").id("E1").id_url("https://a.example/E1");
+    let report = &[title.element(snippet)];
+    let drawing = Renderer::plain().hyperlink(false).render_html(report).unwrap();
+    let words = Renderer::plain().no_graphics(true).hyperlink(false).render(report);
+    let escaped = words.replace('&', "&amp;").replace('<', "&lt;").replace('>', "&gt;");
+    let article = |heading| format!("<h2>{heading}</h2>\n<pre aria-hidden=\"true\">\n{drawing}</pre>\n<pre class=\"snippet-text\">\n{escaped}</pre>");
+    let linked = Renderer::styled().short_message(true).render_html_page(report);
+    assert_eq!(linked, Ok(article("error[<a href=\"https://a.example/E1\">E1</a>]: e")));
+    assert_eq!(Renderer::plain().hyperlink(false).render_html_page(report), Ok(article("error[E1]: e")));
+}
+
+#[test]
 fn markdown_has_the_plain_text_between_fences() {
     let snippet = Snippet::source("a``b").annotation(AnnotationKind::Primary.span(0..1));
     let report = &[Level::ERROR.primary_title("`t`").element(snippet)];

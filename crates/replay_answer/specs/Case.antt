@@ -46,6 +46,7 @@ pub record IsCaseOf (d : Data) (case : Case) : Type 0 where
   pub renderer : MayHaveSettings (given (codes "settings") d) case.renderer
   pub sheets : AreSheetsOf (given (codes "sheets") d) case.sheets.items
   pub html : given_or as_bool false (codes "html") d ≡ Some case.html
+  pub html_page : given_or as_bool false (codes "html_page") d ≡ Some case.html_page
   pub markdown : given_or as_bool false (codes "markdown") d ≡ Some case.markdown
   pub sources : List (List ℕ)
   pub sources_are : AreSourcesOf (given (codes "sources") d) sources

@@ -1,7 +1,8 @@
 -- What becomes of a case.
-use Rattle.std.specs.Prelude.{◌≡◌, ℕ, Bool, true, false, List, [], ◌∷◌, Option, Some, codes, if◌then◌else◌, map, string_bytes}
+use Rattle.std.specs.Prelude.{◌≡◌, ◌||◌, ℕ, Bool, true, false, List, [], ◌∷◌, Option, Some, codes, if◌then◌else◌, map, string_bytes}
 use Rattle.serde_json.specs.Data.{Data}
 use Rattle.serde_json.specs.Read.{read}
+use Rattle.annotate_snippets.specs.Article.{IsReportArticle}
 use Rattle.annotate_snippets.specs.Fault.{first_refusal, refusal_in}
 use Rattle.annotate_snippets.specs.Laws.Forms.{TextsWithLaws}
 use Rattle.annotate_snippets.specs.Refusal.{refusal_text}
@@ -29,28 +30,33 @@ refusal_name (Memory refused) = codes "Memory"
 
 -- the refusal of a case, where there is one: the first of its report in the form that is set, or, as HTML, in the graphic form
 abbrev pub refusal_of_case : Case → Option RenderError
-refusal_of_case case = if case.html then refusal_in Graphic case.groups.items else first_refusal case.renderer case.groups.items
+refusal_of_case case = if case.html || case.html_page then refusal_in Graphic case.groups.items else first_refusal case.renderer case.groups.items
 
 -- one text, the report of a case as HTML in its settings, with its laws
 abbrev pub IsHtmlOf : Case → List (List ℕ) → Type 0
 IsHtmlOf case texts =
     (text : List ℕ) × (texts ≡ text ∷ []) × IsReportHtml case.renderer case.groups.items text × HasHtmlLaws case.renderer case.groups.items text
 
+-- one text, the report of a case as what stands in an article of a page, in its settings, with its laws
+abbrev pub IsPageOf : Case → List (List ℕ) → Type 0
+IsPageOf case texts = (text : List ℕ) × (texts ≡ text ∷ []) × IsReportArticle case.renderer case.groups.items text
+
 -- one text, the report of a case in Markdown in its settings, with its laws
 abbrev pub IsMarkdownOf : Case → List (List ℕ) → Type 0
 IsMarkdownOf case texts =
     (text : List ℕ) × (texts ≡ text ∷ []) × IsReportMarkdown case.renderer case.groups.items text × HasMarkdownLaws case.renderer case.groups.items text
 
--- the texts of a case, by whether HTML, and whether Markdown is asked for
-abbrev pub AreTextsAs : Bool → Bool → Case → List (List ℕ) → Type 0
-AreTextsAs true markdown case texts = IsHtmlOf case texts
-AreTextsAs false true case texts = IsMarkdownOf case texts
-AreTextsAs false false case texts = TextsWithLaws case.renderer case.groups.items case.sheets.items texts
+-- the texts of a case, by whether HTML, whether an article of a page, and whether Markdown is asked for
+abbrev pub AreTextsAs : Bool → Bool → Bool → Case → List (List ℕ) → Type 0
+AreTextsAs true page markdown case texts = IsHtmlOf case texts
+AreTextsAs false true markdown case texts = IsPageOf case texts
+AreTextsAs false false true case texts = IsMarkdownOf case texts
+AreTextsAs false false false case texts = TextsWithLaws case.renderer case.groups.items case.sheets.items texts
 
--- the texts of a case show its report, in its settings and one under each of its sheets, each with its laws; or there is one, its HTML or its
--- Markdown
+-- the texts of a case show its report, in its settings and one under each of its sheets, each with its laws; or there is one, its HTML, its
+-- article of a page or its Markdown
 abbrev pub AreTextsOf : Case → List (List ℕ) → Type 0
-AreTextsOf case texts = AreTextsAs case.html case.markdown case texts
+AreTextsOf case texts = AreTextsAs case.html case.html_page case.markdown case texts
 
 -- a case becomes its texts, or the first refusal of its report, with the words of that refusal
 abbrev pub IsOutcomeOf : Case → Outcome → Type 0

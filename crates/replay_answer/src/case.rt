@@ -14,6 +14,8 @@ pub struct Case<'v> {
     pub sheets: Vec<Stylesheet>,
     /// Whether the report is given as HTML, in place of a text under each sheet.
     pub html: bool,
+    /// Whether it is given as what stands in an article of a page, in their place, where it isn't given as HTML alone.
+    pub html_page: bool,
     /// Whether it is given in Markdown, in their place, where it isn't given as HTML.
     pub markdown: bool,
     pub groups: Vec<Group<'v>>,

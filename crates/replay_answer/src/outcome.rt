@@ -4,7 +4,7 @@ ghost use Rattle.std.specs.Prelude.{◌≡◌, [], ◌∷◌, None, Err, IfOk, I
 ghost use Rattle.annotate_snippets.specs.Fault.{first_refusal, refusal_in};
 ghost use Rattle.annotate_snippets.specs.declared.renderer.form.Form.TheVariants as form;
 ghost use Rattle.annotate_snippets.specs.Fits.{ReportFits};
-ghost use Rattle.replay_answer.specs.Outcome.{AreTextsOf, IsHtmlOf, IsMarkdownOf, IsOutcomeOf};
+ghost use Rattle.replay_answer.specs.Outcome.{AreTextsOf, IsHtmlOf, IsMarkdownOf, IsOutcomeOf, IsPageOf};
 ghost use Rattle.replay_answer.specs.Outcome.{refusal_name, refusal_of_case};
 
 use crate::case::Case;
@@ -15,7 +15,7 @@ use std::alloc::{AllocError, Global};
 /// What becomes of a case.
 #[derive(Drop)]
 pub enum Outcome {
-    /// A text under each sheet, in order; or the report as HTML, or in Markdown, alone.
+    /// A text under each sheet, in order; or the report as HTML, as an article of a page, or in Markdown, alone.
     Texts(Vec<String>),
     /// The refusal, what it prints, and what is told of the span that it is about.
     Refused(RenderError, String, String),
@@ -37,8 +37,8 @@ pub fn outcome_of(alloc: Global, case: &Case<'_>) -> Result<Outcome, AllocError>
     }
 }
 
-/// The texts of a case: its report as HTML, or else in Markdown, alone where that is asked for, and else a text under
-/// each of its sheets.
+/// The texts of a case: its report as HTML, or else as an article of a page, or else in Markdown, alone where that is
+/// asked for, and else a text under each of its sheets.
 ///
 /// # Errors
 ///
@@ -51,6 +51,9 @@ pub fn texts_of(alloc: Global, case: &Case<'_>) -> Result<Vec<String>, RenderErr
 {
     if case.html {
         return html_of(alloc, case);
+    }
+    if case.html_page {
+        return page_of(alloc, case);
     }
     if case.markdown {
         return markdown_of(alloc, case);
@@ -68,6 +71,19 @@ fn html_of(alloc: Global, case: &Case<'_>) -> Result<Vec<String>, RenderError>
     ensures text { IfOk result (λ texts. IsHtmlOf case.now (map string_bytes texts.items)) }
 {
     let text = case.renderer.render_html(alloc, &case.groups)?;
+    let texts = alone(alloc, text)?;
+    Ok(texts)
+}
+
+/// The report of a case as what stands in an article of a page, its one text.
+fn page_of(alloc: Global, case: &Case<'_>) -> Result<Vec<String>, RenderError>
+    requires fits { ReportFits case.now.groups.items }
+    ensures refused { IfSome (refusal_in form.Graphic case.now.groups.items) (λ refusal. result ≡ Err refusal) }
+    ensures renders { refusal_in form.Graphic case.now.groups.items ≡ None
+        → IsOkUnless result (RenderError.Memory alloc_error) }
+    ensures text { IfOk result (λ texts. IsPageOf case.now (map string_bytes texts.items)) }
+{
+    let text = case.renderer.render_html_page(alloc, &case.groups)?;
     let texts = alone(alloc, text)?;
     Ok(texts)
 }

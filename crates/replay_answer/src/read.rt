@@ -58,6 +58,7 @@ pub fn case_of<'v>(
         renderer: renderer_of(&case)?,
         sheets: sheets_of(&case)?,
         html: case.flag_or("html", false)?,
+        html_page: case.flag_or("html_page", false)?,
         markdown: case.flag_or("markdown", false)?,
         groups: parts_at(&case, "groups", sources)?,
     })

@@ -7,7 +7,8 @@ use Rattle.replay_read.specs.declared.shape.Shape.TheVariants as shape
 
 -- the names of the fields that an object of this shape may have
 abbrev pub names_of : Shape → List (List ℕ)
-names_of shape.Case = codes "id" ∷ codes "settings" ∷ codes "sheets" ∷ codes "html" ∷ codes "markdown" ∷ codes "sources" ∷ codes "groups" ∷ []
+names_of shape.Case = codes "id" ∷ codes "settings" ∷ codes "sheets" ∷ codes "html" ∷ codes "html_page" ∷ codes "markdown"
+    ∷ codes "sources" ∷ codes "groups" ∷ []
 names_of shape.Settings = codes "no_graphics" ∷ codes "short_message" ∷ codes "term_width" ∷ codes "unicode" ∷ codes "anonymized_snippet"
     ∷ codes "anonymized_origin" ∷ codes "hyperlink" ∷ codes "show_line_feeds" ∷ codes "context_before"
     ∷ codes "context_after" ∷ codes "wrap" ∷ codes "mask_controls" ∷ []

@@ -100,7 +100,14 @@ impl Shape {
     {
         match self {
             Shape::Case => &[
-                "id", "settings", "sheets", "html", "markdown", "sources", "groups",
+                "id",
+                "settings",
+                "sheets",
+                "html",
+                "html_page",
+                "markdown",
+                "sources",
+                "groups",
             ],
             Shape::Settings => SETTINGS,
             Shape::Sheet => SHEET,

@@ -56,6 +56,9 @@ fn outcome(case: &Json) -> Result<Vec<String>, RenderError> {
     if case.flag("html", false) {
         return Ok(vec![renderer.render_html(&groups)?]);
     }
+    if case.flag("html_page", false) {
+        return Ok(vec![renderer.render_html_page(&groups)?]);
+    }
     if case.flag("markdown", false) {
         return Ok(vec![renderer.render_markdown(&groups)?]);
     }
