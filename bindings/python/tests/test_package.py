@@ -116,7 +116,7 @@ class Library(unittest.TestCase):
 
     def test_another_library_is_told(self):
         told = self.run_python(DRAWS, YAZGULT_LIBRARY="libc.so.6")
-        self.assertIn("libc.so.6 is another library: it has no yazgult_draw_json", told)
+        self.assertIn("libc.so.6 is another library: it has no yazgult_draw", told)
 
     def test_it_stands_beside_the_package_or_in_the_lib_folder_of_its_prefix(self):
         for place in (self.folder / "yazgult" / "libyazgult.so.1", self.folder.parent / "libyazgult.so.1", self.folder.parent / "libyazgult.so"):

@@ -1,10 +1,11 @@
-"""Draws reports: each is handed to the library as a line of JSON, a case as docs/REPORTS.md has it."""
+"""Draws reports: each is handed to the library as bytes, or else as a line of JSON, a case as docs/REPORTS.md has it."""
 
 from __future__ import annotations
 
 import json
 from typing import TYPE_CHECKING, Any, Dict, List, Mapping, Optional, Sequence, Type, TypedDict, Union
 
+from .as_bytes import bytes_of, texts_of
 from .errors import REFUSALS, Error, NoTitle, NotDrawable, OutOfMemory, Refused
 from .faults import fault_of
 from .library import call
@@ -52,7 +53,7 @@ def render(
     Settings are `no_graphics`, `short_message`, `term_width`, `unicode`, `anonymized_snippet`, `anonymized_origin`, `hyperlink`,
     `show_line_feeds`, `context_before`, `context_after`, `wrap` and `mask_controls`, as that page has them.
     """
-    return render_sheets(report, [sheet], spans=spans, sources=sources, **settings)[0]
+    return texts_of_report(report, (sheet,), spans, sources, settings)[0]
 
 
 def render_sheets(
@@ -64,7 +65,7 @@ def render_sheets(
     **settings: Unpack[Settings],
 ) -> List[str]:
     """The texts of a report, one under each of these sheets, in order. The rest is as of `render`."""
-    return drawn({"sheets": sheets}, report, spans, sources, settings)
+    return texts_of_report(report, sheets, spans, sources, settings)
 
 
 def render_html(
@@ -114,6 +115,13 @@ def answer_json(line: str) -> str:
 def version() -> str:
     """The version of the library."""
     return call("yazgult_version").decode()
+
+
+def texts_of_report(report: Any, sheets: Any, spans: Any, sources: Any, settings: Any) -> List[str]:
+    """The texts of a report under these sheets: as bytes, or where these don't say it or give no text, as JSON."""
+    given = bytes_of(report, sheets, spans, settings)
+    texts = None if given is None else texts_of(call("yazgult_draw", given))
+    return drawn({"sheets": sheets}, report, spans, sources, settings) if texts is None else texts
 
 
 def drawn(case: Dict[str, Any], report: Any, spans: Any, sources: Any, settings: Any) -> List[str]:

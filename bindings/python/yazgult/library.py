@@ -13,7 +13,7 @@ from .errors import LibraryNotFound
 # What names the library's file, before all other places.
 VARIABLE = "YAZGULT_LIBRARY"
 NAMES = ("libyazgult.so.1", "libyazgult.so")
-FUNCTIONS = {"yazgult_draw_json": 2, "yazgult_version": 1}
+FUNCTIONS = {"yazgult_draw": 2, "yazgult_draw_json": 2, "yazgult_version": 1}
 HOW = f"Install the wheel of yazgult, which holds the library, or name its file in the environment variable {VARIABLE}."
 
 # How much room an answer gets before its length is known, in bytes.
@@ -54,6 +54,12 @@ def library() -> ctypes.CDLL:
     raise LibraryNotFound(f"The library of yazgult can't be loaded: {why}. {HOW}")
 
 
+@functools.lru_cache(maxsize=None)
+def function_of(name: str) -> Any:
+    """A function of the library."""
+    return getattr(library(), name)
+
+
 def free_room() -> Any:
     """A room that no other call uses until it is put back."""
     try:
@@ -64,14 +70,14 @@ def free_room() -> Any:
 
 def call(name: str, *inputs: bytes) -> bytes:
     """What a function of the library answers, in as much room as that takes. Any thread may call at any time."""
-    function = getattr(library(), name)
-    given = [it for each in inputs for it in (each, len(each))]
+    function = function_of(name)
+    given = (inputs[0], len(inputs[0])) if inputs else ()
     room = free_room()
     length: int = function(*given, room, ROOM)
-    answer = ctypes.string_at(room, min(length, ROOM))
+    answer: bytes = room[:length]
     spare.append(room)
     while length > len(answer):
         larger = ctypes.create_string_buffer(length)
         length = function(*given, larger, len(larger))
-        answer = ctypes.string_at(larger, min(length, len(larger)))
+        answer = larger[:length]
     return answer

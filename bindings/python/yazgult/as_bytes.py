@@ -1,0 +1,305 @@
+"""A report as bytes, as docs/BINDINGS.md has it, which the library reads in a fraction of the time that a line of JSON takes.
+
+Reports are written so that are plainly what they should be. Whatever else is met, right or wrong, ends it: JSON is written then, which can
+say all that docs/REPORTS.md has, and what is wrong where it isn't that.
+"""
+
+from __future__ import annotations
+
+from struct import Struct
+from typing import Any, Callable, Dict, FrozenSet, List, Mapping, Optional, Sequence, Tuple
+
+from .report import Element, Part, Report
+
+VERSION = b"\2"
+encode = str.encode
+NO, YES = b"\0", b"\1"
+number: Callable[[int], bytes] = Struct("<Q").pack
+ONE = number(1)
+two_numbers: Callable[[int, int], bytes] = Struct("<QQ").pack
+
+KINDS = {kind: bytes([i]) for i, kind in enumerate(("error", "warning", "info", "note", "help"))}
+MARKS = {kind: bytes([i]) for i, kind in enumerate(("primary", "context", "visible"))}
+
+# What `spans` names, and whether that is bytes.
+COUNTS_BYTES = {"characters": False, "bytes": True}
+# The fields that each part may have.
+LEVEL = frozenset(("kind", "name"))
+TITLE = frozenset(("level", "text", "primary", "id", "url"))
+GROUP = frozenset(("title", "level", "elements"))
+MESSAGE = frozenset(("level", "text"))
+ORIGIN = frozenset(("path", "line", "column"))
+SNIPPET = frozenset(("source", "path", "line_start", "line_numbering", "fold", "unit"))
+CAUSE, SUGGESTION = SNIPPET | {"annotations"}, SNIPPET | {"patches"}
+ANNOTATION = frozenset(("kind", "start", "end", "label", "highlight_source"))
+PATCH = frozenset(("start", "end", "text"))
+NOTHING: FrozenSet[str] = frozenset()
+
+# A style: no foreground or one of the terminal's, no background, and eight effects, of which bold is the first.
+PLAIN, BOLD = NO + NO + bytes(8), NO + NO + YES + bytes(7)
+BRIGHT_RED, BRIGHT_GREEN, YELLOW, BRIGHT_BLUE, BRIGHT_CYAN = (YES + NO + bytes([i]) for i in (9, 10, 3, 12, 14))
+LEVEL_COLORS = (BRIGHT_RED, YELLOW, BRIGHT_BLUE, BRIGHT_GREEN, BRIGHT_CYAN)
+# The styles of the five levels, of line numbers, of what stands out, of all else, of context, and of what is added and removed.
+DEFAULT_STYLES = [color + BOLD[1:] for color in (*LEVEL_COLORS, BRIGHT_BLUE)] + [BOLD, PLAIN, BRIGHT_BLUE + BOLD[1:]]
+DEFAULT_STYLES += [BRIGHT_GREEN + PLAIN[1:], BRIGHT_RED + PLAIN[1:]]
+SHEETS = {"plain": PLAIN * 11, "default": b"".join(DEFAULT_STYLES)}
+
+
+class Other(Exception):
+    """What is met isn't plainly what it should be."""
+
+
+def bytes_of(report: Any, sheets: Any, spans: Any, settings: Mapping[str, Any]) -> Optional[bytes]:
+    """A report under these sheets, whose spans count "bytes" or "characters"; none where it has to be written as JSON."""
+    try:
+        in_bytes = COUNTS_BYTES[spans]
+        groups = listed(report.groups if isinstance(report, Report) else report)
+        made = [settings_of(settings) if settings else DEFAULT_SETTINGS, number(len(sheets))]
+        made += map(SHEETS.__getitem__, sheets)
+        made.append(number(len(groups)))
+        for group in groups:
+            add_group(group, in_bytes, made)
+        return b"".join(made)
+    except MemoryError:
+        raise
+    except Exception:
+        return None
+
+
+def texts_of(answer: bytes) -> Optional[List[str]]:
+    """The texts that the library answers, if it does."""
+    if answer[0] != 0:
+        return None
+    texts, at = [], 9
+    while at < len(answer):
+        end = at + 8 + int.from_bytes(answer[at : at + 8], "little")
+        texts.append(answer[at + 8 : end].decode())
+        at = end
+    return texts
+
+
+# ---- parts
+
+
+def fields(part: Any, names: FrozenSet[str]) -> Mapping[str, Any]:
+    """The fields of a part, which has no other than these."""
+    if type(part) is not dict:
+        if not isinstance(part, Part):
+            raise Other
+        part = part.as_json()
+    if part.keys() <= names:
+        return part  # type: ignore[no-any-return]
+    raise Other
+
+
+def listed(members: Any) -> Sequence[Any]:
+    """A list."""
+    if type(members) is list or type(members) is tuple:
+        return members  # type: ignore[no-any-return]
+    raise Other
+
+
+def whole(value: Any) -> int:
+    """A whole number."""
+    if type(value) is int:
+        return value
+    raise Other
+
+
+def flag(value: Any, default: bytes) -> bytes:
+    """Yes or no; the default where it is left out."""
+    if value is None:
+        return default
+    if value is True:
+        return YES
+    if value is False:
+        return NO
+    raise Other
+
+
+def text(value: Any) -> bytes:
+    """A text."""
+    encoded = encode(value)
+    return number(len(encoded)) + encoded
+
+
+def text_if(value: Any) -> bytes:
+    """A text that may be left out."""
+    if value is None:
+        return NO
+    encoded = encode(value)
+    return YES + number(len(encoded)) + encoded
+
+
+def number_if(value: Any) -> bytes:
+    """A number that may be left out."""
+    return NO if value is None else YES + number(whole(value))
+
+
+def add_group(group: Any, in_bytes: bool, made: List[bytes]) -> None:
+    """Adds a group."""
+    held = fields(group, GROUP)
+    title, elements = held["title"], listed(held["elements"])
+    if title is None:
+        made += (KINDS[fields(held["level"], LEVEL)["kind"]], NO)
+    else:
+        parts = fields(title, TITLE)
+        made += (KINDS[fields(parts["level"], LEVEL)["kind"]], YES, title_bytes(parts))
+    made.append(number(len(elements)))
+    for element in elements:
+        if type(element) is dict:
+            ((name, part),) = element.items()
+        else:
+            name, part = Element.name(element), element
+        kind, names, add = ELEMENTS[name]
+        made.append(kind)
+        add(fields(part, names), in_bytes, made)
+
+
+def title_bytes(title: Mapping[str, Any]) -> bytes:
+    """A title."""
+    name, url, is_primary = title.get("id"), title.get("url"), title["primary"]
+    if is_primary is not True and is_primary is not False:
+        raise Other
+    identifier = NO if name is None and url is None else YES + text_if(name) + text_if(url)
+    return level_bytes(title["level"]) + identifier + text(title["text"]) + (NO if is_primary else YES)
+
+
+def level_bytes(level: Any) -> bytes:
+    """A level: with the name of its kind, without a name, or with one of its own."""
+    held = fields(level, LEVEL)
+    if "name" not in held:
+        return NO + KINDS[held["kind"]]
+    name = held["name"]
+    return (YES if name is None else b"\2" + text(name)) + KINDS[held["kind"]]
+
+
+def add_message(message: Mapping[str, Any], in_bytes: bool, made: List[bytes]) -> None:
+    """Adds a message."""
+    made += (level_bytes(message["level"]), text(message["text"]))
+
+
+def add_origin(origin: Mapping[str, Any], in_bytes: bool, made: List[bytes]) -> None:
+    """Adds an origin."""
+    made += (text(origin["path"]), number_if(origin.get("line")), number_if(origin.get("column")))
+
+
+def add_padding(padding: Mapping[str, Any], in_bytes: bool, made: List[bytes]) -> None:
+    """Adds an empty row, of which there is nothing to say."""
+
+
+# ---- snippets
+
+
+def add_cause(snippet: Mapping[str, Any], in_bytes: bool, made: List[bytes]) -> None:
+    """Adds a source with marks."""
+    marks = listed(snippet["annotations"])
+    span = add_source(snippet, in_bytes, len(marks), made)
+    for mark in marks:
+        held = fields(mark, ANNOTATION)
+        made += (span(held), text_if(held.get("label")), MARKS[held["kind"]], flag(held.get("highlight_source"), NO))
+    add_looks(snippet, made)
+
+
+def add_suggestion(snippet: Mapping[str, Any], in_bytes: bool, made: List[bytes]) -> None:
+    """Adds a source with patches."""
+    patches = listed(snippet["patches"])
+    span = add_source(snippet, in_bytes, len(patches), made)
+    for patch in patches:
+        held = fields(patch, PATCH)
+        made += (span(held), text(held["text"]))
+    add_looks(snippet, made)
+
+
+def add_source(snippet: Mapping[str, Any], in_bytes: bool, count: int, made: List[bytes]) -> Span:
+    """Adds a snippet up to its markers, of which there are so many, and returns how the span of each is written."""
+    start, source = snippet.get("line_start"), snippet["source"]
+    encoded = encode(source)
+    made += (text_if(snippet.get("path")), ONE if start is None else number(whole(start)), number(len(encoded)), encoded, number(count))
+    return spans_in(source, len(encoded), snippet.get("unit"), in_bytes)
+
+
+def add_looks(snippet: Mapping[str, Any], made: List[bytes]) -> None:
+    """Adds what stands after a snippet's markers: whether its lines have numbers, and whether it is folded."""
+    made += (flag(snippet.get("line_numbering"), YES), flag(snippet.get("fold"), YES))
+
+
+Span = Callable[[Mapping[str, Any]], bytes]
+
+
+def spans_in(source: str, size: int, unit: Any, in_bytes: bool) -> Span:
+    """How the spans of markers in a source are written, which has so many bytes."""
+    if unit == "byte" or unit is None and in_bytes:
+        return counted_span
+    if unit is not None and unit != "char":
+        raise Other
+    return counted_in(len(source)) if len(source) == size else Characters(source).span
+
+
+def counted_span(marker: Mapping[str, Any]) -> bytes:
+    """The span of a marker that counts bytes."""
+    return two_numbers(whole(marker["start"]), whole(marker["end"]))
+
+
+def counted_in(length: int) -> Span:
+    """How the spans of markers are written that count the characters of a text of so many, which are a byte each. A place that the text
+    hasn't is for JSON to tell."""
+
+    def span(marker: Mapping[str, Any]) -> bytes:
+        start, end = marker["start"], marker["end"]
+        if type(start) is int and type(end) is int and start <= length and end <= length:
+            return two_numbers(start, end)
+        raise Other
+
+    return span
+
+
+class Characters:
+    """A text whose characters are several bytes each, and how many stand before the last one that was asked for."""
+
+    def __init__(self, source: str):
+        self.source, self.last = source, (0, 0)
+
+    def span(self, marker: Mapping[str, Any]) -> bytes:
+        """The span of a marker that counts characters. A place that the text hasn't is for JSON to tell."""
+        start, end = whole(marker["start"]), whole(marker["end"])
+        if 0 <= start <= len(self.source) and 0 <= end <= len(self.source):
+            return two_numbers(self.byte(start), self.byte(end))
+        raise Other
+
+    def byte(self, place: int) -> int:
+        """How many bytes stand before a character: counted from the last one, if it stands after that."""
+        at, before = self.last if place >= self.last[0] else (0, 0)
+        self.last = (place, before + len(self.source[at:place].encode()))
+        return self.last[1]
+
+
+ELEMENTS: Dict[str, Tuple[bytes, FrozenSet[str], Callable[[Mapping[str, Any], bool, List[bytes]], None]]] = {
+    "message": (b"\0", MESSAGE, add_message),
+    "cause": (b"\1", CAUSE, add_cause),
+    "suggestion": (b"\2", SUGGESTION, add_suggestion),
+    "origin": (b"\3", ORIGIN, add_origin),
+    "padding": (b"\4", NOTHING, add_padding),
+}
+
+
+# ---- settings
+
+
+FLAGS = ("anonymized_origin", "anonymized_snippet", "unicode", "hyperlink", "short_message", "no_graphics", "show_line_feeds", "wrap", "mask_controls")
+NUMBERS = {"term_width": 140, "context_before": 0, "context_after": 0}
+
+
+def settings_of(given: Mapping[str, Any]) -> bytes:
+    """The version and the settings, each by its default where it is left out."""
+    if not given.keys() <= SETTINGS:
+        raise Other
+    origin, snippet, decor, hyperlink, short, words, feeds, wrap, mask = (flag(given.get(name), NO) for name in FLAGS)
+    numbers = ((given.get(name), default) for name, default in NUMBERS.items())
+    width, before, after = (number(default if value is None else whole(value)) for value, default in numbers)
+    later = number(0) if mask == NO else ONE + NO + ONE
+    return b"".join((VERSION, origin, snippet, width, decor, hyperlink, short, words, feeds, before, after, wrap, later))
+
+
+SETTINGS = frozenset(FLAGS) | NUMBERS.keys()
+DEFAULT_SETTINGS = settings_of({})
