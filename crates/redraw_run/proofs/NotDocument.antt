@@ -11,7 +11,7 @@ use Rattle.redraw_run.specs.HtmlDocument.{html_end, html_start}
 use Rattle.redraw_run.specs.Run.{Finishes}
 
 -- a tag that another tool writes, here its `<`, is handed on as it is
-pub tag_handed_on : (is_workflow : Bool) → handed Html is_workflow (60 ∷ []) ≡ 60 ∷ [] → ⊥
+pub tag_handed_on : (is_workflow : Bool) → handed Html is_workflow (60 ∷ []) ≡ codes "<pre>\n<</pre>\n" → ⊥
 tag_handed_on is_workflow is = cc is
 
 -- markup that another tool writes, here `*` in a second line, is handed on as it is in Markdown
@@ -41,5 +41,5 @@ undocumented held names a failed err status html empty run =
     subst (λ (o : Option (List ℕ)). Appends o run.end.out.held ((html_start html_is ++ within) ++ html_end html_is)) empty all.added in
     let to : Appends (Some []) (Some []) ((html_start html_is ++ within) ++ html_end html_is) =
     subst (λ (o : Standing). Appends (Some []) o.held ((html_start html_is ++ within) ++ html_end html_is)) (sym run.printed) from in
-    let end : length (html_end html_is) ≡ length (codes "</pre>\n</body>\n</html>\n") = ap (λ h. length (html_end h)) html in
+    let end : length (html_end html_is) ≡ length (codes "</main>\n</body>\n</html>\n") = ap (λ h. length (html_end h)) html in
     absurd (omega (arith, ap length to, length-append (html_start html_is ++ within) (html_end html_is), end))

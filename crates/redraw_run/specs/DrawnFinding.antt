@@ -1,9 +1,9 @@
 -- What is drawn of a finding, and what is written of it.
-use Rattle.std.specs.Prelude.{◌≡◌, ◌⊎◌, ℕ, Bool, true, false, List, [], ◌∷◌, ◌++◌, Option, Some, None, alloc_error, map, if◌then◌else◌}
+use Rattle.std.specs.Prelude.{◌≡◌, ◌⊎◌, ℕ, Bool, true, false, List, [], ◌∷◌, ◌++◌, Option, Some, None, alloc_error, codes, map, if◌then◌else◌}
 use Rattle.annotate_snippets.specs.Laws.Forms.{HasLaws}
 use Rattle.annotate_snippets.specs.Forms.{ShowsReport}
 use Rattle.annotate_snippets.specs.Fault.{first_refusal, refusal_in}
-use Rattle.annotate_snippets.specs.Html.{HasHtmlLaws, IsReportHtml}
+use Rattle.annotate_snippets.specs.Article.{IsReportArticle}
 use Rattle.annotate_snippets.specs.Markdown.{HasMarkdownLaws, IsReportMarkdown}
 use Rattle.annotate_snippets.specs.declared.renderer.Renderer.{Renderer}
 use Rattle.annotate_snippets.specs.declared.renderer.error.RenderError.{RenderError}
@@ -31,17 +31,36 @@ use Rattle.redraw_report.specs.declared.diagnostic.Severity.TheVariants.{Error, 
 use Rattle.redraw_report.specs.declared.finding.Finding.{Finding}
 use Rattle.redraw_run.specs.declared.look.ReportRenderer.{ReportRenderer}
 
--- a text shows a report in a renderer's settings, in a markup: without one under the renderer's sheet
-abbrev pub ShowsAs : Markup → Renderer → List Group → List ℕ → Type 0
-ShowsAs Html r groups text = IsReportHtml r groups text
-ShowsAs Markdown r groups text = IsReportMarkdown r groups text
-ShowsAs Bare r groups text = ShowsReport r groups r.stylesheet text
+-- the class of an article, by how severe what it reports is
+abbrev pub class_of : Severity → List ℕ
+class_of Error = codes "error"
+class_of Warning = codes "warning"
+class_of Info = codes "info"
+class_of Note = codes "note"
+class_of Help = codes "help"
+class_of Plain = codes "plain"
 
--- and has the laws of that
-abbrev pub HasLawsAs : Markup → Renderer → List Group → List ℕ → Type 0
-HasLawsAs Html r groups text = HasHtmlLaws r groups text
-HasLawsAs Markdown r groups text = HasMarkdownLaws r groups text
-HasLawsAs Bare r groups text = HasLaws r groups r.stylesheet text
+-- an article with this in it
+abbrev pub in_article : Severity → List ℕ → List ℕ
+in_article severity inner = codes "<article class=\"" ++ class_of severity ++ codes "\">\n" ++ inner ++ codes "\n</article>"
+
+-- a text is the article of a report, with its laws
+pub record IsArticle (severity : Severity) (r : Renderer) (groups : List Group) (text : List ℕ) : Type 0 where
+  pub inner : List ℕ
+  pub holds : IsReportArticle r groups inner
+  pub is : text ≡ in_article severity inner
+
+-- a text shows a report in a renderer's settings, in a markup: in HTML as an article, and without markup under the renderer's sheet
+abbrev pub ShowsAs : Markup → Severity → Renderer → List Group → List ℕ → Type 0
+ShowsAs Html severity r groups text = IsArticle severity r groups text
+ShowsAs Markdown severity r groups text = IsReportMarkdown r groups text
+ShowsAs Bare severity r groups text = ShowsReport r groups r.stylesheet text
+
+-- and has the laws of that, which an article says itself
+abbrev pub HasLawsAs : Markup → Severity → Renderer → List Group → List ℕ → Type 0
+HasLawsAs Html severity r groups text = IsArticle severity r groups text
+HasLawsAs Markdown severity r groups text = HasMarkdownLaws r groups text
+HasLawsAs Bare severity r groups text = HasLaws r groups r.stylesheet text
 
 -- why a report gives no text: the first reason in order
 abbrev pub refusal_by : ReportRenderer → List Group → Option RenderError
@@ -56,8 +75,8 @@ pub record ShowsFinding (r : ReportRenderer) (files : List File) (d : Diagnostic
   pub groups : List Group
   pub told : map section_view groups ≡ report_of finding
   pub safe : HasSafeLinks groups
-  pub shows : ShowsAs r.markup r.settings groups text
-  pub laws : HasLawsAs r.markup r.settings groups text
+  pub shows : ShowsAs r.markup d.severity r.settings groups text
+  pub laws : HasLawsAs r.markup d.severity r.settings groups text
 
 -- the library refuses for this reason, the first in order, the report of the finding that the diagnostic reports, its places looked for
 -- in these files

@@ -3,7 +3,7 @@ ghost use Rattle.std.specs.Prelude.{◌≡◌, ◌++◌, IfOk, OnOk, true};
 ghost use Rattle.std.specs.Cow.{cow_slice_items};
 ghost use Rattle.redraw_run.specs.Handed as spec;
 
-use crate::html::escaped;
+use crate::html::preformatted;
 use crate::look::ReportRenderer;
 use redraw_command::terminal::Markup;
 use redraw_command::unheeded::unheeded;
@@ -14,14 +14,14 @@ use std::borrow::CowSlice;
 const INDENT: &[u8] = b"    ";
 
 impl ReportRenderer {
-    /// A line of the input as it is handed on: in HTML with escapes, in Markdown as code, among workflow commands as
-    /// none, and else as it is. The line need not be UTF-8.
+    /// A line of the input as it is handed on: in HTML with escapes in an element of its own, in Markdown as code,
+    /// among workflow commands as none, and else as it is. The line need not be UTF-8.
     pub fn handed<'l>(&self, alloc: Global, line: &'l [u8]) -> Result<CowSlice<'l, u8>, AllocError>
         ensures value { IfOk result (λ handed. cow_slice_items handed
             ≡ spec.handed self.now.markup self.now.is_workflow line.now) }
     {
         match self.markup {
-            Markup::Html => Ok(CowSlice::Owned(escaped(alloc, line)?)),
+            Markup::Html => Ok(CowSlice::Owned(preformatted(alloc, line)?)),
             Markup::Markdown => Ok(CowSlice::Owned(quoted(alloc, line)?)),
             Markup::Bare if self.is_workflow => Ok(CowSlice::Owned(unheeded(alloc, line)?)),
             Markup::Bare => Ok(CowSlice::Borrowed(line)),

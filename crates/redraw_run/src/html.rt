@@ -1,35 +1,58 @@
 //! A document in HTML: what it begins and ends with, and lines of the input in it.
 ghost use Rattle.std.specs.Prelude.{◌≡◌, ◌++◌, [], IfOk, OnOk};
+ghost use Rattle.redraw_run.specs.Handed.{preformatted};
 ghost use Rattle.redraw_run.specs.HtmlDocument as spec;
 ghost use Rattle.redraw_run.specs.ReadLines.{PrintsBytes};
 ghost use Rattle.snippet_grid.specs.Html as html;
 ghost use Rattle.output_stream.specs.Standing.{known};
 
-use annotate_snippets::renderer::HTML_STYLESHEET;
+use annotate_snippets::renderer::{HTML_PAGE_STYLESHEET, HTML_STYLESHEET};
 use output_stream::Stream;
 use redraw_command::terminal::Markup;
 use std::alloc::{AllocError, Global};
 use std::io::{self, Write};
 
-/// What stands before the stylesheet of reports: the page is light or dark as its reader prefers.
+/// What stands before the stylesheets of reports: the page is light or dark as its reader prefers.
 const HEAD: &str = "<!DOCTYPE html>
 <html lang=\"en\">
 <head>
 <meta charset=\"utf-8\">
+<meta name=\"viewport\" content=\"width=device-width, initial-scale=1\">
 <title>redraw</title>
 <style>
 :root { color-scheme: light dark; }
+body { margin: 1em auto; max-width: 100em; padding: 0 1em; font-family: sans-serif; }
+pre { margin: 0; overflow-x: auto; font-family: monospace; line-height: 1.3; }
+article { position: relative; margin: 1em 0; padding-left: 0.75em; border-left: 0.25em solid #767676; }
+article.error { border-color: #b3001b; }
+article.warning { border-color: #7a5b00; }
+h1, h2, legend { font-size: 1em; }
+h2 { margin: 0 0 0.5em; overflow-wrap: anywhere; }
+fieldset { border: 0; margin: 0; padding: 0; }
+label { margin-right: 1em; white-space: nowrap; }
+body:has(#errors:checked) article:not(.error),
+body:has(#warnings:checked) article:not(.warning),
+body:has(#others:checked) article:is(.error, .warning) { display: none; }
+@media print { fieldset { display: none; } article { break-inside: avoid; } }
 ";
 
-/// What stands between the stylesheet and what is drawn.
+/// What stands between the stylesheets and what is drawn: by levels the reader chooses which reports are shown.
 const BODY: &str = "</style>
 </head>
 <body>
-<pre>
+<h1>Reports</h1>
+<fieldset>
+<legend>Show</legend>
+<label><input type=\"radio\" name=\"show\" id=\"all\" checked> all</label>
+<label><input type=\"radio\" name=\"show\" id=\"errors\"> errors</label>
+<label><input type=\"radio\" name=\"show\" id=\"warnings\"> warnings</label>
+<label><input type=\"radio\" name=\"show\" id=\"others\"> others</label>
+</fieldset>
+<main>
 ";
 
 /// What stands after all that is drawn.
-const END: &str = "</pre>
+const END: &str = "</main>
 </body>
 </html>
 ";
@@ -55,11 +78,21 @@ fn print_head<W: Write>(out: &mut Stream<W>) -> io::Result<()>
     }
 }
 
-/// Prints the stylesheet, and what stands after it.
+/// Prints the stylesheets, and what stands after them.
 fn print_styles<W: Write>(out: &mut Stream<W>) -> io::Result<()>
     ensures prints { PrintsBytes result (known W.contents out.old) (known W.contents out.new) spec.styles }
 {
     match out.write(HTML_STYLESHEET.as_bytes()) {
+        Ok(()) => print_page_styles(out),
+        Err(error) => Err(error),
+    }
+}
+
+/// Prints the stylesheet of articles, and what stands after it.
+fn print_page_styles<W: Write>(out: &mut Stream<W>) -> io::Result<()>
+    ensures prints { PrintsBytes result (known W.contents out.old) (known W.contents out.new) spec.page_styles }
+{
+    match out.write(HTML_PAGE_STYLESHEET.as_bytes()) {
         Ok(()) => print(BODY, out),
         Err(error) => Err(error),
     }
@@ -96,15 +129,26 @@ fn flush<W: Write>(out: &mut Stream<W>) -> io::Result<()>
     }
 }
 
-/// A line with an escape for each character that HTML gives a meaning. The line need not be UTF-8.
-pub fn escaped(alloc: Global, line: &[u8]) -> Result<Vec<u8>, AllocError>
-    ensures value { IfOk result (λ text. text.items ≡ html.escaped line.now) }
+/// A line with an escape for each character that HTML gives a meaning, in an element of its own. The line need not be
+/// UTF-8.
+pub fn preformatted(alloc: Global, line: &[u8]) -> Result<Vec<u8>, AllocError>
+    ensures value { IfOk result (λ text. text.items ≡ preformatted line.now) }
 {
     let mut text = Vec::new(alloc);
-    for byte in line {
-        add_escaped(&mut text, *byte)?;
-    }
+    text.extend_from_slice(b"<pre>\n")?;
+    add_line(&mut text, line)?;
+    text.extend_from_slice(b"</pre>\n")?;
     Ok(text)
+}
+
+/// Adds a line, with escapes.
+fn add_line(text: &mut Vec<u8>, line: &[u8]) -> Result<(), AllocError>
+    ensures added { OnOk result (text.new.items ≡ text.old.items ++ html.escaped line.now) }
+{
+    for byte in line {
+        add_escaped(text, *byte)?;
+    }
+    Ok(())
 }
 
 /// Adds a byte, or the escape that stands for it.

@@ -10,8 +10,8 @@
 //! error[E0308]: mismatched types
 //! ..</pre>
 //! ```
-ghost use Rattle.std.specs.Prelude.{◌≡◌, ◌++◌, [], ◌∷◌, Err, IfOk, IfSome, IsOkUnless, None, OnOk, alloc_error, chars, map};
-ghost use Rattle.std.specs.Prelude.{string_bytes};
+ghost use Rattle.std.specs.Prelude.{◌≡◌, ◌++◌, [], ◌∷◌, Err, IfOk, IfSome, IsOkUnless, None, OnOk, alloc_error};
+ghost use Rattle.std.specs.Prelude.{chars, map, string_bytes};
 ghost use Rattle.std.specs.Cow.{cow_str_bytes};
 ghost use Rattle.std.specs.Option.{option_copied, option_map};
 ghost use Rattle.snippet_grid.specs.Html.{AddsHtml, AnchorEnd, AnchorStart, Text};
@@ -204,7 +204,8 @@ fn push_linked(out: &mut String, address: Option<&str>, text: &str) -> Result<()
 
 /// Adds the tag that begins a link.
 fn start_link(out: &mut String, address: &str) -> Result<(), AllocError>
-    ensures added { OnOk result (AddsHtml (AnchorStart address.now ∷ []) (string_bytes out.old) (string_bytes out.new)) }
+    ensures added { OnOk result (AddsHtml (AnchorStart address.now ∷ [])
+        (string_bytes out.old) (string_bytes out.new)) }
 {
     out.push_str("<a href=\"")?;
     push_escaped(out, address)?;

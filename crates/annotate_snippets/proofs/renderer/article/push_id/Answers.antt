@@ -22,7 +22,9 @@ returns c =
       added = on_ok_weaker c.push_text-2.result (λ close.
           subst (λ (id : List HtmlPiece). AddsHtml id old (string_bytes c.push_text-2.new.out)) (sym some)
           (three-added (map Text (opening_bracket_of c.args.hidden)) (linked_html (address_of c.args.links (option_map cow_str_bytes c.in-Some.id.now.url))
-          (norm (chars (cow_str_bytes c.in-Some-id.text)))) (map Text (closing_bracket_of c.args.hidden)) old (string_bytes c.push_text.new.out) (string_bytes c.push_linked.new.out) (string_bytes c.push_text-2.new.out)
+          (norm (chars (cow_str_bytes c.in-Some-id.text))))
+          (map Text (closing_bracket_of c.args.hidden)) old (string_bytes c.push_text.new.out) (string_bytes c.push_linked.new.out)
+          (string_bytes c.push_text-2.new.out)
           (subst (λ (ps : List HtmlPiece). AddsHtml ps old (string_bytes c.push_text.new.out)) before c.in_ok-push_text.ensures.added)
           (subst (λ (ps : List HtmlPiece). AddsHtml ps (string_bytes c.push_text.new.out) (string_bytes c.push_linked.new.out)) shown
           c.in_ok-push_linked.ensures.added)

@@ -23,8 +23,11 @@ returns c =
     ∙ ap (λ t. norm (chars t)) c.as_str-2.ensures.value) in
     record {
       added = on_ok_weaker c.push_text-3.result (λ last.
-          four-added (map Text (norm (chars (name_of c.args.title.now.level)))) (id_html c.args.links (is_hidden c.args.title.now.level.name) c.args.title.now.id)
-          (map Text (colon_of (is_hidden c.args.title.now.level.name) c.args.title.now.id)) (map Text (norm (chars (cow_str_bytes c.args.title.now.text)))) old (string_bytes c.push_text.new.out) (string_bytes c.push_id.new.out) (string_bytes c.push_text-2.new.out)
+          four-added (map Text (norm (chars (name_of c.args.title.now.level))))
+          (id_html c.args.links (is_hidden c.args.title.now.level.name) c.args.title.now.id)
+          (map Text (colon_of (is_hidden c.args.title.now.level.name) c.args.title.now.id))
+          (map Text (norm (chars (cow_str_bytes c.args.title.now.text)))) old (string_bytes c.push_text.new.out) (string_bytes c.push_id.new.out)
+          (string_bytes c.push_text-2.new.out)
           (string_bytes c.push_text-3.new.out)
           (subst (λ (ps : List HtmlPiece). AddsHtml ps old (string_bytes c.push_text.new.out)) name c.in_ok-push_text.ensures.added)
           (subst (λ (ps : List HtmlPiece). AddsHtml ps (string_bytes c.push_text.new.out) (string_bytes c.push_id.new.out)) link c.in_ok-push_id.ensures.added)
