@@ -24,10 +24,8 @@ use Rattle.annotate_snippets.proofs.PageWords.{Page}
 use Rattle.annotate_snippets.specs.Laws.Page.{PageLaws}
 use Rattle.annotate_snippets.specs.Laws.Free.{IsFreeBut}
 use Rattle.annotate_snippets.specs.ShownPage.{report_links}
-use Rattle.annotate_snippets.specs.Html.{levels_of}
 use Rattle.annotate_snippets.proofs.FaultLemmas.{first-there, title-there}
 use Rattle.snippet_model.proofs.ZipLemmas.{AllZip-weaker}
-use Rattle.annotate_snippets.proofs.GridRows.{in_levels}
 use Rattle.annotate_snippets.proofs.ReportLemmas.{page_woven}
 use Rattle.annotate_snippets.proofs.ShortShown.{page_is}
 
@@ -50,8 +48,7 @@ module _ (r : Renderer) (groups : List Group) where
   page-law laws sheet text prints =
       let page : Page = graphic_form r groups in
       let links : List (List ℕ) = report_links r groups in
-      let woven : IsWoven sheet text (page_text page) links = page_woven sheet (levels_of groups) page links text laws.links
-      (in_levels r groups sheet text prints) in
+      let woven : IsWoven sheet text (page_text page) links = page_woven sheet page links text laws.links prints in
       record {
         form_laws = laws;
         woven = woven;

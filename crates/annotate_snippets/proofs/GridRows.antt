@@ -1,31 +1,29 @@
--- The grids of a report's groups, in order.
-use Rattle.std.proofs.Common.{◌≡◌, ℕ, ◌+◌, ◌<◌, All, Option, None, Some, List, [], ◌∷◌, ◌++◌, length, get_or, map, take, Bor, refl, sym}
-use Rattle.std.proofs.Common.{ap, ◌∙◌, arith, subst}
+-- The groups of a report, in order, as they are drawn.
+use Rattle.std.proofs.Common.{◌≡◌, ℕ, ◌+◌, ◌<◌, ◌==◌, All, Bool, true, false, Option, None, Some, List, [], ◌∷◌, ◌++◌, length, get_or, map, take, drop}
+use Rattle.std.proofs.Common.{Bor, refl, sym, ap, ◌∙◌, arith, subst, if◌then◌else◌}
 use Rattle.std.specs.List.{enumerate_from, slice_get}
 use Rattle.std.specs.Option.{option_copied, option_or}
 use Rattle.std.proofs.Math.Nat.{zero-add}
-use Rattle.std.proofs.lemmas.List.{get_or-map, length-append, length-map, map-append, take_more}
+use Rattle.std.proofs.lemmas.Bool.Decides.{nat_tests}
+use Rattle.std.proofs.lemmas.List.{append_assoc, get_or-map, length-map, length-take, take-append-drop, take_more}
 use Rattle.std.proofs.lemmas.List.FromFn.{get_or-enumerate_from, length-enumerate_from}
 use Rattle.std.proofs.lemmas.Option.{get_or_from_slice_get, slice_get-get_or, slice_get_within}
+use Rattle.snippet_grid.specs.Layout.{Layout}
 use Rattle.snippet_model.specs.declared.snippet.Group.{Group}
 use Rattle.snippet_parts.proofs.PartLemmas.{All-unmapped}
-use Rattle.snippet_style.specs.declared.role.LevelInner.{LevelInner}
 use Rattle.snippet_style.specs.declared.glyphs.DecorStyle.{DecorStyle}
-use Rattle.snippet_style.specs.declared.stylesheet.Stylesheet.{Stylesheet}
-use Rattle.annotate_snippets.specs.ElementContext.{drawn_elements, file_of_group, position_of_group}
+use Rattle.annotate_snippets.specs.ElementContext.{drawn_elements, file_of_group, is_first_group, position_of_group}
 use Rattle.annotate_snippets.specs.DrawnReport.{HasRoomFor, code_after}
 use Rattle.annotate_snippets.specs.GraphicForm.{graphic_form, group_page}
-use Rattle.annotate_snippets.proofs.PageWords.{PrintsIn, PrintsIn-from_page, PrintsPage-from_levels, depth_of_group, page_at}
 use Rattle.annotate_snippets.specs.Gutter.{layout_of_group, gutter_of_report}
-use Rattle.annotate_snippets.specs.Page.{GroupPage, PrintsPage, group_rows}
-use Rattle.annotate_snippets.specs.Html.{levels_of}
+use Rattle.annotate_snippets.specs.Page.{GroupPage}
 use Rattle.annotate_snippets.specs.PreparedReport.{IsGroupDrawable, IsGroupPrepared, element_of}
 use Rattle.annotate_snippets.specs.declared.renderer.Renderer.{Renderer}
-use Rattle.snippet_grid.specs.Layout.{Layout}
-use Rattle.annotate_snippets.specs.declared.renderer.graphic.GroupGrid.{GroupGrid}
-use Rattle.annotate_snippets.specs.declared.renderer.preprocess.PreparedGroup.{PreparedGroup}
 use Rattle.annotate_snippets.specs.declared.renderer.element_context.GroupPosition.{GroupPosition}
+use Rattle.annotate_snippets.specs.declared.renderer.element_context.GroupPosition.TheVariants.{First, Later, Only}
+use Rattle.annotate_snippets.specs.declared.renderer.preprocess.PreparedGroup.{PreparedGroup}
 use Rattle.annotate_snippets.proofs.ElementRows.{get-mapped, turn_item}
+use Rattle.annotate_snippets.proofs.PageWords.{depth_of_group, page_at}
 use Rattle.annotate_snippets.proofs.PreparedLemmas.{group_of}
 use Rattle.annotate_snippets.proofs.RoomLemmas.{room_in_report}
 
@@ -34,21 +32,7 @@ pub page_count : (r : Renderer) (groups : List Group) → length (graphic_form r
 page_count r groups =
     length-map (enumerate_from 0 groups) (λ (pair : ℕ × Group). page_at r groups pair.0 pair.1) ∙ length-enumerate_from 0 groups
 
--- its levels are those of the groups
-levels_from : (r : Renderer) (groups : List Group) (n : ℕ) (gs : List Group) → levels_of gs
-    ≡ map (λ (part : GroupPage). part.level) (map (λ (pair : ℕ × Group). page_at r groups pair.0 pair.1) (enumerate_from n gs))
-levels_from r groups n [] = refl
-levels_from r groups n (g ∷ gs) = ap (λ levels. g.level ∷ levels) (levels_from r groups (n + 1) gs)
-
--- so a text that prints the page prints it in these levels, and the other way round
-pub in_levels : (r : Renderer) (groups : List Group) (sheet : Stylesheet) (text : List ℕ) → PrintsPage sheet (graphic_form r groups) text
-    → PrintsIn sheet (levels_of groups) (graphic_form r groups) text
-in_levels r groups sheet text = PrintsIn-from_page sheet (levels_of groups) (graphic_form r groups) text (levels_from r groups 0 groups)
-
-pub from_levels : (r : Renderer) (groups : List Group) (sheet : Stylesheet) (text : List ℕ)
-    → PrintsIn sheet (levels_of groups) (graphic_form r groups) text → PrintsPage sheet (graphic_form r groups) text
-from_levels r groups sheet text = PrintsPage-from_levels sheet (levels_of groups) (graphic_form r groups) text (levels_from r groups 0 groups)
-
+-- each is that of its group
 page_of : (r : Renderer) (groups : List Group) (n : ℕ) (g : Group) (d : GroupPage) → slice_get groups n ≡ Some g
     → get_or (graphic_form r groups) n d ≡ page_at r groups n g
 page_of r groups n g d is =
@@ -58,16 +42,6 @@ page_of r groups n g d is =
     let item : get_or (enumerate_from 0 groups) n (0, g) ≡ (n, g) = get_or-enumerate_from 0 groups n (0, g) inside
     ∙ ap (λ (k : ℕ). (k, get_or groups n g)) (zero-add n) ∙ ap (λ (x : Group). (n, x)) (get_or_from_slice_get groups n g g is) in
     get_or-map page (enumerate_from 0 groups) n (0, g) d numbered ∙ ap page item
-
--- the grids of the first so many groups: each is printed in its group's level, and has the rows of its page
-pub record GridsSoFar (r : Renderer) (groups : List Group) (n : ℕ) (grids : List GroupGrid) : Type 0 where
-  pub count : length grids ≡ n
-  pub levels : map (λ (grid : GroupGrid). grid.level) grids ≡ take n (levels_of groups)
-  pub rows : map (λ (grid : GroupGrid). grid.buffer) grids ≡ map group_rows (take n (graphic_form r groups))
-
--- no grid stands for the first none of the groups
-pub grids_none : (r : Renderer) (groups : List Group) → GridsSoFar r groups 0 []
-grids_none r groups = record { count = refl; levels = refl; rows = refl }
 
 -- where two files are there in turn
 pub copied_or : (a b : Option (Bor (List ℕ))) → option_copied (option_or a b) ≡ option_or (option_copied a) (option_copied b)
@@ -100,7 +74,7 @@ room_at r groups n p layout drawable prepared here is =
     All (HasRoomFor r f) (drawn_elements p.group.now)) (sym is) (room_in_report r groups drawable n p.group.now here)))
 
 -- the page of a group that is drawn in that layout, at its place and for its file, is the report's
-pub page_here : (r : Renderer) (groups : List Group) (n : ℕ) (g : Group) (layout : Layout) (place : GroupPosition) (file : Option (List ℕ))
+page_here : (r : Renderer) (groups : List Group) (n : ℕ) (g : Group) (layout : Layout) (place : GroupPosition) (file : Option (List ℕ))
     → layout ≡ layout_of_group r groups g → place ≡ position_of_group (length groups) n → file ≡ file_of_group groups g
     → group_page r layout place file g ≡ page_at r groups n g
 page_here r groups n g layout place file layout_here place_here file_here =
@@ -132,41 +106,56 @@ turn_prepared ps n i p all turn =
     let is : get_or ps n p ≡ p = cc in
     subst IsGroupPrepared is (all n p within)
 
--- one more grid
-pub grid_more : (r : Renderer) (groups : List Group) (n m : ℕ) (g : Group) (grid : GroupGrid) (grids new : List GroupGrid) → slice_get groups n ≡ Some g
-    → grid.level ≡ g.level → grid.buffer ≡ group_rows (page_at r groups n g) → new ≡ grids ++ grid ∷ [] → m ≡ n + 1 → GridsSoFar r groups n grids
-    → GridsSoFar r groups m new
-grid_more r groups n m g grid grids new here level whole pushed next before =
-    let within : n < length groups = slice_get_within groups n g here in
-    let levels : List LevelInner = levels_of groups in
-    let page : GroupPage = page_at r groups n g in
-    let level_is : get_or levels n grid.level ≡ grid.level = get_or-map (λ (h : Group). h.level) groups n g grid.level within
-    ∙ ap (λ (h : Group). h.level) (get_or_from_slice_get groups n g g here) ∙ sym level in
-    let levels_taken : take m levels ≡ take n levels ++ grid.level ∷ [] = ap (λ k. take k levels) next
-    ∙ take_more levels n grid.level (omega (arith, within, length-map groups (λ (h : Group). h.level))) ∙ ap (λ l. take n levels ++ l ∷ []) level_is in
-    let form : List GroupPage = graphic_form r groups in
-    let pages_taken : take m form ≡ take n form ++ page ∷ [] = ap (λ k. take k form) next
-    ∙ take_more form n page (omega (arith, within, page_count r groups)) ∙ ap (λ p. take n form ++ p ∷ []) (page_of r groups n g page here) in
-    record {
-      count = ap length pushed ∙ omega (arith, length-append grids (grid ∷ []), before.count, next);
-      levels = ap (map (λ (d : GroupGrid). d.level)) pushed ∙ map-append (λ (d : GroupGrid). d.level) grids (grid ∷ [])
-          ∙ ap (λ ls. ls ++ grid.level ∷ []) before.levels ∙ sym levels_taken;
-      rows = ap (map (λ (d : GroupGrid). d.buffer)) pushed ∙ map-append (λ (d : GroupGrid). d.buffer) grids (grid ∷ [])
-          ∙ ap (λ rs. rs ++ grid.buffer ∷ []) before.rows ∙ ap (λ rows. map group_rows (take n form) ++ rows ∷ []) whole
-          ∙ sym (map-append group_rows (take n form) (page ∷ [])) ∙ ap (map group_rows) (sym pages_taken);
-    }
-
--- that of an iteration
-pub turn_grid : (r : Renderer) (groups : List Group) (ps : List PreparedGroup) (n m i : ℕ) (p : PreparedGroup) (grid : GroupGrid)
-    (grids new : List GroupGrid) → map group_of ps ≡ groups → (n < length (enumerate_from 0 ps)) × ((i, p) ≡ get_or (enumerate_from 0 ps) n (i, p))
-    → grid.level ≡ p.group.now.level → grid.buffer ≡ group_rows (page_at r groups i p.group.now) → new ≡ grids ++ grid ∷ [] → m ≡ n + 1
-    → GridsSoFar r groups n grids → GridsSoFar r groups m new
-turn_grid r groups ps n m i p grid grids new same turn level drawn pushed next before =
-    let at : i ≡ n = (turn_item ps n i p turn).0 in
-    grid_more r groups n m p.group.now grid grids new
-    (subst (λ k. slice_get groups k ≡ Some p.group.now) at (turn_group groups ps n i p same turn)) level
-    (drawn ∙ ap (λ k. group_rows (page_at r groups k p.group.now)) at) pushed next before
-
 -- after the last turn as many groups were drawn as the report has
 pub turns_all : (groups : List Group) (ps : List PreparedGroup) (n : ℕ) → map group_of ps ≡ groups → n ≡ length (enumerate_from 0 ps) → n ≡ length groups
 turns_all groups ps n same all = omega (arith, all, length-enumerate_from 0 ps, length-map ps group_of, ap length same)
+
+-- ---- what a sink takes up
+
+-- a sink takes up a group where it stands in the report
+pub taken_here : (r : Renderer) (groups : List Group) (ps : List PreparedGroup) (n i : ℕ) (p : PreparedGroup) (layout : Layout) (place : GroupPosition)
+    (file : Option (List ℕ)) → map group_of ps ≡ groups → (n < length (enumerate_from 0 ps)) × ((i, p) ≡ get_or (enumerate_from 0 ps) n (i, p))
+    → layout ≡ layout_of_group r groups p.group.now → place ≡ position_of_group (length groups) i → file ≡ file_of_group groups p.group.now
+    → (T : Bool → GroupPage → Type 0) → T (is_first_group place) (group_page r layout place file p.group.now)
+    → T (n == 0) (page_at r groups n p.group.now)
+taken_here r groups ps n i p layout place file same turn layout_here place_here file_here T taken =
+    let at : i ≡ n = (turn_item ps n i p turn).0 in
+    let here : group_page r layout place file p.group.now ≡ page_at r groups n p.group.now =
+    page_here r groups i p.group.now layout place file layout_here place_here file_here ∙ ap (λ k. page_at r groups k p.group.now) at in
+    let first : is_first_group place ≡ (n == 0) = ap is_first_group place_here ∙ ap (λ k. is_first_group (position_of_group (length groups) k)) at
+    ∙ first_at (length groups) n (turn_within groups ps n i p same turn) in
+    subst (λ page. T (n == 0) page) here (subst (λ b. T b (group_page r layout place file p.group.now)) first taken)
+  where
+    first_of : (b c : Bool) → (b ≡ true → c ≡ true) → is_first_group (if b then Only else (if c then First else Later)) ≡ c
+    first_of true c alone = sym (alone refl)
+    first_of false true alone = refl
+    first_of false false alone = refl
+
+    zero_below : (count n : ℕ) → n < count → (count == 1) ≡ true → (n == 0) ≡ true
+    zero_below count n within one = grind (arith, nat_tests)
+
+    first_at : (count n : ℕ) → n < count → is_first_group (position_of_group count n) ≡ (n == 0)
+    first_at count n within = first_of (count == 1) (n == 0) (zero_below count n within)
+
+-- the page up to a group, that group, and those after it
+pub record StandsAt (r : Renderer) (groups : List Group) (n : ℕ) (page : GroupPage) : Type 0 where
+  pub count : length (take n (graphic_form r groups)) ≡ n
+  pub next : take (n + 1) (graphic_form r groups) ≡ take n (graphic_form r groups) ++ page ∷ []
+  pub whole : graphic_form r groups ≡ take n (graphic_form r groups) ++ page ∷ drop (n + 1) (graphic_form r groups)
+
+pub stands_at : (r : Renderer) (groups : List Group) (ps : List PreparedGroup) (n i : ℕ) (p : PreparedGroup) → map group_of ps ≡ groups
+    → (n < length (enumerate_from 0 ps)) × ((i, p) ≡ get_or (enumerate_from 0 ps) n (i, p)) → StandsAt r groups n (page_at r groups n p.group.now)
+stands_at r groups ps n i p same turn =
+    let at : i ≡ n = (turn_item ps n i p turn).0 in
+    let g : Group = p.group.now in
+    let here : slice_get groups n ≡ Some g = subst (λ k. slice_get groups k ≡ Some g) at (turn_group groups ps n i p same turn) in
+    let within : n < length groups = turn_within groups ps n i p same turn in
+    let page : GroupPage = page_at r groups n g in
+    let form : List GroupPage = graphic_form r groups in
+    let next : take (n + 1) form ≡ take n form ++ page ∷ [] = take_more form n page (omega (arith, within, page_count r groups))
+    ∙ ap (λ d. take n form ++ d ∷ []) (page_of r groups n g page here) in
+    record {
+      count = omega (arith, length-take n form, within, page_count r groups);
+      next = next;
+      whole = sym (take-append-drop (n + 1) form) ∙ ap (λ gs. gs ++ drop (n + 1) form) next ∙ append_assoc (take n form) (page ∷ []) (drop (n + 1) form);
+    }

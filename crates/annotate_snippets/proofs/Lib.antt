@@ -83,6 +83,7 @@ pub mod RoomLemmas
 pub mod SheetPages
 pub mod ShortLemmas
 pub mod ShortShown
+pub mod SinkLemmas
 pub mod SmallReports
 pub mod SourceFeedLaws
 pub mod SpanBarRows

@@ -11,7 +11,7 @@ use Rattle.snippet_model.specs.declared.snippet.Group.{Group}
 use Rattle.snippet_text.specs.Normalized.{norm}
 use Rattle.snippet_titles.specs.HeadingRows.{heading_rows, label_cells}
 use Rattle.annotate_snippets.specs.AsSet.{shows_as_given}
-use Rattle.annotate_snippets.specs.Html.{IsReportHtml, levels_of, page_chars, report_html}
+use Rattle.annotate_snippets.specs.Html.{IsReportHtml, page_chars, report_html}
 use Rattle.annotate_snippets.specs.GraphicForm.{graphic_form}
 use Rattle.annotate_snippets.specs.Settings.{plain_settings}
 use Rattle.annotate_snippets.specs.declared.renderer.Renderer.{Renderer}
@@ -40,14 +40,14 @@ less_unescaped v wrong =
     false≢true (sym (ap (λ (text : List ℕ). nat_eq (length text) 39) (unset-html plain_settings (less_alone v) _ refl wrong ∙ html_is v)))
 
 -- what its one character stands in: the class of its role
-stands_is : (v : Vec Element Global) → map as_read (page_chars (levels_of (less_alone v)) (graphic_form plain_settings (less_alone v)))
+stands_is : (v : Vec Element Global) → map as_read (page_chars (graphic_form plain_settings (less_alone v)))
     ≡ (let read : CharInTags = record { ch = 60; tags = record { class = codes "snippet-emphasis"; address = [] } } in read) ∷ []
 unfolding chars norm heading_rows label_cells
 stands_is v = refl
 
 -- the character in no class
 class_left_out : (v : Vec Element Global)
-    → html_reads (codes "&lt;") ≡ map as_read (page_chars (levels_of (less_alone v)) (graphic_form plain_settings (less_alone v))) → ⊥
+    → html_reads (codes "&lt;") ≡ map as_read (page_chars (graphic_form plain_settings (less_alone v))) → ⊥
 class_left_out v wrong =
     false≢true (sym (ap (list_all (λ (read : CharInTags). nat_eq (length read.tags.class) 0)) (wrong ∙ stands_is v)))
 

@@ -21,10 +21,8 @@ use Rattle.annotate_snippets.specs.GraphicForm.{graphic_form}
 use Rattle.annotate_snippets.specs.Page.{GroupPage, PrintsPage, group_rows, page_text}
 use Rattle.annotate_snippets.proofs.PageWords.{Page}
 use Rattle.annotate_snippets.specs.Settings.{plain_settings}
-use Rattle.annotate_snippets.specs.Html.{levels_of}
 use Rattle.annotate_snippets.specs.declared.renderer.Renderer.{Renderer}
 use Rattle.annotate_snippets.proofs.AsSetLemmas.{unset-shows}
-use Rattle.annotate_snippets.proofs.GridRows.{in_levels}
 use Rattle.annotate_snippets.proofs.ReportLemmas.{plain_printed}
 use Rattle.annotate_snippets.proofs.SmallReports.{nameless, title_alone}
 use Rattle.annotate_snippets.proofs.WovenLemmas.{page_links}
@@ -44,8 +42,8 @@ empty_text : (v : Vec Element Global) → ShowsReport plain_settings (title_alon
 unfolding lib.Utf8.encode
 empty_text v shown =
     let page : Page = graphic_form plain_settings (title_alone v) in
-    let right : [] ≡ encode_utf8_all (codes "error: e") = plain_printed plain_sheet (levels_of (title_alone v)) page [] (no_links_are v) refl
-    (in_levels plain_settings (title_alone v) plain_sheet [] (unset-shows _ _ _ _ shown refl).printed.0)
+    let right : [] ≡ encode_utf8_all (codes "error: e") = plain_printed plain_sheet page [] (no_links_are v) refl
+    (unset-shows _ _ _ _ shown refl).printed.0
     ∙ ap encode_utf8_all (plain_text_is v) in
     cc
 

@@ -1,7 +1,7 @@
 -- Words of proofs for parts of a report's page.
-use Rattle.std.proofs.Common.{◌≡◌, ℕ, ◌-◌, true, not, List, [], ◌∷◌, length, map, max, fold, if◌then◌else◌, Bool, subst, sym, ◌+◌, ◌&&◌, Some}
+use Rattle.std.proofs.Common.{ℕ, ◌-◌, true, not, List, [], length, max, fold, if◌then◌else◌, Bool, ◌+◌, ◌&&◌, Some}
 use Rattle.std.specs.Fmt.{decimal}
-use Rattle.std.specs.List.{AllZip, join_with_byte, slice_get}
+use Rattle.std.specs.List.{slice_get}
 use Rattle.std.specs.Cow.{cow_str_bytes}
 use Rattle.std.specs.Option.{option_map}
 use Rattle.snippet_grid.specs.Layout.{Layout}
@@ -21,7 +21,6 @@ use Rattle.snippet_parts.specs.Numbered.{numbered_source}
 use Rattle.snippet_splice.specs.ShownText.{first_start}
 use Rattle.snippet_style.specs.Cell.{Cell}
 use Rattle.snippet_style.specs.Separators.{separator_row}
-use Rattle.snippet_style.specs.declared.role.LevelInner.{LevelInner}
 use Rattle.snippet_style.specs.declared.stylesheet.Stylesheet.{Stylesheet}
 use Rattle.snippet_suggest.specs.declared.SuggestionStart.{SuggestionStart}
 use Rattle.snippet_suggest.specs.declared.SuggestionStart.TheVariants as start
@@ -37,7 +36,7 @@ use Rattle.annotate_snippets.specs.ElementContext.{file_of_group, is_end, positi
 use Rattle.annotate_snippets.specs.DrawnReport.{last_row}
 use Rattle.annotate_snippets.specs.GraphicForm.{element_rows, group_page}
 use Rattle.annotate_snippets.specs.Gutter.{depth_of_element, layout_of_group}
-use Rattle.annotate_snippets.specs.Page.{GroupPage, NamedRow, PrintsPage, group_rows}
+use Rattle.annotate_snippets.specs.Page.{GroupPage, NamedRow, group_rows}
 use Rattle.annotate_snippets.specs.RowsWithoutSource.{path_row}
 use Rattle.annotate_snippets.specs.declared.renderer.Renderer.{Renderer}
 use Rattle.annotate_snippets.specs.declared.renderer.element_context.ElementContext.{ElementContext}
@@ -104,42 +103,6 @@ page_at r groups i g =
 abbrev pub Page : Type 0
 Page = List GroupPage
 
--- each part prints the rows of one group under a sheet, in a level that is given beside it
-abbrev pub ArePrinted : Stylesheet → List LevelInner → Page → List (List ℕ) → Type 0
-ArePrinted sheet [] [] [] = Unit {0}
-ArePrinted sheet (level ∷ levels) (g ∷ gs) (part ∷ parts) =
-    Prints sheet level (group_rows g) part × ArePrinted sheet levels gs parts
-ArePrinted sheet levels gs parts = ⊥
-
--- the text prints a page under a sheet, in groups of these levels
-pub record PrintsIn (sheet : Stylesheet) (levels : List LevelInner) (page : Page) (text : List ℕ) : Type 0 where
-  pub parts : List (List ℕ)
-  pub printed : ArePrinted sheet levels page parts
-  pub joined : text ≡ join_with_byte 10 parts
-
-parts_in_levels : (sheet : Stylesheet) (page : Page) (parts : List (List ℕ))
-    → AllZip (λ (g : GroupPage) part. Prints sheet g.level (group_rows g) part) page parts → ArePrinted sheet (map (λ (g : GroupPage). g.level) page) page parts
-parts_in_levels sheet [] [] printed = tt
-parts_in_levels sheet [] (part ∷ parts) printed = absurd printed
-parts_in_levels sheet (g ∷ gs) [] printed = absurd printed
-parts_in_levels sheet (g ∷ gs) (part ∷ parts) (printed, below) = (printed, parts_in_levels sheet gs parts below)
-
-parts_of_levels : (sheet : Stylesheet) (page : Page) (parts : List (List ℕ)) → ArePrinted sheet (map (λ (g : GroupPage). g.level) page) page parts
-    → AllZip (λ (g : GroupPage) part. Prints sheet g.level (group_rows g) part) page parts
-parts_of_levels sheet [] [] printed = tt
-parts_of_levels sheet [] (part ∷ parts) printed = absurd printed
-parts_of_levels sheet (g ∷ gs) [] printed = absurd printed
-parts_of_levels sheet (g ∷ gs) (part ∷ parts) (printed, below) = (printed, parts_of_levels sheet gs parts below)
-
--- a page is printed in the levels of its groups, and so in levels that are these
-pub PrintsIn-from_page : (sheet : Stylesheet) (levels : List LevelInner) (page : Page) (text : List ℕ) → levels ≡ map (λ (g : GroupPage). g.level) page
-    → PrintsPage sheet page text → PrintsIn sheet levels page text
-PrintsIn-from_page sheet levels page text are given =
-    subst (λ ls. PrintsIn sheet ls page text) (sym are)
-    record { parts = given.parts; printed = parts_in_levels sheet page given.parts given.printed; joined = given.joined }
-
-pub PrintsPage-from_levels : (sheet : Stylesheet) (levels : List LevelInner) (page : Page) (text : List ℕ) → levels ≡ map (λ (g : GroupPage). g.level) page
-    → PrintsIn sheet levels page text → PrintsPage sheet page text
-PrintsPage-from_levels sheet levels page text are given =
-    let own : PrintsIn sheet (map (λ (g : GroupPage). g.level) page) page text = subst (λ ls. PrintsIn sheet ls page text) are given in
-    record { parts = own.parts; printed = parts_of_levels sheet page own.parts own.printed; joined = own.joined }
+-- a part prints the rows of a group in its level under a sheet
+abbrev pub PrintsPart : Stylesheet → GroupPage → List ℕ → Type 0
+PrintsPart sheet g part = Prints sheet g.level (group_rows g) part

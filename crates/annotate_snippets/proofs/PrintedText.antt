@@ -1,6 +1,6 @@
 -- Whatever rows there are, a text prints them.
-use Rattle.std.proofs.Common.{◌≡◌, ◌≢◌, ◌⊎◌, ℕ, List, [], ◌∷◌, ◌++◌, Option, None, Some, refl, sym, ap, ◌∙◌, inl, inr, subst, nat_eq, length, arith}
-use Rattle.std.specs.List.{flat_map}
+use Rattle.std.proofs.Common.{◌≡◌, ◌≢◌, ◌⊎◌, ℕ, List, [], ◌∷◌, ◌++◌, Option, None, Some, refl, sym, ap, ◌∙◌, inl, inr, subst, nat_eq}
+use Rattle.std.specs.List.{AllZip, flat_map}
 use Rattle.std.proofs.lemmas.Bool.{cases_Bool, false≢true}
 use Rattle.std.proofs.lemmas.Cmp.{nat_list_eq_equiv}
 use Rattle.std.specs.Cmp.Lexicographic.{same_text}
@@ -15,7 +15,7 @@ use Rattle.snippet_grid.specs.Woven.{Char, LinkEnd, LinkTo, Opening, Piece, Prin
 use Rattle.snippet_grid.proofs.PrintsPieces.{Prints-from_pieces}
 use Rattle.snippet_grid.proofs.WeaveLemmas.{Url, none≢some, some_same}
 use Rattle.annotate_snippets.specs.Page.{group_rows}
-use Rattle.annotate_snippets.proofs.PageWords.{ArePrinted, Page}
+use Rattle.annotate_snippets.proofs.PageWords.{Page, PrintsPart}
 
 -- two links are the same or not
 cases_link : (a b : Option Url) → (a ≡ b) ⊎ (a ≢ b)
@@ -105,12 +105,9 @@ module _ (sheet : Stylesheet) (level : LevelInner) where
       (text, Prints-from_pieces sheet level rows text (record { pieces = pieces.0; text_is = refl; prints = pieces.1 }))
 
 -- texts that print the groups of a page
-pub texts_of_page : (sheet : Stylesheet) (levels : List LevelInner) (page : Page) → length levels ≡ length page
-    → (parts : List (List ℕ)) × ArePrinted sheet levels page parts
-texts_of_page sheet [] [] same = ([], tt)
-texts_of_page sheet [] (g ∷ page) same = absurd (omega (arith, same))
-texts_of_page sheet (level ∷ levels) [] same = absurd (omega (arith, same))
-texts_of_page sheet (level ∷ levels) (g ∷ page) same =
-    let part = text_of_rows sheet level (group_rows g) in
-    let further = texts_of_page sheet levels page (omega (arith, same)) in
+pub texts_of_page : (sheet : Stylesheet) (page : Page) → (parts : List (List ℕ)) × AllZip (PrintsPart sheet) page parts
+texts_of_page sheet [] = ([], tt)
+texts_of_page sheet (g ∷ page) =
+    let part = text_of_rows sheet g.level (group_rows g) in
+    let further = texts_of_page sheet page in
     (part.0 ∷ further.0, (part.1, further.1))

@@ -1,18 +1,16 @@
--- The page that the graphic form has for a report has its laws; and what prints the grids of the report's groups prints it.
+-- The page that the graphic form has for a report has its laws.
 use Rattle.std.proofs.Common.{◌≡◌, ℕ, zero, suc, ◌+◌, ◌<◌, get_or, arith, true, List, [], ◌∷◌, ◌++◌, All, Option, Some, None, Result, Ok, Err, map}
-use Rattle.std.proofs.Common.{length, take}
+use Rattle.std.proofs.Common.{length}
 use Rattle.std.proofs.Common.{chars, refl, sym, ap, subst, ◌∙◌, encode_utf8_all}
-use Rattle.std.specs.List.{AllZip, Contains, enumerate_from, flat_map, slice_get}
+use Rattle.std.specs.List.{Contains, enumerate_from, flat_map, slice_get}
 use Rattle.std.specs.Option.{option_or}
 use Rattle.std.specs.Result.{IfOk, MatchResult, IsErrAnd}
 use Rattle.std.proofs.Math.Nat.{zero-add}
-use Rattle.std.proofs.lemmas.List.{length-map, take_all}
 use Rattle.std.proofs.lemmas.List.Elements.{All-nil, All-cons, All-append, All-get_or, All-head, All-tail}
 use Rattle.std.proofs.lemmas.Option.{get_or_from_slice_get, slice_get_within}
 use Rattle.snippet_grid.specs.Print.{plain_text}
 use Rattle.snippet_style.specs.Stylesheet.{is_plain_sheet}
-use Rattle.snippet_grid.specs.Woven.{IsWoven, Prints}
-use Rattle.snippet_style.specs.declared.role.LevelInner.{LevelInner}
+use Rattle.snippet_grid.specs.Woven.{IsWoven}
 use Rattle.snippet_style.specs.declared.stylesheet.Stylesheet.{Stylesheet}
 use Rattle.snippet_grid.proofs.WeaveLemmas.{some_same}
 use Rattle.snippet_grid.proofs.WovenLemmas.{plain_woven}
@@ -20,26 +18,22 @@ use Rattle.snippet_text.specs.Normalized.{is_listed}
 use Rattle.snippet_model.specs.Trusted.{trusted_texts}
 use Rattle.snippet_model.specs.declared.snippet.Group.{Group}
 use Rattle.annotate_snippets.specs.declared.renderer.Renderer.{Renderer}
-use Rattle.annotate_snippets.specs.declared.renderer.graphic.GroupGrid.{GroupGrid}
 use Rattle.annotate_snippets.specs.ElementContext.{drawn_elements, file_of_group, next_of, position_of_group}
 use Rattle.annotate_snippets.specs.Fault.{IsWithinBounds, first_fault, form_of, missing_title}
 use Rattle.annotate_snippets.specs.GraphicForm.{graphic_form}
-use Rattle.annotate_snippets.proofs.PageWords.{ArePrinted, Page, PrintsIn, page_at}
+use Rattle.annotate_snippets.proofs.PageWords.{Page, page_at}
 use Rattle.annotate_snippets.specs.Gutter.{layout_of_group}
-use Rattle.annotate_snippets.specs.Page.{GroupPage, PrintsGrids, group_rows, page_text}
+use Rattle.annotate_snippets.specs.Page.{GroupPage, PrintsPage, group_rows, page_text}
 use Rattle.annotate_snippets.specs.Laws.Page.{PageLaws}
 use Rattle.annotate_snippets.specs.PreparedReport.{IsGroupDrawable}
 use Rattle.annotate_snippets.specs.Laws.Groups.{AreGroupsShown, ShowsGroup}
 use Rattle.annotate_snippets.specs.Laws.Free.{IsFreeBut}
-use Rattle.annotate_snippets.specs.Html.{levels_of}
 use Rattle.annotate_snippets.specs.declared.renderer.error.RenderError.{RenderError}
 use Rattle.annotate_snippets.proofs.OneLineTexts.{HasOneLineRows, IsOneLineGroup, one_line_groups}
 use Rattle.annotate_snippets.proofs.AreTexts.{AreTexts, IsTextGroup}
 use Rattle.annotate_snippets.proofs.FaultLemmas.{groups-drawable}
-use Rattle.annotate_snippets.proofs.GridRows.{GridsSoFar, page_count}
 use Rattle.annotate_snippets.proofs.GroupLemmas.{group_shown}
 use Rattle.annotate_snippets.proofs.GroupShown.{GroupShown}
-use Rattle.annotate_snippets.proofs.LabelLemmas.{head_same, tail_same}
 use Rattle.annotate_snippets.proofs.NumberLaws.{group_numbered}
 use Rattle.annotate_snippets.proofs.ReportTexts.{free_first, free_rest, links_of_titles, title_links}
 use Rattle.annotate_snippets.proofs.RoomLemmas.{room_in_report}
@@ -170,60 +164,17 @@ within_laws r groups within texts =
     unrefused None fault none = none
     unrefused (Some e) fault none = cc
 
--- ---- what prints the grids of groups prints their pages
-
--- grids of these levels and rows
-printed_grids : (sheet : Stylesheet) (grids : List GroupGrid) (levels : List LevelInner) (page : Page) (parts : List (List ℕ))
-    → map (λ (grid : GroupGrid). grid.level) grids ≡ levels → map (λ (grid : GroupGrid). grid.buffer) grids ≡ map group_rows page
-    → AllZip (λ (grid : GroupGrid) part. Prints sheet grid.level grid.buffer part) grids parts → ArePrinted sheet levels page parts
-printed_grids sheet [] [] [] [] leveled rows prints = tt
-printed_grids sheet [] [] [] (part ∷ parts) leveled rows prints = absurd prints
-printed_grids sheet [] [] (g ∷ page) parts leveled rows prints = cc
-printed_grids sheet [] (level ∷ levels) page parts leveled rows prints = cc
-printed_grids sheet (grid ∷ grids) [] page parts leveled rows prints = cc
-printed_grids sheet (grid ∷ grids) (level ∷ levels) [] parts leveled rows prints = cc
-printed_grids sheet (grid ∷ grids) (level ∷ levels) (g ∷ page) [] leveled rows prints = absurd prints
-printed_grids sheet (grid ∷ grids) (level ∷ levels) (g ∷ page) (part ∷ parts) leveled rows prints =
-    let same_level : grid.level ≡ level = head_same grid.level level (map (λ (d : GroupGrid). d.level) grids) levels leveled in
-    let same_rows : grid.buffer ≡ group_rows g = head_same grid.buffer (group_rows g) (map (λ (d : GroupGrid). d.buffer) grids) (map group_rows page) rows in (
-      subst (λ l. Prints sheet l (group_rows g) part) same_level (subst (λ rs. Prints sheet grid.level rs part) same_rows prints.0),
-      printed_grids sheet grids levels page parts (tail_same grid.level level (map (λ (d : GroupGrid). d.level) grids) levels leveled)
-          (tail_same grid.buffer (group_rows g) (map (λ (d : GroupGrid). d.buffer) grids) (map group_rows page) rows) prints.1,
-    )
-
--- a text that prints the grids of the first so many groups prints as much of the page
-pub page_so_far : (r : Renderer) (groups : List Group) (n : ℕ) (grids : List GroupGrid) → GridsSoFar r groups n grids
-    → (sheet : Stylesheet) (text : List ℕ) → PrintsGrids sheet grids text
-    → PrintsIn sheet (take n (levels_of groups)) (take n (graphic_form r groups)) text
-page_so_far r groups n grids so_far sheet text prints =
-    record {
-      parts = prints.parts;
-      printed = printed_grids sheet grids (take n (levels_of groups)) (take n (graphic_form r groups)) prints.parts so_far.levels so_far.rows prints.printed;
-      joined = prints.joined;
-    }
-
--- and one that prints all of them prints the page
-pub page_whole : (r : Renderer) (groups : List Group) (n : ℕ) (grids : List GroupGrid) → n ≡ length groups → GridsSoFar r groups n grids
-    → (sheet : Stylesheet) (text : List ℕ) → PrintsGrids sheet grids text → PrintsIn sheet (levels_of groups) (graphic_form r groups) text
-page_whole r groups n grids all so_far sheet text prints =
-    subst (λ ls. PrintsIn sheet ls (graphic_form r groups) text) (take_all n (levels_of groups) (omega (
-      arith,
-      all,
-      length-map groups (λ (g : Group). g.level),
-    ))) (subst (λ (page : Page). PrintsIn sheet (take n (levels_of groups)) page text)
-    (take_all n (graphic_form r groups) (omega (arith, all, page_count r groups))) (page_so_far r groups n grids so_far sheet text prints))
-
 -- a text that prints a page is woven of its characters, with what it links to
-pub page_woven : (sheet : Stylesheet) (levels : List LevelInner) (page : Page) (links : List (List ℕ)) (text : List ℕ) → page_links page ≡ links
-    → PrintsIn sheet levels page text → IsWoven sheet text (page_text page) links
-page_woven sheet levels page links text linked prints =
-    subst (IsWoven sheet text (page_text page)) linked (IsWoven-from_page sheet levels page text prints)
+pub page_woven : (sheet : Stylesheet) (page : Page) (links : List (List ℕ)) (text : List ℕ) → page_links page ≡ links
+    → PrintsPage sheet page text → IsWoven sheet text (page_text page) links
+page_woven sheet page links text linked prints =
+    subst (IsWoven sheet text (page_text page)) linked (IsWoven-from_page sheet page text prints)
 
 -- so under a plain sheet, where nothing links, it is these characters and nothing else
-pub plain_printed : (sheet : Stylesheet) (levels : List LevelInner) (page : Page) (text : List ℕ) → page_links page ≡ []
-    → is_plain_sheet sheet ≡ true → PrintsIn sheet levels page text → text ≡ encode_utf8_all (page_text page)
-plain_printed sheet levels page text none plain prints =
-    plain_woven sheet text (page_text page) [] plain refl (page_woven sheet levels page [] text none prints)
+pub plain_printed : (sheet : Stylesheet) (page : Page) (text : List ℕ) → page_links page ≡ []
+    → is_plain_sheet sheet ≡ true → PrintsPage sheet page text → text ≡ encode_utf8_all (page_text page)
+plain_printed sheet page text none plain prints =
+    plain_woven sheet text (page_text page) [] plain refl (page_woven sheet page [] text none prints)
 
 -- what holds of an answer holds of it where another error stands for the first
 pub IfOk-map_err : {T E D : Type 0} (P : T → Type 0) (R : E → D → Type 0) (r : Result T E) (q : Result T D) → IfOk r P

@@ -1,17 +1,16 @@
 -- Woven texts that are joined by line feeds are woven.
 use Rattle.std.proofs.Common.{◌≡◌, ℕ, false, List, [], ◌∷◌, ◌++◌, lit<, refl, sym, ap, ◌∙◌, subst}
-use Rattle.std.specs.List.{flat_map, join_with_byte}
+use Rattle.std.specs.List.{AllZip, flat_map, join_with_byte}
 use Rattle.std.proofs.lemmas.List.{append-nil}
 use Rattle.std.proofs.lemmas.List.Elements.{All-nil, All-append, All-cons}
 use Rattle.std.proofs.lemmas.Grind.{flat_map-append}
 use Rattle.std.proofs.lemmas.Str.{encode_ascii}
 use Rattle.snippet_grid.specs.Print.{plain_text}
 use Rattle.snippet_grid.specs.Woven.{Piece, Char, piece_text, plain_piece, piece_link, IsOfSheet, IsWoven, links_of}
-use Rattle.snippet_style.specs.declared.role.LevelInner.{LevelInner}
 use Rattle.snippet_style.specs.declared.stylesheet.Stylesheet.{Stylesheet}
 use Rattle.snippet_grid.proofs.WovenLemmas.{IsWoven-from_prints}
-use Rattle.annotate_snippets.specs.Page.{group_rows, page_text}
-use Rattle.annotate_snippets.proofs.PageWords.{PrintsIn, ArePrinted, Page}
+use Rattle.annotate_snippets.specs.Page.{PrintsPage, group_rows, page_text}
+use Rattle.annotate_snippets.proofs.PageWords.{Page, PrintsPart}
 use Rattle.snippet_grid.proofs.WovenLemmas.{ended-append}
 
 -- no text is woven
@@ -44,27 +43,23 @@ abbrev pub page_links : Page → List (List ℕ)
 page_links page = flat_map (λ g. links_of (group_rows g)) page
 
 -- so texts that print the groups of a page, joined, are woven of the page's characters, with the page's links
-IsWoven-from_groups : (sheet : Stylesheet) (levels : List LevelInner) (page : Page) (parts : List (List ℕ)) → ArePrinted sheet levels page parts
+IsWoven-from_groups : (sheet : Stylesheet) (page : Page) (parts : List (List ℕ)) → AllZip (PrintsPart sheet) page parts
     → IsWoven sheet (join_with_byte 10 parts) (page_text page) (page_links page)
-IsWoven-from_groups sheet [] [] [] printed = IsWoven-nil sheet
-IsWoven-from_groups sheet [] [] (part ∷ parts) printed = absurd printed
-IsWoven-from_groups sheet [] (g ∷ gs) parts printed = absurd printed
-IsWoven-from_groups sheet (level ∷ levels) [] parts printed = absurd printed
-IsWoven-from_groups sheet (level ∷ levels) (g ∷ gs) [] printed = absurd printed
-IsWoven-from_groups sheet (level ∷ []) (g ∷ []) (part ∷ []) printed =
+IsWoven-from_groups sheet [] [] printed = IsWoven-nil sheet
+IsWoven-from_groups sheet [] (part ∷ parts) printed = absurd printed
+IsWoven-from_groups sheet (g ∷ gs) [] printed = absurd printed
+IsWoven-from_groups sheet (g ∷ []) (part ∷ []) printed =
     subst (IsWoven sheet part (plain_text (group_rows g))) (sym (append-nil (links_of (group_rows g))))
-    (IsWoven-from_prints sheet level (group_rows g) part printed.0)
-IsWoven-from_groups sheet (level ∷ []) (g ∷ []) (part ∷ next ∷ parts) printed = absurd printed.1
-IsWoven-from_groups sheet (level ∷ []) (g ∷ other ∷ gs) (part ∷ parts) printed = absurd printed.1
-IsWoven-from_groups sheet (level ∷ more ∷ levels) (g ∷ []) (part ∷ parts) printed = absurd printed.1
-IsWoven-from_groups sheet (level ∷ more ∷ levels) (g ∷ other ∷ gs) (part ∷ []) printed = absurd printed.1
-IsWoven-from_groups sheet (level ∷ more ∷ levels) (g ∷ other ∷ gs) (part ∷ next ∷ parts) printed =
+    (IsWoven-from_prints sheet g.level (group_rows g) part printed.0)
+IsWoven-from_groups sheet (g ∷ []) (part ∷ next ∷ parts) printed = absurd printed.1
+IsWoven-from_groups sheet (g ∷ other ∷ gs) (part ∷ []) printed = absurd printed.1
+IsWoven-from_groups sheet (g ∷ other ∷ gs) (part ∷ next ∷ parts) printed =
     IsWoven-joined sheet part (plain_text (group_rows g)) (links_of (group_rows g)) (join_with_byte 10 (next ∷ parts)) (page_text (other ∷ gs))
-    (page_links (other ∷ gs)) (IsWoven-from_prints sheet level (group_rows g) part printed.0)
-    (IsWoven-from_groups sheet (more ∷ levels) (other ∷ gs) (next ∷ parts) printed.1)
+    (page_links (other ∷ gs)) (IsWoven-from_prints sheet g.level (group_rows g) part printed.0)
+    (IsWoven-from_groups sheet (other ∷ gs) (next ∷ parts) printed.1)
 
 -- what prints a page is woven of its text with its links
-pub IsWoven-from_page : (sheet : Stylesheet) (levels : List LevelInner) (page : Page) (text : List ℕ) → PrintsIn sheet levels page text
+pub IsWoven-from_page : (sheet : Stylesheet) (page : Page) (text : List ℕ) → PrintsPage sheet page text
     → IsWoven sheet text (page_text page) (page_links page)
-IsWoven-from_page sheet levels page text prints =
-    subst (λ t. IsWoven sheet t (page_text page) (page_links page)) (sym prints.joined) (IsWoven-from_groups sheet levels page prints.parts prints.printed)
+IsWoven-from_page sheet page text prints =
+    subst (λ t. IsWoven sheet t (page_text page) (page_links page)) (sym prints.joined) (IsWoven-from_groups sheet page prints.parts prints.printed)

@@ -4,44 +4,32 @@ use Rattle.std.specs.List.{flat_map}
 use Rattle.snippet_grid.specs.Html.{AddsHtml, HtmlPiece, Text, html_bytes, rows_html}
 use Rattle.snippet_grid.specs.HtmlRead.{ReadChar, as_read, chars_of_rows, feed_read, html_reads, html_says, piece_tag, tags_of}
 use Rattle.snippet_model.specs.declared.snippet.Group.{Group}
-use Rattle.snippet_style.specs.declared.role.LevelInner.{LevelInner}
 use Rattle.annotate_snippets.specs.AsSet.{IsAsSet}
 use Rattle.annotate_snippets.specs.GraphicForm.{graphic_form}
 use Rattle.annotate_snippets.specs.Page.{GroupPage, group_rows, page_text}
 use Rattle.annotate_snippets.specs.declared.renderer.Renderer.{Renderer}
 use Rattle.annotate_snippets.specs.declared.renderer.form.Form.TheVariants.{Graphic}
-use Rattle.annotate_snippets.specs.declared.renderer.graphic.GroupGrid.{GroupGrid}
 
 -- the groups of a page, each in its level and after a line feed
-abbrev pub further_groups : List LevelInner → List GroupPage → List HtmlPiece
-further_groups [] page = []
-further_groups (level ∷ levels) [] = []
-further_groups (level ∷ levels) (g ∷ gs) = (Text 10 ∷ rows_html level (group_rows g)) ++ further_groups levels gs
+abbrev pub further_groups : List GroupPage → List HtmlPiece
+further_groups page = flat_map (λ g. Text 10 ∷ rows_html g.level (group_rows g)) page
 
--- a page, whose groups have these levels: its groups, joined by line feeds
-abbrev pub page_html : List LevelInner → List GroupPage → List HtmlPiece
-page_html [] page = []
-page_html (level ∷ levels) [] = []
-page_html (level ∷ levels) (g ∷ gs) = rows_html level (group_rows g) ++ further_groups levels gs
-
--- the levels of a report's groups, in which they are printed
-abbrev pub levels_of : List Group → List LevelInner
-levels_of groups = map (λ g. g.level) groups
+-- a page: its groups, joined by line feeds
+abbrev pub page_html : List GroupPage → List HtmlPiece
+page_html [] = []
+page_html (g ∷ gs) = rows_html g.level (group_rows g) ++ further_groups gs
 
 -- a report
 abbrev pub report_html : Renderer → List Group → List HtmlPiece
-report_html r groups = page_html (levels_of groups) (graphic_form r groups)
+report_html r groups = page_html (graphic_form r groups)
 
 -- the characters of a page, each with the class and the address that it stands in: those of its cell. A line feed stands in neither
-abbrev pub further_chars : List LevelInner → List GroupPage → List ReadChar
-further_chars [] page = []
-further_chars (level ∷ levels) [] = []
-further_chars (level ∷ levels) (g ∷ gs) = (feed_read ∷ chars_of_rows level (group_rows g)) ++ further_chars levels gs
+abbrev pub further_chars : List GroupPage → List ReadChar
+further_chars page = flat_map (λ g. feed_read ∷ chars_of_rows g.level (group_rows g)) page
 
-abbrev pub page_chars : List LevelInner → List GroupPage → List ReadChar
-page_chars [] page = []
-page_chars (level ∷ levels) [] = []
-page_chars (level ∷ levels) (g ∷ gs) = chars_of_rows level (group_rows g) ++ further_chars levels gs
+abbrev pub page_chars : List GroupPage → List ReadChar
+page_chars [] = []
+page_chars (g ∷ gs) = chars_of_rows g.level (group_rows g) ++ further_chars gs
 
 -- what follows for who reads the text of a report in HTML
 pub record HtmlLaws (r : Renderer) (groups : List Group) (text : List ℕ) : Type 0 where
@@ -54,7 +42,7 @@ pub record HtmlLaws (r : Renderer) (groups : List Group) (text : List ℕ) : Typ
   -- its tags are those that its pieces are: the two of a class, and the two of a link
   pub tags : tags_of None html ≡ flat_map piece_tag (report_html r groups)
   -- each character that is read of it stands in the class of its cell's role and in the link of its cell
-  pub stands : html_reads html ≡ map as_read (page_chars (levels_of groups) (graphic_form r groups))
+  pub stands : html_reads html ≡ map as_read (page_chars (graphic_form r groups))
 
 -- a text is a report as HTML, as the renderer is set: it is that of the report that is shown in place of it
 pub record IsReportHtml (r : Renderer) (groups : List Group) (text : List ℕ) : Type 0 where
@@ -68,17 +56,7 @@ pub record HasHtmlLaws (r : Renderer) (groups : List Group) (text : List ℕ) : 
   pub set : IsAsSet Graphic r groups shown
   pub laws : HtmlLaws r shown text
 
--- ---- what is drawn so far
-
--- grids, each in its level and after a line feed; and grids joined by line feeds
-abbrev pub further_grids : List GroupGrid → List HtmlPiece
-further_grids grids = flat_map (λ (grid : GroupGrid). Text 10 ∷ rows_html grid.level grid.buffer) grids
-
-abbrev pub grids_html : List GroupGrid → List HtmlPiece
-grids_html [] = []
-grids_html (grid ∷ grids) = rows_html grid.level grid.buffer ++ further_grids grids
-
--- a text grew by the grid of a group, after a line feed unless the group is the first
-abbrev pub AddsGridHtml : Bool → GroupGrid → List ℕ → List ℕ → Type 0
-AddsGridHtml first grid old new =
-    AddsHtml (if first then rows_html grid.level grid.buffer else (Text 10 ∷ rows_html grid.level grid.buffer)) old new
+-- a text grew by a group, after a line feed unless it is the first
+abbrev pub AddsGroupHtml : Bool → GroupPage → List ℕ → List ℕ → Type 0
+AddsGroupHtml first g old new =
+    AddsHtml (if first then rows_html g.level (group_rows g) else (Text 10 ∷ rows_html g.level (group_rows g))) old new

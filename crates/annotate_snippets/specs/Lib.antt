@@ -13,6 +13,7 @@ pub mod Laws
 pub mod Lent
 pub mod Levels
 pub mod Page
+pub mod PageSink
 pub mod PreparedReport
 pub mod Printing
 pub mod Refusal

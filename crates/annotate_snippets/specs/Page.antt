@@ -4,7 +4,6 @@ use Rattle.std.specs.List.{AllZip, flat_map, filter_map, join_with_byte}
 use Rattle.snippet_style.specs.Cell.{Cell}
 use Rattle.snippet_grid.specs.Print.{plain_text}
 use Rattle.snippet_grid.specs.Woven.{Prints}
-use Rattle.annotate_snippets.specs.declared.renderer.graphic.GroupGrid.{GroupGrid}
 use Rattle.snippet_style.specs.declared.role.LevelInner.{LevelInner}
 use Rattle.snippet_style.specs.declared.stylesheet.Stylesheet.{Stylesheet}
 
@@ -73,12 +72,6 @@ page_text page = join_with_byte 10 (map (λ g. plain_text (group_rows g)) page)
 pub record PrintsPage (sheet : Stylesheet) (page : List GroupPage) (text : List ℕ) : Type 0 where
   pub parts : List (List ℕ)
   pub printed : AllZip (λ g part. Prints sheet g.level (group_rows g) part) page parts
-  pub joined : text ≡ join_with_byte 10 parts
-
--- the text prints grids under a sheet, each in its level, joined by line feeds
-pub record PrintsGrids (sheet : Stylesheet) (grids : List GroupGrid) (text : List ℕ) : Type 0 where
-  pub parts : List (List ℕ)
-  pub printed : AllZip (λ grid part. Prints sheet grid.level grid.buffer part) grids parts
   pub joined : text ≡ join_with_byte 10 parts
 
 -- rows that show no line

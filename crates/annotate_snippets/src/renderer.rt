@@ -15,6 +15,7 @@ mod html_stylesheet;
 mod layout;
 mod markdown;
 mod page;
+mod page_sink;
 mod pages;
 pub mod parts;
 mod paths;

@@ -6,15 +6,17 @@
 //! 1 | let x = 1;
 //!   |     ^
 //! ```
-ghost use Rattle.std.specs.Prelude.{◌≡◌, ◌<◌, ◌≤◌, ◌^◌, [], All, IfOk, Some, length, slice_get};
+ghost use Rattle.std.specs.Prelude.{◌≡◌, ◌≤◌, [], All, IfErr, IfOk, OnOk, alloc_error, length, slice_get, true};
 ghost use Rattle.std.specs.List.{filter_map};
 ghost use Rattle.std.specs.Option.{option_copied};
 ghost use Rattle.annotate_snippets.specs.ElementContext as spec;
 ghost use Rattle.annotate_snippets.specs.ElementContext.{file_of_group, position_of_group};
 ghost use Rattle.annotate_snippets.specs.DrawnReport.{HasRoomFor};
-ghost use Rattle.annotate_snippets.specs.GraphicForm.{group_page};
+ghost use Rattle.annotate_snippets.specs.GraphicForm.{graphic_form, group_page};
 ghost use Rattle.annotate_snippets.specs.Gutter.{gutter_of_report, layout_of_group};
+ghost use Rattle.annotate_snippets.specs.Laws.Page.{PageLaws};
 ghost use Rattle.annotate_snippets.specs.Page.{group_rows};
+ghost use Rattle.annotate_snippets.specs.PageSink.{Stops, Takes};
 ghost use Rattle.annotate_snippets.specs.PreparedReport.{IsGroupDrawable, IsGroupPrepared, element_of};
 
 use crate::renderer::Renderer;
@@ -22,65 +24,62 @@ use crate::renderer::element_context::{GroupContext, GroupPosition, next_of};
 use crate::renderer::elements::draw_elements;
 use crate::renderer::gutter::gutter_of;
 use crate::renderer::layout::layout_for;
+use crate::renderer::page_sink::PageSink;
 use crate::renderer::paths::{primary_path, report_file};
 use crate::renderer::preprocess::{PreparedGroup, prepare_groups};
 use crate::renderer::title::draw_title;
-use snippet_grid::{SheetCodes, StyledBuffer};
+use crate::snippet::Report;
+use snippet_grid::StyledBuffer;
 use snippet_model::snippet::Group;
-use snippet_style::{LevelInner, Stylesheet};
 use std::alloc::{AllocError, Global};
-
-/// The rows of a group, and the level that they are printed in.
-#[derive(Drop)]
-pub struct GroupGrid<'a> {
-    /// The kind of level whose style primary marks and labels take.
-    pub level: LevelInner,
-    /// The rows.
-    pub buffer: StyledBuffer<'a>,
-}
 
 /// What the grid of a report's group depends on beside the group.
 #[derive(Clone, Copy)]
-pub struct ReportContext<'r> {
+struct ReportContext<'r> {
     /// The report's groups.
-    pub groups: &'r [Group<'r>],
+    groups: &'r [Group<'r>],
     /// The width of its gutter.
-    pub gutter: usize,
+    gutter: usize,
     /// Its primary file.
-    pub file: Option<&'r str>,
+    file: Option<&'r str>,
 }
 
-/// The grid of the report's group of this number, from 0, drawn in an empty grid.
+/// Draws the groups of a report in order, each in the room of the one before, and gives each to a sink. So memory holds
+/// the rows of one group at a time.
 ///
 /// # Errors
 ///
-/// There is no memory for the rows.
-pub fn draw_at<'a>(
+/// There is no memory for what is prepared, or the sink stopped.
+pub fn draw_page<S: PageSink>(
+    alloc: Global,
     renderer: &Renderer,
-    report: &ReportContext<'_>,
-    number: usize,
-    group: PreparedGroup<'a>,
-    empty: StyledBuffer<'a>,
-) -> Result<GroupGrid<'a>, AllocError>
-    requires empty { empty ≡ [] }
-    requires drawable { All IsGroupDrawable report.now.groups.now }
-    requires prepared { IsGroupPrepared group }
-    requires here { slice_get report.now.groups.now number ≡ Some group.group.now }
-    requires gutter { report.now.gutter ≡ gutter_of_report renderer.now report.now.groups.now }
-    requires small { report.now.gutter ≤ 20 }
-    requires file { option_copied report.now.file
-        ≡ slice_get (filter_map spec.primary_path report.now.groups.now) 0 }
-    ensures level { IfOk result (λ grid. grid.level ≡ group.entry.group.now.level) }
-    ensures rows { let gs = report.now.groups.now in let g = group.entry.group.now in
-        IfOk result (λ grid. grid.buffer ≡ group_rows (group_page renderer.now (layout_of_group renderer.now gs g)
-        (position_of_group (length gs) number) (file_of_group gs g) g)) }
+    groups: Report<'_>,
+    sink: &mut S,
+) -> Result<(), S::Error>
+    requires drawable { All IsGroupDrawable groups.now }
+    ensures laws { OnOk result (PageLaws renderer.now groups.now (graphic_form renderer.now groups.now)) }
+    ensures took { OnOk result (Takes S.took true (graphic_form renderer.now groups.now) sink.old sink.new) }
+    ensures stopped { IfErr result (λ error. Stops S.took S.stopped (S.Error.from_gives alloc_error)
+        (graphic_form renderer.now groups.now) error sink.old sink.new) }
 {
-    let around = group_context(renderer, report, number, &group);
-    draw_group(renderer, &around, group, empty)
+    let prepared = prepare_groups(alloc, groups)?;
+    let gutter = gutter_of(renderer, &prepared);
+    let file = report_file(groups);
+    let report = ReportContext {
+        groups,
+        gutter,
+        file,
+    };
+    let mut buffer = StyledBuffer::new(alloc);
+    for (i, group) in prepared.into_iter().enumerate() {
+        let around = group_context(renderer, &report, i, &group);
+        buffer = sink.add(alloc, renderer, &around, group, buffer)?;
+    }
+    Ok(())
 }
 
 /// What the rows of the report's group of this number, from 0, depend on beside the group.
-pub fn group_context<'r>(
+fn group_context<'r>(
     renderer: &Renderer,
     report: &ReportContext<'r>,
     number: usize,
@@ -105,26 +104,28 @@ pub fn group_context<'r>(
     }
 }
 
-/// The grid of a group, drawn in an empty grid.
-fn draw_group<'a>(
+/// The rows of a group, drawn in an empty grid.
+///
+/// # Errors
+///
+/// There is no memory for the rows.
+pub fn draw_group<'a>(
     renderer: &Renderer,
     around: &GroupContext<'_>,
     group: PreparedGroup<'a>,
     empty: StyledBuffer<'a>,
-) -> Result<GroupGrid<'a>, AllocError>
+) -> Result<StyledBuffer<'a>, AllocError>
     requires empty { empty ≡ [] }
     requires prepared { IsGroupPrepared group }
     requires room { All (λ e. HasRoomFor renderer.now around.now.layout (element_of e)) group.elements.items }
-    ensures level { IfOk result (λ grid. grid.level ≡ group.entry.group.now.level) }
-    ensures rows { IfOk result (λ grid. grid.buffer ≡ group_rows (group_page renderer.now around.now.layout
+    ensures rows { IfOk result (λ buffer. buffer ≡ group_rows (group_page renderer.now around.now.layout
         around.now.place (option_copied around.now.file) group.entry.group.now)) }
 {
     let mut buffer = empty;
-    let level = group.group.level;
     if let Some(title) = &group.group.title {
         let next = next_of(&group.elements);
         draw_title(&mut buffer, renderer, around, next, title)?;
     }
     draw_elements(&mut buffer, renderer, around, group.elements)?;
-    Ok(GroupGrid { level, buffer })
+    Ok(buffer)
 }

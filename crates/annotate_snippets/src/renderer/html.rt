@@ -1,23 +1,23 @@
-//! A report as HTML, for `<pre>`. As in the graphic form each group is drawn, printed and dropped before the next is
-//! drawn.
+//! A report as HTML, for `<pre>`.
 //!
 //! ```text
 //! <span class="snippet-error">error</span><span class="snippet-emphasis">: unused</span>
 //! ```
 ghost use Rattle.std.specs.Prelude.{◌≡◌, All, IfOk, string_bytes};
-ghost use Rattle.annotate_snippets.specs.Html.{AddsGridHtml, report_html};
+ghost use Rattle.annotate_snippets.specs.Html.{report_html};
 ghost use Rattle.annotate_snippets.specs.PreparedReport.{IsGroupDrawable};
 ghost use Rattle.snippet_grid.specs.Html.{html_bytes};
 
 use crate::renderer::Renderer;
-use crate::renderer::graphic::{GroupGrid, ReportContext, draw_at};
-use crate::renderer::gutter::gutter_of;
+use crate::renderer::element_context::GroupContext;
+use crate::renderer::graphic::{draw_group, draw_page};
 use crate::renderer::page::fed;
-use crate::renderer::paths::report_file;
-use crate::renderer::preprocess::prepare_groups;
+use crate::renderer::page_sink::PageSink;
+use crate::renderer::preprocess::PreparedGroup;
 use crate::snippet::Report;
 use snippet_grid::StyledBuffer;
 use std::alloc::{AllocError, Global};
+use std::mem;
 
 /// The page of a report's graphic form as HTML.
 ///
@@ -33,30 +33,44 @@ pub fn page_html(
     ensures html { IfOk result (λ text.
         string_bytes text ≡ html_bytes (report_html renderer.now groups.now)) }
 {
-    let prepared = prepare_groups(alloc, groups)?;
-    let gutter = gutter_of(renderer, &prepared);
-    let file = report_file(groups);
-    let report = ReportContext {
-        groups,
-        gutter,
-        file,
+    let mut page = HtmlPage {
+        text: String::new(alloc),
     };
-    let mut text = String::new(alloc);
-    let mut buffer = StyledBuffer::new(alloc);
-    for (i, group) in prepared.into_iter().enumerate() {
-        let grid = draw_at(renderer, &report, i, group, buffer)?;
-        text = html_with(text, &grid, i == 0)?;
-        buffer = grid.buffer;
-        buffer.clear();
-    }
-    Ok(text)
+    draw_page(alloc, renderer, groups, &mut page)?;
+    Ok(page.text)
 }
 
-/// A text, and after it a group's grid as HTML, after a line feed unless it is the first.
-fn html_with(before: String, grid: &GroupGrid<'_>, is_first: bool) -> Result<String, AllocError>
-    ensures added { IfOk result (λ text.
-        AddsGridHtml is_first grid.now (string_bytes before) (string_bytes text)) }
-{
-    let lead = fed(before, is_first)?;
-    grid.buffer.html_after(lead, grid.level)
+/// The page of a report as HTML, as far as it is printed.
+#[derive(Drop)]
+struct HtmlPage {
+    /// The text so far.
+    text: String,
+}
+
+impl PageSink for HtmlPage {
+    ghost use Rattle.std.specs.Prelude.{string_bytes};
+    ghost use Rattle.annotate_snippets.specs.Html.{AddsGroupHtml};
+
+    type Error = AllocError;
+
+    ghost took = { λ first g old new. AddsGroupHtml first g (string_bytes old.text) (string_bytes new.text) };
+
+    ghost stopped = { λ first g error old new. Unit {0} };
+
+    fn add<'a>(
+        &mut self,
+        alloc: Global,
+        renderer: &Renderer,
+        around: &GroupContext<'_>,
+        group: PreparedGroup<'a>,
+        empty: StyledBuffer<'a>,
+    ) -> Result<StyledBuffer<'a>, AllocError> {
+        let level = group.group.level;
+        let mut buffer = draw_group(renderer, around, group, empty)?;
+        let text = mem::replace(&mut self.text, String::new(alloc));
+        let lead = fed(text, around.place.is_first())?;
+        self.text = buffer.html_after(lead, level)?;
+        buffer.clear();
+        Ok(buffer)
+    }
 }

@@ -1,5 +1,4 @@
-//! The text of a report under one sheet. In the graphic form each group is drawn and printed before the next is drawn,
-//! in the room that it took, so that memory holds the rows of one group at a time.
+//! The text of a report under one sheet. In the graphic form each group is printed while it is drawn.
 ghost use Rattle.std.specs.Prelude.{◌≡◌, ◌++◌, [], ◌∷◌, All, IfOk, None, string_bytes, if◌then◌else◌};
 ghost use Rattle.annotate_snippets.specs.Fault as spec;
 ghost use Rattle.annotate_snippets.specs.Laws.Forms.{IsTextUnder};
@@ -8,16 +7,17 @@ ghost use Rattle.annotate_snippets.specs.declared.renderer.form.Form.TheVariants
 
 use crate::renderer::Renderer;
 use crate::renderer::drawn::{short_form_text, text_form_text};
+use crate::renderer::element_context::GroupContext;
 use crate::renderer::form::Form;
-use crate::renderer::graphic::{ReportContext, group_context};
-use crate::renderer::gutter::gutter_of;
-use crate::renderer::paths::report_file;
-use crate::renderer::preprocess::prepare_groups;
+use crate::renderer::graphic::draw_page;
+use crate::renderer::page_sink::PageSink;
+use crate::renderer::preprocess::PreparedGroup;
 use crate::renderer::printing::{Printing, print_group};
 use crate::snippet::Report;
 use snippet_grid::{SheetCodes, StyledBuffer};
 use snippet_style::Stylesheet;
 use std::alloc::{AllocError, Global};
+use std::mem;
 
 /// The text of a report in a form, under a sheet.
 ///
@@ -56,30 +56,52 @@ fn page_text(
     ensures text { IfOk result (λ text.
         IsTextUnder form.Graphic renderer.now groups.now sheet.now (string_bytes text)) }
 {
-    let prepared = prepare_groups(alloc, groups)?;
-    let gutter = gutter_of(renderer, &prepared);
-    let file = report_file(groups);
-    let report = ReportContext {
-        groups,
-        gutter,
-        file,
+    let mut page = SheetPage {
+        codes: SheetCodes::new(alloc, sheet),
+        text: String::with_capacity(alloc, ROOM)?,
     };
-    let mut codes = SheetCodes::new(alloc, sheet);
-    let mut text = String::with_capacity(alloc, ROOM)?;
-    let mut buffer = StyledBuffer::new(alloc);
-    for (i, group) in prepared.into_iter().enumerate() {
-        let around = group_context(renderer, &report, i, &group);
+    draw_page(alloc, renderer, groups, &mut page)?;
+    Ok(page.text)
+}
+
+/// The page of a report under a sheet, as far as it is printed.
+#[derive(Drop)]
+pub struct SheetPage {
+    /// The codes of the sheet.
+    pub codes: SheetCodes,
+    /// The text so far.
+    pub text: String,
+}
+
+impl PageSink for SheetPage {
+    ghost use Rattle.annotate_snippets.specs.Page.{group_rows};
+    ghost use Rattle.annotate_snippets.specs.Written.{AddsToPage};
+
+    type Error = AllocError;
+
+    ghost took = { λ first g old new. AddsToPage first g.level (group_rows g) old new };
+
+    ghost stopped = { λ first g error old new. Unit {0} };
+
+    fn add<'a>(
+        &mut self,
+        alloc: Global,
+        renderer: &Renderer,
+        around: &GroupContext<'_>,
+        group: PreparedGroup<'a>,
+        empty: StyledBuffer<'a>,
+    ) -> Result<StyledBuffer<'a>, AllocError> {
+        let text = mem::replace(&mut self.text, String::new(alloc));
         let mut page = Printing {
             level: group.group.level,
-            text: fed(text, i == 0)?,
+            text: fed(text, around.place.is_first())?,
             begun: false,
-            buffer,
+            buffer: empty,
         };
-        print_group(alloc, &mut page, &mut codes, renderer, &around, group)?;
-        text = page.text;
-        buffer = page.buffer;
+        print_group(alloc, &mut page, &mut self.codes, renderer, around, group)?;
+        self.text = page.text;
+        Ok(page.buffer)
     }
-    Ok(text)
 }
 
 /// A text, and a line feed after it, unless what follows is the first group's.

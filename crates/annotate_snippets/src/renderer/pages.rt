@@ -1,5 +1,5 @@
 //! The texts of a report under several sheets. In the graphic form each group is drawn once, and printed under each
-//! sheet before the next is drawn in the room that it took, so that memory holds the rows of one group at a time.
+//! sheet.
 ghost use Rattle.std.specs.Prelude.{◌≡◌, [], ◌∷◌, All, IfOk, None, OnOk, map, string_bytes};
 ghost use Rattle.std.specs.List.{AllZip};
 ghost use Rattle.annotate_snippets.specs.Fault as spec;
@@ -11,15 +11,15 @@ ghost use Rattle.annotate_snippets.specs.declared.renderer.form.Form.TheVariants
 
 use crate::renderer::Renderer;
 use crate::renderer::drawn::{short_form_texts, text_form_texts};
+use crate::renderer::element_context::GroupContext;
 use crate::renderer::form::Form;
-use crate::renderer::graphic::{GroupGrid, ReportContext, draw_at};
-use crate::renderer::gutter::gutter_of;
-use crate::renderer::page::{fed, text_in_form};
-use crate::renderer::paths::report_file;
-use crate::renderer::preprocess::prepare_groups;
+use crate::renderer::graphic::{draw_group, draw_page};
+use crate::renderer::page::{SheetPage, fed, text_in_form};
+use crate::renderer::page_sink::PageSink;
+use crate::renderer::preprocess::PreparedGroup;
 use crate::snippet::Report;
 use snippet_grid::{SheetCodes, StyledBuffer};
-use snippet_style::Stylesheet;
+use snippet_style::{LevelInner, Stylesheet};
 use std::alloc::{AllocError, Global};
 use std::mem;
 
@@ -76,32 +76,51 @@ fn page_texts(
     ensures texts { IfOk result (λ texts.
         AllZip (IsTextUnder form.Graphic renderer.now groups.now) sheets.now (map string_bytes texts.items)) }
 {
-    let prepared = prepare_groups(alloc, groups)?;
-    let gutter = gutter_of(renderer, &prepared);
-    let file = report_file(groups);
-    let report = ReportContext {
-        groups,
-        gutter,
-        file,
+    let mut pages = SheetPages {
+        pages: empty_pages(alloc, sheets)?,
     };
-    let mut pages = empty_pages(alloc, sheets)?;
-    let mut buffer = StyledBuffer::new(alloc);
-    for (i, group) in prepared.into_iter().enumerate() {
-        let grid = draw_at(renderer, &report, i, group, buffer)?;
-        print_grid(alloc, &grid, i == 0, &mut pages)?;
-        buffer = grid.buffer;
-        buffer.clear();
-    }
-    texts_of(alloc, pages)
+    draw_page(alloc, renderer, groups, &mut pages)?;
+    texts_of(alloc, pages.pages)
 }
 
-/// The page of a report under a sheet, as far as it is printed.
+/// The pages of a report, one under each of some sheets, as far as they are printed.
 #[derive(Drop)]
-struct SheetPage {
-    /// The codes of the sheet.
-    codes: SheetCodes,
-    /// The text so far.
-    text: String,
+struct SheetPages {
+    /// The pages.
+    pages: Vec<SheetPage>,
+}
+
+impl PageSink for SheetPages {
+    ghost use Rattle.std.specs.List.{AllZip};
+    ghost use Rattle.annotate_snippets.specs.Page.{group_rows};
+    ghost use Rattle.annotate_snippets.specs.Written.{AddsToPage};
+
+    type Error = AllocError;
+
+    ghost took = { λ first g p q. AllZip (AddsToPage first g.level (group_rows g)) p.pages.items q.pages.items };
+
+    ghost stopped = { λ first g error old new. Unit {0} };
+
+    fn add<'a>(
+        &mut self,
+        alloc: Global,
+        renderer: &Renderer,
+        around: &GroupContext<'_>,
+        group: PreparedGroup<'a>,
+        empty: StyledBuffer<'a>,
+    ) -> Result<StyledBuffer<'a>, AllocError> {
+        let level = group.group.level;
+        let mut buffer = draw_group(renderer, around, group, empty)?;
+        print_rows(
+            alloc,
+            &buffer,
+            level,
+            around.place.is_first(),
+            &mut self.pages,
+        )?;
+        buffer.clear();
+        Ok(buffer)
+    }
 }
 
 /// Pages on which nothing is printed yet, one under each of these sheets.
@@ -118,33 +137,35 @@ fn empty_pages(alloc: Global, sheets: &[Stylesheet]) -> Result<Vec<SheetPage>, A
     Ok(pages)
 }
 
-/// Prints a group's grid on each page, after a line feed unless it is the first.
-fn print_grid(
+/// Prints a group's rows on each page, after a line feed unless it is the first.
+fn print_rows(
     alloc: Global,
-    grid: &GroupGrid<'_>,
+    rows: &StyledBuffer<'_>,
+    level: LevelInner,
     is_first: bool,
     pages: &mut [SheetPage],
 ) -> Result<(), AllocError>
-    ensures printed { OnOk result (AllZip (AddsToPage is_first grid.now) pages.old pages.new) }
+    ensures printed { OnOk result (AllZip (AddsToPage is_first level rows.now) pages.old pages.new) }
 {
     for page in pages.iter_mut() {
-        print_on(alloc, grid, is_first, page)?;
+        print_on(alloc, rows, level, is_first, page)?;
     }
     Ok(())
 }
 
-/// Prints a group's grid on a page, after a line feed unless it is the first.
+/// Prints a group's rows on a page, after a line feed unless it is the first.
 fn print_on(
     alloc: Global,
-    grid: &GroupGrid<'_>,
+    rows: &StyledBuffer<'_>,
+    level: LevelInner,
     is_first: bool,
     page: &mut SheetPage,
 ) -> Result<(), AllocError>
-    ensures printed { OnOk result (AddsToPage is_first grid.now page.old page.new) }
+    ensures printed { OnOk result (AddsToPage is_first level rows.now page.old page.new) }
 {
     let text = mem::replace(&mut page.text, String::new(alloc));
     let lead = fed(text, is_first)?;
-    page.text = grid.buffer.render_after(lead, grid.level, &mut page.codes)?;
+    page.text = rows.render_after(lead, level, &mut page.codes)?;
     Ok(())
 }
 

@@ -8,22 +8,19 @@ ghost use Rattle.annotate_snippets.specs.Laws.Forms.{HasLaws};
 ghost use Rattle.annotate_snippets.specs.Forms.{ShowsReport};
 ghost use Rattle.annotate_snippets.specs.Lent.{held};
 ghost use Rattle.annotate_snippets.specs.PreparedReport.{IsGroupDrawable};
-ghost use Rattle.annotate_snippets.specs.Written.{IsStop, IsTextIn, PrintsGrid, ShowsIn, WritesPart, WritesText};
+ghost use Rattle.annotate_snippets.specs.Written.{IsStop, IsTextIn, ShowsIn, WritesPart, WritesText};
 ghost use Rattle.annotate_snippets.specs.Written.{blames_writer};
 ghost use Rattle.annotate_snippets.specs.declared.renderer.form.Form.TheVariants as form;
 
 use crate::renderer::Renderer;
 use crate::renderer::error::RenderError;
 use crate::renderer::form::{Form, form_of};
-use crate::renderer::graphic::{GroupGrid, ReportContext, draw_at};
-use crate::renderer::gutter::gutter_of;
+use crate::renderer::graphic::draw_page;
 use crate::renderer::page::text_in_form;
-use crate::renderer::paths::report_file;
-use crate::renderer::preprocess::prepare_groups;
 use crate::renderer::report_writer::ReportWriter;
 use crate::renderer::words::RenderToWords;
 use crate::snippet::Report;
-use snippet_grid::{SheetCodes, StyledBuffer};
+use snippet_grid::SheetCodes;
 use std::alloc::{AllocError, Global};
 use std::io::{self, Write};
 use thiserror::Error;
@@ -123,7 +120,8 @@ impl Renderer {
             ⊎ WritesPart (ShowsReport self.now groups.now self.now.stylesheet)
             (W.contents out.old) (W.contents out.new)) }
     {
-        let mut lent = ReportWriter::new(out);
+        let mut codes = SheetCodes::new(alloc, &self.stylesheet);
+        let mut lent = ReportWriter::new(out, &mut codes);
         self.write_report(alloc, groups, &mut lent)
     }
 
@@ -135,6 +133,7 @@ impl Renderer {
         out: &mut ReportWriter<'_, W>,
     ) -> Result<(), RenderToError>
         requires fits { ReportFits groups.now }
+        requires sheet { out.old.codes.now ≡ self.now.stylesheet }
         ensures same_reference { out.new.target.ghost_name ≡ out.old.target.ghost_name }
 
         // A failed write is told as one, and nothing else is.
@@ -166,6 +165,7 @@ fn write_form<W: Write>(
 ) -> Result<(), RenderToError>
     requires drawable { All IsGroupDrawable groups.now }
     requires titled { spec.missing_title form groups.now ≡ None }
+    requires sheet { out.old.codes.now ≡ renderer.now.stylesheet }
     ensures same_reference { out.new.target.ghost_name ≡ out.old.target.ghost_name }
     ensures told { out.old.has_failed ≡ false → out.new.has_failed ≡ blames_writer result }
     ensures stopped { IfErr result IsStop }
@@ -180,8 +180,7 @@ fn write_form<W: Write>(
     }
 }
 
-/// Writes the graphic form of a report, a group at a time: each is drawn, written and dropped before the next is
-/// drawn.
+/// Writes the graphic form of a report, a group at a time.
 fn write_groups<W: Write>(
     alloc: Global,
     renderer: &Renderer,
@@ -189,6 +188,7 @@ fn write_groups<W: Write>(
     out: &mut ReportWriter<'_, W>,
 ) -> Result<(), RenderToError>
     requires drawable { All IsGroupDrawable groups.now }
+    requires sheet { out.old.codes.now ≡ renderer.now.stylesheet }
     ensures same_reference { out.new.target.ghost_name ≡ out.old.target.ghost_name }
     ensures told { out.old.has_failed ≡ false → out.new.has_failed ≡ blames_writer result }
     ensures stopped { IfErr result IsStop }
@@ -198,71 +198,7 @@ fn write_groups<W: Write>(
         ⊎ WritesPart (ShowsIn form.Graphic renderer.now groups.now)
         (held W.contents out.old) (held W.contents out.new)) }
 {
-    let prepared = prepare_groups(alloc, groups)?;
-    let gutter = gutter_of(renderer, &prepared);
-    let file = report_file(groups);
-    let report = ReportContext {
-        groups,
-        gutter,
-        file,
-    };
-    let mut codes = SheetCodes::new(alloc, &renderer.stylesheet);
-    let mut buffer = StyledBuffer::new(alloc);
-    for (i, group) in prepared.into_iter().enumerate() {
-        let grid = draw_at(renderer, &report, i, group, buffer)?;
-        write_grid(alloc, &grid, i == 0, &mut codes, out)?;
-        buffer = grid.buffer;
-        buffer.clear();
-    }
-    Ok(())
-}
-
-/// Writes the text that prints a group's grid, after a line feed unless it is the first.
-fn write_grid<W: Write>(
-    alloc: Global,
-    grid: &GroupGrid<'_>,
-    is_first: bool,
-    codes: &mut SheetCodes,
-    out: &mut ReportWriter<'_, W>,
-) -> Result<(), RenderToError>
-    ensures same_reference { out.new.target.ghost_name ≡ out.old.target.ghost_name }
-    ensures told { out.old.has_failed ≡ false → out.new.has_failed ≡ blames_writer result }
-    ensures sheet { codes.new ≡ codes.old }
-    ensures stopped { IfErr result IsStop }
-    ensures whole { OnOk result (WritesText (PrintsGrid codes.old is_first grid.now)
-        (held W.contents out.old) (held W.contents out.new)) }
-    ensures part { OnErr result ((out.new ≡ out.old)
-        ⊎ WritesPart (PrintsGrid codes.old is_first grid.now) (held W.contents out.old) (held W.contents out.new)) }
-{
-    let text = grid_text(alloc, grid, is_first, codes)?;
-    out.write(text.as_bytes())?;
-    Ok(())
-}
-
-/// The text that prints a group's grid, after a line feed unless it is the first.
-fn grid_text(
-    alloc: Global,
-    grid: &GroupGrid<'_>,
-    is_first: bool,
-    codes: &mut SheetCodes,
-) -> Result<String, AllocError>
-    ensures sheet { codes.new ≡ codes.old }
-    ensures prints { IfOk result (λ text. PrintsGrid codes.old is_first grid.now (string_bytes text)) }
-{
-    let before = line_break(alloc, is_first)?;
-    grid.buffer.render_after(before, grid.level, codes)
-}
-
-/// What stands before the text of a group: a line feed, and nothing before the first.
-fn line_break(alloc: Global, is_first: bool) -> Result<String, AllocError>
-    ensures value { IfOk result (λ text. string_bytes text ≡ (if is_first then [] else 10 ∷ [])) }
-{
-    let mut text = String::new(alloc);
-    if is_first {
-        return Ok(text);
-    }
-    text.push_str("\n")?;
-    Ok(text)
+    draw_page(alloc, renderer, groups, out)
 }
 
 /// Writes the text of a report in a form, which is made whole before.

@@ -12,6 +12,7 @@ pub write_form-requires : goal.write_form-requires
 write_form-requires g c = record {
   drawable = subst (All IsGroupDrawable) (sym c.deref.ensures.value) c.in_ok-shown.ensures.shown.drawable;
   titled = subst (λ (gs : List Group). missing_title c.form_of-form.result gs ≡ None) (sym c.deref.ensures.value) c.in_ok-shown.ensures.shown.titled;
+  sheet = c.requires.sheet;
 }
 
 pub returns-clause-whole : goal.returns-clause-whole

@@ -8,8 +8,8 @@ use Rattle.annotate_snippets.proofs.ElementRows.{group_drawn, title_drawn}
 use Rattle.annotate_snippets.proofs.renderer.graphic.draw_group.Goals.{in-Some+in_ok-draw_title, in_default}
 use Rattle.annotate_snippets.proofs.renderer.graphic.draw_group.Goals as goal
 
-pub returns-clause-rows : goal.returns-clause-rows
-returns-clause-rows c =
+pub returns : goal.returns
+returns c =
     let r = c.args.renderer.now in
     let around = c.args.around.now in
     let g = c.args.group.group.now in
@@ -20,4 +20,7 @@ returns-clause-rows c =
           (w.next_of-next.ensures.value ∙ ap (λ ps. next_of (map element_of ps)) w.deref.ensures.value) w.in-Some.is w.in_ok-draw_title.ensures.rows
       | in_default w ↦ w.buffer-is ∙ c.requires.empty ∙ ap (title_part r around.layout around.place (next_of es)) (sym w.in_default.is)
     ] in
-    group_drawn r around.layout around.place (option_copied around.file) g es _ _ c.requires.prepared.elements_are titled c.in_ok-draw_elements.ensures.rows
+    record {
+      rows = group_drawn r around.layout around.place (option_copied around.file) g es _ _ c.requires.prepared.elements_are titled
+          c.in_ok-draw_elements.ensures.rows;
+    }

@@ -1,17 +1,16 @@
 use Rattle.std.proofs.Common.{◌∙◌, [], ◌∷◌, ◌++◌, ap, cond, string_bytes}
-use Rattle.annotate_snippets.specs.declared.renderer.graphic.GroupGrid.{GroupGrid}
-use Rattle.annotate_snippets.specs.declared.renderer.pages.SheetPage.{SheetPage}
-use Rattle.annotate_snippets.proofs.WriteLemmas.{grid_added}
+use Rattle.annotate_snippets.specs.declared.renderer.page.SheetPage.{SheetPage}
+use Rattle.annotate_snippets.proofs.WriteLemmas.{rows_added}
 use Rattle.annotate_snippets.proofs.renderer.pages.print_on.Goals as goal
 
 pub returns : goal.returns
 returns c =
     let page : SheetPage = c.args.page.now in
-    let grid : GroupGrid = c.args.grid.now in
     record {
       printed = record {
         under = c.in_ok-page.ensures.sheet;
-        added = grid_added page.codes grid c.args.is_first (string_bytes page.text) (string_bytes c.in_ok-lead.lead) (string_bytes c.in_ok-page.field-0)
+        added = rows_added page.codes c.args.level c.args.rows.now c.args.is_first (string_bytes page.text) (string_bytes c.in_ok-lead.lead)
+            (string_bytes c.in_ok-page.field-0)
             (c.in_ok-lead.ensures.value
             ∙ ap (λ text. cond c.args.is_first (string_bytes text) (string_bytes text ++ 10 ∷ [])) c.replace-text.ensures.value)
             c.in_ok-page.ensures.added;

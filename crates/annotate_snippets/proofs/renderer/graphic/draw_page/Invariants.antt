@@ -1,0 +1,12 @@
+-- The grid is empty, and the sink took up the groups so far.
+use Rattle.std.proofs.Common.{◌≡◌, [], length, take, true}
+use Rattle.annotate_snippets.specs.GraphicForm.{graphic_form}
+use Rattle.annotate_snippets.specs.PageSink.{Takes}
+use Rattle.annotate_snippets.proofs.renderer.graphic.draw_page.Given as goal
+
+abbrev pub invariant-loop-i : goal.invariant-loop-i
+invariant-loop-i g l =
+    record {
+      empty : l.buffer ≡ [];
+      taken : Takes g.S.PageSink.took true (take (length l.yielded) (graphic_form l.fn.renderer l.fn.groups)) l.initial.sink l.sink;
+    }
