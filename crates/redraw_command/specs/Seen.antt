@@ -1,21 +1,36 @@
 -- What is kept in mind of the diagnostics of cargo that were drawn.
-use Rattle.std.specs.Prelude.{◌≡◌, ◌≤◌, ◌⊎◌, ℕ, Bool, true, false, List, [], ◌∷◌, Option, Some, None, length}
+use Rattle.std.specs.Prelude.{◌≡◌, ◌≤◌, ◌⊎◌, ℕ, Bool, true, false, List, [], ◌∷◌, ◌++◌, Option, Some, None, MatchOption, codes, length}
+use Rattle.std.specs.Prelude.{option_and_then}
 use Rattle.std.specs.List.{list_any}
 use Rattle.std.specs.List.Sorted.{IsPermutation}
 use Rattle.std.specs.Str.{bytes_eq}
+use Rattle.json_lines.specs.Field.{text_field}
 use Rattle.serde_json.specs.Data.{Data, depth}
 use Rattle.serde_json.specs.Read.{max_depth, read}
 use Rattle.serde_json.specs.Written.{compact_text, has_float}
 use Rattle.sha2.specs.Sha256.{sha256}
 use Rattle.redraw_command.specs.declared.seen.SeenDiagnostics.{SeenDiagnostics}
 
--- the digest of a value of JSON: of a text that is read as that value where it nests as deep as is read, and that is the compact one
--- where the value has no number with a point or an exponent
-pub record IsDigestOf (d : Data) (digest : List ℕ) : Type 0 where
+-- a text that isn't empty
+abbrev pub but_empty : List ℕ → Option (List ℕ)
+but_empty [] = None
+but_empty (b ∷ bs) = Some (b ∷ bs)
+
+-- the text that rustc has of a diagnostic, if it isn't empty
+abbrev pub own_text : Data → Option (List ℕ)
+own_text d = option_and_then but_empty (text_field (codes "rendered") d)
+
+-- the digest of all of a value of JSON: of a text that is read as that value where it nests as deep as is read, and that is the compact one
+-- where the value has no number with a point or an exponent; and of a byte after it that is in no text, so that it isn't the digest of one
+pub record IsDigestOfWhole (d : Data) (digest : List ℕ) : Type 0 where
   pub text : List ℕ
   pub reads_back : depth d ≤ max_depth → read text ≡ Some d
   pub compact : has_float d ≡ false → text ≡ compact_text d
-  pub is : digest ≡ sha256 text
+  pub is : digest ≡ sha256 (text ++ 255 ∷ [])
+
+-- the digest by which a diagnostic is told from others: of the text that rustc has of it, and of all of it where it has none
+abbrev pub IsDigestOf : Data → List ℕ → Type 0
+IsDigestOf d digest = MatchOption (own_text d) (IsDigestOfWhole d digest) (λ text. digest ≡ sha256 text)
 
 -- the digests that are kept
 abbrev pub digests_of : SeenDiagnostics → List (List ℕ)

@@ -1,9 +1,12 @@
 //! What was drawn before: the diagnostics of cargo, and the files that places lie in.
 
 ghost use Rattle.std.specs.Prelude.{◌≡◌, [], IfOk};
-ghost use Rattle.redraw_command.specs.Seen.{Keeps, digests_of};
+ghost use Rattle.json_lines.specs.Field.{lent_text};
+ghost use Rattle.redraw_command.specs.Seen as spec;
+ghost use Rattle.redraw_command.specs.Seen.{IsDigestOf, IsDigestOfWhole, Keeps, digests_of};
 ghost use Rattle.serde_json.specs.View.{view};
 
+use json_lines::lenient::text_field;
 use serde_json::Value;
 use sha2::{Digest, Sha256};
 use std::alloc::{AllocError, Global};
@@ -12,6 +15,9 @@ use std::hash::{BuildHasherDefault, FoldHasher};
 
 /// How many diagnostics are kept in mind.
 const MOST: usize = 16_384;
+
+/// A byte that is in no text: it ends what is digested of a diagnostic without a text, which no text is then.
+const NO_TEXT: u8 = 0xff;
 
 /// The diagnostics of cargo that were drawn, by what their texts have for a digest: of 32 bytes each, so that a run
 /// takes no memory for their texts. No two texts are known that have the same.
@@ -38,8 +44,7 @@ impl SeenDiagnostics {
         ensures keeps { IfOk result (λ was.
             Keeps (view message.now) was (digests_of self.old) (digests_of self.new)) }
     {
-        let text = message.to_string(self.alloc)?;
-        let digest = Sha256::digest(text.as_bytes());
+        let digest = digest_of(self.alloc, message)?;
         if self.digests.contains(&digest) {
             return Ok(true);
         }
@@ -49,6 +54,35 @@ impl SeenDiagnostics {
         self.digests.insert(digest)?;
         Ok(false)
     }
+}
+
+/// The digest by which a diagnostic is told from others: of the text that rustc has of it, or of all of it.
+fn digest_of(alloc: Global, message: &Value) -> Result<[u8; 32], AllocError>
+    ensures of { IfOk result (λ digest. IsDigestOf (view message.now) digest) }
+{
+    match own_text(message) {
+        Some(text) => Ok(Sha256::digest(text.as_bytes())),
+        None => digest_of_whole(alloc, message),
+    }
+}
+
+/// The text that rustc has of a diagnostic, by which cargo tells them, if it isn't empty.
+fn own_text(message: &Value) -> Option<&str>
+    ensures value { lent_text result ≡ spec.own_text (view message.now) }
+{
+    match text_field(message, "rendered") {
+        Some(text) if !text.is_empty() => Some(text),
+        _ => None,
+    }
+}
+
+/// The digest of all of a diagnostic.
+fn digest_of_whole(alloc: Global, message: &Value) -> Result<[u8; 32], AllocError>
+    ensures of { IfOk result (λ digest. IsDigestOfWhole (view message.now) digest) }
+{
+    let mut bytes = message.to_string(alloc)?.into_bytes();
+    bytes.push(NO_TEXT)?;
+    Ok(Sha256::digest(&bytes))
 }
 
 /// Names, each once. They are in order, and not hashed: whoever writes a log could choose names with one hash.

@@ -56,8 +56,7 @@ pub fn cargo_message<S: SourceFiles + Drop, W: Write, V: Write>(
         Ok(message) => {
             let read = read_diagnostic(&mut drawing.sources, node, true);
             keep_own_text(drawing, &message)?;
-            let told = told_by(message.value);
-            take_read(read, message.value, Some(told), drawing, out, err)
+            take_read(read, message.value, Some(message.value), drawing, out, err)
         }
         Err(fault) => drawing.finding(Err(fault), None, out, err),
     }
@@ -108,14 +107,6 @@ fn is_error(diagnostic: &Value) -> bool {
     match diagnostic.get("level").and_then(Value::as_str) {
         Some(level) => level.starts_with("error"),
         None => false,
-    }
-}
-
-/// By what a diagnostic is told from others: by the text that rustc has of it, as cargo tells them, where it has one.
-fn told_by(message: &Value) -> &Value {
-    match message.get("rendered") {
-        Some(text) if text.is_string() => text,
-        _ => message,
     }
 }
 
