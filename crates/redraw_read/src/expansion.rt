@@ -261,7 +261,7 @@ impl<'v> Macros<'v> {
 
     /// These, and the macros that a place comes from, if it is a primary one and no edit.
     pub fn with_place(mut self, span: &'v Value) -> Macros<'v> {
-        if !is_primary(span) || is_edit(span) {
+        if expansion_of(span).is_none() || !is_primary(span) || is_edit(span) {
             return self;
         }
         let mut place = Some(span);

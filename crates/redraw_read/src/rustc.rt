@@ -104,6 +104,9 @@ fn has_several_edits(child: &Value) -> bool {
 /// Whether a child has one place, an edit, and may be shown as a label there, which stands beside primary places that
 /// have none.
 fn has_label_apart(children: &[Value], own: &[Value]) -> bool {
+    if !children.iter().any(has_one_edit) {
+        return false;
+    }
     match own.iter().find(|span| is_bare(span)) {
         Some(first) => {
             let are_several = own.iter().any(|span| is_bare(span) && !is_at(span, first));
@@ -112,6 +115,14 @@ fn has_label_apart(children: &[Value], own: &[Value]) -> bool {
                 .any(|child| may_be_label(child, first, are_several))
         }
         None => false,
+    }
+}
+
+/// Whether a child has one place, an edit.
+fn has_one_edit(child: &Value) -> bool {
+    match spans_in(child) {
+        [edit] => is_edit(edit),
+        _ => false,
     }
 }
 
@@ -126,7 +137,12 @@ fn may_be_label(child: &Value, first: &Value, are_several: bool) -> bool {
 /// Whether a place is primary and has no label.
 fn is_bare(span: &Value) -> bool {
     let is_primary = span.get("is_primary").and_then(Value::as_bool);
-    is_primary == Some(true) && span.get("label").and_then(Value::as_str).is_none()
+    is_primary == Some(true) && !is_labelled(span)
+}
+
+/// Whether a place has a label.
+fn is_labelled(span: &Value) -> bool {
+    span.get("label").and_then(Value::as_str).is_some()
 }
 
 /// Whether two places have the same bytes.
@@ -161,10 +177,19 @@ fn is_expanded(span: &Value) -> bool {
 
 /// Whether a place has a label and is on the first line, without bytes.
 fn is_labelled_start(span: &Value) -> bool {
-    let is_labelled = span.get("label").and_then(Value::as_str).is_some();
+    is_on_first_line(span) && is_labelled(span) && is_empty(span)
+}
+
+/// Whether a place starts on the first line.
+fn is_on_first_line(span: &Value) -> bool {
     let line = span.get("line_start").and_then(Value::as_u64);
+    line.unwrap_or(0) <= 1
+}
+
+/// Whether a place has no bytes.
+fn is_empty(span: &Value) -> bool {
     let (start, end) = bytes_of(span);
-    is_labelled && line.unwrap_or(0) <= 1 && start == end
+    start == end
 }
 
 /// The diagnostic that the other fields of a value describe.
