@@ -1,6 +1,6 @@
 -- The names of an object's fields.
 use Rattle.std.proofs.Common.{◌≡◌, ℕ, zero, suc, ◌<◌, List, [], ◌∷◌, ◌++◌, get_or, length, Option, Some, None, Ordering, Less, Equal, Greater, String, Global}
-use Rattle.std.proofs.Common.{Bor, true, false, inl, inr, sym, subst, refl, arith, string_bytes, nat_cmp, ap, ◌∙◌}
+use Rattle.std.proofs.Common.{Bor, true, inl, inr, sym, subst, refl, arith, string_bytes, nat_cmp, ap, ◌∙◌}
 use Rattle.std.specs.Prelude.{IfSome, is_some, option_map}
 use Rattle.std.specs.Cmp.Lexicographic.{slice_cmp}
 use Rattle.std.specs.Map.{keys_of}

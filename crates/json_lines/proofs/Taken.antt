@@ -7,7 +7,7 @@ use Rattle.json.specs.Token.{Token}
 use Rattle.json.specs.Lex.{tokens}
 use Rattle.json.specs.Json as json
 use Rattle.json.specs.Json.{Parse, after_end_array, read_key}
-use Rattle.serde_json.specs.Data.{Num, unsigned, Data, null, boolean, number, string, array, object, Items, no_items, item, Members, no_members, put}
+use Rattle.serde_json.specs.Data.{Num, Data, null, boolean, number, string, array, object, Items, no_items, item, Members, no_members, put}
 use Rattle.serde_json.specs.Read.{number_of, converted, of_json, of_items, of_members, max_depth, read}
 use Rattle.serde_json.specs.View.{view}
 use Rattle.serde_json.specs.declared.value.Value as value
@@ -70,7 +70,7 @@ taken-array depth mid new ds t =
     let h = source of_items (json.items (json.value depth) (length mid) mid) ds new t.items in
     record { value = rw h.1 (rw h.2 refl); shorter = omega arith }
 
-takes-array : (depth less : ℕ) (old mid new : List Token) (ds : Items) → depth ≡ suc less → old ≡ token.begin_array ∷ mid → TakesItems less mid new ds
+pub takes-array : (depth less : ℕ) (old mid new : List Token) (ds : Items) → depth ≡ suc less → old ≡ token.begin_array ∷ mid → TakesItems less mid new ds
     → Takes depth old new (array ds)
 takes-array depth less old mid new ds is e t = rw (is, e) (taken-array less mid new ds t)
 
@@ -81,7 +81,7 @@ taken-object depth mid new ms t =
     let h = source (λ js. of_members js no_members) (json.members (json.value depth) (length mid) mid) ms new t.members in
     record { value = rw h.1 (rw h.2 refl); shorter = omega arith }
 
-takes-object : (depth less : ℕ) (old mid new : List Token) (ms : Members) → depth ≡ suc less → old ≡ token.begin_object ∷ mid
+pub takes-object : (depth less : ℕ) (old mid new : List Token) (ms : Members) → depth ≡ suc less → old ≡ token.begin_object ∷ mid
     → TakesMembers less no_members mid new ms → Takes depth old new (object ms)
 takes-object depth less old mid new ms is e t = rw (is, e) (taken-object less mid new ms t)
 
@@ -183,10 +183,10 @@ pub found-string : (depth : ℕ) (old new : List Token) (s : List ℕ) (t : Stri
 found-string depth old new s t e is = rw (view-String t, is) (takes-string depth old new s e)
 
 pub found-number : (depth : ℕ) (old new : List Token) (s : List ℕ) (found : Option Value) → old ≡ token.number s ∷ new
-    → IfSome found (λ value. (n : ℕ) × (view value ≡ number (unsigned n)) × (number_of s ≡ Some (unsigned n)))
+    → IfSome found (λ value. (n : Num) × (view value ≡ number n) × (number_of s ≡ Some n))
     → IfSome found (λ value. Takes depth old new (view value))
 found-number depth old new s None e h = tt
-found-number depth old new s (Some value) e h = rw h.1 (takes-number depth old new s (unsigned h.0) e h.2)
+found-number depth old new s (Some value) e h = rw h.1 (takes-number depth old new s h.0 e h.2)
 
 pub found-array : (depth less : ℕ) (old mid new : List Token) (found : Option Value) → depth ≡ suc less → old ≡ token.begin_array ∷ mid
     → IfSome found (λ value. (items : Items) × (view value ≡ array items) × TakesItems less mid new items)

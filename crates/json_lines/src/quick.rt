@@ -1,11 +1,11 @@
 //! A value of JSON, read a token at a time.
-ghost use Rattle.std.specs.Prelude.{◌≡◌, ℕ, IfOk, IfSome, Some};
-ghost use Rattle.serde_json.specs.Data.{Items, Members, array, no_members, number, object, unsigned};
+ghost use Rattle.std.specs.Prelude.{◌≡◌, IfOk, IfSome, Some};
+ghost use Rattle.serde_json.specs.Data.{Items, Members, Num, array, no_members, number, object};
 ghost use Rattle.serde_json.specs.Read.{number_of, read};
 ghost use Rattle.serde_json.specs.View.{view};
 ghost use Rattle.json_lines.specs.Quick.{Takes, TakesItems, TakesMembers};
 
-use fast_float::Numeral;
+use crate::number::number_in;
 use json::{Reader, Scratch, Token};
 use serde_json::{Map, Value, put};
 use std::alloc::{AllocError, Global};
@@ -13,8 +13,8 @@ use std::alloc::{AllocError, Global};
 /// How deep lists and objects may nest, as deep as in `Value::from_str`.
 const DEPTH: u8 = 127;
 
-/// The value that a text is, if it is one without fractions and without numbers below 0 or above those of 64 bits.
-/// Nothing is said of another text, which may be a value or none. The scratch grows to the length of the text.
+/// The value that a text is, if it is found to be one. Nothing is said of another text, which may be a value or none.
+/// The scratch grows to the length of the text.
 pub fn quick_value(
     alloc: Global,
     text: &str,
@@ -32,13 +32,17 @@ pub fn quick_value(
 
 /// The value that comes next, nested no deeper than this.
 #[cycle(value)]
-fn value_of(alloc: Global, reader: &mut Reader<'_>, depth: u8) -> Result<Option<Value>, AllocError>
+pub fn value_of(
+    alloc: Global,
+    reader: &mut Reader<'_>,
+    depth: u8,
+) -> Result<Option<Value>, AllocError>
     ensures takes { IfOk result (λ found. IfSome found (λ value. Takes depth reader.old reader.new (view value))) }
 {
     match reader.next() {
         Some(Token::Null) => Ok(Some(Value::Null)),
         Some(Token::Bool(is)) => Ok(Some(Value::Bool(is))),
-        Some(Token::Number(text)) => Ok(number_in(text)),
+        Some(Token::Number(text)) => Ok(number_value(text)),
         Some(Token::String(text)) => Ok(Some(Value::String(String::from_str(alloc, text)?))),
         Some(Token::BeginArray) if depth > 0 => Ok(array(alloc, reader, depth - 1)?),
         Some(Token::BeginObject) if depth > 0 => Ok(object(alloc, reader, depth - 1)?),
@@ -82,17 +86,13 @@ fn object(alloc: Global, reader: &mut Reader<'_>, depth: u8) -> Result<Option<Va
     Ok(None)
 }
 
-/// The number that a token of JSON writes, if it is a whole number of 64 bits and not below 0.
-fn number_in(text: &str) -> Option<Value>
-    ensures number { IfSome result (λ value. (n : ℕ)
-        × (view value ≡ number (unsigned n)) × (number_of text.now ≡ Some (unsigned n))) }
+/// The value that a token of JSON is that writes a number.
+fn number_value(text: &str) -> Option<Value>
+    ensures number { IfSome result (λ value. (n : Num)
+        × (view value ≡ number n) × (number_of text.now ≡ Some n)) }
 {
-    let bytes = text.as_bytes();
-    if bytes.is_empty() || bytes[0] == b'-' {
-        return None;
-    }
-    match Numeral::scan(bytes).to_u64() {
-        Some(number) => Some(Value::from(number)),
+    match number_in(text) {
+        Some(number) => Some(Value::Number(number)),
         None => None,
     }
 }

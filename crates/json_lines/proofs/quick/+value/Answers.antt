@@ -35,7 +35,7 @@ value_of-returns-in-Some-Bool t c =
 
 pub value_of-returns-in-Some-Number : goal.value_of-returns-in-Some-Number
 value_of-returns-in-Some-Number t c =
-    record { takes = found-number _ _ _ _ _ (rw c.in-Some-Number.field-0-is at c.in-Some-Number.ensures.value) c.number_in.ensures.number }
+    record { takes = found-number _ _ _ _ _ (rw c.in-Some-Number.field-0-is at c.in-Some-Number.ensures.value) c.number_value.ensures.number }
 
 pub value_of-returns-in_ok-from_str-in-Some-String : goal.value_of-returns-in_ok-from_str-in-Some-String
 value_of-returns-in_ok-from_str-in-Some-String t c =
