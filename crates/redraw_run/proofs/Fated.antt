@@ -141,7 +141,7 @@ run_part c ds h = part_as {P = Then IsLogRun IsResult} c ds (run_more c) (part_t
 pub run_some : (c : Choice) → (es : List Deed) × IsLogRun c es
 run_some c = ([], record { before = []; after = []; split = refl; first = tt; next = ([], refl) })
 
-runs_more : (c : Choice) (ds : List Deed) → Then AreRuns IsLogRun c ds → AreRuns c ds
+pub runs_more : (c : Choice) (ds : List Deed) → Then AreRuns IsLogRun c ds → AreRuns c ds
 runs_more c ds h = (
   h.first.0 ++ null ∷ [],
   each_more (λ (d : Data). IsLogRun) null c h.first.0 ds

@@ -12,11 +12,14 @@ use Rattle.redraw_command.specs.Halt.{IsHalt}
 use Rattle.redraw_command.specs.Line.{begins_document, begins_object, first_of, mark}
 use Rattle.redraw_command.specs.LookAhead.{IsLineAhead, ReadsOn}
 use Rattle.redraw_command.specs.Scanned.{IsWithin}
+use Rattle.json_lines.specs.declared.cut.CutLog.{CutLog}
+use Rattle.redraw_command.specs.declared.choice.Choice.{Choice}
 use Rattle.redraw_command.specs.declared.scanner.Scan.{Scan}
 use Rattle.redraw_command.specs.declared.scanner.Scan.TheVariants.{Ends}
 use Rattle.redraw_command.specs.declared.stop.Stop.{Stop}
 use Rattle.redraw_command.specs.declared.stop.Stop.TheVariants.{Memory}
-use Rattle.redraw_run.specs.Fates.{IsTextOf}
+use Rattle.redraw_run.specs.Deeds.{Deed}
+use Rattle.redraw_run.specs.Fates.{AreRuns, IsFateOfPiece, IsTextOf}
 use Rattle.redraw_run.specs.FindingLines.{AreOfFinding}
 use Rattle.redraw_run.specs.Pieces.{Grows, IsNextPiece, IsOfForm, IsPieceAhead}
 use Rattle.redraw_run.specs.ReadLines.{IsDocument, IsPieceOf}
@@ -62,6 +65,10 @@ object_is piece v (text, is, (begins, reads)) =
 list_is : (piece : List ℕ) (v : Value) → IsOfForm piece (forms.List v) → IsDocument piece
 list_is piece v (text, is, (object, begins, reads)) = record { text = text; is = is; begins = begins; value = view v; reads = reads }
 
+log_is : (piece : List ℕ) (l : CutLog) → IsOfForm piece (forms.Log l) → IsDocument piece
+log_is piece l (text, is, (begins, (d, reads))) =
+    record { text = text; is = is; begins = object_document text begins; value = d; reads = reads }
+
 -- a piece that is an object or a list is a document
 pub object_found : (piece : List ℕ) (f : Form) (v : Value) → f ≡ forms.Object v → IsOfForm piece f → IsOfForm piece (forms.Object v) × IsDocument piece
 object_found piece f v same of =
@@ -72,6 +79,19 @@ pub list_found : (piece : List ℕ) (f : Form) (v : Value) → f ≡ forms.List 
 list_found piece f v same of =
     let list : IsOfForm piece (forms.List v) = subst (IsOfForm piece) same of in
     (list, list_is piece v list)
+
+pub log_found : (piece : List ℕ) (f : Form) (l : CutLog) → f ≡ forms.Log l → IsOfForm piece f → IsOfForm piece (forms.Log l) × IsDocument piece
+log_found piece f l same of =
+    let log : IsOfForm piece (forms.Log l) = subst (IsOfForm piece) same of in
+    (log, log_is piece l log)
+
+log_read : (piece : List ℕ) (l : CutLog) → IsOfForm piece (forms.Log l) → (c : Choice) (ds : List Deed) → AreRuns c ds → IsFateOfPiece piece c ds
+log_read piece l (text, is, (begins, reads)) c ds h = (text, is, inr (inr (inr (object_document text begins, h))))
+
+-- a log that is read without its results becomes what its runs do
+pub log_becomes : (piece : List ℕ) (f : Form) (l : CutLog) → f ≡ forms.Log l → IsOfForm piece f → (c : Choice) (ds : List Deed) → AreRuns c ds
+    → IsFateOfPiece piece c ds
+log_becomes piece f l same of = log_read piece l (subst (IsOfForm piece) same of)
 
 taken_some : (count : ℕ) (ahead : List ℕ) → 0 < length (take count ahead) → 0 < count
 taken_some count ahead some = omega (arith, some, length-take count ahead)

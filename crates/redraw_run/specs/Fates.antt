@@ -279,7 +279,6 @@ abbrev pub IsList : List ℕ → Choice → List Deed → Type 0
 IsList piece c deeds = IsHandedOn piece c deeds ⊎ AreRuns c deeds
 
 -- what becomes of a piece with this text: one that doesn't begin as an object does is handed on, unless it tells of a finding, or is a log
--- of ESLint
 abbrev pub IsPieceWith : List ℕ → List ℕ → Choice → List Deed → Type 0
 IsPieceWith piece text c deeds =
     ((begins_object text ≡ false) × IsHandedOn piece c deeds)

@@ -5,7 +5,7 @@ ghost use Rattle.redraw_command.specs.Line.{begins_utf16};
 ghost use Rattle.redraw_command.specs.LookAhead.{left_of};
 ghost use Rattle.redraw_run.specs.Deeds.{Does, Happens, standing};
 ghost use Rattle.redraw_run.specs.Fates.{Each, Halts, IsEnd, IsFateOfPiece, IsHandedOn, IsInput, IsKnown, IsUnknown};
-ghost use Rattle.redraw_run.specs.Fates.{IsList, IsValue};
+ghost use Rattle.redraw_run.specs.Fates.{AreRuns, IsList, IsValue};
 ghost use Rattle.redraw_run.specs.Pieces.{IsOfForm};
 ghost use Rattle.redraw_run.specs.ReadLines.{AreAllOf, AreFirstOf, TellsUnless};
 ghost use Rattle.output_stream.specs.Standing.{Standing, known};
@@ -15,14 +15,16 @@ use crate::kind::{Kind, eslint_files, kind_of};
 use crate::lines::draw_lines;
 use crate::piece::{Form, JsonReader};
 use crate::report::{
-    cargo_message, eslint_log, lsp_document, lsp_notification, rustc_diagnostic, sarif_log,
+    cargo_message, cut_sarif_log, eslint_log, lsp_document, lsp_notification, rustc_diagnostic,
+    sarif_log,
 };
+use json_lines::cut::CutLog;
 use json_lines::node::Node;
 use json_lines::place::JsonPath;
 use memchr::memchr;
 use output_stream::Stream;
 use redraw_command::ahead::Ahead;
-use redraw_command::line::is_utf16;
+use redraw_command::line::{is_utf16, mark_length};
 use redraw_command::stop::Stop;
 use redraw_read::sources::SourceFiles;
 use serde_json::Value;
@@ -90,6 +92,7 @@ impl Reading {
     {
         match form {
             Form::Object(value) => self.value(&value, bytes, drawing, out, err),
+            Form::Log(log) => self.log(&log, bytes, drawing, out, err),
             Form::Undecoded => {
                 self.has_objects = true;
                 drawing.wrong("not valid UTF-8", err);
@@ -137,6 +140,25 @@ impl Reading {
                 err,
             );
         }
+    }
+
+    /// Takes a log without its results, which stand in this piece.
+    fn log<S: SourceFiles + Drop, W: Write, V: Write>(
+        &mut self,
+        log: &CutLog,
+        piece: &[u8],
+        drawing: &mut Drawing<'_, S>,
+        out: &mut Stream<W>,
+        err: &mut Stream<V>,
+    ) -> Result<(), Stop>
+        ensures does { Happens result AreRuns
+            (standing drawing.old (known W.contents out.old) (known V.contents err.old))
+            (standing drawing.new (known W.contents out.new) (known V.contents err.new)) }
+    {
+        self.has_objects = true;
+        self.is_known = true;
+        let text = &piece[mark_length(piece, true)..];
+        cut_sarif_log(log, text, drawing, out, err)
     }
 
     /// Takes a list, which this piece is: ESLint's log is drawn, and any other is handed on.

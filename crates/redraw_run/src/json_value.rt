@@ -1,10 +1,12 @@
 //! The value of JSON that a line or a document is.
 ghost use Rattle.std.specs.Prelude.{◌≡◌, ◌++◌, ◌⊎◌, ◌∷◌, [], None, Some, IfOk, IfSome, MatchResult};
+ghost use Rattle.serde_json.specs.Data.{Data};
 ghost use Rattle.serde_json.specs.Read.{read};
 ghost use Rattle.serde_json.specs.View.{view};
 ghost use Rattle.redraw_run.specs.Fates.{IsWithoutEnd, Reads};
 
 use json::Scratch;
+use json_lines::cut::{CutLog, cut_log};
 use json_lines::quick::quick_value;
 use serde_json::Value;
 use std::alloc::{AllocError, Global};
@@ -12,6 +14,21 @@ use std::alloc::{AllocError, Global};
 /// The bytes of the longest text that is read in memory that is kept from one text to the next: as much may stay taken,
 /// and no more. A longer one is read in memory that is given back when it is read.
 const LONGEST_KEPT: usize = 1 << 20;
+
+/// The bytes of the longest text of which the results of a log are kept while they are drawn.
+const LONGEST_WHOLE: usize = 1 << 13;
+
+/// The log that a line or a document is, without its results, if it is so long that they are better read again.
+pub fn cut_of(alloc: Global, text: &str) -> Result<Option<CutLog>, AllocError>
+    ensures reads { IfOk result (λ found. IfSome found (λ log. (d : Data) × Reads text.now (Some d))) }
+{
+    let json = without_end(text);
+    if json.len() <= LONGEST_WHOLE {
+        return Ok(None);
+    }
+    let mut scratch = Scratch::new(alloc);
+    Ok(cut_log(alloc, json, &mut scratch)?)
+}
 
 /// The value of JSON that a line or a document is, or why it is none. The scratch is kept from one to the next.
 pub fn json_of(

@@ -15,6 +15,7 @@ pub mod look;
 pub mod piece;
 pub mod readings;
 pub mod report;
+pub mod results;
 pub mod run;
 pub mod sarif;
 pub mod text;

@@ -8,8 +8,9 @@ ghost use Rattle.redraw_run.specs.Pieces.{Grows, IsNextPiece, IsOfForm, IsOther,
 ghost use Rattle.redraw_run.specs.ReadLines.{IsDocument};
 
 use crate::finding_rows::{are_of_finding, end_of_finding};
-use crate::json_value::json_of;
+use crate::json_value::{cut_of, json_of};
 use json::Scratch;
+use json_lines::cut::CutLog;
 use redraw_command::ahead::Ahead;
 use redraw_command::line::{Line, line_of, mark_length};
 use redraw_command::scanner::{Scan, Scanner};
@@ -24,6 +25,8 @@ use std::io::BufRead;
 pub enum Form {
     /// An object of JSON.
     Object(Value),
+    /// A log, an object of JSON, without its results.
+    Log(CutLog),
     /// A list of JSON.
     List(Value),
     /// It begins as an object does, and isn't UTF-8.
@@ -168,6 +171,16 @@ impl JsonReader {
     fn object(&mut self, text: &str) -> Result<Form, AllocError>
         ensures form { begins_object text.now ≡ true → IfOk result (λ form. IsReadAs text.now form) }
     {
+        match cut_of(self.alloc, text)? {
+            Some(log) => Ok(Form::Log(log)),
+            None => self.whole_object(text),
+        }
+    }
+
+    /// The same, where all of an object is kept.
+    fn whole_object(&mut self, text: &str) -> Result<Form, AllocError>
+        ensures form { begins_object text.now ≡ true → IfOk result (λ form. IsReadAs text.now form) }
+    {
         let read = json_of(self.alloc, text, &mut self.scratch)?;
         match read {
             Ok(value) => Ok(Form::Object(value)),
@@ -225,6 +238,10 @@ fn document_of(count: usize, form: Form) -> Option<Piece>
         Form::Object(value) => Some(Piece {
             count,
             form: Form::Object(value),
+        }),
+        Form::Log(log) => Some(Piece {
+            count,
+            form: Form::Log(log),
         }),
         Form::List(value) => Some(Piece {
             count,

@@ -8,8 +8,9 @@ ghost use Rattle.std.specs.Prelude.{◌≡◌, Ok};
 
 use crate::draw::Drawing;
 use crate::readings::read_diagnostic;
-use crate::sarif::{draw_run, draw_runs};
+use crate::sarif::{draw_cut_runs, draw_run, draw_runs};
 use crate::verify::keep_own_text;
+use json_lines::cut::CutLog;
 use json_lines::expectation::Expectation;
 use json_lines::fault::Fault;
 use json_lines::lenient::LenientNode;
@@ -123,6 +124,24 @@ pub fn sarif_log<S: SourceFiles + Drop, W: Write, V: Write>(
     drawing.own_text = None;
     swap_sources(drawing);
     let drawn = draw_log(node, drawing, out, err);
+    swap_sources(drawing);
+    drawn
+}
+
+/// Takes a SARIF log that is read without its results, which stand in this text.
+pub fn cut_sarif_log<S: SourceFiles + Drop, W: Write, V: Write>(
+    log: &CutLog,
+    text: &[u8],
+    drawing: &mut Drawing<'_, S>,
+    out: &mut Stream<W>,
+    err: &mut Stream<V>,
+) -> Result<(), Stop>
+    ensures does { Happens result AreRuns (standing drawing.old (known W.contents out.old) (known V.contents err.old))
+        (standing drawing.new (known W.contents out.new) (known V.contents err.new)) }
+{
+    drawing.own_text = None;
+    swap_sources(drawing);
+    let drawn = draw_cut_runs(log, text, drawing, out, err);
     swap_sources(drawing);
     drawn
 }

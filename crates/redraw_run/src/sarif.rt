@@ -6,7 +6,9 @@ ghost use Rattle.redraw_run.specs.Fates.{AreRuns, Each, IsResult, IsLogRun};
 ghost use Rattle.output_stream.specs.Standing.{known};
 
 use crate::draw::Drawing;
-use json_lines::lenient::{LenientNode, List, Problems};
+use crate::results::Results;
+use json_lines::cut::{CutLog, Stretch};
+use json_lines::lenient::{LenientNode, List, Problems, items_of};
 use json_lines::place::JsonPath;
 use output_stream::Stream;
 use redraw_command::stop::Stop;
@@ -58,10 +60,83 @@ pub fn draw_run<S: SourceFiles + Drop, W: Write, V: Write>(
     Ok(())
 }
 
+/// Draws what the results of a log's runs tell that is read without them: they stand in this text, and each is drawn
+/// before the next is read.
+pub fn draw_cut_runs<S: SourceFiles + Drop, W: Write, V: Write>(
+    log: &CutLog,
+    text: &[u8],
+    drawing: &mut Drawing<'_, S>,
+    out: &mut Stream<W>,
+    err: &mut Stream<V>,
+) -> Result<(), Stop>
+    ensures does { Happens result AreRuns (standing drawing.old (known W.contents out.old) (known V.contents err.old))
+        (standing drawing.new (known W.contents out.new) (known V.contents err.new)) }
+{
+    let document = JsonPath::Document;
+    let place = JsonPath::Field(&document, "runs");
+    let items = items_of(log.value.get("runs"));
+    let runs = List { items, place };
+    let mut results = Results::new(drawing.alloc, text);
+    for (index, value) in runs.items.iter().enumerate() {
+        let places = places_of(log, index);
+        draw_cut_run(
+            runs.node(index, value),
+            places,
+            &mut results,
+            drawing,
+            out,
+            err,
+        )?;
+    }
+    Ok(())
+}
+
+/// Where the results of the run with this index stand.
+fn places_of(log: &CutLog, index: usize) -> &[Stretch] {
+    if index < log.results.len() {
+        log.results[index].as_slice()
+    } else {
+        &[]
+    }
+}
+
+/// Draws what the results of a run tell that stand in these places.
+fn draw_cut_run<'x, S: SourceFiles + Drop, W: Write, V: Write>(
+    node: LenientNode<'x, 'x>,
+    places: &[Stretch],
+    results: &mut Results<'_>,
+    drawing: &mut Drawing<'_, S>,
+    out: &mut Stream<W>,
+    err: &mut Stream<V>,
+) -> Result<(), Stop>
+    ensures does { Happens result IsLogRun (standing drawing.old (known W.contents out.old) (known V.contents err.old))
+        (standing drawing.new (known W.contents out.new) (known V.contents err.new)) }
+{
+    let mut problems = Problems::new(drawing.alloc);
+    let run = LogRun::new(
+        drawing.alloc,
+        LogForm::Sarif,
+        node,
+        drawing.columns,
+        &mut problems,
+    );
+    let list = run.results(&mut problems);
+    tell_all(&problems, drawing, err)?;
+    for (index, place) in places.iter().enumerate() {
+        let value = results.read(*place)?;
+        let reported = LenientNode {
+            value: &value,
+            place: JsonPath::Item(&list.place, index),
+        };
+        draw_result(&run, &reported, drawing, out, err)?;
+    }
+    Ok(())
+}
+
 /// Draws what a result of a run reports, after what is wrong with it.
-fn draw_result<'v, S: SourceFiles + Drop, W: Write, V: Write>(
-    run: &LogRun<'v, '_>,
-    reported: &LenientNode<'v, '_>,
+fn draw_result<S: SourceFiles + Drop, W: Write, V: Write>(
+    run: &LogRun<'_, '_>,
+    reported: &LenientNode<'_, '_>,
     drawing: &mut Drawing<'_, S>,
     out: &mut Stream<W>,
     err: &mut Stream<V>,

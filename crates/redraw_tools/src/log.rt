@@ -63,7 +63,7 @@ impl<'v, 'p> LogRun<'v, 'p> {
     pub fn finding(
         &self,
         alloc: Global,
-        reported: &LenientNode<'v, '_>,
+        reported: &LenientNode<'_, '_>,
         problems: &mut Problems,
     ) -> Result<Option<Diagnostic>, AllocError>
         ensures is { IfOk result (IsReportedBy self.now (view reported.now.value.now)) }

@@ -60,7 +60,7 @@ fn text_of_string<'v>(strings: Option<&'v Value>, id: &str) -> Option<&'v str> {
 /// The rule of a result: by its number, or else by its id. Where it is the number of no rule, that is reported.
 pub fn rule_of<'v>(
     rules: &RunRules<'v>,
-    reported: &LenientNode<'v, '_>,
+    reported: &LenientNode<'_, '_>,
     problems: &mut Problems,
 ) -> SarifRule<'v> {
     let index = index_of(reported, problems);

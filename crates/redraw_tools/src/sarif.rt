@@ -62,7 +62,7 @@ impl<'v, 'p> SarifRun<'v, 'p> {
     pub fn finding(
         &self,
         alloc: Global,
-        reported: &LenientNode<'v, '_>,
+        reported: &LenientNode<'_, '_>,
         problems: &mut Problems,
     ) -> Result<Option<Diagnostic>, AllocError>
         ensures is { IfOk result (λ found. IfSome found (IsResultOf (view self.now.node.value.now) self.now.unit

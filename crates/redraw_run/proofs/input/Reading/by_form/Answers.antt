@@ -1,7 +1,8 @@
 use Rattle.serde_json.specs.View.{view}
-use Rattle.redraw_run.specs.Fates.{IsFateOfPiece, IsFindingOrText, IsHandedOn, IsList, IsValue}
+use Rattle.redraw_run.specs.Fates.{AreRuns, IsFateOfPiece, IsFindingOrText, IsHandedOn, IsList, IsValue}
 use Rattle.redraw_run.proofs.Doing.{does_as, goes_as}
 use Rattle.redraw_run.proofs.Lined.{finding_becomes, hands_begun, hands_blank, hands_other, list_becomes, value_becomes, wrong_becomes}
+use Rattle.redraw_run.proofs.Pieced.{log_becomes}
 use Rattle.redraw_run.proofs.input.Reading.by_form.Goals as goal
 
 pub returns-in-Object : goal.returns-in-Object
@@ -10,6 +11,14 @@ returns-in-Object g c =
     record {
       does = λ of. goes_as (IsValue bytes (view c.in-Object.value)) (IsFateOfPiece bytes) _ _ c.value.result
           (value_becomes bytes c.args.form c.in-Object.value c.in-Object.is of _) c.value.ensures.does;
+    }
+
+pub returns-in-Log : goal.returns-in-Log
+returns-in-Log g c =
+    let bytes = c.args.bytes.now in
+    record {
+      does = λ of. goes_as AreRuns (IsFateOfPiece bytes) _ _ c.log.result (log_becomes bytes c.args.form c.in-Log.log c.in-Log.is of _)
+          c.log.ensures.does;
     }
 
 pub returns-in-Undecoded : goal.returns-in-Undecoded

@@ -1,0 +1,10 @@
+use Rattle.redraw_run.specs.Deeds.{Does, standing}
+use Rattle.redraw_run.specs.Fates.{IsLogRun}
+use Rattle.output_stream.specs.Standing.{known}
+use Rattle.redraw_run.proofs.sarif.draw_cut_run.Given as goal
+
+-- what is done of the run so far
+abbrev pub invariant-loop-index : goal.invariant-loop-index
+invariant-loop-index g l =
+    Does IsLogRun (standing l.fn.drawing (known g.W.Write.contents l.fn.out) (known g.V.Write.contents l.fn.err))
+    (standing l.drawing (known g.W.Write.contents l.out) (known g.V.Write.contents l.err))
