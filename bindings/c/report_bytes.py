@@ -3,7 +3,7 @@
 A case is one as docs/REPORTS.md has it, and a right one: nothing is asked here. Its spans are in bytes.
 """
 
-VERSION = b"\2"
+VERSION = b"\3"
 KINDS = ("error", "warning", "info", "note", "help")
 MARKS = ("primary", "context", "visible")
 PARTS = ("error", "warning", "info", "note", "help", "line_num", "emphasis", "none", "context", "addition", "removal")
@@ -122,7 +122,7 @@ def suggestion(given):
 
 def snippet(given, markers, write):
     start = number(1 if given.get("line_start") is None else given["line_start"])
-    made = option(given.get("path"), text) + start + text(given["source"]) + many(markers, write)
+    made = option(given.get("path"), text) + start + b"\0" + text(given["source"]) + many(markers, write)
     return made + flag(given.get("line_numbering") is not False) + flag(given.get("fold") is not False)
 
 

@@ -54,6 +54,32 @@ enum yazgult_wrong {
 /* Draws the report that stands in `input`, in the form of docs/BINDINGS.md. Any bytes are answered. */
 size_t yazgult_draw(const uint8_t *input, size_t input_length, uint8_t *output, size_t output_length);
 
+/* A list of sources that are kept: they have numbers in their order, from 0. What `kept` leads to is the library's. A list is used by one
+ * call at a time, and may go to another thread between two; lists that share sources may be used by calls at once. Only a list that
+ * yazgult_sources_new made may be given to the other calls. */
+typedef struct yazgult_sources {
+    void *kept;
+} yazgult_sources;
+
+/* Makes an empty list. What `sources` had isn't given back: before the first call it has NULL. Returns 0, or 1 where there was no memory,
+ * and then nothing changed. */
+int yazgult_sources_new(yazgult_sources *sources);
+
+/* Copies a text, finds its lines, and keeps it as the last one of a list. Returns 0; 1 where there was no memory; 2 where the text isn't
+ * UTF-8, or has 2^56 bytes or more. Then the list is as it was. */
+int yazgult_sources_add(const uint8_t *text, size_t length, yazgult_sources *sources);
+
+/* Keeps the sources of one list after those of another, too. No text is copied. Returns 0, or 1 where there was no memory, and then both
+ * lists are as they were. They may not be the same. */
+int yazgult_sources_share(yazgult_sources *from, yazgult_sources *into);
+
+/* Draws as yazgult_draw does. In place of a source's text the report may have its number in this list, and is then the one with that text:
+ * no line of it is looked for again. */
+size_t yazgult_draw_with(const uint8_t *input, size_t input_length, yazgult_sources *sources, uint8_t *output, size_t output_length);
+
+/* Gives a list back: it has NULL then. */
+void yazgult_sources_free(yazgult_sources *sources);
+
 /* Draws the report that stands in `input`, a line of JSON in UTF-8 as docs/REPORTS.md has it, and gives what `replay --keep-going` answers
  * to it, in JSON without a line feed: {"id":..,"ok":[..]} with a text for each sheet, {"id":..,"refused":..,"text":..} and the numbers
  * that the refusal names, or {"error":..,"line":1} where the line is no report or there was no memory. Any bytes are answered. */

@@ -232,6 +232,7 @@ static inline void yazgult_report_snippet_of(yazgult_report *report, const yazgu
     report->kind_at = report->bytes.length - 1;
     yazgult_put_option(report, source->path);
     yazgult_put_number(report, source->first_line);
+    yazgult_put_byte(report, 0); /* its text, not the number of one that is kept */
     yazgult_put_text(report, source->text, source->length);
     report->source_length = source->length;
     report->source_at = report->bytes.length - source->length;

@@ -220,7 +220,7 @@ static inline size_t yazgult_put_head(yazgult_report *report, const yazgult_rend
     static const unsigned char bold[11] = {1, 1, 1, 1, 1, 1, 1, 0, 1, 0, 0};
     unsigned char head[YAZGULT_HEAD] = {0};
     size_t length = 41;
-    head[0] = 2; /* the version */
+    head[0] = 3; /* the version */
     head[1] = renderer->anonymized_origin != 0;
     head[2] = renderer->anonymized_snippet != 0;
     yazgult_set_number(head + 3, renderer->term_width ? renderer->term_width : 140);

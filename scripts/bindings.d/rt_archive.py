@@ -3,7 +3,7 @@
 import hashlib
 
 import libraries
-from crates import below
+from crates import below, uses
 from facts import ROOT, Trouble, kit, run
 
 HOME = ROOT / "crates" / "yazgult_c"
@@ -43,8 +43,8 @@ def words_of_build(named, rlib):
     """What `rattle build` is told: the crates that this one names, all that these stand on, and where the kit has the rest."""
     words = ["--crate-name", "yazgult_c", "src/lib.rt", "--extern", f"std={kit()}/rlibs/std.rlib"]
     words += ["-L", f"dependency={kit()}/rlibs"]
-    for it in named:
-        words += ["--extern", f"{it}={rlib[it]}"]
+    for it in uses()["yazgult_c"]:
+        words += ["--extern", f"{it}={rlib[it] if it in named else kit() / 'rlibs' / f'{it}.rlib'}"]
     for it in rlib.values():
         words += ["-L", f"dependency={it.parent}"]
     words += ["--antt-project", f"{kit()}/rattle/logic/antt-project.json", "--logic-built", f"{kit()}/logic_built"]

@@ -37,6 +37,8 @@ def check(room, report_bytes, pairs):
     rest = report_bytes.Rest(run([f"{room}/frames"], input=frames))
     compare("C", [without_numbers(report_bytes.answer_of(case, rest.take(rest.number()))) for case, _ in pairs], pairs)
     print(f"bindings: C: {run([f'{room}/mutate', given, str(MUTATED)]).decode().strip()}", flush=True)
+    compiled(room, "kept", "-lpthread")
+    print(f"bindings: C: {run([f'{room}/kept', '1000']).decode().strip()}", flush=True)
 
 
 def check_builder(room):

@@ -7,7 +7,7 @@ use crate::snippet::{Annotation, Element, Group, Id, Message, Origin, Patch, Sni
 use std::ops::Range;
 
 /// The version of the form.
-const VERSION: u8 = 2;
+const VERSION: u8 = 3;
 
 /// The kind of the later setting `mask_controls`.
 const MASK_CONTROLS: u8 = 0;
@@ -180,6 +180,7 @@ fn message(m: &Message<'_>, out: &mut Vec<u8>) -> Written {
 fn snippet<T>(s: &Snippet<'_, T>, marker: fn(&T, &mut Vec<u8>) -> Written, out: &mut Vec<u8>) -> Written {
     option(s.path.as_deref(), text, out)?;
     number(s.line_start, out)?;
+    byte(0, out)?; // the source's text, not the number of one that is kept
     text(&s.source, out)?;
     list(&s.markers, marker, out)?;
     byte(s.line_numbering, out)?;

@@ -17,12 +17,16 @@ use Rattle.snippet_style.specs.declared.style.AnsiColor.TheVariants as ansi
 use Rattle.snippet_style.specs.declared.style.Color.TheVariants.{Ansi, Ansi256, Rgb}
 use Rattle.report_bytes.specs.Bytes.{number_then, flag_then, text_then, option_then, members_then, list_then, severity_number, mark_number, decor_number}
 use Rattle.report_bytes.specs.Bytes.{ansi_number, later_then, settings_then, color_then, effects_then, style_then, sheet_then, name_then, level_then, id_then}
-use Rattle.report_bytes.specs.Bytes.{title_then, message_then, span_then, annotation_then, patch_then, snippet_then, origin_then, element_then, group_then}
+use Rattle.report_bytes.specs.Bytes.{title_then, message_then, span_then, annotation_then, patch_then, origin_then}
+use Rattle.report_bytes.specs.Bytes.{AreMembersThen, IsElementThen, IsGroupThen, IsListThen, IsNumberOf, IsSnippetThen, snippet_then, source_then}
 use Rattle.report_bytes.specs.Reading.{◌>>=◌, fault_at, read_number, after_number, after_flag, after_kind, after_text, after_option, after_members, after_list}
 use Rattle.report_bytes.specs.Reading.{after_later, after_pairs}
 use Rattle.report_bytes.specs.Reading.{after_settings, after_color, after_effects, after_style, after_levels, after_parts, after_sheet, after_name}
 use Rattle.report_bytes.specs.Reading.{after_level, after_id, after_title, after_message, after_span, after_annotation, after_patch, after_snippet}
-use Rattle.report_bytes.specs.Reading.{after_origin, after_element, after_group}
+use Rattle.report_bytes.specs.Reading.{after_origin, after_element, after_group, after_kept, after_source}
+use Rattle.snippet_model.specs.declared.snippet.Snippet.{Snippet}
+use Rattle.std.specs.declared.alloc.Global.{Global}
+use Rattle.std.specs.declared.borrow.CowStr.{CowStr}
 use Rattle.report_bytes.specs.Report.{IsText, IsListOf, IsName, IsId, IsTitle, IsAnnotation, IsPatch, IsSnippet, IsElement, IsGroup}
 use Rattle.report_bytes.specs.declared.fault.ByteFault.{ByteFault}
 use Rattle.report_bytes.specs.declared.fault.Wrong.TheVariants.{Flag, Short}
@@ -238,13 +242,25 @@ patch_again : Again patch_then after_patch IsPatch
 unfolding after_patch
 patch_again p rest is = seq _ (span_again p.span _ tt) (text_again p.replacement rest is)
 
+kept_again : (texts : List (List ℕ)) (text : List ℕ) (n : ℕ) (rest : List ℕ) → length texts < 2 ^ 64 → IsNumberOf texts text (Some n)
+    → after_kept (length texts) (number_then n rest) ≡ Ok rest
+kept_again texts text n rest few is = rw (number_read n rest (omega (arith, few, is.0)), lt-ltb n (length texts) is.0) refl
+
+source_again : (texts : List (List ℕ)) (text : CowStr Global) (n : Option ℕ) (rest : List ℕ) → length texts < 2 ^ 64 → IsText text
+    → IsNumberOf texts (cow_str_bytes text) n → after_source (length texts) (source_then n text rest) ≡ Ok rest
+unfolding after_source
+source_again texts text None rest few is of = text_again text rest is
+source_again texts text (Some n) rest few is of = kept_again texts (cow_str_bytes text) n rest few of
+
 snippet_again : {T : Type 0} (f : T → List ℕ → List ℕ) (after : List ℕ → Result (List ℕ) ByteFault) (P : T → Type 0)
-    → Again f after P → Again (snippet_then f) (after_snippet after) (IsSnippet P)
+    → Again f after P → (texts : List (List ℕ)) → length texts < 2 ^ 64 → (s : Snippet T) (bytes rest : List ℕ) → IsSnippet P s
+    → IsSnippetThen texts f s bytes rest → after_snippet after (length texts) bytes ≡ Ok rest
 unfolding after_snippet
-snippet_again f after P again s rest is =
-    seq _ (option_text s.path _ is.0)
-    (seq_number s.line_start (text_then s.source.text (list_then f s.markers.items (flag_then s.line_numbering (flag_then s.fold rest)))) _
-    (seq _ (text_again s.source.text _ is.1)
+snippet_again f after P again texts few s bytes rest is has =
+    let n = has.0 in
+    ap (after_snippet after (length texts)) has.2 ∙ seq _ (option_text s.path _ is.0)
+    (seq_number s.line_start (source_then n s.source.text (list_then f s.markers.items (flag_then s.line_numbering (flag_then s.fold rest)))) _
+    (seq _ (source_again texts s.source.text n _ few is.1 has.1)
     (seq _ (list_again f after P again s.markers.items _ is.2) (seq _ (flag_again s.line_numbering _ tt) (flag_again s.fold rest tt)))))
 
 option_number : Again (option_then number_then) (after_option after_number) (λ o. IfSome o Any)
@@ -255,16 +271,36 @@ unfolding after_origin
 origin_again o rest is =
     seq _ (text_again o.path _ is) (seq _ (option_number o.line _ (any_option o.line)) (option_number o.char_column rest (any_option o.char_column)))
 
-element_again : Again element_then after_element IsElement
-unfolding after_element
-element_again (element.Message message) rest is = message_again message rest is
-element_again (element.Cause snippet) rest is = snippet_again annotation_then after_annotation IsAnnotation annotation_again snippet rest is
-element_again (element.Suggestion snippet) rest is = snippet_again patch_then after_patch IsPatch patch_again snippet rest is
-element_again (element.Origin origin) rest is = origin_again origin rest is
-element_again (element.Padding padding) rest is = refl
+-- bytes that are those of a thing are read as such a thing, and what follows is left
+abbrev pub AgainOver : {X : Type 0} → (X → List ℕ → List ℕ → Type 0) → (List ℕ → Result (List ℕ) ByteFault) → (X → Type 0) → Type 0
+AgainOver {X} Then after P = (x : X) (bytes rest : List ℕ) → P x → Then x bytes rest → after bytes ≡ Ok rest
 
-pub group_again : Again group_then after_group IsGroup
-unfolding after_group
-group_again g rest is =
-    seq _ (severity_again g.level _) (seq _ (option_again title_then after_title IsTitle title_again g.title _ is.0)
-    (list_again element_then after_element IsElement element_again g.elements.items rest is.1))
+members_over_again : {X : Type 0} (Then : X → List ℕ → List ℕ → Type 0) (after : List ℕ → Result (List ℕ) ByteFault) (P : X → Type 0)
+    → AgainOver Then after P → (xs : List X) (bytes rest : List ℕ) → AllByRecursion P xs → AreMembersThen Then xs bytes rest
+    → after_members after (length xs) bytes ≡ Ok rest
+unfolding after_members AreMembersThen
+members_over_again Then after P again [] bytes rest is has = ap ok has
+members_over_again Then after P again (x ∷ xs) bytes rest is has =
+    rw (again x bytes has.0 is.0 has.1) (members_over_again Then after P again xs has.0 rest is.1 has.2)
+
+pub list_over_again : {X : Type 0} (Then : X → List ℕ → List ℕ → Type 0) (after : List ℕ → Result (List ℕ) ByteFault) (P : X → Type 0)
+    → AgainOver Then after P → AgainOver (IsListThen Then) (after_list after) (IsListOf P)
+unfolding after_list IsListThen
+list_over_again Then after P again xs bytes rest is has =
+    ap (after_list after) has.1 ∙ rw (number_read (length xs) has.0 is.0) (members_over_again Then after P again xs has.0 rest is.1 has.2)
+
+element_again : (texts : List (List ℕ)) → length texts < 2 ^ 64 → AgainOver (IsElementThen texts) (after_element (length texts)) IsElement
+unfolding after_element IsElementThen
+element_again texts few (element.Message message) bytes rest is has = ap (after_element (length texts)) has ∙ message_again message rest is
+element_again texts few (element.Cause snippet) bytes rest is has =
+    ap (after_element (length texts)) has.1 ∙ snippet_again annotation_then after_annotation IsAnnotation annotation_again texts few snippet has.0 rest is has.2
+element_again texts few (element.Suggestion snippet) bytes rest is has =
+    ap (after_element (length texts)) has.1 ∙ snippet_again patch_then after_patch IsPatch patch_again texts few snippet has.0 rest is has.2
+element_again texts few (element.Origin origin) bytes rest is has = ap (after_element (length texts)) has ∙ origin_again origin rest is
+element_again texts few (element.Padding padding) bytes rest is has = ap (after_element (length texts)) has
+
+pub group_again : (texts : List (List ℕ)) → length texts < 2 ^ 64 → AgainOver (IsGroupThen texts) (after_group (length texts)) IsGroup
+unfolding after_group IsGroupThen
+group_again texts few g bytes rest is has =
+    ap (after_group (length texts)) has.1 ∙ seq _ (severity_again g.level _) (seq _ (option_again title_then after_title IsTitle title_again g.title _ is.0)
+    (list_over_again (IsElementThen texts) (after_element (length texts)) IsElement (element_again texts few) g.elements.items has.0 rest is.1 has.2))

@@ -1,4 +1,5 @@
 pub mod Again
 pub mod Members
+pub mod OverKept
 pub mod Texts
 pub mod Whole

@@ -1,6 +1,6 @@
 -- The form of a report as bytes. Each definition gives the bytes of a thing, and then the bytes that follow it, which are its last
 -- argument.
-use Rattle.std.specs.Prelude.{ℕ, Bool, true, false, List, [], ◌∷◌, ◌++◌, Option, Some, None, length, if◌then◌else◌}
+use Rattle.std.specs.Prelude.{◌≡◌, ℕ, ◌<◌, Bool, true, false, List, [], ◌∷◌, ◌++◌, Option, Some, None, get_or, length, if◌then◌else◌}
 use Rattle.std.specs.Int.{w64, to_le_bytes}
 use Rattle.std.specs.Cow.{cow_str_bytes}
 use Rattle.std.specs.declared.borrow.CowStr.{CowStr}
@@ -160,21 +160,51 @@ annotation_then a rest =
 abbrev pub patch_then : Patch → List ℕ → List ℕ
 patch_then p rest = span_then p.span (text_then p.replacement rest)
 
-abbrev pub snippet_then : {T : Type 0} → (T → List ℕ → List ℕ) → Snippet T → List ℕ → List ℕ
-snippet_then f s rest =
-    option_then text_then s.path (number_then s.line_start (text_then s.source.text
+-- a source: 0 and its text, or 1 and the number that its text has among the sources that are kept
+abbrev pub source_then : Option ℕ → CowStr Global → List ℕ → List ℕ
+source_then None text rest = 0 ∷ text_then text rest
+source_then (Some n) text rest = 1 ∷ number_then n rest
+
+-- a snippet, whose source has this number or none
+abbrev pub snippet_then : {T : Type 0} → (T → List ℕ → List ℕ) → Option ℕ → Snippet T → List ℕ → List ℕ
+snippet_then f n s rest =
+    option_then text_then s.path (number_then s.line_start (source_then n s.source.text
     (list_then f s.markers.items (flag_then s.line_numbering (flag_then s.fold rest)))))
 
 abbrev pub origin_then : Origin → List ℕ → List ℕ
 origin_then o rest = text_then o.path (option_then number_then o.line (option_then number_then o.char_column rest))
 
-abbrev pub element_then : Element → List ℕ → List ℕ
-element_then (element.Message message) rest = 0 ∷ message_then message rest
-element_then (element.Cause snippet) rest = 1 ∷ snippet_then annotation_then snippet rest
-element_then (element.Suggestion snippet) rest = 2 ∷ snippet_then patch_then snippet rest
-element_then (element.Origin origin) rest = 3 ∷ origin_then origin rest
-element_then (element.Padding padding) rest = 4 ∷ rest
+-- ---- what stands over sources that are kept: whether bytes are those of a thing, and then the others
 
-abbrev pub group_then : Group → List ℕ → List ℕ
-group_then g rest =
-    severity_number g.level ∷ option_then title_then g.title (list_then element_then g.elements.items rest)
+-- a number among these texts is that of this text; where there is none, any text will do
+abbrev pub IsNumberOf : List (List ℕ) → List ℕ → Option ℕ → Type 0
+IsNumberOf texts text None = Unit {0}
+IsNumberOf texts text (Some n) = (n < length texts) × (text ≡ get_or texts n [])
+
+-- a snippet after its kind, by its text or by a number of its text
+abbrev pub IsSnippetThen : {T : Type 0} → List (List ℕ) → (T → List ℕ → List ℕ) → Snippet T → List ℕ → List ℕ → Type 0
+IsSnippetThen texts f s bytes rest = (n : Option ℕ) × IsNumberOf texts (cow_str_bytes s.source.text) n × (bytes ≡ snippet_then f n s rest)
+
+-- a byte for the kind of an element, and what stands after it
+abbrev pub IsKindThen : ℕ → (List ℕ → Type 0) → List ℕ → Type 0
+IsKindThen kind P bytes = (mid : List ℕ) × (bytes ≡ kind ∷ mid) × P mid
+
+unfoldable pub IsElementThen : List (List ℕ) → Element → List ℕ → List ℕ → Type 0
+IsElementThen texts (element.Message message) bytes rest = bytes ≡ 0 ∷ message_then message rest
+IsElementThen texts (element.Cause snippet) bytes rest = IsKindThen 1 (λ mid. IsSnippetThen texts annotation_then snippet mid rest) bytes
+IsElementThen texts (element.Suggestion snippet) bytes rest = IsKindThen 2 (λ mid. IsSnippetThen texts patch_then snippet mid rest) bytes
+IsElementThen texts (element.Origin origin) bytes rest = bytes ≡ 3 ∷ origin_then origin rest
+IsElementThen texts (element.Padding padding) bytes rest = bytes ≡ 4 ∷ rest
+
+-- the members of a list, one after the other
+unfoldable pub AreMembersThen : {X : Type 0} → (X → List ℕ → List ℕ → Type 0) → List X → List ℕ → List ℕ → Type 0
+AreMembersThen P [] bytes rest = bytes ≡ rest
+AreMembersThen P (x ∷ xs) bytes rest = (mid : List ℕ) × P x bytes mid × AreMembersThen P xs mid rest
+
+-- a list: how many members it has, and its members
+unfoldable pub IsListThen : {X : Type 0} → (X → List ℕ → List ℕ → Type 0) → List X → List ℕ → List ℕ → Type 0
+IsListThen P xs bytes rest = (mid : List ℕ) × (bytes ≡ number_then (length xs) mid) × AreMembersThen P xs mid rest
+
+unfoldable pub IsGroupThen : List (List ℕ) → Group → List ℕ → List ℕ → Type 0
+IsGroupThen texts g bytes rest =
+    (mid : List ℕ) × (bytes ≡ severity_number g.level ∷ option_then title_then g.title mid) × IsListThen (IsElementThen texts) g.elements.items mid rest

@@ -210,12 +210,24 @@ after_patch bytes = do
   rest ← after_span bytes
   after_text rest
 
+-- the number of one of so many sources that are kept
+abbrev pub after_kept : ℕ → List ℕ → Result (List ℕ) ByteFault
+after_kept kept bytes = read_number bytes >>= λ n. if nat_lt n.0 kept then Ok n.1 else Err (fault_at Kind bytes)
+
+abbrev pub after_source_of : ℕ → ℕ → List ℕ → Result (List ℕ) ByteFault
+after_source_of kept zero bytes = after_text bytes
+after_source_of kept (suc kind) bytes = after_kept kept bytes
+
+-- a source, where so many are kept
+unfoldable pub after_source : ℕ → List ℕ → Result (List ℕ) ByteFault
+after_source kept bytes = read_kind 2 bytes >>= λ k. after_source_of kept k.0 k.1
+
 -- a snippet, by what is left after one of its markers
-unfoldable pub after_snippet : (List ℕ → Result (List ℕ) ByteFault) → List ℕ → Result (List ℕ) ByteFault
-after_snippet after bytes = do
+unfoldable pub after_snippet : (List ℕ → Result (List ℕ) ByteFault) → ℕ → List ℕ → Result (List ℕ) ByteFault
+after_snippet after kept bytes = do
   rest ← after_option after_text bytes
   rest ← after_number rest
-  rest ← after_text rest
+  rest ← after_source kept rest
   rest ← after_list after rest
   rest ← after_flag rest
   after_flag rest
@@ -226,18 +238,18 @@ after_origin bytes = do
   rest ← after_option after_number rest
   after_option after_number rest
 
-abbrev pub after_element_of : ℕ → List ℕ → Result (List ℕ) ByteFault
-after_element_of zero bytes = after_message bytes
-after_element_of (suc zero) bytes = after_snippet after_annotation bytes
-after_element_of (suc (suc zero)) bytes = after_snippet after_patch bytes
-after_element_of (suc (suc (suc zero))) bytes = after_origin bytes
-after_element_of (suc (suc (suc (suc kind)))) bytes = Ok bytes
+abbrev pub after_element_of : ℕ → ℕ → List ℕ → Result (List ℕ) ByteFault
+after_element_of kept zero bytes = after_message bytes
+after_element_of kept (suc zero) bytes = after_snippet after_annotation kept bytes
+after_element_of kept (suc (suc zero)) bytes = after_snippet after_patch kept bytes
+after_element_of kept (suc (suc (suc zero))) bytes = after_origin bytes
+after_element_of kept (suc (suc (suc (suc kind)))) bytes = Ok bytes
 
-unfoldable pub after_element : List ℕ → Result (List ℕ) ByteFault
-after_element bytes = read_kind 5 bytes >>= λ k. after_element_of k.0 k.1
+unfoldable pub after_element : ℕ → List ℕ → Result (List ℕ) ByteFault
+after_element kept bytes = read_kind 5 bytes >>= λ k. after_element_of kept k.0 k.1
 
-unfoldable pub after_group : List ℕ → Result (List ℕ) ByteFault
-after_group bytes = do
+unfoldable pub after_group : ℕ → List ℕ → Result (List ℕ) ByteFault
+after_group kept bytes = do
   rest ← after_kind 5 bytes
   rest ← after_option after_title rest
-  after_list after_element rest
+  after_list (after_element kept) rest

@@ -3,29 +3,36 @@
 ghost use Rattle.std.specs.Prelude.{◌≡◌, IfOk};
 ghost use Rattle.std.specs.Cow.{cow_str_bytes};
 ghost use Rattle.snippet_model.specs.Fits.{ElementFits, GroupFits, TextFits};
-ghost use Rattle.report_bytes.specs.Bytes.{element_then, group_then, origin_then};
+ghost use Rattle.report_bytes.specs.Bytes.{IsElementThen, IsGroupThen, origin_then};
 ghost use Rattle.report_bytes.specs.Reading.{Gives, after_element, after_group, after_origin};
 
 use crate::fault::ReadError;
 use crate::field::{kind, text};
+use crate::kept::KeptSource;
 use crate::kind::severity;
-use crate::part::{FromBytes, list, option};
+use crate::over::{OverKept, list_over};
+use crate::part::option;
+use crate::snippet::snippet;
 use crate::title::message;
-use snippet_model::{Element, Group, Origin, Padding, Snippet};
+use snippet_model::{Element, Group, Origin, Padding};
 use std::alloc::Global;
 
-impl<'v> FromBytes<'v> for Group<'v> {
-    ghost part_then = { group_then };
+impl<'v> OverKept<'v> for Group<'v> {
+    ghost IsPartThen = { IsGroupThen };
 
     ghost after = { after_group };
 
     ghost fits = { GroupFits };
 
-    #[tactic(auto, unfolding(crate::specs::Reading::after_group))]
-    fn read(alloc: Global, bytes: &'v [u8]) -> Result<(Self, &'v [u8]), ReadError> {
+    #[tactic(auto, unfolding(crate::specs::Reading::after_group), using(crate::proofs::OverKept::a_group))]
+    fn read_over<'s>(
+        alloc: Global,
+        kept: &'v [KeptSource<'s>],
+        bytes: &'v [u8],
+    ) -> Result<(Self, &'v [u8]), ReadError> {
         let (number, rest) = kind(5, bytes)?;
         let (title, rest) = option(alloc, rest)?;
-        let (elements, rest) = list(alloc, rest)?;
+        let (elements, rest) = list_over(alloc, kept, rest)?;
         let group = Group {
             level: severity(number),
             title,
@@ -35,15 +42,19 @@ impl<'v> FromBytes<'v> for Group<'v> {
     }
 }
 
-impl<'v> FromBytes<'v> for Element<'v> {
-    ghost part_then = { element_then };
+impl<'v> OverKept<'v> for Element<'v> {
+    ghost IsPartThen = { IsElementThen };
 
     ghost after = { after_element };
 
     ghost fits = { ElementFits };
 
-    #[tactic(auto, unfolding(crate::specs::Reading::after_element))]
-    fn read(alloc: Global, bytes: &'v [u8]) -> Result<(Self, &'v [u8]), ReadError> {
+    #[tactic(auto, unfolding(crate::specs::Reading::after_element, crate::specs::Bytes::IsElementThen))]
+    fn read_over<'s>(
+        alloc: Global,
+        kept: &'v [KeptSource<'s>],
+        bytes: &'v [u8],
+    ) -> Result<(Self, &'v [u8]), ReadError> {
         let (number, rest) = kind(5, bytes)?;
         match number {
             0 => {
@@ -51,12 +62,12 @@ impl<'v> FromBytes<'v> for Element<'v> {
                 Ok((Element::Message(message), rest))
             }
             1 => {
-                let (cause, rest) = Snippet::read(alloc, rest)?;
-                Ok((Element::Cause(cause), rest))
+                let (read, rest) = snippet(alloc, kept, rest)?;
+                Ok((Element::Cause(read.snippet), rest))
             }
             2 => {
-                let (suggestion, rest) = Snippet::read(alloc, rest)?;
-                Ok((Element::Suggestion(suggestion), rest))
+                let (read, rest) = snippet(alloc, kept, rest)?;
+                Ok((Element::Suggestion(read.snippet), rest))
             }
             3 => {
                 let (origin, rest) = origin(alloc, rest)?;

@@ -11,18 +11,18 @@ use Rattle.annotate_snippets.specs.Fits.{ReportFits}
 use Rattle.annotate_snippets.specs.declared.renderer.Renderer.{Renderer}
 use Rattle.annotate_snippets.specs.declared.renderer.error.RenderError.{RenderError}
 use Rattle.annotate_snippets.specs.declared.renderer.error.RenderError.TheVariants as refusal
-use Rattle.report_bytes.specs.Request.{request_bytes}
+use Rattle.report_bytes.specs.Request.{AreBytesOf}
 use Rattle.report_bytes.specs.declared.request.DrawRequest.{DrawRequest}
 use Rattle.yazgult_c.specs.AnswerBytes.{IsAnswerTo, IsDrawn, answer_of_result, renderer_of}
 use Rattle.yazgult_c.specs.declared.answer.Answer.{Answer}
 use Rattle.yazgult_c.specs.declared.answer.Answer.TheVariants as answer
 
 -- what becomes of the report that some bytes are becomes of the bytes
-pub of_drawn : (input : List ℕ) (r : DrawRequest) (a : Answer) → input ≡ request_bytes r → IsDrawn r a → IsAnswerTo input a
-of_drawn input r (answer.Texts texts) same drawn = (r, same, drawn)
-of_drawn input r (answer.Refused refusal) same drawn = (r, same, drawn)
-of_drawn input r (answer.NoReport wrong place) same drawn = absurd drawn
-of_drawn input r answer.Memory same drawn = tt
+pub of_drawn : (kept : List (List ℕ)) (input : List ℕ) (r : DrawRequest) (a : Answer) → AreBytesOf kept r input → IsDrawn r a → IsAnswerTo kept input a
+of_drawn kept input r (answer.Texts texts) are drawn = (r, are, drawn)
+of_drawn kept input r (answer.Refused refusal) are drawn = (r, are, drawn)
+of_drawn kept input r (answer.NoReport wrong place) are drawn = absurd drawn
+of_drawn kept input r answer.Memory are drawn = tt
 
 abbrev failed : {T : Type 0} → RenderError → Result T RenderError
 failed e = Err e

@@ -1,2 +1,3 @@
+pub mod AsBox
 pub mod Drawing
 pub mod NotGiven

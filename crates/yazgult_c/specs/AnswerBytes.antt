@@ -11,7 +11,7 @@ use Rattle.annotate_snippets.specs.Refusal.{refusal_text}
 use Rattle.annotate_snippets.specs.declared.renderer.Renderer.{Renderer}
 use Rattle.annotate_snippets.specs.declared.renderer.error.RenderError.{RenderError}
 use Rattle.annotate_snippets.specs.declared.renderer.error.RenderError.TheVariants as refusal
-use Rattle.report_bytes.specs.Request.{after_request, request_bytes}
+use Rattle.report_bytes.specs.Request.{AreBytesOf, after_request}
 use Rattle.report_bytes.specs.declared.fault.Wrong.{Wrong}
 use Rattle.report_bytes.specs.declared.fault.Wrong.TheVariants.{Short, Flag, Kind, Long, NotText, Trailing}
 use Rattle.report_bytes.specs.declared.request.DrawRequest.{DrawRequest}
@@ -57,14 +57,14 @@ IsDrawn r (Refused refusal) = first_refusal (renderer_of r.settings) r.groups.it
 IsDrawn r (NoReport wrong place) = ⊥
 IsDrawn r Memory = Unit {0}
 
--- what becomes of some bytes: of the report that they are, or, where they are none, what is wrong with them and how many bytes stand
--- before that, or nothing where memory ran out
-abbrev pub IsAnswerTo : List ℕ → Answer → Type 0
-IsAnswerTo input (Texts texts) = (r : DrawRequest) × (input ≡ request_bytes r) × IsDrawn r (Texts texts)
-IsAnswerTo input (Refused refusal) = (r : DrawRequest) × (input ≡ request_bytes r) × IsDrawn r (Refused refusal)
-IsAnswerTo input (NoReport wrong place) =
-    (left : ℕ) × (after_request input ≡ Err (record { wrong = wrong; left = left })) × (place ≡ length input - left)
-IsAnswerTo input Memory = Unit {0}
+-- what becomes of some bytes over these texts that are kept: of the report that they are, or, where they are none, what is wrong with them
+-- and how many bytes stand before that, or nothing where memory ran out
+abbrev pub IsAnswerTo : List (List ℕ) → List ℕ → Answer → Type 0
+IsAnswerTo kept input (Texts texts) = (r : DrawRequest) × AreBytesOf kept r input × IsDrawn r (Texts texts)
+IsAnswerTo kept input (Refused refusal) = (r : DrawRequest) × AreBytesOf kept r input × IsDrawn r (Refused refusal)
+IsAnswerTo kept input (NoReport wrong place) =
+    (left : ℕ) × (after_request (length kept) input ≡ Err (record { wrong = wrong; left = left })) × (place ≡ length input - left)
+IsAnswerTo kept input Memory = Unit {0}
 
 -- what becomes of a line of JSON: the text that answers it, which says that its texts show the report that the line is, or which refusal
 -- of that report stands first, or why it is no report; or that memory ran out

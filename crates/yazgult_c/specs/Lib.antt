@@ -1,2 +1,4 @@
 pub mod AnswerBytes
 pub mod GivenBytes
+pub mod Keeping
+pub mod KeptSources

@@ -6,7 +6,7 @@ ghost use Rattle.yazgult_c.specs.AnswerBytes.{IsAnswerTo, IsDrawn, answer_of_res
 
 use annotate_snippets::Renderer;
 use annotate_snippets::renderer::{RenderError, Stylesheet};
-use report_bytes::{DrawRequest, ReadError, Settings, Wrong, read};
+use report_bytes::{DrawRequest, KeptSource, ReadError, Settings, Wrong, read};
 use std::alloc::Global;
 
 /// What becomes of the bytes of a report.
@@ -22,12 +22,12 @@ pub enum Answer {
     Memory,
 }
 
-/// What becomes of these bytes.
+/// What becomes of these bytes over these sources that are kept.
 #[tactic(auto, using(crate::proofs::Drawing::of_drawn))]
-pub fn answer_to(alloc: Global, input: &[u8]) -> Answer
-    ensures answers { IsAnswerTo input.now result }
+pub fn answer_to<'v, 's>(alloc: Global, kept: &'v [KeptSource<'s>], input: &'v [u8]) -> Answer
+    ensures answers { IsAnswerTo kept.now input.now result }
 {
-    match read(alloc, input) {
+    match read(alloc, kept, input) {
         Ok(request) => drawn(alloc, &request),
         Err(ReadError::Memory) => Answer::Memory,
         Err(ReadError::Fault(fault)) => {

@@ -1,19 +1,26 @@
-//! The library for other languages: exports over bytes alone. Each fills the caller's bytes as `snprintf` does: as far
-//! as there is room, and answers how many bytes there are. Nothing is kept between calls.
+//! The library for other languages: exports over bytes. Each that draws fills the caller's bytes as `snprintf` does: as
+//! far as there is room, and answers how many bytes there are. Nothing is kept between calls but for sources that are
+//! kept and given back.
 #![tactic(auto)]
 
-ghost use Rattle.std.specs.Prelude.{ℕ, List, codes};
+ghost use Rattle.std.specs.Prelude.{◌≡◌, ◌≢◌, ◌++◌, [], ℕ, List, codes, pos};
 ghost use Rattle.yazgult_c.specs.AnswerBytes.{IsAnswerTo, IsLineAnswerTo, answer_bytes};
 ghost use Rattle.yazgult_c.specs.GivenBytes.{IsGiven};
+ghost use Rattle.yazgult_c.specs.Keeping.{IsKeeping, IsKept, keeping_number, texts_of};
+ghost use Rattle.yazgult_c.specs.declared.sources.kept.Keeping.{Keeping};
 ghost use Rattle.yazgult_c.specs.declared.answer.Answer.{Answer};
 
 mod answer;
 mod room;
+mod sources;
 mod write;
 
 use answer::answer_to;
 use replay_answer::line::line_answer;
+use report_bytes::KeptSource;
 use room::give;
+use sources::Sources;
+use sources::kept::{keep, keeping_number, none, share};
 use std::alloc::Global;
 use write::{NO_MEMORY, written};
 
@@ -21,14 +28,112 @@ use write::{NO_MEMORY, written};
 /// there are none.
 #[unsafe(no_mangle)]
 pub extern "C" fn yazgult_draw(alloc: Global, input: &[u8], output: &mut [u8]) -> usize
-    ensures answers { (answer : Answer) × IsAnswerTo input.now answer
+    ensures answers { (answer : Answer) × IsAnswerTo [] input.now answer
         × IsGiven (answer_bytes answer) output.old output.new result }
 {
-    let answer = answer_to(alloc, input);
+    draw_over(alloc, &[], input, output)
+}
+
+/// Draws the report that stands in `input`, over these sources that are kept, as `yazgult_draw` does: where the report
+/// has a number in place of a source's text, it has the text of that one.
+#[unsafe(no_mangle)]
+pub extern "C" fn yazgult_draw_with(
+    alloc: Global,
+    input: &[u8],
+    sources: &mut Sources,
+    output: &mut [u8],
+) -> usize
+    requires there { IsKept sources.old }
+    ensures answers { (answer : Answer) × IsAnswerTo (texts_of sources.old) input.now answer
+        × IsGiven (answer_bytes answer) output.old output.new result }
+    ensures kept { texts_of sources.new ≡ texts_of sources.old }
+    ensures there { IsKept sources.new }
+{
+    let kept = sources.take(alloc);
+    let length = draw_over(alloc, &kept.sources, &*input, output);
+    sources.put(kept);
+    length
+}
+
+/// Draws a report over these sources that are kept.
+fn draw_over<'v, 's>(
+    alloc: Global,
+    kept: &'v [KeptSource<'s>],
+    input: &'v [u8],
+    output: &mut [u8],
+) -> usize
+    ensures answers { (answer : Answer) × IsAnswerTo kept.now input.now answer
+        × IsGiven (answer_bytes answer) output.old output.new result }
+{
+    let answer = answer_to(alloc, kept, input);
     match written(alloc, &answer) {
         Ok(bytes) => give(&bytes, output),
         Err(_) => give(&NO_MEMORY, output),
     }
+}
+
+/// Puts an empty list of kept sources in place of what `sources` had, which isn't freed. Gives 0, or 1 where memory ran
+/// out: then nothing changes.
+#[unsafe(no_mangle)]
+pub extern "C" fn yazgult_sources_new(alloc: Global, sources: &mut Sources) -> i32
+    ensures made { result ≡ pos 0 → IsKept sources.new × (texts_of sources.new ≡ []) }
+    ensures refused { result ≢ pos 0 → sources.new ≡ sources.old }
+{
+    match none(alloc) {
+        Ok(kept) => {
+            sources.put(kept);
+            0
+        }
+        Err(_) => 1,
+    }
+}
+
+/// Keeps one source more: copies its text and finds its lines. Gives 0; 1 where memory ran out; 2 where the text isn't
+/// UTF-8, or has 2^56 bytes or more. Then nothing more is kept.
+#[unsafe(no_mangle)]
+pub extern "C" fn yazgult_sources_add(alloc: Global, text: &[u8], sources: &mut Sources) -> i32
+    requires there { IsKept sources.old }
+    ensures keeping { (keeping : Keeping) × (result ≡ keeping_number keeping)
+        × IsKeeping text.now (texts_of sources.old) (texts_of sources.new) keeping }
+    ensures there { IsKept sources.new }
+{
+    let mut kept = sources.take(alloc);
+    let keeping = keep(alloc, text, &mut kept.sources);
+    sources.put(kept);
+    keeping_number(keeping)
+}
+
+/// Keeps the sources of `from` after those of `into`, too: both lists share them. Gives 0, or 1 where memory ran out:
+/// then nothing changes.
+#[unsafe(no_mangle)]
+pub extern "C" fn yazgult_sources_share(
+    alloc: Global,
+    from: &mut Sources,
+    into: &mut Sources,
+) -> i32
+    requires there { IsKept from.old × IsKept into.old }
+    ensures shared { result ≡ pos 0 → texts_of into.new ≡ texts_of into.old ++ texts_of from.old }
+    ensures refused { result ≢ pos 0 → texts_of into.new ≡ texts_of into.old }
+    ensures same { texts_of from.new ≡ texts_of from.old }
+    ensures there { IsKept from.new × IsKept into.new }
+{
+    let theirs = from.take(alloc);
+    let mut ours = into.take(alloc);
+    let done = share(alloc, &theirs.sources, &mut ours.sources);
+    from.put(theirs);
+    into.put(ours);
+    match done {
+        Ok(()) => 0,
+        Err(_) => 1,
+    }
+}
+
+/// Frees kept sources: there are none afterwards.
+#[unsafe(no_mangle)]
+pub extern "C" fn yazgult_sources_free(alloc: Global, sources: &mut Sources)
+    requires there { IsKept sources.old }
+{
+    drop(sources.take(alloc));
 }
 
 /// What is given for a line where there was no memory to answer it.
