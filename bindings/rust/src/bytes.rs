@@ -1,9 +1,10 @@
 //! The form of a report as bytes, as `docs/BINDINGS.md` has it.
 
-use crate::grow::{put, reserve, Written};
+use crate::grow::{self, reserve, Written};
 use crate::level::{Level, Name};
+use crate::library::Kept;
 use crate::renderer::{Color, DecorStyle, Effects, RenderError, Renderer, Style, Stylesheet};
-use crate::snippet::{Annotation, Element, Group, Id, Message, Origin, Patch, Snippet, Title};
+use crate::snippet::{Annotation, Element, Group, Id, Message, Origin, Patch, Shared, Snippet, Title};
 use std::ops::Range;
 
 /// The version of the form.
@@ -12,22 +13,46 @@ const VERSION: u8 = 3;
 /// The kind of the later setting `mask_controls`.
 const MASK_CONTROLS: u8 = 0;
 
-/// The bytes of a report, drawn by this renderer under these sheets.
-pub(crate) fn report(renderer: &Renderer, sheets: &[Stylesheet], groups: &[Group<'_>]) -> Result<Vec<u8>, RenderError> {
-    let mut out = Vec::new();
-    reserve(1024, &mut out)?;
+/// The bytes of a report so far, and the kept sources that it names, in the order of their numbers.
+struct Out {
+    bytes: Vec<u8>,
+    kept: Vec<Shared>,
+}
+
+/// The bytes of a report, drawn by this renderer under these sheets, and the kept sources that it names, if it names some.
+pub(crate) fn report(
+    renderer: &Renderer,
+    sheets: &[Stylesheet],
+    groups: &[Group<'_>],
+) -> Result<(Vec<u8>, Option<Kept>), RenderError> {
+    let mut out = Out { bytes: Vec::new(), kept: Vec::new() };
+    reserve(1024, &mut out.bytes)?;
     byte(VERSION, &mut out)?;
     settings(renderer, &mut out)?;
     list(sheets, sheet, &mut out)?;
     list(groups, group, &mut out)?;
-    Ok(out)
+    Ok((out.bytes, kept_list(&out.kept)?))
 }
 
-fn byte(byte: impl Into<u8>, out: &mut Vec<u8>) -> Written {
+/// A list of these kept sources; none where there are none.
+fn kept_list(kept: &[Shared]) -> Result<Option<Kept>, RenderError> {
+    if kept.is_empty() {
+        return Ok(None);
+    }
+    let mut all = Kept::new()?;
+    kept.iter().try_for_each(|one| one.share_into(&mut all))?;
+    Ok(Some(all))
+}
+
+fn put(bytes: &[u8], out: &mut Out) -> Written {
+    grow::put(bytes, &mut out.bytes)
+}
+
+fn byte(byte: impl Into<u8>, out: &mut Out) -> Written {
     put(&[byte.into()], out)
 }
 
-fn number(number: usize, out: &mut Vec<u8>) -> Written {
+fn number(number: usize, out: &mut Out) -> Written {
     put(&(number as u64).to_le_bytes(), out)
 }
 
@@ -35,26 +60,26 @@ fn number(number: usize, out: &mut Vec<u8>) -> Written {
 /// processor, which begins slowly.
 const PIECE: usize = 1024;
 
-fn text(text: &str, out: &mut Vec<u8>) -> Written {
+fn text(text: &str, out: &mut Out) -> Written {
     number(text.len(), out)?;
-    reserve(text.len(), out)?;
+    reserve(text.len(), &mut out.bytes)?;
     for piece in text.as_bytes().chunks(PIECE) {
-        out.extend_from_slice(piece);
+        out.bytes.extend_from_slice(piece);
     }
     Ok(())
 }
 
-fn option<T: ?Sized>(value: Option<&T>, write: fn(&T, &mut Vec<u8>) -> Written, out: &mut Vec<u8>) -> Written {
+fn option<T: ?Sized>(value: Option<&T>, write: fn(&T, &mut Out) -> Written, out: &mut Out) -> Written {
     byte(value.is_some(), out)?;
     value.map_or(Ok(()), |value| write(value, out))
 }
 
-fn list<T>(values: &[T], write: fn(&T, &mut Vec<u8>) -> Written, out: &mut Vec<u8>) -> Written {
+fn list<T>(values: &[T], write: fn(&T, &mut Out) -> Written, out: &mut Out) -> Written {
     number(values.len(), out)?;
     values.iter().try_for_each(|value| write(value, out))
 }
 
-fn settings(r: &Renderer, out: &mut Vec<u8>) -> Written {
+fn settings(r: &Renderer, out: &mut Out) -> Written {
     byte(r.anonymized_origin_line_numbers, out)?;
     byte(r.anonymized_snippet_line_numbers, out)?;
     number(r.term_width, out)?;
@@ -70,12 +95,12 @@ fn settings(r: &Renderer, out: &mut Vec<u8>) -> Written {
     list(if r.mask_controls { &[(MASK_CONTROLS, 1)] } else { &[] }, later, out)
 }
 
-fn later(&(kind, value): &(u8, usize), out: &mut Vec<u8>) -> Written {
+fn later(&(kind, value): &(u8, usize), out: &mut Out) -> Written {
     byte(kind, out)?;
     number(value, out)
 }
 
-fn sheet(s: &Stylesheet, out: &mut Vec<u8>) -> Written {
+fn sheet(s: &Stylesheet, out: &mut Out) -> Written {
     let levels = [s.error, s.warning, s.info, s.note, s.help];
     let parts = [s.line_num, s.emphasis, s.none, s.context, s.addition, s.removal];
     levels.iter().chain(&parts).try_for_each(|each| style(each, out))
@@ -93,7 +118,7 @@ const EFFECTS: [Effects; 8] = [
     Effects::STRIKETHROUGH,
 ];
 
-fn style(style: &Style, out: &mut Vec<u8>) -> Written {
+fn style(style: &Style, out: &mut Out) -> Written {
     // most styles of most sheets: neither colour, and none of the effects
     if style.is_plain() {
         return put(&[0; 2 + EFFECTS.len()], out);
@@ -116,7 +141,7 @@ fn drawn_effects(effects: Effects) -> Effects {
     }
 }
 
-fn color(color: &Color, out: &mut Vec<u8>) -> Written {
+fn color(color: &Color, out: &mut Out) -> Written {
     match color {
         Color::Ansi(color) => put(&[0, *color as u8], out),
         Color::Ansi256(color) => put(&[1, color.0], out),
@@ -124,20 +149,20 @@ fn color(color: &Color, out: &mut Vec<u8>) -> Written {
     }
 }
 
-fn group(g: &Group<'_>, out: &mut Vec<u8>) -> Written {
+fn group(g: &Group<'_>, out: &mut Out) -> Written {
     byte(g.level.kind as u8, out)?;
     option(g.title.as_ref(), title, out)?;
     list(&g.elements, element, out)
 }
 
-fn title(t: &Title<'_>, out: &mut Vec<u8>) -> Written {
+fn title(t: &Title<'_>, out: &mut Out) -> Written {
     level(&t.level, out)?;
     option(t.id.as_ref(), id, out)?;
     text(&t.text, out)?;
     byte(t.allows_styling, out)
 }
 
-fn level(l: &Level<'_>, out: &mut Vec<u8>) -> Written {
+fn level(l: &Level<'_>, out: &mut Out) -> Written {
     match &l.name {
         Name::Standard => byte(0, out)?,
         Name::Hidden => byte(1, out)?,
@@ -149,12 +174,12 @@ fn level(l: &Level<'_>, out: &mut Vec<u8>) -> Written {
     byte(l.kind as u8, out)
 }
 
-fn id(i: &Id<'_>, out: &mut Vec<u8>) -> Written {
+fn id(i: &Id<'_>, out: &mut Out) -> Written {
     option(i.id.as_deref(), text, out)?;
     option(i.url.as_deref(), text, out)
 }
 
-fn element(e: &Element<'_>, out: &mut Vec<u8>) -> Written {
+fn element(e: &Element<'_>, out: &mut Out) -> Written {
     let kind = match e {
         Element::Message(_) => 0,
         Element::Cause(_) => 1,
@@ -172,41 +197,56 @@ fn element(e: &Element<'_>, out: &mut Vec<u8>) -> Written {
     }
 }
 
-fn message(m: &Message<'_>, out: &mut Vec<u8>) -> Written {
+fn message(m: &Message<'_>, out: &mut Out) -> Written {
     level(&m.level, out)?;
     text(&m.text, out)
 }
 
-fn snippet<T>(s: &Snippet<'_, T>, marker: fn(&T, &mut Vec<u8>) -> Written, out: &mut Vec<u8>) -> Written {
+fn snippet<T>(s: &Snippet<'_, T>, marker: fn(&T, &mut Out) -> Written, out: &mut Out) -> Written {
     option(s.path.as_deref(), text, out)?;
     number(s.line_start, out)?;
-    byte(0, out)?; // the source's text, not the number of one that is kept
-    text(&s.source, out)?;
+    source(&s.source, s.kept.as_ref(), out)?;
     list(&s.markers, marker, out)?;
     byte(s.line_numbering, out)?;
     byte(s.fold, out)
 }
 
-fn span(s: &Range<usize>, out: &mut Vec<u8>) -> Written {
+/// A source: by its text, or, where it is kept, by the number that it has or gets.
+fn source(given: &str, kept: Option<&Shared>, out: &mut Out) -> Written {
+    let Some(kept) = kept else {
+        byte(0, out)?;
+        return text(given, out);
+    };
+    let known = out.kept.iter().position(|one| one.is(kept));
+    let place = known.unwrap_or(out.kept.len());
+    if known.is_none() {
+        reserve(1, &mut out.kept)?;
+        out.kept.push(kept.clone());
+    }
+    byte(1, out)?;
+    number(place, out)
+}
+
+fn span(s: &Range<usize>, out: &mut Out) -> Written {
     number(s.start, out)?;
     number(s.end, out)
 }
 
-fn annotation(a: &Annotation<'_>, out: &mut Vec<u8>) -> Written {
+fn annotation(a: &Annotation<'_>, out: &mut Out) -> Written {
     span(&a.span, out)?;
     option(a.label.as_deref(), text, out)?;
     byte(a.kind as u8, out)?;
     byte(a.highlight_source, out)
 }
 
-fn patch(p: &Patch<'_>, out: &mut Vec<u8>) -> Written {
+fn patch(p: &Patch<'_>, out: &mut Out) -> Written {
     span(&p.span, out)?;
     text(&p.replacement, out)
 }
 
-fn origin(o: &Origin<'_>, out: &mut Vec<u8>) -> Written {
+fn origin(o: &Origin<'_>, out: &mut Out) -> Written {
     text(&o.path, out)?;
-    let write = |n: &usize, out: &mut Vec<u8>| number(*n, out);
+    let write = |n: &usize, out: &mut Out| number(*n, out);
     option(o.line.as_ref(), write, out)?;
     option(o.char_column.as_ref(), write, out)
 }

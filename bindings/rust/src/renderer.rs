@@ -162,7 +162,8 @@ impl Renderer {
     /// ```
     pub fn try_render(&self, groups: Report<'_>) -> Result<String, RenderError> {
         let sheet = std::slice::from_ref(&self.stylesheet);
-        answer::only_text(library::draw(&bytes::report(self, sheet, groups)?)?)
+        let (report, kept) = bytes::report(self, sheet, groups)?;
+        answer::only_text(library::draw(&report, kept)?)
     }
 
     /// The texts of a report, one under each of these sheets, in order; the renderer's own sheet isn't looked at. They differ in
@@ -178,7 +179,8 @@ impl Renderer {
     /// # Ok::<(), yazgult::renderer::RenderError>(())
     /// ```
     pub fn render_sheets(&self, groups: Report<'_>, sheets: &[Stylesheet]) -> Result<Vec<String>, RenderError> {
-        answer::texts(&library::draw(&bytes::report(self, sheets, groups)?)?)
+        let (report, kept) = bytes::report(self, sheets, groups)?;
+        answer::texts(&library::draw(&report, kept)?)
     }
 
     /// The page of a report's graphic form as HTML, for `<pre>`. `short_message`, `no_graphics` and the sheet aren't looked at; what has

@@ -10,6 +10,7 @@ mod title;
 pub use group::{Element, Group, Padding, Report};
 pub use origin::Origin;
 pub use source::{Annotation, AnnotationKind, Patch, Snippet};
+pub(crate) use source_lines::Shared;
 pub use source_lines::SourceLines;
 pub use text::OptionCow;
 pub use title::{Message, Title};

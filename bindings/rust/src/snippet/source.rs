@@ -1,4 +1,4 @@
-use super::{OptionCow, SourceLines};
+use super::{OptionCow, Shared, SourceLines};
 use std::borrow::Cow;
 use std::ops::Range;
 
@@ -20,6 +20,8 @@ pub struct Snippet<'a, T> {
     pub(crate) path: Option<Cow<'a, str>>,
     pub(crate) line_start: usize,
     pub(crate) source: Cow<'a, str>,
+    /// The source, where the library keeps it.
+    pub(crate) kept: Option<Shared>,
     pub(crate) markers: Vec<T>,
     pub(crate) line_numbering: bool,
     pub(crate) fold: bool,
@@ -40,13 +42,14 @@ impl<'a, T: Clone> Snippet<'a, T> {
             path: None,
             line_start: 1,
             source: source.into(),
+            kept: None,
             markers: Vec::new(),
             line_numbering: true,
             fold: true,
         }
     }
 
-    /// A snippet of a source that is kept. It copies nothing.
+    /// A snippet of a source that is kept. It copies nothing, and drawing it looks for no line of the source again.
     ///
     /// ```
     /// use yazgult::{AnnotationKind, Level, Renderer, Snippet, SourceLines};
@@ -59,7 +62,7 @@ impl<'a, T: Clone> Snippet<'a, T> {
     /// assert_eq!(texts[1], "error: e\n  |\n2 | cd\n  | ^");
     /// ```
     pub fn indexed(lines: &'a SourceLines<'_>) -> Self {
-        Snippet::source(lines.source())
+        Snippet { kept: lines.kept().cloned(), ..Snippet::source(lines.source()) }
     }
 
     /// Whether lines have their numbers beside them. They have unless this says otherwise.

@@ -1,11 +1,14 @@
+use crate::grow::Written;
+use crate::library::Kept;
 use std::borrow::Cow;
 use std::fmt;
+use std::sync::{Arc, Mutex, PoisonError};
 
 /// A source that is kept, with the bytes at which its lines start, and lent to any number of snippets by
-/// [`Snippet::indexed`](crate::Snippet::indexed).
+/// [`Snippet::indexed`](crate::Snippet::indexed), in any threads.
 ///
-/// What is drawn depends on its text alone. The library keeps nothing between calls, so each drawing is handed the text, and finds its
-/// lines anew.
+/// What is drawn depends on its text alone. The library keeps a copy of the text with its lines, so that drawing neither hands it over nor
+/// looks for lines; where it had no memory for that, each drawing is handed the text.
 ///
 /// ```
 /// use yazgult::SourceLines;
@@ -18,6 +21,7 @@ use std::fmt;
 pub struct SourceLines<'a> {
     source: Cow<'a, str>,
     starts: Vec<usize>,
+    kept: Option<Shared>,
 }
 
 impl<'a> SourceLines<'a> {
@@ -33,7 +37,8 @@ impl<'a> SourceLines<'a> {
         let source = source.into();
         let after_line_feeds = source.match_indices('\n').map(|(at, _)| at + 1);
         let starts = std::iter::once(0).chain(after_line_feeds.filter(|start| *start < source.len())).collect();
-        SourceLines { source, starts }
+        let kept = Shared::of(&source);
+        SourceLines { source, starts, kept }
     }
 
     /// The source.
@@ -57,6 +62,39 @@ impl<'a> SourceLines<'a> {
     /// ```
     pub fn starts(&self) -> &[usize] {
         &self.starts
+    }
+
+    /// The source as the library keeps it; none where it had no memory.
+    pub(crate) fn kept(&self) -> Option<&Shared> {
+        self.kept.as_ref()
+    }
+}
+
+/// A source that the library keeps, shared by all that name it. A list of the library's is used by one call at a time.
+#[derive(Clone)]
+pub(crate) struct Shared(Arc<Mutex<Kept>>);
+
+impl Shared {
+    fn of(source: &str) -> Option<Self> {
+        let mut kept = Kept::new().ok()?;
+        kept.add(source).ok()?;
+        Some(Shared(Arc::new(Mutex::new(kept))))
+    }
+
+    /// Whether both are one.
+    pub(crate) fn is(&self, other: &Shared) -> bool {
+        Arc::ptr_eq(&self.0, &other.0)
+    }
+
+    /// Has a list keep the source too.
+    pub(crate) fn share_into(&self, all: &mut Kept) -> Written {
+        all.share(&mut self.0.lock().unwrap_or_else(PoisonError::into_inner))
+    }
+}
+
+impl fmt::Debug for Shared {
+    fn fmt(&self, f: &mut fmt::Formatter<'_>) -> fmt::Result {
+        f.write_str("kept")
     }
 }
 
