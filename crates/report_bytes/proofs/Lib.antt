@@ -1,5 +1,6 @@
 pub mod Again
 pub mod Members
 pub mod OverKept
+pub mod PlainStyle
 pub mod Texts
 pub mod Whole

@@ -1,6 +1,7 @@
 //! How sheets and their styles are read.
 
-ghost use Rattle.std.specs.Prelude.{◌≡◌, ◌∷◌, IfOk};
+ghost use Rattle.std.specs.Prelude.{◌≡◌, ◌∷◌, IfOk, IfSome};
+ghost use Rattle.snippet_style.specs.Style.{plain_style};
 ghost use Rattle.report_bytes.specs.Bytes.{color_then, effects_then, sheet_then, style_then};
 ghost use Rattle.report_bytes.specs.Reading.{Gives, after_byte, after_color, after_effects, after_levels};
 ghost use Rattle.report_bytes.specs.Reading.{after_parts, after_sheet, after_style};
@@ -91,13 +92,34 @@ impl<'v> FromBytes<'v> for Style {
 
     ghost fits = { λ _. Unit {0} };
 
-    #[tactic(auto, unfolding(crate::specs::Reading::after_style))]
     fn read(alloc: Global, bytes: &'v [u8]) -> Result<(Self, &'v [u8]), ReadError> {
-        let (fg, rest) = option(alloc, bytes)?;
-        let (bg, rest) = option(alloc, rest)?;
-        let (effects, rest) = effects(rest)?;
-        Ok((Style { fg, bg, effects }, rest))
+        match after_plain(bytes) {
+            Some(rest) => Ok((Style::new(), rest)),
+            None => style(alloc, bytes),
+        }
     }
+}
+
+/// What is left after the plain style, where that is at the front, as most styles of most sheets are.
+fn after_plain(bytes: &[u8]) -> Option<&[u8]>
+    ensures plain { IfSome result (λ rest. bytes.now ≡ style_then plain_style rest.now) }
+{
+    match bytes {
+        [0, 0, 0, 0, 0, 0, 0, 0, 0, 0, rest @ ..] => Some(rest),
+        _ => None,
+    }
+}
+
+/// The style at the front.
+#[tactic(auto, unfolding(crate::specs::Reading::after_style))]
+fn style(alloc: Global, bytes: &[u8]) -> Result<(Style, &[u8]), ReadError>
+    ensures left { Gives (λ x. x.1.now) result (after_style bytes.now) }
+    ensures spelled { IfOk result (λ x. bytes.now ≡ style_then x.0 x.1.now) }
+{
+    let (fg, rest) = option(alloc, bytes)?;
+    let (bg, rest) = option(alloc, rest)?;
+    let (effects, rest) = effects(rest)?;
+    Ok((Style { fg, bg, effects }, rest))
 }
 
 impl<'v> FromBytes<'v> for Color {

@@ -17,7 +17,7 @@ pub const NO_MEMORY: [u8; 1] = [3];
 pub fn written(alloc: Global, answer: &Answer) -> Result<Vec<u8>, AllocError>
     ensures bytes { IfOk result (λ bytes. bytes.items ≡ answer_bytes answer.now) }
 {
-    let mut out = Vec::new(alloc);
+    let mut out = Vec::with_capacity(alloc, room_for(answer))?;
     match answer {
         Answer::Texts(texts) => {
             out.push(0)?;
@@ -37,6 +37,16 @@ pub fn written(alloc: Global, answer: &Answer) -> Result<Vec<u8>, AllocError>
         Answer::Memory => out.push(3)?,
     }
     Ok(out)
+}
+
+/// Room that the bytes of most answers take, so that nothing is moved as they grow.
+fn room_for(answer: &Answer) -> usize {
+    match answer {
+        Answer::Texts(texts) => texts.iter().fold(16usize, |room, text| {
+            room.saturating_add(text.len()).saturating_add(8)
+        }),
+        _ => 128,
+    }
 }
 
 /// Adds a number.
