@@ -1,8 +1,8 @@
 /* Draws diagnostic reports as compilers print them. What a report is made of is put together by the calls of yazgult_report.h.
  *
- * Each function fills `output` as snprintf does: with as many bytes of its answer as there is room for, and it returns how many the
- * answer has. Where that is more than `output_length`, call it again with so much room. It writes nothing else, no end of a string
- * either. Nothing is kept between calls, so they may be made from any thread.
+ * Each function that draws fills `output` as snprintf does: with as many bytes of its answer as there is room for, and it returns how many
+ * the answer has. Where that is more than `output_length`, call it again with so much room. It writes nothing else, no end of a string
+ * either. Nothing is kept between calls but lists of sources, so they may be made from any thread.
  *
  * No pointer may be null, of no bytes either, and `input` and `output` may not overlap: nothing checks that.
  * Link with libyazgult.a or libyazgult.so.
