@@ -1,11 +1,12 @@
-"""Measures calls of the library: the stack that they take, and the instructions and the time of reports through the Rust crate."""
+"""Measures calls of the library: the stack that they take, and what reports cost through the Rust crate and through Python."""
 
 import shutil
 import subprocess
+import sys
 from pathlib import Path
 
 from cases import json_lines, report_files
-from facts import Trouble, run
+from facts import ROOT, Trouble, run
 from through_c import compiled, framed
 from through_rust import Crate
 
@@ -46,6 +47,17 @@ def bench(room, anstyle, names):
             continue
         told = run([program, "draw", "200", file]).decode().strip()
         print(f"{file.stem}: {(often - once) // 10:,} instructions a round; without valgrind: {told}", flush=True)
+        by_python(file, room)
+
+
+def by_python(file, room):
+    """Says what a round costs through Python, where spans count bytes, and what JSON alone would."""
+    program = [sys.executable, ROOT / "bindings" / "python" / "bench.py"]
+    found = {how: [counted([*program, how, file, str(times)], room) for times in (10, 30)] for how in ("draw", "json")}
+    if any(None in it for it in found.values()):
+        return
+    draw, line = ((often - once) // 20 for once, often in found.values())
+    print(f"{file.stem}, through Python: {draw:,} instructions a round; by json.dumps and answer_json {line:,}", flush=True)
 
 
 def counted(words, room):

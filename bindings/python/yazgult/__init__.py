@@ -30,6 +30,7 @@ Reports
     Report          groups: .group(level, text) adds one, .print_report(file) prints all
     Group, Title    a title, and what is below it: .snippet(source, path), .message(level, text), .origin(path)
     Snippet         a source: .mark(start, end, label) marks a part of it, .patch(start, end, text) offers another one
+    Source          a source that is kept: it stands in many snippets in the place of its text
     Level           a kind, "error", "warning", "info", "note" or "help", with a name of its own, or with none
     Cause, Suggestion, Annotation, Patch, Message, Origin, Padding
                     the other parts, by their names in docs/REPORTS.md; Place, Groups, Sheet, Settings are types
@@ -87,6 +88,7 @@ from .report import Report as Report
 from .report import Snippet as Snippet
 from .report import Suggestion as Suggestion
 from .report import Title as Title
+from .source import Source as Source
 from .stylesheet import HTML_PAGE_STYLESHEET as HTML_PAGE_STYLESHEET
 from .stylesheet import HTML_STYLESHEET as HTML_STYLESHEET
 from .terminal import print_report as print_report

@@ -10,8 +10,9 @@ from struct import Struct
 from typing import Any, Callable, Dict, FrozenSet, List, Mapping, Optional, Sequence, Tuple
 
 from .report import Element, Part, Report
+from .source import Source
 
-VERSION = b"\2"
+VERSION = b"\3"
 encode = str.encode
 NO, YES = b"\0", b"\1"
 number: Callable[[int], bytes] = Struct("<Q").pack
@@ -49,17 +50,18 @@ class Other(Exception):
     """What is met isn't plainly what it should be."""
 
 
-def bytes_of(report: Any, sheets: Any, spans: Any, settings: Mapping[str, Any]) -> Optional[bytes]:
-    """A report under these sheets, whose spans count "bytes" or "characters"; none where it has to be written as JSON."""
+def bytes_of(report: Any, sheets: Any, spans: Any, settings: Mapping[str, Any]) -> Optional[Tuple[bytes, List[Source]]]:
+    """A report under these sheets, whose spans count "bytes" or "characters", and the sources that it names by numbers; none where it has to
+    be written as JSON."""
     try:
         in_bytes = COUNTS_BYTES[spans]
-        groups = listed(report.groups if isinstance(report, Report) else report)
+        groups, kept = listed(report.groups if isinstance(report, Report) else report), []
         made = [settings_of(settings) if settings else DEFAULT_SETTINGS, number(len(sheets))]
         made += map(SHEETS.__getitem__, sheets)
         made.append(number(len(groups)))
         for group in groups:
-            add_group(group, in_bytes, made)
-        return b"".join(made)
+            add_group(group, in_bytes, kept, made)
+        return b"".join(made), kept
     except MemoryError:
         raise
     except Exception:
@@ -136,7 +138,7 @@ def number_if(value: Any) -> bytes:
     return NO if value is None else YES + number(whole(value))
 
 
-def add_group(group: Any, in_bytes: bool, made: List[bytes]) -> None:
+def add_group(group: Any, in_bytes: bool, kept: List[Source], made: List[bytes]) -> None:
     """Adds a group."""
     held = fields(group, GROUP)
     title, elements = held["title"], listed(held["elements"])
@@ -153,7 +155,7 @@ def add_group(group: Any, in_bytes: bool, made: List[bytes]) -> None:
             name, part = Element.name(element), element
         kind, names, add = ELEMENTS[name]
         made.append(kind)
-        add(fields(part, names), in_bytes, made)
+        add(fields(part, names), in_bytes, kept, made)
 
 
 def title_bytes(title: Mapping[str, Any]) -> bytes:
@@ -174,49 +176,65 @@ def level_bytes(level: Any) -> bytes:
     return (YES if name is None else b"\2" + text(name)) + KINDS[held["kind"]]
 
 
-def add_message(message: Mapping[str, Any], in_bytes: bool, made: List[bytes]) -> None:
+def add_message(message: Mapping[str, Any], in_bytes: bool, kept: List[Source], made: List[bytes]) -> None:
     """Adds a message."""
     made += (level_bytes(message["level"]), text(message["text"]))
 
 
-def add_origin(origin: Mapping[str, Any], in_bytes: bool, made: List[bytes]) -> None:
+def add_origin(origin: Mapping[str, Any], in_bytes: bool, kept: List[Source], made: List[bytes]) -> None:
     """Adds an origin."""
     made += (text(origin["path"]), number_if(origin.get("line")), number_if(origin.get("column")))
 
 
-def add_padding(padding: Mapping[str, Any], in_bytes: bool, made: List[bytes]) -> None:
+def add_padding(padding: Mapping[str, Any], in_bytes: bool, kept: List[Source], made: List[bytes]) -> None:
     """Adds an empty row, of which there is nothing to say."""
 
 
 # ---- snippets
 
 
-def add_cause(snippet: Mapping[str, Any], in_bytes: bool, made: List[bytes]) -> None:
+def add_cause(snippet: Mapping[str, Any], in_bytes: bool, kept: List[Source], made: List[bytes]) -> None:
     """Adds a source with marks."""
     marks = listed(snippet["annotations"])
-    span = add_source(snippet, in_bytes, len(marks), made)
+    span = add_source(snippet, in_bytes, len(marks), kept, made)
     for mark in marks:
         held = fields(mark, ANNOTATION)
         made += (span(held), text_if(held.get("label")), MARKS[held["kind"]], flag(held.get("highlight_source"), NO))
     add_looks(snippet, made)
 
 
-def add_suggestion(snippet: Mapping[str, Any], in_bytes: bool, made: List[bytes]) -> None:
+def add_suggestion(snippet: Mapping[str, Any], in_bytes: bool, kept: List[Source], made: List[bytes]) -> None:
     """Adds a source with patches."""
     patches = listed(snippet["patches"])
-    span = add_source(snippet, in_bytes, len(patches), made)
+    span = add_source(snippet, in_bytes, len(patches), kept, made)
     for patch in patches:
         held = fields(patch, PATCH)
         made += (span(held), text(held["text"]))
     add_looks(snippet, made)
 
 
-def add_source(snippet: Mapping[str, Any], in_bytes: bool, count: int, made: List[bytes]) -> Span:
+def add_source(snippet: Mapping[str, Any], in_bytes: bool, count: int, kept: List[Source], made: List[bytes]) -> Span:
     """Adds a snippet up to its markers, of which there are so many, and returns how the span of each is written."""
     start, source = snippet.get("line_start"), snippet["source"]
-    encoded = encode(source)
-    made += (text_if(snippet.get("path")), ONE if start is None else number(whole(start)), number(len(encoded)), encoded, number(count))
-    return spans_in(source, len(encoded), snippet.get("unit"), in_bytes)
+    made += (text_if(snippet.get("path")), ONE if start is None else number(whole(start)))
+    if type(source) is Source:
+        made += (YES, number(number_among(kept, source)))
+        source, size = source.text, source.size
+    else:
+        encoded = encode(source)
+        size = len(encoded)
+        made += (NO, number(size), encoded)
+    made.append(number(count))
+    return spans_in(source, size, snippet.get("unit"), in_bytes)
+
+
+def number_among(kept: List[Source], source: Source) -> int:
+    """The number of a source among those that a report names, which are these and, if it is no other, it."""
+    for i, other in enumerate(kept):
+        if other is source:
+            return i
+    kept.append(source)
+    return len(kept) - 1
 
 
 def add_looks(snippet: Mapping[str, Any], made: List[bytes]) -> None:
@@ -274,7 +292,7 @@ class Characters:
         return self.last[1]
 
 
-ELEMENTS: Dict[str, Tuple[bytes, FrozenSet[str], Callable[[Mapping[str, Any], bool, List[bytes]], None]]] = {
+ELEMENTS: Dict[str, Tuple[bytes, FrozenSet[str], Callable[[Mapping[str, Any], bool, List[Source], List[bytes]], None]]] = {
     "message": (b"\0", MESSAGE, add_message),
     "cause": (b"\1", CAUSE, add_cause),
     "suggestion": (b"\2", SUGGESTION, add_suggestion),

@@ -10,6 +10,7 @@ from .errors import REFUSALS, Error, NoTitle, NotDrawable, OutOfMemory, Refused
 from .faults import fault_of
 from .library import call
 from .report import Element, Group, Groups, Part, Report
+from .source import Source, listed
 
 if TYPE_CHECKING:
     from typing_extensions import Unpack
@@ -107,7 +108,7 @@ def answer_json(line: str) -> str:
     if not isinstance(line, str):
         raise NotDrawable(f"the line: expected a text, found a value of type {type(line).__name__}")
     try:
-        return call("yazgult_draw_json", line.encode()).decode()
+        return call_json(line.encode()).decode()
     except UnicodeEncodeError:
         raise NotDrawable("the line: half of a surrogate pair stands in it") from None
 
@@ -120,8 +121,20 @@ def version() -> str:
 def texts_of_report(report: Any, sheets: Any, spans: Any, sources: Any, settings: Any) -> List[str]:
     """The texts of a report under these sheets: as bytes, or where these don't say it or give no text, as JSON."""
     given = bytes_of(report, sheets, spans, settings)
-    texts = None if given is None else texts_of(call("yazgult_draw", given))
+    texts = None if given is None else texts_of(call_bytes(*given))
     return drawn({"sheets": sheets}, report, spans, sources, settings) if texts is None else texts
+
+
+def call_bytes(given: bytes, kept: List[Source]) -> bytes:
+    """What the library answers to a report as bytes, which names these sources by their numbers."""
+    if kept:
+        return call("yazgult_draw_with", given, len(given), listed(kept))
+    return call("yazgult_draw", given, len(given))
+
+
+def call_json(line: bytes) -> bytes:
+    """What it answers to a line of JSON."""
+    return call("yazgult_draw_json", line, len(line))
 
 
 def drawn(case: Dict[str, Any], report: Any, spans: Any, sources: Any, settings: Any) -> List[str]:
@@ -130,7 +143,7 @@ def drawn(case: Dict[str, Any], report: Any, spans: Any, sources: Any, settings:
         raise NotDrawable('spans: expected "characters" or "bytes"')
     case.update(id="", settings=settings, sources=sources, groups=report)
     try:
-        answer = json.loads(call("yazgult_draw_json", line_of(case, UNITS[spans])))
+        answer = json.loads(call_json(line_of(case, UNITS[spans])))
     except MemoryError:
         raise OutOfMemory("there is no memory to hand the report over") from None
     if "ok" in answer:
@@ -190,6 +203,8 @@ def said(value: Any) -> Any:
     """What JSON has for a value that isn't JSON's own."""
     if isinstance(value, Part):
         return value.as_json()
+    if isinstance(value, Source):
+        return value.text
     raise TypeError
 
 

@@ -6,6 +6,7 @@ import math
 from typing import Any, List, Optional, Tuple
 
 from .report import Element, Part
+from .source import Source
 
 # How deep a value may be nested; no field of a report lies as deep.
 DEEPEST = 16
@@ -21,6 +22,8 @@ def fault_of(case: Any) -> Optional[str]:
                 # An element is the field of an object that has its kind's name.
                 path += f".{value.name()}" if isinstance(value, Element) and path.endswith("]") else ""
                 value = value.as_json()
+            elif isinstance(value, Source):
+                continue
             wrong = wrong_with(value, depth)
             if wrong:
                 return f"{path}: {wrong}"

@@ -13,7 +13,19 @@ from .errors import LibraryNotFound
 # What names the library's file, before all other places.
 VARIABLE = "YAZGULT_LIBRARY"
 NAMES = ("libyazgult.so.1", "libyazgult.so")
-FUNCTIONS = {"yazgult_draw": 2, "yazgult_draw_json": 2, "yazgult_version": 1}
+BYTES, ROOM_FOR = (ctypes.c_char_p, ctypes.c_size_t), (ctypes.c_char_p, ctypes.c_size_t)
+KEPT = (ctypes.c_void_p,)
+# The functions of the library: what each takes, and what it returns.
+FUNCTIONS = {
+    "yazgult_draw": (BYTES + ROOM_FOR, ctypes.c_size_t),
+    "yazgult_draw_json": (BYTES + ROOM_FOR, ctypes.c_size_t),
+    "yazgult_draw_with": (BYTES + KEPT + ROOM_FOR, ctypes.c_size_t),
+    "yazgult_sources_add": (BYTES + KEPT, ctypes.c_int),
+    "yazgult_sources_free": (KEPT, None),
+    "yazgult_sources_new": (KEPT, ctypes.c_int),
+    "yazgult_sources_share": (KEPT + KEPT, ctypes.c_int),
+    "yazgult_version": (ROOM_FOR, ctypes.c_size_t),
+}
 HOW = f"Install the wheel of yazgult, which holds the library, or name its file in the environment variable {VARIABLE}."
 
 # How much room an answer gets before its length is known, in bytes.
@@ -44,12 +56,11 @@ def library() -> ctypes.CDLL:
         except OSError as error:
             why = why or str(error)
             continue
-        for name, count in FUNCTIONS.items():
+        for name, (takes, returns) in FUNCTIONS.items():
             function = getattr(loaded, name, None)
             if function is None:
                 raise LibraryNotFound(f"{place} is another library: it has no {name}. {HOW}")
-            function.argtypes = [ctypes.c_char_p, ctypes.c_size_t] * count
-            function.restype = ctypes.c_size_t
+            function.argtypes, function.restype = takes, returns
         return loaded
     raise LibraryNotFound(f"The library of yazgult can't be loaded: {why}. {HOW}")
 
@@ -68,10 +79,9 @@ def free_room() -> Any:
         return ctypes.create_string_buffer(ROOM)
 
 
-def call(name: str, *inputs: bytes) -> bytes:
-    """What a function of the library answers, in as much room as that takes. Any thread may call at any time."""
+def call(name: str, *given: Any) -> bytes:
+    """What a function of the library answers to these arguments, in as much room as that takes. Any thread may call at any time."""
     function = function_of(name)
-    given = (inputs[0], len(inputs[0])) if inputs else ()
     room = free_room()
     length: int = function(*given, room, ROOM)
     answer: bytes = room[:length]

@@ -7,6 +7,7 @@ from dataclasses import dataclass, field
 from typing import Any, Dict, List, Mapping, Optional, Sequence, TextIO, Tuple, Union
 
 from .errors import NotDrawable
+from .source import Source
 
 # A place in a source: how many characters (or bytes) stand before it, or its line and its column, both from 1.
 Place = Union[int, Tuple[int, int]]
@@ -127,10 +128,10 @@ class Message(Element):
 
 @dataclass
 class Snippet(Element):
-    """A source with marks or with patches. `source` is its text, or the number of one of the report's `sources`; `unit` says what
-    `start` and `end` count in it, where that is something else than in the rest of the report: "byte", "char" or "utf16"."""
+    """A source with marks or with patches. `source` is its text, or one that is kept, or the number of one of the report's `sources`; `unit`
+    says what `start` and `end` count in it, where that is something else than in the rest of the report: "byte", "char" or "utf16"."""
 
-    source: Union[str, int]
+    source: Union[str, int, Source]
     path: Optional[str] = None
     annotations: List[Annotation] = field(default_factory=list)
     patches: List[Patch] = field(default_factory=list)
@@ -163,7 +164,7 @@ class Snippet(Element):
 class Cause(Element):
     """A source with marks."""
 
-    source: Union[str, int]
+    source: Union[str, int, Source]
     annotations: List[Annotation] = field(default_factory=list)
     path: Optional[str] = None
     line_start: int = 1
@@ -176,7 +177,7 @@ class Cause(Element):
 class Suggestion(Element):
     """A source with patches."""
 
-    source: Union[str, int]
+    source: Union[str, int, Source]
     patches: List[Patch] = field(default_factory=list)
     path: Optional[str] = None
     line_start: int = 1
@@ -209,7 +210,7 @@ class Group(Part):
 
     def snippet(
         self,
-        source: Union[str, int],
+        source: Union[str, int, Source],
         path: Optional[str] = None,
         *,
         line_start: int = 1,
