@@ -1,7 +1,8 @@
 /* Draws reports about one source, whose text they have or whose number among kept sources: kept LINES TIMES. On sixteen threads at once,
- * each with a list of its own that shares the source, both come to the same bytes; a number that there isn't is told as one. With TIMES
+ * each with a list of its own that shares the source, both come to the same bytes, and so do calls that build a report; a number that there
+ * isn't is told as one. With TIMES
  * a report is drawn so often by its text or, with a third word, by its number: what that costs can be counted. */
-#include "yazgult.h"
+#include "yazgult_report.h"
 
 #include <pthread.h>
 #include <stdio.h>
@@ -99,6 +100,38 @@ static void refuse(yazgult_sources *sources) {
         exit(3);
 }
 
+/* Calls that build a report over a kept source come to what they come to over its text; a second list and a number that there isn't are
+ * told as the calls that they are of. */
+static void build(yazgult_sources *sources) {
+    yazgult_source by_text = yazgult_source_of(text, length, "a.c"), by_number = yazgult_source_kept(text, length, "a.c", sources, 0);
+    yazgult_buffer drawn[2] = {YAZGULT_BUFFER, YAZGULT_BUFFER};
+    yazgult_sources other = {NULL};
+    yazgult_report *report = yazgult_report_new();
+    for (int i = 0; i < 2; i++) {
+        yazgult_report_clear(report);
+        yazgult_report_group(report, YAZGULT_LEVEL_ERROR, "unused");
+        yazgult_report_snippet_of(report, i ? &by_number : &by_text);
+        yazgult_report_mark_at(report, YAZGULT_MARK_PRIMARY, YAZGULT_UNIT_CHARACTER, 7, 5, 7, 6, "here");
+        yazgult_report_snippet_of(report, &by_text);
+        yazgult_report_patch_at(report, YAZGULT_UNIT_BYTE, 8, 5, 8, 6, "y");
+        if (yazgult_report_draw(report, NULL, YAZGULT_SHEET_PLAIN, &drawn[i]))
+            exit(4);
+    }
+    if (drawn[0].length != drawn[1].length || memcmp(drawn[0].at, drawn[1].at, drawn[0].length) != 0)
+        exit(4);
+    by_number.number = 1;
+    yazgult_report_snippet_of(report, &by_number);
+    if (yazgult_report_draw(report, NULL, YAZGULT_SHEET_PLAIN, &drawn[0]) != 6 || yazgult_report_error(report) != YAZGULT_ERROR_KIND)
+        exit(4);
+    by_number.kept = &other;
+    yazgult_report_snippet_of(report, &by_number);
+    if (yazgult_report_draw(report, NULL, YAZGULT_SHEET_PLAIN, &drawn[0]) != 7 || yazgult_report_error(report) != YAZGULT_ERROR_ORDER)
+        exit(4);
+    yazgult_report_free(report);
+    yazgult_buffer_free(&drawn[0]);
+    yazgult_buffer_free(&drawn[1]);
+}
+
 static void in_threads(yazgult_sources *sources) {
     pthread_t threads[THREADS];
     yazgult_sources own[THREADS];
@@ -136,6 +169,7 @@ int main(int count, char **words) {
         yazgult_sources_free(&sources);
     } else {
         refuse(&sources);
+        build(&sources);
         in_threads(&sources);
         printf("%d threads draw %d reports each by the number of a source of %zu lines as by its text\n", THREADS, ROUNDS, lines);
     }

@@ -49,8 +49,9 @@ enum yazgult_error {
     YAZGULT_ERROR_NONE = 0,
     YAZGULT_ERROR_MEMORY = 1,   /* there was none: the report may be freed, or cleared and made again */
     YAZGULT_ERROR_NULL = 2,     /* a text that has to be there, or a source, title, buffer or stream, is NULL */
-    YAZGULT_ERROR_ORDER = 3,    /* an element before the first group; a mark or a patch without a snippet, or in one of the other kind */
-    YAZGULT_ERROR_KIND = 4,     /* a level, a kind, a unit or a sheet that there isn't */
+    YAZGULT_ERROR_ORDER = 3,    /* an element before the first group; a mark or a patch without a snippet, or in one of the other kind; a
+                                 * second list of kept sources */
+    YAZGULT_ERROR_KIND = 4,     /* a level, a kind, a unit, a sheet or a kept source that there isn't */
     YAZGULT_ERROR_LENGTH = 5,   /* a text of 2^56 bytes or more; what is shorter, and too long for the memory, is YAZGULT_ERROR_MEMORY */
     YAZGULT_ERROR_FORMAT = 6,   /* vsnprintf refuses what yazgult_report_format was given */
     YAZGULT_ERROR_NOT_TEXT = 7, /* a text that isn't UTF-8 */
@@ -90,7 +91,7 @@ typedef struct yazgult_buffer {
 } yazgult_buffer;
 #define YAZGULT_BUFFER {NULL, 0, 0}
 
-/* A source that snippets are of, as yazgult_source_of makes it; it may be kept for any number of them. */
+/* A source that snippets are of, as yazgult_source_of or yazgult_source_kept makes it, for any number of them. */
 typedef struct yazgult_source {
     const char *text;
     size_t length;     /* in bytes, all of which are read; the text needs no NUL, and may have some inside */
@@ -98,6 +99,8 @@ typedef struct yazgult_source {
     size_t first_line; /* the number that the text's first line is shown with */
     int unnumbered;    /* whether the gutter has no numbers */
     int unfolded;      /* whether lines without marks are shown too */
+    yazgult_sources *kept; /* the list of kept sources that has the text, or NULL; a report has texts of one list alone */
+    size_t number;         /* its number there, from 0 */
 } yazgult_source;
 
 /* The title of a group, as {.text = "mismatched types", .id = "E0308"}. All zeros are an error without a title. */
@@ -140,6 +143,7 @@ static inline void yazgult_report_clear(yazgult_report *report) {
     }
     report->error = report->drawn = YAZGULT_ERROR_NONE;
     report->groups = report->elements = report->markers = report->kind_at = report->steps.length = report->lines.length = 0;
+    report->kept = NULL;
     report->bytes.length = YAZGULT_HEAD + 8;
     yazgult_set_number(report->bytes.at + YAZGULT_HEAD, 0);
 }
@@ -217,7 +221,14 @@ static inline void yazgult_report_group(yazgult_report *report, enum yazgult_lev
 
 /* A source whose first line is line 1. It has nothing of its own: the text and the path have to stay while snippets are made of it. */
 static inline yazgult_source yazgult_source_of(const char *text, size_t length, const char *path) {
-    yazgult_source source = {text, length, path, 1, 0, 0};
+    yazgult_source source = {text, length, path, 1, 0, 0, NULL, 0};
+    return source;
+}
+
+/* The same of a text that a list of kept sources has under this number: it isn't copied, and no line of it is looked for when the report is
+ * drawn. The list has to stay until then. */
+static inline yazgult_source yazgult_source_kept(const char *text, size_t length, const char *path, yazgult_sources *kept, size_t number) {
+    yazgult_source source = {text, length, path, 1, 0, 0, kept, number};
     return source;
 }
 
@@ -226,16 +237,14 @@ static inline yazgult_source yazgult_source_of(const char *text, size_t length, 
 static inline void yazgult_report_snippet_of(yazgult_report *report, const yazgult_source *source) {
     if (yazgult_is_wrong(report, !source || !source->text, YAZGULT_ERROR_NULL))
         return;
-    if (yazgult_is_wrong(report, !report->groups, YAZGULT_ERROR_ORDER))
+    int is_other = source->kept && report->kept && source->kept != report->kept;
+    if (yazgult_is_wrong(report, !report->groups || is_other, YAZGULT_ERROR_ORDER))
         return;
     yazgult_put_element(report, 1);
     report->kind_at = report->bytes.length - 1;
     yazgult_put_option(report, source->path);
     yazgult_put_number(report, source->first_line);
-    yazgult_put_byte(report, 0); /* its text, not the number of one that is kept */
-    yazgult_put_text(report, source->text, source->length);
-    report->source_length = source->length;
-    report->source_at = report->bytes.length - source->length;
+    yazgult_put_source(report, source);
     report->lines.length = 0;
     report->markers_at = report->bytes.length;
     yazgult_put_number(report, 0);
@@ -366,7 +375,7 @@ static inline size_t yazgult_report_draw(yazgult_report *report, const yazgult_r
         return wrong;
     size_t head = yazgult_put_head(report, renderer ? renderer : &defaults, sheet);
     const char *input = report->bytes.at + YAZGULT_HEAD - head;
-    if (!yazgult_ask(yazgult_draw, input, report->bytes.length - YAZGULT_HEAD + head, text)) {
+    if (!yazgult_ask(yazgult_draw, report->kept, input, report->bytes.length - YAZGULT_HEAD + head, text)) {
         report->drawn = YAZGULT_ERROR_MEMORY;
     } else if (text->at[0] == YAZGULT_TEXTS && text->length >= 17) {
         /* the kind, that there is one text, its length, and it */
@@ -375,8 +384,8 @@ static inline size_t yazgult_report_draw(yazgult_report *report, const yazgult_r
         return 0;
     } else if (text->at[0] == YAZGULT_REFUSED && text->length >= 2) {
         wrong = yazgult_refused(report, text->at, text->length);
-    } else if (text->at[0] == YAZGULT_NO_REPORT && text->length >= 10 && text->at[1] == YAZGULT_NOT_TEXT) {
-        report->drawn = YAZGULT_ERROR_NOT_TEXT;
+    } else if (text->at[0] == YAZGULT_NO_REPORT && text->length >= 10 && yazgult_is_of_call(report, text->at[1])) {
+        report->drawn = text->at[1] == YAZGULT_KIND ? YAZGULT_ERROR_KIND : YAZGULT_ERROR_NOT_TEXT;
         wrong = yazgult_call_of_byte(report, (size_t)yazgult_number(text->at + 2) + YAZGULT_HEAD - head);
     } else {
         report->drawn = text->at[0] == YAZGULT_MEMORY ? YAZGULT_ERROR_MEMORY : YAZGULT_ERROR_VERSION;
@@ -450,7 +459,7 @@ static inline enum yazgult_answer yazgult_text_json(const char *line, size_t len
     enum yazgult_answer status = YAZGULT_NO_REPORT;
     if (!text)
         return status;
-    if (!yazgult_ask(yazgult_draw_json, line ? line : "", line ? length : 0, text))
+    if (!yazgult_ask(yazgult_draw_json, NULL, line ? line : "", line ? length : 0, text))
         return YAZGULT_MEMORY;
     const char *at = text->at;
     char *to = text->at;

@@ -28,7 +28,9 @@ typedef struct yazgult_report {
     size_t groups, elements, markers; /* how many groups, elements of the last one, and markers of that */
     size_t elements_at, markers_at;   /* where the last group's number of elements stands, and the last snippet's of markers */
     size_t kind_at;                   /* where the last snippet's kind stands; 0 where the last element is none */
+    const char *kept_text; /* the last snippet's source where a list has it, else NULL */
     size_t source_at, source_length;
+    yazgult_sources *kept; /* the list of kept sources that snippets are of, or NULL */
     int unnumbered, unfolded;
 } yazgult_report;
 
@@ -159,9 +161,27 @@ static inline int yazgult_put_marker(yazgult_report *report, char kind, size_t s
     return 1;
 }
 
+/* Adds a source: its text, or the number of one that is kept. */
+static inline void yazgult_put_source(yazgult_report *report, const yazgult_source *source) {
+    yazgult_put_byte(report, source->kept != NULL);
+    if (source->kept)
+        yazgult_put_number(report, source->number);
+    else
+        yazgult_put_text(report, source->text, source->length);
+    report->kept_text = source->kept ? source->text : NULL;
+    report->kept = source->kept ? source->kept : report->kept;
+    report->source_length = source->length;
+    report->source_at = report->bytes.length - (source->kept ? 0 : source->length);
+}
+
+/* The text of the last snippet's source. */
+static inline const char *yazgult_source_text(const yazgult_report *report) {
+    return report->kept_text ? report->kept_text : report->bytes.at + report->source_at;
+}
+
 /* Finds where the lines of the last snippet's source start, once for all its places. */
 static inline int yazgult_find_lines(yazgult_report *report) {
-    const char *source = report->bytes.at + report->source_at, *feed = source;
+    const char *source = yazgult_source_text(report), *feed = source;
     if (report->lines.length)
         return 1;
     for (size_t start = 0; feed; start = feed ? (size_t)(feed - source) + 1 : start) {
@@ -196,7 +216,7 @@ static inline size_t yazgult_byte_at(const yazgult_report *report, enum yazgult_
     if (line == 0 || line > lines || column == 0)
         return SIZE_MAX;
     size_t end = line < lines ? starts[line] - 1 : report->source_length;
-    return yazgult_byte_of(report->bytes.at + report->source_at, starts[line - 1], end, unit, column - 1);
+    return yazgult_byte_of(yazgult_source_text(report), starts[line - 1], end, unit, column - 1);
 }
 
 /* Finds the bytes of two places. Where there is no such place they are past the source's end, so that the report is refused for it. */
@@ -255,8 +275,9 @@ static inline size_t yazgult_put_head(yazgult_report *report, const yazgult_rend
 
 typedef size_t yazgult_export(const uint8_t *, size_t, uint8_t *, size_t);
 
-/* Puts the whole answer of an export into a buffer, and a NUL after it. Answers whether there was memory. */
-static inline int yazgult_ask(yazgult_export *draw, const char *input, size_t length, yazgult_buffer *answer) {
+/* Puts the whole answer of an export into a buffer, or, where there are kept sources, that of yazgult_draw_with, and a NUL after it.
+ * Answers whether there was memory. */
+static inline int yazgult_ask(yazgult_export *draw, yazgult_sources *kept, const char *input, size_t length, yazgult_buffer *answer) {
     size_t needed = length > SIZE_MAX / 8 ? SIZE_MAX / 8 : length + 4096;
     do {
         answer->length = 0;
@@ -264,11 +285,18 @@ static inline int yazgult_ask(yazgult_export *draw, const char *input, size_t le
             answer->at[0] = '\0';
         if (!yazgult_reserve(answer, needed))
             return 0;
-        needed = draw((const uint8_t *)input, length, (uint8_t *)answer->at, answer->room - 1) + 1;
+        const uint8_t *from = (const uint8_t *)input;
+        uint8_t *to = (uint8_t *)answer->at;
+        needed = 1 + (kept ? yazgult_draw_with(from, length, kept, to, answer->room - 1) : draw(from, length, to, answer->room - 1));
     } while (needed > answer->room);
     answer->length = needed - 1;
     answer->at[answer->length] = '\0';
     return 1;
+}
+
+/* Whether a call may have added what is wrong so: a text that isn't UTF-8, or a number that no kept source has. */
+static inline int yazgult_is_of_call(const yazgult_report *report, char wrong) {
+    return wrong == YAZGULT_NOT_TEXT || (wrong == YAZGULT_KIND && report->kept);
 }
 
 /* The number of the call that is made now. */

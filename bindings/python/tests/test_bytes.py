@@ -1,6 +1,7 @@
 """A report is drawn the same whether it is handed over as bytes or as JSON, and told the same where it isn't one."""
 
 import copy
+import pickle
 import random
 import unittest
 
@@ -88,6 +89,26 @@ class SameAsJson(unittest.TestCase):
                 self.assert_same(REPORT, **{name: value})
         for sheets in ([], ["none"], "plain", ["plain", {"error": {"fg": "Red"}}], None, [1]):
             self.assert_same(REPORT, sheets)
+
+    def test_a_kept_source_is_drawn_as_its_text(self):
+        text = "let é = 😀;\n" * 2000
+        kept = yazgult.Source(text)
+        rng = random.Random(3)
+        for spans in ("characters", "bytes"):
+            for _ in range(100):
+                starts = sorted(rng.sample(range(len(text.encode()) + 3), 4))
+                marks = [{"kind": "primary", "start": starts[0], "end": starts[1]}, {"kind": "context", "start": starts[2], "end": starts[3]}]
+                rng.shuffle(marks)
+                by_text, by_number = ([{"title": TITLE, "elements": [{"cause": {"source": it, "annotations": marks}}] * 2}] for it in (text, kept))
+                draw = (lambda report=it: yazgult.render(report, spans=spans) for it in (by_text, by_number))
+                self.assertEqual(*map(outcome, draw))
+        html = (outcome(lambda report=it: yazgult.render_html(report, spans="bytes")) for it in (by_text, by_number))
+        self.assertEqual(*html)
+        copies = (copy.copy(kept), copy.deepcopy(kept), pickle.loads(pickle.dumps(kept)))
+        self.assertEqual([it.text for it in copies], [text] * 3)
+        for wrong in (None, 5, b"x", "\ud800"):
+            with self.assertRaises(yazgult.NotDrawable):
+                yazgult.Source(wrong)
 
     def test_classes_are_drawn_alike(self):
         snippet = Snippet(SOURCE, "a.rs").mark(8, 9, "here").mark((1, 5), (1, 6))

@@ -73,7 +73,7 @@ class Package(unittest.TestCase):
         self.assertEqual([name for name in NAMES.split() if name not in public()], [])
 
     def test_examples_of_docstrings_print_what_they_say(self):
-        for module in (yazgult, sys.modules["yazgult.linting"]):
+        for module in (yazgult, sys.modules["yazgult.linting"], sys.modules["yazgult.source"]):
             found = doctest.testmod(module)
             self.assertGreater(found.attempted, 0)
             self.assertEqual(found.failed, 0)

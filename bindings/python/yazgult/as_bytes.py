@@ -10,7 +10,7 @@ from struct import Struct
 from typing import Any, Callable, Dict, FrozenSet, List, Mapping, Optional, Sequence, Tuple
 
 from .report import Element, Part, Report
-from .source import Source
+from .source import STEP, Source
 
 VERSION = b"\3"
 encode = str.encode
@@ -35,6 +35,8 @@ CAUSE, SUGGESTION = SNIPPET | {"annotations"}, SNIPPET | {"patches"}
 ANNOTATION = frozenset(("kind", "start", "end", "label", "highlight_source"))
 PATCH = frozenset(("start", "end", "text"))
 NOTHING: FrozenSet[str] = frozenset()
+# What is known of a text that isn't kept: that no byte stands before its first character.
+BEGINNING = [0]
 
 # A style: no foreground or one of the terminal's, no background, and eight effects, of which bold is the first.
 PLAIN, BOLD = NO + NO + bytes(8), NO + NO + YES + bytes(7)
@@ -219,13 +221,13 @@ def add_source(snippet: Mapping[str, Any], in_bytes: bool, count: int, kept: Lis
     made += (text_if(snippet.get("path")), ONE if start is None else number(whole(start)))
     if type(source) is Source:
         made += (YES, number(number_among(kept, source)))
-        source, size = source.text, source.size
+        source, size, starts = source.text, source.size, source.starts
     else:
         encoded = encode(source)
-        size = len(encoded)
+        size, starts = len(encoded), BEGINNING
         made += (NO, number(size), encoded)
     made.append(number(count))
-    return spans_in(source, size, snippet.get("unit"), in_bytes)
+    return spans_in(source, size, starts, snippet.get("unit"), in_bytes)
 
 
 def number_among(kept: List[Source], source: Source) -> int:
@@ -245,13 +247,13 @@ def add_looks(snippet: Mapping[str, Any], made: List[bytes]) -> None:
 Span = Callable[[Mapping[str, Any]], bytes]
 
 
-def spans_in(source: str, size: int, unit: Any, in_bytes: bool) -> Span:
-    """How the spans of markers in a source are written, which has so many bytes."""
+def spans_in(source: str, size: int, starts: List[int], unit: Any, in_bytes: bool) -> Span:
+    """How the spans of markers in a source are written, which has so many bytes, some of whose places are known."""
     if unit == "byte" or unit is None and in_bytes:
         return counted_span
     if unit is not None and unit != "char":
         raise Other
-    return counted_in(len(source)) if len(source) == size else Characters(source).span
+    return counted_in(len(source)) if len(source) == size else Characters(source, starts).span
 
 
 def counted_span(marker: Mapping[str, Any]) -> bytes:
@@ -273,10 +275,10 @@ def counted_in(length: int) -> Span:
 
 
 class Characters:
-    """A text whose characters are several bytes each, and how many stand before the last one that was asked for."""
+    """A text whose characters are several bytes each, how many stand before the last one that was asked for, and before each STEP."""
 
-    def __init__(self, source: str):
-        self.source, self.last = source, (0, 0)
+    def __init__(self, source: str, starts: List[int]):
+        self.source, self.starts, self.last = source, starts, (0, 0)
 
     def span(self, marker: Mapping[str, Any]) -> bytes:
         """The span of a marker that counts characters. A place that the text hasn't is for JSON to tell."""
@@ -286,8 +288,10 @@ class Characters:
         raise Other
 
     def byte(self, place: int) -> int:
-        """How many bytes stand before a character: counted from the last one, if it stands after that."""
-        at, before = self.last if place >= self.last[0] else (0, 0)
+        """How many bytes stand before a character: counted from the last one or from a known place, whichever is nearer before it."""
+        step = min(place // STEP, len(self.starts) - 1)
+        known = (step * STEP, self.starts[step])
+        at, before = self.last if known[0] <= self.last[0] <= place else known
         self.last = (place, before + len(self.source[at:place].encode()))
         return self.last[1]
 

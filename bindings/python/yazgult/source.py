@@ -4,10 +4,14 @@ from __future__ import annotations
 
 import ctypes
 import threading
-from typing import Any, Sequence
+from typing import Any, List, Sequence, Tuple
 
 from .errors import NotDrawable, OutOfMemory
 from .library import function_of
+
+
+# How many characters stand between two places whose bytes are known.
+STEP = 1 << 12
 
 
 class Sources(ctypes.Structure):
@@ -45,10 +49,14 @@ class Source:
             encoded = text.encode()
         except UnicodeEncodeError:
             raise NotDrawable("a source: half of a surrogate pair stands in it") from None
-        self.text, self.size = text, len(encoded)
+        self.text, self.size, self.starts = text, len(encoded), starts_in(text)
         self._lock, self._list = threading.Lock(), Sources()
         if self._list.told or function_of("yazgult_sources_add")(encoded, self.size, ctypes.byref(self._list)):
             raise OutOfMemory("there is no memory to keep the source")
+
+    def __reduce__(self) -> Tuple[Any, ...]:
+        """A copy is a source of the same text, that is kept too."""
+        return type(self), (self.text,)
 
     def __repr__(self) -> str:
         return f"Source({self.size} bytes)"
@@ -58,6 +66,15 @@ class Source:
         with self._lock:
             if function_of("yazgult_sources_share")(ctypes.byref(self._list), ctypes.byref(others)):
                 raise OutOfMemory("there is no memory to hand the sources over")
+
+
+def starts_in(text: str) -> List[int]:
+    """The bytes before which so many times STEP characters of a text stand."""
+    starts, at = [0], 0
+    for place in range(STEP, len(text) + 1, STEP):
+        at += len(text[place - STEP : place].encode())
+        starts.append(at)
+    return starts
 
 
 def listed(sources: Sequence[Source]) -> Any:
