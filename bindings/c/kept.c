@@ -1,7 +1,7 @@
 /* Draws reports about one source, whose text they have or whose number among kept sources: kept LINES TIMES. On sixteen threads at once,
  * each with a list of its own that shares the source, both come to the same bytes, and so do calls that build a report; a number that there
- * isn't is told as one. With TIMES
- * a report is drawn so often by its text or, with a third word, by its number: what that costs can be counted. */
+ * isn't is told as one. With TIMES a report is drawn so often by its text or, with a third word, by its number: what that costs can be
+ * counted. */
 #include "yazgult_report.h"
 
 #include <pthread.h>

@@ -1,5 +1,6 @@
 """Measures calls of the library: the stack that they take, and what reports cost through the Rust crate and through Python."""
 
+import os
 import shutil
 import subprocess
 import sys
@@ -52,6 +53,7 @@ def bench(room, anstyle, names):
 
 def by_python(file, room):
     """Says what a round costs through Python, where spans count bytes, and what JSON alone would."""
+    os.environ["PYTHONHASHSEED"] = "0"  # so that each run counts the same
     program = [sys.executable, ROOT / "bindings" / "python" / "bench.py"]
     found = {how: [counted([*program, how, file, str(times)], room) for times in (10, 30)] for how in ("draw", "json")}
     if any(None in it for it in found.values()):

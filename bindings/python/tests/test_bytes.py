@@ -6,7 +6,7 @@ import random
 import unittest
 
 import yazgult
-from yazgult import Annotation, Cause, Group, Level, Message, Patch, Snippet, Title
+from yazgult import Annotation, Cause, Group, Level, Message, Patch, Report, Snippet, Title
 from yazgult.as_bytes import bytes_of
 from yazgult.drawing import drawn
 
@@ -20,7 +20,8 @@ TITLE = {"level": {"kind": "warning", "name": "own"}, "text": "té", "primary": 
 MESSAGE = {"level": {"kind": "note", "name": None}, "text": "more"}
 ORIGIN = {"path": "b.rs", "line": 3, "column": 4}
 ELEMENTS = [{"cause": CAUSE}, {"message": MESSAGE}, {"suggestion": SUGGESTION}, {"origin": ORIGIN}, {"padding": {}}]
-REPORT = [{"title": TITLE, "elements": ELEMENTS}, {"title": None, "level": LEVEL, "elements": [{"cause": {"source": "a", "annotations": []}}]}]
+UNTITLED = {"title": None, "level": {"kind": "error", "name": None}, "elements": [{"cause": {"source": "a", "annotations": []}}]}
+REPORT = [{"title": TITLE, "level": LEVEL, "elements": ELEMENTS}, UNTITLED]
 SETTINGS = {"term_width": 40, "unicode": True, "context_before": 1, "context_after": None, "mask_controls": True, "wrap": False}
 # Values that stand where others should.
 ODD = [None, True, False, 0, 1, -1, 2**64, 10**30, 1.0, "", "x", "\ud800", b"x", [], [1], (), {}, {"kind": "help"}, "byte", "utf16", object(), 14, 99]
@@ -34,9 +35,14 @@ def outcome(draw):
         return type(error), str(error), vars(error)
 
 
-def by_json(report, sheets, spans, settings):
+def by_json(report, sheets, spans, settings, sources=None):
     """What JSON alone gives."""
-    return outcome(lambda: drawn({"sheets": sheets}, report, spans, None, settings))
+    return outcome(lambda: drawn({"sheets": sheets}, report, spans, sources, settings))
+
+
+def first(outcome):
+    """The first text of an outcome that has some, as `render` gives it."""
+    return outcome[0] if isinstance(outcome, list) else outcome
 
 
 def places(value, at=()):
@@ -71,7 +77,7 @@ class SameAsJson(unittest.TestCase):
 
     def test_what_bytes_say_is_drawn_alike(self):
         for spans in ("characters", "bytes"):
-            self.assertIsNotNone(bytes_of(REPORT, ["plain", "default"], spans, SETTINGS))
+            self.assertIsNotNone(bytes_of(REPORT, ["plain", "default"], spans, None, SETTINGS))
             self.assert_same(REPORT, ["plain", "default"], spans, **SETTINGS)
 
     def test_what_is_changed_anywhere_is_drawn_or_told_alike(self):
@@ -80,13 +86,18 @@ class SameAsJson(unittest.TestCase):
         for _ in range(3000):
             report = changed(REPORT, rng)
             self.assert_same(report, spans=rng.choice(["characters", "bytes"]))
-            written += bytes_of(report, ["plain"], "characters", {}) is not None
+            written += bytes_of(report, ["plain"], "characters", None, {}) is not None
         self.assertGreater(written, 300)
 
     def test_settings_and_sheets_that_are_none_are_told_alike(self):
         for name in (*SETTINGS, "other"):
             for value in ODD:
                 self.assert_same(REPORT, **{name: value})
+        for value in ODD:
+            wanted = first(by_json(REPORT, ["plain"], "characters", {}, value))
+            self.assertEqual(outcome(lambda value=value: yazgult.render(REPORT, sources=value)), wanted)
+            report = Report(REPORT, value)
+            self.assertEqual(outcome(lambda report=report: yazgult.render(report)), first(by_json(report, ["plain"], "characters", {})))
         for sheets in ([], ["none"], "plain", ["plain", {"error": {"fg": "Red"}}], None, [1]):
             self.assert_same(REPORT, sheets)
 

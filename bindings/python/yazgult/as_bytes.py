@@ -52,12 +52,16 @@ class Other(Exception):
     """What is met isn't plainly what it should be."""
 
 
-def bytes_of(report: Any, sheets: Any, spans: Any, settings: Mapping[str, Any]) -> Optional[Tuple[bytes, List[Source]]]:
+def bytes_of(report: Any, sheets: Any, spans: Any, sources: Any, settings: Mapping[str, Any]) -> Optional[Tuple[bytes, List[Source]]]:
     """A report under these sheets, whose spans count "bytes" or "characters", and the sources that it names by numbers; none where it has to
-    be written as JSON."""
+    be written as JSON, as where sources go with it."""
     try:
         in_bytes = COUNTS_BYTES[spans]
-        groups, kept = listed(report.groups if isinstance(report, Report) else report), []
+        if isinstance(report, Report):
+            report, sources = report.groups, report.sources if sources is None else sources
+        if not (sources is None or type(sources) in (list, tuple) and not sources):
+            raise Other
+        groups, kept = listed(report), []
         made = [settings_of(settings) if settings else DEFAULT_SETTINGS, number(len(sheets))]
         made += map(SHEETS.__getitem__, sheets)
         made.append(number(len(groups)))
@@ -141,11 +145,12 @@ def number_if(value: Any) -> bytes:
 
 
 def add_group(group: Any, in_bytes: bool, kept: List[Source], made: List[bytes]) -> None:
-    """Adds a group."""
+    """Adds a group. Its level is read where it has no title, and else has to be one all the same."""
     held = fields(group, GROUP)
-    title, elements = held["title"], listed(held["elements"])
+    title, level, elements = held["title"], held.get("level"), listed(held["elements"])
+    kind: Any = None if level is None else level_bytes(level)[-1:]
     if title is None:
-        made += (KINDS[fields(held["level"], LEVEL)["kind"]], NO)
+        made += (kind, NO)
     else:
         parts = fields(title, TITLE)
         made += (KINDS[fields(parts["level"], LEVEL)["kind"]], YES, title_bytes(parts))
@@ -308,7 +313,8 @@ ELEMENTS: Dict[str, Tuple[bytes, FrozenSet[str], Callable[[Mapping[str, Any], bo
 # ---- settings
 
 
-FLAGS = ("anonymized_origin", "anonymized_snippet", "unicode", "hyperlink", "short_message", "no_graphics", "show_line_feeds", "wrap", "mask_controls")
+FLAGS = ("anonymized_origin", "anonymized_snippet", "unicode", "hyperlink", "short_message", "no_graphics", "show_line_feeds", "wrap")
+FLAGS += ("mask_controls",)
 NUMBERS = {"term_width": 140, "context_before": 0, "context_after": 0}
 
 

@@ -120,7 +120,7 @@ def version() -> str:
 
 def texts_of_report(report: Any, sheets: Any, spans: Any, sources: Any, settings: Any) -> List[str]:
     """The texts of a report under these sheets: as bytes, or where these don't say it or give no text, as JSON."""
-    given = bytes_of(report, sheets, spans, settings)
+    given = bytes_of(report, sheets, spans, sources, settings)
     texts = None if given is None else texts_of(call_bytes(*given))
     return drawn({"sheets": sheets}, report, spans, sources, settings) if texts is None else texts
 
