@@ -147,6 +147,18 @@ pub(crate) fn weave_stretch(
     end_link(out, last.link, next.link)?;
     change_style(out, codes, last.place, next.place)?;
     begin_link(out, last.link, next.link)?;
+    push_word(out, word)
+}
+
+/// Adds a word. Many a stroke is one byte, for which nothing is called.
+#[inline(always)]
+fn push_word(out: &mut String, word: &str) -> Result<(), AllocError>
+    ensures text { OnOk result (string_bytes out.new ≡ string_bytes out.old ++ word.now) }
+{
+    let bytes = word.as_bytes();
+    if bytes.len() == 1 && bytes[0].is_ascii() {
+        return out.push(char::from(bytes[0]));
+    }
     out.push_str(word)
 }
 

@@ -48,6 +48,7 @@ const FIRST_RUNS: usize = 24;
 const FIRST_ROWS: usize = 16;
 
 /// Makes room for a small report, if nothing was written yet.
+#[inline(always)]
 fn make_first_room(
     text: &mut String,
     runs: &mut Vec<Run<'_>>,
@@ -60,6 +61,19 @@ fn make_first_room(
     if !runs.is_empty() {
         return Ok(());
     }
+    reserve_first(text, runs, widths)
+}
+
+/// Reserves room for a small report.
+fn reserve_first(
+    text: &mut String,
+    runs: &mut Vec<Run<'_>>,
+    widths: &mut Vec<usize>,
+) -> Result<(), AllocError>
+    ensures text { string_bytes text.new ≡ string_bytes text.old }
+    ensures runs { runs.new.items ≡ runs.old.items }
+    ensures widths { widths.new.items ≡ widths.old.items }
+{
     text.reserve(FIRST_BYTES)?;
     runs.reserve(FIRST_RUNS)?;
     widths.reserve(FIRST_ROWS)

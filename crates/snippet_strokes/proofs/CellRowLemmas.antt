@@ -1,8 +1,8 @@
 -- Rows that are kept cell by cell, after a write and as they are added to a grid.
 use Rattle.std.proofs.Common.{◌≡◌, ℕ, zero, suc, ◌+◌, ◌-◌, ◌<◌, ◌≤◌, List, [], ◌∷◌, ◌++◌, length}
-use Rattle.std.proofs.Common.{map, take, drop, get_or, replicate, All, inl, inr, refl, sym, ap, ◌∙◌, arith}
+use Rattle.std.proofs.Common.{◌⊎◌, map, take, drop, get_or, replicate, All, inl, inr, refl, sym, ap, ◌∙◌, arith}
 use Rattle.std.proofs.lemmas.List.{append_assoc, append-nil, length-append, length-map, length-replicate, map-append, map-set, places, same_lists}
-use Rattle.std.proofs.lemmas.List.{drop-map}
+use Rattle.std.proofs.lemmas.List.{drop-map, take-map}
 use Rattle.std.proofs.Math.ListN.{set}
 use Rattle.std.proofs.lemmas.List.{get_or-map, length-drop, set_split, take_all}
 use Rattle.std.proofs.lemmas.List.Elements.{All-head, All-tail}
@@ -77,6 +77,50 @@ filled_up xs new at blank is filled =
     blanks : (n : ℕ) → map cell_of (replicate n blank) ≡ replicate n SPACE
     blanks zero = refl
     blanks (suc n) = ap (λ c. c ∷ map cell_of (replicate n blank)) is ∙ ap (λ ys. SPACE ∷ ys) (blanks n)
+
+-- characters that are all the same
+cells-replicate : (n : ℕ) (new : StyledChar) → map cell_of (replicate n new) ≡ replicate n (cell_of new)
+cells-replicate zero new = refl
+cells-replicate (suc n) new = ap (λ cells. cell_of new ∷ cells) (cells-replicate n new)
+
+-- a write of one cell many times, over the cells that are there and then after them
+written_stretch : {X : Type 0} (blank : X) (xs : List X) (start there end : ℕ) (y : X) → start ≤ there → there ≤ end → there ≤ length xs
+    → (there ≡ end) ⊎ (there ≡ length xs)
+    → (take start xs ++ replicate (there - start) y ++ drop there xs) ++ replicate (end - length xs) y ≡ written blank xs start (replicate (end - start) y)
+written_stretch blank xs start there end y from to within ends =
+    same_lists _ _ (unfold written in grind (arith, places, from, to, within, ends)) (λ k d h. unfold written in grind (arith, places, from, to, within, ends))
+
+-- what is painted over leaves as many
+pub painted_over : (mid : List StyledChar) (start there : ℕ) (new : StyledChar) → start ≤ there → there ≤ length mid
+    → length (take start mid ++ replicate (there - start) new ++ drop there mid) ≡ length mid
+painted_over mid start there new from within = grind (arith, places, from, within)
+
+-- the cells of a row after a stretch of it is written: over what it is filled up to, and then after that
+pub stretch_over : (xs mid : List StyledChar) (start there end : ℕ) (new : StyledChar) → map cell_of mid ≡ written SPACE (map cell_of xs) start []
+    → start ≤ there → there ≤ end → there ≤ length mid → (there ≡ end) ⊎ (there ≡ length mid)
+    → map cell_of ((take start mid ++ replicate (there - start) new ++ drop there mid) ++ replicate (end - length mid) new)
+    ≡ written SPACE (map cell_of xs) start (replicate (end - start) (cell_of new))
+stretch_over xs mid start there end new filled from to within ends =
+    let cells : List Cell = map cell_of xs in
+    let ms : List Cell = map cell_of mid in
+    let cell : Cell = cell_of new in
+    let many : length ms ≡ length mid = length-map mid cell_of in
+    map-append cell_of (take start mid ++ replicate (there - start) new ++ drop there mid) (replicate (end - length mid) new)
+    ∙ ap (λ ys. ys ++ map cell_of (replicate (end - length mid) new)) (
+    map-append cell_of (take start mid ++ replicate (there - start) new) (drop there mid)
+    ∙ ap (λ ys. ys ++ map cell_of (drop there mid)) (
+    map-append cell_of (take start mid) (replicate (there - start) new)
+    ∙ ap (λ ys. map cell_of (take start mid) ++ ys) (cells-replicate (there - start) new)
+    ∙ ap (λ ys. ys ++ replicate (there - start) cell) (sym (take-map cell_of start mid))
+    )
+    ∙ ap (λ ys. (take start ms ++ replicate (there - start) cell) ++ ys) (sym (drop-map cell_of there mid))
+    )
+    ∙ ap (λ ys. (take start ms ++ replicate (there - start) cell ++ drop there ms) ++ ys) (cells-replicate (end - length mid) new
+    ∙ ap (λ n. replicate (end - n) cell) (sym many))
+    ∙ written_stretch SPACE ms start there end cell from to (omega (arith, within, many)) (elim ends [ inl is ↦ inl is | inr is ↦ inr (is ∙ sym many) ])
+    ∙ ap (λ rs. written SPACE rs start (replicate (end - start) cell)) filled
+    ∙ ap (λ n. written SPACE (written SPACE cells start []) n (replicate (end - start) cell)) (let same : start ≡ start + 0 = omega arith in same)
+    ∙ written_more SPACE cells start [] (replicate (end - start) cell)
 
 -- ---- rows that are written
 

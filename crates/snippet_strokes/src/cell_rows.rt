@@ -9,7 +9,7 @@
 //! ```
 ghost use Rattle.std.specs.Prelude.{◌≡◌, ◌↔◌, IsTrue, ℕ, ◌+◌, ◌-◌, ◌<◌, ◌≤◌};
 ghost use Rattle.std.specs.Prelude.{◌++◌, ◌∷◌, [], All, List, IfOk, OnOk, length, map};
-ghost use Rattle.std.specs.Prelude.{chars, drop, replicate, string_bytes, true};
+ghost use Rattle.std.specs.Prelude.{chars, drop, replicate, string_bytes, take, true};
 ghost use Rattle.std.specs.List.{slice_index_or};
 ghost use Rattle.snippet_grid.specs.Grid.{cells_written};
 ghost use Rattle.snippet_grid.specs.StyledChars.{cell_of};
@@ -73,7 +73,19 @@ impl CellRows {
     }
 
     /// Makes the row of this number, and all above it, where it isn't there.
+    #[inline(always)]
     fn make_row(&mut self, row: usize) -> Result<(), AllocError>
+        requires row { HasNext row }
+        ensures made { OnOk result (self.new ≡ self.old ++ replicate (row + 1 - length self.old) []) }
+    {
+        if row < self.rows.len() {
+            return Ok(());
+        }
+        self.add_rows(row)
+    }
+
+    /// Makes the row of this number, and all above it that aren't there.
+    fn add_rows(&mut self, row: usize) -> Result<(), AllocError>
         requires row { HasNext row }
         ensures made { OnOk result (self.new ≡ self.old ++ replicate (row + 1 - length self.old) []) }
     {
@@ -150,14 +162,25 @@ impl Canvas for CellRows {
 }
 
 /// Fills a row up with blanks to this cell, unless it is longer.
-#[inline(never)]
+#[inline(always)]
 fn fill_up(cells: &mut Vec<StyledChar>, at: usize) -> Result<(), AllocError>
     ensures filled { OnOk result (map cell_of cells.new.items ≡ written SPACE (map cell_of cells.old.items) at []) }
+    ensures long { OnOk result (at ≤ length cells.new.items) }
 {
     if cells.len() < at {
-        cells.resize(at, BLANK)?;
+        add_blanks(cells, at)?;
     }
     Ok(())
+}
+
+/// Adds blanks to a row up to this cell.
+#[inline(never)]
+fn add_blanks(cells: &mut Vec<StyledChar>, at: usize) -> Result<(), AllocError>
+    requires shorter { length cells.old.items < at }
+    ensures filled { OnOk result (map cell_of cells.new.items ≡ written SPACE (map cell_of cells.old.items) at []) }
+    ensures long { OnOk result (at ≤ length cells.new.items) }
+{
+    cells.resize(at, BLANK)
 }
 
 /// Writes a character in a role into a row at this cell.
@@ -207,10 +230,23 @@ fn write_stretch(
 {
     let (start, end) = (range.start, range.end);
     fill_up(cells, start)?;
-    for at in start..end {
-        write_char(cells, at, new)?;
+    let there = end.min(cells.len());
+    paint_over(cells, start, there, new);
+    if there < end {
+        cells.resize(end, new)?;
     }
     Ok(())
+}
+
+/// Paints a character in a role over cells of a row.
+#[inline(always)]
+fn paint_over(cells: &mut Vec<StyledChar>, start: usize, end: usize, new: StyledChar)
+    requires ordered { start ≤ end }
+    requires within { end ≤ length cells.old.items }
+    ensures painted { cells.new.items
+        ≡ take start cells.old.items ++ replicate (end - start) new ++ drop end cells.old.items }
+{
+    cells[start..end].fill(new);
 }
 
 /// Adds rows to a grid, below all that stands in it.

@@ -109,6 +109,11 @@ fn draw_line(
     ensures bars { IfOk result (λ below. below.open_bars.items
         ≡ open_below bars.open_bars.items line.now.info.annotations.items) }
 {
+    // Most lines have neither entries nor bars beside them.
+    if line.info.annotations.is_empty() && bars.open_bars.is_empty() {
+        draw_marked_line(buffer, layout, view, line, &[])?;
+        return Ok(bars);
+    }
     let BarLists {
         open_bars,
         ends,

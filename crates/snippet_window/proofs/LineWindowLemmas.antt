@@ -2,12 +2,13 @@
 use Rattle.std.proofs.Common.{◌≡◌, ◌^◌, Option, Some, None, IfSome, unwrap_or, ℕ, ◌+◌, ◌-◌, ◌<◌, ◌≤◌, cond, eqb, leb, true, false, List, [], ◌∷◌, ◌++◌, length}
 use Rattle.std.proofs.Common.{take, drop, refl, sym, ap, ◌∙◌, le_refl, arith, chars, encode_utf8, IsUtf8, zero, suc, Bool, reverse}
 use Rattle.std.proofs.lemmas.Str.{encodes-chars}
-use Rattle.std.proofs.lemmas.List.{drop_all, length-drop, length-take, take_all, length-reverse, reverse-append}
+use Rattle.std.proofs.lemmas.List.{drop_all, length-drop, length-take, take_all, length-reverse, places, reverse-append, same_lists}
 use Rattle.std.proofs.lemmas.List.Sums.{sum_by-cons, fold_push}
 use Rattle.std.proofs.lemmas.Bool.{le-leb}
 use Rattle.std.proofs.lemmas.Bool.Decides.{nat_tests}
 use Rattle.snippet_text.specs.Width.{char_width, width_of}
 use Rattle.snippet_window.specs.Window.{reaching, fitting, reaching_last, uncovered_part}
+use Rattle.snippet_style.proofs.CellLemmas.{length-chars_le}
 use Rattle.snippet_style.specs.Cell.{bytes_of}
 pub use Rattle.snippet_style.proofs.CutLemmas.{text_parts, cut_boundary, cut_front, cut_back, bytes-push, IsNext, take-next, drop-next, bytes_within}
 pub use Rattle.snippet_style.proofs.CutLemmas.{bytes_next}
@@ -264,3 +265,14 @@ reaching_last-reverse k (c ∷ cs) =
     ∙ ap (λ n. cond (leb k (width_of cs)) (reaching k (reverse cs)) (n + 1)) (sym (length-reverse cs))
     ∙ ap (λ n. cond (leb k n) (reaching k (reverse cs)) (length (reverse cs) + 1)) (sym (width-reverse cs))
     ∙ sym (ap (reaching k) back ∙ reaching-push k c (reverse cs))
+
+-- no character is needed to reach no column
+pub none_reaching : (cs : List ℕ) → take (reaching 0 cs) cs ≡ []
+none_reaching [] = refl
+none_reaching (c ∷ cs) = refl
+
+-- an empty text has no character
+pub none_fitting : (columns : ℕ) (text : List ℕ) → length text ≡ 0 → take (fitting columns (chars text)) (chars text) ≡ []
+none_fitting columns text none =
+    let no_chars : length (chars text) ≡ 0 = omega (arith, length-chars_le text, none) in
+    same_lists _ _ (grind (arith, places, no_chars)) (λ k d h. grind (arith, places, no_chars))

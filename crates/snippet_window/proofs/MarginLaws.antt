@@ -2,9 +2,7 @@
 use Rattle.std.proofs.Common.{◌≡◌, ◌∙◌, ◌⊎◌, ℕ, ◌+◌, ◌-◌, ◌<◌, ◌≤◌, Bool, true, false, not, cond, eqb, leb, ◌&&◌, ◌||◌, List, [], ◌∷◌, ◌++◌, All, Option, None}
 use Rattle.std.proofs.Common.{map, chars, unwrap_or, refl, sym, ap, subst, inl, inr, arith, length}
 use Rattle.std.specs.List.{filter, flat_map, list_any, range_with_len}
-use Rattle.std.specs.Option.{option_copied}
 use Rattle.std.proofs.lemmas.Bool.{cases_Bool, or_right, and_parts, and_from, eq-eqb, eqb-true}
-use Rattle.std.proofs.lemmas.Bool.{not-true}
 use Rattle.std.proofs.lemmas.Bool.Decides.{nat_tests}
 use Rattle.snippet_model.specs.declared.snippet.Annotation.{Annotation}
 use Rattle.snippet_model.specs.declared.snippet.AnnotationKind.TheVariants.{Primary}
@@ -24,7 +22,6 @@ use Rattle.snippet_lines.specs.Lines.{Source, source_lines}
 use Rattle.snippet_parts.specs.Mark.{is_marking, is_single_line}
 use Rattle.snippet_parts.specs.Marked.{first_line, last_line}
 use Rattle.snippet_window.specs.Extent.{ReachesLines, columns_of, ends_of, entries_of, with_columns}
-use Rattle.snippet_window.specs.Extent.{line_texts}
 use Rattle.snippet_window.specs.Measures.{end_with, margin_of}
 use Rattle.snippet_parts.specs.Least.{greatest, least}
 use Rattle.snippet_window.specs.declared.extent.Extent.{Extent}

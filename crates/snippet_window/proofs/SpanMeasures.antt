@@ -2,9 +2,7 @@
 use Rattle.std.proofs.Common.{◌≡◌, ◌∙◌, ℕ, ◌+◌, ◌-◌, Bool, true, false, not, cond, eqb, List, [], ◌∷◌, ◌++◌, Option}
 use Rattle.std.proofs.Common.{map, chars, refl, sym, ap, subst, inl, inr}
 use Rattle.std.specs.List.{filter, flat_map}
-use Rattle.std.specs.Option.{option_copied}
-use Rattle.std.proofs.lemmas.Bool.{cases_Bool, cond-true, cond-false, and_parts, not-true}
-use Rattle.std.proofs.lemmas.List.{map-append}
+use Rattle.std.proofs.lemmas.Bool.{and_parts, not-true}
 use Rattle.snippet_model.specs.declared.snippet.Annotation.{Annotation}
 use Rattle.snippet_model.specs.declared.snippet.AnnotationKind.TheVariants.{Primary}
 use Rattle.snippet_parts.specs.declared.depths.LongExtent.{LongExtent}
@@ -22,7 +20,7 @@ use Rattle.snippet_parts.specs.LongSpans.{bar_lines}
 use Rattle.snippet_parts.specs.Kept.{kept_lines}
 use Rattle.snippet_lines.specs.Lines.{Source}
 use Rattle.snippet_parts.specs.Mark.{is_marking, is_single_line}
-use Rattle.snippet_window.specs.Extent.{entries_of, line_texts, with_columns}
+use Rattle.snippet_window.specs.Extent.{entries_of, line_texts}
 use Rattle.snippet_window.specs.Measures.{end_with}
 use Rattle.snippet_parts.specs.Entries.{is_bar}
 use Rattle.snippet_window.specs.Window.{chars_at}

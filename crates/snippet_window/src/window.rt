@@ -76,11 +76,11 @@ pub fn window_of<'a>(
     let right = margin.right(width);
     let (reached, rest) = after_columns(text, left - skipped);
     let (inner, inner_width) = within_columns(rest, right.saturating_sub(left));
-    let columns = str_width(placeholder);
-    let (start, shown) = uncovered(margin, columns, inner);
+    let (start, shown) = uncovered(margin, placeholder, inner);
     let end = if right < width {
         let at = start.unwrap_or(0) + char_count(shown);
-        Some(at.saturating_sub(last_reaching(inner, inner_width, columns)))
+        let covered = last_reaching(inner, inner_width, str_width(placeholder));
+        Some(at.saturating_sub(covered))
     } else {
         None
     };
@@ -92,18 +92,16 @@ pub fn window_of<'a>(
     }
 }
 
-/// The columns of a window's first characters that give their place to a placeholder of this width, if lines are cut on
-/// the left, and what stands after them.
-fn uncovered<'a>(margin: Margin, columns: usize, inner: &'a str) -> (Option<usize>, &'a str)
-    requires few { IsColumn columns }
-    ensures start { (placeholder : List ℕ) → columns ≡ width_of placeholder
-        → result.0 ≡ covered_columns margin.computed_left placeholder (chars inner.now) }
-    ensures bound { IfSome result.0 (λ start. start < columns + 4) }
-    ensures text { (placeholder : List ℕ) → columns ≡ width_of placeholder
-        → chars result.1.now ≡ uncovered_part margin.computed_left placeholder (chars inner.now) }
+/// The columns of a window's first characters that give their place to a placeholder, if lines are cut on the left, and
+/// what stands after them.
+fn uncovered<'a>(margin: Margin, placeholder: &str, inner: &'a str) -> (Option<usize>, &'a str)
+    requires placeholder { TextFits placeholder.now }
+    ensures start { result.0 ≡ covered_columns margin.computed_left (chars placeholder.now) (chars inner.now) }
+    ensures bound { IfSome result.0 (λ start. start < width_of (chars placeholder.now) + 4) }
+    ensures text { chars result.1.now ≡ uncovered_part margin.computed_left (chars placeholder.now) (chars inner.now) }
 {
     if margin.was_cut_left() {
-        let (skipped, shown) = after_columns(inner, columns);
+        let (skipped, shown) = after_columns(inner, str_width(placeholder));
         (Some(skipped), shown)
     } else {
         (None, inner)
@@ -128,6 +126,9 @@ pub(crate) fn reaching_end(text: &str, columns: usize) -> (usize, usize)
     ensures width { let cs = chars text.now in result.1 ≡ width_of (take (reaching columns cs) cs) }
     ensures near { result.1 < columns + 4 }
 {
+    if columns == 0 {
+        return (0, 0);
+    }
     let plain = plain_start(text, columns);
     let (at, width) = walked_reaching(&text[plain..], columns - plain);
     (plain + at, plain + width)
@@ -167,6 +168,9 @@ pub(crate) fn fitting_end(text: &str, columns: usize) -> (usize, usize)
     ensures width { let cs = chars text.now in result.1 ≡ width_of (take (fitting columns cs) cs) }
     ensures near { columns < width_of (chars text.now) → columns < result.1 + 4 }
 {
+    if text.is_empty() {
+        return (0, 0);
+    }
     match whole_width(text, columns) {
         Some(width) => (text.len(), width),
         None => {

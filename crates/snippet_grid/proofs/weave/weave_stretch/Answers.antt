@@ -1,12 +1,11 @@
 use Rattle.std.proofs.Common.{◌∙◌, ◌++◌, ap, sym, string_bytes, List, ℕ}
 use Rattle.std.proofs.lemmas.Result.{on_ok_weaker}
 use Rattle.std.proofs.lemmas.Str.{encodes-chars}
-use Rattle.snippet_grid.proofs.OutcomeLemmas.{on_ok_value}
 use Rattle.snippet_grid.proofs.weave.weave_stretch.Goals as goal
 
 pub returns-clause-text : goal.returns-clause-text
 returns-clause-text c =
-    on_ok_weaker c.push_str.result (λ bytes. record {
+    on_ok_weaker c.push_word.result (λ bytes. record {
       ended = string_bytes c.end_link.new.out;
       changed = string_bytes c.change_style.new.out;
       begun = string_bytes c.begin_link.new.out;
@@ -19,4 +18,4 @@ returns-clause-text c =
       no_link = c.in_ok-begin_link.ensures.none;
       link_begins = c.in_ok-begin_link.ensures.begun;
       text_is = bytes ∙ ap (λ (t : List ℕ). string_bytes c.begin_link.new.out ++ t) (sym (encodes-chars c.args.word.now c.utf8.word));
-    }) (on_ok_value c.push_str.result _ _ _ c.push_str.ensures.bytes)
+    }) c.push_word.ensures.text

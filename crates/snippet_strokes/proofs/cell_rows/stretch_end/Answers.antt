@@ -1,5 +1,4 @@
-use Rattle.std.proofs.Common.{◌≡◌, ◌∙◌, ap, arith, refl, sym}
-use Rattle.std.specs.List.{slice_index_or}
+use Rattle.std.proofs.Common.{◌∙◌, ap, arith, refl, sym}
 use Rattle.std.proofs.lemmas.List.{get_or_default}
 use Rattle.snippet_grid.specs.StyledChars.{cell_of}
 use Rattle.snippet_grid.specs.declared.styled_char.StyledChar.{StyledChar}

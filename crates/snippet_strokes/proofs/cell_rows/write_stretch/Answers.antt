@@ -1,29 +1,44 @@
-use Rattle.std.proofs.Common.{◌≡◌, ◌∙◌, ◌+◌, ◌-◌, ap, arith, length, map, replicate}
-use Rattle.std.proofs.lemmas.List.{length-replicate, replicate_more}
+use Rattle.std.proofs.Common.{◌≡◌, ◌∙◌, ◌-◌, ◌++◌, ◌≤◌, ap, arith, drop, inl, inr, length, map, replicate, sym, take}
+use Rattle.std.proofs.lemmas.List.{append-nil, take_all}
+use Rattle.std.specs.Vec.{vec_len}
 use Rattle.snippet_grid.specs.StyledChars.{cell_of}
-use Rattle.snippet_style.specs.Cell.{SPACE, written}
-use Rattle.snippet_strokes.proofs.CellRowLemmas.{more_cells}
+use Rattle.snippet_strokes.proofs.CellRowLemmas.{painted_over, stretch_over}
 use Rattle.snippet_strokes.proofs.cell_rows.write_stretch.Goals as goal
 
-pub loop-at-init : goal.loop-at-init
-loop-at-init c =
-    c.in_ok-fill_up.ensures.filled ∙ ap (λ n. written SPACE (map cell_of c.args.cells.now.items) c.args.range.start (replicate n (cell_of c.args.new)))
-    (let none : 0 ≡ c.args.range.start - c.args.range.start = omega arith in none)
-
-pub loop-at-preserved : goal.loop-at-preserved
-loop-at-preserved c =
-    let from = c.args.range.start in
-    let cell = cell_of c.args.new in
-    let cells = map cell_of c.args.cells.now.items in
-    let n = c.loop-at.at - from in
-    let next : c.loop-at.at ≡ from + length (replicate n cell) = omega (arith, length-replicate n cell) in
-    let more : n + 1 ≡ c.loop-at.at + 1 - from = omega arith in
-    more_cells cells (map cell_of c.loop-at.cells.items) (map cell_of c.write_char.new.cells.items) from c.loop-at.at (replicate n cell) cell next
-    c.loop-at.invariant c.in_ok-write_char.ensures.written ∙ ap (written SPACE cells from) (replicate_more n cell ∙ ap (λ m. replicate m cell) more)
-
-pub returns : goal.returns
-returns c =
+pub returns-in_ok-resize : goal.returns-in_ok-resize
+returns-in_ok-resize c =
+    let start = c.args.range.start in
+    let end = c.args.range.end in
+    let there = c.min-there.result in
+    let mid = c.fill_up.new.cells.items in
+    let all : there ≡ length mid = grind (arith, c.min-there.ensures, c.len.ensures, c.fill_up.new.cells.ok.0, c.if-there-end.true) in
+    let from : start ≤ there = omega (arith, all, c.in_ok-fill_up.ensures.long) in
+    let within : there ≤ length mid = omega (arith, all) in
+    let many = ap length c.paint_over.ensures.painted ∙ painted_over mid start there c.args.new from within in
     record {
-      written = c.loop-at.invariant ∙ ap (λ n. written SPACE (map cell_of c.args.cells.now.items) c.args.range.start
-          (replicate (n - c.args.range.start) (cell_of c.args.new))) (omega arith);
+      written = ap (map cell_of) (c.in_ok-resize.ensures.items
+          ∙ ap (λ xs. xs ++ replicate (end - vec_len c.paint_over.new.cells) c.args.new)
+          (take_all end c.paint_over.new.cells.items (omega (arith, many, all, c.if-there-end.true)) ∙ c.paint_over.ensures.painted)
+          ∙ ap (λ n. (take start mid ++ replicate (there - start) c.args.new ++ drop there mid) ++ replicate (end - n) c.args.new)
+          (c.paint_over.new.cells.ok.0 ∙ many))
+          ∙ stretch_over c.args.cells.now.items mid start there end c.args.new c.in_ok-fill_up.ensures.filled from
+          (omega (arith, c.if-there-end.true)) within (inr all);
+    }
+
+pub returns-else-there-end : goal.returns-else-there-end
+returns-else-there-end c =
+    let start = c.args.range.start in
+    let end = c.args.range.end in
+    let there = c.min-there.result in
+    let mid = c.fill_up.new.cells.items in
+    let all : there ≡ end = grind (arith, c.min-there.ensures, c.if-there-end.false) in
+    let within : there ≤ length mid = grind (arith, c.min-there.ensures, c.len.ensures, c.fill_up.new.cells.ok.0) in
+    let from : start ≤ there = omega (arith, all, c.requires.some) in
+    let none : end - length mid ≡ 0 = omega (arith, all, within) in
+    record {
+      written = ap (map cell_of) (c.paint_over.ensures.painted
+          ∙ sym (append-nil (take start mid ++ replicate (there - start) c.args.new ++ drop there mid))
+          ∙ ap (λ n. (take start mid ++ replicate (there - start) c.args.new ++ drop there mid) ++ replicate n c.args.new) (sym none))
+          ∙ stretch_over c.args.cells.now.items mid start there end c.args.new c.in_ok-fill_up.ensures.filled from
+          (omega (arith, all)) within (inl all);
     }

@@ -1,4 +1,6 @@
-use Rattle.std.proofs.Common.{◌≡◌, ◌∙◌, All, List, ap, false, subst, sym}
+use Rattle.std.proofs.Common.{◌≡◌, ◌∙◌, [], All, List, ap, arith, false, length, subst, sym}
+use Rattle.std.proofs.lemmas.Bool.Decides.{nat_tests}
+use Rattle.std.proofs.lemmas.List.{same_lists}
 use Rattle.std.proofs.lemmas.List.Elements.{All-same}
 use Rattle.snippet_strokes.specs.declared.bars.OpenBar.{OpenBar}
 use Rattle.snippet_strokes.specs.Bars.{HasBarRoom, bars_apart, ends_of_bars, has_depth}
@@ -30,3 +32,11 @@ returns-clause-added c =
     c.in_ok-draw_line_rows.ensures.added c.args.bars.open_bars.items
     (c.deref-5.ensures.value ∙ c.in_ok-below.ensures.value
     ∙ ap (λ bars. bars_apart bars c.deref-3.result.now) c.deref-2.ensures.value ∙ ap (bars_apart c.args.bars.open_bars.items) ends)
+
+-- no bars run beside the line
+pub returns-then-is_empty-2-clause-added : goal.returns-then-is_empty-2-clause-added
+returns-then-is_empty-2-clause-added c =
+    let bars = c.args.bars.open_bars.items in
+    let none : length bars ≡ 0 = grind (arith, nat_tests, sym c.is_empty-then-is_empty.ensures ∙ c.if-is_empty-2.true) in
+    let empty : bars ≡ [] = same_lists _ _ none (λ k d h. absurd (omega (arith, none, h))) in
+    c.in_ok-draw_marked_line.ensures.added bars (sym (ap (λ bs. bars_apart bs (ends_of_bars c.args.line.now.info.annotations.items)) empty))

@@ -1,11 +1,28 @@
 use Rattle.std.proofs.Common.{◌≡◌, ◌<◌, ◌≤◌, ◌∙◌, ◌+◌, ◌-◌, Option, IfSome, List, ℕ, ap, arith, chars, drop, length, subst, sym, take}
+use Rattle.std.proofs.lemmas.Bool.Decides.{nat_tests}
 use Rattle.std.proofs.lemmas.List.{length-drop}
 use Rattle.snippet_style.specs.Cell.{bytes_of}
 use Rattle.snippet_text.specs.Width.{width_of}
 use Rattle.snippet_window.specs.Window.{fitting}
-use Rattle.snippet_window.proofs.LineWindowLemmas.{bytes_within, cut_boundary, fitting_whole, whole_bytes}
+use Rattle.snippet_window.proofs.LineWindowLemmas.{bytes_within, cut_boundary, fitting_whole, none_fitting, whole_bytes}
+use Rattle.snippet_text.proofs.WidthBounds.{width_of-chars}
 use Rattle.snippet_window.proofs.PlainFront.{bytes_front, plain_chars, plain_cut, taken_front, width_front}
 use Rattle.snippet_window.proofs.window.fitting_end.Goals as goal
+
+pub returns-then-is_empty-clause-bytes : goal.returns-then-is_empty-clause-bytes
+returns-then-is_empty-clause-bytes c =
+    let none : length c.args.text.now ≡ 0 = grind (arith, nat_tests, sym c.is_empty.ensures ∙ c.if-is_empty.true) in
+    sym (ap bytes_of (none_fitting c.args.columns c.args.text.now none))
+
+pub returns-then-is_empty-clause-width : goal.returns-then-is_empty-clause-width
+returns-then-is_empty-clause-width c =
+    let none : length c.args.text.now ≡ 0 = grind (arith, nat_tests, sym c.is_empty.ensures ∙ c.if-is_empty.true) in
+    sym (ap width_of (none_fitting c.args.columns c.args.text.now none))
+
+pub returns-then-is_empty-clause-near : goal.returns-then-is_empty-clause-near
+returns-then-is_empty-clause-near c less =
+    let none : length c.args.text.now ≡ 0 = grind (arith, nat_tests, sym c.is_empty.ensures ∙ c.if-is_empty.true) in
+    absurd (omega (arith, less, none, width_of-chars c.args.text.now))
 
 pub returns-in-Some-clause-bytes : goal.returns-in-Some-clause-bytes
 returns-in-Some-clause-bytes c =

@@ -1,11 +1,23 @@
-use Rattle.std.proofs.Common.{◌≡◌, ◌∙◌, ◌-◌, List, ℕ, ap, arith, chars, drop, length, subst, take}
+use Rattle.std.proofs.Common.{◌≡◌, ◌∙◌, ◌-◌, List, ℕ, ap, arith, chars, drop, length, subst, sym, take}
 use Rattle.std.proofs.lemmas.List.{length-drop}
 use Rattle.snippet_style.specs.Cell.{bytes_of}
 use Rattle.snippet_text.specs.Width.{width_of}
 use Rattle.snippet_window.specs.Window.{reaching}
-use Rattle.snippet_window.proofs.LineWindowLemmas.{bytes_within, cut_boundary}
+use Rattle.snippet_window.proofs.LineWindowLemmas.{bytes_within, cut_boundary, none_reaching}
 use Rattle.snippet_window.proofs.PlainFront.{bytes_front, plain_cut, reached_front, width_front}
 use Rattle.snippet_window.proofs.window.reaching_end.Goals as goal
+
+pub returns-then-columns-eq0-clause-bytes : goal.returns-then-columns-eq0-clause-bytes
+returns-then-columns-eq0-clause-bytes c =
+    let cs = chars c.args.text.now in
+    let none : c.args.columns ≡ 0 = omega arith in
+    sym (ap (λ n. bytes_of (take (reaching n cs) cs)) none ∙ ap bytes_of (none_reaching cs))
+
+pub returns-then-columns-eq0-clause-width : goal.returns-then-columns-eq0-clause-width
+returns-then-columns-eq0-clause-width c =
+    let cs = chars c.args.text.now in
+    let none : c.args.columns ≡ 0 = omega arith in
+    sym (ap (λ n. width_of (take (reaching n cs) cs)) none ∙ ap width_of (none_reaching cs))
 
 pub range_from-requires : goal.range_from-requires
 range_from-requires c _ =

@@ -1,4 +1,5 @@
 use Rattle.std.proofs.Common.{Option, IfSome, ℕ, sym, subst, ◌≡◌, ◌<◌, ◌≤◌, ◌+◌, ◌-◌, ◌^◌, ◌∙◌, min, ap, arith, length, unwrap_or, chars}
+use Rattle.snippet_text.proofs.WidthBounds.{width_of-chars}
 use Rattle.snippet_text.specs.Width.{width_of}
 use Rattle.snippet_window.specs.Window.{reaching_last, covered_columns, uncovered_part, window_left, window_right}
 use Rattle.snippet_window.proofs.LineWindowLemmas.{cells_few, start_is_few, part_short}
@@ -18,10 +19,10 @@ overflow_add-at c =
     ) in
     omega (
       arith,
-      cells_few c.uncovered-start.result.0 c.str_width-columns.result margin.computed_left (chars c.args.placeholder.now)
+      cells_few c.uncovered-start.result.0 (width_of (chars c.args.placeholder.now)) margin.computed_left (chars c.args.placeholder.now)
           inner (chars c.uncovered-start.result.1.now)
-          c.unwrap_or.result c.char_count.result (omega (arith, c.str_width-columns.ensures.bound, c.requires.placeholder))
-          c.uncovered-start.ensures.bound (c.uncovered-start.ensures.text (chars c.args.placeholder.now) c.str_width-columns.ensures.value)
+          c.unwrap_or.result c.char_count.result (omega (arith, width_of-chars c.args.placeholder.now, c.requires.placeholder))
+          c.uncovered-start.ensures.bound (c.uncovered-start.ensures.text)
           short c.unwrap_or.ensures c.char_count.ensures.value,
     )
 
@@ -34,8 +35,8 @@ returns-clause-dropped c line part =
 
 pub returns-clause-few_start : goal.returns-clause-few_start
 returns-clause-few_start c =
-    start_is_few c.uncovered-start.result.0 c.str_width-columns.result
-    (omega (arith, c.str_width-columns.ensures.bound, c.requires.placeholder)) c.uncovered-start.ensures.bound
+    start_is_few c.uncovered-start.result.0 (width_of (chars c.args.placeholder.now))
+    (omega (arith, width_of-chars c.args.placeholder.now, c.requires.placeholder)) c.uncovered-start.ensures.bound
 
 pub returns-clause-start : goal.returns-clause-start
 returns-clause-start c line part =
@@ -45,7 +46,7 @@ returns-clause-start c line part =
     c.left-left.ensures.value c.right-right.ensures.value (omega (arith, c.saturating_sub.ensures))
     (omega (arith, c.after_columns-reached.ensures.width, c.after_columns-reached.ensures.near)) c.after_columns-reached.ensures.rest
     c.within_columns-inner_width.ensures.value in
-    c.uncovered-start.ensures.start (chars c.args.placeholder.now) c.str_width-columns.ensures.value
+    c.uncovered-start.ensures.start
     ∙ ap (covered_columns margin.computed_left (chars c.args.placeholder.now)) inner
 
 pub returns-clause-text : goal.returns-clause-text
@@ -56,7 +57,7 @@ returns-clause-text c line part =
     c.left-left.ensures.value c.right-right.ensures.value (omega (arith, c.saturating_sub.ensures))
     (omega (arith, c.after_columns-reached.ensures.width, c.after_columns-reached.ensures.near)) c.after_columns-reached.ensures.rest
     c.within_columns-inner_width.ensures.value in
-    c.uncovered-start.ensures.text (chars c.args.placeholder.now) c.str_width-columns.ensures.value
+    c.uncovered-start.ensures.text
     ∙ ap (uncovered_part margin.computed_left (chars c.args.placeholder.now)) inner
 
 pub returns-clause-end : goal.returns-clause-end
@@ -76,13 +77,13 @@ returns-clause-end c line part =
       | then-right-width w ↦
           let cut : window_right room margin.computed_left margin.computed_right line < width_of line =
           omega (arith, right, part.0, w.if-right-width.true) in
-          let last : w.last_reaching.result ≡ reaching_last (width_of placeholder) found = w.last_reaching.ensures.value
-          ∙ ap (λ n. reaching_last n found) c.str_width-columns.ensures.value in
+          let last : w.last_reaching-covered.result ≡ reaching_last (width_of placeholder) found = w.last_reaching-covered.ensures.value
+          ∙ ap (λ n. reaching_last n found) w.str_width.ensures.value in
           let end : w.saturating_sub-then-right-width.result ≡ (unwrap_or c.uncovered-start.result.0 0 + length shown) - reaching_last
           (width_of placeholder) found = omega (arith, w.saturating_sub-then-right-width.ensures, last, w.unwrap_or.ensures, w.char_count.ensures.value) in
           w.end-is ∙ end_some room margin.computed_left margin.computed_right w.saturating_sub-then-right-width.result c.uncovered-start.result.0
-          placeholder line found shown inner cut (c.uncovered-start.ensures.start placeholder c.str_width-columns.ensures.value)
-          (c.uncovered-start.ensures.text placeholder c.str_width-columns.ensures.value) end
+          placeholder line found shown inner cut (c.uncovered-start.ensures.start)
+          (c.uncovered-start.ensures.text) end
       | else-right-width w ↦
           let uncut : width_of line ≤ window_right room margin.computed_left margin.computed_right line =
           omega (arith, right, part.0, w.if-right-width.false) in
@@ -101,10 +102,10 @@ returns-clause-few_end c =
     ) in
     elim c.if-right-width.branch [
       | then-right-width w ↦
-          let few = cells_few c.uncovered-start.result.0 c.str_width-columns.result margin.computed_left (chars c.args.placeholder.now)
+          let few = cells_few c.uncovered-start.result.0 (width_of (chars c.args.placeholder.now)) margin.computed_left (chars c.args.placeholder.now)
           inner (chars c.uncovered-start.result.1.now)
-          w.unwrap_or.result w.char_count.result (omega (arith, c.str_width-columns.ensures.bound, c.requires.placeholder))
-          c.uncovered-start.ensures.bound (c.uncovered-start.ensures.text (chars c.args.placeholder.now) c.str_width-columns.ensures.value)
+          w.unwrap_or.result w.char_count.result (omega (arith, width_of-chars c.args.placeholder.now, c.requires.placeholder))
+          c.uncovered-start.ensures.bound (c.uncovered-start.ensures.text)
           short w.unwrap_or.ensures w.char_count.ensures.value in
           let end : w.saturating_sub-then-right-width.result < 2 ^ 61 = omega (arith, few, w.saturating_sub-then-right-width.ensures) in
           subst (λ (o : Option ℕ). IfSome o (λ at. at < 2 ^ 61)) (sym w.end-is) end

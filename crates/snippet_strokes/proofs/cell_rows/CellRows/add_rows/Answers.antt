@@ -2,7 +2,7 @@ use Rattle.std.proofs.Common.{◌≡◌, ◌∙◌, ◌+◌, ◌-◌, ◌++◌, 
 use Rattle.std.proofs.lemmas.List.{append_assoc, append-nil, length-map, length_push, map-append, replicate_more}
 use Rattle.snippet_grid.specs.StyledChars.{cell_of}
 use Rattle.snippet_strokes.specs.CellRows.{cells_of}
-use Rattle.snippet_strokes.proofs.cell_rows.CellRows.make_row.Goals as goal
+use Rattle.snippet_strokes.proofs.cell_rows.CellRows.add_rows.Goals as goal
 
 pub loop-init : goal.loop-init
 loop-init c =

@@ -1,7 +1,7 @@
 -- Rows are made up to this number.
 use Rattle.std.proofs.Common.{◌≡◌, ◌+◌, ◌++◌, ◌-◌, ◌≤◌, [], length, map, max, replicate}
 use Rattle.snippet_strokes.specs.CellRows.{cells_of}
-use Rattle.snippet_strokes.proofs.cell_rows.CellRows.make_row.Given as goal
+use Rattle.snippet_strokes.proofs.cell_rows.CellRows.add_rows.Given as goal
 
 abbrev pub invariant-loop : goal.invariant-loop
 invariant-loop l =
