@@ -6,3 +6,4 @@ pub mod LinkLemmas
 pub mod ListLemmas
 pub mod Listed
 pub mod Rows
+pub mod Saying

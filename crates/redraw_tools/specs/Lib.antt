@@ -8,6 +8,7 @@ pub mod Heading
 pub mod Links
 pub mod Log
 pub mod Lsp
+pub mod Message
 pub mod Path
 pub mod Places
 pub mod Primary

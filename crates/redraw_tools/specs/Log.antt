@@ -1,6 +1,7 @@
 -- What the results of a log report, be it SARIF, ESLint's or of a language server.
-use Rattle.std.specs.Prelude.{◌≡◌, List, Option, codes, option_map, IfSome}
+use Rattle.std.specs.Prelude.{◌≡◌, List, MatchOption, None, Option, codes, option_map}
 use Rattle.serde_json.specs.Data.{Data}
+use Rattle.serde_json.specs.Find.{as_object}
 use Rattle.serde_json.specs.View.{view}
 use Rattle.json_lines.specs.Lenient.{list_at}
 use Rattle.redraw_report.specs.declared.diagnostic.Diagnostic.{Diagnostic}
@@ -30,6 +31,6 @@ results_in (Lsp document) = list_at (codes "diagnostics") (view document.value.n
 
 -- this is what a result of a run reports
 abbrev pub IsReportedBy : LogRun → Data → Option Diagnostic → Type 0
-IsReportedBy (Sarif run) d found = IfSome found (IsResultOf (view run.node.value.now) run.unit d)
+IsReportedBy (Sarif run) d found = MatchOption found (as_object d ≡ None) (IsResultOf (view run.node.value.now) run.unit d)
 IsReportedBy (Eslint file) d found = option_map found_view found ≡ eslint.finding_in (view file.value.now) d
 IsReportedBy (Lsp document) d found = option_map found_view found ≡ lsp.finding_in (view document.value.now) d

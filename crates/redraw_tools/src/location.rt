@@ -1,7 +1,10 @@
 //! The places that a result names.
-ghost use Rattle.std.specs.Prelude.{◌≡◌, ◌++◌, ◌∷◌, [], IfOk, IfSome, OnOk, false, map, option_map, string_bytes};
+ghost use Rattle.std.specs.Prelude.{◌≡◌, ◌++◌, ◌∷◌, [], IfOk, IfSome, OnOk, codes, false, map, option_map};
+ghost use Rattle.std.specs.Prelude.{string_bytes};
 ghost use Rattle.std.specs.List.{filter_map, flat_map};
 ghost use Rattle.serde_json.specs.View.{view};
+ghost use Rattle.json_lines.specs.Lenient.{object_at};
+ghost use Rattle.redraw_tools.specs.Message.{SaysText};
 ghost use Rattle.redraw_tools.specs.Places as spec;
 ghost use Rattle.redraw_tools.specs.Places.{annotation_in, annotations_of, part_of, place_in, placed, span_view};
 
@@ -67,6 +70,8 @@ fn span_of(
 ) -> Result<Option<FileSpan>, AllocError>
     ensures value { IfOk result (λ span. option_map span_view span
         ≡ place_in (view context.now.run.now) context.now.unit is_primary (view location.now.value.now)) }
+    ensures label { IfOk result (λ span. IfSome span (λ place.
+        SaysText (object_at (codes "message") (view location.now.value.now)) (option_map string_bytes place.label))) }
 {
     if !location.is_object(problems) {
         return Ok(None);
@@ -129,6 +134,8 @@ fn annotation_of(
     ensures value { IfOk result (λ span. option_map span_view span
         ≡ annotation_in (view context.now.run.now) context.now.unit (view location.now.value.now)
         (view region.now.value.now)) }
+    ensures label { IfOk result (λ span. IfSome span (λ place.
+        SaysText (object_at (codes "message") (view region.now.value.now)) (option_map string_bytes place.label))) }
 {
     let Some(place) = place_at(location, context, problems)? else {
         return Ok(None);
@@ -149,7 +156,10 @@ pub fn message_at(
     location: &LenientNode<'_, '_>,
     context: &Context<'_, '_>,
     problems: &mut Problems,
-) -> Result<Option<String>, AllocError> {
+) -> Result<Option<String>, AllocError>
+    ensures says { IfOk result (λ found.
+        SaysText (object_at (codes "message") (view location.now.value.now)) (option_map string_bytes found)) }
+{
     part_text_in(location, "message", context, problems)
 }
 

@@ -1,4 +1,9 @@
 //! The texts of messages.
+ghost use Rattle.std.specs.Prelude.{◌≡◌, IfOk, None, Some, codes, map, option_map, string_bytes};
+ghost use Rattle.serde_json.specs.View.{view};
+ghost use Rattle.json_lines.specs.Field.{lent_text};
+ghost use Rattle.json_lines.specs.Lenient.{object_at, text_at};
+ghost use Rattle.redraw_tools.specs.Message.{SaysText, if_alone};
 
 use crate::expectation::SarifExpectation;
 use crate::links::without_links;
@@ -22,7 +27,10 @@ pub fn text_in(
     name: &str,
     context: &Context<'_, '_>,
     problems: &mut Problems,
-) -> Result<Option<String>, AllocError> {
+) -> Result<Option<String>, AllocError>
+    ensures says { IfOk result (λ found.
+        SaysText (object_at name.now (view object.now.value.now)) (option_map string_bytes found)) }
+{
     match object.object(name, problems) {
         Some(message) => text_of(&message, None, context, problems),
         None => Ok(None),
@@ -35,7 +43,10 @@ pub fn part_text_in(
     name: &str,
     context: &Context<'_, '_>,
     problems: &mut Problems,
-) -> Result<Option<String>, AllocError> {
+) -> Result<Option<String>, AllocError>
+    ensures says { IfOk result (λ found.
+        SaysText (object_at name.now (view object.now.value.now)) (option_map string_bytes found)) }
+{
     match object.object(name, problems) {
         Some(message) => text_of(&message, Some(context.room), context, problems),
         None => Ok(None),
@@ -48,7 +59,10 @@ fn text_of(
     room: Option<&Cell<usize>>,
     context: &Context<'_, '_>,
     problems: &mut Problems,
-) -> Result<Option<String>, AllocError> {
+) -> Result<Option<String>, AllocError>
+    ensures says { IfOk result (λ found.
+        SaysText (Some (view message.now.value.now)) (option_map string_bytes found)) }
+{
     let arguments = message.list("arguments", problems).items;
     let told = problems.lines.len();
     let own = message.text("text", problems);
@@ -58,7 +72,7 @@ fn text_of(
         }
         return Ok(None);
     };
-    if own.is_some() && arguments.is_empty() {
+    if let Some(text) = alone(own, arguments) {
         return Ok(Some(without_links(context.alloc, text)?));
     }
     if is_full(room) {
@@ -69,6 +83,13 @@ fn text_of(
     let whole = with_arguments(context.alloc, message, text.as_str(), arguments, problems)?;
     take_room(room, whole.len());
     Ok(Some(whole))
+}
+
+/// A text that a message has of its own, if it has no arguments.
+fn alone<'t>(own: Option<&'t str>, arguments: &[Value]) -> Option<&'t str>
+    ensures value { lent_text result ≡ if_alone (map view arguments.now) (lent_text own.entry) }
+{
+    if arguments.is_empty() { own } else { None }
 }
 
 /// Whether nothing is left of a room.
@@ -106,7 +127,9 @@ fn text_by_id<'v>(
     message: &LenientNode<'_, '_>,
     rule: &SarifRule<'v>,
     problems: &mut Problems,
-) -> Option<&'v str> {
+) -> Option<&'v str>
+    ensures none { text_at (codes "id") (view message.now.value.now) ≡ None → result ≡ None }
+{
     match message.text("id", problems) {
         Some(id) => rule.message_string(id),
         None => None,

@@ -1,5 +1,5 @@
 //! The rule that a result breaks, and how severe that is.
-ghost use Rattle.std.specs.Prelude.{◌≡◌, IfOk, option_map, string_bytes};
+ghost use Rattle.std.specs.Prelude.{◌≡◌, IfOk, codes, option_map, string_bytes};
 ghost use Rattle.serde_json.specs.View.{view};
 ghost use Rattle.json_lines.specs.Field.{lent_text};
 ghost use Rattle.json_lines.specs.Lenient.{field_in, text_in};
@@ -39,7 +39,10 @@ impl<'v> SarifRule<'v> {
     }
 
     /// What the rule says of itself in short.
-    pub fn description(&self) -> Option<&'v str> {
+    pub fn description(&self) -> Option<&'v str>
+        ensures value { lent_text result ≡ text_in (codes "text")
+            (field_in (codes "shortDescription") (rule_data self.now)) }
+    {
         text_at(field_at(self.rule, "shortDescription"), "text")
     }
 

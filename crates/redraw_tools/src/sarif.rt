@@ -1,9 +1,12 @@
 //! The runs of a log, and the findings of their results.
-ghost use Rattle.std.specs.Prelude.{◌≡◌, IfOk, IfSome, codes, map};
+ghost use Rattle.std.specs.Prelude.{◌≡◌, IfOk, MatchOption, None, codes, map, string_bytes};
 ghost use Rattle.serde_json.specs.View.{view};
-ghost use Rattle.json_lines.specs.Lenient.{list_at};
+ghost use Rattle.serde_json.specs.Find.{as_object};
+ghost use Rattle.json_lines.specs.Lenient.{list_at, object_at};
+ghost use Rattle.redraw_tools.specs.Message.{IsMessage, description};
 ghost use Rattle.redraw_tools.specs.Places.{ArePlaces};
 ghost use Rattle.redraw_tools.specs.Result.{ArePlacesAndSteps, IsResultOf, IsTold};
+ghost use Rattle.redraw_tools.specs.Rule.{rule_data};
 ghost use Rattle.redraw_tools.specs.Units as units;
 
 use crate::fixes::add_fixes;
@@ -65,8 +68,8 @@ impl<'v, 'p> SarifRun<'v, 'p> {
         reported: &LenientNode<'_, '_>,
         problems: &mut Problems,
     ) -> Result<Option<Diagnostic>, AllocError>
-        ensures is { IfOk result (λ found. IfSome found (IsResultOf (view self.now.node.value.now) self.now.unit
-            (view reported.now.value.now))) }
+        ensures is { IfOk result (λ found. MatchOption found (as_object (view reported.now.value.now) ≡ None)
+            (IsResultOf (view self.now.node.value.now) self.now.unit (view reported.now.value.now))) }
     {
         if !reported.is_object(problems) {
             return Ok(None);
@@ -121,7 +124,10 @@ fn message_of(
     reported: &LenientNode<'_, '_>,
     context: &Context<'_, '_>,
     problems: &mut Problems,
-) -> Result<String, AllocError> {
+) -> Result<String, AllocError>
+    ensures is { IfOk result (λ text. IsMessage (object_at (codes "message") (view reported.now.value.now))
+        (rule_data context.now.rule) (string_bytes text)) }
+{
     match text_in(reported, "message", context, problems)? {
         Some(text) => Ok(text),
         None => String::from_str(context.alloc, description_of(&context.rule)),
@@ -129,7 +135,9 @@ fn message_of(
 }
 
 /// What a rule says of itself, or that there is no message.
-fn description_of<'v>(rule: &SarifRule<'v>) -> &'v str {
+fn description_of<'v>(rule: &SarifRule<'v>) -> &'v str
+    ensures value { result.now ≡ description (rule_data rule.now) }
+{
     rule.description().unwrap_or(NO_MESSAGE)
 }
 
