@@ -1,7 +1,8 @@
 //! What the library answers, as bytes and as JSON: `docs/BINDINGS.md` and `docs/REPORTS.md` have the forms.
 
-use crate::grow::{put, reserve};
+use crate::grow::{put, reserve, NoMemory};
 use crate::renderer::RenderError;
+use std::borrow::Cow;
 
 /// The texts of an answer in bytes, one under each sheet, or why there is none.
 pub(crate) fn texts(answer: &[u8]) -> Result<Vec<String>, RenderError> {
@@ -18,17 +19,19 @@ pub(crate) fn texts(answer: &[u8]) -> Result<Vec<String>, RenderError> {
 const ONE_TEXT: [u8; 9] = [0, 1, 0, 0, 0, 0, 0, 0, 0];
 const BEFORE_TEXT: usize = 17;
 
-/// The text of an answer in bytes to a report under one sheet, or why there is none. It has room for twice its bytes at most: out of an
-/// answer with more room it is copied, so that who keeps a text doesn't keep the room that was guessed for it.
-pub(crate) fn only_text(mut answer: Vec<u8>) -> Result<String, RenderError> {
+/// The text of an answer in bytes to a report under one sheet, or why there is none. It has room for twice its bytes at most: out of the
+/// room at hand, and out of memory with more room, it is copied, so that who keeps a text doesn't keep the room that was guessed for it.
+pub(crate) fn only_text(answer: Cow<'_, [u8]>) -> Result<String, RenderError> {
     if !answer.starts_with(&ONE_TEXT) {
         return Ok(texts(&answer)?.remove(0));
     }
-    if answer.capacity() > 2 * (answer.len() - BEFORE_TEXT) {
-        return Answer { bytes: &answer[ONE_TEXT.len()..] }.text();
+    match answer {
+        Cow::Owned(mut answer) if answer.capacity() <= 2 * (answer.len() - BEFORE_TEXT) => {
+            answer.drain(..BEFORE_TEXT);
+            Ok(String::from_utf8(answer).expect("texts are UTF-8"))
+        }
+        answer => Answer { bytes: &answer[ONE_TEXT.len()..] }.text(),
     }
-    answer.drain(..BEFORE_TEXT);
-    Ok(String::from_utf8(answer).expect("texts are UTF-8"))
 }
 
 /// What stands around the one text of an answer in JSON to a report without a name.
@@ -55,7 +58,18 @@ fn unescaped(mut rest: &[u8]) -> Result<String, RenderError> {
         rest = &rest[length..];
     }
     put(rest, &mut text)?;
+    if text.capacity() > 2 * text.len() {
+        text = copied(&text)?;
+    }
     Ok(String::from_utf8(text).expect("texts are UTF-8"))
+}
+
+/// These bytes in a list that has room for them and no more.
+fn copied(bytes: &[u8]) -> Result<Vec<u8>, NoMemory> {
+    let mut copy = Vec::new();
+    copy.try_reserve_exact(bytes.len()).map_err(|_| NoMemory)?;
+    copy.extend_from_slice(bytes);
+    Ok(copy)
 }
 
 /// The character that an escape of JSON stands for, and how many bytes it has after its backslash. The library escapes no character
@@ -115,11 +129,9 @@ impl<'a> Answer<'a> {
     }
 
     fn text(&mut self) -> Result<String, RenderError> {
-        let mut bytes = Vec::new();
         let length = self.number();
-        reserve(length, &mut bytes)?;
-        bytes.extend_from_slice(self.take(length));
-        Ok(String::from_utf8(bytes).expect("texts are UTF-8"))
+        let text = copied(self.take(length))?;
+        Ok(String::from_utf8(text).expect("texts are UTF-8"))
     }
 
     fn refusal(&mut self) -> RenderError {

@@ -2,7 +2,6 @@
 
 use crate::grow::{self, reserve, Written};
 use crate::level::{Level, Name};
-use crate::library::Kept;
 use crate::renderer::{Color, DecorStyle, Effects, RenderError, Renderer, Style, Stylesheet};
 use crate::snippet::{Annotation, Element, Group, Id, Message, Origin, Patch, Shared, Snippet, Title};
 use std::ops::Range;
@@ -13,45 +12,34 @@ const VERSION: u8 = 3;
 /// The kind of the later setting `mask_controls`.
 const MASK_CONTROLS: u8 = 0;
 
-/// The bytes of a report so far, and the kept sources that it names, in the order of their numbers.
-struct Out {
-    bytes: Vec<u8>,
-    kept: Vec<Shared>,
+/// The bytes of a report, and the kept sources that it names, in the order of their numbers.
+pub(crate) struct Out {
+    pub(crate) bytes: Vec<u8>,
+    pub(crate) kept: Vec<Shared>,
 }
 
-/// The bytes of a report, drawn by this renderer under these sheets, and the kept sources that it names, if it names some.
-pub(crate) fn report(
-    renderer: &Renderer,
-    sheets: &[Stylesheet],
-    groups: &[Group<'_>],
-) -> Result<(Vec<u8>, Option<Kept>), RenderError> {
+/// The bytes of a report, drawn by this renderer under these sheets.
+pub(crate) fn report(renderer: &Renderer, sheets: &[Stylesheet], groups: &[Group<'_>]) -> Result<Out, RenderError> {
     let mut out = Out { bytes: Vec::new(), kept: Vec::new() };
     reserve(1024, &mut out.bytes)?;
     byte(VERSION, &mut out)?;
     settings(renderer, &mut out)?;
     list(sheets, sheet, &mut out)?;
     list(groups, group, &mut out)?;
-    Ok((out.bytes, kept_list(&out.kept)?))
+    Ok(out)
 }
 
-/// A list of these kept sources; none where there are none.
-fn kept_list(kept: &[Shared]) -> Result<Option<Kept>, RenderError> {
-    if kept.is_empty() {
-        return Ok(None);
-    }
-    let mut all = Kept::new()?;
-    kept.iter().try_for_each(|one| one.share_into(&mut all))?;
-    Ok(Some(all))
-}
-
+#[inline(always)]
 fn put(bytes: &[u8], out: &mut Out) -> Written {
     grow::put(bytes, &mut out.bytes)
 }
 
+#[inline(always)]
 fn byte(byte: impl Into<u8>, out: &mut Out) -> Written {
     put(&[byte.into()], out)
 }
 
+#[inline(always)]
 fn number(number: usize, out: &mut Out) -> Written {
     put(&(number as u64).to_le_bytes(), out)
 }
@@ -100,7 +88,30 @@ fn later(&(kind, value): &(u8, usize), out: &mut Out) -> Written {
     number(value, out)
 }
 
+/// The bytes of the default sheet, a row for each style.
+#[rustfmt::skip]
+const DEFAULT_SHEET: [u8; 128] = [
+    1, 0, 9, 0, 1, 0, 0, 0, 0, 0, 0, 0, // error
+    1, 0, 3, 0, 1, 0, 0, 0, 0, 0, 0, 0, // warning
+    1, 0, 12, 0, 1, 0, 0, 0, 0, 0, 0, 0, // info
+    1, 0, 10, 0, 1, 0, 0, 0, 0, 0, 0, 0, // note
+    1, 0, 14, 0, 1, 0, 0, 0, 0, 0, 0, 0, // help
+    1, 0, 12, 0, 1, 0, 0, 0, 0, 0, 0, 0, // line_num
+    0, 0, 1, 0, 0, 0, 0, 0, 0, 0, // emphasis
+    0, 0, 0, 0, 0, 0, 0, 0, 0, 0, // none
+    1, 0, 12, 0, 1, 0, 0, 0, 0, 0, 0, 0, // context
+    1, 0, 10, 0, 0, 0, 0, 0, 0, 0, 0, 0, // addition
+    1, 0, 9, 0, 0, 0, 0, 0, 0, 0, 0, 0, // removal
+];
+
 fn sheet(s: &Stylesheet, out: &mut Out) -> Written {
+    if *s == Stylesheet::styled() {
+        return put(&DEFAULT_SHEET, out);
+    }
+    styles(s, out)
+}
+
+fn styles(s: &Stylesheet, out: &mut Out) -> Written {
     let levels = [s.error, s.warning, s.info, s.note, s.help];
     let parts = [s.line_num, s.emphasis, s.none, s.context, s.addition, s.removal];
     levels.iter().chain(&parts).try_for_each(|each| style(each, out))
@@ -249,4 +260,16 @@ fn origin(o: &Origin<'_>, out: &mut Out) -> Written {
     let write = |n: &usize, out: &mut Out| number(*n, out);
     option(o.line.as_ref(), write, out)?;
     option(o.char_column.as_ref(), write, out)
+}
+
+#[cfg(test)]
+mod tests {
+    use super::*;
+
+    #[test]
+    fn default_sheet_has_its_bytes() {
+        let mut out = Out { bytes: Vec::new(), kept: Vec::new() };
+        assert!(styles(&Stylesheet::styled(), &mut out).is_ok());
+        assert_eq!(out.bytes, DEFAULT_SHEET);
+    }
 }

@@ -1,8 +1,12 @@
 //! The calls of the library. All that is unsafe in this crate stands here.
 
-use crate::grow::{reserve, Written};
+use crate::bytes::Out;
+use crate::grow::{reserve, NoMemory, Written};
 use crate::renderer::RenderError;
+use crate::snippet::Shared;
+use std::borrow::Cow;
 use std::ffi::{c_int, c_void};
+use std::mem::MaybeUninit;
 
 extern "C" {
     fn yazgult_draw(input: *const u8, input_length: usize, output: *mut u8, output_length: usize) -> usize;
@@ -31,12 +35,12 @@ unsafe impl Send for Kept {}
 
 impl Kept {
     /// An empty list.
-    pub(crate) fn new() -> Result<Self, RenderError> {
+    pub(crate) fn new() -> Result<Self, NoMemory> {
         let mut made = std::mem::ManuallyDrop::new(Kept { at: std::ptr::null_mut() });
         // SAFETY: what the list had needn't be given back, since it had nothing.
         match unsafe { yazgult_sources_new(&mut *made) } {
             0 => Ok(std::mem::ManuallyDrop::into_inner(made)),
-            _ => Err(RenderError::Memory),
+            _ => Err(NoMemory),
         }
     }
 
@@ -64,45 +68,82 @@ fn told(status: c_int) -> Written {
     if status == 0 {
         Ok(())
     } else {
-        Err(RenderError::Memory)
+        Err(NoMemory)
     }
 }
 
-/// The bytes of the answer to a report in its bytes, which may name kept sources by their numbers.
-pub(crate) fn draw(report: &[u8], kept: Option<Kept>) -> Result<Vec<u8>, RenderError> {
-    let Some(mut kept) = kept else {
-        // SAFETY: `answer_of` says of what it calls that the pointers are of slices.
-        return answer_of(report, |at, length, output, room| unsafe { yazgult_draw(at, length, output, room) });
-    };
-    // SAFETY: the same, and the list was made.
-    answer_of(report, |at, length, output, room| unsafe { yazgult_draw_with(at, length, &mut kept, output, room) })
+/// What is made of the bytes of the answer to a report.
+pub(crate) fn draw<T>(report: &Out, read: impl Read<T>) -> Result<T, RenderError> {
+    match report.kept.as_slice() {
+        [] => {
+            // SAFETY: `answer_of` says of what it calls that the pointers are of slices.
+            let draw = |at, length, output, room| unsafe { yazgult_draw(at, length, output, room) };
+            answer_of(&report.bytes, draw, read)
+        }
+        [one] => match one.try_lock() {
+            Some(mut list) => draw_with(&report.bytes, &mut list, read),
+            None => draw_with(&report.bytes, &mut list_of(&report.kept)?, read),
+        },
+        kept => draw_with(&report.bytes, &mut list_of(kept)?, read),
+    }
 }
 
-/// The bytes of the answer to a report as a line of JSON, which are JSON too.
-pub(crate) fn draw_json(line: &[u8]) -> Result<Vec<u8>, RenderError> {
+/// What is made of the bytes of the answer to a report, which names kept sources by their numbers in this list.
+fn draw_with<T>(report: &[u8], kept: &mut Kept, read: impl Read<T>) -> Result<T, RenderError> {
+    // SAFETY: `answer_of` says of what it calls that the pointers are of slices, and the list was made.
+    answer_of(report, |at, length, output, room| unsafe { yazgult_draw_with(at, length, kept, output, room) }, read)
+}
+
+/// A list of these kept sources.
+fn list_of(kept: &[Shared]) -> Result<Kept, NoMemory> {
+    let mut all = Kept::new()?;
+    kept.iter().try_for_each(|one| one.share_into(&mut all))?;
+    Ok(all)
+}
+
+/// What is made of the answer to a report as a line of JSON, which is JSON too.
+pub(crate) fn draw_json<T>(line: &[u8], read: impl Read<T>) -> Result<T, RenderError> {
     // SAFETY: `answer_of` says of what it calls that the pointers are of slices.
-    answer_of(line, |at, length, output, room| unsafe { yazgult_draw_json(at, length, output, room) })
+    answer_of(line, |at, length, output, room| unsafe { yazgult_draw_json(at, length, output, room) }, read)
 }
 
-/// What most texts have room in, beside as much as the report takes: labels and bars make a text longer than what it is made of.
+/// How an answer is read, which stands in the room at hand or in memory of its own.
+pub(crate) trait Read<T>: FnOnce(Cow<'_, [u8]>) -> Result<T, RenderError> {}
+
+impl<T, F: FnOnce(Cow<'_, [u8]>) -> Result<T, RenderError>> Read<T> for F {}
+
+/// What most answers have room in, beside as much as the report takes: labels and bars make a text longer than what it is made of.
 const ROOM: usize = 16384;
 
-/// What a function of the library answers: it reads the input, writes as many bytes of its answer as there is room for, and returns how many
-/// the answer has. Where there is less room than the answer takes the report is drawn once more. Both pointers are of a slice's length and
-/// not null, and the output overlaps nothing else; the library writes the output and doesn't read it.
-fn answer_of(
+/// How long a report is at most that is drawn in room on the stack.
+const SHORT: usize = 2048;
+
+/// What is made of what a function of the library answers: that reads the input, writes as many bytes of its answer as there is room for, and
+/// returns how many the answer has. Where there is less room than the answer takes the report is drawn once more. Both pointers are of a
+/// slice's length and not null, and the output overlaps nothing else; the library writes the output and doesn't read it.
+fn answer_of<T>(
     input: &[u8],
     mut function: impl FnMut(*const u8, usize, *mut u8, usize) -> usize,
-) -> Result<Vec<u8>, RenderError> {
+    read: impl Read<T>,
+) -> Result<T, RenderError> {
+    let mut least = input.len().saturating_add(ROOM);
+    if input.len() <= SHORT {
+        let mut room = [MaybeUninit::<u8>::uninit(); ROOM];
+        least = function(input.as_ptr(), input.len(), room.as_mut_ptr().cast(), room.len());
+        if least <= room.len() {
+            // SAFETY: the library has written each of these bytes.
+            return read(Cow::Borrowed(unsafe { std::slice::from_raw_parts(room.as_ptr().cast(), least) }));
+        }
+    }
     let mut output = Vec::new();
-    reserve(input.len().saturating_add(ROOM), &mut output)?;
+    reserve(least, &mut output)?;
     loop {
         let room = output.capacity();
         let length = function(input.as_ptr(), input.len(), output.as_mut_ptr(), room);
         if length <= room {
             // SAFETY: there is room for so many bytes, and the library has written each.
             unsafe { output.set_len(length) };
-            return Ok(output);
+            return read(Cow::Owned(output));
         }
         reserve(length, &mut output)?;
     }

@@ -162,8 +162,7 @@ impl Renderer {
     /// ```
     pub fn try_render(&self, groups: Report<'_>) -> Result<String, RenderError> {
         let sheet = std::slice::from_ref(&self.stylesheet);
-        let (report, kept) = bytes::report(self, sheet, groups)?;
-        answer::only_text(library::draw(&report, kept)?)
+        library::draw(&bytes::report(self, sheet, groups)?, answer::only_text)
     }
 
     /// The texts of a report, one under each of these sheets, in order; the renderer's own sheet isn't looked at. They differ in
@@ -179,8 +178,7 @@ impl Renderer {
     /// # Ok::<(), yazgult::renderer::RenderError>(())
     /// ```
     pub fn render_sheets(&self, groups: Report<'_>, sheets: &[Stylesheet]) -> Result<Vec<String>, RenderError> {
-        let (report, kept) = bytes::report(self, sheets, groups)?;
-        answer::texts(&library::draw(&report, kept)?)
+        library::draw(&bytes::report(self, sheets, groups)?, |answer| answer::texts(&answer))
     }
 
     /// The page of a report's graphic form as HTML, for `<pre>`. `short_message`, `no_graphics` and the sheet aren't looked at; what has
@@ -200,8 +198,8 @@ impl Renderer {
     /// # Ok::<(), yazgult::renderer::RenderError>(())
     /// ```
     pub fn render_html(&self, groups: Report<'_>) -> Result<String, RenderError> {
-        let answer = library::draw_json(&json::line_for("html", self, groups)?)?;
-        answer::only_json_text(&answer)?.ok_or_else(|| self.refusal_as_html(groups))
+        let line = json::line_for("html", self, groups)?;
+        library::draw_json(&line, |answer| answer::only_json_text(&answer))?.ok_or_else(|| self.refusal_as_html(groups))
     }
 
     /// A report as HTML, for an `<article>`: a heading, `<h2>`, with the level, the id and the text of the first group's title, if that has
@@ -220,8 +218,8 @@ impl Renderer {
     /// # Ok::<(), yazgult::renderer::RenderError>(())
     /// ```
     pub fn render_html_page(&self, groups: Report<'_>) -> Result<String, RenderError> {
-        let answer = library::draw_json(&json::line_for("html_page", self, groups)?)?;
-        answer::only_json_text(&answer)?.ok_or_else(|| self.refusal_as_html(groups))
+        let line = json::line_for("html_page", self, groups)?;
+        library::draw_json(&line, |answer| answer::only_json_text(&answer))?.ok_or_else(|| self.refusal_as_html(groups))
     }
 
     /// A report in Markdown, for who posts it where Markdown is read: in the graphic form the title of the first group in bold, and in
@@ -240,9 +238,10 @@ impl Renderer {
     /// # Ok::<(), yazgult::renderer::RenderError>(())
     /// ```
     pub fn render_markdown(&self, groups: Report<'_>) -> Result<String, RenderError> {
-        let answer = library::draw_json(&json::line_for("markdown", self, groups)?)?;
+        let line = json::line_for("markdown", self, groups)?;
+        let text = library::draw_json(&line, |answer| answer::only_json_text(&answer))?;
         // under no sheets a report is judged and gives no text
-        answer::only_json_text(&answer)?.ok_or_else(|| self.render_sheets(groups, &[]).err().unwrap_or(RenderError::Memory))
+        text.ok_or_else(|| self.render_sheets(groups, &[]).err().unwrap_or(RenderError::Memory))
     }
 
     /// Why a report gave no HTML: it is refused as in the graphic form, else there was no memory.

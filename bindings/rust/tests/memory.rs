@@ -79,8 +79,25 @@ fn no_request_ends_the_program() {
 fn no_request_of_several_texts_ends_the_program() {
     let report = report(10);
     let sheets = [Stylesheet::plain(), Stylesheet::styled()];
-    // the same, and those of the list and of each text in it
-    assert!(refuse_each(|| Renderer::plain().render_sheets(&report, &sheets)) >= 5);
+    // the bytes of the report, the list, and each text in it
+    assert!(refuse_each(|| Renderer::plain().render_sheets(&report, &sheets)) >= 4);
+}
+
+#[test]
+fn no_text_has_room_for_more_than_twice_its_bytes() {
+    let escapes = "\u{1b}".repeat(2000);
+    for lines in [1, 100, 10_000] {
+        let mut report = report(lines);
+        report.push(Level::NOTE.secondary_title(escapes.as_str()).element(Level::NOTE.message("\"\\\n")));
+        let renderer = Renderer::plain();
+        let mut texts = renderer.render_sheets(&report, &[Stylesheet::plain(), Stylesheet::styled()]).unwrap();
+        texts.push(renderer.render(&report));
+        texts.push(renderer.render(&report[..2]));
+        texts.push(renderer.render_html(&report).unwrap());
+        texts.push(renderer.render_html_page(&report).unwrap());
+        texts.push(renderer.render_markdown(&report).unwrap());
+        assert!(texts.iter().all(|text| text.capacity() <= 2 * text.len()));
+    }
 }
 
 #[test]

@@ -2,7 +2,7 @@ use crate::grow::Written;
 use crate::library::Kept;
 use std::borrow::Cow;
 use std::fmt;
-use std::sync::{Arc, Mutex, PoisonError};
+use std::sync::{Arc, Mutex, MutexGuard, PoisonError, TryLockError};
 
 /// A source that is kept, with the bytes at which its lines start, and lent to any number of snippets by
 /// [`Snippet::indexed`](crate::Snippet::indexed), in any threads.
@@ -70,15 +70,25 @@ impl<'a> SourceLines<'a> {
     }
 }
 
-/// A source that the library keeps, shared by all that name it. A list of the library's is used by one call at a time.
+/// A source that the library keeps, shared by all that name it.
 #[derive(Clone)]
-pub(crate) struct Shared(Arc<Mutex<Kept>>);
+pub(crate) struct Shared(Arc<Lists>);
+
+/// Two lists that keep a source alone. A list of the library's is used by one call at a time.
+struct Lists {
+    /// The one that others get it from, which is used for that alone, so that nobody waits for a drawing.
+    given: Mutex<Kept>,
+    /// The one that it is drawn over.
+    drawn: Mutex<Kept>,
+}
 
 impl Shared {
     fn of(source: &str) -> Option<Self> {
-        let mut kept = Kept::new().ok()?;
-        kept.add(source).ok()?;
-        Some(Shared(Arc::new(Mutex::new(kept))))
+        let mut given = Kept::new().ok()?;
+        given.add(source).ok()?;
+        let mut drawn = Kept::new().ok()?;
+        drawn.share(&mut given).ok()?;
+        Some(Shared(Arc::new(Lists { given: Mutex::new(given), drawn: Mutex::new(drawn) })))
     }
 
     /// Whether both are one.
@@ -86,9 +96,18 @@ impl Shared {
         Arc::ptr_eq(&self.0, &other.0)
     }
 
+    /// A list that keeps the source alone, unless another thread draws over it.
+    pub(crate) fn try_lock(&self) -> Option<MutexGuard<'_, Kept>> {
+        match self.0.drawn.try_lock() {
+            Ok(list) => Some(list),
+            Err(TryLockError::Poisoned(poisoned)) => Some(poisoned.into_inner()),
+            Err(TryLockError::WouldBlock) => None,
+        }
+    }
+
     /// Has a list keep the source too.
     pub(crate) fn share_into(&self, all: &mut Kept) -> Written {
-        all.share(&mut self.0.lock().unwrap_or_else(PoisonError::into_inner))
+        all.share(&mut self.0.given.lock().unwrap_or_else(PoisonError::into_inner))
     }
 }
 
