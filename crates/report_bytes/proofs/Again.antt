@@ -1,7 +1,7 @@
 -- What has bytes is read from them again.
 use Rattle.std.proofs.Common.{◌≡◌, ℕ, ◌^◌, ◌<◌, true, false, cond, ltb, List, [], ◌∷◌, ◌++◌, length, take, drop, Option, Some, None, Result, Ok, Err, refl}
-use Rattle.std.proofs.Common.{sym, ap, ◌∙◌, arith}
-use Rattle.std.specs.Prelude.{◌==◌, if◌then◌else◌, IfSome, IsOkUnless}
+use Rattle.std.proofs.Common.{ap, ◌∙◌, arith}
+use Rattle.std.specs.Prelude.{◌==◌, if◌then◌else◌, IfSome}
 use Rattle.std.specs.Int.{w64, from_le_bytes, to_le_bytes}
 use Rattle.std.specs.Cow.{cow_str_bytes}
 use Rattle.std.specs.List.{AllByRecursion}
@@ -18,7 +18,7 @@ use Rattle.snippet_style.specs.declared.style.Color.TheVariants.{Ansi, Ansi256, 
 use Rattle.report_bytes.specs.Bytes.{number_then, flag_then, text_then, option_then, members_then, list_then, severity_number, mark_number, decor_number}
 use Rattle.report_bytes.specs.Bytes.{ansi_number, later_then, settings_then, color_then, effects_then, style_then, sheet_then, name_then, level_then, id_then}
 use Rattle.report_bytes.specs.Bytes.{title_then, message_then, span_then, annotation_then, patch_then, origin_then}
-use Rattle.report_bytes.specs.Bytes.{AreMembersThen, IsElementThen, IsGroupThen, IsListThen, IsNumberOf, IsSnippetThen, snippet_then, source_then}
+use Rattle.report_bytes.specs.Bytes.{AreMembersThen, IsElementThen, IsGroupThen, IsListThen, IsNumberOf, IsSnippetThen, source_then}
 use Rattle.report_bytes.specs.Reading.{◌>>=◌, fault_at, read_number, after_number, after_flag, after_kind, after_text, after_option, after_members, after_list}
 use Rattle.report_bytes.specs.Reading.{after_later, after_pairs}
 use Rattle.report_bytes.specs.Reading.{after_settings, after_color, after_effects, after_style, after_levels, after_parts, after_sheet, after_name}
@@ -30,8 +30,6 @@ use Rattle.std.specs.declared.borrow.CowStr.{CowStr}
 use Rattle.report_bytes.specs.Report.{IsText, IsListOf, IsName, IsId, IsTitle, IsAnnotation, IsPatch, IsSnippet, IsElement, IsGroup}
 use Rattle.report_bytes.specs.declared.fault.ByteFault.{ByteFault}
 use Rattle.report_bytes.specs.declared.fault.Wrong.TheVariants.{Flag, Short}
-use Rattle.report_bytes.specs.declared.fault.ReadError.{ReadError}
-use Rattle.report_bytes.specs.declared.fault.ReadError.TheVariants as errors
 use Rattle.snippet_model.specs.declared.level.LevelName.TheVariants.{Standard, Hidden, Own}
 use Rattle.snippet_model.specs.declared.snippet.AnnotationKind.{AnnotationKind}
 use Rattle.snippet_model.specs.declared.snippet.AnnotationKind.TheVariants as mark

@@ -1,4 +1,5 @@
 pub mod Again
+pub mod DefaultSheet
 pub mod Members
 pub mod OverKept
 pub mod PlainStyle

@@ -4,7 +4,7 @@ use Rattle.std.specs.Int.{w64, from_le_bytes}
 use Rattle.std.specs.Str.{is_utf8}
 use Rattle.report_bytes.specs.declared.fault.ByteFault.{ByteFault}
 use Rattle.report_bytes.specs.declared.fault.Wrong.{Wrong}
-use Rattle.report_bytes.specs.declared.fault.Wrong.TheVariants.{Short, Flag, Kind, Long, NotText, Trailing}
+use Rattle.report_bytes.specs.declared.fault.Wrong.TheVariants.{Short, Flag, Kind, Long, NotText}
 use Rattle.report_bytes.specs.declared.fault.ReadError.{ReadError}
 use Rattle.report_bytes.specs.declared.fault.ReadError.TheVariants as errors
 

@@ -8,6 +8,7 @@ ghost use Rattle.report_bytes.specs.declared.fault.ByteFault.{ByteFault};
 use crate::fault::ReadError;
 use crate::field::number;
 use crate::kept::KeptSource;
+use crate::part::room_for;
 use std::alloc::Global;
 
 /// A part of a report that may name kept sources by their numbers, as it stands in bytes.
@@ -60,7 +61,7 @@ fn members_over<'v, 's, T: OverKept<'v> + Drop>(
     ensures count { IfOk result (λ x. length x.0.items ≡ count) }
     ensures fits { IfOk result (λ x. All T.fits x.0.items) }
 {
-    let mut parts = Vec::new(alloc);
+    let mut parts = Vec::with_capacity(alloc, room_for(count, bytes))?;
     let mut rest = bytes;
     for _ in 0..count {
         let (part, left) = T::read_over(alloc, kept, rest)?;

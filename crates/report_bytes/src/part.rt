@@ -1,6 +1,6 @@
 //! What a part of a report is, and how options and lists of parts are read.
 
-ghost use Rattle.std.specs.Prelude.{◌≡◌, ℕ, List, Result, All, IfOk, IfSome, length};
+ghost use Rattle.std.specs.Prelude.{◌≡◌, ◌/◌, min, ℕ, List, Result, All, IfOk, IfSome, length};
 ghost use Rattle.std.specs.Cow.{cow_str_bytes};
 ghost use Rattle.snippet_model.specs.Fits.{TextFits};
 ghost use Rattle.report_bytes.specs.Bytes.{list_then, members_then, number_then, option_then, text_then};
@@ -87,6 +87,17 @@ pub fn list<'v, T: FromBytes<'v> + Drop>(
     members(alloc, count, rest)
 }
 
+/// For how many members of a list memory is taken before they are read: no more than as many as bytes may hold that are
+/// there.
+pub fn room_for(count: usize, bytes: &[u8]) -> usize
+    ensures value { result ≡ min count (length bytes.now / 16) }
+{
+    count.min(bytes.len() / MEMBER_BYTES)
+}
+
+/// How many bytes a member takes, but for the shortest.
+const MEMBER_BYTES: usize = 16;
+
 /// So many members at the front. No memory is taken for those that aren't there.
 fn members<'v, T: FromBytes<'v> + Drop>(
     alloc: Global,
@@ -98,7 +109,7 @@ fn members<'v, T: FromBytes<'v> + Drop>(
     ensures count { IfOk result (λ x. length x.0.items ≡ count) }
     ensures fits { IfOk result (λ x. All T.fits x.0.items) }
 {
-    let mut parts = Vec::new(alloc);
+    let mut parts = Vec::with_capacity(alloc, room_for(count, bytes))?;
     let mut rest = bytes;
     for _ in 0..count {
         let (part, left) = T::read(alloc, rest)?;

@@ -2,6 +2,7 @@
 
 ghost use Rattle.std.specs.Prelude.{◌≡◌, ◌∷◌, IfOk, IfSome};
 ghost use Rattle.snippet_style.specs.Style.{plain_style};
+ghost use Rattle.snippet_style.specs.Stylesheet.{default_sheet};
 ghost use Rattle.report_bytes.specs.Bytes.{color_then, effects_then, sheet_then, style_then};
 ghost use Rattle.report_bytes.specs.Reading.{Gives, after_byte, after_color, after_effects, after_levels};
 ghost use Rattle.report_bytes.specs.Reading.{after_parts, after_sheet, after_style};
@@ -20,21 +21,54 @@ impl<'v> FromBytes<'v> for Stylesheet {
 
     ghost fits = { λ _. Unit {0} };
 
-    #[tactic(auto, unfolding(crate::specs::Reading::after_sheet))]
     fn read(alloc: Global, bytes: &'v [u8]) -> Result<(Self, &'v [u8]), ReadError> {
-        let (levels, rest) = levels(alloc, bytes)?;
-        let (parts, rest) = parts(alloc, rest)?;
-        let sheet = Stylesheet {
-            line_num: parts.line_num,
-            emphasis: parts.emphasis,
-            none: parts.none,
-            context: parts.context,
-            addition: parts.addition,
-            removal: parts.removal,
-            ..levels
-        };
-        Ok((sheet, rest))
+        match after_default(bytes) {
+            Some(rest) => Ok((Stylesheet::styled(), rest)),
+            None => sheet(alloc, bytes),
+        }
     }
+}
+
+/// The bytes of the default sheet, a row for each style.
+const DEFAULT_SHEET: [u8; 128] = [
+    1, 0, 9, 0, 1, 0, 0, 0, 0, 0, 0, 0, // error
+    1, 0, 3, 0, 1, 0, 0, 0, 0, 0, 0, 0, // warning
+    1, 0, 12, 0, 1, 0, 0, 0, 0, 0, 0, 0, // info
+    1, 0, 10, 0, 1, 0, 0, 0, 0, 0, 0, 0, // note
+    1, 0, 14, 0, 1, 0, 0, 0, 0, 0, 0, 0, // help
+    1, 0, 12, 0, 1, 0, 0, 0, 0, 0, 0, 0, // line_num
+    0, 0, 1, 0, 0, 0, 0, 0, 0, 0, // emphasis
+    0, 0, 0, 0, 0, 0, 0, 0, 0, 0, // none
+    1, 0, 12, 0, 1, 0, 0, 0, 0, 0, 0, 0, // context
+    1, 0, 10, 0, 0, 0, 0, 0, 0, 0, 0, 0, // addition
+    1, 0, 9, 0, 0, 0, 0, 0, 0, 0, 0, 0, // removal
+];
+
+/// What is left after the default sheet, where that is at the front, as it is of most reports in colours.
+fn after_default(bytes: &[u8]) -> Option<&[u8]>
+    ensures default { IfSome result (λ rest. bytes.now ≡ sheet_then default_sheet rest.now) }
+{
+    bytes.strip_prefix(&DEFAULT_SHEET)
+}
+
+/// The sheet at the front.
+#[tactic(auto, unfolding(crate::specs::Reading::after_sheet))]
+fn sheet(alloc: Global, bytes: &[u8]) -> Result<(Stylesheet, &[u8]), ReadError>
+    ensures left { Gives (λ x. x.1.now) result (after_sheet bytes.now) }
+    ensures spelled { IfOk result (λ x. bytes.now ≡ sheet_then x.0 x.1.now) }
+{
+    let (levels, rest) = levels(alloc, bytes)?;
+    let (parts, rest) = parts(alloc, rest)?;
+    let sheet = Stylesheet {
+        line_num: parts.line_num,
+        emphasis: parts.emphasis,
+        none: parts.none,
+        context: parts.context,
+        addition: parts.addition,
+        removal: parts.removal,
+        ..levels
+    };
+    Ok((sheet, rest))
 }
 
 /// The styles of the five levels, and the plain one for all else.

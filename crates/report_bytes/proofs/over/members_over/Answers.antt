@@ -7,7 +7,7 @@ use Rattle.report_bytes.proofs.over.members_over.Goals as goal
 
 pub returns-in_err-part-clause-left : goal.returns-in_err-part-clause-left
 returns-in_err-part-clause-left g c =
-    let p = err_from_is_err_and c.from_residual.result c.from_residual.ensures.1 in
+    let p = err_from_is_err_and c.from_residual-in_err-part.result c.from_residual-in_err-part.ensures.1 in
     let after = g.T.OverKept.after (length c.args.kept.now) in
     let total = after_members after c.args.count c.args.bytes.now in
     let e = c.in_err-part.field-0.0 in

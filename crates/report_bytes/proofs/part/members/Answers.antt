@@ -5,7 +5,7 @@ use Rattle.report_bytes.proofs.part.members.Goals as goal
 
 pub returns-in_err-part-clause-left : goal.returns-in_err-part-clause-left
 returns-in_err-part-clause-left g c =
-    let p = err_from_is_err_and c.from_residual.result c.from_residual.ensures.1 in
+    let p = err_from_is_err_and c.from_residual-in_err-part.result c.from_residual-in_err-part.ensures.1 in
     let total = after_members g.T.FromBytes.after c.args.count c.args.bytes.now in
     let e = c.in_err-part.field-0.0 in
     let failed = c.in_err-part.ensures.left in
