@@ -8,7 +8,7 @@ use Rattle.json_lines.specs.Field.{text_field}
 use Rattle.serde_json.specs.Data.{Data, depth}
 use Rattle.serde_json.specs.Read.{max_depth, read}
 use Rattle.serde_json.specs.Written.{compact_text, has_float}
-use Rattle.sha2.specs.Sha256.{sha256}
+use Rattle.sha2.specs.Sha512.{sha512_256}
 use Rattle.redraw_command.specs.declared.seen.SeenDiagnostics.{SeenDiagnostics}
 
 -- a text that isn't empty
@@ -26,11 +26,11 @@ pub record IsDigestOfWhole (d : Data) (digest : List ℕ) : Type 0 where
   pub text : List ℕ
   pub reads_back : depth d ≤ max_depth → read text ≡ Some d
   pub compact : has_float d ≡ false → text ≡ compact_text d
-  pub is : digest ≡ sha256 (text ++ 255 ∷ [])
+  pub is : digest ≡ sha512_256 (text ++ 255 ∷ [])
 
 -- the digest by which a diagnostic is told from others: of the text that rustc has of it, and of all of it where it has none
 abbrev pub IsDigestOf : Data → List ℕ → Type 0
-IsDigestOf d digest = MatchOption (own_text d) (IsDigestOfWhole d digest) (λ text. digest ≡ sha256 text)
+IsDigestOf d digest = MatchOption (own_text d) (IsDigestOfWhole d digest) (λ text. digest ≡ sha512_256 text)
 
 -- the digests that are kept
 abbrev pub digests_of : SeenDiagnostics → List (List ℕ)

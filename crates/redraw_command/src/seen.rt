@@ -8,7 +8,7 @@ ghost use Rattle.serde_json.specs.View.{view};
 
 use json_lines::lenient::text_field;
 use serde_json::Value;
-use sha2::{Digest, Sha256};
+use sha2::{Digest, Sha512_256};
 use std::alloc::{AllocError, Global};
 use std::collections::{BTreeSet, HashSet};
 use std::hash::{BuildHasherDefault, FoldHasher};
@@ -61,7 +61,7 @@ fn digest_of(alloc: Global, message: &Value) -> Result<[u8; 32], AllocError>
     ensures of { IfOk result (λ digest. IsDigestOf (view message.now) digest) }
 {
     match own_text(message) {
-        Some(text) => Ok(Sha256::digest(text.as_bytes())),
+        Some(text) => Ok(Sha512_256::digest(text.as_bytes())),
         None => digest_of_whole(alloc, message),
     }
 }
@@ -82,7 +82,7 @@ fn digest_of_whole(alloc: Global, message: &Value) -> Result<[u8; 32], AllocErro
 {
     let mut bytes = message.to_string(alloc)?.into_bytes();
     bytes.push(NO_TEXT)?;
-    Ok(Sha256::digest(&bytes))
+    Ok(Sha512_256::digest(&bytes))
 }
 
 /// Names, each once. They are in order, and not hashed: whoever writes a log could choose names with one hash.
