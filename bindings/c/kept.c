@@ -78,6 +78,12 @@ static void *compare(void *given) {
         size_t again = yazgult_draw_with(by_number.at, by_number.length, sources, output[1], ROOM);
         if (drawn != again || drawn > ROOM || output[0][0] != YAZGULT_TEXTS || memcmp(output[0], output[1], drawn) != 0)
             exit(2);
+        /* The same where there is no room for it at first, and then nothing is kept. */
+        again = yazgult_draw_with(by_number.at, by_number.length, sources, output[1], 1);
+        if (again != drawn || yazgult_sources_answer(sources, output[1], ROOM) != drawn || memcmp(output[0], output[1], drawn) != 0)
+            exit(2);
+        if (yazgult_sources_answer(sources, output[1], ROOM) != 0)
+            exit(2);
         free(by_text.at);
         free(by_number.at);
     }

@@ -74,8 +74,11 @@ int yazgult_sources_add(const uint8_t *text, size_t length, yazgult_sources *sou
 int yazgult_sources_share(yazgult_sources *from, yazgult_sources *into);
 
 /* Draws as yazgult_draw does. In place of a source's text the report may have its number in this list, and is then the one with that text:
- * no line of it is looked for again. */
+ * no line of it is looked for again. Where there isn't room for the answer, yazgult_sources_answer gives it. */
 size_t yazgult_draw_with(const uint8_t *input, size_t input_length, yazgult_sources *sources, uint8_t *output, size_t output_length);
+
+/* Gives the answer to the report that was drawn last over a list, where there wasn't room for it, and keeps it no longer. */
+size_t yazgult_sources_answer(yazgult_sources *sources, uint8_t *output, size_t output_length);
 
 /* Gives a list back: it has NULL then. */
 void yazgult_sources_free(yazgult_sources *sources);

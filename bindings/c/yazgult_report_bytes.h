@@ -279,6 +279,7 @@ typedef size_t yazgult_export(const uint8_t *, size_t, uint8_t *, size_t);
  * Answers whether there was memory. */
 static inline int yazgult_ask(yazgult_export *draw, yazgult_sources *kept, const char *input, size_t length, yazgult_buffer *answer) {
     size_t needed = length > SIZE_MAX / 8 ? SIZE_MAX / 8 : length + 4096;
+    int is_kept = 0;
     do {
         answer->length = 0;
         if (answer->at)
@@ -287,7 +288,11 @@ static inline int yazgult_ask(yazgult_export *draw, yazgult_sources *kept, const
             return 0;
         const uint8_t *from = (const uint8_t *)input;
         uint8_t *to = (uint8_t *)answer->at;
-        needed = 1 + (kept ? yazgult_draw_with(from, length, kept, to, answer->room - 1) : draw(from, length, to, answer->room - 1));
+        size_t room = answer->room - 1;
+        needed = 1 + (is_kept ? yazgult_sources_answer(kept, to, room)
+                      : kept  ? yazgult_draw_with(from, length, kept, to, room)
+                              : draw(from, length, to, room));
+        is_kept = kept != NULL;
     } while (needed > answer->room);
     answer->length = needed - 1;
     answer->at[answer->length] = '\0';

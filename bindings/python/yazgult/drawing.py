@@ -128,7 +128,7 @@ def texts_of_report(report: Any, sheets: Any, spans: Any, sources: Any, settings
 def call_bytes(given: bytes, kept: List[Source]) -> bytes:
     """What the library answers to a report as bytes, which names these sources by their numbers."""
     if kept:
-        return call("yazgult_draw_with", given, len(given), listed(kept))
+        return call("yazgult_draw_with", given, len(given), kept=listed(kept))
     return call("yazgult_draw", given, len(given))
 
 

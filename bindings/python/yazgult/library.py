@@ -21,6 +21,7 @@ FUNCTIONS = {
     "yazgult_draw_json": (BYTES + ROOM_FOR, ctypes.c_size_t),
     "yazgult_draw_with": (BYTES + KEPT + ROOM_FOR, ctypes.c_size_t),
     "yazgult_sources_add": (BYTES + KEPT, ctypes.c_int),
+    "yazgult_sources_answer": (KEPT + ROOM_FOR, ctypes.c_size_t),
     "yazgult_sources_free": (KEPT, None),
     "yazgult_sources_new": (KEPT, ctypes.c_int),
     "yazgult_sources_share": (KEPT + KEPT, ctypes.c_int),
@@ -79,15 +80,19 @@ def free_room() -> Any:
         return ctypes.create_string_buffer(ROOM)
 
 
-def call(name: str, *given: Any) -> bytes:
-    """What a function of the library answers to these arguments, in as much room as that takes. Any thread may call at any time."""
+def call(name: str, *given: Any, kept: Any = None) -> bytes:
+    """What a function of the library answers to these arguments, in as much room as that takes. Any thread may call at any time. Where it
+    is given a list of kept sources, that keeps an answer for which there isn't room."""
     function = function_of(name)
+    given = given if kept is None else (*given, kept)
     room = free_room()
     length: int = function(*given, room, ROOM)
     answer: bytes = room[:length]
     spare.append(room)
     while length > len(answer):
         larger = ctypes.create_string_buffer(length)
+        if kept is not None:
+            function, given = function_of("yazgult_sources_answer"), (kept,)
         length = function(*given, larger, len(larger))
         answer = larger[:length]
     return answer

@@ -19,18 +19,18 @@ pub(crate) fn texts(answer: &[u8]) -> Result<Vec<String>, RenderError> {
 const ONE_TEXT: [u8; 9] = [0, 1, 0, 0, 0, 0, 0, 0, 0];
 const BEFORE_TEXT: usize = 17;
 
-/// The text of an answer in bytes to a report under one sheet, or why there is none. It has room for twice its bytes at most: out of the
-/// room at hand, and out of memory with more room, it is copied, so that who keeps a text doesn't keep the room that was guessed for it.
+/// The text of an answer in bytes to a report under one sheet, or why there is none. A text that stands in memory of its own isn't copied:
+/// it has room for the bytes before it too, and for no more.
 pub(crate) fn only_text(answer: Cow<'_, [u8]>) -> Result<String, RenderError> {
     if !answer.starts_with(&ONE_TEXT) {
         return Ok(texts(&answer)?.remove(0));
     }
     match answer {
-        Cow::Owned(mut answer) if answer.capacity() <= 2 * (answer.len() - BEFORE_TEXT) => {
+        Cow::Borrowed(answer) => Answer { bytes: &answer[ONE_TEXT.len()..] }.text(),
+        Cow::Owned(mut answer) => {
             answer.drain(..BEFORE_TEXT);
             Ok(String::from_utf8(answer).expect("texts are UTF-8"))
         }
-        answer => Answer { bytes: &answer[ONE_TEXT.len()..] }.text(),
     }
 }
 

@@ -21,6 +21,7 @@ extern "C" {
     fn yazgult_sources_new(sources: *mut Kept) -> c_int;
     fn yazgult_sources_add(text: *const u8, length: usize, sources: *mut Kept) -> c_int;
     fn yazgult_sources_share(from: *mut Kept, into: *mut Kept) -> c_int;
+    fn yazgult_sources_answer(sources: *mut Kept, output: *mut u8, output_length: usize) -> usize;
     fn yazgult_sources_free(sources: *mut Kept);
 }
 
@@ -75,10 +76,11 @@ fn told(status: c_int) -> Written {
 /// What is made of the bytes of the answer to a report.
 pub(crate) fn draw<T>(report: &Out, read: impl Read<T>) -> Result<T, RenderError> {
     match report.kept.as_slice() {
-        [] => {
-            // SAFETY: `answer_of` says of what it calls that the pointers are of slices.
-            let draw = |at, length, output, room| unsafe { yazgult_draw(at, length, output, room) };
-            answer_of(&report.bytes, draw, read)
+        [] if report.bytes.len() <= SHORT => {
+            let (at, length) = (report.bytes.as_ptr(), report.bytes.len());
+            // SAFETY: both pointers are of a slice's length, and the output overlaps nothing else.
+            let draw = |output, room| unsafe { yazgult_draw(at, length, output, room) };
+            answer_of(draw, draw, read)
         }
         [one] => match one.try_lock() {
             Some(mut list) => draw_with(&report.bytes, &mut list, read),
@@ -88,10 +90,17 @@ pub(crate) fn draw<T>(report: &Out, read: impl Read<T>) -> Result<T, RenderError
     }
 }
 
-/// What is made of the bytes of the answer to a report, which names kept sources by their numbers in this list.
+/// What is made of the bytes of the answer to a report, which names kept sources by their numbers in this list. The list keeps the answer
+/// where there is no room for it.
 fn draw_with<T>(report: &[u8], kept: &mut Kept, read: impl Read<T>) -> Result<T, RenderError> {
-    // SAFETY: `answer_of` says of what it calls that the pointers are of slices, and the list was made.
-    answer_of(report, |at, length, output, room| unsafe { yazgult_draw_with(at, length, kept, output, room) }, read)
+    let (at, length, kept) = (report.as_ptr(), report.len(), kept as *mut Kept);
+    answer_of(
+        // SAFETY: the pointers are of a slice's length, the output overlaps nothing else, and the list was made.
+        |output, room| unsafe { yazgult_draw_with(at, length, kept, output, room) },
+        // SAFETY: the same.
+        |output, room| unsafe { yazgult_sources_answer(kept, output, room) },
+        read,
+    )
 }
 
 /// A list of these kept sources.
@@ -101,49 +110,59 @@ fn list_of(kept: &[Shared]) -> Result<Kept, NoMemory> {
     Ok(all)
 }
 
-/// What is made of the answer to a report as a line of JSON, which is JSON too.
-pub(crate) fn draw_json<T>(line: &[u8], read: impl Read<T>) -> Result<T, RenderError> {
-    // SAFETY: `answer_of` says of what it calls that the pointers are of slices.
-    answer_of(line, |at, length, output, room| unsafe { yazgult_draw_json(at, length, output, room) }, read)
-}
-
 /// How an answer is read, which stands in the room at hand or in memory of its own.
 pub(crate) trait Read<T>: FnOnce(Cow<'_, [u8]>) -> Result<T, RenderError> {}
 
 impl<T, F: FnOnce(Cow<'_, [u8]>) -> Result<T, RenderError>> Read<T> for F {}
 
-/// What most answers have room in, beside as much as the report takes: labels and bars make a text longer than what it is made of.
-const ROOM: usize = 16384;
+/// The room at hand, on the stack. Labels and bars make a text longer than what it is made of.
+const AT_HAND: usize = 16384;
 
-/// How long a report is at most that is drawn in room on the stack.
+/// How long a report is at most whose answer fits in the room at hand, but for odd ones: such a one is drawn twice.
 const SHORT: usize = 2048;
 
-/// What is made of what a function of the library answers: that reads the input, writes as many bytes of its answer as there is room for, and
-/// returns how many the answer has. Where there is less room than the answer takes the report is drawn once more. Both pointers are of a
-/// slice's length and not null, and the output overlaps nothing else; the library writes the output and doesn't read it.
+/// What is made of an answer. `first` and `again` write as many bytes of it as there is room for, and return how many it has; `again` is
+/// asked for it where the room at hand isn't enough.
 fn answer_of<T>(
-    input: &[u8],
-    mut function: impl FnMut(*const u8, usize, *mut u8, usize) -> usize,
+    first: impl FnOnce(*mut u8, usize) -> usize,
+    again: impl FnOnce(*mut u8, usize) -> usize,
     read: impl Read<T>,
 ) -> Result<T, RenderError> {
-    let mut least = input.len().saturating_add(ROOM);
-    if input.len() <= SHORT {
-        let mut room = [MaybeUninit::<u8>::uninit(); ROOM];
-        least = function(input.as_ptr(), input.len(), room.as_mut_ptr().cast(), room.len());
-        if least <= room.len() {
-            // SAFETY: the library has written each of these bytes.
-            return read(Cow::Borrowed(unsafe { std::slice::from_raw_parts(room.as_ptr().cast(), least) }));
-        }
+    let mut room = [MaybeUninit::<u8>::uninit(); AT_HAND];
+    let length = first(room.as_mut_ptr().cast(), AT_HAND);
+    if length > AT_HAND {
+        return read(Cow::Owned(whole(length, again)?));
     }
+    // SAFETY: the library has written each of these bytes.
+    read(Cow::Borrowed(unsafe { std::slice::from_raw_parts(room.as_ptr().cast(), length) }))
+}
+
+/// An answer of so many bytes, or, where there was no memory for it now, the one that says so.
+fn whole(length: usize, answer: impl FnOnce(*mut u8, usize) -> usize) -> Result<Vec<u8>, NoMemory> {
     let mut output = Vec::new();
-    reserve(least, &mut output)?;
+    reserve(length, &mut output)?;
+    let length = answer(output.as_mut_ptr(), length).min(length);
+    // SAFETY: there is room for so many bytes, and the library has written each.
+    unsafe { output.set_len(length) };
+    Ok(output)
+}
+
+/// What lines of JSON most often have room in, beside as much as they take: labels and bars make a text longer than what it is made of.
+const ROOM: usize = 16384;
+
+/// The bytes of the answer to a report as a line of JSON, which are JSON too. Where there is less room than the answer takes the report is
+/// drawn once more.
+pub(crate) fn draw_json(line: &[u8]) -> Result<Vec<u8>, NoMemory> {
+    let mut output = Vec::new();
+    reserve(line.len().saturating_add(ROOM), &mut output)?;
     loop {
         let room = output.capacity();
-        let length = function(input.as_ptr(), input.len(), output.as_mut_ptr(), room);
+        // SAFETY: both pointers are of a slice's length, and the output overlaps nothing else.
+        let length = unsafe { yazgult_draw_json(line.as_ptr(), line.len(), output.as_mut_ptr(), room) };
         if length <= room {
             // SAFETY: there is room for so many bytes, and the library has written each.
             unsafe { output.set_len(length) };
-            return read(Cow::Owned(output));
+            return Ok(output);
         }
         reserve(length, &mut output)?;
     }

@@ -198,8 +198,8 @@ impl Renderer {
     /// # Ok::<(), yazgult::renderer::RenderError>(())
     /// ```
     pub fn render_html(&self, groups: Report<'_>) -> Result<String, RenderError> {
-        let line = json::line_for("html", self, groups)?;
-        library::draw_json(&line, |answer| answer::only_json_text(&answer))?.ok_or_else(|| self.refusal_as_html(groups))
+        let answer = library::draw_json(&json::line_for("html", self, groups)?)?;
+        answer::only_json_text(&answer)?.ok_or_else(|| self.refusal_as_html(groups))
     }
 
     /// A report as HTML, for an `<article>`: a heading, `<h2>`, with the level, the id and the text of the first group's title, if that has
@@ -218,8 +218,8 @@ impl Renderer {
     /// # Ok::<(), yazgult::renderer::RenderError>(())
     /// ```
     pub fn render_html_page(&self, groups: Report<'_>) -> Result<String, RenderError> {
-        let line = json::line_for("html_page", self, groups)?;
-        library::draw_json(&line, |answer| answer::only_json_text(&answer))?.ok_or_else(|| self.refusal_as_html(groups))
+        let answer = library::draw_json(&json::line_for("html_page", self, groups)?)?;
+        answer::only_json_text(&answer)?.ok_or_else(|| self.refusal_as_html(groups))
     }
 
     /// A report in Markdown, for who posts it where Markdown is read: in the graphic form the title of the first group in bold, and in
@@ -238,10 +238,9 @@ impl Renderer {
     /// # Ok::<(), yazgult::renderer::RenderError>(())
     /// ```
     pub fn render_markdown(&self, groups: Report<'_>) -> Result<String, RenderError> {
-        let line = json::line_for("markdown", self, groups)?;
-        let text = library::draw_json(&line, |answer| answer::only_json_text(&answer))?;
+        let answer = library::draw_json(&json::line_for("markdown", self, groups)?)?;
         // under no sheets a report is judged and gives no text
-        text.ok_or_else(|| self.render_sheets(groups, &[]).err().unwrap_or(RenderError::Memory))
+        answer::only_json_text(&answer)?.ok_or_else(|| self.render_sheets(groups, &[]).err().unwrap_or(RenderError::Memory))
     }
 
     /// Why a report gave no HTML: it is refused as in the graphic form, else there was no memory.

@@ -1,3 +1,4 @@
 pub mod AsBox
 pub mod Drawing
+pub mod Leaving
 pub mod NotGiven

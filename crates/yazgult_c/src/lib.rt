@@ -3,10 +3,10 @@
 //! kept and given back.
 #![tactic(auto)]
 
-ghost use Rattle.std.specs.Prelude.{◌≡◌, ◌≢◌, ◌++◌, [], ℕ, List, codes, pos};
+ghost use Rattle.std.specs.Prelude.{◌≡◌, ◌≢◌, ◌++◌, [], ℕ, List, codes, length, pos};
 ghost use Rattle.yazgult_c.specs.AnswerBytes.{IsAnswerTo, IsLineAnswerTo, answer_bytes};
 ghost use Rattle.yazgult_c.specs.GivenBytes.{IsGiven};
-ghost use Rattle.yazgult_c.specs.Keeping.{IsKeeping, IsKept, keeping_number, texts_of};
+ghost use Rattle.yazgult_c.specs.Keeping.{IsKeeping, IsKept, IsLeft, answer_kept, keeping_number, left_of, texts_of};
 ghost use Rattle.yazgult_c.specs.declared.sources.kept.Keeping.{Keeping};
 ghost use Rattle.yazgult_c.specs.declared.answer.Answer.{Answer};
 
@@ -31,11 +31,11 @@ pub extern "C" fn yazgult_draw(alloc: Global, input: &[u8], output: &mut [u8]) -
     ensures answers { (answer : Answer) × IsAnswerTo [] input.now answer
         × IsGiven (answer_bytes answer) output.old output.new result }
 {
-    draw_over(alloc, &[], input, output)
+    draw_over(alloc, &[], input, output).length
 }
 
 /// Draws the report that stands in `input`, over these sources that are kept, as `yazgult_draw` does: where the report
-/// has a number in place of a source's text, it has the text of that one.
+/// has a number in place of a source's text, it has the text of that one. An answer that there isn't room for is kept.
 #[unsafe(no_mangle)]
 pub extern "C" fn yazgult_draw_with(
     alloc: Global,
@@ -45,30 +45,80 @@ pub extern "C" fn yazgult_draw_with(
 ) -> usize
     requires there { IsKept sources.old }
     ensures answers { (answer : Answer) × IsAnswerTo (texts_of sources.old) input.now answer
-        × IsGiven (answer_bytes answer) output.old output.new result }
+        × IsGiven (answer_bytes answer) output.old output.new result
+        × IsLeft answer (length output.old) (answer_kept sources.new) }
     ensures kept { texts_of sources.new ≡ texts_of sources.old }
     ensures there { IsKept sources.new }
 {
-    let kept = sources.take(alloc);
-    let length = draw_over(alloc, &kept.sources, &*input, output);
+    let mut kept = sources.take(alloc);
+    kept.answer = Vec::new(alloc);
+    let Drawn { length, left } = draw_over(alloc, &kept.sources, &*input, output);
+    kept.answer = left;
     sources.put(kept);
     length
 }
 
-/// Draws a report over these sources that are kept.
+/// Gives the answer to the last report over these sources, if there wasn't room for it, and keeps it no longer.
+#[unsafe(no_mangle)]
+pub extern "C" fn yazgult_sources_answer(
+    alloc: Global,
+    sources: &mut Sources,
+    output: &mut [u8],
+) -> usize
+    requires there { IsKept sources.old }
+    ensures given { IsGiven (answer_kept sources.old) output.old output.new result }
+    ensures gone { answer_kept sources.new ≡ [] }
+    ensures kept { texts_of sources.new ≡ texts_of sources.old }
+    ensures there { IsKept sources.new }
+{
+    let mut kept = sources.take(alloc);
+    let length = give(&kept.answer, output);
+    kept.answer = Vec::new(alloc);
+    sources.put(kept);
+    length
+}
+
+/// How many bytes an answer has, and the answer itself, if there wasn't room for it.
+#[derive(Drop)]
+struct Drawn {
+    length: usize,
+    left: Vec<u8>,
+}
+
+/// Draws a report over these sources that are kept, and leaves the answer if there isn't room for it.
+#[tactic(auto, using(crate::proofs::Leaving::of_bytes, crate::proofs::Leaving::of_memory))]
 fn draw_over<'v, 's>(
     alloc: Global,
     kept: &'v [KeptSource<'s>],
     input: &'v [u8],
     output: &mut [u8],
-) -> usize
+) -> Drawn
     ensures answers { (answer : Answer) × IsAnswerTo kept.now input.now answer
-        × IsGiven (answer_bytes answer) output.old output.new result }
+        × IsGiven (answer_bytes answer) output.old output.new result.length
+        × IsLeft answer (length output.old) result.left.items }
 {
+    let room = output.len();
     let answer = answer_to(alloc, kept, input);
     match written(alloc, &answer) {
-        Ok(bytes) => give(&bytes, output),
-        Err(_) => give(&NO_MEMORY, output),
+        Ok(bytes) => Drawn {
+            length: give(&bytes, output),
+            left: left_over(alloc, bytes, room),
+        },
+        Err(_) => Drawn {
+            length: give(&NO_MEMORY, output),
+            left: Vec::new(alloc),
+        },
+    }
+}
+
+/// The bytes of an answer, if there isn't room for them, else none.
+fn left_over(alloc: Global, bytes: Vec<u8>, room: usize) -> Vec<u8>
+    ensures left { result.items ≡ left_of room bytes.items }
+{
+    if bytes.len() > room {
+        bytes
+    } else {
+        Vec::new(alloc)
     }
 }
 

@@ -7,10 +7,12 @@ ghost use Rattle.yazgult_c.specs.Keeping.{IsKeeping};
 use report_bytes::KeptSource;
 use std::alloc::{AllocError, Global};
 
-/// Sources that are kept, in the order of their numbers.
+/// Sources that are kept, in the order of their numbers, and the answer that the last report over them was given no
+/// room for.
 #[derive(Drop)]
 pub struct Kept {
     pub sources: Vec<KeptSource<'static>>,
+    pub answer: Vec<u8>,
 }
 
 /// What became of a text that was to be kept.
@@ -27,9 +29,13 @@ pub enum Keeping {
 /// A list of no sources. The one error is that memory ran out.
 pub fn none(alloc: Global) -> Result<Box<Kept>, AllocError>
     ensures none { IfOk result (λ kept. kept.value.sources.items ≡ []) }
+    ensures no_answer { IfOk result (λ kept. kept.value.answer.items ≡ []) }
 {
-    let sources = Vec::new(alloc);
-    Ok(Box::new(alloc, Kept { sources })?)
+    let kept = Kept {
+        sources: Vec::new(alloc),
+        answer: Vec::new(alloc),
+    };
+    Ok(Box::new(alloc, kept)?)
 }
 
 /// Keeps one source more, if its text is one.

@@ -52,7 +52,11 @@ abbrev no_wt : WT vnull
 no_wt = record { fits = lit< tt }
 
 abbrev no_sources : Heap.the_row.Denot → Kept.the_row.Denot
-no_sources alloc = record { sources = record { ptr = null_ptr; len = 0; cap = 0; alloc = alloc; items = []; ok = (refl, omega arith); small = omega arith } }
+no_sources alloc =
+    record {
+      sources = record { ptr = null_ptr; len = 0; cap = 0; alloc = alloc; items = []; ok = (refl, omega arith); small = omega arith };
+      answer = record { ptr = null_ptr; len = 0; cap = 0; alloc = alloc; items = []; ok = (refl, omega arith); small = omega arith };
+    }
 
 module _ {M : Type 1} {𝓤 : Ura M} (𝓛 : Logic 𝓤) (at_mem : Memory → SProp 𝓤) (run : Routine → Fun 𝓤) (𝓣 : Tables 𝓤 𝓛.H) where
   open 𝓛 use {H}
