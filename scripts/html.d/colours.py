@@ -1,4 +1,4 @@
-"""How well the colours of a stylesheet's texts can be told from the page behind them. Borders aren't looked at: they say nothing that the words don't."""
+"""How well the colours of a stylesheet can be told from the page behind them."""
 
 import re
 
@@ -13,12 +13,12 @@ def luminance(colour):
 
 
 def coloured(rules):
-    """The colour of text that each rule names, by what it is a rule for."""
-    return {selector.strip(): colour for selector, colour in re.findall(r"([^\n{]*)\{[^}]*?(?<![\w-])color: #([0-9a-f]{6})\b", rules)}
+    """The colour that each rule names, by what it is a rule for."""
+    return {selector.strip(): colour for selector, colour in re.findall(r"([^\n{]*)\{[^}]*?#([0-9a-f]{6})\b", rules)}
 
 
 def contrasts(styles):
-    """Each colour of text of a stylesheet on its page, with its contrast, the least first. On a dark page a light rule holds unless a dark one does."""
+    """Each colour of a stylesheet on its page, with its contrast, the least first. On a dark page a light rule holds unless a dark one does."""
     dark = "\n".join(re.findall(r"@media \(prefers-color-scheme: dark\) \{\n(.*?)\n\}", styles, re.S))
     light = re.sub(r"@media \(prefers-color-scheme: dark\) \{\n.*?\n\}", "", styles, flags=re.S)
     pages = {"light": coloured(light), "dark": {**coloured(light), **coloured(dark)}}

@@ -78,7 +78,7 @@ fn level_of(severity: Severity) -> Option<&'static str>
 }
 
 /// The first primary place.
-fn place_of(spans: &[FileSpan]) -> Option<&FileSpan>
+pub fn place_of(spans: &[FileSpan]) -> Option<&FileSpan>
     ensures value { option_map (λ s. s.now) result ≡ first_primary spans.now }
 {
     for span in spans {

@@ -25,7 +25,7 @@ use Rattle.redraw_run.specs.Deeds.{State, Deed, Drawn, Commanded, Compared, Hand
 use Rattle.redraw_run.specs.Deeds.{AreDeeds, AreTold, TellsAll, printed, told}
 use Rattle.redraw_run.specs.Deeds.{one_left_out, tally_by, with_files, repeated, Does, IsCutShort, IsUnwritable, Writes, Stops}
 use Rattle.redraw_run.specs.Deeds.{Happens}
-use Rattle.redraw_run.specs.DrawnFinding.{IsCounted, RefusesFinding, ShowsFinding, ending_after}
+use Rattle.redraw_run.specs.DrawnFinding.{IsCounted, RefusesFinding, ShowsPlaced, ending_after}
 use Rattle.redraw_run.specs.Handed.{handed}
 use Rattle.redraw_run.specs.ReadLines.{PrintsBytes, SumsUp, TellsUnless}
 use Rattle.redraw_run.specs.Readings.{IsComparison}
@@ -227,7 +227,7 @@ all_printed r deed text is = is ∙ sym (append-nil (printed r deed))
 
 -- a finding is drawn, and what it gives is written
 pub goes_drawn : {T : Type 0} (a b : State) (r : Result T Stop) (d : Diagnostic) (text bytes : List ℕ) (files : List File) → a.choice.form ≡ Report
-    → ShowsFinding a.renderer files d text → IsCounted d a.tally b.tally → b.renderer ≡ a.renderer → b.choice ≡ a.choice → b.err ≡ a.err
+    → ShowsPlaced a.renderer files d text → IsCounted d a.tally b.tally → b.renderer ≡ a.renderer → b.choice ≡ a.choice → b.err ≡ a.err
     → bytes ≡ text ++ (ending_after a.renderer.settings.short_message d.severity ++ 10 ∷ []) → Writes r a.out b.out bytes → Happens r (IsShown d) a b
 goes_drawn a b (Ok x) d text bytes files form shows counted renderer choice err is writes =
     record {

@@ -7,7 +7,7 @@ use Rattle.redraw_run.specs.declared.look.ReportRenderer.{ReportRenderer}
 use Rattle.output_stream.specs.Standing.{Standing}
 use Rattle.redraw_command.specs.Tally.{no_tally, tally_status}
 use Rattle.redraw_command.specs.declared.tally.Tally.{Tally}
-use Rattle.redraw_command.specs.Told.{Tells, TellsMemory}
+use Rattle.redraw_command.specs.Told.{Tells}
 use Rattle.redraw_command.specs.declared.choice.Choice.{Choice}
 use Rattle.redraw_command.specs.declared.stop.Stop.{Stop}
 use Rattle.redraw_command.specs.declared.stop.Stop.TheVariants.{Memory, Unwritable, Unreadable, Utf16}

@@ -2,12 +2,14 @@ pub mod Asking
 pub mod Chosen
 pub mod Doing
 pub mod Done
+pub mod Ending
 pub mod Fated
 pub mod Gone
 pub mod Lined
 pub mod Named
 pub mod NotDocument
 pub mod NotDrawn
+pub mod NotPage
 pub mod NotRead
 pub mod NotRefused
 pub mod NotRun

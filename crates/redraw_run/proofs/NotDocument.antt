@@ -7,7 +7,8 @@ use Rattle.output_stream.proofs.Writing.{adds_twice}
 use Rattle.redraw_run.specs.Deeds.{State, printed}
 use Rattle.redraw_command.specs.declared.terminal.Markup.TheVariants.{Html, Markdown}
 use Rattle.redraw_run.specs.Handed.{handed, indent}
-use Rattle.redraw_run.specs.HtmlDocument.{html_end, html_start}
+use Rattle.redraw_run.specs.Index.{index}
+use Rattle.redraw_run.specs.HtmlDocument.{counts_of, html_end, html_start, main_end, page_end}
 use Rattle.redraw_run.specs.Run.{Finishes}
 
 -- a tag that another tool writes, here its `<`, is handed on as it is
@@ -33,13 +34,14 @@ undocumented held names a failed err status html empty run =
     let drawn = run.drawn in
     let within : List ℕ = flat_map (printed a.renderer) drawn.drawn.does.deeds in
     let html_is = a.renderer.markup in
-    let opened : Adds a.out drawn.last.out (html_start html_is ++ within) = adds_twice a.out drawn.opened drawn.last.out (html_start html_is) within
-    drawn.opens drawn.drawn.does.out in
-    let all : Adds a.out run.end.out ((html_start html_is ++ within) ++ html_end html_is) = adds_twice a.out drawn.last.out run.end.out
-    (html_start html_is ++ within) (html_end html_is) opened drawn.closes in
-    let from : Appends (Some []) run.end.out.held ((html_start html_is ++ within) ++ html_end html_is) =
-    subst (λ (o : Option (List ℕ)). Appends o run.end.out.held ((html_start html_is ++ within) ++ html_end html_is)) empty all.added in
-    let to : Appends (Some []) (Some []) ((html_start html_is ++ within) ++ html_end html_is) =
-    subst (λ (o : Standing). Appends (Some []) o.held ((html_start html_is ++ within) ++ html_end html_is)) (sym run.printed) from in
-    let end : length (html_end html_is) ≡ length (codes "</main>\n</body>\n</html>\n") = ap (λ h. length (html_end h)) html in
-    absurd (omega (arith, ap length to, length-append (html_start html_is ++ within) (html_end html_is), end))
+    let before : List ℕ = html_start html_is ++ within in
+    let after : List ℕ = html_end html_is drawn.last.tally drawn.files in
+    let opened : Adds a.out drawn.last.out before = adds_twice a.out drawn.opened drawn.last.out (html_start html_is) within drawn.opens
+    drawn.drawn.does.out in
+    let all : Adds a.out run.end.out (before ++ after) = adds_twice a.out drawn.last.out run.end.out before after opened drawn.closes in
+    let from : Appends (Some []) run.end.out.held (before ++ after) =
+    subst (λ (o : Option (List ℕ)). Appends o run.end.out.held (before ++ after)) empty all.added in
+    let to : Appends (Some []) (Some []) (before ++ after) = subst (λ (o : Standing). Appends (Some []) o.held (before ++ after)) (sym run.printed) from in
+    let rest : List ℕ = index (counts_of drawn.last.tally) drawn.files ++ page_end in
+    let end : length after ≡ length (main_end ++ rest) = ap (λ h. length (html_end h drawn.last.tally drawn.files)) html in
+    absurd (omega (arith, ap length to, length-append before after, end, length-append main_end rest))

@@ -54,9 +54,10 @@ pub no_line_after : (r : ReportRenderer) (files : List File) (d : Diagnostic) (b
     (Some (codes "error: " ++ 101 ∷ 10 ∷ []) ≡ Some []) before after → ⊥
 no_line_after r files d before after long severity (inr same) = let never = same.1 in cc
 no_line_after r files d before after long severity (inl drawn) =
-    let ends : codes "error: " ++ 101 ∷ 10 ∷ [] ≡ drawn.text ++ 10 ∷ 10 ∷ [] = drawn.written.added
-    ∙ ap₂ (λ short s. drawn.text ++ (ending_after short s ++ 10 ∷ [])) long severity in
-    let byte : ◌≡◌ {A = ℕ} 101 10 = before_last (codes "error: ") drawn.text 101 10 10 10 ends in
+    let placed : List ℕ = drawn.printed.placed in
+    let ends : codes "error: " ++ 101 ∷ 10 ∷ [] ≡ placed ++ 10 ∷ 10 ∷ [] = drawn.printed.written.added
+    ∙ ap₂ (λ short s. placed ++ (ending_after short s ++ 10 ∷ [])) long severity in
+    let byte : ◌≡◌ {A = ℕ} 101 10 = before_last (codes "error: ") placed 101 10 10 10 ends in
     absurd (omega (arith, byte))
 
 -- ---- nothing printed

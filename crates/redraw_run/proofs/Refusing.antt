@@ -1,5 +1,5 @@
 -- Why there is no text of a finding.
-use Rattle.std.proofs.Common.{◌≡◌, ◌≢◌, ◌++◌, List, [], ◌∷◌, ap, inl, inr, refl, subst, sym}
+use Rattle.std.proofs.Common.{◌≡◌, ◌≢◌, ◌++◌, List, ℕ, [], ◌∷◌, ap, inl, inr, refl, subst, sym}
 use Rattle.std.specs.Global.{Global}
 use Rattle.std.specs.Prelude.{IfErr, IfOk, OnOk, Result, Ok, Err, String, alloc_error, map, string_bytes}
 use Rattle.output_stream.specs.Standing.{Adds, Standing}
@@ -16,7 +16,8 @@ use Rattle.redraw_report.specs.Report.{report_of}
 use Rattle.redraw_report.specs.View.{section_view}
 use Rattle.redraw_report.specs.declared.diagnostic.Diagnostic.{Diagnostic}
 use Rattle.redraw_report.specs.declared.finding.Finding.{Finding}
-use Rattle.redraw_run.specs.DrawnFinding.{DrawsFinding, IsCounted, IsLeftOut, IsRefusalOf, IsUndrawn, Refuses, ShowsFinding, ending_after}
+use Rattle.redraw_run.specs.DrawnFinding.{DrawsFinding, IsCounted, IsLeftOut, IsPrintedAs, IsRefusalOf, IsUndrawn, Refuses, ShowsFinding, ending_after}
+use Rattle.redraw_run.specs.Article.{IsPlaced}
 use Rattle.std.specs.declared.alloc.AllocError.{AllocError}
 use Rattle.redraw_command.specs.Tally.{one_more}
 use Rattle.redraw_command.specs.Told.{Tells}
@@ -52,15 +53,25 @@ refused_by r files d why other (inr memory) = absurd (other memory)
 pub draws_report : {T : Type 0} (result : Result T Stop) (text : Result (String Global) RenderError) (r : ReportRenderer) (files : List File) (d : Diagnostic)
     (old new : Standing) (Same : Type 0) (before after : Tally) → IfOk text (λ t. ShowsFinding r files d (string_bytes t))
     → IfErr text (IsUndrawn r files d)
-    → OnOk result (IfOk text (λ t. Adds old new (string_bytes t ++ (ending_after r.settings.short_message d.severity ++ 10 ∷ []))))
+    → OnOk result (IfOk text (λ t. IsPrintedAs r d (string_bytes t) old new))
     → OnOk result (IfOk text (λ t. IsCounted d before after))
     → OnOk result (IfErr text (λ e. (e ≡ Memory alloc_error → ⊥) × Same × IsLeftOut before after))
     → OnOk result (DrawsFinding Report r files d old new Same before after)
 draws_report (Err stop) text r files d old new Same before after shows undrawn written counted left = tt
 draws_report (Ok done) (Ok t) r files d old new Same before after shows undrawn written counted left =
-    inl record { text = string_bytes t; shows = shows; written = written; counted = counted }
+    inl record { text = string_bytes t; shows = shows; printed = written; counted = counted }
 draws_report (Ok done) (Err e) r files d old new Same before after shows undrawn written counted left =
     inr (refused_by r files d e left.0 undrawn, left.1, left.2)
+
+-- a text that is this is printed
+pub printed_as : {T : Type 0} (result : Result T Stop) (text : Result (String Global) RenderError) (t : String Global) (r : ReportRenderer) (d : Diagnostic)
+    (placed bytes : List ℕ) (old new : Standing) → text ≡ Ok t → IsPlaced r.markup d (string_bytes t) placed
+    → bytes ≡ placed ++ (ending_after r.settings.short_message d.severity ++ 10 ∷ []) → OnOk result (Adds old new bytes)
+    → OnOk result (IfOk text (λ t. IsPrintedAs r d (string_bytes t) old new))
+printed_as (Err stop) text t r d placed bytes old new is of bytes_are written = tt
+printed_as (Ok done) text t r d placed bytes old new is of bytes_are written =
+    subst (λ (x : Result (String Global) RenderError). IfOk x (λ t. IsPrintedAs r d (string_bytes t) old new)) (sym is)
+    record { placed = placed; is = of; written = subst (Adds old new) bytes_are written }
 
 -- the same in the same settings, of the same files, from the same tally
 pub draws_as : {T : Type 0} (result : Result T Stop) {r s : ReportRenderer} {files these : List File} (d : Diagnostic) (old new : Standing)

@@ -15,7 +15,7 @@ use Rattle.redraw_command.specs.declared.stop.Stop.TheVariants.{Memory, Unwritab
 use Rattle.redraw_command.specs.declared.tally.Tally.{Tally}
 use Rattle.redraw_read.specs.declared.sources.File.{File}
 use Rattle.redraw_report.specs.declared.diagnostic.Diagnostic.{Diagnostic}
-use Rattle.redraw_run.specs.DrawnFinding.{RefusesFinding, ShowsFinding, ending_after}
+use Rattle.redraw_run.specs.DrawnFinding.{RefusesFinding, ShowsPlaced, ending_after}
 use Rattle.redraw_run.specs.Handed.{handed}
 use Rattle.redraw_run.specs.Readings.{IsComparison}
 use Rattle.redraw_run.specs.declared.draw.Drawing.{Drawing}
@@ -48,11 +48,11 @@ pub data Deed : Type 0 where
   Repeated : Deed
   BuildFailed : Deed
 
--- when that is done: a report shows the finding in the renderer's settings, its places looked for in some files, or is refused for this
--- reason; a command is that of the finding; a report is compared as it is drawn as rustc draws it; each where it is asked for; and what is
+-- when that is done: a report shows the finding in the renderer's settings, its places looked for in some files, in HTML in its article, or
+-- is refused for this reason; a command is that of the finding; a report is compared as it is drawn as rustc draws it; each where it is asked for; and what is
 -- told is a message
 abbrev pub IsDeed : ReportRenderer → Choice → Deed → Type 0
-IsDeed r c (Drawn d text) = (c.form ≡ Report) × (files : List File) × ShowsFinding r files d text
+IsDeed r c (Drawn d text) = (c.form ≡ Report) × (files : List File) × ShowsPlaced r files d text
 IsDeed r c (Commanded d line) = (c.form ≡ Workflow) × (command d ≡ Some line)
 IsDeed r c (Compared d is_same shown) = (c.form ≡ Verify) × IsComparison d is_same
 IsDeed r c (HandedOn line) = Unit {0}

@@ -1,5 +1,5 @@
 -- What is drawn of a finding, and what is written of it.
-use Rattle.std.specs.Prelude.{◌≡◌, ◌⊎◌, ℕ, Bool, true, false, List, [], ◌∷◌, ◌++◌, Option, Some, None, alloc_error, codes, map, if◌then◌else◌}
+use Rattle.std.specs.Prelude.{◌≡◌, ◌⊎◌, ℕ, Bool, List, [], ◌∷◌, ◌++◌, Option, Some, None, alloc_error, map, if◌then◌else◌}
 use Rattle.annotate_snippets.specs.Laws.Forms.{HasLaws}
 use Rattle.annotate_snippets.specs.Forms.{ShowsReport}
 use Rattle.annotate_snippets.specs.Fault.{first_refusal, refusal_in}
@@ -29,38 +29,21 @@ use Rattle.redraw_report.specs.declared.diagnostic.Diagnostic.{Diagnostic}
 use Rattle.redraw_report.specs.declared.diagnostic.Severity.{Severity}
 use Rattle.redraw_report.specs.declared.diagnostic.Severity.TheVariants.{Error, Warning, Info, Note, Help, Plain}
 use Rattle.redraw_report.specs.declared.finding.Finding.{Finding}
+use Rattle.redraw_run.specs.Article.{IsPlaced}
 use Rattle.redraw_run.specs.declared.look.ReportRenderer.{ReportRenderer}
 
--- the class of an article, by how severe what it reports is
-abbrev pub class_of : Severity → List ℕ
-class_of Error = codes "error"
-class_of Warning = codes "warning"
-class_of Info = codes "info"
-class_of Note = codes "note"
-class_of Help = codes "help"
-class_of Plain = codes "plain"
-
--- an article with this in it
-abbrev pub in_article : Severity → List ℕ → List ℕ
-in_article severity inner = codes "<article class=\"" ++ class_of severity ++ codes "\">\n" ++ inner ++ codes "\n</article>"
-
--- a text is the article of a report, with its laws
-pub record IsArticle (severity : Severity) (r : Renderer) (groups : List Group) (text : List ℕ) : Type 0 where
-  pub inner : List ℕ
-  pub holds : IsReportArticle r groups inner
-  pub is : text ≡ in_article severity inner
-
--- a text shows a report in a renderer's settings, in a markup: in HTML as an article, and without markup under the renderer's sheet
-abbrev pub ShowsAs : Markup → Severity → Renderer → List Group → List ℕ → Type 0
-ShowsAs Html severity r groups text = IsArticle severity r groups text
-ShowsAs Markdown severity r groups text = IsReportMarkdown r groups text
-ShowsAs Bare severity r groups text = ShowsReport r groups r.stylesheet text
+-- a text shows a report in a renderer's settings, in a markup: in HTML as what stands in an article, and without markup under the
+-- renderer's sheet
+abbrev pub ShowsAs : Markup → Renderer → List Group → List ℕ → Type 0
+ShowsAs Html r groups text = IsReportArticle r groups text
+ShowsAs Markdown r groups text = IsReportMarkdown r groups text
+ShowsAs Bare r groups text = ShowsReport r groups r.stylesheet text
 
 -- and has the laws of that, which an article says itself
-abbrev pub HasLawsAs : Markup → Severity → Renderer → List Group → List ℕ → Type 0
-HasLawsAs Html severity r groups text = IsArticle severity r groups text
-HasLawsAs Markdown severity r groups text = HasMarkdownLaws r groups text
-HasLawsAs Bare severity r groups text = HasLaws r groups r.stylesheet text
+abbrev pub HasLawsAs : Markup → Renderer → List Group → List ℕ → Type 0
+HasLawsAs Html r groups text = IsReportArticle r groups text
+HasLawsAs Markdown r groups text = HasMarkdownLaws r groups text
+HasLawsAs Bare r groups text = HasLaws r groups r.stylesheet text
 
 -- why a report gives no text: the first reason in order
 abbrev pub refusal_by : ReportRenderer → List Group → Option RenderError
@@ -75,8 +58,14 @@ pub record ShowsFinding (r : ReportRenderer) (files : List File) (d : Diagnostic
   pub groups : List Group
   pub told : map section_view groups ≡ report_of finding
   pub safe : HasSafeLinks groups
-  pub shows : ShowsAs r.markup d.severity r.settings groups text
-  pub laws : HasLawsAs r.markup d.severity r.settings groups text
+  pub shows : ShowsAs r.markup r.settings groups text
+  pub laws : HasLawsAs r.markup r.settings groups text
+
+-- a text is what is printed of one that shows the finding: in HTML its article
+pub record ShowsPlaced (r : ReportRenderer) (files : List File) (d : Diagnostic) (text : List ℕ) : Type 0 where
+  pub inner : List ℕ
+  pub shows : ShowsFinding r files d inner
+  pub is : IsPlaced r.markup d inner text
 
 -- the library refuses for this reason, the first in order, the report of the finding that the diagnostic reports, its places looked for
 -- in these files
@@ -116,11 +105,17 @@ IsCounted d old new = new ≡ record (tallied old d.severity (is_sum d)) { files
 abbrev pub IsLeftOut : Tally → Tally → Type 0
 IsLeftOut old new = new ≡ record old { wrong = one_more old.wrong }
 
--- a finding is drawn as a report: to what a writer held, a text that shows it is added, and what stands after it; and it is counted
+-- a text of a finding is printed: to what a writer held it is added, in HTML in its article, and what stands after it
+pub record IsPrintedAs (r : ReportRenderer) (d : Diagnostic) (text : List ℕ) (old new : Standing) : Type 0 where
+  pub placed : List ℕ
+  pub is : IsPlaced r.markup d text placed
+  pub written : Adds old new (placed ++ (ending_after r.settings.short_message d.severity ++ 10 ∷ []))
+
+-- a finding is drawn as a report: a text that shows it is printed, and it is counted
 pub record IsDrawn (r : ReportRenderer) (files : List File) (d : Diagnostic) (old new : Standing) (before after : Tally) : Type 0 where
   pub text : List ℕ
   pub shows : ShowsFinding r files d text
-  pub written : Adds old new (text ++ (ending_after r.settings.short_message d.severity ++ 10 ∷ []))
+  pub printed : IsPrintedAs r d text old new
   pub counted : IsCounted d before after
 
 -- a finding is written as a command: to what a writer held, its command is added, as a line, and the finding is counted

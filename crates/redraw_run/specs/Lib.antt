@@ -1,10 +1,15 @@
+pub mod Article
+pub mod Counts
 pub mod Deeds
 pub mod DrawnFinding
 pub mod Fates
 pub mod FindingLines
 pub mod Handed
 pub mod HtmlDocument
+pub mod Id
+pub mod Index
 pub mod Inputs
+pub mod Page
 pub mod Pieces
 pub mod ReadLines
 pub mod Readings

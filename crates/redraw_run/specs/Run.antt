@@ -1,5 +1,6 @@
 -- What a run does about its inputs, and how it ends.
-use Rattle.std.specs.Prelude.{◌≡◌, ◌⊎◌, ℕ, Bool, false, List, Option, Result, Ok, Err}
+use Rattle.std.specs.Prelude.{◌≡◌, ◌⊎◌, ℕ, Bool, false, List, Option, Result, Ok, Err, String}
+use Rattle.std.specs.Global.{Global}
 use Rattle.std.specs.declared.io.Error.{Error}
 use Rattle.output_stream.specs.Standing.{Adds, BreaksOff, Standing}
 use Rattle.clap.specs.Simple.{App}
@@ -13,6 +14,7 @@ use Rattle.redraw_command.specs.declared.stop.Stop.{Stop}
 use Rattle.redraw_command.specs.declared.stop.Stop.TheVariants.{Memory, Unwritable, Unreadable, Utf16}
 use Rattle.redraw_command.specs.declared.terminal.Surroundings.{Surroundings}
 use Rattle.redraw_command.specs.declared.arguments.RedrawRequest.{RedrawRequest}
+use Rattle.redraw_run.specs.declared.page.ListedFile.{ListedFile}
 use Rattle.redraw_run.specs.Deeds.{State}
 use Rattle.redraw_run.specs.HtmlDocument.{html_end, html_start}
 use Rattle.redraw_run.specs.Inputs.{AreCut, AreDrawn, asked_names}
@@ -33,14 +35,15 @@ EndsInput (Err Utf16) result old new = (result ≡ Ok false) × Tells old new
 abbrev pub with_out : State → Standing → State
 with_out a out = record a { out = out }
 
--- inputs are gone through: in HTML after what a document begins with, and before what it ends with
+-- inputs are gone through: in HTML after what a document begins with, and before what it ends with, which names these files
 pub record AreInputsPrinted (File Standard : Type 0) (held : File ⊎ Standard → Option (List ℕ)) (names : List (List ℕ)) (is_whole : Bool) (a b : State)
     : Type 0 where
   pub opened : Standing
   pub opens : Adds a.out opened (html_start a.renderer.markup)
   pub last : State
   pub drawn : AreDrawn File Standard held names is_whole (with_out a opened) last
-  pub closes : Adds last.out b.out (html_end a.renderer.markup)
+  pub files : List (String Global × ListedFile)
+  pub closes : Adds last.out b.out (html_end a.renderer.markup last.tally files)
   pub is : b ≡ with_out last b.out
 
 -- output couldn't be written where a document begins
@@ -54,14 +57,15 @@ pub record IsCutWithin (File Standard : Type 0) (held : File ⊎ Standard → Op
   pub opens : Adds a.out opened (html_start a.renderer.markup)
   pub drawn : AreCut File Standard held names (with_out a opened) b
 
--- or where a document ends
+-- or where a document ends, or there was no memory for its end
 pub record IsCutAtLast (File Standard : Type 0) (held : File ⊎ Standard → Option (List ℕ)) (names : List (List ℕ)) (a b : State) : Type 0 where
   pub opened : Standing
   pub opens : Adds a.out opened (html_start a.renderer.markup)
   pub is_whole : Bool
   pub last : State
   pub drawn : AreDrawn File Standard held names is_whole (with_out a opened) last
-  pub closes : BreaksOff last.out b.out (html_end a.renderer.markup)
+  pub files : List (String Global × ListedFile)
+  pub closes : BreaksOff last.out b.out (html_end a.renderer.markup last.tally files) ⊎ (b.out ≡ last.out)
   pub is : b ≡ with_out last b.out
 
 -- inputs are gone through up to where output couldn't be written

@@ -11,7 +11,8 @@ ghost use Rattle.redraw_run.specs.Deeds.{Does, Happens, TellsAll, repeated, stan
 ghost use Rattle.redraw_run.specs.Fates.{AreMessages, IsChosen, IsDrawing, IsTaking, LeavesOut, IsReportedAs, IsShown};
 ghost use Rattle.redraw_run.specs.Fates.{IsHandedOn, IsTakingRead, IsWritten, IsWrong};
 ghost use Rattle.redraw_run.specs.DrawnFinding.{DrawsFinding, IsCounted, IsLeftOut, IsUndrawn, ShowsFinding};
-ghost use Rattle.redraw_run.specs.DrawnFinding.{ending_after};
+ghost use Rattle.redraw_run.specs.Article.{IsPlaced};
+ghost use Rattle.redraw_run.specs.DrawnFinding.{IsPrintedAs, ending_after};
 ghost use Rattle.redraw_run.specs.ReadLines.{TellsUnless};
 ghost use Rattle.redraw_run.specs.Telling.{TellsAbout, TellsMany};
 ghost use Rattle.redraw_read.specs.Loaded.{texts_of};
@@ -20,7 +21,9 @@ ghost use Rattle.redraw_read.specs.declared.sources.File.{File};
 ghost use Rattle.redraw_command.specs.declared.choice.OutputForm.TheVariants.{Report, Workflow};
 ghost use Rattle.output_stream.specs.Standing.{Adds, Standing, known};
 
+use crate::article::article_in;
 use crate::look::ReportRenderer;
+use crate::page::Page;
 use crate::text::drawn_of;
 use crate::write::{pass, print};
 use annotate_snippets::renderer::RenderError;
@@ -32,6 +35,7 @@ use redraw_command::seen::{Names, SeenDiagnostics};
 use redraw_command::stop::Stop;
 use redraw_command::tally::Tally;
 use redraw_command::tell::tell;
+use redraw_command::terminal::Markup;
 use redraw_command::workflow::command_of;
 use redraw_read::place::load_files;
 use redraw_read::sources::{SourceFiles, Sources};
@@ -60,6 +64,8 @@ pub struct Drawing<'w, S: Drop> {
     pub seen: SeenDiagnostics,
     /// The files in which what was drawn has its primary places.
     pub files: Names,
+    /// What a page keeps of the reports in it, where HTML is written.
+    pub page: Page,
     /// The name of the input that is read, as messages give it.
     pub input: &'w str,
     /// The line of it that is read, from 1; 0 where it isn't read by lines.
@@ -339,9 +345,8 @@ impl<S: SourceFiles + Drop> Drawing<'_, S> {
         out: &mut Stream<W>,
         err: &mut Stream<V>,
     ) -> Result<(), Stop>
-        ensures drawn { OnOk result (IfOk text (λ t. Adds (known W.contents out.old) (known W.contents out.new)
-            (string_bytes t
-            ++ (ending_after self.old.renderer.settings.short_message diagnostic.now.severity ++ 10 ∷ [])))) }
+        ensures drawn { OnOk result (IfOk text (λ t. IsPrintedAs self.old.renderer diagnostic.now (string_bytes t)
+            (known W.contents out.old) (known W.contents out.new))) }
         ensures counted { OnOk result (IfOk text (λ t. IsCounted diagnostic.now self.old.tally self.new.tally)) }
         ensures untold { OnOk result (IfOk text (λ t. err.new ≡ err.old)) }
         ensures left_out { OnOk result (IfErr text (λ e. (e ≢ RenderError.Memory alloc_error)
@@ -360,10 +365,26 @@ impl<S: SourceFiles + Drop> Drawing<'_, S> {
     {
         match text {
             Ok(text) => {
+                let placed = self.placed(diagnostic, text)?;
                 self.count(diagnostic)?;
-                print(text.as_str(), self.ending_of(diagnostic.severity), out)
+                print(placed.as_str(), self.ending_of(diagnostic.severity), out)
             }
             Err(error) => self.refuse(&error, diagnostic, err),
+        }
+    }
+
+    /// The text of a finding as it is printed: where HTML is written, in an article of the page.
+    fn placed(&mut self, diagnostic: &Diagnostic, text: String) -> Result<String, AllocError>
+        ensures placed { IfOk result (λ placed. IsPlaced self.old.renderer.markup diagnostic.now (string_bytes text)
+            (string_bytes placed)) }
+        ensures kept { (self.new.renderer ≡ self.old.renderer) × (self.new.choice ≡ self.old.choice)
+            × (self.new.tally ≡ self.old.tally) }
+        ensures seen { self.new.seen ≡ self.old.seen }
+        ensures sources { self.new.sources ≡ self.old.sources }
+    {
+        match self.renderer.markup {
+            Markup::Html => article_in(self.alloc, &mut self.page, diagnostic, text.as_str()),
+            Markup::Bare | Markup::Markdown => Ok(text),
         }
     }
 

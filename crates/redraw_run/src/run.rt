@@ -20,6 +20,7 @@ use crate::files::FilesUnder;
 use crate::html;
 use crate::input::draw_input;
 use crate::look::renderer_for;
+use crate::page::Page;
 use crate::write::pass;
 use output_stream::Stream;
 use program::inputs::{STANDARD_INPUT, input_name, opened};
@@ -145,6 +146,7 @@ fn draw_all<'w, R: Files + Input + AllocGlobal, W: Write, V: Write>(
         tally,
         seen: SeenDiagnostics::new(alloc),
         files: Names::new(alloc),
+        page: Page::new(alloc),
         input: STANDARD_INPUT,
         line: 0,
         own_text: None,
@@ -186,7 +188,7 @@ fn draw_document<'r, R: Files + Input + AllocGlobal, S: SourceFiles + Drop, W: W
     let markup = drawing.renderer.markup;
     html::begin(markup, out)?;
     let is_whole = draw_inputs(rt, names, drawing, out, err)?;
-    html::end(markup, out)?;
+    html::end(markup, &drawing.page, &drawing.tally, out)?;
     Ok(is_whole)
 }
 

@@ -1,4 +1,4 @@
-use Rattle.std.proofs.Common.{◌∙◌, false, inl, inr, refl, subst, true}
+use Rattle.std.proofs.Common.{◌∙◌, inl, inr, refl, subst}
 use Rattle.redraw_run.specs.Readings.{IsChosenReading}
 use Rattle.redraw_run.specs.declared.look.ReportRenderer.{ReportRenderer}
 use Rattle.redraw_run.proofs.Chosen.{first_meant, first_tried, none_meant, one_more_tried, other_meant}

@@ -14,6 +14,7 @@ returns-in_err-end-clause-cut g c =
       is_whole = c.in_ok-is_whole.is_whole;
       last = _;
       drawn = c.in_ok-is_whole.ensures.drawn;
-      closes = c.in_err-end.ensures.prints;
+      files = c.draw_inputs.new.drawing.page.files.entries;
+      closes = c.in_err-end.ensures.ends;
       is = refl;
     }))

@@ -12,8 +12,8 @@ pub returns : goal.returns
 returns g c =
     let r = c.args.renderer.now in
     let groups : List Group = c.in_ok-groups.groups.items in
-    let Shows : List ℕ → Type 0 = ShowsAs r.markup c.args.diagnostic.now.severity r.settings groups in
-    let Laws : List ℕ → Type 0 = HasLawsAs r.markup c.args.diagnostic.now.severity r.settings groups in
+    let Shows : List ℕ → Type 0 = ShowsAs r.markup r.settings groups in
+    let Laws : List ℕ → Type 0 = HasLawsAs r.markup r.settings groups in
     record {
       shows =
           IfOk-weaker c.render_fitting.result (λ text. Shows (string_bytes text) × Laws (string_bytes text))
