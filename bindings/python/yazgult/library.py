@@ -29,8 +29,8 @@ FUNCTIONS = {
 }
 HOW = f"Install the wheel of yazgult, which holds the library, or name its file in the environment variable {VARIABLE}."
 
-# How much room an answer gets before its length is known, in bytes.
-ROOM = 1 << 16
+# How much room an answer gets before its length is known, in bytes, and how much is kept of one that took more.
+ROOM, MOST_ROOM = 1 << 16, 1 << 20
 # Rooms that no call uses now.
 spare: List[Any] = []
 
@@ -86,13 +86,13 @@ def call(name: str, *given: Any, kept: Any = None) -> bytes:
     function = function_of(name)
     given = given if kept is None else (*given, kept)
     room = free_room()
-    length: int = function(*given, room, ROOM)
-    answer: bytes = room[:length]
-    spare.append(room)
-    while length > len(answer):
-        larger = ctypes.create_string_buffer(length)
+    length: int = function(*given, room, len(room))
+    while length > len(room):
         if kept is not None:
             function, given = function_of("yazgult_sources_answer"), (kept,)
-        length = function(*given, larger, len(larger))
-        answer = larger[:length]
+        room = ctypes.create_string_buffer(length)
+        length = function(*given, room, len(room))
+    answer: bytes = room[:length]
+    if len(room) <= MOST_ROOM:
+        spare.append(room)
     return answer
