@@ -18,6 +18,8 @@ NO, YES = b"\0", b"\1"
 number: Callable[[int], bytes] = Struct("<Q").pack
 ONE = number(1)
 two_numbers: Callable[[int, int], bytes] = Struct("<QQ").pack
+# What stands before a text that may be left out, and isn't: that it is there, and its length.
+some: Callable[[bool, int], bytes] = Struct("<?Q").pack
 
 KINDS = {kind: bytes([i]) for i, kind in enumerate(("error", "warning", "info", "note", "help"))}
 MARKS = {kind: bytes([i]) for i, kind in enumerate(("primary", "context", "visible"))}
@@ -136,7 +138,17 @@ def text_if(value: Any) -> bytes:
     if value is None:
         return NO
     encoded = encode(value)
-    return YES + number(len(encoded)) + encoded
+    return some(True, len(encoded)) + encoded
+
+
+def add_text_if(value: Any, add: Callable[[bytes], None]) -> None:
+    """Adds a text that may be left out."""
+    if value is None:
+        add(NO)
+    else:
+        encoded = encode(value)
+        add(some(True, len(encoded)))
+        add(encoded)
 
 
 def number_if(value: Any) -> bytes:
@@ -204,9 +216,23 @@ def add_cause(snippet: Mapping[str, Any], in_bytes: bool, kept: List[Source], ma
     """Adds a source with marks."""
     marks = listed(snippet["annotations"])
     span = add_source(snippet, in_bytes, len(marks), kept, made)
+    add = made.append
     for mark in marks:
-        held = fields(mark, ANNOTATION)
-        made += (span(held), text_if(held.get("label")), MARKS[held["kind"]], flag(held.get("highlight_source"), NO))
+        held, known = mark if type(mark) is dict else fields(mark, ANNOTATION), 3
+        add(span(held))
+        if "label" in held:
+            known += 1
+            add_text_if(held["label"], add)
+        else:
+            add(NO)
+        add(MARKS[held["kind"]])
+        if "highlight_source" in held:
+            known += 1
+            add(flag(held["highlight_source"], NO))
+        else:
+            add(NO)
+        if known != len(held):
+            raise Other
     add_looks(snippet, made)
 
 
@@ -263,7 +289,10 @@ def spans_in(source: str, size: int, starts: List[int], unit: Any, in_bytes: boo
 
 def counted_span(marker: Mapping[str, Any]) -> bytes:
     """The span of a marker that counts bytes."""
-    return two_numbers(whole(marker["start"]), whole(marker["end"]))
+    start, end = marker["start"], marker["end"]
+    if type(start) is int and type(end) is int:
+        return two_numbers(start, end)
+    raise Other
 
 
 def counted_in(length: int) -> Span:
