@@ -1,3 +1,4 @@
+pub mod Cut
 pub mod Field
 pub mod Lenient
 pub mod Quick

@@ -1,9 +1,16 @@
 //! A log that is read without its results, which are most of it: where they stand in its text is kept, so that each can
 //! be read by itself.
-ghost use Rattle.std.specs.Prelude.{◌≡◌, IfOk, IfSome, Some};
-ghost use Rattle.serde_json.specs.Data.{Data, Items, Members, no_members};
+ghost use Rattle.std.specs.Prelude.{◌≡◌, ◌++◌, [], ◌∷◌, List, IfOk, IfSome, None, Some, codes, length, map, true};
+ghost use Rattle.std.specs.Global.{Vec};
+ghost use Rattle.std.specs.List.{AllZip};
+ghost use Rattle.std.specs.Str.{bytes_eq};
+ghost use Rattle.serde_json.specs.Data.{Data, Members, array, no_members, object};
 ghost use Rattle.serde_json.specs.Read.{read};
+ghost use Rattle.serde_json.specs.View.{items_of, view};
+ghost use Rattle.json_lines.specs.Cut.{AreResultsKept, AreRunsKept, IsCutOf, IsFieldKept, IsMemberKept, IsRunKept};
+ghost use Rattle.json_lines.specs.Cut.{empty_list, with_items, without_all_results, without_results};
 ghost use Rattle.json_lines.specs.Quick.{Takes, TakesItems, TakesMembers};
+ghost use Rattle.json_lines.specs.declared.cut.Stretch.{Stretch};
 
 use crate::quick::value_of;
 use json::{Reader, Scratch, Token};
@@ -36,13 +43,15 @@ pub struct CutLog {
 }
 
 /// The log that a text is, an object with runs that are objects, without their results. Nothing is said of another
-/// text, which may be a value or none. The scratch grows to the length of the text.
+/// text, which may be a value or none, as one with two lists of runs, or with two of results in a run. The scratch
+/// grows to the length of the text.
 pub fn cut_log(
     alloc: Global,
     text: &str,
     scratch: &mut Scratch,
 ) -> Result<Option<CutLog>, AllocError>
     ensures reads { IfOk result (λ found. IfSome found (λ log. (d : Data) × (read text.now ≡ Some d))) }
+    ensures cut { IfOk result (λ found. IfSome found (λ log. (d : Data) → read text.now ≡ Some d → IsCutOf d log)) }
 {
     let mut reader = Reader::new(text, scratch)?;
     let mut results = None;
@@ -56,6 +65,7 @@ pub fn cut_log(
 /// A log with what is kept of its results, if there are both.
 fn with_results(log: Option<Value>, results: Option<Vec<Vec<Stretch>>>) -> Option<CutLog>
     ensures log { IfSome result (λ cut. log ≡ Some cut.value) }
+    ensures results { IfSome result (λ cut. results ≡ Some cut.results) }
 {
     match (log, results) {
         (Some(value), Some(results)) => Some(CutLog { value, results }),
@@ -69,7 +79,9 @@ fn log_of(
     reader: &mut Reader<'_>,
     results: &mut Option<Vec<Vec<Stretch>>>,
 ) -> Result<Option<Value>, AllocError>
-    ensures takes { IfOk result (λ found. IfSome found (λ value. (d : Data) × Takes 127 reader.old reader.new d)) }
+    requires first { results.old ≡ None }
+    ensures takes { IfOk result (λ found. IfSome found (λ value. (d : Data) × Takes 127 reader.old reader.new d
+        × (view value ≡ without_all_results d) × IsFieldKept (codes "runs") AreRunsKept d results.new)) }
 {
     match reader.next() {
         Some(Token::BeginObject) => Ok(log_object(alloc, reader, results)?),
@@ -83,8 +95,11 @@ fn log_object(
     reader: &mut Reader<'_>,
     results: &mut Option<Vec<Vec<Stretch>>>,
 ) -> Result<Option<Value>, AllocError>
+    requires first { results.old ≡ None }
     ensures takes { IfOk result (λ found. IfSome found (λ value.
-        (members : Members) × TakesMembers 126 no_members reader.old reader.new members)) }
+        (members : Members) × TakesMembers 126 no_members reader.old reader.new members
+        × (view value ≡ without_all_results (object members))
+        × IsFieldKept (codes "runs") AreRunsKept (object members) results.new)) }
 {
     let mut members = Map::new(alloc);
     while let Ok(key) = reader.next_key() {
@@ -106,7 +121,9 @@ fn log_member(
     name: &str,
     results: &mut Option<Vec<Vec<Stretch>>>,
 ) -> Result<Option<Value>, AllocError>
-    ensures takes { IfOk result (λ found. IfSome found (λ value. (d : Data) × Takes 126 reader.old reader.new d)) }
+    ensures takes { IfOk result (λ found. IfSome found (λ value. (d : Data) × Takes 126 reader.old reader.new d
+        × IsMemberKept (with_items without_results) AreRunsKept (bytes_eq name.now (codes "runs"))
+        d (view value) results.old results.new)) }
 {
     if name == "runs" {
         runs_of(alloc, reader, results)
@@ -121,7 +138,8 @@ fn runs_of(
     reader: &mut Reader<'_>,
     results: &mut Option<Vec<Vec<Stretch>>>,
 ) -> Result<Option<Value>, AllocError>
-    ensures takes { IfOk result (λ found. IfSome found (λ value. (d : Data) × Takes 126 reader.old reader.new d)) }
+    ensures takes { IfOk result (λ found. IfSome found (λ value. (d : Data) × Takes 126 reader.old reader.new d
+        × IsMemberKept (with_items without_results) AreRunsKept true d (view value) results.old results.new)) }
 {
     match reader.next() {
         Some(Token::BeginArray) if results.is_none() => {
@@ -140,8 +158,10 @@ fn run_list(
     reader: &mut Reader<'_>,
     results: &mut Vec<Vec<Stretch>>,
 ) -> Result<Option<Value>, AllocError>
+    requires first { results.old.items ≡ [] }
     ensures takes { IfOk result (λ found. IfSome found (λ value.
-        (items : Items) × TakesItems 125 reader.old reader.new items)) }
+        (runs : List Data) × TakesItems 125 reader.old reader.new (items_of runs)
+        × (view value ≡ array (items_of (map without_results runs))) × AllZip IsRunKept runs results.new.items)) }
 {
     let mut runs = Vec::new(alloc);
     while !reader.take_end_array() {
@@ -159,7 +179,9 @@ fn run_of(
     reader: &mut Reader<'_>,
     results: &mut Vec<Vec<Stretch>>,
 ) -> Result<Option<Value>, AllocError>
-    ensures takes { IfOk result (λ found. IfSome found (λ value. (d : Data) × Takes 125 reader.old reader.new d)) }
+    ensures takes { IfOk result (λ found. IfSome found (λ value. (d : Data) × Takes 125 reader.old reader.new d
+        × (view value ≡ without_results d) × (own : Vec Stretch) × IsRunKept d own
+        × (results.new.items ≡ results.old.items ++ own ∷ []))) }
 {
     match reader.next() {
         Some(Token::BeginObject) => {
@@ -178,8 +200,11 @@ fn run_object(
     reader: &mut Reader<'_>,
     results: &mut Option<Vec<Stretch>>,
 ) -> Result<Option<Value>, AllocError>
+    requires first { results.old ≡ None }
     ensures takes { IfOk result (λ found. IfSome found (λ value.
-        (members : Members) × TakesMembers 124 no_members reader.old reader.new members)) }
+        (members : Members) × TakesMembers 124 no_members reader.old reader.new members
+        × (view value ≡ without_results (object members))
+        × IsFieldKept (codes "results") AreResultsKept (object members) results.new)) }
 {
     let mut members = Map::new(alloc);
     while let Ok(key) = reader.next_key() {
@@ -201,7 +226,9 @@ fn run_member(
     name: &str,
     results: &mut Option<Vec<Stretch>>,
 ) -> Result<Option<Value>, AllocError>
-    ensures takes { IfOk result (λ found. IfSome found (λ value. (d : Data) × Takes 124 reader.old reader.new d)) }
+    ensures takes { IfOk result (λ found. IfSome found (λ value. (d : Data) × Takes 124 reader.old reader.new d
+        × IsMemberKept empty_list AreResultsKept (bytes_eq name.now (codes "results"))
+        d (view value) results.old results.new)) }
 {
     if name == "results" {
         results_of(alloc, reader, results)
@@ -216,7 +243,8 @@ fn results_of(
     reader: &mut Reader<'_>,
     results: &mut Option<Vec<Stretch>>,
 ) -> Result<Option<Value>, AllocError>
-    ensures takes { IfOk result (λ found. IfSome found (λ value. (d : Data) × Takes 124 reader.old reader.new d)) }
+    ensures takes { IfOk result (λ found. IfSome found (λ value. (d : Data) × Takes 124 reader.old reader.new d
+        × IsMemberKept empty_list AreResultsKept true d (view value) results.old results.new)) }
 {
     match reader.next() {
         Some(Token::BeginArray) if results.is_none() => match result_list(alloc, reader)? {
@@ -233,7 +261,8 @@ fn results_of(
 /// Where the results of the list stand that come next: each is read, and let go.
 fn result_list(alloc: Global, reader: &mut Reader<'_>) -> Result<Option<Vec<Stretch>>, AllocError>
     ensures takes { IfOk result (λ found. IfSome found (λ kept.
-        (items : Items) × TakesItems 123 reader.old reader.new items)) }
+        (results : List Data) × TakesItems 123 reader.old reader.new (items_of results)
+        × (length kept.items ≡ length results))) }
 {
     let mut kept = Vec::new(alloc);
     while !reader.take_end_array() {
