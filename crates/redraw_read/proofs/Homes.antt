@@ -1,9 +1,22 @@
--- The files of a package are no part of what a diagnostic is read as.
-use Rattle.std.proofs.Common.{◌≡◌, Bool, List, ℕ, Option, None, Some, String, ap}
+-- What a diagnostic is headed by stays, and the files of a package are no part of what it is read as.
+use Rattle.std.proofs.Common.{◌≡◌, ◌∙◌, Bool, List, ℕ, Option, None, Some, String, ap, option_map, string_bytes}
 use Rattle.std.specs.Global.{Global, Vec}
 use Rattle.serde_json.specs.Data.{Data}
 use Rattle.redraw_report.specs.declared.diagnostic.Diagnostic.{Diagnostic}
 use Rattle.redraw_read.specs.Rustc.{IsReadAs, IsShownBy}
+use Rattle.redraw_read.specs.Told.{IsHeaded, KeepsHeading, code_seen}
+
+-- what is headed as a value says stays so, where the level, the message and the code stay
+pub headed_as : (d : Data) (old new : Diagnostic) → IsHeaded d old → KeepsHeading old new → IsHeaded d new
+headed_as d old new is keeps = record {
+  heading = record {
+    level = rw keeps.severity is.heading.level;
+    text = is.heading.text;
+    said = is.heading.said;
+    is = ap string_bytes keeps.message ∙ is.heading.is;
+  };
+  code = ap (option_map code_seen) keeps.code ∙ is.code;
+}
 
 shows_homes : (first : Bool) (text : Option (List ℕ)) (old new : Diagnostic) (homes : Vec (String Global)) → IsShownBy first text old new
     → IsShownBy first text (record old { homes = homes }) (record new { homes = homes })
@@ -16,6 +29,7 @@ shows_homes first (Some text) old new homes shows = (
 
 pub reads_homes : (d : Data) (diagnostic : Diagnostic) (homes : Vec (String Global)) → IsReadAs d diagnostic → IsReadAs d (record diagnostic { homes = homes })
 reads_homes d diagnostic homes reads = record {
+  headed = record { heading = reads.headed.heading; code = reads.headed.code };
   reader = reads.reader;
   told = record reads.told { homes = homes };
   tells = record {

@@ -82,9 +82,10 @@ are_several spans = nat_lt 1 (length spans) && list_any (λ (s : FileSpan). not 
 abbrev pub has_several : Diagnostic → Bool
 has_several d = are_several d.spans.items || list_any (λ (c : Child). are_several c.spans.items) d.children.items
 
--- what a value of rustc's JSON is read as: the diagnostic that it describes, as its own text shows it. Where places are several, one of
--- them without lines, only the heading is told
+-- what a value of rustc's JSON is read as: it has the level, the message and the code that the value says, and is the diagnostic that it
+-- describes, as its own text shows it. Where places are several, one of them without lines, the level, message and code alone are told
 pub record IsReadAs (d : Data) (result : Diagnostic) : Type 0 where
+  pub headed : IsHeaded d result
   pub reader : Reader
   pub told : Diagnostic
   pub tells : IsToldBy reader d told

@@ -29,7 +29,6 @@ use std::alloc::{AllocError, Global};
 /// The diagnostic that a value describes, by this reading, with its suggestions as its own text shows them, where it
 /// has that.
 pub fn diagnostic_by(node: &Node<'_, '_>, reading: Reading) -> Result<Diagnostic, Fault>
-    ensures headed { IfOk result (IsHeaded (view node.now.value.now)) }
     ensures read { IfOk result (IsReadAs (view node.now.value.now)) }
 {
     let text = whole_text(node)?;

@@ -77,7 +77,7 @@ fn is_unseen(span: &FileSpan) -> bool
     span.carried.is_none()
 }
 
-/// The same by a text, which may have styles.
+/// A diagnostic, with its places apart by their files as this text has them, which may have styles.
 fn apart_by(alloc: Global, text: &str, diagnostic: Diagnostic) -> Result<Diagnostic, AllocError>
     ensures headed { IfOk result (KeepsHeading diagnostic) }
 {
