@@ -1,9 +1,11 @@
 pub mod Bases
 pub mod Cutting
 pub mod GoingOn
+pub mod Indexing
 pub mod LastChanged
 pub mod LinkLemmas
 pub mod ListLemmas
 pub mod Listed
+pub mod Naming
 pub mod Rows
 pub mod Saying

@@ -43,7 +43,7 @@ listed None = refl
 listed (Some d) = ap values (list_but_null d)
 
 -- one value more
-seen_more : (vs : List Value) (i : ℕ) (v : Value) → i < length vs → v ≡ get_or vs i v → map view (take (i + 1) vs) ≡ map view (take i vs) ++ view v ∷ []
+pub seen_more : (vs : List Value) (i : ℕ) (v : Value) → i < length vs → v ≡ get_or vs i v → map view (take (i + 1) vs) ≡ map view (take i vs) ++ view v ∷ []
 seen_more vs i v within is = map_more view vs i v within ∙ ap (λ w. map view (take i vs) ++ view w ∷ []) (sym is)
 
 pub kept_more : {Y : Type 0} (f : Data → Option Y) (vs : List Value) (i : ℕ) (v : Value) → i < length vs → v ≡ get_or vs i v

@@ -15,6 +15,7 @@ pub mod Primary
 pub mod Region
 pub mod Result
 pub mod Rule
+pub mod RuleIndex
 pub mod Said
 pub mod Steps
 pub mod Told

@@ -1,5 +1,5 @@
 -- What a report of a SARIF log's result has: its level, its name, its message, and its places.
-use Rattle.std.specs.Prelude.{◌≡◌, List, Option, codes, string_bytes}
+use Rattle.std.specs.Prelude.{◌≡◌, List, codes, string_bytes}
 use Rattle.serde_json.specs.Data.{Data}
 use Rattle.json_lines.specs.Lenient.{object_at}
 use Rattle.redraw_report.specs.declared.diagnostic.Diagnostic.{Diagnostic}
@@ -7,7 +7,7 @@ use Rattle.redraw_report.specs.declared.diagnostic.FileSpan.{FileSpan}
 use Rattle.redraw_report.specs.declared.diagnostic.Unit.{Unit}
 use Rattle.redraw_tools.specs.Message.{IsMessage}
 use Rattle.redraw_tools.specs.Places.{ArePlaces, GoesOn}
-use Rattle.redraw_tools.specs.Rule.{code_view, level_of, name_of}
+use Rattle.redraw_tools.specs.Rule.{code_view, level_of, name_of, rule_in}
 use Rattle.redraw_tools.specs.Units.{result_unit}
 
 -- the places of a result come first, and those of the steps of its code flow after them
@@ -15,12 +15,11 @@ abbrev pub ArePlacesAndSteps : Data → Unit → Data → List FileSpan → Type
 ArePlacesAndSteps run unit result spans =
     (own : List FileSpan) × ArePlaces run unit result own × GoesOn own spans
 
--- the same and its level, name and message, by a rule, if it has one
+-- the same and its level, name and message, by its rule, if it has one
 pub record IsTold (run : Data) (unit : Unit) (result : Data) (told : Diagnostic) : Type 0 where
-  pub rule : Option Data
-  pub level : told.severity ≡ level_of result rule
-  pub name : code_view told.code ≡ name_of told.severity result rule
-  pub message : IsMessage (object_at (codes "message") result) rule (string_bytes told.message)
+  pub level : told.severity ≡ level_of result (rule_in run result)
+  pub name : code_view told.code ≡ name_of told.severity result (rule_in run result)
+  pub message : IsMessage (object_at (codes "message") result) (rule_in run result) (string_bytes told.message)
   pub places : ArePlacesAndSteps run unit result told.spans.items
 
 -- the same where the columns of the run count in this unit

@@ -1,21 +1,27 @@
--- How severe a result of a SARIF log is, and the name that its report has: by the result, and by its rule where there is one.
-use Rattle.std.specs.Prelude.{ℕ, Bool, false, ◌||◌, List, Option, Some, None, codes, unwrap_or, string_bytes}
+-- Which rule a result of a SARIF log has, how severe it is, and the name that its report has: by the result, and by its rule.
+use Rattle.std.specs.Prelude.{ℕ, zero, suc, Bool, false, ◌||◌, List, [], ◌∷◌, Option, Some, None, codes, length, unwrap_or, string_bytes}
 use Rattle.std.specs.Prelude.{bytes_eq, if◌then◌else◌, option_and_then, option_map}
 use Rattle.std.specs.Char.{is_ascii_digit}
-use Rattle.std.specs.List.{list_all}
-use Rattle.std.specs.Option.{option_or}
+use Rattle.std.specs.List.{list_all, slice_get}
+use Rattle.std.specs.Option.{option_map_or, option_or}
 use Rattle.serde_json.specs.Data.{Data}
-use Rattle.serde_json.specs.Find.{as_str, get}
+use Rattle.serde_json.specs.Find.{as_array, as_str, get}
 use Rattle.serde_json.specs.View.{view}
-use Rattle.json_lines.specs.Lenient.{field_in, text_at, text_in}
+use Rattle.json_lines.specs.Field.{as_whole, text_field}
+use Rattle.json_lines.specs.Lenient.{field_in, number_at, object_at, text_at, text_in, values}
 use Rattle.redraw_report.specs.declared.diagnostic.Code.{Code}
 use Rattle.redraw_report.specs.declared.diagnostic.Severity.{Severity}
 use Rattle.redraw_report.specs.declared.diagnostic.Severity.TheVariants.{Error, Warning, Info, Note, Help, Plain}
+use Rattle.redraw_tools.specs.Cut.{Parts, parted_last}
 use Rattle.redraw_tools.specs.declared.rule.SarifRule.{SarifRule}
 
 -- the rule of a result, where its tool has it
 abbrev pub rule_data : SarifRule → Option Data
 rule_data rule = option_map (λ v. view v.now) rule.rule
+
+-- the part of the tool that has it
+abbrev pub part_data : SarifRule → Option Data
+part_data rule = option_map (λ v. view v.now) rule.component
 
 -- the level of a name: `none` is a note too
 abbrev pub level_named : List ℕ → Option Severity
@@ -91,3 +97,56 @@ said_name severity result rule = option_and_then (if_said severity) (any_name re
 
 abbrev pub name_of : Severity → Data → Option Data → Option Named
 name_of severity result rule = option_map (λ name. (name, text_in (codes "helpUri") rule)) (said_name severity result rule)
+
+-- the values of the list in the field of a name in what is there
+abbrev pub items_in : List ℕ → Option Data → List Data
+items_in name d = values (option_and_then as_array (field_in name d))
+
+-- a part of the tool of a run: the extension with this number, and the driver where none is named
+abbrev pub tool_part : Data → Option ℕ → Option Data
+tool_part run None = field_in (codes "driver") (get (codes "tool") run)
+tool_part run (Some number) = slice_get (items_in (codes "extensions") (get (codes "tool") run)) number
+
+-- the part of the tool that has the rule of a result
+abbrev pub extension_in : Data → Option ℕ
+extension_in result = option_and_then as_whole (field_in (codes "index") (field_in (codes "toolComponent") (get (codes "rule") result)))
+
+abbrev pub part_with_rule : Data → Data → Option Data
+part_with_rule run result = tool_part run (extension_in result)
+
+-- whether a rule has this id, which isn't empty
+abbrev pub has_id : List ℕ → Data → Bool
+has_id [] rule = false
+has_id (c ∷ cs) rule = option_map_or (λ own. bytes_eq own (c ∷ cs)) (text_field (codes "id") rule) false
+
+-- the number of the first of some rules that has this id
+abbrev pub first_with : List ℕ → List Data → Option ℕ
+first_with id [] = None
+first_with id (rule ∷ rules) = if has_id id rule then Some 0 else option_map suc (first_with id rules)
+
+-- a name without its last part, as `CA1000` of `CA1000/1`
+abbrev pub shorter : List ℕ → Option (List ℕ)
+shorter name = option_map (λ (p : Parts). p.0) (parted_last (47 ∷ []) name)
+
+-- the number of the first rule of this id, or else of the longest id of which it is a part, of so many that are tried
+abbrev pub named_within : ℕ → List Data → List ℕ → Option ℕ
+named_within zero rules id = None
+named_within (suc n) rules id = option_or (first_with id rules) (option_and_then (named_within n rules) (shorter id))
+
+abbrev pub named : List Data → List ℕ → Option ℕ
+named rules id = named_within (length id) rules id
+
+-- the number of its rule that a result has
+abbrev pub own_number : Data → Option ℕ
+own_number result = option_or (option_and_then (number_at (codes "index")) (object_at (codes "rule") result)) (number_at (codes "ruleIndex") result)
+
+-- the number of a result's rule among these: its own, else that of the first with its id
+abbrev pub rule_number : List Data → Data → Option ℕ
+rule_number rules result = option_or (own_number result) (named rules (unwrap_or (own_id result) []))
+
+-- the rule of a result, where the part of the tool has it
+abbrev pub rule_among : List Data → Data → Option Data
+rule_among rules result = option_and_then (slice_get rules) (rule_number rules result)
+
+abbrev pub rule_in : Data → Data → Option Data
+rule_in run result = rule_among (items_in (codes "rules") (part_with_rule run result)) result

@@ -1,15 +1,19 @@
 //! The rule that a result breaks, and how severe that is.
-ghost use Rattle.std.specs.Prelude.{◌≡◌, IfOk, codes, option_map, string_bytes};
+ghost use Rattle.std.specs.Prelude.{◌≡◌, [], IfOk, codes, option_and_then, option_map, string_bytes, unwrap_or};
+ghost use Rattle.std.specs.List.{slice_get};
+ghost use Rattle.std.specs.Option.{option_or};
+ghost use Rattle.serde_json.specs.Data.{Data};
 ghost use Rattle.serde_json.specs.View.{view};
 ghost use Rattle.json_lines.specs.Field.{lent_text};
 ghost use Rattle.json_lines.specs.Lenient.{field_in, text_in};
 ghost use Rattle.redraw_tools.specs.Rule as spec;
-ghost use Rattle.redraw_tools.specs.Rule.{level_of, name_of, rule_data};
+ghost use Rattle.redraw_tools.specs.Rule.{items_in, level_of, name_of, named, part_data, rule_data};
+ghost use Rattle.redraw_tools.specs.RuleIndex.{AreIndexesOf};
 
 use crate::cut::are_digits;
 use crate::expectation::SarifExpectation;
 use crate::parts;
-use crate::rules::RunRules;
+use crate::rules::{RunRules, rules_of, tool_part};
 use json_lines::lenient::{LenientNode, Problems, field_at, text_at};
 use redraw_report::diagnostic::{Code, Severity};
 use serde_json::Value;
@@ -60,28 +64,55 @@ fn text_of_string<'v>(strings: Option<&'v Value>, id: &str) -> Option<&'v str> {
     text_at(field_at(strings, id), "text")
 }
 
-/// The rule of a result: by its number, or else by its id. Where it is the number of no rule, that is reported.
+/// The rule of a result of this run: by its number, or else by its id. Where it is the number of no rule, that is
+/// reported.
 pub fn rule_of<'v>(
     rules: &RunRules<'v>,
+    run: &'v Value,
     reported: &LenientNode<'_, '_>,
     problems: &mut Problems,
-) -> SarifRule<'v> {
+) -> SarifRule<'v>
+    requires indexed { AreIndexesOf rules.now (view run.now) }
+    ensures rule { rule_data result ≡ spec.rule_in (view run.now) (view reported.now.value.now) }
+    ensures part { part_data result ≡ spec.part_with_rule (view run.now) (view reported.now.value.now) }
+{
     let index = index_of(reported, problems);
-    let part = rules.part(extension_of(reported.value));
-    let rule = match (part, index) {
-        (Some(part), Some(index)) => part.rules.get(index),
-        (Some(part), None) => part.rule_by_id(id_of(reported.value).unwrap_or("")),
-        (None, _) => None,
-    };
+    let component = tool_part(run, extension_of(reported.value));
+    let number = number_of(index, rules, reported.value);
+    let rule = rule_at(component, number);
     if index.is_some() && rule.is_none() {
         reported.tell(problems, SarifExpectation::Rule);
     }
-    let component = part.and_then(|part| part.part);
     SarifRule { component, rule }
 }
 
+/// The rule of a part of the tool with this number.
+fn rule_at<'v>(part: Option<&'v Value>, number: Option<usize>) -> Option<&'v Value>
+    ensures value { option_map (λ v. view v.now) result
+        ≡ option_and_then (slice_get (items_in (codes "rules") (option_map (λ v. view v.now) part.entry))) number }
+{
+    match number {
+        Some(number) => rules_of(part).get(number),
+        None => None,
+    }
+}
+
+/// The number of a result's rule: this one, which it says, else that of the rule with its id.
+fn number_of(index: Option<usize>, rules: &RunRules<'_>, reported: &Value) -> Option<usize>
+    ensures value { (run : Data) → AreIndexesOf rules.now run → result ≡ option_or index
+        (named (items_in (codes "rules") (spec.part_with_rule run (view reported.now)))
+        (unwrap_or (spec.own_id (view reported.now)) [])) }
+{
+    match index {
+        Some(index) => Some(index),
+        None => rules.number(extension_of(reported), id_of(reported).unwrap_or("")),
+    }
+}
+
 /// The number of the rule that a result names.
-fn index_of(reported: &LenientNode<'_, '_>, problems: &mut Problems) -> Option<usize> {
+fn index_of(reported: &LenientNode<'_, '_>, problems: &mut Problems) -> Option<usize>
+    ensures value { result ≡ spec.own_number (view reported.now.value.now) }
+{
     let own = reported.number("ruleIndex", problems);
     match reported.object("rule", problems) {
         Some(reference) => reference.number("index", problems).or(own),
@@ -90,10 +121,11 @@ fn index_of(reported: &LenientNode<'_, '_>, problems: &mut Problems) -> Option<u
 }
 
 /// The number of the extension that a result names.
-fn extension_of(reported: &Value) -> Option<u64> {
-    reported
-        .pointer("/rule/toolComponent/index")
-        .and_then(Value::as_u64)
+fn extension_of(reported: &Value) -> Option<u64>
+    ensures value { result ≡ spec.extension_in (view reported.now) }
+{
+    let component = field_at(reported.get("rule"), "toolComponent");
+    field_at(component, "index").and_then(Value::as_u64)
 }
 
 /// The id of the rule as a result has it.

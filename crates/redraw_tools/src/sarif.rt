@@ -1,12 +1,14 @@
 //! The runs of a log, and the findings of their results.
-ghost use Rattle.std.specs.Prelude.{◌≡◌, IfOk, MatchOption, None, codes, map, string_bytes};
+ghost use Rattle.std.specs.Prelude.{◌≡◌, IfOk, IfSome, MatchOption, None, codes, map, string_bytes};
+ghost use Rattle.std.proofs.Props.{props};
 ghost use Rattle.serde_json.specs.View.{view};
 ghost use Rattle.serde_json.specs.Find.{as_object};
 ghost use Rattle.json_lines.specs.Lenient.{list_at, object_at};
 ghost use Rattle.redraw_tools.specs.Message.{IsMessage, description};
 ghost use Rattle.redraw_tools.specs.Places.{ArePlaces};
 ghost use Rattle.redraw_tools.specs.Result.{ArePlacesAndSteps, IsResultOf, IsTold};
-ghost use Rattle.redraw_tools.specs.Rule.{rule_data};
+ghost use Rattle.redraw_tools.specs.Rule.{rule_data, rule_in};
+ghost use Rattle.redraw_tools.specs.RuleIndex.{AreIndexesOf};
 ghost use Rattle.redraw_tools.specs.Units as units;
 
 use crate::fixes::add_fixes;
@@ -33,7 +35,9 @@ pub struct SarifRun<'v, 'p> {
     node: LenientNode<'v, 'p>,
     /// What its columns count.
     unit: Unit,
-    rules: RunRules<'v>,
+    /// The numbers of its rules; none where memory was refused for them.
+    rules: Option<RunRules<'v>>,
+    ghost indexed: { IfSome rules (λ r. AreIndexesOf r (view node.value.now)) } by { Prim.hlevel props },
 }
 
 impl<'v, 'p> SarifRun<'v, 'p> {
@@ -74,11 +78,14 @@ impl<'v, 'p> SarifRun<'v, 'p> {
         if !reported.is_object(problems) {
             return Ok(None);
         }
+        let Some(rules) = &self.rules else {
+            return Err(AllocError);
+        };
         let room = Cell::new(MOST_BYTES);
         let context = Context {
             alloc,
             run: self.node.value,
-            rule: rule_of(&self.rules, reported, problems),
+            rule: rule_of(rules, self.node.value, reported, problems),
             unit: result_unit(self.unit, reported.value),
             room: &room,
         };
@@ -86,13 +93,15 @@ impl<'v, 'p> SarifRun<'v, 'p> {
     }
 }
 
-/// The rules of a run; none where memory is refused, which is reported.
-fn rules_of<'v>(alloc: Global, run: &'v Value, problems: &mut Problems) -> RunRules<'v> {
+/// The numbers of a run's rules; none where memory is refused, which is reported.
+fn rules_of<'v>(alloc: Global, run: &'v Value, problems: &mut Problems) -> Option<RunRules<'v>>
+    ensures indexed { IfSome result (λ r. AreIndexesOf r (view run.now)) }
+{
     match RunRules::new(alloc, run) {
-        Ok(rules) => rules,
+        Ok(rules) => Some(rules),
         Err(AllocError) => {
             problems.is_refused = true;
-            RunRules::none(alloc)
+            None
         }
     }
 }
@@ -103,6 +112,7 @@ fn diagnostic_of(
     context: &Context<'_, '_>,
     problems: &mut Problems,
 ) -> Result<Diagnostic, AllocError>
+    requires rule { rule_data context.now.rule ≡ rule_in (view context.now.run.now) (view reported.now.value.now) }
     ensures is { IfOk result (IsTold (view context.now.run.now) context.now.unit (view reported.now.value.now)) }
 {
     let severity = severity_of(reported, &context.rule, problems);
