@@ -8,4 +8,3 @@ pub mod ListLemmas
 pub mod Listed
 pub mod Naming
 pub mod Rows
-pub mod Saying

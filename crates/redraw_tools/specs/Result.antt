@@ -5,9 +5,9 @@ use Rattle.json_lines.specs.Lenient.{object_at}
 use Rattle.redraw_report.specs.declared.diagnostic.Diagnostic.{Diagnostic}
 use Rattle.redraw_report.specs.declared.diagnostic.FileSpan.{FileSpan}
 use Rattle.redraw_report.specs.declared.diagnostic.Unit.{Unit}
-use Rattle.redraw_tools.specs.Message.{IsMessage}
+use Rattle.redraw_tools.specs.Message.{message_of}
 use Rattle.redraw_tools.specs.Places.{ArePlaces, GoesOn}
-use Rattle.redraw_tools.specs.Rule.{code_view, level_of, name_of, rule_in}
+use Rattle.redraw_tools.specs.Rule.{code_view, level_of, name_of, part_with_rule, rule_in}
 use Rattle.redraw_tools.specs.Units.{result_unit}
 
 -- the places of a result come first, and those of the steps of its code flow after them
@@ -19,7 +19,8 @@ ArePlacesAndSteps run unit result spans =
 pub record IsTold (run : Data) (unit : Unit) (result : Data) (told : Diagnostic) : Type 0 where
   pub level : told.severity ≡ level_of result (rule_in run result)
   pub name : code_view told.code ≡ name_of told.severity result (rule_in run result)
-  pub message : IsMessage (object_at (codes "message") result) (rule_in run result) (string_bytes told.message)
+  pub message : string_bytes told.message
+      ≡ message_of (part_with_rule run result) (rule_in run result) (object_at (codes "message") result)
   pub places : ArePlacesAndSteps run unit result told.spans.items
 
 -- the same where the columns of the run count in this unit

@@ -150,3 +150,11 @@ rule_among rules result = option_and_then (slice_get rules) (rule_number rules r
 
 abbrev pub rule_in : Data → Data → Option Data
 rule_in run result = rule_among (items_in (codes "rules") (part_with_rule run result)) result
+
+-- the text of this name among the strings of this kind that a rule or a part of the tool has
+abbrev pub string_in : List ℕ → List ℕ → Option Data → Option (List ℕ)
+string_in strings name d = text_in (codes "text") (field_in name (field_in strings d))
+
+-- the text of this name that a rule has, else that of the part of the tool
+abbrev pub message_string : Option Data → Option Data → List ℕ → Option (List ℕ)
+message_string part rule name = option_or (string_in (codes "messageStrings") name rule) (string_in (codes "globalMessageStrings") name part)

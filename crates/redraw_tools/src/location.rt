@@ -4,9 +4,10 @@ ghost use Rattle.std.specs.Prelude.{string_bytes};
 ghost use Rattle.std.specs.List.{filter_map, flat_map};
 ghost use Rattle.serde_json.specs.View.{view};
 ghost use Rattle.json_lines.specs.Lenient.{object_at};
-ghost use Rattle.redraw_tools.specs.Message.{SaysText};
+ghost use Rattle.redraw_tools.specs.Message.{MaySay};
 ghost use Rattle.redraw_tools.specs.Places as spec;
 ghost use Rattle.redraw_tools.specs.Places.{annotation_in, annotations_of, part_of, place_in, placed, span_view};
+ghost use Rattle.redraw_tools.specs.Rule.{part_data, rule_data};
 
 use crate::message::part_text_in;
 use crate::parts::START;
@@ -71,7 +72,8 @@ fn span_of(
     ensures value { IfOk result (λ span. option_map span_view span
         ≡ place_in (view context.now.run.now) context.now.unit is_primary (view location.now.value.now)) }
     ensures label { IfOk result (λ span. IfSome span (λ place.
-        SaysText (object_at (codes "message") (view location.now.value.now)) (option_map string_bytes place.label))) }
+        MaySay (part_data context.now.rule) (rule_data context.now.rule)
+        (object_at (codes "message") (view location.now.value.now)) (option_map string_bytes place.label))) }
 {
     if !location.is_object(problems) {
         return Ok(None);
@@ -135,7 +137,8 @@ fn annotation_of(
         ≡ annotation_in (view context.now.run.now) context.now.unit (view location.now.value.now)
         (view region.now.value.now)) }
     ensures label { IfOk result (λ span. IfSome span (λ place.
-        SaysText (object_at (codes "message") (view region.now.value.now)) (option_map string_bytes place.label))) }
+        MaySay (part_data context.now.rule) (rule_data context.now.rule)
+        (object_at (codes "message") (view region.now.value.now)) (option_map string_bytes place.label))) }
 {
     let Some(place) = place_at(location, context, problems)? else {
         return Ok(None);
@@ -157,8 +160,8 @@ pub fn message_at(
     context: &Context<'_, '_>,
     problems: &mut Problems,
 ) -> Result<Option<String>, AllocError>
-    ensures says { IfOk result (λ found.
-        SaysText (object_at (codes "message") (view location.now.value.now)) (option_map string_bytes found)) }
+    ensures says { IfOk result (λ found. MaySay (part_data context.now.rule) (rule_data context.now.rule)
+        (object_at (codes "message") (view location.now.value.now)) (option_map string_bytes found)) }
 {
     part_text_in(location, "message", context, problems)
 }

@@ -37,7 +37,9 @@ impl<'v> SarifRule<'v> {
     }
 
     /// The text of the rule's, or else of the component's, message strings by this name.
-    pub fn message_string(&self, id: &str) -> Option<&'v str> {
+    pub fn message_string(&self, id: &str) -> Option<&'v str>
+        ensures value { lent_text result ≡ spec.message_string (part_data self.now) (rule_data self.now) id.now }
+    {
         let own = text_of_string(field_at(self.rule, "messageStrings"), id);
         own.or(text_of_string(field_at(self.component, "globalMessageStrings"), id))
     }
@@ -60,7 +62,10 @@ impl<'v> SarifRule<'v> {
 }
 
 /// The text of the message string of this id.
-fn text_of_string<'v>(strings: Option<&'v Value>, id: &str) -> Option<&'v str> {
+fn text_of_string<'v>(strings: Option<&'v Value>, id: &str) -> Option<&'v str>
+    ensures value { lent_text result
+        ≡ text_in (codes "text") (field_in id.now (option_map (λ v. view v.now) strings.entry)) }
+{
     text_at(field_at(strings, id), "text")
 }
 

@@ -4,10 +4,11 @@ ghost use Rattle.std.proofs.Props.{props};
 ghost use Rattle.serde_json.specs.View.{view};
 ghost use Rattle.serde_json.specs.Find.{as_object};
 ghost use Rattle.json_lines.specs.Lenient.{list_at, object_at};
-ghost use Rattle.redraw_tools.specs.Message.{IsMessage, description};
+ghost use Rattle.redraw_tools.specs.Message as message;
+ghost use Rattle.redraw_tools.specs.Message.{description};
 ghost use Rattle.redraw_tools.specs.Places.{ArePlaces};
 ghost use Rattle.redraw_tools.specs.Result.{ArePlacesAndSteps, IsResultOf, IsTold};
-ghost use Rattle.redraw_tools.specs.Rule.{rule_data, rule_in};
+ghost use Rattle.redraw_tools.specs.Rule.{part_data, part_with_rule, rule_data, rule_in};
 ghost use Rattle.redraw_tools.specs.RuleIndex.{AreIndexesOf};
 ghost use Rattle.redraw_tools.specs.Units as units;
 
@@ -113,6 +114,8 @@ fn diagnostic_of(
     problems: &mut Problems,
 ) -> Result<Diagnostic, AllocError>
     requires rule { rule_data context.now.rule ≡ rule_in (view context.now.run.now) (view reported.now.value.now) }
+    requires part { part_data context.now.rule
+        ≡ part_with_rule (view context.now.run.now) (view reported.now.value.now) }
     ensures is { IfOk result (IsTold (view context.now.run.now) context.now.unit (view reported.now.value.now)) }
 {
     let severity = severity_of(reported, &context.rule, problems);
@@ -135,8 +138,8 @@ fn message_of(
     context: &Context<'_, '_>,
     problems: &mut Problems,
 ) -> Result<String, AllocError>
-    ensures is { IfOk result (λ text. IsMessage (object_at (codes "message") (view reported.now.value.now))
-        (rule_data context.now.rule) (string_bytes text)) }
+    ensures is { IfOk result (λ text. string_bytes text ≡ message.message_of (part_data context.now.rule)
+        (rule_data context.now.rule) (object_at (codes "message") (view reported.now.value.now))) }
 {
     match text_in(reported, "message", context, problems)? {
         Some(text) => Ok(text),
