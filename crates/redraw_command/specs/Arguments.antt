@@ -156,7 +156,7 @@ look_of found = record {
   width = option_and_then number_after_plus (first_of (codes "width") found);
 }
 
--- which findings are drawn, and in which form, by what is found
+-- which findings are read and drawn, and in which form, by what is found
 pub record IsChoiceOf (found : List Row) (c : Choice) : Type 0 where
   pub form : c.form ≡ form_of (was_given (codes "verify") found) (was_given (codes "github") found)
   pub least : c.least ≡ least_of (first_of (codes "level") found)
@@ -164,6 +164,7 @@ pub record IsChoiceOf (found : List Row) (c : Choice) : Type 0 where
   pub duplicates : c.has_duplicates ≡ was_given (codes "duplicates") found
   pub quiet : c.is_quiet ≡ was_given (codes "quiet") found
   pub lines : c.reads_lines ≡ was_given (codes "lines") found
+  pub columns : c.columns ≡ option_and_then unit_of (first_of (codes "columns") found)
 
 -- the names of files, if there are some
 abbrev pub names_at : Option (Bor (List (Bor Argument))) → Option (List Argument)
@@ -176,7 +177,6 @@ pub record IsRequestOf (found : List Row) (r : RedrawRequest) : Type 0 where
   pub root : argument_at r.root ≡ first_of (codes "root") found
   pub confined_lines : r.confines_lines ≡ was_given (codes "confined") found
   pub confined_logs : r.confines_logs ≡ (was_given (codes "confined") found || not (was_given (codes "unconfined") found))
-  pub columns : r.columns ≡ option_and_then unit_of (first_of (codes "columns") found)
   pub choice : IsChoiceOf found r.choice
   pub inputs : names_at r.inputs ≡ all_of (codes "inputs") found
 

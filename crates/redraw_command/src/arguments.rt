@@ -31,8 +31,6 @@ pub struct RedrawRequest<'w, 'a> {
     pub confines_lines: bool,
     /// Whether only files below the folder are read for SARIF logs.
     pub confines_logs: bool,
-    /// What the columns of inputs count, where that is said.
-    pub columns: Option<Unit>,
     /// Which findings are drawn, and in which form.
     pub choice: Choice<'a>,
     /// The inputs that are read; standard input where none are named.
@@ -293,7 +291,6 @@ pub fn request_of<'w, 'a>(matches: &'w ArgMatches<'a>) -> RedrawRequest<'w, 'a>
             was_given(matches, "confined"),
             was_given(matches, "unconfined"),
         ),
-        columns: unit_of(argument_after(matches, "columns")),
         choice: choice_of(matches),
         inputs: inputs_of(matches),
     }
@@ -385,6 +382,7 @@ fn choice_of<'a>(matches: &ArgMatches<'a>) -> Choice<'a>
         has_duplicates: was_given(matches, "duplicates"),
         is_quiet: was_given(matches, "quiet"),
         reads_lines: was_given(matches, "lines"),
+        columns: unit_of(argument_after(matches, "columns")),
         folder: None,
     }
 }

@@ -5,7 +5,7 @@ ghost use Rattle.redraw_command.specs.Arguments.{argument_at};
 ghost use Rattle.redraw_command.specs.Choice as spec;
 ghost use Rattle.redraw_command.specs.Choice.{AreIn, IsIn, IsTaken};
 
-use redraw_report::diagnostic::{Diagnostic, FileSpan, Severity};
+use redraw_report::diagnostic::{Diagnostic, FileSpan, Severity, Unit};
 
 /// What a finding is written as.
 #[derive(Clone, Copy, PartialEq, Eq)]
@@ -41,6 +41,8 @@ pub struct Choice<'a> {
     pub is_quiet: bool,
     /// Whether lines of compilers are read, beside JSON.
     pub reads_lines: bool,
+    /// What the columns of inputs count, where that is said.
+    pub columns: Option<Unit>,
     /// The folder that paths are shown from, where it is known. None is known before a run begins.
     pub folder: Option<&'a str>,
 }

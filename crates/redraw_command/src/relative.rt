@@ -153,7 +153,7 @@ fn make_places_relative(
     Ok(())
 }
 
-/// The same of edits.
+/// Names the file of each of some edits, if it lies below this folder, by its path from there.
 fn make_edits_relative(
     alloc: Global,
     edits: &mut [SuggestedEdit],

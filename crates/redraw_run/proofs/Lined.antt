@@ -136,16 +136,17 @@ other_handed piece (text, is, inr (begins, none)) c ds h = (text, is, inr (inl (
 blank_handed : (piece : List ℕ) → IsOfForm piece forms.Blank → HandsOn piece
 blank_handed piece (text, is, begins) c ds h = (text, is, inl (begins, h))
 
-list_read : (piece : List ℕ) (v : Value) → IsOfForm piece (forms.List v) → (c : Choice) (ds : List Deed) → IsList piece c ds → IsFateOfPiece piece c ds
-list_read piece v (text, is, read) c ds (inl h) = (text, is, inl (read.0, h))
-list_read piece v (text, is, read) c ds (inr h) = (text, is, inr (inr (inr (read.1, h))))
+list_read : (piece : List ℕ) (v : Value) → IsOfForm piece (forms.List v) → (c : Choice) (ds : List Deed) → IsList piece (view v) c ds
+    → IsFateOfPiece piece c ds
+list_read piece v (text, is, (begins, document, reads)) c ds (inl h) = (text, is, inl (begins, h))
+list_read piece v (text, is, (begins, document, reads)) c ds (inr h) = (text, is, inr (inr (inr (document, (view v, reads, h)))))
 
 pub hands_blank : (piece : List ℕ) (f : Form) → f ≡ forms.Blank → IsOfForm piece f → HandsOn piece
 hands_blank piece f same of = blank_handed piece (subst (IsOfForm piece) same of)
 
 -- a list is handed on, or becomes what ESLint's log does
-pub list_becomes : (piece : List ℕ) (f : Form) (v : Value) → f ≡ forms.List v → IsOfForm piece f → (c : Choice) (ds : List Deed) → IsList piece c ds
-    → IsFateOfPiece piece c ds
+pub list_becomes : (piece : List ℕ) (f : Form) (v : Value) → f ≡ forms.List v → IsOfForm piece f → (c : Choice) (ds : List Deed)
+    → IsList piece (view v) c ds → IsFateOfPiece piece c ds
 list_becomes piece f v same of = list_read piece v (subst (IsOfForm piece) same of)
 
 pub hands_begun : (piece : List ℕ) (f : Form) → f ≡ forms.Begins → IsOfForm piece f → HandsOn piece
@@ -156,7 +157,7 @@ hands_other piece f same of = other_handed piece (subst (IsOfForm piece) same of
 
 object_becomes : (piece : List ℕ) (v : Value) → IsOfForm piece (forms.Object v) → (c : Choice) (ds : List Deed) → IsValue piece (view v) c ds
     → IsFateOfPiece piece c ds
-object_becomes piece v (text, is, read) c ds h = (text, is, inr (inl (read.0, inr (inr (view v, read.1, h)))))
+object_becomes piece v (text, is, read) c ds h = (text, is, inr (inl (read.0, inr (inr (inl (view v, read.1, h))))))
 
 -- an object becomes what its value does
 pub value_becomes : (piece : List ℕ) (f : Form) (v : Value) → f ≡ forms.Object v → IsOfForm piece f → (c : Choice) (ds : List Deed)
@@ -173,7 +174,7 @@ wrong_becomes piece f same of = undecoded_wrong piece (subst (IsOfForm piece) sa
 told_becomes : (piece : List ℕ) → IsOfForm piece forms.Finding → (c : Choice) (ds : List Deed) → IsFindingOrText piece c ds
     → IsFateOfPiece piece c ds
 told_becomes piece (text, is, read) c ds (inl h) = (text, is, inl (read.first, h))
-told_becomes piece (text, is, read) c ds (inr h) = (text, is, inr (inr (inl (read, h.0, h.1))))
+told_becomes piece (text, is, read) c ds (inr h) = (text, is, inr (inr (inl (read, h))))
 
 -- lines of a finding are handed on, or become what it does
 pub finding_becomes : (piece : List ℕ) (f : Form) → f ≡ forms.Finding → IsOfForm piece f → (c : Choice) (ds : List Deed) → IsFindingOrText piece c ds

@@ -1,6 +1,6 @@
 -- What no run does: what wrong bodies do about small inputs contradicts what becomes of pieces and of runs.
 use Rattle.std.proofs.Common.{◌≡◌, ◌≢◌, ◌⊎◌, ◌++◌, ◌∙◌, ◌||◌, ℕ, Bool, List, [], ◌∷◌, Option, None, Some, ap, false, if◌then◌else◌, inl, inr, refl, subst, sym}
-use Rattle.std.proofs.Common.{true}
+use Rattle.std.proofs.Common.{codes, true}
 use Rattle.serde_json.specs.Data.{Data}
 use Rattle.output_stream.specs.Standing.{Standing}
 use Rattle.redraw_command.specs.Arguments.{argument_at}
@@ -20,8 +20,12 @@ use Rattle.redraw_run.specs.declared.look.ReportRenderer.{ReportRenderer}
 use Rattle.redraw_run.specs.declared.kind.Kind.{Kind}
 use Rattle.redraw_run.specs.declared.kind.Kind.TheVariants as kind
 use Rattle.redraw_run.specs.Deeds.{State, Deed, Drawn, Commanded, Compared, HandedOn, Told, Refused, LeftOut, Repeated, BuildFailed, tally_by, with_files}
-use Rattle.redraw_run.specs.Fates.{AreMessages, AreRuns, Each, IsDiagnosed, IsFound, IsKnown}
-use Rattle.redraw_run.specs.Fates.{IsFateOfPiece, IsLog, IsReported, IsReportedAs, IsResult, IsLogRun, IsShown, IsTaking, IsWrong}
+use Rattle.redraw_run.specs.Fates.{AreMessages, AreRuns, Each, IsCutLog, IsCutRun, IsDiagnosed, IsEslintLog, IsFound, IsKnown}
+use Rattle.redraw_run.specs.Fates.{IsFateOfPiece, IsLog, IsReportedAs, IsResult, IsLogRun, IsShown, IsTaking, IsTakingRead, IsTold, IsWrong}
+use Rattle.redraw_run.specs.Logged.{IsFindingOf, document_in, items_in, results_of}
+use Rattle.redraw_tools.specs.declared.log.LogForm.{LogForm}
+use Rattle.redraw_tools.specs.declared.log.LogForm.TheVariants as form
+use Rattle.json_lines.specs.Lenient.{list_at}
 use Rattle.redraw_run.specs.FindingLines.{names_line}
 use Rattle.redraw_run.specs.ReadLines.{IsPieceOf}
 use Rattle.redraw_run.specs.Run.{Finishes, nothing_begun}
@@ -102,14 +106,17 @@ diagnosed_unhanded Is c ds (inl h) =
     subst Unhanded (sym (h.split ∙ ap (λ es. es ++ h.after) h.first.1 ∙ ap (λ es. (LeftOut ∷ Told h.first.0 ∷ []) ++ es) h.next)) tt
 diagnosed_unhanded Is c ds (inr h) = reported_unhanded Is c ds h
 
-found_unhanded : (c : Choice) (ds : List Deed) → IsFound c ds → Unhanded ds
-unfolding Unhanded
-found_unhanded c ds (inl h) = subst Unhanded (sym h) tt
-found_unhanded c ds (inr h) = reported_unhanded (λ (d : Diagnostic). Unit {0}) c ds h
+read_unhanded : (read : Diagnostic) (c : Choice) (ds : List Deed) → IsTakingRead read c ds → Unhanded ds
+read_unhanded read c ds (d, shown, h) = taken_unhanded d c ds h
 
-result_unhanded : (c : Choice) (ds : List Deed) → IsResult c ds → Unhanded ds
-result_unhanded c ds h =
-    subst Unhanded (sym h.split) (unhanded_both h.before h.after (messages_unhanded c h.before h.first) (found_unhanded c h.after h.next))
+found_unhanded : (f : LogForm) (run x : Data) (c : Choice) (ds : List Deed) → IsFound f run x c ds → Unhanded ds
+unfolding Unhanded
+found_unhanded f run x c ds (inl h) = subst Unhanded (sym h) tt
+found_unhanded f run x c ds (inr (read, is, h)) = read_unhanded read c ds h
+
+result_unhanded : (f : LogForm) (run x : Data) (c : Choice) (ds : List Deed) → IsResult f run x c ds → Unhanded ds
+result_unhanded f run x c ds h =
+    subst Unhanded (sym h.split) (unhanded_both h.before h.after (messages_unhanded c h.before h.first) (found_unhanded f run x c h.after h.next))
 
 each_unhanded : {X : Type 0} (Are : X → Choice → List Deed → Type 0) (c : Choice) → ((x : X) (ds : List Deed) → Are x c ds → Unhanded ds)
     → (xs : List X) (ds : List Deed) → Each Are xs c ds → Unhanded ds
@@ -118,15 +125,25 @@ each_unhanded Are c f [] ds h = subst Unhanded (sym h) tt
 each_unhanded Are c f (x ∷ xs) ds h =
     subst Unhanded (sym h.split) (unhanded_both h.before h.after (f x h.before h.first) (each_unhanded Are c f xs h.after h.next))
 
-run_unhanded : (c : Choice) (ds : List Deed) → IsLogRun c ds → Unhanded ds
-run_unhanded c ds h =
-    subst Unhanded (sym h.split)
-    (unhanded_both h.before h.after (messages_unhanded c h.before h.first)
-    (each_unhanded (λ (d : Data). IsResult) c (λ x es m. result_unhanded c es m) h.next.0 h.after h.next.1))
+results_unhanded : (f : LogForm) (run : Data) (c : Choice) (xs : List Data) (ds : List Deed) → Each (IsResult f run) xs c ds → Unhanded ds
+results_unhanded f run c xs ds h = each_unhanded (IsResult f run) c (λ x es m. result_unhanded f run x c es m) xs ds h
 
-log_unhanded : (c : Choice) (ds : List Deed) → IsLog c ds → Unhanded ds
-log_unhanded c ds (inl h) = wrong_unhanded c ds h
-log_unhanded c ds (inr h) = each_unhanded (λ (d : Data). IsLogRun) c (λ x es m. run_unhanded c es m) h.0 ds h.1
+run_unhanded : (f : LogForm) (run : Data) (c : Choice) (ds : List Deed) → IsLogRun f run c ds → Unhanded ds
+run_unhanded f run c ds h =
+    subst Unhanded (sym h.split)
+    (unhanded_both h.before h.after (messages_unhanded c h.before h.first) (results_unhanded f run c (results_of f run) h.after h.next))
+
+runs_unhanded : (f : LogForm) (c : Choice) (runs : List Data) (ds : List Deed) → AreRuns f runs c ds → Unhanded ds
+runs_unhanded f c runs ds h = each_unhanded (IsLogRun f) c (λ x es m. run_unhanded f x c es m) runs ds h
+
+cut_unhanded : (piece : List ℕ) (run : Data) (c : Choice) (ds : List Deed) → IsCutRun piece run c ds → Unhanded ds
+cut_unhanded piece run c ds h =
+    subst Unhanded (sym h.split)
+    (unhanded_both h.before h.after (messages_unhanded c h.before h.first) (results_unhanded form.Sarif run c h.next.0 h.after h.next.2))
+
+log_unhanded : (v : Data) (c : Choice) (ds : List Deed) → IsLog v c ds → Unhanded ds
+log_unhanded v c ds (inl h) = wrong_unhanded c ds h
+log_unhanded v c ds (inr h) = runs_unhanded form.Sarif c (list_at (codes "runs") v) ds h
 
 known_unhanded : (k : Kind) (v : Data) (c : Choice) (ds : List Deed) → IsKnown k v c ds → Unhanded ds
 unfolding Unhanded
@@ -134,33 +151,38 @@ known_unhanded kind.Rustc v c ds h = diagnosed_unhanded (IsReadAs v) c ds h
 known_unhanded kind.Cargo v c ds h = diagnosed_unhanded (IsPackagedAs v) c ds h
 known_unhanded kind.Failed v c ds h = subst Unhanded (sym h) tt
 known_unhanded kind.Other v c ds h = subst Unhanded (sym h) tt
-known_unhanded kind.Sarif v c ds h = log_unhanded c ds h
-known_unhanded kind.Lsp v c ds h = run_unhanded c ds h
-known_unhanded kind.LspNotification v c ds h = run_unhanded c ds h
+known_unhanded kind.Sarif v c ds h = log_unhanded v c ds h
+known_unhanded kind.Lsp v c ds h = run_unhanded form.Lsp v c ds h
+known_unhanded kind.LspNotification v c ds h = run_unhanded form.Lsp (document_in v) c ds h
 
 both_handed : (k : Kind) (v : Data) (c : Choice) (d : Diagnostic) (text line : List ℕ) → IsKnown k v c (Drawn d text ∷ HandedOn line ∷ []) → ⊥
 unfolding Unhanded
 both_handed k v c d text line h = known_unhanded k v c (Drawn d text ∷ HandedOn line ∷ []) h
 
-report_handed : (c : Choice) (d : Diagnostic) (text line : List ℕ) → IsReported c (Drawn d text ∷ HandedOn line ∷ []) → ⊥
+report_handed : (piece : List ℕ) (c : Choice) (d : Diagnostic) (text line : List ℕ) → IsTold piece c (Drawn d text ∷ HandedOn line ∷ []) → ⊥
 unfolding Unhanded
-report_handed c d text line h = reported_unhanded (λ (x : Diagnostic). Unit {0}) c (Drawn d text ∷ HandedOn line ∷ []) h
+report_handed piece c d text line (asked, (read, is, h)) = read_unhanded read c (Drawn d text ∷ HandedOn line ∷ []) h
 
-runs_handed : (c : Choice) (d : Diagnostic) (text line : List ℕ) → AreRuns c (Drawn d text ∷ HandedOn line ∷ []) → ⊥
+eslint_handed : (v : Data) (c : Choice) (d : Diagnostic) (text line : List ℕ) → IsEslintLog v c (Drawn d text ∷ HandedOn line ∷ []) → ⊥
 unfolding Unhanded
-runs_handed c d text line h =
-    each_unhanded (λ (run : Data). IsLogRun) c (λ x es m. run_unhanded c es m) h.0 (Drawn d text ∷ HandedOn line ∷ []) h.1
+eslint_handed v c d text line h = runs_unhanded form.Eslint c (items_in v) (Drawn d text ∷ HandedOn line ∷ []) h.1
+
+cut_handed : (piece : List ℕ) (c : Choice) (d : Diagnostic) (text line : List ℕ) → IsCutLog piece c (Drawn d text ∷ HandedOn line ∷ []) → ⊥
+unfolding Unhanded
+cut_handed piece c d text line (runs, h) =
+    each_unhanded (IsCutRun piece) c (λ x es m. cut_unhanded piece x c es m) runs (Drawn d text ∷ HandedOn line ∷ []) h
 
 -- a finding is drawn, and the line that reports it is handed on too
 pub drawn_and_handed_on : (line : List ℕ) (c : Choice) (d : Diagnostic) (text : List ℕ) → IsFateOfPiece line c (Drawn d text ∷ HandedOn line ∷ []) → ⊥
 drawn_and_handed_on line c d text (t, is, inl h) = cc h.1
 drawn_and_handed_on line c d text (t, is, inr (inl (begins, inl (none, h)))) = cc h.1
 drawn_and_handed_on line c d text (t, is, inr (inl (begins, inr (inl (none, h))))) = cc h
-drawn_and_handed_on line c d text (t, is, inr (inl (begins, inr (inr (v, reads, (Some k, of, h)))))) = both_handed k v c d text line h
-drawn_and_handed_on line c d text (t, is, inr (inl (begins, inr (inr (v, reads, (None, of, inl h)))))) = cc h.1
-drawn_and_handed_on line c d text (t, is, inr (inl (begins, inr (inr (v, reads, (None, of, inr h)))))) = cc h
-drawn_and_handed_on line c d text (t, is, inr (inr (inl (finding, asked, h)))) = report_handed c d text line h
-drawn_and_handed_on line c d text (t, is, inr (inr (inr (begins, h)))) = runs_handed c d text line h
+drawn_and_handed_on line c d text (t, is, inr (inl (begins, inr (inr (inl (v, reads, (Some k, of, h))))))) = both_handed k v c d text line h
+drawn_and_handed_on line c d text (t, is, inr (inl (begins, inr (inr (inl (v, reads, (None, of, inl h))))))) = cc h.1
+drawn_and_handed_on line c d text (t, is, inr (inl (begins, inr (inr (inl (v, reads, (None, of, inr h))))))) = cc h
+drawn_and_handed_on line c d text (t, is, inr (inl (begins, inr (inr (inr (v, reads, h)))))) = cut_handed line c d text line h
+drawn_and_handed_on line c d text (t, is, inr (inr (inl (finding, h)))) = report_handed line c d text line h
+drawn_and_handed_on line c d text (t, is, inr (inr (inr (begins, (v, reads, h))))) = eslint_handed v c d text line h
 
 -- a diagnostic of rustc is drawn twice
 pub drawn_twice : (v : Data) (c : Choice) (d : Diagnostic) (text : List ℕ) → IsKnown kind.Rustc v c (Drawn d text ∷ Drawn d text ∷ []) → ⊥
@@ -198,6 +220,37 @@ same_level (Some folder) read d h = ap (λ (x : Diagnostic). x.severity) h.rest
 pub level_swapped : (v : Data) (c : Choice) (d : Diagnostic) (text : List ℕ) → ((read : Diagnostic) → IsReadAs v read → d.severity ≢ read.severity)
     → IsKnown kind.Rustc v c (Drawn d text ∷ []) → ⊥
 level_swapped v c d text other h = unread_drawn v c d text (λ read is shown. other read is (same_level (argument_at c.folder) read d shown)) h
+
+-- a finding is drawn that a result doesn't report
+pub unreported_drawn : (f : LogForm) (run x : Data) (c : Choice) (d : Diagnostic) (text : List ℕ)
+    → ((read : Diagnostic) → IsFindingOf f c.columns run x read → IsShownOf (argument_at c.folder) read d → ⊥)
+    → IsFound f run x c (Drawn d text ∷ []) → ⊥
+unreported_drawn f run x c d text none (inl h) = cc h
+unreported_drawn f run x c d text none (inr (read, is, (e, shown, inl h))) = cc h.1
+unreported_drawn f run x c d text none (inr (read, is, (e, shown, inr (taken, inl h)))) = cc h.1
+unreported_drawn f run x c d text none (inr (read, is, (e, shown, inr (taken, inr (inl h))))) =
+    none read is (subst (λ (y : Diagnostic). IsShownOf (argument_at c.folder) read y) (sym h.1.0) shown)
+unreported_drawn f run x c d text none (inr (read, is, (e, shown, inr (taken, inr (inr (inl (form, inl h))))))) = cc h.1
+unreported_drawn f run x c d text none (inr (read, is, (e, shown, inr (taken, inr (inr (inl (form, inr h))))))) = cc h.1
+unreported_drawn f run x c d text none (inr (read, is, (e, shown, inr (taken, inr (inr (inr (form, inl h))))))) = cc h.2
+unreported_drawn f run x c d text none (inr (read, is, (e, shown, inr (taken, inr (inr (inr (form, inr h))))))) = cc h
+
+-- one is drawn of a run that has no results
+nothing_drawn : (c : Choice) (ds es : List Deed) (d : Diagnostic) (text : List ℕ) → Drawn d text ∷ [] ≡ ds ++ es → AreMessages c ds → es ≡ [] → ⊥
+nothing_drawn c [] es d text is told none = cc (is ∙ none)
+nothing_drawn c (Told part ∷ ds) es d text is told none = cc is
+nothing_drawn c (Drawn f t ∷ ds) es d text is told none = absurd told
+nothing_drawn c (Commanded f l ∷ ds) es d text is told none = absurd told
+nothing_drawn c (Compared f s l ∷ ds) es d text is told none = absurd told
+nothing_drawn c (HandedOn l ∷ ds) es d text is told none = absurd told
+nothing_drawn c (Refused f w ∷ ds) es d text is told none = absurd told
+nothing_drawn c (LeftOut ∷ ds) es d text is told none = absurd told
+nothing_drawn c (Repeated ∷ ds) es d text is told none = absurd told
+nothing_drawn c (BuildFailed ∷ ds) es d text is told none = absurd told
+
+pub drawn_of_none : (f : LogForm) (run : Data) (c : Choice) (d : Diagnostic) (text : List ℕ) → results_of f run ≡ [] → IsLogRun f run c (Drawn d text ∷ []) → ⊥
+drawn_of_none f run c d text none h =
+    nothing_drawn c h.before h.after d text h.split h.first (subst (λ (xs : List Data). Each (IsResult f run) xs c h.after) none h.next)
 
 -- what another tool writes, here `a`, is handed on and told too
 pub noise_told : (c : Choice) (part : List ℕ) → IsFateOfPiece (97 ∷ 10 ∷ []) c (HandedOn (97 ∷ 10 ∷ []) ∷ Told part ∷ []) → ⊥

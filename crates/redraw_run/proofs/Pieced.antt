@@ -19,7 +19,7 @@ use Rattle.redraw_command.specs.declared.scanner.Scan.TheVariants.{Ends}
 use Rattle.redraw_command.specs.declared.stop.Stop.{Stop}
 use Rattle.redraw_command.specs.declared.stop.Stop.TheVariants.{Memory}
 use Rattle.redraw_run.specs.Deeds.{Deed}
-use Rattle.redraw_run.specs.Fates.{AreRuns, IsFateOfPiece, IsTextOf}
+use Rattle.redraw_run.specs.Fates.{IsCutLog, IsFateOfPiece, IsTextOf}
 use Rattle.redraw_run.specs.FindingLines.{AreOfFinding}
 use Rattle.redraw_run.specs.Pieces.{Grows, IsNextPiece, IsOfForm, IsPieceAhead}
 use Rattle.redraw_run.specs.ReadLines.{IsDocument, IsPieceOf}
@@ -85,11 +85,12 @@ log_found piece f l same of =
     let log : IsOfForm piece (forms.Log l) = subst (IsOfForm piece) same of in
     (log, log_is piece l log)
 
-log_read : (piece : List ℕ) (l : CutLog) → IsOfForm piece (forms.Log l) → (c : Choice) (ds : List Deed) → AreRuns c ds → IsFateOfPiece piece c ds
-log_read piece l (text, is, (begins, reads)) c ds h = (text, is, inr (inr (inr (object_document text begins, h))))
+log_read : (piece : List ℕ) (l : CutLog) → IsOfForm piece (forms.Log l) → (c : Choice) (ds : List Deed) → IsCutLog piece c ds
+    → IsFateOfPiece piece c ds
+log_read piece l (text, is, (begins, (d, reads))) c ds h = (text, is, inr (inl (begins, inr (inr (inr (d, reads, h))))))
 
--- a log that is read without its results becomes what its runs do
-pub log_becomes : (piece : List ℕ) (f : Form) (l : CutLog) → f ≡ forms.Log l → IsOfForm piece f → (c : Choice) (ds : List Deed) → AreRuns c ds
+-- a log that is read without its results becomes what a long log does
+pub log_becomes : (piece : List ℕ) (f : Form) (l : CutLog) → f ≡ forms.Log l → IsOfForm piece f → (c : Choice) (ds : List Deed) → IsCutLog piece c ds
     → IsFateOfPiece piece c ds
 log_becomes piece f l same of = log_read piece l (subst (IsOfForm piece) same of)
 

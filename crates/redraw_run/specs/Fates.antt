@@ -1,9 +1,10 @@
 -- What becomes of a finding, of a value of JSON, of a piece and of an input: which things are done about it, in their order. Each of these
 -- kinds of things is told by what is asked for.
-use Rattle.std.specs.Prelude.{◌≡◌, ◌≢◌, ◌⊎◌, ℕ, Bool, true, false, List, [], ◌∷◌, ◌++◌, Option, Some, None, is_some, codes}
+use Rattle.std.specs.Prelude.{◌≡◌, ◌≢◌, ◌⊎◌, ℕ, Bool, true, false, List, [], ◌∷◌, ◌++◌, Option, Some, None, is_some, codes, unwrap_or}
 use Rattle.std.specs.Str.{IsUtf8}
 use Rattle.json_lines.specs.Field.{flag_field, text_field}
-use Rattle.serde_json.specs.Data.{Data}
+use Rattle.json_lines.specs.Lenient.{list_at}
+use Rattle.serde_json.specs.Data.{Data, null}
 use Rattle.serde_json.specs.Find.{get}
 use Rattle.serde_json.specs.Read.{read}
 use Rattle.redraw_command.specs.Arguments.{argument_at}
@@ -17,11 +18,16 @@ use Rattle.redraw_command.specs.declared.stop.Stop.{Stop}
 use Rattle.redraw_command.specs.declared.stop.Stop.TheVariants.{Memory, Unwritable, Unreadable, Utf16}
 use Rattle.redraw_read.specs.Rustc.{IsPackagedAs, IsReadAs}
 use Rattle.redraw_report.specs.declared.diagnostic.Diagnostic.{Diagnostic}
+use Rattle.redraw_report.specs.declared.diagnostic.Unit.TheVariants.{Bytes}
 use Rattle.redraw_run.specs.Deeds.{State, Deed, Drawn, Commanded, Compared, HandedOn, Told, Refused, LeftOut, Repeated, BuildFailed, Does, IsCutShort}
 use Rattle.redraw_run.specs.Deeds.{IsPartOfDeeds}
 use Rattle.redraw_run.specs.FindingLines.{AreOfFinding}
+use Rattle.redraw_run.specs.Logged.{AreFiles, IsFindingOf, document_in, items_in, results_of}
+use Rattle.redraw_run.specs.Marked.{IsToldIn}
 use Rattle.redraw_run.specs.declared.kind.Kind.{Kind}
 use Rattle.redraw_run.specs.declared.kind.Kind.TheVariants as kind
+use Rattle.redraw_tools.specs.declared.log.LogForm.{LogForm}
+use Rattle.redraw_tools.specs.declared.log.LogForm.TheVariants as form
 
 -- two kinds of things are done, one after the other
 pub record Then (First Next : Choice → List Deed → Type 0) (c : Choice) (deeds : List Deed) : Type 0 where
@@ -108,10 +114,6 @@ IsTakingRead read c deeds = (d : Diagnostic) × IsShownOf (argument_at c.folder)
 abbrev pub IsReportedAs : (Diagnostic → Type 0) → Choice → List Deed → Type 0
 IsReportedAs Is c deeds = IsWrong c deeds ⊎ ((read : Diagnostic) × Is read × IsTakingRead read c deeds)
 
--- the same of any finding
-abbrev pub IsReported : Choice → List Deed → Type 0
-IsReported = IsReportedAs (λ (read : Diagnostic). Unit {0})
-
 -- what becomes of an error of rustc that can't be read: it is left out, one message says so, and the run fails
 abbrev pub IsErrorLost : Choice → List Deed → Type 0
 IsErrorLost = Then IsWrong IsFailed
@@ -120,27 +122,26 @@ IsErrorLost = Then IsWrong IsFailed
 abbrev pub IsDiagnosed : (Diagnostic → Type 0) → Choice → List Deed → Type 0
 IsDiagnosed Is c deeds = IsErrorLost c deeds ⊎ IsReportedAs Is c deeds
 
--- what becomes of a result of a log: after messages on what is wrong with it, this becomes of its finding, or it is left out
-abbrev pub IsFound : Choice → List Deed → Type 0
-IsFound c deeds = LeavesOut c deeds ⊎ IsReported c deeds
+-- what becomes of a result of a log's run: after messages on what is wrong with it, this becomes of the finding that it reports, or it is
+-- left out
+abbrev pub IsFound : LogForm → (run result : Data) → Choice → List Deed → Type 0
+IsFound form run result c deeds =
+    LeavesOut c deeds ⊎ ((read : Diagnostic) × IsFindingOf form c.columns run result read × IsTakingRead read c deeds)
 
-abbrev pub IsResult : Choice → List Deed → Type 0
-IsResult = Then AreMessages IsFound
+abbrev pub IsResult : LogForm → (run result : Data) → Choice → List Deed → Type 0
+IsResult form run result = Then AreMessages (IsFound form run result)
 
 -- what becomes of a run of a log: after messages on what is wrong with it, this becomes of its results, in their order
-abbrev pub AreResults : Choice → List Deed → Type 0
-AreResults c deeds = (results : List Data) × Each (λ (result : Data). IsResult) results c deeds
-
-abbrev pub IsLogRun : Choice → List Deed → Type 0
-IsLogRun = Then AreMessages AreResults
+abbrev pub IsLogRun : LogForm → Data → Choice → List Deed → Type 0
+IsLogRun form run = Then AreMessages (Each (IsResult form run) (results_of form run))
 
 -- what becomes of the runs of a log, in their order
-abbrev pub AreRuns : Choice → List Deed → Type 0
-AreRuns c deeds = (runs : List Data) × Each (λ (run : Data). IsLogRun) runs c deeds
+abbrev pub AreRuns : LogForm → List Data → Choice → List Deed → Type 0
+AreRuns form = Each (IsLogRun form)
 
--- what becomes of a log: its runs are no list, and it is left out; or this becomes of its runs
-abbrev pub IsLog : Choice → List Deed → Type 0
-IsLog c deeds = IsWrong c deeds ⊎ AreRuns c deeds
+-- what becomes of a log of SARIF: its runs are no list, and it is left out; or this becomes of its runs
+abbrev pub IsLog : Data → Choice → List Deed → Type 0
+IsLog d c deeds = IsWrong c deeds ⊎ AreRuns form.Sarif (list_at (codes "runs") d) c deeds
 
 -- a value has a field of this name
 abbrev pub Has : List ℕ → Data → Type 0
@@ -221,9 +222,9 @@ IsKnown kind.Rustc d = IsDiagnosed (IsReadAs d)
 IsKnown kind.Cargo d = IsDiagnosed (IsPackagedAs d)
 IsKnown kind.Failed d = IsFailed
 IsKnown kind.Other d = AreNone
-IsKnown kind.Sarif d = IsLog
-IsKnown kind.Lsp d = IsLogRun
-IsKnown kind.LspNotification d = IsLogRun
+IsKnown kind.Sarif d = IsLog d
+IsKnown kind.Lsp d = IsLogRun form.Lsp d
+IsKnown kind.LspNotification d = IsLogRun form.Lsp (document_in d)
 
 -- what becomes of a value of no form that is known, which is this piece: it is left out as wrong, or handed on
 abbrev pub IsUnknown : List ℕ → Choice → List Deed → Type 0
@@ -258,33 +259,59 @@ pub record Reads (text : List ℕ) (found : Option Data) : Type 0 where
 abbrev pub IsTextOf : List ℕ → List ℕ → Type 0
 IsTextOf piece text = (piece ≡ text) ⊎ (piece ≡ mark ++ text)
 
+-- a value stands in a text: a part of it is read as the value. What can't be read there is null
+abbrev pub StandsIn : List ℕ → Data → Type 0
+StandsIn text d = (d ≡ null) ⊎ ((before part after : List ℕ) × (text ≡ before ++ part ++ after) × Reads part (Some d))
+
+abbrev pub AllStand : List ℕ → List Data → Type 0
+AllStand text [] = Unit {0}
+AllStand text (d ∷ ds) = StandsIn text d × AllStand text ds
+
+-- what becomes of a long log of SARIF, this piece, whose results are read from its text one by one
+abbrev pub AreStanding : List ℕ → Data → Choice → List Deed → Type 0
+AreStanding piece run c deeds = (results : List Data) × AllStand piece results × Each (IsResult form.Sarif run) results c deeds
+
+abbrev pub IsCutRun : List ℕ → Data → Choice → List Deed → Type 0
+IsCutRun piece run = Then AreMessages (AreStanding piece run)
+
+-- what becomes of such a log: this of some runs, in their order
+abbrev pub IsCutLog : List ℕ → Choice → List Deed → Type 0
+IsCutLog piece c deeds = (runs : List Data) × Each (IsCutRun piece) runs c deeds
+
 -- what becomes of a piece that begins as an object does: one that isn't UTF-8 is left out as wrong, one that isn't JSON is handed on, and of
--- a value becomes what becomes of that
+-- a value becomes what becomes of that, or of a long log
 abbrev pub IsObject : List ℕ → List ℕ → Choice → List Deed → Type 0
 IsObject piece text c deeds =
     ((IsUtf8 text → ⊥) × IsWrong c deeds)
     ⊎ (Reads text None × IsHandedOn piece c deeds)
     ⊎ ((d : Data) × Reads text (Some d) × IsValue piece d c deeds)
+    ⊎ ((d : Data) × Reads text (Some d) × IsCutLog piece c deeds)
 
--- what becomes of lines that tell of a finding: they are handed on, or this becomes of it, where lines of compilers are read too
-abbrev pub IsFindingOrText : List ℕ → Choice → List Deed → Type 0
-IsFindingOrText lines c deeds = IsHandedOn lines c deeds ⊎ ((c.reads_lines ≡ true) × IsReported c deeds)
-
--- some lines tell of a finding, where lines of compilers are read too, and this becomes of that
+-- what becomes of a finding that some lines tell of, where lines of compilers are read too
 abbrev pub IsTold : List ℕ → Choice → List Deed → Type 0
-IsTold lines c deeds = AreOfFinding lines × (c.reads_lines ≡ true) × IsReported c deeds
+IsTold lines c deeds =
+    (c.reads_lines ≡ true) × ((read : Diagnostic) × IsToldIn (unwrap_or c.columns Bytes) lines read × IsTakingRead read c deeds)
 
--- what becomes of a list, which is this piece: it is handed on; or it is ESLint's log, and this becomes of the messages of its files
-abbrev pub IsList : List ℕ → Choice → List Deed → Type 0
-IsList piece c deeds = IsHandedOn piece c deeds ⊎ AreRuns c deeds
+-- what becomes of lines that tell of a finding: they are handed on, or this becomes of it
+abbrev pub IsFindingOrText : List ℕ → Choice → List Deed → Type 0
+IsFindingOrText lines c deeds = IsHandedOn lines c deeds ⊎ IsTold lines c deeds
 
--- what becomes of a piece with this text: one that doesn't begin as an object does is handed on, unless it tells of a finding, or is a log
+-- what becomes of ESLint's log: this of the messages of its files
+abbrev pub IsEslintLog : Data → Choice → List Deed → Type 0
+IsEslintLog d c deeds = AreFiles (items_in d) × AreRuns form.Eslint (items_in d) c deeds
+
+-- what becomes of a list of this value, which is this piece: it is handed on, or is ESLint's log
+abbrev pub IsList : List ℕ → Data → Choice → List Deed → Type 0
+IsList piece d c deeds = IsHandedOn piece c deeds ⊎ IsEslintLog d c deeds
+
+-- what becomes of a piece with this text: one that doesn't begin as an object does is handed on, unless it tells of a finding, or is ESLint's
+-- log
 abbrev pub IsPieceWith : List ℕ → List ℕ → Choice → List Deed → Type 0
 IsPieceWith piece text c deeds =
     ((begins_object text ≡ false) × IsHandedOn piece c deeds)
     ⊎ ((begins_object text ≡ true) × IsObject piece text c deeds)
-    ⊎ IsTold text c deeds
-    ⊎ ((begins_document text ≡ true) × AreRuns c deeds)
+    ⊎ (AreOfFinding text × IsTold piece c deeds)
+    ⊎ ((begins_document text ≡ true) × ((d : Data) × Reads text (Some d) × IsEslintLog d c deeds))
 
 -- what becomes of a piece
 abbrev pub IsFateOfPiece : List ℕ → Choice → List Deed → Type 0

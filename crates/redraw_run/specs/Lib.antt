@@ -9,6 +9,8 @@ pub mod HtmlDocument
 pub mod Id
 pub mod Index
 pub mod Inputs
+pub mod Logged
+pub mod Marked
 pub mod Page
 pub mod Pieces
 pub mod ReadLines

@@ -39,7 +39,7 @@ use redraw_command::terminal::Markup;
 use redraw_command::workflow::command_of;
 use redraw_read::place::load_files;
 use redraw_read::sources::{SourceFiles, Sources};
-use redraw_report::diagnostic::{Diagnostic, FileSpan, Severity, Unit};
+use redraw_report::diagnostic::{Diagnostic, FileSpan, Severity};
 use serde_json::Value;
 use std::alloc::{AllocError, Global};
 use std::fmt;
@@ -57,8 +57,6 @@ pub struct Drawing<'w, S: Drop> {
     pub log_sources: Sources<S>,
     /// The files that lines may name, where it is asked whether one is at hand.
     pub line_files: S,
-    /// What the columns of SARIF logs count, where that is asked for.
-    pub columns: Option<Unit>,
     pub tally: Tally,
     /// What was drawn of cargo's diagnostics.
     pub seen: SeenDiagnostics,

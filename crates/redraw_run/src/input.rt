@@ -5,7 +5,7 @@ ghost use Rattle.redraw_command.specs.Line.{begins_utf16};
 ghost use Rattle.redraw_command.specs.LookAhead.{left_of};
 ghost use Rattle.redraw_run.specs.Deeds.{Does, Happens, standing};
 ghost use Rattle.redraw_run.specs.Fates.{Each, Halts, IsEnd, IsFateOfPiece, IsHandedOn, IsInput, IsKnown, IsUnknown};
-ghost use Rattle.redraw_run.specs.Fates.{AreRuns, IsList, IsValue};
+ghost use Rattle.redraw_run.specs.Fates.{IsCutLog, IsList, IsValue};
 ghost use Rattle.redraw_run.specs.Pieces.{IsOfForm};
 ghost use Rattle.redraw_run.specs.ReadLines.{AreAllOf, AreFirstOf, TellsUnless};
 ghost use Rattle.output_stream.specs.Standing.{Standing, known};
@@ -151,7 +151,7 @@ impl Reading {
         out: &mut Stream<W>,
         err: &mut Stream<V>,
     ) -> Result<(), Stop>
-        ensures does { Happens result AreRuns
+        ensures does { Happens result (IsCutLog piece.now)
             (standing drawing.old (known W.contents out.old) (known V.contents err.old))
             (standing drawing.new (known W.contents out.new) (known V.contents err.new)) }
     {
@@ -170,7 +170,7 @@ impl Reading {
         out: &mut Stream<W>,
         err: &mut Stream<V>,
     ) -> Result<(), Stop>
-        ensures does { Happens result (IsList piece.now)
+        ensures does { Happens result (IsList piece.now (view value.now))
             (standing drawing.old (known W.contents out.old) (known V.contents err.old))
             (standing drawing.new (known W.contents out.new) (known V.contents err.new)) }
     {

@@ -1,8 +1,9 @@
 //! What a value of JSON is, by its fields.
-ghost use Rattle.std.specs.Prelude.{◌≡◌, ◌↔◌, Some, false, IsTrue, codes};
+ghost use Rattle.std.specs.Prelude.{◌≡◌, ◌↔◌, IfSome, Some, false, IsTrue, codes, map};
 ghost use Rattle.json_lines.specs.Field.{flag_field};
 ghost use Rattle.serde_json.specs.View.{view};
 ghost use Rattle.redraw_run.specs.Fates.{IsCargoKind, IsLspKind, IsOfKind};
+ghost use Rattle.redraw_run.specs.Logged.{AreFiles, items_in};
 
 use serde_json::Value;
 
@@ -81,7 +82,10 @@ fn is_failed(value: &Value) -> bool
 }
 
 /// The files of ESLint's log, if a list is one: its first item is an object with a path and messages.
-pub fn eslint_files(value: &Value) -> Option<&[Value]> {
+pub fn eslint_files(value: &Value) -> Option<&[Value]>
+    ensures files { IfSome result (λ files. (items_in (view value.now) ≡ map view files.now)
+        × AreFiles (map view files.now)) }
+{
     let files = value.as_array()?.as_slice();
     let first = files.first()?;
     if first.get("filePath").is_some() && first.get("messages").is_some() {

@@ -1,7 +1,9 @@
 //! Lines of compilers, drawn where the file that they name is at hand.
-ghost use Rattle.std.specs.Prelude.{◌≡◌};
+ghost use Rattle.std.specs.Prelude.{◌≡◌, IfOk, IfSome, unwrap_or};
+ghost use Rattle.redraw_report.specs.declared.diagnostic.Unit.TheVariants.{Bytes};
 ghost use Rattle.redraw_run.specs.Deeds.{Happens, standing};
 ghost use Rattle.redraw_run.specs.Fates.{IsFindingOrText};
+ghost use Rattle.redraw_run.specs.Marked.{IsToldIn};
 ghost use Rattle.output_stream.specs.Standing.{known};
 
 use crate::draw::Drawing;
@@ -43,8 +45,10 @@ fn at_hand<S: SourceFiles + Drop>(
 ) -> Result<Option<Diagnostic>, AllocError>
     ensures kept { (drawing.new.renderer ≡ drawing.old.renderer) × (drawing.new.choice ≡ drawing.old.choice)
         × (drawing.new.tally ≡ drawing.old.tally) }
+    ensures told { IfOk result (λ found.
+        IfSome found (IsToldIn (unwrap_or drawing.old.choice.columns Bytes) lines.now)) }
 {
-    let unit = drawing.columns.unwrap_or(Unit::Bytes);
+    let unit = drawing.choice.columns.unwrap_or(Unit::Bytes);
     let Some(mut diagnostic) = reported(drawing.alloc, lines, unit)? else {
         return Ok(None);
     };

@@ -177,7 +177,7 @@ impl JsonReader {
         }
     }
 
-    /// The same, where all of an object is kept.
+    /// What a text is that begins as an object does, where all of its value is kept.
     fn whole_object(&mut self, text: &str) -> Result<Form, AllocError>
         ensures form { begins_object text.now ≡ true → IfOk result (λ form. IsReadAs text.now form) }
     {

@@ -1,10 +1,12 @@
 //! Values that hold what they report: a diagnostic of rustc, a message of cargo, and a SARIF log.
 ghost use Rattle.redraw_run.specs.Deeds.{Happens, standing};
-ghost use Rattle.redraw_run.specs.Fates.{AreRuns, IsDiagnosed, IsErrorLost, IsLog, IsLogRun};
+ghost use Rattle.redraw_run.specs.Fates.{AreRuns, IsCutLog, IsDiagnosed, IsErrorLost, IsLog, IsLogRun};
+ghost use Rattle.redraw_run.specs.Logged.{document_in};
 ghost use Rattle.output_stream.specs.Standing.{Standing, known};
 ghost use Rattle.redraw_read.specs.Rustc.{IsPackagedAs, IsReadAs};
 ghost use Rattle.serde_json.specs.View.{view};
-ghost use Rattle.std.specs.Prelude.{◌≡◌, Ok};
+ghost use Rattle.std.specs.Prelude.{◌≡◌, Ok, map};
+ghost use Rattle.redraw_tools.specs.declared.log.LogForm.TheVariants as form;
 
 use crate::draw::Drawing;
 use crate::readings::read_diagnostic;
@@ -118,7 +120,8 @@ pub fn sarif_log<S: SourceFiles + Drop, W: Write, V: Write>(
     out: &mut Stream<W>,
     err: &mut Stream<V>,
 ) -> Result<(), Stop>
-    ensures does { Happens result IsLog (standing drawing.old (known W.contents out.old) (known V.contents err.old))
+    ensures does { Happens result (IsLog (view node.now.value.now))
+        (standing drawing.old (known W.contents out.old) (known V.contents err.old))
         (standing drawing.new (known W.contents out.new) (known V.contents err.new)) }
 {
     drawing.own_text = None;
@@ -136,7 +139,8 @@ pub fn cut_sarif_log<S: SourceFiles + Drop, W: Write, V: Write>(
     out: &mut Stream<W>,
     err: &mut Stream<V>,
 ) -> Result<(), Stop>
-    ensures does { Happens result AreRuns (standing drawing.old (known W.contents out.old) (known V.contents err.old))
+    ensures does { Happens result (IsCutLog text.now)
+        (standing drawing.old (known W.contents out.old) (known V.contents err.old))
         (standing drawing.new (known W.contents out.new) (known V.contents err.new)) }
 {
     drawing.own_text = None;
@@ -162,7 +166,8 @@ fn draw_log<S: SourceFiles + Drop, W: Write, V: Write>(
     out: &mut Stream<W>,
     err: &mut Stream<V>,
 ) -> Result<(), Stop>
-    ensures does { Happens result IsLog (standing drawing.old (known W.contents out.old) (known V.contents err.old))
+    ensures does { Happens result (IsLog (view node.now.value.now))
+        (standing drawing.old (known W.contents out.old) (known V.contents err.old))
         (standing drawing.new (known W.contents out.new) (known V.contents err.new)) }
 {
     match listed(node, "runs") {
@@ -183,7 +188,7 @@ pub fn lsp_document<S: SourceFiles + Drop, W: Write, V: Write>(
     out: &mut Stream<W>,
     err: &mut Stream<V>,
 ) -> Result<(), Stop>
-    ensures does { Happens result IsLogRun
+    ensures does { Happens result (IsLogRun form.Lsp (view document.now))
         (standing drawing.old (known W.contents out.old) (known V.contents err.old))
         (standing drawing.new (known W.contents out.new) (known V.contents err.new)) }
 {
@@ -202,7 +207,7 @@ pub fn lsp_notification<S: SourceFiles + Drop, W: Write, V: Write>(
     out: &mut Stream<W>,
     err: &mut Stream<V>,
 ) -> Result<(), Stop>
-    ensures does { Happens result IsLogRun
+    ensures does { Happens result (IsLogRun form.Lsp (document_in (view notification.now)))
         (standing drawing.old (known W.contents out.old) (known V.contents err.old))
         (standing drawing.new (known W.contents out.new) (known V.contents err.new)) }
 {
@@ -224,7 +229,8 @@ pub fn eslint_log<S: SourceFiles + Drop, W: Write, V: Write>(
     out: &mut Stream<W>,
     err: &mut Stream<V>,
 ) -> Result<(), Stop>
-    ensures does { Happens result AreRuns (standing drawing.old (known W.contents out.old) (known V.contents err.old))
+    ensures does { Happens result (AreRuns form.Eslint (map view files.now))
+        (standing drawing.old (known W.contents out.old) (known V.contents err.old))
         (standing drawing.new (known W.contents out.new) (known V.contents err.new)) }
 {
     drawing.own_text = None;

@@ -142,7 +142,6 @@ fn draw_all<'w, R: Files + Input + AllocGlobal, W: Write, V: Write>(
         sources: Sources::new(alloc, line_files),
         log_sources: Sources::new(alloc, log_files),
         line_files: asked_files,
-        columns: request.columns,
         tally,
         seen: SeenDiagnostics::new(alloc),
         files: Names::new(alloc),

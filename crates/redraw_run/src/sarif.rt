@@ -1,8 +1,11 @@
 //! A log, whose results are drawn one after another.
-ghost use Rattle.std.specs.Prelude.{◌≡◌, IfErr, OnOk, map};
+ghost use Rattle.std.specs.Prelude.{◌≡◌, IfErr, map};
+ghost use Rattle.serde_json.specs.Data.{Data};
 ghost use Rattle.serde_json.specs.View.{view};
-ghost use Rattle.redraw_run.specs.Deeds.{Does, Happens, TellsAll, standing};
-ghost use Rattle.redraw_run.specs.Fates.{AreRuns, Each, IsResult, IsLogRun};
+ghost use Rattle.redraw_run.specs.Deeds.{Happens, TellsAll, standing};
+ghost use Rattle.redraw_run.specs.Fates.{AreRuns, IsCutLog, IsCutRun, IsLogRun, IsResult};
+ghost use Rattle.redraw_tools.specs.Log.{IsRunOf};
+ghost use Rattle.redraw_tools.specs.declared.log.LogForm.{LogForm};
 ghost use Rattle.output_stream.specs.Standing.{known};
 
 use crate::draw::Drawing;
@@ -26,11 +29,9 @@ pub fn draw_runs<S: SourceFiles + Drop, W: Write, V: Write>(
     out: &mut Stream<W>,
     err: &mut Stream<V>,
 ) -> Result<(), Stop>
-    ensures does { Happens result AreRuns (standing drawing.old (known W.contents out.old) (known V.contents err.old))
-        (standing drawing.new (known W.contents out.new) (known V.contents err.new)) }
-    ensures each { OnOk result (Does (Each (λ run. IsLogRun) (map view runs.now))
+    ensures does { Happens result (AreRuns form (map view runs.now))
         (standing drawing.old (known W.contents out.old) (known V.contents err.old))
-        (standing drawing.new (known W.contents out.new) (known V.contents err.new))) }
+        (standing drawing.new (known W.contents out.new) (known V.contents err.new)) }
 {
     let runs = List { items: runs, place };
     for (index, value) in runs.items.iter().enumerate() {
@@ -47,11 +48,13 @@ pub fn draw_run<S: SourceFiles + Drop, W: Write, V: Write>(
     out: &mut Stream<W>,
     err: &mut Stream<V>,
 ) -> Result<(), Stop>
-    ensures does { Happens result IsLogRun (standing drawing.old (known W.contents out.old) (known V.contents err.old))
+    ensures does { Happens result (IsLogRun form (view node.entry.value.now))
+        (standing drawing.old (known W.contents out.old) (known V.contents err.old))
         (standing drawing.new (known W.contents out.new) (known V.contents err.new)) }
 {
     let mut problems = Problems::new(drawing.alloc);
-    let run = LogRun::new(drawing.alloc, form, node, drawing.columns, &mut problems);
+    let columns = drawing.choice.columns;
+    let run = LogRun::new(drawing.alloc, form, node, columns, &mut problems);
     let results = run.results(&mut problems);
     tell_all(&problems, drawing, err)?;
     for (index, value) in results.items.iter().enumerate() {
@@ -69,7 +72,8 @@ pub fn draw_cut_runs<S: SourceFiles + Drop, W: Write, V: Write>(
     out: &mut Stream<W>,
     err: &mut Stream<V>,
 ) -> Result<(), Stop>
-    ensures does { Happens result AreRuns (standing drawing.old (known W.contents out.old) (known V.contents err.old))
+    ensures does { Happens result (IsCutLog text.now)
+        (standing drawing.old (known W.contents out.old) (known V.contents err.old))
         (standing drawing.new (known W.contents out.new) (known V.contents err.new)) }
 {
     let document = JsonPath::Document;
@@ -109,17 +113,14 @@ fn draw_cut_run<'x, S: SourceFiles + Drop, W: Write, V: Write>(
     out: &mut Stream<W>,
     err: &mut Stream<V>,
 ) -> Result<(), Stop>
-    ensures does { Happens result IsLogRun (standing drawing.old (known W.contents out.old) (known V.contents err.old))
+    ensures does { Happens result (IsCutRun results.old.text.now (view node.entry.value.now))
+        (standing drawing.old (known W.contents out.old) (known V.contents err.old))
         (standing drawing.new (known W.contents out.new) (known V.contents err.new)) }
+    ensures kept { results.new.text ≡ results.old.text }
 {
     let mut problems = Problems::new(drawing.alloc);
-    let run = LogRun::new(
-        drawing.alloc,
-        LogForm::Sarif,
-        node,
-        drawing.columns,
-        &mut problems,
-    );
+    let columns = drawing.choice.columns;
+    let run = LogRun::new(drawing.alloc, LogForm::Sarif, node, columns, &mut problems);
     let list = run.results(&mut problems);
     tell_all(&problems, drawing, err)?;
     for (index, place) in places.iter().enumerate() {
@@ -141,7 +142,9 @@ fn draw_result<S: SourceFiles + Drop, W: Write, V: Write>(
     out: &mut Stream<W>,
     err: &mut Stream<V>,
 ) -> Result<(), Stop>
-    ensures does { Happens result IsResult (standing drawing.old (known W.contents out.old) (known V.contents err.old))
+    ensures does { (form : LogForm) (d : Data) → IsRunOf form drawing.old.choice.columns d run.now
+        → Happens result (IsResult form d (view reported.now.value.now))
+        (standing drawing.old (known W.contents out.old) (known V.contents err.old))
         (standing drawing.new (known W.contents out.new) (known V.contents err.new)) }
 {
     let mut problems = Problems::new(drawing.alloc);

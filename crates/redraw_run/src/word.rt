@@ -1,33 +1,53 @@
 //! How long the places are that a tool names by a point: to the end of the word at it, or as many columns of a terminal
 //! as the tool put marks below it.
 ghost use Rattle.std.specs.Prelude.{◌≡◌, ℕ, ◌+◌, ◌-◌, ◌^◌, ◌≤◌, Some, drop, false, length, min};
+ghost use Rattle.std.specs.List.{AllZip};
 ghost use Rattle.redraw_report.specs.Region.{start_bytes};
 ghost use Rattle.redraw_report.specs.declared.diagnostic.Unit.TheVariants.{Bytes};
+ghost use Rattle.redraw_run.specs.Marked.{IsChildMarked, IsMarked, IsPlaceMarked};
 ghost use Rattle.redraw_run.specs.Word as spec;
 ghost use Rattle.redraw_run.specs.Word.{IsUpToWord, is_wide, word_length};
 
 use redraw_read::source::Source;
 use redraw_read::sources::{SourceFiles, Sources};
-use redraw_report::diagnostic::{Diagnostic, FileSpan, LineRegion, Region, Unit};
+use redraw_report::diagnostic::{Child, Diagnostic, FileSpan, LineRegion, Region, Unit};
 use redraw_report::locate::{Lookup, locate};
 use snippet_text::char_width;
 use std::str;
 
 /// Has each point of a finding in a file that was read go on to the end of the word at it, or as far as marks stood
 /// below it, and each line without columns end where its text does.
-pub fn mark_words<S: SourceFiles + Drop>(finding: &mut Diagnostic, sources: &Sources<S>) {
-    mark_words_in(&mut finding.spans, sources);
-    for child in &mut finding.children {
-        mark_words_in(&mut child.spans, sources);
+pub fn mark_words<S: SourceFiles + Drop>(finding: &mut Diagnostic, sources: &Sources<S>)
+    ensures marked { IsMarked finding.old finding.new }
+{
+    mark_places(&mut finding.spans, sources);
+    for child in finding.children.iter_mut() {
+        mark_child(child, sources);
     }
 }
 
-/// The same for some places.
-fn mark_words_in<S: SourceFiles + Drop>(spans: &mut Vec<FileSpan>, sources: &Sources<S>) {
-    for span in spans {
-        if let Some(source) = source_of(sources, span.file.as_str()) {
-            span.region = with_word(source, span.region);
-        }
+/// Marks the places of a child.
+fn mark_child<S: SourceFiles + Drop>(child: &mut Child, sources: &Sources<S>)
+    ensures marked { IsChildMarked child.old child.new }
+{
+    mark_places(&mut child.spans, sources);
+}
+
+/// Has each of some places that is a point in a file that was read go on to the end of the word at it, or as far as
+/// marks stood below it.
+fn mark_places<S: SourceFiles + Drop>(spans: &mut [FileSpan], sources: &Sources<S>)
+    ensures marked { AllZip IsPlaceMarked spans.old spans.new }
+{
+    for span in spans.iter_mut() {
+        span.region = marked_part(span, sources);
+    }
+}
+
+/// The part of its file that a place is, marked where the file was read.
+fn marked_part<S: SourceFiles + Drop>(span: &FileSpan, sources: &Sources<S>) -> Region {
+    match source_of(sources, span.file.as_str()) {
+        Some(source) => with_word(source, span.region),
+        None => span.region,
     }
 }
 

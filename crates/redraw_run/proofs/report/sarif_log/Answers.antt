@@ -1,4 +1,5 @@
 use Rattle.std.proofs.Common.{subst, sym}
+use Rattle.serde_json.specs.View.{view}
 use Rattle.output_stream.specs.Standing.{Standing, known}
 use Rattle.redraw_run.specs.Deeds.{Happens, State}
 use Rattle.redraw_run.specs.Fates.{IsLog}
@@ -8,6 +9,7 @@ use Rattle.redraw_run.proofs.report.sarif_log.Goals as goal
 -- which files are at hand is no part of what is told so far
 pub returns : goal.returns
 returns g c =
+    let log = IsLog (view c.args.node.now.value.now) in
     let out : Standing = known g.W.Write.contents c.draw_log-drawn.new.out in
     let err : Standing = known g.V.Write.contents c.draw_log-drawn.new.err in
     let begun : State = standing c.args.drawing.now (known g.W.Write.contents c.args.out.now) (known g.V.Write.contents c.args.err.now) in
@@ -15,6 +17,6 @@ returns g c =
     let first = c.swap_sources.ensures.kept (known g.W.Write.contents c.args.out.now) (known g.V.Write.contents c.args.err.now) in
     let last = c.swap_sources-2.ensures.kept out err in
     record {
-      does = subst (λ (b : State). Happens c.draw_log-drawn.result IsLog begun b) (sym last)
-          (subst (λ (a : State). Happens c.draw_log-drawn.result IsLog a ended) first c.draw_log-drawn.ensures.does);
+      does = subst (λ (b : State). Happens c.draw_log-drawn.result log begun b) (sym last)
+          (subst (λ (a : State). Happens c.draw_log-drawn.result log a ended) first c.draw_log-drawn.ensures.does);
     }

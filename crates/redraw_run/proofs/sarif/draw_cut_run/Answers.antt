@@ -1,41 +1,70 @@
-use Rattle.std.proofs.Common.{◌∙◌, refl}
+use Rattle.std.proofs.Common.{◌∙◌, [], refl, subst, sym}
+use Rattle.serde_json.specs.View.{view}
+use Rattle.redraw_command.specs.declared.choice.Choice.{Choice}
 use Rattle.redraw_run.specs.Deeds.{IsPartOfDeeds}
-use Rattle.redraw_run.specs.Fates.{AreMessages, IsResult, IsLogRun, Then}
+use Rattle.redraw_run.specs.Fates.{AreMessages, AreStanding, IsCutRun, IsResult, StandsIn, Then}
+use Rattle.redraw_tools.specs.Log.{IsRunOf}
+use Rattle.redraw_tools.specs.declared.log.LogForm.TheVariants as form
 use Rattle.redraw_run.proofs.Doing.{does_as, does_then, goes_err, goes_on, part_all, stops_all, stops_any, stops_as, stops_then}
 use Rattle.redraw_run.proofs.Done.{does_tell_all}
-use Rattle.redraw_run.proofs.Fated.{run_begins, run_more, run_part}
+use Rattle.redraw_run.proofs.Fated.{messages_begin, messages_more, messages_part, standing_more, standing_none, standing_part}
 use Rattle.redraw_run.proofs.sarif.draw_cut_run.Goals as goal
 
-pub returns-in_err-tell_all : goal.returns-in_err-tell_all
-returns-in_err-tell_all g c =
+pub returns-in_err-tell_all-clause-does : goal.returns-in_err-tell_all-clause-does
+returns-in_err-tell_all-clause-does g c =
+    let run = view c.args.node.value.now in
+    let text = c.args.results.now.text.now in
     let choice = c.args.drawing.now.choice in
-    record {
-      does = goes_err IsLogRun _ _ c.from_residual.result c.from_residual.ensures.1
-          (λ s q. stops_any s (q ∙ c.in_err-tell_all.ensures.memory)
-          (does_as {P = IsLogRun} (part_all {P = IsLogRun} choice)
-          (does_as {P = AreMessages} (run_begins choice) (does_tell_all c.in_err-tell_all.ensures.told refl refl refl refl))));
-    }
+    goes_err (IsCutRun text run) _ _ c.from_residual.result c.from_residual.ensures.1
+    (λ s q. stops_any s (q ∙ c.in_err-tell_all.ensures.memory)
+    (does_as {P = IsCutRun text run} (part_all {P = IsCutRun text run} choice)
+    (does_as {P = AreMessages} (λ ds h. messages_begin (AreStanding text run) choice ds (standing_none text run choice) h)
+    (does_tell_all c.in_err-tell_all.ensures.told refl refl refl refl))))
 
 pub loop-index-init : goal.loop-index-init
-loop-index-init g c = does_as (run_begins c.args.drawing.now.choice) (does_tell_all c.in_ok-tell_all.ensures.told refl refl refl refl)
+loop-index-init g c =
+    let run = view c.args.node.value.now in
+    let text = c.args.results.now.text.now in
+    let choice = c.args.drawing.now.choice in (
+      refl,
+      does_as {P = AreMessages} (λ ds h. messages_begin (AreStanding text run) choice ds (standing_none text run choice) h)
+          (does_tell_all c.in_ok-tell_all.ensures.told refl refl refl refl),
+    )
 
 pub loop-index-preserved : goal.loop-index-preserved
-loop-index-preserved g c = does_as (run_more c.args.drawing.now.choice) (does_then c.loop-index.invariant c.in_ok-draw_result.ensures.does)
+loop-index-preserved g c =
+    let run = view c.args.node.value.now in
+    let text = c.args.results.now.text.now in
+    let choice = c.args.drawing.now.choice in
+    let value = view c.in_ok-value.value in
+    let stands : StandsIn text value = subst (λ t. StandsIn t.now value) c.loop-index.invariant.0 c.in_ok-value.ensures.stands in
+    let of = subst (λ (ch : Choice). IsRunOf form.Sarif ch.columns run c.new-run.result) (sym c.loop-index.invariant.1.choice) c.new-run.ensures.is in
+    let Next = IsResult form.Sarif run value in
+    let rest = AreStanding text run in (
+      c.in_ok-value.ensures.kept ∙ c.loop-index.invariant.0,
+      does_as (λ ds h. messages_more rest Next rest choice ds (λ es k. standing_more text run value choice es stands k) h)
+          (does_then c.loop-index.invariant.1 (c.in_ok-draw_result.ensures.does form.Sarif run of)),
+    )
 
-pub returns-in_err-draw_result : goal.returns-in_err-draw_result
-returns-in_err-draw_result g c =
-    record {
-      does = goes_on IsLogRun _ _ _ c.from_residual-in_err-draw_result.result c.from_residual-in_err-draw_result.ensures.1
-          (stops_as (Then IsLogRun (IsPartOfDeeds IsResult)) (IsPartOfDeeds IsLogRun) _ _ _ (run_part c.args.drawing.now.choice)
-          (stops_then IsLogRun (IsPartOfDeeds IsResult) _ _ _ _ c.loop-index.invariant c.in_err-draw_result.ensures.does));
-    }
+pub returns-in_err-draw_result-clause-does : goal.returns-in_err-draw_result-clause-does
+returns-in_err-draw_result-clause-does g c =
+    let run = view c.args.node.value.now in
+    let text = c.args.results.now.text.now in
+    let choice = c.args.drawing.now.choice in
+    let value = view c.in_ok-value.value in
+    let stands : StandsIn text value = subst (λ t. StandsIn t.now value) c.loop-index.invariant.0 c.in_ok-value.ensures.stands in
+    let of = subst (λ (ch : Choice). IsRunOf form.Sarif ch.columns run c.new-run.result) (sym c.loop-index.invariant.1.choice) c.new-run.ensures.is in
+    let next = IsPartOfDeeds (IsResult form.Sarif run value) in
+    let rest = AreStanding text run in
+    goes_on (IsCutRun text run) _ _ _ c.from_residual-in_err-draw_result.result c.from_residual-in_err-draw_result.ensures.1
+    (stops_as (Then (IsCutRun text run) next) (IsPartOfDeeds (IsCutRun text run)) _ _ _
+    (λ ds h. messages_part rest next rest choice ds ([], standing_none text run choice) (λ es k. standing_part text run value choice es stands k) h)
+    (stops_then (IsCutRun text run) next _ _ _ _ c.loop-index.invariant.1 (c.in_err-draw_result.ensures.does form.Sarif run of)))
 
-pub returns-in_err-value : goal.returns-in_err-value
-returns-in_err-value g c =
-    record {
-      does = goes_err IsLogRun _ _ c.from_residual-in_err-value.result c.from_residual-in_err-value.ensures.1
-          (λ s q. stops_all s q c.loop-index.invariant);
-    }
+pub returns-in_err-value-clause-does : goal.returns-in_err-value-clause-does
+returns-in_err-value-clause-does g c =
+    goes_err (IsCutRun c.args.results.now.text.now (view c.args.node.value.now)) _ _ c.from_residual-in_err-value.result
+    c.from_residual-in_err-value.ensures.1 (λ s q. stops_all s q c.loop-index.invariant.1)
 
-pub returns : goal.returns
-returns g c = record { does = c.loop-index.invariant }
+pub returns-clause-does : goal.returns-clause-does
+returns-clause-does g c = c.loop-index.invariant.1

@@ -1,10 +1,12 @@
+use Rattle.std.proofs.Common.{◌≡◌}
 use Rattle.redraw_run.specs.Deeds.{Does, standing}
-use Rattle.redraw_run.specs.Fates.{AreRuns}
+use Rattle.redraw_run.specs.Fates.{IsCutLog}
 use Rattle.output_stream.specs.Standing.{known}
 use Rattle.redraw_run.proofs.sarif.draw_cut_runs.Given as goal
 
--- what is done of the runs so far
+-- what is done of the runs so far, and the text is the same
 abbrev pub invariant-loop-index : goal.invariant-loop-index
 invariant-loop-index g l =
-    Does AreRuns (standing l.fn.drawing (known g.W.Write.contents l.fn.out) (known g.V.Write.contents l.fn.err))
+    (l.results.text.now ≡ l.fn.text)
+    × Does (IsCutLog l.fn.text) (standing l.fn.drawing (known g.W.Write.contents l.fn.out) (known g.V.Write.contents l.fn.err))
     (standing l.drawing (known g.W.Write.contents l.out) (known g.V.Write.contents l.err))

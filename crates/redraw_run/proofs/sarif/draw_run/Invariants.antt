@@ -1,10 +1,13 @@
+use Rattle.std.proofs.Common.{map, take}
+use Rattle.serde_json.specs.View.{view}
 use Rattle.redraw_run.specs.Deeds.{Does, standing}
-use Rattle.redraw_run.specs.Fates.{IsLogRun}
+use Rattle.redraw_run.specs.Fates.{AreMessages, Each, IsResult, Then}
 use Rattle.output_stream.specs.Standing.{known}
 use Rattle.redraw_run.proofs.sarif.draw_run.Given as goal
 
--- what is done of the run so far
+-- what is done of the run's results so far, after messages
 abbrev pub invariant-loop-index : goal.invariant-loop-index
 invariant-loop-index g l =
-    Does IsLogRun (standing l.fn.drawing (known g.W.Write.contents l.fn.out) (known g.V.Write.contents l.fn.err))
+    Does (Then AreMessages (Each (IsResult l.fn.form (view l.fn.node.value.now)) (map view (take l.index l.results.items.now))))
+    (standing l.fn.drawing (known g.W.Write.contents l.fn.out) (known g.V.Write.contents l.fn.err))
     (standing l.drawing (known g.W.Write.contents l.out) (known g.V.Write.contents l.err))

@@ -1,5 +1,5 @@
 use Rattle.serde_json.specs.View.{view}
-use Rattle.redraw_run.specs.Fates.{AreRuns, IsFateOfPiece, IsFindingOrText, IsHandedOn, IsList, IsValue}
+use Rattle.redraw_run.specs.Fates.{IsCutLog, IsFateOfPiece, IsFindingOrText, IsHandedOn, IsList, IsValue}
 use Rattle.redraw_run.proofs.Doing.{does_as, goes_as}
 use Rattle.redraw_run.proofs.Lined.{finding_becomes, hands_begun, hands_blank, hands_other, list_becomes, value_becomes, wrong_becomes}
 use Rattle.redraw_run.proofs.Pieced.{log_becomes}
@@ -17,7 +17,7 @@ pub returns-in-Log : goal.returns-in-Log
 returns-in-Log g c =
     let bytes = c.args.bytes.now in
     record {
-      does = λ of. goes_as AreRuns (IsFateOfPiece bytes) _ _ c.log.result (log_becomes bytes c.args.form c.in-Log.log c.in-Log.is of _)
+      does = λ of. goes_as (IsCutLog bytes) (IsFateOfPiece bytes) _ _ c.log.result (log_becomes bytes c.args.form c.in-Log.log c.in-Log.is of _)
           c.log.ensures.does;
     }
 
@@ -37,8 +37,8 @@ pub returns-in-List : goal.returns-in-List
 returns-in-List g c =
     let bytes = c.args.bytes.now in
     record {
-      does = λ of. goes_as (IsList bytes) (IsFateOfPiece bytes) _ _ c.list.result (list_becomes bytes c.args.form c.in-List.value c.in-List.is of _)
-          c.list.ensures.does;
+      does = λ of. goes_as (IsList bytes (view c.in-List.value)) (IsFateOfPiece bytes) _ _ c.list.result
+          (list_becomes bytes c.args.form c.in-List.value c.in-List.is of _) c.list.ensures.does;
     }
 
 pub returns-in-Begins : goal.returns-in-Begins
