@@ -1,5 +1,5 @@
 -- What a page keeps of the reports in it.
-use Rattle.std.specs.Prelude.{◌≡◌, ℕ, List, Option, None, Some, string_bytes}
+use Rattle.std.specs.Prelude.{◌≡◌, ◌||◌, ℕ, Bool, true, false, List, Option, None, Some, is_some, nat_lt, string_bytes}
 use Rattle.std.specs.BTreeMap.{BTreeMap, get_by_text, insert_entry}
 use Rattle.std.specs.BTreeMap as map
 use Rattle.std.specs.Cmp.Lexicographic.{slice_cmp}
@@ -26,11 +26,30 @@ abbrev pub times : Option ℕ → ℕ
 times None = 0
 times (Some n) = n
 
--- a report has this id in a page: its digest, and one more than how often that was there; and that is kept
-pub record Numbers (report : List ℕ) (id : ReportId) (old new : BTreeMap (List ℕ) ℕ) : Type 0 where
+-- the most digests that a page keeps
+abbrev pub most_kept : ℕ
+most_kept = 16384
+
+-- whether a page keeps this digest, or has room for it
+abbrev pub has_room : Page → List ℕ → Bool
+has_room page digest = is_some (map.get byte_order page.reports digest) || nat_lt (map.btree_map_len page.reports) most_kept
+
+-- a report with this id is one more with its digest, and that is kept
+abbrev pub IsKept : ReportId → Page → Page → Type 0
+IsKept id old new =
+    (id.number ≡ one_more (times (map.get byte_order old.reports id.digest)))
+    × (new.reports.entries ≡ insert_entry byte_order old.reports.entries id.digest id.number)
+    × (new.later ≡ old.later)
+
+-- a report with this id has a number that no other has, and its digest isn't kept
+abbrev pub IsLater : ReportId → Page → Page → Type 0
+IsLater id old new = (id.number ≡ one_more old.later) × (new.later ≡ id.number) × (new.reports ≡ old.reports)
+
+-- a report has this id in a page: its digest, and a number, which is that of the reports with this digest as long as there is room for digests
+pub record Numbers (report : List ℕ) (id : ReportId) (old new : Page) : Type 0 where
   pub digest_is : id.digest ≡ digest report
-  pub number : id.number ≡ one_more (times (map.get byte_order old id.digest))
-  pub kept : new.entries ≡ insert_entry byte_order old.entries id.digest id.number
+  pub kept : has_room old id.digest ≡ true → IsKept id old new
+  pub later : has_room old id.digest ≡ false → IsLater id old new
 
 -- a listed file, or one that this report is the first in
 abbrev pub first_or : Option ListedFile → ReportId → ListedFile
@@ -54,5 +73,5 @@ ListsIn (Some name) id kind old new = Lists name id kind old new
 
 -- a report is taken into a page: it gets an id, and is counted in its file
 pub record Takes (report : List ℕ) (file : Option (List ℕ)) (kind : Kind) (id : ReportId) (old new : Page) : Type 0 where
-  pub numbered : Numbers report id old.reports new.reports
+  pub numbered : Numbers report id old new
   pub counted_in : ListsIn file id kind old.files new.files
