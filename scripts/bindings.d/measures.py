@@ -35,6 +35,10 @@ def nested(yazgult):
     raise Trouble("no nested JSON is read")
 
 
+# How a source is handed over from Rust.
+SOURCES = {"text": "text", "kept": "number among kept ones"}
+
+
 def bench(room, anstyle, names):
     if not shutil.which("valgrind"):
         raise Trouble("there is no valgrind on this machine")
@@ -49,6 +53,10 @@ def bench(room, anstyle, names):
         told = run([program, "draw", "200", file]).decode().strip()
         print(f"{file.stem}: {(often - once) // 10:,} instructions a round; without valgrind: {told}", flush=True)
         by_python(file, room)
+    for lines in (1000, 10000):
+        for how in SOURCES:
+            once, often = (counted([program, "source", str(times), str(lines), how], room) for times in (1, 101))
+            print(f"a line of {lines:,}, by the source's {SOURCES[how]}: {(often - once) // 100:,} instructions a report", flush=True)
 
 
 def by_python(file, room):

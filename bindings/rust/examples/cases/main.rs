@@ -3,6 +3,7 @@
 //! - `cases check EXPECTED FILE ..` compares what becomes of each case with what stands in the same line of EXPECTED.
 //! - `cases draw TIMES FILE` builds and draws the reports of a file so many times, each under its own sheets, and prints how many
 //!   bytes the texts of all rounds have and how long one round took.
+//! - `cases source TIMES LINES text|kept` draws a report about one line of a source of so many, handed over each time or kept.
 
 mod json;
 mod report;
@@ -12,18 +13,26 @@ use report::Parts;
 use std::process::ExitCode;
 use std::time::Instant;
 use yazgult::renderer::{RenderError, Stylesheet};
-use yazgult::Renderer;
+use yazgult::{Annotation, AnnotationKind, Group, Level, Renderer, Snippet, SourceLines};
 
 fn main() -> ExitCode {
     let words: Vec<String> = std::env::args().skip(1).collect();
     match words.iter().map(String::as_str).collect::<Vec<_>>().as_slice() {
         ["check", files @ ..] if files.len() % 2 == 0 => check(files),
-        ["draw", times, file] => draw(times.parse().expect("how many times"), file),
+        ["draw", times, file] => draw(number(times), file),
+        ["source", times, lines, "text"] => draw_source(number(times), number(lines), false),
+        ["source", times, lines, "kept"] => draw_source(number(times), number(lines), true),
         _ => {
-            eprintln!("usage: cases check EXPECTED FILE [EXPECTED FILE ..]\n       cases draw TIMES FILE");
+            eprintln!("usage: cases check EXPECTED FILE [EXPECTED FILE ..]");
+            eprintln!("       cases draw TIMES FILE");
+            eprintln!("       cases source TIMES LINES text|kept");
             ExitCode::from(2)
         }
     }
+}
+
+fn number(word: &str) -> usize {
+    word.parse().unwrap_or_else(|error| panic!("{word}: {error}"))
 }
 
 /// The values that the lines of a file hold.
@@ -102,4 +111,19 @@ fn drawn(renderer: &Renderer, sheets: &[Stylesheet], parts: &[Parts<'_>]) -> usi
     let groups = report::built(parts);
     let texts = renderer.render_sheets(&groups, sheets).unwrap_or_else(|refusal| panic!("{refusal}"));
     texts.iter().map(String::len).sum()
+}
+
+fn draw_source(times: usize, lines: usize, is_kept: bool) -> ExitCode {
+    let text = "let value = of(x+y);\n".repeat(lines);
+    let kept = SourceLines::new(text.as_str());
+    let middle = text.len() / 2;
+    let mut length = 0;
+    for _ in 0..times {
+        let snippet: Snippet<'_, Annotation<'_>> =
+            if is_kept { Snippet::indexed(&kept) } else { Snippet::source(text.as_str()) };
+        let marked = snippet.annotation(AnnotationKind::Primary.span(middle..middle + 1));
+        length += Renderer::plain().render(&[Group::with_level(Level::ERROR).element(marked)]).len();
+    }
+    println!("{length} bytes");
+    ExitCode::SUCCESS
 }
