@@ -18,11 +18,16 @@ NO, YES = b"\0", b"\1"
 number: Callable[[int], bytes] = Struct("<Q").pack
 ONE = number(1)
 two_numbers: Callable[[int, int], bytes] = Struct("<QQ").pack
+# The span of a mark, with what stands after it: that there is no label, or that there is one of so many bytes.
+unlabelled: Callable[[int, int, bool], bytes] = Struct("<QQ?").pack
+labelled: Callable[[int, int, bool, int], bytes] = Struct("<QQ?Q").pack
 # What stands before a text that may be left out, and isn't: that it is there, and its length.
 some: Callable[[bool, int], bytes] = Struct("<?Q").pack
 
 KINDS = {kind: bytes([i]) for i, kind in enumerate(("error", "warning", "info", "note", "help"))}
 MARKS = {kind: bytes([i]) for i, kind in enumerate(("primary", "context", "visible"))}
+# The kind of a mark whose source isn't highlighted.
+UNLIT = {kind: mark + NO for kind, mark in MARKS.items()}
 
 # What `spans` names, and whether that is bytes.
 COUNTS_BYTES = {"characters": False, "bytes": True}
@@ -141,16 +146,6 @@ def text_if(value: Any) -> bytes:
     return some(True, len(encoded)) + encoded
 
 
-def add_text_if(value: Any, add: Callable[[bytes], None]) -> None:
-    """Adds a text that may be left out."""
-    if value is None:
-        add(NO)
-    else:
-        encoded = encode(value)
-        add(some(True, len(encoded)))
-        add(encoded)
-
-
 def number_if(value: Any) -> bytes:
     """A number that may be left out."""
     return NO if value is None else YES + number(whole(value))
@@ -219,18 +214,19 @@ def add_cause(snippet: Mapping[str, Any], in_bytes: bool, kept: List[Source], ma
     add = made.append
     for mark in marks:
         held, known = mark if type(mark) is dict else fields(mark, ANNOTATION), 3
-        add(span(held))
-        if "label" in held:
-            known += 1
-            add_text_if(held["label"], add)
+        start, end = span(held)
+        if "label" in held and held["label"] is not None:
+            known, label = 4, encode(held["label"])
+            add(labelled(start, end, True, len(label)))
+            add(label)
         else:
-            add(NO)
-        add(MARKS[held["kind"]])
+            known += "label" in held
+            add(unlabelled(start, end, False))
         if "highlight_source" in held:
             known += 1
-            add(flag(held["highlight_source"], NO))
+            made += (MARKS[held["kind"]], flag(held["highlight_source"], NO))
         else:
-            add(NO)
+            add(UNLIT[held["kind"]])
         if known != len(held):
             raise Other
     add_looks(snippet, made)
@@ -242,7 +238,7 @@ def add_suggestion(snippet: Mapping[str, Any], in_bytes: bool, kept: List[Source
     span = add_source(snippet, in_bytes, len(patches), kept, made)
     for patch in patches:
         held = fields(patch, PATCH)
-        made += (span(held), text(held["text"]))
+        made += (two_numbers(*span(held)), text(held["text"]))
     add_looks(snippet, made)
 
 
@@ -275,7 +271,7 @@ def add_looks(snippet: Mapping[str, Any], made: List[bytes]) -> None:
     made += (flag(snippet.get("line_numbering"), YES), flag(snippet.get("fold"), YES))
 
 
-Span = Callable[[Mapping[str, Any]], bytes]
+Span = Callable[[Mapping[str, Any]], Tuple[int, int]]
 
 
 def spans_in(source: str, size: int, starts: List[int], unit: Any, in_bytes: bool) -> Span:
@@ -287,11 +283,11 @@ def spans_in(source: str, size: int, starts: List[int], unit: Any, in_bytes: boo
     return counted_in(len(source)) if len(source) == size else Characters(source, starts).span
 
 
-def counted_span(marker: Mapping[str, Any]) -> bytes:
+def counted_span(marker: Mapping[str, Any]) -> Tuple[int, int]:
     """The span of a marker that counts bytes."""
     start, end = marker["start"], marker["end"]
     if type(start) is int and type(end) is int:
-        return two_numbers(start, end)
+        return start, end
     raise Other
 
 
@@ -299,10 +295,10 @@ def counted_in(length: int) -> Span:
     """How the spans of markers are written that count the characters of a text of so many, which are a byte each. A place that the text
     hasn't is for JSON to tell."""
 
-    def span(marker: Mapping[str, Any]) -> bytes:
+    def span(marker: Mapping[str, Any]) -> Tuple[int, int]:
         start, end = marker["start"], marker["end"]
         if type(start) is int and type(end) is int and start <= length and end <= length:
-            return two_numbers(start, end)
+            return start, end
         raise Other
 
     return span
@@ -314,11 +310,11 @@ class Characters:
     def __init__(self, source: str, starts: List[int]):
         self.source, self.starts, self.last = source, starts, (0, 0)
 
-    def span(self, marker: Mapping[str, Any]) -> bytes:
+    def span(self, marker: Mapping[str, Any]) -> Tuple[int, int]:
         """The span of a marker that counts characters. A place that the text hasn't is for JSON to tell."""
         start, end = whole(marker["start"]), whole(marker["end"])
         if 0 <= start <= len(self.source) and 0 <= end <= len(self.source):
-            return two_numbers(self.byte(start), self.byte(end))
+            return self.byte(start), self.byte(end)
         raise Other
 
     def byte(self, place: int) -> int:
