@@ -27,8 +27,13 @@ def terminal(columns):
     with open(its, "w", encoding="utf-8") as file:
 
         def shown():
-            file.flush()
-            return os.read(ours, 1 << 16).decode().replace("\r\n", "\n")
+            file.close()
+            parts = []
+            # What was written may come in parts; an error tells that no more will.
+            with contextlib.suppress(OSError):
+                while part := os.read(ours, 1 << 16):
+                    parts.append(part)
+            return b"".join(parts).decode().replace("\r\n", "\n")
 
         yield file, shown
     os.close(ours)
