@@ -213,7 +213,8 @@ def add_cause(snippet: Mapping[str, Any], in_bytes: bool, kept: List[Source], ma
     span = add_source(snippet, in_bytes, len(marks), kept, made)
     add = made.append
     for mark in marks:
-        held, known = mark if type(mark) is dict else fields(mark, ANNOTATION), 3
+        held = mark if type(mark) is dict else fields(mark, ANNOTATION)
+        known = 3  # fields, beside those that may be left out
         start, end = span(held)
         if "label" in held and held["label"] is not None:
             known, label = 4, encode(held["label"])
