@@ -6,7 +6,7 @@ use Rattle.std.specs.Option.{option_copied}
 use Rattle.std.specs.Str.{chars, IsUtf8, is_utf8, IsCharBoundary}
 use Rattle.snippet_grid.proofs.StretchLemmas.{stretch, length-stretch_of, stretch_joined, stretch_grown, stretch_added, BeginsWith-append, BeginsWith-le}
 use Rattle.snippet_grid.proofs.StretchLemmas.{front_grown, boundary, IsUtf8-stretch, is_utf8-end, is_utf8-to}
-use Rattle.snippet_grid.specs.Runs.{IsRun, IsJoined, IsMoved, Continues, BeginsWith, run_bytes, run_chars}
+use Rattle.snippet_grid.specs.Runs.{IsRun, IsJoined, Continues, BeginsWith, run_bytes, run_chars}
 use Rattle.snippet_grid.specs.declared.runs.Run.{Run}
 use Rattle.snippet_style.specs.declared.role.ElementStyle.TheVariants.{MainHeaderMsg}
 
@@ -91,60 +91,33 @@ IsJoined-here text first second whole utf8 one two goes there row cell count sta
       chars_are = characters;
     }
 
--- a copy of a run's characters at the end of the text
-pub IsMoved-here : (old new : List ℕ) (run moved : Run) → IsUtf8 old → IsUtf8 new → IsRun old run → new ≡ old ++ run_bytes old run
-    → moved.row ≡ run.row → moved.cell ≡ run.cell → moved.count ≡ run.count → moved.start ≡ length old → moved.end ≡ length new
-    → moved.role ≡ run.role → option_copied moved.link ≡ option_copied run.link → IsMoved old new run moved
-IsMoved-here old new run moved utf8 utf8_new is grown row cell count start end role link =
-    let grows : BeginsWith old new = subst (λ (t : List ℕ). BeginsWith old t) (sym grown) (BeginsWith-append old (run_bytes old run)) in
-    let bytes : run_bytes new moved ≡ run_bytes old run =
-    ap (λ s. stretch new s moved.end) start ∙ ap (λ e. stretch new (length old) e) end ∙ ap (λ (t : List ℕ). stretch t (length old) (length t)) grown
-    ∙ stretch_added old (run_bytes old run) in
+-- two runs, whose characters were copied to the end of the text
+pub IsJoined-copied : (old new : List ℕ) (first second whole : Run) → IsUtf8 old → IsUtf8 new → IsRun old first → IsRun old second → Continues first second
+    → new ≡ old ++ (run_bytes old first ++ run_bytes old second) → whole.row ≡ first.row → whole.cell ≡ first.cell
+    → whole.count ≡ first.count + second.count → whole.start ≡ length old → whole.end ≡ length new → whole.role ≡ first.role
+    → option_copied whole.link ≡ option_copied first.link → IsJoined old new first second whole
+IsJoined-copied old new first second whole utf8 utf8_new one two goes grown row cell count start end role link =
+    let both : List ℕ = run_bytes old first ++ run_bytes old second in
+    let grows : BeginsWith old new = subst (λ (t : List ℕ). BeginsWith old t) (sym grown) (BeginsWith-append old both) in
+    let bytes : run_bytes new whole ≡ both = ap (λ s. stretch new s whole.end) start ∙ ap (λ e. stretch new (length old) e) end
+    ∙ ap (λ (t : List ℕ). stretch t (length old) (length t)) grown ∙ stretch_added old both in
+    let characters : run_chars new whole ≡ run_chars old first ++ run_chars old second =
+    ap chars bytes ∙ chars-append (run_bytes old first) (run_bytes old second) (IsUtf8-run_bytes old first utf8 one) in
     record {
       is_run = record {
         ordered = omega (arith, start, end, BeginsWith-le old new grows);
         within = omega (arith, end);
         starts = ap (λ s. is_utf8 (take s new)) start ∙ ap is_utf8 (front_grown old new (length old) grows (omega arith)) ∙ is_utf8-end old utf8;
         ends = ap (λ e. is_utf8 (take e new)) end ∙ is_utf8-end new utf8_new;
-        counted = count ∙ is.counted ∙ sym (ap (λ (t : List ℕ). length (chars t)) bytes);
-        some = omega (arith, count, is.some);
-        fits = omega (arith, count, cell, is.fits);
+        counted = count ∙ ap (λ n. n + second.count) one.counted ∙ ap (λ n. length (run_chars old first) + n) two.counted
+            ∙ sym (length-append (run_chars old first) (run_chars old second)) ∙ sym (ap length characters);
+        some = omega (arith, count, one.some);
+        fits = omega (arith, count, cell, goes.touches, two.fits);
       };
       row = row;
       cell = cell;
       count = count;
-      end = end;
       role = role;
       link = link;
-      bytes = bytes;
-    }
-
--- a run that was moved, and another copied after it
-pub IsJoined-after : (old mid new : List ℕ) (first second front after whole : Run) → IsUtf8 new → IsRun old second → Continues first second
-    → BeginsWith old mid → BeginsWith mid new → IsMoved old mid first front → IsMoved mid new second after → after.start ≡ length mid
-    → whole.row ≡ front.row → whole.cell ≡ front.cell → whole.count ≡ first.count + second.count → whole.start ≡ front.start → whole.end ≡ after.end
-    → whole.role ≡ front.role → option_copied whole.link ≡ option_copied front.link → IsJoined old new first second whole
-IsJoined-after old mid new first second front after whole utf8 is_second goes grows more moved copied begins row cell count start end role link =
-    let counts : whole.count ≡ front.count + after.count = omega (arith, count, moved.count, copied.count) in
-    let both : Continues front after = record {
-      row = moved.row ∙ goes.row ∙ sym copied.row;
-      touches = omega (arith, moved.cell, moved.count, copied.cell, goes.touches);
-      role = moved.role ∙ goes.role ∙ sym copied.role;
-      link = moved.link ∙ goes.link ∙ sym copied.link;
-    } in
-    let there : take (after.end - after.start) (drop front.end new) ≡ run_bytes new after =
-    ap (λ n. take (after.end - after.start) (drop n new)) (moved.end ∙ sym begins) in
-    let here = IsJoined-here new front after whole utf8 (IsRun-grown mid new front more moved.is_run) copied.is_run both there row cell counts start
-    (omega (arith, end, moved.end, begins, copied.is_run.ordered)) role link in
-    let front_bytes : run_bytes new front ≡ run_bytes old first = run_bytes-grown mid new front more moved.is_run ∙ moved.bytes in
-    let after_bytes : run_bytes new after ≡ run_bytes old second = copied.bytes ∙ run_bytes-grown old mid second grows is_second in
-    record {
-      is_run = here.is_run;
-      row = here.row ∙ moved.row;
-      cell = here.cell ∙ moved.cell;
-      count = count;
-      role = here.role ∙ moved.role;
-      link = here.link ∙ moved.link;
-      chars_are = here.chars_are ∙ ap (λ (t : List ℕ). chars t ++ run_chars new after) front_bytes
-          ∙ ap (λ (t : List ℕ). run_chars old first ++ chars t) after_bytes;
+      chars_are = characters;
     }

@@ -65,17 +65,6 @@ pub record IsJoined (old new : List ℕ) (first second whole : Run) : Type 0 whe
   pub link : option_copied whole.link ≡ option_copied first.link
   pub chars_are : run_chars new whole ≡ run_chars old first ++ run_chars old second
 
--- the same run, with its characters at the end of the text
-pub record IsMoved (old new : List ℕ) (run moved : Run) : Type 0 where
-  pub is_run : IsRun new moved
-  pub row : moved.row ≡ run.row
-  pub cell : moved.cell ≡ run.cell
-  pub count : moved.count ≡ run.count
-  pub end : moved.end ≡ length new
-  pub role : moved.role ≡ run.role
-  pub link : option_copied moved.link ≡ option_copied run.link
-  pub bytes : run_bytes new moved ≡ run_bytes old run
-
 -- the part of a run from one of its cells to before another
 pub record IsPart (text : List ℕ) (run : Run) (from to : ℕ) (part : Run) : Type 0 where
   pub is_run : IsRun text part

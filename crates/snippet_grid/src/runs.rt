@@ -1,7 +1,7 @@
 //! Runs of neighbouring cells that share their role and their link.
 ghost use Rattle.std.specs.Prelude.{◌≡◌, ◌+◌, ◌-◌, ◌<◌, ◌≤◌, ℕ, true, false, length, min, take, drop, All};
 ghost use Rattle.std.specs.Prelude.{IfOk, OnOk, OnErr, string_bytes};
-ghost use Rattle.snippet_grid.specs.Runs.{IsRun, Continues, Differ, IsJoined, IsMoved, IsPart, BeginsWith, ShowsMore};
+ghost use Rattle.snippet_grid.specs.Runs.{IsRun, Continues, Differ, IsJoined, IsPart, BeginsWith, ShowsMore};
 ghost use Rattle.snippet_grid.specs.Runs.{ShowsCopy, FitsMoved, AddsRun, IsRow, EndsBy, Precedes, BeginsAfter};
 ghost use Rattle.snippet_grid.specs.Runs.{BeginsBy, run_bytes, run_chars};
 ghost use Rattle.snippet_grid.specs.Changes.{num_touched};
@@ -43,36 +43,6 @@ pub(crate) fn continues(first: &Run<'_>, second: &Run<'_>) -> bool
         && first.link == second.link
 }
 
-/// The run with a copy of its characters, which begins where the text ended. `copy` is there for its room.
-fn copied<'a>(text: &mut String, copy: &mut String, run: &Run<'a>) -> Result<Run<'a>, AllocError>
-    requires run { IsRun (string_bytes text.old) run.now }
-    ensures ok { IfOk result (λ moved. IsMoved (string_bytes text.old) (string_bytes text.new) run.now moved) }
-    ensures start { IfOk result (λ moved. moved.start ≡ length (string_bytes text.old)) }
-    ensures text { BeginsWith (string_bytes text.old) (string_bytes text.new) }
-{
-    let start = text.len();
-    copy.clear();
-    copy.push_str(&text[run.start..run.end])?;
-    text.push_str(copy.as_str())?;
-    Ok(Run {
-        start,
-        end: text.len(),
-        ..*run
-    })
-}
-
-/// The run with its characters at the end of the text: copied there, unless they stand there.
-fn at_end<'a>(text: &mut String, copy: &mut String, run: &Run<'a>) -> Result<Run<'a>, AllocError>
-    requires run { IsRun (string_bytes text.old) run.now }
-    ensures ok { IfOk result (λ moved. IsMoved (string_bytes text.old) (string_bytes text.new) run.now moved) }
-    ensures text { BeginsWith (string_bytes text.old) (string_bytes text.new) }
-{
-    if run.end == text.len() {
-        return Ok(*run);
-    }
-    copied(text, copy, run)
-}
-
 /// Whether the text from this place on begins with what a run holds.
 fn stands_at(text: &str, at: usize, run: &Run<'_>) -> bool
     requires run { IsRun text.now run.now }
@@ -91,7 +61,7 @@ fn stands_at(text: &str, at: usize, run: &Run<'_>) -> bool
 }
 
 /// Adds to a run another one, which goes on where it ends. Where the text goes on with the second's characters, nothing
-/// is copied.
+/// is copied; else those of both are, to the end of the text. `copy` is there for its room.
 #[inline(never)]
 pub(crate) fn join<'a>(
     text: &mut String,
@@ -111,12 +81,16 @@ pub(crate) fn join<'a>(
         first.end += second.end - second.start;
         return Ok(());
     }
-    let front = at_end(text, copy, first)?;
-    let after = copied(text, copy, second)?;
+    let start = text.len();
+    copy.clear();
+    copy.push_str(&text[first.start..first.end])?;
+    copy.push_str(&text[second.start..second.end])?;
+    text.push_str(copy.as_str())?;
     *first = Run {
         count: first.count + second.count,
-        end: after.end,
-        ..front
+        start,
+        end: text.len(),
+        ..*first
     };
     Ok(())
 }

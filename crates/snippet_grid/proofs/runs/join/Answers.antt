@@ -1,6 +1,7 @@
-use Rattle.std.proofs.Common.{string_bytes, refl, subst, take, drop, ◌≡◌, ◌-◌, List, ℕ}
+use Rattle.std.proofs.Common.{string_bytes, refl, rules, subst, sym, ap, take, drop, ◌≡◌, ◌∙◌, ◌-◌, ◌++◌, List, ℕ}
 use Rattle.std.proofs.lemmas.Str.{IsUtf8-string_bytes}
-use Rattle.snippet_grid.proofs.RunLemmas.{IsJoined-here, IsJoined-after, IsRun-grown}
+use Rattle.std.specs.Str.{IsCharBoundary}
+use Rattle.snippet_grid.proofs.RunLemmas.{IsJoined-copied, IsJoined-here, ends_at_boundary, starts_at_boundary}
 use Rattle.snippet_grid.specs.Runs.{run_bytes}
 use Rattle.snippet_grid.proofs.runs.join.Goals as goal
 
@@ -14,13 +15,37 @@ returns-then-stands_at-clause-ok c =
     IsJoined-here text c.args.first.now second _ (IsUtf8-string_bytes c.args.text.now) c.requires.first c.requires.second c.requires.continues there refl refl
     refl refl refl refl refl
 
-pub copied-requires : goal.copied-requires
-copied-requires c =
-    record { run = IsRun-grown (string_bytes c.args.text.now) (string_bytes c.at_end.new.text) c.args.second.now c.in_ok-front.ensures.text c.requires.second }
+pub range-requires-clause-start_boundary : goal.range-requires-clause-start_boundary
+range-requires-clause-start_boundary c =
+    λ _. subst (λ (t : List ℕ). IsCharBoundary t c.args.first.now.start) (sym c.deref.ensures)
+    (starts_at_boundary (string_bytes c.args.text.now) c.args.first.now (IsUtf8-string_bytes c.args.text.now) c.requires.first)
+
+pub range-requires-clause-end_boundary : goal.range-requires-clause-end_boundary
+range-requires-clause-end_boundary c =
+    subst (λ (t : List ℕ). IsCharBoundary t c.args.first.now.end) (sym c.deref.ensures)
+    (ends_at_boundary (string_bytes c.args.text.now) c.args.first.now (IsUtf8-string_bytes c.args.text.now) c.requires.first)
+
+pub range-requires-2-clause-start_boundary : goal.range-requires-2-clause-start_boundary
+range-requires-2-clause-start_boundary c =
+    λ _. subst (λ (t : List ℕ). IsCharBoundary t c.args.second.now.start) (sym c.deref-2.ensures)
+    (starts_at_boundary (string_bytes c.args.text.now) c.args.second.now (IsUtf8-string_bytes c.args.text.now) c.requires.second)
+
+pub range-requires-2-clause-end_boundary : goal.range-requires-2-clause-end_boundary
+range-requires-2-clause-end_boundary c =
+    subst (λ (t : List ℕ). IsCharBoundary t c.args.second.now.end) (sym c.deref-2.ensures)
+    (ends_at_boundary (string_bytes c.args.text.now) c.args.second.now (IsUtf8-string_bytes c.args.text.now) c.requires.second)
 
 pub returns-clause-ok : goal.returns-clause-ok
 returns-clause-ok c =
-    IsJoined-after (string_bytes c.args.text.now) (string_bytes c.at_end.new.text) (string_bytes c.copied.new.text)
-    c.args.first.now c.args.second.now c.in_ok-front.front c.in_ok-after.after _ (IsUtf8-string_bytes c.copied.new.text)
-    c.requires.second c.requires.continues c.in_ok-front.ensures.text c.in_ok-after.ensures.text c.in_ok-front.ensures.ok c.in_ok-after.ensures.ok
-    c.in_ok-after.ensures.start refl refl refl refl refl refl refl
+    let text = string_bytes c.args.text.now in
+    let new = string_bytes c.push_str-3.new.self in
+    let first = c.args.first.now in
+    let second = c.args.second.now in
+    let front : c.range.result.now ≡ run_bytes text first = c.range.ensures.value ∙ ap (λ (t : List ℕ). run_bytes t first) c.deref.ensures in
+    let back : c.range-2.result.now ≡ run_bytes text second = c.range-2.ensures.value ∙ ap (λ (t : List ℕ). run_bytes t second) c.deref-2.ensures in
+    let both : string_bytes c.push_str-2.new.self ≡ run_bytes text first ++ run_bytes text second = c.in_ok-push_str-2.ensures.bytes
+    ∙ ap (λ (t : List ℕ). t ++ c.range-2.result.now) (c.in_ok-push_str.ensures.bytes ∙ ap (λ (t : List ℕ). t ++ c.range.result.now) c.clear.ensures.bytes ∙ front)
+    ∙ ap (λ (t : List ℕ). run_bytes text first ++ t) back in
+    IsJoined-copied text new first second _ (IsUtf8-string_bytes c.args.text.now) (IsUtf8-string_bytes c.push_str-3.new.self) c.requires.first
+    c.requires.second c.requires.continues (c.in_ok-push_str-3.ensures.bytes ∙ ap (λ (t : List ℕ). text ++ t) (c.as_str-2.ensures.value ∙ both)) refl refl
+    refl (search (rules, c.len-start.ensures)) (search (rules, c.len.ensures)) refl refl
