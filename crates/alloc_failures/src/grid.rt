@@ -10,9 +10,9 @@ use std::io;
 /// A call that writes.
 #[derive(Clone, Copy)]
 enum WriteCall {
+    AddRow,
     Putc,
     Puts,
-    PutPart,
     Append,
     Replace,
     SetStyle,
@@ -22,9 +22,9 @@ enum WriteCall {
 
 /// The calls, in the order in which they are made of each row.
 const CALLS: &[(WriteCall, &str)] = &[
+    (WriteCall::AddRow, "grid: `add_row`"),
     (WriteCall::Putc, "grid: `putc`"),
     (WriteCall::Puts, "grid: `puts`"),
-    (WriteCall::PutPart, "grid: `put_part`"),
     (WriteCall::Append, "grid: `append`"),
     (WriteCall::Replace, "grid: `replace`"),
     (WriteCall::SetStyle, "grid: `set_style`"),
@@ -32,7 +32,7 @@ const CALLS: &[(WriteCall, &str)] = &[
     (WriteCall::Link, "grid: `link`"),
 ];
 
-/// What stands in place of the first characters of a row.
+/// What a row has at first.
 const FRONT: [StyledChar; 2] = [
     StyledChar {
         ch: 'a',
@@ -72,9 +72,9 @@ fn sheet() -> Stylesheet {
 fn make(grid: &mut StyledBuffer<'static>, call: WriteCall, row: u8) -> Result<(), AllocError> {
     let row = usize::from(row);
     match call {
+        WriteCall::AddRow => grid.add_row(&FRONT),
         WriteCall::Putc => grid.putc(row, 6, '^', ElementStyle::UnderlinePrimary),
-        WriteCall::Puts => grid.puts(row, 0, "yzcd", ElementStyle::Quotation),
-        WriteCall::PutPart => grid.put_part(row, 0, &FRONT, ElementStyle::Quotation),
+        WriteCall::Puts => grid.puts(row, 2, "cd", ElementStyle::Quotation),
         WriteCall::Append => grid.append(row, " label", ElementStyle::LabelPrimary),
         WriteCall::Replace => grid.replace(row, 1, 3, "..."),
         WriteCall::SetStyle => grid.set_style(row, 0, ElementStyle::Addition, false),

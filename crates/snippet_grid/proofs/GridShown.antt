@@ -10,7 +10,7 @@ use Rattle.std.specs.Option.{option_copied}
 use Rattle.std.specs.Str.{chars, is_utf8, IsUtf8}
 use Rattle.snippet_grid.proofs.GridLemmas.{WritesCells-cells_written}
 use Rattle.snippet_style.proofs.CellLemmas.{length-text_cells, slice_index_or-text_cells}
-use Rattle.snippet_grid.proofs.StretchLemmas.{stretch, stretch_added, BeginsWith-append, BeginsWith-le, front_grown, is_utf8-end}
+use Rattle.snippet_grid.proofs.StretchLemmas.{stretch, stretch_added, BeginsWith-append, BeginsWith-le, IsUtf8-stretch, front_grown, is_utf8-end}
 use Rattle.snippet_grid.proofs.ShownLemmas.{All-tail, pick, cell_same, painted-grown, All-IsRun-grown, holds_inside, holds_elsewhere, holds_before, holds-after}
 use Rattle.snippet_grid.specs.Grid.{row_at, cell_at, cells_written, WritesCells}
 use Rattle.snippet_style.specs.Cell.{Cell, SPACE, text_cells}
@@ -252,6 +252,17 @@ IsGrid-read t s runs now w v text same widths grid =
 pub grid_read : (t s : List ℕ) (runs now : List Run) (w v : List ℕ) → s ≡ t → now ≡ runs → v ≡ w → grid_shown s now v ≡ grid_shown t runs w
 grid_read t s runs now w v text same widths =
     ap (λ (x : List ℕ). grid_shown x now v) text ∙ ap (λ (l : List Run). grid_shown t l v) same ∙ ap (λ (x : List ℕ). grid_shown t runs x) widths
+
+-- the characters that a text goes on with are those that were added to it
+pub chars_added : (old new cs : List ℕ) → IsUtf8 old → IsUtf8 new → new ≡ old ++ encode_utf8_all cs → BeginsWith old new
+    → chars (encode_utf8_all cs) ≡ cs
+chars_added old new cs utf8_old utf8_new added grows =
+    let word = encode_utf8_all cs in
+    let starts = ap is_utf8 (front_grown old new (length old) grows (omega arith)) ∙ is_utf8-end old utf8_old in
+    let part : IsUtf8 (stretch new (length old) (length new)) =
+    IsUtf8-stretch new (length old) (length new) utf8_new (BeginsWith-le old new grows) (omega arith) starts (is_utf8-end new utf8_new) in
+    let is : stretch new (length old) (length new) ≡ word = ap (λ (t : List ℕ). stretch t (length old) (length t)) added ∙ stretch_added old word in
+    sym (chars_from_encodes cs word (subst IsUtf8 is part) refl)
 
 -- the text of one character
 pub one_char : (ch : ℕ) (text : List ℕ) → IsUtf8 text → text ≡ encode_utf8 ch → chars text ≡ ch ∷ []

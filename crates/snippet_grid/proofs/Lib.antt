@@ -1,3 +1,4 @@
+pub mod AddedRows
 pub mod ChangeLemmas
 pub mod ChangedRow
 pub mod CopyLemmas

@@ -1,3 +1,4 @@
+pub mod AddedRow
 pub mod Changes
 pub mod Grid
 pub mod Html

@@ -1,5 +1,5 @@
 -- Characters in their roles.
-use Rattle.std.specs.Prelude.{ℕ, List, map}
+use Rattle.std.specs.Prelude.{ℕ}
 use Rattle.snippet_grid.specs.declared.styled_char.StyledChar.{StyledChar}
 use Rattle.snippet_style.specs.Cell.{Cell, unlinked_cell}
 

@@ -3,12 +3,12 @@
 //! A grid has rows, and a row has cells, both counted from 0. What is written beyond a row's end,
 //! or below the last row, makes the row longer and adds rows, as far as needed and no farther.
 
-ghost use Rattle.std.specs.Prelude.{◌≡◌, ◌+◌, ◌<◌, ◌≤◌, List, [], ◌∷◌, length, map, ℕ, true, IfOk, OnOk, OnErr, IsOk};
+ghost use Rattle.std.specs.Prelude.{◌≡◌, ◌+◌, ◌<◌, ◌≤◌, ◌++◌, List, [], ◌∷◌, length, map, ℕ, true, IfOk, OnOk, OnErr, IsOk};
 ghost use Rattle.std.specs.Prelude.{string_bytes, encode_utf8_all};
 ghost use Rattle.snippet_grid.specs.Grid.{row_at, num_cells, cells_written, WritesCells, cells_restyled, RestylesCells};
 ghost use Rattle.snippet_grid.specs.Grid.{cells_linked, LinksCells, cells_replaced, ReplacesCells};
 ghost use Rattle.snippet_grid.specs.RunBounds.{fewest_runs, most_runs};
-ghost use Rattle.snippet_grid.specs.StyledChars.{ch_of};
+ghost use Rattle.snippet_grid.specs.StyledChars.{cell_of};
 ghost use Rattle.snippet_style.specs.Cell.{text_cells};
 ghost use Rattle.snippet_style.specs.declared.role.ElementStyle.TheVariants.{LineNumber};
 ghost use Rattle.std.specs.Str.{chars};
@@ -18,6 +18,7 @@ ghost use Rattle.snippet_grid.specs.Html.{AddsHtml, rows_html};
 ghost use Rattle.snippet_grid.specs.Woven.{WeavesRows, Prints, IsWoven, links_of};
 ghost use Rattle.snippet_style.specs.Bounds.{HasNext, IsRowNumber, IsUsize};
 
+use crate::added_row::add_row;
 use crate::cells::{Cells, RowCells};
 use crate::change::{Change, change_cells};
 use crate::codes::SheetCodes;
@@ -27,7 +28,7 @@ use crate::replace::replace_cells;
 use crate::runs::Run;
 use crate::styled_char::StyledChar;
 use crate::weave::weave_rows;
-use crate::words::{fits, write_part, write_word};
+use crate::words::{fits, write_char, write_word};
 use snippet_style::{ElementStyle, LevelInner, Stylesheet};
 use std::alloc::{AllocError, Global};
 use std::marker::Model;
@@ -108,9 +109,9 @@ impl<'a> StyledBuffer<'a> {
     /// How many runs of neighbouring cells with one role and one link are kept: as many as are
     /// needed to show the rows, at least, and at most as many as can show them. That is one for
     /// each stretch of cells with one role and one link; only unstyled, unlinked spaces may be
-    /// in a run or in none. A new grid has no run. `putc`, `puts`, `put_part`, `append`,
-    /// `replace` and `set_style` each add at most two; the functions that they call promise it of the
-    /// list of runs.
+    /// in a run or in none. A new grid has no run. `putc`, `puts`, `append`, `replace` and
+    /// `set_style` each add at most two; the functions that they call promise it of the list of
+    /// runs.
     pub fn num_runs(&self) -> usize
         ensures few { result ≤ num_cells self.now }
         ensures enough { fewest_runs self.now ≤ result }
@@ -139,8 +140,7 @@ impl<'a> StyledBuffer<'a> {
             (WritesCells self.old self.new row cell (text_cells role (ch ∷ []))) }
         ensures err { OnErr result (self.new ≡ self.old) }
     {
-        let part = [StyledChar { ch, role }];
-        write_part(&mut self.cells, &mut self.spare, row, cell, &part, role)
+        write_char(&mut self.cells, &mut self.spare, row, cell, ch, role)
     }
 
     /// Writes a text in this row, from this cell on, one cell for each character. An empty text
@@ -172,28 +172,17 @@ impl<'a> StyledBuffer<'a> {
         write_word(&mut self.cells, &mut self.spare, row, cell, text, role)
     }
 
-    /// Writes characters in this row, from this cell on, one in each cell, all in one role. There is one at least.
+    /// Adds a row of these cells, below all others.
     ///
     /// # Errors
     ///
-    /// There is no memory for the row or its cells.
-    pub fn put_part(
-        &mut self,
-        row: usize,
-        cell: usize,
-        part: &[StyledChar],
-        role: ElementStyle,
-    ) -> Result<(), AllocError>
-        requires row { HasNext row }
-        requires end { IsUsize (cell + length part.now) }
-        requires some { 0 < length part.now }
-        ensures ok { OnOk result
-            (self.new ≡ cells_written self.old row cell (text_cells role (map ch_of part.now))) }
-        ensures reads { OnOk result
-            (WritesCells self.old self.new row cell (text_cells role (map ch_of part.now))) }
+    /// There is no memory for the row.
+    pub fn add_row(&mut self, cells: &[StyledChar]) -> Result<(), AllocError>
+        ensures ok { OnOk result (self.new ≡ self.old ++ map cell_of cells.now ∷ []) }
+        ensures small { OnOk result (IsRowNumber (length self.old)) }
         ensures err { OnErr result (self.new ≡ self.old) }
     {
-        write_part(&mut self.cells, &mut self.spare, row, cell, part, role)
+        add_row(&mut self.cells, cells)
     }
 
     /// Writes a text in this row, after its last cell, one cell for each character. An empty text

@@ -1,6 +1,7 @@
 //! The grid of styled cells that a report is drawn into, and its text.
 #![tactic(auto)]
 
+mod added_row;
 mod cells;
 mod change;
 pub mod codes;

@@ -1,7 +1,7 @@
 //! Words that are written into a grid of runs.
 ghost use Rattle.std.specs.Prelude.{◌≡◌, ◌↔◌, ◌+◌, ◌<◌, ◌≤◌, ◌++◌, max, true, length, map, None};
 ghost use Rattle.std.specs.Prelude.{IfOk, OnOk, OnErr, IsOk, IsTrue};
-ghost use Rattle.std.specs.Prelude.{encode_utf8_all, string_bytes, vec_capacity};
+ghost use Rattle.std.specs.Prelude.{◌∷◌, [], encode_utf8, string_bytes, vec_capacity};
 ghost use Rattle.std.specs.List.{slice_index_or};
 ghost use Rattle.std.specs.Option.{option_copied};
 ghost use Rattle.std.specs.Str.{chars};
@@ -9,13 +9,11 @@ ghost use Rattle.snippet_grid.specs.Grid.{cells_written};
 ghost use Rattle.snippet_style.specs.Cell.{text_cells};
 ghost use Rattle.snippet_grid.specs.Runs.{BeginsWith, IsRun, IsGrid, IsLast, IsWord, IsWidened, run_chars, grid_shown};
 ghost use Rattle.snippet_grid.specs.Stored.{stored};
-ghost use Rattle.snippet_grid.specs.StyledChars.{ch_of};
 ghost use Rattle.snippet_style.specs.Bounds.{HasNext, IsRowNumber, IsUsize};
 
 use crate::cells::Cells;
 use crate::put::{Spare, put_run};
 use crate::runs::{Run, add_run};
-use crate::styled_char::StyledChar;
 use snippet_style::{ElementStyle, char_count};
 use std::alloc::AllocError;
 
@@ -49,7 +47,7 @@ const FIRST_ROWS: usize = 16;
 
 /// Makes room for a small report, if nothing was written yet.
 #[inline(always)]
-fn make_first_room(
+pub(crate) fn make_first_room(
     text: &mut String,
     runs: &mut Vec<Run<'_>>,
     widths: &mut Vec<usize>,
@@ -81,7 +79,7 @@ fn reserve_first(
 
 /// Makes room for a row of this number.
 #[inline(always)]
-fn make_room(widths: &mut Vec<usize>, row: usize) -> Result<(), AllocError>
+pub(crate) fn make_room(widths: &mut Vec<usize>, row: usize) -> Result<(), AllocError>
     requires row { HasNext row }
     ensures items { widths.new.items ≡ widths.old.items }
     ensures room { OnOk result (row + 1 ≤ vec_capacity widths.new) }
@@ -152,40 +150,26 @@ pub(crate) fn push_word<'a>(
     })
 }
 
-/// Adds characters to a text.
+/// Adds a character to the text, as a run.
 #[inline(always)]
-fn spell(text: &mut String, part: &[StyledChar]) -> Result<(), AllocError>
-    ensures ok { OnOk result (string_bytes text.new ≡ string_bytes text.old ++ encode_utf8_all (map ch_of part.now)) }
-    ensures text { BeginsWith (string_bytes text.old) (string_bytes text.new) }
-{
-    for styled in part {
-        text.push(styled.ch)?;
-    }
-    Ok(())
-}
-
-/// Adds characters to the text, as a run in one role.
-#[inline(always)]
-fn push_chars<'a>(
+fn push_char<'a>(
     text: &mut String,
     row: usize,
     at: usize,
-    part: &[StyledChar],
+    ch: char,
     role: ElementStyle,
 ) -> Result<Run<'a>, AllocError>
-    requires some { 0 < length part.now }
-    requires end { IsUsize (at + length part.now) }
-    ensures ok { IfOk result (λ run. IsWord (string_bytes text.new) row at role
-        (encode_utf8_all (map ch_of part.now)) run) }
-    ensures spelt { OnOk result (chars (encode_utf8_all (map ch_of part.now)) ≡ map ch_of part.now) }
+    requires end { HasNext at }
+    ensures ok { IfOk result (λ run. IsWord (string_bytes text.new) row at role (encode_utf8 ch) run) }
+    ensures alone { OnOk result (chars (encode_utf8 ch) ≡ ch ∷ []) }
     ensures text { BeginsWith (string_bytes text.old) (string_bytes text.new) }
 {
     let start = text.len();
-    spell(text, part)?;
+    text.push(ch)?;
     Ok(Run {
         row,
         cell: at,
-        count: part.len(),
+        count: 1,
         start,
         end: text.len(),
         role,
@@ -290,26 +274,25 @@ pub(crate) fn write_word<'a>(
     )
 }
 
-/// Writes characters into a row, from this cell on, all in one role. There is one at least.
+/// Writes a character into a row, at this cell.
 #[inline(always)]
-pub(crate) fn write_part<'a>(
+pub(crate) fn write_char<'a>(
     cells: &mut Cells<'a>,
     spare: &mut Spare<'a>,
     row: usize,
     at: usize,
-    part: &[StyledChar],
+    ch: char,
     role: ElementStyle,
 ) -> Result<(), AllocError>
     requires row { HasNext row }
-    requires end { IsUsize (at + length part.now) }
-    requires some { 0 < length part.now }
+    requires end { HasNext at }
     ensures ok { OnOk result
-        (cells.new.rows ≡ cells_written cells.old.rows row at (text_cells role (map ch_of part.now))) }
+        (cells.new.rows ≡ cells_written cells.old.rows row at (text_cells role (ch ∷ []))) }
     ensures runs_added { cells.new.num_runs ≤ cells.old.num_runs + 2 }
     ensures err { OnErr result (cells.new ≡ cells.old) }
 {
     make_first_room(&mut cells.text, &mut cells.runs, &mut cells.widths)?;
-    let run = push_chars(&mut cells.text, row, at, part, role)?;
+    let run = push_char(&mut cells.text, row, at, ch, role)?;
     place_run(
         &mut cells.text,
         spare,

@@ -33,13 +33,3 @@ abbrev pub drawn_strokes : Layout → ℕ → ℕ → List PlacedEntry → List 
 drawn_strokes layout row count placed order =
     flat_map (connector_of layout (row + 1)) placed ++ flat_map (corner_of layout row count) placed ++ stems_of layout (row + 1) placed
     ++ flat_map (label_of layout (row + 1)) placed ++ flat_map (drawn_mark layout (row + 1)) order
-
--- the strokes of some entries that have no stem, from left to right
-abbrev pub drawn_part : Layout → ℕ → ℕ → List PlacedEntry → List Write
-drawn_part layout row count part =
-    corners_of layout row count part ++ connectors_of layout (row + 1) part ++ marks_of layout (row + 1) part ++ labels_of layout (row + 1) part
-
--- those of entries that stand apart, one entry after another from left to right
-abbrev pub drawn_apart : Layout → ℕ → ℕ → List PlacedEntry → List Write
-drawn_apart layout row count [] = []
-drawn_apart layout row count (e ∷ left) = drawn_apart layout row count left ++ drawn_part layout row count (e ∷ [])

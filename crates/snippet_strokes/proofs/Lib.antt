@@ -1,5 +1,4 @@
 pub mod AmongLaws
-pub mod ApartLemmas
 pub mod SwapLemmas
 pub mod BarFacts
 pub mod BarLaws

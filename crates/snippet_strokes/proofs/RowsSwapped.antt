@@ -11,7 +11,7 @@ use Rattle.snippet_strokes.specs.Writes.{Write, painted}
 use Rattle.snippet_strokes.proofs.OneStep.{written_by}
 
 -- cells of two rows may be written in either order
-rows-swap : (rows : List (List Cell)) (r q at from : ℕ) (xs ys : List Cell) → r ≢ q
+pub rows-swap : (rows : List (List Cell)) (r q at from : ℕ) (xs ys : List Cell) → r ≢ q
     → cells_written (cells_written rows r at xs) q from ys ≡ cells_written (cells_written rows q from ys) r at xs
 rows-swap rows r q at from xs ys two =
     let low : List (List Cell) = cells_written rows r at xs in

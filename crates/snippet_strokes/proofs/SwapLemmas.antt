@@ -1,15 +1,13 @@
 -- Writes that don't meet may change places.
-use Rattle.std.proofs.Common.{◌≡◌, ℕ, ◌+◌, ◌-◌, ◌<◌, ◌≤◌, List, [], ◌∷◌, length, get_or, inl, inr, refl, sym, ap, ◌∙◌, arith, All}
+use Rattle.std.proofs.Common.{◌≡◌, ℕ, ◌+◌, ◌-◌, ◌<◌, ◌≤◌, List, [], ◌∷◌, length, get_or, inl, inr, sym, ap, ◌∙◌, arith}
 use Rattle.std.proofs.lemmas.Bool.{cases_eq, cases_lt}
 use Rattle.std.proofs.lemmas.List.{ext_get_or}
-use Rattle.std.proofs.lemmas.List.Elements.{All-head, All-tail}
 use Rattle.snippet_grid.proofs.GridLemmas.{row_at-cells_written_same, row_at-cells_written_other}
 use Rattle.snippet_grid.specs.Grid.{cells_written, row_at}
 use Rattle.snippet_style.proofs.CellLemmas.{length-text_cells, length-written, slice_index_or-written_after, slice_index_or-written_before}
 use Rattle.snippet_style.proofs.CellLemmas.{slice_index_or-written_inside}
-use Rattle.snippet_style.specs.Cell.{Cell, SPACE, text_cells, written}
-use Rattle.snippet_strokes.specs.Writes.{Write, painted}
-use Rattle.snippet_strokes.proofs.OneStep.{written_by}
+use Rattle.snippet_style.specs.Cell.{Cell, SPACE, written}
+use Rattle.snippet_strokes.proofs.RowsSwapped.{rows-swap}
 
 -- cells of a row that end before others begin may be written after them
 pub written-swap : (row xs ys : List Cell) (at from : ℕ) → at + length xs ≤ from
@@ -54,70 +52,35 @@ written-swap row xs ys at from left =
 -- so may cells of a grid, of whatever rows
 pub cells-swap : (rows : List (List Cell)) (r q at from : ℕ) (xs ys : List Cell) → at + length xs ≤ from
     → cells_written (cells_written rows r at xs) q from ys ≡ cells_written (cells_written rows q from ys) r at xs
-cells-swap rows r q at from xs ys left =
-    let low : List (List Cell) = cells_written rows r at xs in
-    let high : List (List Cell) = cells_written rows q from ys in
-    ext_get_or [] (cells_written low q from ys) (cells_written high r at xs)
-    (omega (
-      arith,
-      length-written [] low q (written SPACE (row_at low q) from ys ∷ []),
-      length-written [] rows r (written SPACE (row_at rows r) at xs ∷ []),
-      length-written [] high r (written SPACE (row_at high r) at xs ∷ []),
-      length-written [] rows q (written SPACE (row_at rows q) from ys ∷ []),
-    ))
-    (λ k within. elim (cases_eq r q) [
-      | inl one ↦ elim (cases_eq k q) [
-        | inl here ↦
-            ap (row_at (cells_written low q from ys)) here ∙ row_at-cells_written_same low q from ys
-            ∙ ap (λ n. written SPACE (row_at low n) from ys) (sym one)
-            ∙ ap (λ row. written SPACE row from ys) (row_at-cells_written_same rows r at xs)
-            ∙ written-swap (row_at rows r) xs ys at from left
-            ∙ sym (ap (row_at (cells_written high r at xs)) (here ∙ sym one) ∙ row_at-cells_written_same high r at xs
-            ∙ ap (λ n. written SPACE (row_at high n) at xs) one
-            ∙ ap (λ row. written SPACE row at xs) (row_at-cells_written_same rows q from ys)
-            ∙ ap (λ n. written SPACE (written SPACE (row_at rows n) from ys) at xs) (sym one))
-        | inr away ↦
-            row_at-cells_written_other low q from ys k away ∙ row_at-cells_written_other rows r at xs k (λ same. away (same ∙ one))
-            ∙ sym (row_at-cells_written_other high r at xs k (λ same. away (same ∙ one)) ∙ row_at-cells_written_other rows q from ys k away)
-      ]
-      | inr two ↦ elim (cases_eq k q) [
-        | inl here ↦
-            ap (row_at (cells_written low q from ys)) here ∙ row_at-cells_written_same low q from ys
-            ∙ ap (λ row. written SPACE row from ys) (row_at-cells_written_other rows r at xs q (λ same. two (sym same)))
-            ∙ sym (ap (row_at (cells_written high r at xs)) here ∙ row_at-cells_written_other high r at xs q (λ same. two (sym same))
-            ∙ row_at-cells_written_same rows q from ys)
-        | inr away ↦ elim (cases_eq k r) [
-          | inl there ↦
-              row_at-cells_written_other low q from ys k away ∙ ap (row_at low) there ∙ row_at-cells_written_same rows r at xs
-              ∙ sym (ap (row_at (cells_written high r at xs)) there ∙ row_at-cells_written_same high r at xs
-              ∙ ap (λ row. written SPACE row at xs) (row_at-cells_written_other rows q from ys r two))
-          | inr neither ↦
-              row_at-cells_written_other low q from ys k away ∙ row_at-cells_written_other rows r at xs k neither
-              ∙ sym (row_at-cells_written_other high r at xs k neither ∙ row_at-cells_written_other rows q from ys k away)
-        ]
-      ]
-    ])
-
--- a write ends before this cell, or begins there or after it
-abbrev pub EndsBy : ℕ → Write → Type 0
-EndsBy n w = w.cell + length w.text ≤ n
-
-abbrev pub BeginsFrom : ℕ → Write → Type 0
-BeginsFrom n w = n ≤ w.cell
-
-move_one : (n : ℕ) (w : Write) (vs : List Write) (rows : List (List Cell)) → EndsBy n w → All (BeginsFrom n) vs
-    → painted vs (written_by rows w) ≡ written_by (painted vs rows) w
-move_one n w [] rows ends begin = refl
-move_one n w (v ∷ vs) rows ends begin =
-    let here : n ≤ v.cell = All-head (BeginsFrom n) v vs begin in
-    ap (painted vs) (cells-swap rows w.row v.row w.cell v.cell (text_cells w.role w.text) (text_cells v.role v.text)
-    (omega (arith, length-text_cells w.role w.text, ends, here)))
-    ∙ move_one n w vs (written_by rows v) ends (All-tail (BeginsFrom n) v vs begin)
-
--- writes that end where others begin may come after them
-pub move_all : (n : ℕ) (ws vs : List Write) (rows : List (List Cell)) → All (EndsBy n) ws → All (BeginsFrom n) vs
-    → painted vs (painted ws rows) ≡ painted ws (painted vs rows)
-move_all n [] vs rows end begin = refl
-move_all n (w ∷ ws) vs rows end begin =
-    move_all n ws vs (written_by rows w) (All-tail (EndsBy n) w ws end) begin
-    ∙ ap (painted ws) (move_one n w vs rows (All-head (EndsBy n) w ws end) begin)
+cells-swap rows r q at from xs ys left = elim (cases_eq r q) [
+  | inl one ↦ in_one rows r q at from xs ys left one
+  | inr two ↦ rows-swap rows r q at from xs ys two
+]
+  where
+    in_one : (rows : List (List Cell)) (r q at from : ℕ) (xs ys : List Cell) → at + length xs ≤ from → r ≡ q
+        → cells_written (cells_written rows r at xs) q from ys ≡ cells_written (cells_written rows q from ys) r at xs
+    in_one rows r q at from xs ys left one =
+        let low : List (List Cell) = cells_written rows r at xs in
+        let high : List (List Cell) = cells_written rows q from ys in
+        ext_get_or [] (cells_written low q from ys) (cells_written high r at xs)
+        (omega (
+          arith,
+          length-written [] low q (written SPACE (row_at low q) from ys ∷ []),
+          length-written [] rows r (written SPACE (row_at rows r) at xs ∷ []),
+          length-written [] high r (written SPACE (row_at high r) at xs ∷ []),
+          length-written [] rows q (written SPACE (row_at rows q) from ys ∷ []),
+        ))
+        (λ k within. elim (cases_eq k q) [
+          | inl here ↦
+              ap (row_at (cells_written low q from ys)) here ∙ row_at-cells_written_same low q from ys
+              ∙ ap (λ n. written SPACE (row_at low n) from ys) (sym one)
+              ∙ ap (λ row. written SPACE row from ys) (row_at-cells_written_same rows r at xs)
+              ∙ written-swap (row_at rows r) xs ys at from left
+              ∙ sym (ap (row_at (cells_written high r at xs)) (here ∙ sym one) ∙ row_at-cells_written_same high r at xs
+              ∙ ap (λ n. written SPACE (row_at high n) at xs) one
+              ∙ ap (λ row. written SPACE row at xs) (row_at-cells_written_same rows q from ys)
+              ∙ ap (λ n. written SPACE (written SPACE (row_at rows n) from ys) at xs) (sym one))
+          | inr away ↦
+              row_at-cells_written_other low q from ys k away ∙ row_at-cells_written_other rows r at xs k (λ same. away (same ∙ one))
+              ∙ sym (row_at-cells_written_other high r at xs k (λ same. away (same ∙ one)) ∙ row_at-cells_written_other rows q from ys k away)
+        ])

@@ -1,4 +1,3 @@
-pub mod Apart
 pub mod Bars
 pub mod CellRows
 pub mod Cuts

@@ -1,5 +1,5 @@
-//! Rows that are kept cell by cell, for strokes that meet: what is painted into one row moves nothing in another, and
-//! costs the same wherever it stands. Once all is painted, the rows are added to a grid, from left to right.
+//! Rows that are kept cell by cell, for the strokes of many entries: what is painted into one row moves nothing in
+//! another, and costs the same wherever it stands. Once all is painted, the rows are added to a grid.
 //!
 //! ```text
 //!       | --^^--
@@ -106,7 +106,6 @@ impl CellRows {
     /// There is no memory for the rows.
     pub(crate) fn append_below_source(&self, buffer: &mut StyledBuffer) -> Result<(), AllocError>
         requires rows { 1 < length self.now }
-        requires some { All (λ row. 0 < length row) (drop 1 self.now) }
         ensures added { OnOk result (buffer.new ≡ buffer.old ++ drop 1 self.now) }
         ensures small { OnOk result (AreRows (length buffer.new)) }
     {
@@ -251,107 +250,11 @@ fn paint_over(cells: &mut Vec<StyledChar>, start: usize, end: usize, new: Styled
 
 /// Adds rows to a grid, below all that stands in it.
 fn append_rows(buffer: &mut StyledBuffer, rows: &[Vec<StyledChar>]) -> Result<(), AllocError>
-    requires some { All (λ row. 0 < length row.items) rows.now }
     ensures added { OnOk result (buffer.new ≡ buffer.old ++ map cells_of rows.now) }
     ensures small { OnOk result (0 < length rows.now → AreRows (length buffer.new)) }
 {
     for row in rows {
-        append_row(buffer, row)?;
+        buffer.add_row(row)?;
     }
     Ok(())
-}
-
-/// Adds a row to a grid, below all that stands in it.
-fn append_row(buffer: &mut StyledBuffer, cells: &[StyledChar]) -> Result<(), AllocError>
-    requires some { 0 < length cells.now }
-    ensures added { OnOk result (buffer.new ≡ buffer.old ++ map cell_of cells.now ∷ []) }
-    ensures small { IsRowNumber (length buffer.old) }
-{
-    let row = buffer.num_lines();
-    let mut from = 0;
-    while from < cells.len() {
-        let to = stretch_end(cells, from);
-        // Blanks between what is written need no word.
-        if !cells[from].is_blank() || to == cells.len() {
-            write_part(buffer, row, from, &cells[from..to])?;
-        }
-        from = to;
-    }
-    Ok(())
-}
-
-/// Where the cells end that have the role of this one, and are blank if it is, from this one on. Most cells are blank.
-fn stretch_end(cells: &[StyledChar], from: usize) -> usize
-    requires some { from < length cells.now }
-    ensures more { from < result }
-    ensures within { result ≤ length cells.now }
-    ensures role { (k : ℕ) (d : StyledChar) → from ≤ k → k < result
-        → (slice_index_or cells.now k d).role ≡ (slice_index_or cells.now from d).role }
-    ensures blank { (k : ℕ) (d : StyledChar) → from ≤ k → k < result
-        → cell_of (slice_index_or cells.now from d) ≡ SPACE → cell_of (slice_index_or cells.now k d) ≡ SPACE }
-{
-    if cells[from].is_blank() {
-        return blank_end(cells, from);
-    }
-    alike_end(cells, from)
-}
-
-/// Where the blank cells end, from this one on.
-#[inline(always)]
-fn blank_end(cells: &[StyledChar], from: usize) -> usize
-    requires some { from < length cells.now }
-    requires blank { (d : StyledChar) → cell_of (slice_index_or cells.now from d) ≡ SPACE }
-    ensures more { from < result }
-    ensures within { result ≤ length cells.now }
-    ensures blank { (k : ℕ) (d : StyledChar) → from ≤ k → k < result → cell_of (slice_index_or cells.now k d) ≡ SPACE }
-{
-    let mut to = from + 1;
-    while to < cells.len() && cells[to].is_blank() {
-        to += 1;
-    }
-    to
-}
-
-/// Where the cells end that are like this one, found by comparing each with the first.
-fn alike_end(cells: &[StyledChar], from: usize) -> usize
-    requires some { from < length cells.now }
-    ensures more { from < result }
-    ensures within { result ≤ length cells.now }
-    ensures role { (k : ℕ) (d : StyledChar) → from ≤ k → k < result
-        → (slice_index_or cells.now k d).role ≡ (slice_index_or cells.now from d).role }
-    ensures blank { (k : ℕ) (d : StyledChar) → from ≤ k → k < result
-        → cell_of (slice_index_or cells.now from d) ≡ SPACE → cell_of (slice_index_or cells.now k d) ≡ SPACE }
-{
-    let first = cells[from];
-    let mut to = from + 1;
-    while to < cells.len() && goes_on(&first, &cells[to]) {
-        to += 1;
-    }
-    to
-}
-
-/// Whether a character has another one's role, and is blank if that is.
-#[inline(always)]
-fn goes_on(first: &StyledChar, next: &StyledChar) -> bool
-    ensures role { result ≡ true → next.now.role ≡ first.now.role }
-    ensures blank { result ≡ true → cell_of first.now ≡ SPACE → cell_of next.now ≡ SPACE }
-{
-    first.role == next.role && first.is_blank() == next.is_blank()
-}
-
-/// Writes characters in one role into a row of a grid from a cell on.
-fn write_part(
-    buffer: &mut StyledBuffer,
-    row: usize,
-    cell: usize,
-    part: &[StyledChar],
-) -> Result<(), AllocError>
-    requires row { HasNext row }
-    requires end { IsUsize (cell + length part.now) }
-    requires some { 0 < length part.now }
-    requires role { (k : ℕ) (d : StyledChar) → k < length part.now
-        → (slice_index_or part.now k d).role ≡ (slice_index_or part.now 0 d).role }
-    ensures written { OnOk result (buffer.new ≡ cells_written buffer.old row cell (map cell_of part.now)) }
-{
-    buffer.put_part(row, cell, part, part[0].role)
 }

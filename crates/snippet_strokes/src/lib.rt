@@ -2,7 +2,6 @@
 //! labels.
 #![tactic(auto)]
 
-mod apart;
 mod bars;
 mod canvas;
 mod cell_rows;

@@ -1,7 +1,6 @@
 //! All that stands below the source row of a line, and the bars beside it of spans that begin or end there.
 ghost use Rattle.std.specs.Prelude.{◌≡◌, ◌+◌, ◌<◌, ◌++◌, ◌∷◌, [], ℕ, if◌then◌else◌, All, List, OnOk};
-ghost use Rattle.std.specs.Prelude.{◌-◌, ◌^◌, false, length, replicate};
-ghost use Rattle.snippet_strokes.specs.Apart.{StandApart};
+ghost use Rattle.std.specs.Prelude.{◌-◌, false, length, replicate};
 ghost use Rattle.snippet_strokes.specs.Bars.{is_whole_line};
 ghost use Rattle.snippet_strokes.specs.Drawable.{AreDrawable, IsReady};
 ghost use Rattle.snippet_strokes.specs.LineRows.{own_rows};
@@ -15,14 +14,13 @@ ghost use Rattle.snippet_strokes.specs.Writes.{painted};
 ghost use Rattle.snippet_style.specs.Separators.{closing_row, separator_row};
 ghost use Rattle.snippet_style.specs.Bounds.{AreRows, IsCount};
 
-use crate::apart::{draw_apart, stand_apart};
 use crate::canvas::Canvas;
 use crate::cell_rows::CellRows;
 use crate::connectors::draw_connectors;
 use crate::corners::{draw_corners, draw_tops};
 use crate::cuts::{cut_wide, overlapping};
 use crate::labels::draw_labels;
-use crate::marks::{draw_marks, sort_for_painting};
+use crate::marks::draw_marks;
 use crate::row::{begin_closing_row, begin_rows};
 use crate::stems::draw_stems;
 use snippet_grid::{Layout, StyledBuffer};
@@ -110,49 +108,17 @@ fn draw_rows(
     ensures small { OnOk result (AreRows (length buffer.old + count)) }
     ensures count { OnOk result (length buffer.new ≡ length buffer.old + count) }
 {
-    if stand_apart(placed) {
-        draw_side_by_side(buffer, layout, place, count, placed)
-    } else if placed.len() <= FEW {
+    if placed.len() <= FEW {
         draw_few(buffer, layout, place, count, placed)
     } else {
-        draw_meeting(buffer, layout, place, count, placed)
+        draw_many(buffer, layout, place, count, placed)
     }
-}
-
-/// Does the same where the strokes stand side by side: they are drawn from left to right, each after all that is drawn.
-///
-/// # Errors
-///
-/// There is no memory for the rows, or to sort the entries.
-fn draw_side_by_side(
-    buffer: &mut StyledBuffer,
-    layout: Layout,
-    place: StrokePlace,
-    count: usize,
-    placed: &mut Vec<PlacedEntry>,
-) -> Result<(), AllocError>
-    requires some { 0 < count }
-    requires apart { StandApart (2 ^ 64 - 1) placed.old.items }
-    requires last { length buffer.old ≡ place.row + 1 }
-    requires rows { All (HasRows (place.row + 1) (length buffer.old + count)) placed.old.items }
-    requires ready { All (IsReady layout) placed.old.items }
-    ensures order { OnOk result (placed.new.items ≡ painting_order placed.old.items) }
-    ensures painted { OnOk result (buffer.new ≡ painted (line_strokes layout place.row
-        (length buffer.old + count) placed.old.items (painting_order placed.old.items))
-        (buffer.old ++ replicate (count - 1) (separator_row layout.decor layout.gutter)
-        ++ bare_row layout.decor layout.gutter place.closes ∷ [])) }
-    ensures small { OnOk result (AreRows (length buffer.old + count)) }
-    ensures count { OnOk result (length buffer.new ≡ length buffer.old + count) }
-{
-    begin_rows(buffer, layout, place.closes, count)?;
-    draw_apart(buffer, layout, place.row, placed)?;
-    sort_for_painting(placed)
 }
 
 /// How many entries are few.
 const FEW: usize = 8;
 
-/// Does the same where strokes of few entries meet: they are painted one over another in the grid.
+/// Does the same of few entries: their strokes are painted one over another in the grid.
 ///
 /// # Errors
 ///
@@ -181,14 +147,14 @@ fn draw_few(
     draw_marks(buffer, layout, place.row + 1, placed)
 }
 
-/// Does the same where strokes of many entries meet. They are painted one over another in rows that are kept cell by
-/// cell, the first of which stands for the source row, and these are added below it: what is drawn into an upper row of
-/// a grid moves all that stands in the rows below.
+/// Does the same of many entries. Their strokes are painted one over another in rows that are kept cell by cell, the
+/// first of which stands for the source row, and these are added below it: what is drawn into an upper row of a grid
+/// moves all that stands in the rows below.
 ///
 /// # Errors
 ///
 /// There is no memory for the rows, or to sort the entries.
-fn draw_meeting(
+fn draw_many(
     buffer: &mut StyledBuffer,
     layout: Layout,
     place: StrokePlace,

@@ -8,6 +8,6 @@ use Rattle.snippet_grid.proofs.grid.StyledBuffer.putc.Goals as goal
 pub returns-clause-reads : goal.returns-clause-reads
 returns-clause-reads c =
     let cells = text_cells c.args.role (c.args.ch ∷ []) in
-    on_ok_weaker c.write_part.result
-    (λ is. WritesCells-from_equal c.args.self.now c.write_part.new.cells.rows c.args.row c.args.cell cells
-    (is ∙ ap (λ rows. cells_written rows c.args.row c.args.cell cells) c.self.view_is)) c.write_part.ensures.ok
+    on_ok_weaker c.write_char.result
+    (λ is. WritesCells-from_equal c.args.self.now c.write_char.new.cells.rows c.args.row c.args.cell cells
+    (is ∙ ap (λ rows. cells_written rows c.args.row c.args.cell cells) c.self.view_is)) c.write_char.ensures.ok

@@ -1,16 +1,9 @@
-use Rattle.std.proofs.Common.{◌≡◌, ◌∙◌, ◌<◌, ◌-◌, ◌++◌, All, List, ap, arith, drop, length, map, subst, sym, take}
+use Rattle.std.proofs.Common.{◌≡◌, ◌∙◌, ◌<◌, ◌-◌, ◌++◌, ap, arith, drop, length, map, take}
 use Rattle.std.proofs.lemmas.List.{length-drop, length-map, length-take}
 use Rattle.std.proofs.lemmas.Result.{on_ok_weaker}
-use Rattle.snippet_style.specs.Cell.{Cell}
 use Rattle.snippet_strokes.specs.CellRows.{cells_of}
-use Rattle.snippet_strokes.proofs.CellRowLemmas.{rows_from, rows_some}
+use Rattle.snippet_strokes.proofs.CellRowLemmas.{rows_from}
 use Rattle.snippet_strokes.proofs.cell_rows.CellRows.append_below_source.Goals as goal
-
-pub append_rows-requires : goal.append_rows-requires
-append_rows-requires c =
-    let items = c.deref.result.now in
-    let Some : List (List Cell) → Type 0 = λ rows. All (λ row. 0 < length row) (drop 1 rows) in
-    record { some = rows_some items 1 (subst Some (sym (ap (λ rows. map cells_of rows) c.deref.ensures.value ∙ c.self.view_is)) c.requires.some) }
 
 pub returns : goal.returns
 returns c =

@@ -19,9 +19,9 @@ use Rattle.snippet_strokes.proofs.EveryMark.{every_mark}
 use Rattle.snippet_strokes.proofs.EveryStroke.{strokes_painted, under_marks_painted}
 use Rattle.snippet_strokes.proofs.ReadyLemmas.{ready_bar_cells}
 use Rattle.snippet_strokes.proofs.ReadyRows.{begun_enough, begun_long, count_marks, enough_after, rows_lifted}
-use Rattle.snippet_strokes.proofs.SplitRows.{meeting_painted, rows_some, tops_count}
+use Rattle.snippet_strokes.proofs.SplitRows.{meeting_painted, tops_count}
 use Rattle.snippet_strokes.proofs.StrokeWrites.{marks_painted}
-use Rattle.snippet_strokes.proofs.strokes.draw_meeting.Goals as goal
+use Rattle.snippet_strokes.proofs.strokes.draw_many.Goals as goal
 
 pub draw_tops-requires : goal.draw_tops-requires
 draw_tops-requires c =
@@ -98,18 +98,10 @@ append_below_source-requires c =
     let under = c.draw_under_marks.new.buffer in
     let marked = c.draw_marks.new.buffer in
     let below = c.in_ok-draw_under_marks.ensures.painted ∙ ap (λ ps. painted (strokes_under_marks layout 0 (length begun) ps) begun) c.deref-2.ensures.value in
-    let drawn = all_painted layout closes row count placed c.draw_marks.new.placed.items old c.in_ok-rows.rows begun under marked c.requires.some
-    c.requires.last
-    c.requires.rows c.requires.ready c.in_ok-rows.ensures.source c.in_ok-begin_rows.ensures.added c.in_ok-begin_rows.ensures.small below
-    c.in_ok-draw_under_marks.ensures.count c.in_ok-draw_marks.ensures.painted c.in_ok-draw_marks.ensures.order in
     let long = all_long layout closes row count placed c.draw_marks.new.placed.items old c.in_ok-rows.rows begun under marked c.requires.some c.requires.last
     c.requires.rows c.requires.ready c.in_ok-rows.ensures.source c.in_ok-begin_rows.ensures.added c.in_ok-begin_rows.ensures.small below
     c.in_ok-draw_under_marks.ensures.count c.in_ok-draw_marks.ensures.painted c.in_ok-draw_marks.ensures.order in
-    record {
-      rows = omega (arith, long, c.requires.some);
-      some = rows_some layout closes count (drawn_strokes layout 0 (count + 1) placed (painting_order placed)) c.in_ok-rows.rows begun marked
-          (ap length c.in_ok-rows.ensures.source) c.in_ok-begin_rows.ensures.added drawn long;
-    }
+    record { rows = omega (arith, long, c.requires.some) }
 
 pub returns : goal.returns
 returns c =
