@@ -1,4 +1,4 @@
-use Rattle.std.proofs.Common.{◌≡◌, [], ◌∷◌, All, List, None, string_bytes, subst, sym}
+use Rattle.std.proofs.Common.{◌≡◌, [], ◌∷◌, All, List, None, rules, string_bytes, subst, sym}
 use Rattle.snippet_model.specs.declared.snippet.Group.{Group}
 use Rattle.annotate_snippets.specs.AsSet.{IsAsSet}
 use Rattle.annotate_snippets.specs.Fault.{missing_title}
@@ -12,8 +12,8 @@ text_in_form-requires c = record {
   titled = subst (λ (gs : List Group). missing_title c.form_of-form.result gs ≡ None) (sym c.deref.ensures.value) c.in_ok-shown.ensures.shown.titled;
 }
 
-pub returns-clause-shows : goal.returns-clause-shows
-returns-clause-shows c =
+pub returns : goal.returns
+returns c =
     let r = c.args.self.now in
     let groups : List Group = c.args.groups.now in
     let shown : List Group = c.deref.result.now in
@@ -23,30 +23,4 @@ returns-clause-shows c =
     let all : ShowsAll r groups (r.stylesheet ∷ []) (text ∷ []) =
     shows-all form r groups shown c.form_of-form.ensures.value set (r.stylesheet ∷ []) (text ∷ []) c.in_ok-text.ensures.text.shows
     (c.in_ok-text.ensures.text.laws, tt) in
-    all.shows
-
-pub returns-clause-laws : goal.returns-clause-laws
-returns-clause-laws c =
-    let r = c.args.self.now in
-    let groups : List Group = c.args.groups.now in
-    let shown : List Group = c.deref.result.now in
-    let form = c.form_of-form.result in
-    let set : IsAsSet form r groups shown = subst (λ (gs : List Group). IsAsSet form r groups gs) (sym c.deref.ensures.value) c.in_ok-shown.ensures.shown.set in
-    let text = string_bytes c.in_ok-text.text in
-    let all : ShowsAll r groups (r.stylesheet ∷ []) (text ∷ []) =
-    shows-all form r groups shown c.form_of-form.ensures.value set (r.stylesheet ∷ []) (text ∷ []) c.in_ok-text.ensures.text.shows
-    (c.in_ok-text.ensures.text.laws, tt) in
-    all.laws.0
-
-pub returns-clause-free : goal.returns-clause-free
-returns-clause-free c =
-    let r = c.args.self.now in
-    let groups : List Group = c.args.groups.now in
-    let shown : List Group = c.deref.result.now in
-    let form = c.form_of-form.result in
-    let set : IsAsSet form r groups shown = subst (λ (gs : List Group). IsAsSet form r groups gs) (sym c.deref.ensures.value) c.in_ok-shown.ensures.shown.set in
-    let text = string_bytes c.in_ok-text.text in
-    let all : ShowsAll r groups (r.stylesheet ∷ []) (text ∷ []) =
-    shows-all form r groups shown c.form_of-form.ensures.value set (r.stylesheet ∷ []) (text ∷ []) c.in_ok-text.ensures.text.shows
-    (c.in_ok-text.ensures.text.laws, tt) in
-    all.free
+    record { refused = search rules; renders = search rules; shows = all.shows; laws = all.laws.0; free = all.free }

@@ -1,4 +1,4 @@
-use Rattle.std.proofs.Common.{All, List, string_bytes, subst, sym}
+use Rattle.std.proofs.Common.{All, List, rules, string_bytes, subst, sym}
 use Rattle.snippet_model.specs.declared.snippet.Group.{Group}
 use Rattle.annotate_snippets.specs.AsSet.{IsAsSet}
 use Rattle.annotate_snippets.specs.PreparedReport.{IsGroupDrawable}
@@ -9,20 +9,16 @@ use Rattle.annotate_snippets.proofs.renderer.Renderer.render_html.Goals as goal
 pub page_html-requires : goal.page_html-requires
 page_html-requires c = record { drawable = subst (All IsGroupDrawable) (sym c.deref.ensures.value) c.in_ok-shown.ensures.shown.drawable }
 
-pub returns-clause-html : goal.returns-clause-html
-returns-clause-html c =
+pub returns : goal.returns
+returns c =
     let r = c.args.self.now in
     let groups : List Group = c.args.groups.now in
     let shown : List Group = c.deref.result.now in
     let set : IsAsSet Graphic r groups shown =
     subst (λ (gs : List Group). IsAsSet Graphic r groups gs) (sym c.deref.ensures.value) c.in_ok-shown.ensures.shown.set in
-    record { shown = shown; set = set; is = c.in_ok-text.ensures.html }
-
-pub returns-clause-laws : goal.returns-clause-laws
-returns-clause-laws c =
-    let r = c.args.self.now in
-    let groups : List Group = c.args.groups.now in
-    let shown : List Group = c.deref.result.now in
-    let set : IsAsSet Graphic r groups shown =
-    subst (λ (gs : List Group). IsAsSet Graphic r groups gs) (sym c.deref.ensures.value) c.in_ok-shown.ensures.shown.set in
-    record { shown = shown; set = set; laws = html_laws r shown (string_bytes c.in_ok-text.text) c.in_ok-text.ensures.html }
+    record {
+      refused = search rules;
+      renders = search rules;
+      html = record { shown = shown; set = set; is = c.in_ok-text.ensures.html };
+      laws = record { shown = shown; set = set; laws = html_laws r shown (string_bytes c.in_ok-text.text) c.in_ok-text.ensures.html };
+    }

@@ -1,4 +1,4 @@
-use Rattle.std.proofs.Common.{◌≡◌, All, List, None, map, string_bytes, subst, sym}
+use Rattle.std.proofs.Common.{◌≡◌, All, List, None, map, rules, string_bytes, subst, sym}
 use Rattle.snippet_model.specs.declared.snippet.Group.{Group}
 use Rattle.annotate_snippets.specs.AsSet.{IsAsSet}
 use Rattle.annotate_snippets.specs.Fault.{missing_title}
@@ -12,8 +12,8 @@ texts_in_form-requires c = record {
   titled = subst (λ (gs : List Group). missing_title c.form_of-form.result gs ≡ None) (sym c.deref.ensures.value) c.in_ok-shown.ensures.shown.titled;
 }
 
-pub returns-clause-shows : goal.returns-clause-shows
-returns-clause-shows c =
+pub returns : goal.returns
+returns c =
     let r = c.args.self.now in
     let groups : List Group = c.args.groups.now in
     let shown : List Group = c.deref.result.now in
@@ -23,30 +23,4 @@ returns-clause-shows c =
     let texts = map string_bytes c.in_ok-texts.texts.items in
     let all : ShowsAll r groups sheets texts =
     shows-all form r groups shown c.form_of-form.ensures.value set sheets texts c.in_ok-texts.ensures.shows c.in_ok-texts.ensures.laws in
-    all.shows
-
-pub returns-clause-laws : goal.returns-clause-laws
-returns-clause-laws c =
-    let r = c.args.self.now in
-    let groups : List Group = c.args.groups.now in
-    let shown : List Group = c.deref.result.now in
-    let form = c.form_of-form.result in
-    let set : IsAsSet form r groups shown = subst (λ (gs : List Group). IsAsSet form r groups gs) (sym c.deref.ensures.value) c.in_ok-shown.ensures.shown.set in
-    let sheets = c.args.sheets.now in
-    let texts = map string_bytes c.in_ok-texts.texts.items in
-    let all : ShowsAll r groups sheets texts =
-    shows-all form r groups shown c.form_of-form.ensures.value set sheets texts c.in_ok-texts.ensures.shows c.in_ok-texts.ensures.laws in
-    all.laws
-
-pub returns-clause-free : goal.returns-clause-free
-returns-clause-free c =
-    let r = c.args.self.now in
-    let groups : List Group = c.args.groups.now in
-    let shown : List Group = c.deref.result.now in
-    let form = c.form_of-form.result in
-    let set : IsAsSet form r groups shown = subst (λ (gs : List Group). IsAsSet form r groups gs) (sym c.deref.ensures.value) c.in_ok-shown.ensures.shown.set in
-    let sheets = c.args.sheets.now in
-    let texts = map string_bytes c.in_ok-texts.texts.items in
-    let all : ShowsAll r groups sheets texts =
-    shows-all form r groups shown c.form_of-form.ensures.value set sheets texts c.in_ok-texts.ensures.shows c.in_ok-texts.ensures.laws in
-    all.free
+    record { refused = search rules; renders = search rules; shows = all.shows; laws = all.laws; free = all.free }

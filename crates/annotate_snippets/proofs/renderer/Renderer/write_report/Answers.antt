@@ -1,4 +1,4 @@
-use Rattle.std.proofs.Common.{◌≡◌, All, List, None, subst, sym}
+use Rattle.std.proofs.Common.{◌≡◌, All, List, None, rules, subst, sym}
 use Rattle.std.proofs.lemmas.Result.{on_err_weaker, on_ok_weaker}
 use Rattle.snippet_model.specs.declared.snippet.Group.{Group}
 use Rattle.annotate_snippets.specs.AsSet.{IsAsSet}
@@ -15,30 +15,20 @@ write_form-requires g c = record {
   sheet = c.requires.sheet;
 }
 
-pub returns-clause-whole : goal.returns-clause-whole
-returns-clause-whole g c =
+pub returns : goal.returns
+returns g c =
     let r = c.args.self.now in
     let groups : List Group = c.args.groups.now in
     let shown : List Group = c.deref.result.now in
     let form = c.form_of-form.result in
     let set : IsAsSet form r groups shown = subst (λ (gs : List Group). IsAsSet form r groups gs) (sym c.deref.ensures.value) c.in_ok-shown.ensures.shown.set in
-    on_ok_weaker c.write_form.result (written-shows form r groups shown c.form_of-form.ensures.value set _ _) c.write_form.ensures.whole
-
-pub returns-clause-laws : goal.returns-clause-laws
-returns-clause-laws g c =
-    let r = c.args.self.now in
-    let groups : List Group = c.args.groups.now in
-    let shown : List Group = c.deref.result.now in
-    let form = c.form_of-form.result in
-    let set : IsAsSet form r groups shown = subst (λ (gs : List Group). IsAsSet form r groups gs) (sym c.deref.ensures.value) c.in_ok-shown.ensures.shown.set in
-    on_ok_weaker c.write_form.result (written-laws form r groups shown c.form_of-form.ensures.value set _ _) c.write_form.ensures.whole
-
-pub returns-clause-part : goal.returns-clause-part
-returns-clause-part g c =
-    let r = c.args.self.now in
-    let groups : List Group = c.args.groups.now in
-    let shown : List Group = c.deref.result.now in
-    let form = c.form_of-form.result in
-    let set : IsAsSet form r groups shown = subst (λ (gs : List Group). IsAsSet form r groups gs) (sym c.deref.ensures.value) c.in_ok-shown.ensures.shown.set in
-    on_err_weaker c.write_form.result (written-part form r groups shown c.form_of-form.ensures.value set (held g.W.Write.contents) _ _)
-    c.write_form.ensures.part
+    record {
+      same_reference = search rules;
+      told = search rules;
+      refused = search rules;
+      renders = search rules;
+      whole = on_ok_weaker c.write_form.result (written-shows form r groups shown c.form_of-form.ensures.value set _ _) c.write_form.ensures.whole;
+      laws = on_ok_weaker c.write_form.result (written-laws form r groups shown c.form_of-form.ensures.value set _ _) c.write_form.ensures.whole;
+      part = on_err_weaker c.write_form.result (written-part form r groups shown c.form_of-form.ensures.value set (held g.W.Write.contents) _ _)
+          c.write_form.ensures.part;
+    }

@@ -45,23 +45,18 @@ returns-in-len1 c =
           (λ texts. AllZip-weaker (IsTextUnder form r groups) (LawsIn form r groups) (λ sheet text is. is.laws) sheets (map string_bytes texts.items)) are;
     }
 
-pub returns-in-Graphic-clause-shows : goal.returns-in-Graphic-clause-shows
-returns-in-Graphic-clause-shows c =
+pub returns-in-Graphic : goal.returns-in-Graphic
+returns-in-Graphic c =
     let r = c.args.renderer.now in
     let groups : List Group = c.args.groups.now in
     let sheets : List Stylesheet = c.args.sheets.now in
-    subst (λ (form : Form). IfOk c.page_texts.result (λ texts. ShowsForm form r groups sheets (map string_bytes texts.items))) (sym c.in-Graphic.is)
-    (IfOk-weaker c.page_texts.result (λ texts. AllZip (IsTextUnder Graphic r groups) sheets (map string_bytes texts.items))
-    (λ texts. ShowsForm Graphic r groups sheets (map string_bytes texts.items))
-    (λ texts. page-shown r groups sheets (map string_bytes texts.items)) c.page_texts.ensures.texts)
-
-pub returns-in-Graphic-clause-laws : goal.returns-in-Graphic-clause-laws
-returns-in-Graphic-clause-laws c =
-    let r = c.args.renderer.now in
-    let groups : List Group = c.args.groups.now in
-    let sheets : List Stylesheet = c.args.sheets.now in
-    subst (λ (form : Form). IfOk c.page_texts.result (λ texts. AllZip (LawsIn form r groups) sheets (map string_bytes texts.items))) (sym c.in-Graphic.is)
-    (IfOk-weaker c.page_texts.result (λ texts. AllZip (IsTextUnder Graphic r groups) sheets (map string_bytes texts.items))
-    (λ texts. AllZip (LawsIn Graphic r groups) sheets (map string_bytes texts.items))
-    (λ texts. AllZip-weaker (IsTextUnder Graphic r groups) (LawsIn Graphic r groups) (λ sheet text is. is.laws) sheets (map string_bytes texts.items))
-    c.page_texts.ensures.texts)
+    let Are : List (String Global) → Type 0 = λ texts. AllZip (IsTextUnder Graphic r groups) sheets (map string_bytes texts) in
+    record {
+      shows = subst (λ (form : Form). IfOk c.page_texts.result (λ texts. ShowsForm form r groups sheets (map string_bytes texts.items))) (sym c.in-Graphic.is)
+          (IfOk-weaker c.page_texts.result (λ texts. Are texts.items) (λ texts. ShowsForm Graphic r groups sheets (map string_bytes texts.items))
+          (λ texts. page-shown r groups sheets (map string_bytes texts.items)) c.page_texts.ensures.texts);
+      laws = subst (λ (form : Form). IfOk c.page_texts.result (λ texts. AllZip (LawsIn form r groups) sheets (map string_bytes texts.items)))
+          (sym c.in-Graphic.is) (IfOk-weaker c.page_texts.result (λ texts. Are texts.items)
+          (λ texts. AllZip (LawsIn Graphic r groups) sheets (map string_bytes texts.items)) (λ texts. AllZip-weaker (IsTextUnder Graphic r groups)
+          (LawsIn Graphic r groups) (λ sheet text is. is.laws) sheets (map string_bytes texts.items)) c.page_texts.ensures.texts);
+    }
