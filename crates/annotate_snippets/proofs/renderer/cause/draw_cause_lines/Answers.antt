@@ -73,19 +73,16 @@ with_lines_between-requires-clause-texts c =
     lines_texts (numbered_source s) s.markers.items drawable.spans (kept_lines s.fold
     (cow_str_bytes s.source.text) s.markers.items) c.args.cause.kept.items c.requires.prepared.kept_are drawable.source
 
-pub margin_for-margin-requires-clause-texts : goal.margin_for-margin-requires-clause-texts
-margin_for-margin-requires-clause-texts c =
+pub margin_for-margin-requires : goal.margin_for-margin-requires
+margin_for-margin-requires c =
     let s = c.args.cause.snippet.now in
     let drawable = c.requires.prepared.drawable in
-    infos_all TextFits c.deref.result.now (lines_texts (numbered_source s) s.markers.items drawable.spans
-    (shown_lines s.fold (cow_str_bytes s.source.text) s.markers.items) (infos_of c.deref.result.now) (shown_first c) drawable.source)
-
-pub margin_for-margin-requires-clause-labels : goal.margin_for-margin-requires-clause-labels
-margin_for-margin-requires-clause-labels c =
-    let s = c.args.cause.snippet.now in
-    let drawable = c.requires.prepared.drawable in
-    infos_all LabelsFit c.deref.result.now (lines_labels (numbered_source s) s.markers.items drawable.spans
-    (shown_lines s.fold (cow_str_bytes s.source.text) s.markers.items) (infos_of c.deref.result.now) (shown_first c) drawable.labels)
+    let ks = shown_lines s.fold (cow_str_bytes s.source.text) s.markers.items in
+    let ls = c.deref.result.now in
+    record {
+      texts = infos_all TextFits ls (lines_texts (numbered_source s) s.markers.items drawable.spans ks (infos_of ls) (shown_first c) drawable.source);
+      labels = infos_all LabelsFit ls (lines_labels (numbered_source s) s.markers.items drawable.spans ks (infos_of ls) (shown_first c) drawable.labels);
+    }
 
 -- the lines that are kept, as the margin sees them
 kept_is : (c : After-deref-2)
