@@ -25,9 +25,8 @@ loop-element-preserved c =
     c.add_prepared.new.prepared.items c.loop-element-test.true c.element-item.is c.in_ok-add_prepared.ensures.added
     c.in_ok-add_prepared.ensures.prepared c.loop-element.invariant
 
-pub returns-clause-elements : goal.returns-clause-elements
-returns-clause-elements c =
-    c.loop-element.invariant.elements ∙ ap (filter is_drawn) (take_all c.loop-element.element-index c.args.elements.now c.loop-element-test.false)
-
-pub returns-clause-prepared : goal.returns-clause-prepared
-returns-clause-prepared c = c.loop-element.invariant.prepared
+pub returns : goal.returns
+returns c = record {
+  elements = c.loop-element.invariant.elements ∙ ap (filter is_drawn) (take_all c.loop-element.element-index c.args.elements.now c.loop-element-test.false);
+  prepared = c.loop-element.invariant.prepared;
+}

@@ -27,9 +27,7 @@ loop-group-preserved c =
     c.loop-group-test.true c.group-item.is refl c.loop-group.invariant
     (record { fits = drawable.0; elements_are = elements; prepared = c.in_ok-elements.ensures.prepared })
 
-pub returns-clause-groups : goal.returns-clause-groups
-returns-clause-groups c =
-    c.loop-group.invariant.groups ∙ take_all c.loop-group.group-index c.args.groups.now c.loop-group-test.false
-
-pub returns-clause-prepared : goal.returns-clause-prepared
-returns-clause-prepared c = c.loop-group.invariant.prepared
+pub returns : goal.returns
+returns c =
+    let so_far = c.loop-group.invariant in
+    record { groups = so_far.groups ∙ take_all c.loop-group.group-index c.args.groups.now c.loop-group-test.false; prepared = so_far.prepared }

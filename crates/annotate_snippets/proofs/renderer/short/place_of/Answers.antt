@@ -28,12 +28,11 @@ named_place-place-requires c =
       utf8 = c.in_ok-map.ensures.utf8;
     }
 
-pub returns-in_default-clause-value : goal.returns-in_default-clause-value
-returns-in_default-clause-value c =
-    ap chars c.new.ensures.bytes ∙ chars-nil ∙ sym (place-of_none c.args.renderer.now c.args.snippet.now c.args.snippet.now.path c.in_default.not-Some)
-
-pub returns-in_default-clause-short : goal.returns-in_default-clause-short
-returns-in_default-clause-short c = omega (arith, ap (λ bs. length (chars bs)) c.new.ensures.bytes, ap length chars-nil)
+pub returns-in_default : goal.returns-in_default
+returns-in_default c = record {
+  value = ap chars c.new.ensures.bytes ∙ chars-nil ∙ sym (place-of_none c.args.renderer.now c.args.snippet.now c.args.snippet.now.path c.in_default.not-Some);
+  short = omega (arith, ap (λ bs. length (chars bs)) c.new.ensures.bytes, ap length chars-nil);
+}
 
 pub returns : goal.returns
 returns c =
