@@ -14,13 +14,10 @@ returns-in-len1-clause-end c = λ some apart.
 pub returns-in-len1-clause-start : goal.returns-in-len1-clause-start
 returns-in-len1-clause-start c = λ some apart. first_begin c.args.patches.now _ some
 
-pub returns-in-len2-up-clause-span : goal.returns-in-len2-up-clause-span
-returns-in-len2-up-clause-span c =
-    joined_span c.args.source.now.text _ _ _ _ c.min.result c.min.ensures (c.requires.spans 0 _ (omega arith))
-    (c.requires.spans (length c.args.patches.now - 1) _ (omega arith))
-
-pub returns-in-len2-up-clause-end : goal.returns-in-len2-up-clause-end
-returns-in-len2-up-clause-end c = λ some apart. last_end 0 c.args.patches.now _ some
-
-pub returns-in-len2-up-clause-start : goal.returns-in-len2-up-clause-start
-returns-in-len2-up-clause-start c = λ some apart. c.min.ensures ∙ least_begin c.args.patches.now _ some apart
+pub returns-in-len2-up : goal.returns-in-len2-up
+returns-in-len2-up c = record {
+  span = joined_span c.args.source.now.text _ _ _ _ c.min.result c.min.ensures (c.requires.spans 0 _ (omega arith))
+      (c.requires.spans (length c.args.patches.now - 1) _ (omega arith));
+  end = λ some apart. last_end 0 c.args.patches.now _ some;
+  start = λ some apart. c.min.ensures ∙ least_begin c.args.patches.now _ some apart;
+}
