@@ -40,19 +40,15 @@ loop-annotation-preserved c = (
   ],
 )
 
-kind_of_best : (c : goal.After-map) → c.map.result ≡ option_map (λ (m : Mark). m.kind) c.loop-annotation.best
-kind_of_best c = search rules
-
-pub returns-clause-mark : goal.returns-clause-mark
-returns-clause-mark c =
-    answer-mark c.args.source.now c.args.annotations.now c.loop-annotation.annotation-index c.args.line c.args.column c.loop-annotation.best c.map.result
-    c.loop-annotation-test.false (kind_of_best c) c.loop-annotation.invariant.0
-
-pub returns-clause-number : goal.returns-clause-number
-returns-clause-number c = answer-number c.loop-annotation.best c.map.result (c.args.source.now.first ≤ c.args.line)
-    (kind_of_best c) c.loop-annotation.invariant.1
-
-pub returns-clause-none : goal.returns-clause-none
-returns-clause-none c =
-    answer-none c.args.source.now c.args.annotations.now c.loop-annotation.annotation-index c.args.line c.args.column c.loop-annotation.best c.map.result
-    c.loop-annotation-test.false (kind_of_best c) c.loop-annotation.invariant.0
+pub returns : goal.returns
+returns c =
+    let source = c.args.source.now in
+    let marks = c.args.annotations.now in
+    let n = c.loop-annotation.annotation-index in
+    let best = c.loop-annotation.best in
+    let kind : c.map.result ≡ option_map (λ (m : Mark). m.kind) best = search rules in
+    record {
+      mark = answer-mark source marks n c.args.line c.args.column best c.map.result c.loop-annotation-test.false kind c.loop-annotation.invariant.0;
+      number = answer-number best c.map.result (source.first ≤ c.args.line) kind c.loop-annotation.invariant.1;
+      none = answer-none source marks n c.args.line c.args.column best c.map.result c.loop-annotation-test.false kind c.loop-annotation.invariant.0;
+    }

@@ -13,27 +13,18 @@ returns-then-not-is_marking-clause-none c = λ k here. unmarked-from c.args.sour
       | then-not-is_marking-via-else-not-is_marking+else-start-line+then-end-line w ↦ w.if-end-line.true on.last
     ])
 
-pub returns-clause-marked : goal.returns-clause-marked
-returns-clause-marked c = λ k here. marked-from c.args.source.now c.args.annotation.now c.span_to_locations.result c.args.line k
-    c.span_to_locations.ensures.value here
-    (record { marking = sym c.is_marking.ensures.value ∙ c.if-not-is_marking.false; first = c.if-start-line.false; last = c.if-end-line.false })
-
-pub returns-clause-number : goal.returns-clause-number
-returns-clause-number c = omega (
-  arith,
-  c.if-start-line.false,
-  first_line-from c.args.source.now c.args.annotation.now c.span_to_locations.result
-      c.span_to_locations.ensures.value,
-)
-
-pub returns-clause-start : goal.returns-clause-start
-returns-clause-start c = start_column-from c.args.source.now c.args.annotation.now c.span_to_locations.result c.span_to_locations.ensures.value
-
-pub returns-clause-end : goal.returns-clause-end
-returns-clause-end c = omega (
-  arith,
-  c.max.ensures,
-  start_column-from c.args.source.now c.args.annotation.now c.span_to_locations.result c.span_to_locations.ensures.value,
-  end_column-from c.args.source.now c.args.annotation.now c.span_to_locations.result c.args.line c.span_to_locations.ensures.value
-      c.if-start-line.false c.if-end-line.false,
-)
+pub returns : goal.returns
+returns c =
+    let source = c.args.source.now in
+    let a = c.args.annotation.now in
+    let at = c.span_to_locations.result in
+    let is = c.span_to_locations.ensures.value in
+    let start = start_column-from source a at is in
+    record {
+      marked = λ k here. marked-from source a at c.args.line k is here
+          (record { marking = sym c.is_marking.ensures.value ∙ c.if-not-is_marking.false; first = c.if-start-line.false; last = c.if-end-line.false });
+      number = omega (arith, c.if-start-line.false, first_line-from source a at is);
+      start = start;
+      end = omega (arith, c.max.ensures, start, end_column-from source a at c.args.line is c.if-start-line.false c.if-end-line.false);
+      none = tt;
+    }

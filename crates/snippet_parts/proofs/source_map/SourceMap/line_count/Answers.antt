@@ -1,4 +1,4 @@
-use Rattle.std.proofs.Common.{◌≡◌, ◌+◌, ◌∙◌, length, List, ℕ, ap, arith}
+use Rattle.std.proofs.Common.{◌≡◌, ◌+◌, ◌∙◌, length, List, ℕ, ap, arith, rules}
 use Rattle.snippet_lines.specs.Lines.{Source, source_lines}
 use Rattle.snippet_lines.proofs.LinesLemmas.{AreLinesOf-source_lines, length-source_lines, newline_count-le, source_lines-only}
 use Rattle.snippet_parts.specs.MapStarts.{starts_of}
@@ -20,18 +20,14 @@ overflow_add-result c =
     let source : List ℕ = c.self.inside.source.now in
     omega (arith, counted c, length-source_lines source, newline_count-le source, c.self.invariant.short)
 
-pub returns-then-self-clause-value : goal.returns-then-self-clause-value
-returns-then-self-clause-value c =
-    counted c ∙ ap (λ (s : Source). length (source_lines s.text)) c.self.view_is
+pub returns-then-self : goal.returns-then-self
+returns-then-self c = record {
+  value = counted c ∙ ap (λ (s : Source). length (source_lines s.text)) c.self.view_is;
+  lines = AreLinesOf-source_lines c.args.self.now.text;
+  only = source_lines-only c.args.self.now.text;
+}
 
-pub returns-then-self-clause-lines : goal.returns-then-self-clause-lines
-returns-then-self-clause-lines c = AreLinesOf-source_lines c.args.self.now.text
-
-pub returns-then-self-clause-only : goal.returns-then-self-clause-only
-returns-then-self-clause-only c = source_lines-only c.args.self.now.text
-
-pub returns-else-self-clause-lines : goal.returns-else-self-clause-lines
-returns-else-self-clause-lines c = AreLinesOf-source_lines c.args.self.now.text
-
-pub returns-else-self-clause-only : goal.returns-else-self-clause-only
-returns-else-self-clause-only c = source_lines-only c.args.self.now.text
+pub returns-else-self : goal.returns-else-self
+returns-else-self c =
+    let text = c.args.self.now.text in
+    record { value = search rules; lines = AreLinesOf-source_lines text; only = source_lines-only text }

@@ -1,4 +1,4 @@
-use Rattle.std.proofs.Common.{◌≡◌, ◌<◌, ◌≤◌, ◌+◌, ◌^◌, ◌∙◌, length, List, ℕ, ◌-◌, subst, sym, ap, arith}
+use Rattle.std.proofs.Common.{◌≡◌, ◌<◌, ◌≤◌, ◌+◌, ◌^◌, ◌∙◌, length, List, ℕ, ◌-◌, subst, sym, ap, arith, rules}
 use Rattle.std.specs.List.{HoldsAt}
 use Rattle.std.specs.List.Sorted.{IsNonDecreasingBy}
 use Rattle.snippet_lines.specs.Lines.{Source, source_lines}
@@ -53,15 +53,13 @@ returns-then-at-self-clause-within c =
 pub returns-then-at-self-clause-bound : goal.returns-then-at-self-clause-bound
 returns-then-at-self-clause-bound c = omega (arith, found c, small c.self.inside.source.now c.args.byte c.self.invariant.short)
 
-pub returns-else-self-at-clause-within : goal.returns-else-self-at-clause-within
-returns-else-self-at-clause-within c =
-    omega (
-      arith,
-      ap (λ (s : Source). line_of (source_lines s.text) c.args.byte) c.self.view_is,
-      c.line_index.ensures.value,
-      line_of-within c.args.self.now.text c.args.byte,
-    )
-
-pub returns-else-self-at-clause-bound : goal.returns-else-self-at-clause-bound
-returns-else-self-at-clause-bound c =
-    omega (arith, c.line_index.ensures.value, small c.self.inside.source.now c.args.byte c.self.invariant.short)
+pub returns-else-self-at : goal.returns-else-self-at
+returns-else-self-at c =
+    let is = c.line_index.ensures.value in
+    let same = ap (λ (s : Source). line_of (source_lines s.text) c.args.byte) c.self.view_is in
+    record {
+      value = is ∙ same;
+      within = omega (arith, is, same, line_of-within c.args.self.now.text c.args.byte);
+      bound = omega (arith, is, small c.self.inside.source.now c.args.byte c.self.invariant.short);
+      short = search rules;
+    }

@@ -2,36 +2,32 @@ use Rattle.std.proofs.Common.{◌∙◌, arith}
 use Rattle.snippet_parts.proofs.TableLemmas.{located-border, located-char, located-display, located-end, located-is, located-line, located-ordered}
 use Rattle.snippet_parts.proofs.source_map.SourceMap.locate_later.Goals as goal
 
-pub later_on_line-requires-clause-fits : goal.later_on_line-requires-clause-fits
-later_on_line-requires-clause-fits c =
-    omega (arith, located-end c.args.self.now c.args.byte c.args.line.now c.requires.line, c.requires.short)
+pub later_on_line-requires : goal.later_on_line-requires
+later_on_line-requires c =
+    let s = c.args.self.now in
+    let known = c.args.known in
+    let line = c.args.line.now in
+    let there = c.requires.known_line in
+    record {
+      fits = omega (arith, located-end s c.args.byte line c.requires.line, c.requires.short);
+      here_char = located-char s known.byte line there known c.requires.known;
+      here_display = located-display s known.byte line there known c.requires.known;
+      here_border = located-border s known.byte line there c.requires.known_border;
+      border = located-border s c.args.byte line c.requires.line c.requires.border;
+      started = located-ordered s known.byte line there;
+      later = c.requires.later;
+    }
 
-pub later_on_line-requires-clause-here_char : goal.later_on_line-requires-clause-here_char
-later_on_line-requires-clause-here_char c = located-char c.args.self.now c.args.known.byte c.args.line.now c.requires.known_line c.args.known c.requires.known
-
-pub later_on_line-requires-clause-here_display : goal.later_on_line-requires-clause-here_display
-later_on_line-requires-clause-here_display c = located-display c.args.self.now c.args.known.byte c.args.line.now c.requires.known_line c.args.known
-    c.requires.known
-
-pub later_on_line-requires-clause-here_border : goal.later_on_line-requires-clause-here_border
-later_on_line-requires-clause-here_border c = located-border c.args.self.now c.args.known.byte c.args.line.now c.requires.known_line c.requires.known_border
-
-pub later_on_line-requires-clause-border : goal.later_on_line-requires-clause-border
-later_on_line-requires-clause-border c = located-border c.args.self.now c.args.byte c.args.line.now c.requires.line c.requires.border
-
-pub later_on_line-requires-clause-started : goal.later_on_line-requires-clause-started
-later_on_line-requires-clause-started c = located-ordered c.args.self.now c.args.known.byte c.args.line.now c.requires.known_line
-
-pub returns-clause-location : goal.returns-clause-location
-returns-clause-location c =
+pub returns : goal.returns
+returns c =
+    let s = c.args.self.now in
+    let line = c.args.line.now in
     let found = c.later_on_line.ensures in
-    let line = found.line ∙ located-line c.args.self.now c.args.known.byte c.args.line.now c.requires.known_line c.args.known c.requires.known in
-    located-is c.args.self.now c.args.byte c.args.line.now c.requires.line c.later_on_line.result line found.char found.display found.byte
-
-pub returns-clause-char_bound : goal.returns-clause-char_bound
-returns-clause-char_bound c =
-    omega (arith, c.later_on_line.ensures.char_bound, located-end c.args.self.now c.args.byte c.args.line.now c.requires.line, c.requires.short)
-
-pub returns-clause-display_bound : goal.returns-clause-display_bound
-returns-clause-display_bound c =
-    omega (arith, c.later_on_line.ensures.display_bound, located-end c.args.self.now c.args.byte c.args.line.now c.requires.line, c.requires.short)
+    let end = located-end s c.args.byte line c.requires.line in
+    let known = found.line ∙ located-line s c.args.known.byte line c.requires.known_line c.args.known c.requires.known in
+    record {
+      location = located-is s c.args.byte line c.requires.line c.later_on_line.result known found.char found.display found.byte;
+      byte = found.byte;
+      char_bound = omega (arith, found.char_bound, end, c.requires.short);
+      display_bound = omega (arith, found.display_bound, end, c.requires.short);
+    }
