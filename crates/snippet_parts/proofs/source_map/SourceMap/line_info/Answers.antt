@@ -29,24 +29,17 @@ overflow_add-index c =
       c.self.invariant.short,
     )
 
-pub range-requires-clause-start_le_end : goal.range-requires-clause-start_le_end
-range-requires-clause-start_le_end c =
-    omega (
-      arith,
-      c.start_of_line-start.ensures.value,
-      c.start_of_line-end.ensures.value,
-      start_of-le (source_lines c.args.self.now.text) c.args.index (c.args.index + 1) (omega arith),
-    )
-
-pub range-requires-clause-start_boundary : goal.range-requires-clause-start_boundary
-range-requires-clause-start_boundary c = λ _.
-    subst (IsCharBoundary c.self.inside.source.now) (sym (starts_alike _ _ c.args.index _ c.self.view_is c.start_of_line-start.ensures.value))
-    (IsCharBoundary-start_of c.self.inside.source.now c.args.index c.self.invariant.utf8)
-
-pub range-requires-clause-end_boundary : goal.range-requires-clause-end_boundary
-range-requires-clause-end_boundary c =
-    subst (IsCharBoundary c.self.inside.source.now) (sym (starts_alike _ _ (c.args.index + 1) _ c.self.view_is c.start_of_line-end.ensures.value))
-    (IsCharBoundary-start_of c.self.inside.source.now (c.args.index + 1) c.self.invariant.utf8)
+pub range-requires : goal.range-requires
+range-requires c =
+    let source : List ℕ = c.self.inside.source.now in
+    let k : ℕ = c.args.index in
+    let start = starts_alike _ _ k _ c.self.view_is c.start_of_line-start.ensures.value in
+    let end = starts_alike _ _ (k + 1) _ c.self.view_is c.start_of_line-end.ensures.value in
+    record {
+      start_le_end = omega (arith, start, end, start_of-le (source_lines source) k (k + 1) (omega arith));
+      start_boundary = λ _. subst (IsCharBoundary source) (sym start) (IsCharBoundary-start_of source k c.self.invariant.utf8);
+      end_boundary = subst (IsCharBoundary source) (sym end) (IsCharBoundary-start_of source (k + 1) c.self.invariant.utf8);
+    }
 
 -- the bytes of the line
 bytes : (source : List ℕ) (k start end : ℕ) (slice : List ℕ) → k < length (source_lines source) → start ≡ start_of (source_lines source) k

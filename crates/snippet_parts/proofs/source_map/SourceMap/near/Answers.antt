@@ -16,27 +16,19 @@ ordered : (source : List ℕ) (start end : ℕ) → start ≤ end → line_of (s
 ordered source start end le =
     line_of-mono (source_lines source) start end (omega (arith, line_of-within source start)) le
 
-pub range-requires-clause-start_le_end : goal.range-requires-clause-start_le_end
-range-requires-clause-start_le_end c =
+pub range-requires : goal.range-requires
+range-requires c =
     let source : List ℕ = c.args.source.now in
     let ls : List Line = source_lines source in
-    omega (
-      arith,
-      c.line_bounds-first.ensures.start,
-      c.line_bounds-end.ensures.end,
-      start_of-le ls (line_of ls c.args.bytes.start) (line_of ls c.args.bytes.end + 1)
-          (omega (arith, ordered source c.args.bytes.start c.args.bytes.end c.requires.ordered)),
-    )
-
-pub range-requires-clause-start_boundary : goal.range-requires-clause-start_boundary
-range-requires-clause-start_boundary c = λ _.
-    subst (IsCharBoundary c.args.source.now) (sym c.line_bounds-first.ensures.start)
-    (IsCharBoundary-start_of c.args.source.now (line_of (source_lines c.args.source.now) c.args.bytes.start) c.utf8.source)
-
-pub range-requires-clause-end_boundary : goal.range-requires-clause-end_boundary
-range-requires-clause-end_boundary c =
-    subst (IsCharBoundary c.args.source.now) (sym c.line_bounds-end.ensures.end)
-    (IsCharBoundary-start_of c.args.source.now (line_of (source_lines c.args.source.now) c.args.bytes.end + 1) c.utf8.source)
+    let k : ℕ = line_of ls c.args.bytes.start in
+    let j : ℕ = line_of ls c.args.bytes.end + 1 in
+    let first = c.line_bounds-first.ensures.start in
+    let end = c.line_bounds-end.ensures.end in
+    record {
+      start_le_end = omega (arith, first, end, start_of-le ls k j (omega (arith, ordered source c.args.bytes.start c.args.bytes.end c.requires.ordered)));
+      start_boundary = λ _. subst (IsCharBoundary source) (sym first) (IsCharBoundary-start_of source k c.utf8.source);
+      end_boundary = subst (IsCharBoundary source) (sym end) (IsCharBoundary-start_of source j c.utf8.source);
+    }
 
 pub invariant_of-result : goal.invariant_of-result
 invariant_of-result c =
