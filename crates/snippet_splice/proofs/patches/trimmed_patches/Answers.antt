@@ -30,36 +30,23 @@ loop-patch-preserved c =
     subst (AreTrimmed source (take (i + 1) c.args.patches.now)) (sym {A = List TrimmedPatch} c.in_ok-push.ensures.items)
     (AreTrimmed-more source c.args.patches.now c.loop-patch.trimmed.items i p t within c.loop-patch.invariant one c.trim_patch.ensures.span original)
 
-all_trimmed : (c : goal.In_ok-sort_by) → AreTrimmed c.args.source.now c.args.patches.now c.loop-patch.trimmed.items
-all_trimmed c =
-    let whole : take c.loop-patch.patch-index c.args.patches.now ≡ c.args.patches.now = take_all c.loop-patch.patch-index c.args.patches.now (omega arith) in
-    subst (λ ps. AreTrimmed c.args.source.now ps c.loop-patch.trimmed.items) whole c.loop-patch.invariant
-
-in_place : (c : goal.In_ok-sort_by) → map seen c.sort_by.new.self.items ≡ map (seen_edit c.args.source.now) (in_order (map edit_of c.args.patches.now))
-in_place c =
+pub returns : goal.returns
+returns c =
+    let source : List ℕ = c.args.source.now in
+    let ps : List Patch = c.args.patches.now in
+    let given : List TrimmedPatch = c.loop-patch.trimmed.items in
+    let ts : List TrimmedPatch = c.sort_by.new.self.items in
+    let all : AreTrimmed source ps given = subst (λ l. AreTrimmed source l given) (take_all c.loop-patch.patch-index ps (omega arith)) c.loop-patch.invariant in
+    let moved = c.in_ok-sort_by.ensures.permutation in
     let order = pair-order (λ (t : TrimmedPatch). t.original_span.start) (λ (t : TrimmedPatch). t.original_span.end) in
-    let sorted : IsSortedBy before c.sort_by.new.self.items = c.in_ok-sort_by.ensures.sorted before order
-    (answers_always _ _ _ (λ f a r g h. search (rules, pair-tells))) in
-    let stable : IsStableBy before c.loop-patch.trimmed.items c.sort_by.new.self.items = c.in_ok-sort_by.ensures.stable before order
-    (answers_always _ _ _ (λ f a r g h. search (rules, pair-tells))) in
-    sorted-seen c.args.source.now c.args.patches.now c.loop-patch.trimmed.items c.sort_by.new.self.items (all_trimmed c) sorted stable
-
-pub returns-clause-edits : goal.returns-clause-edits
-returns-clause-edits c = sorted-edits c.args.source.now c.args.patches.now c.sort_by.new.self.items (in_place c)
-
-pub returns-clause-originals : goal.returns-clause-originals
-returns-clause-originals c = sorted-bounds c.args.source.now c.args.patches.now c.sort_by.new.self.items (in_place c)
-
-pub returns-clause-spans : goal.returns-clause-spans
-returns-clause-spans c =
-    All-permutation (λ t. IsSpan c.args.source.now t.span.start t.span.end) c.loop-patch.trimmed.items c.sort_by.new.self.items
-    c.in_ok-sort_by.ensures.permutation (all_trimmed c).spans
-
-pub returns-clause-original_spans : goal.returns-clause-original_spans
-returns-clause-original_spans c =
-    All-permutation (λ t. IsSpan c.args.source.now t.original_span.start t.original_span.end) c.loop-patch.trimmed.items c.sort_by.new.self.items
-    c.in_ok-sort_by.ensures.permutation (all_trimmed c).originals
-
-pub returns-clause-law : goal.returns-clause-law
-returns-clause-law c = λ apart.
-    ap (edited_from c.args.source.now 0) (returns-clause-edits c) ∙ edited_from-trimmed c.args.source.now 0 (in_order (map edit_of c.args.patches.now)) apart
+    let sorted : IsSortedBy before ts = c.in_ok-sort_by.ensures.sorted before order (answers_always _ _ _ (λ f a r g h. search (rules, pair-tells))) in
+    let stable : IsStableBy before given ts = c.in_ok-sort_by.ensures.stable before order (answers_always _ _ _ (λ f a r g h. search (rules, pair-tells))) in
+    let same : map seen ts ≡ map (seen_edit source) (in_order (map edit_of ps)) = sorted-seen source ps given ts all sorted stable in
+    let edits = sorted-edits source ps ts same in
+    record {
+      edits = edits;
+      originals = sorted-bounds source ps ts same;
+      spans = All-permutation (λ t. IsSpan source t.span.start t.span.end) given ts moved all.spans;
+      original_spans = All-permutation (λ t. IsSpan source t.original_span.start t.original_span.end) given ts moved all.originals;
+      law = λ apart. ap (edited_from source 0) edits ∙ edited_from-trimmed source 0 (in_order (map edit_of ps)) apart;
+    }
