@@ -1,4 +1,4 @@
-use Rattle.std.proofs.Common.{◌≡◌, ◌≢◌, ◌++◌, ◌+◌, ◌<◌, ◌≤◌, ℕ, List, [], All, map, drop, min, length, refl, sym, ap, subst, ◌∙◌, inl}
+use Rattle.std.proofs.Common.{◌≡◌, ◌≢◌, ◌++◌, ◌+◌, ◌<◌, ◌≤◌, ℕ, List, [], All, map, drop, min, length, refl, sym, ap, subst, ◌∙◌, inl, rules}
 use Rattle.std.specs.List.{slice_get}
 use Rattle.std.specs.Str.{IsCharBoundary}
 use Rattle.std.specs.String.{string_bytes}
@@ -20,6 +20,7 @@ use Rattle.snippet_splice.proofs.WriteLemmas.{without_final-twice}
 use Rattle.snippet_splice.proofs.LineLemmas.{AreFrom-shown}
 use Rattle.snippet_splice.proofs.TouchLemmas.{shown-touched}
 use Rattle.snippet_splice.proofs.RangeLemmas.{ranges_from-written_ranges}
+use Rattle.snippet_splice.proofs.splice.spliced_lines.Goals.{After-deref-2}
 use Rattle.snippet_splice.proofs.splice.spliced_lines.Goals as goal
 
 pub returns-in_default-clause-none : goal.returns-in_default-clause-none
@@ -29,48 +30,35 @@ returns-in_default-clause-none c = (
   λ _. refl,
 )
 
-pub write_patches-requires-clause-from : goal.write_patches-requires-clause-from
-write_patches-requires-clause-from c =
-    inl (subst (IsCharBoundary c.args.source.now) (sym c.shown_start-start.ensures.value)
-    (shown_start-border c.args.fold c.args.source.now c.in-Some.first.now.original_span.start c.utf8.source))
-
-first_is : (c : goal.After-deref-2) → c.in-Some.first.now.original_span.start ≡ first_start (in_order (map edit_of c.args.patches.now))
+-- where the text that is shown begins
+first_is : (c : After-deref-2) → c.in-Some.first.now.original_span.start ≡ first_start (in_order (map edit_of c.args.patches.now))
 first_is c =
     first_start-trimmed c.in_ok-patches.patches.items (in_order (map edit_of c.args.patches.now)) c.in-Some.first.now c.in_ok-patches.ensures.originals
     (sym (c.in-Some.ensures.value ∙ ap (λ l. slice_get l 0) c.deref.ensures.value))
 
-pub write_patches-requires-clause-apart : goal.write_patches-requires-clause-apart
-write_patches-requires-clause-apart c =
-    let source : List ℕ = c.args.source.now in
-    let es : List Edit = map edit_of c.args.patches.now in
-    let apart : AreApart (shown_start c.args.fold source (first_start (in_order es))) (trimmed_edits source es) = shown-apart c.args.fold source es
-    (apart-in_order es (ordered-spans source c.args.patches.now c.requires.spans) c.requires.disjoint) in
-    let begin : c.shown_start-start.result ≡ shown_start c.args.fold source (first_start (in_order es)) = c.shown_start-start.ensures.value
-    ∙ ap (shown_start c.args.fold source) (first_is c) in
-    let edits : map trimmed_edit_of c.deref-2.result.now ≡ trimmed_edits source es = ap (map trimmed_edit_of) c.deref-2.ensures.value
-    ∙ c.in_ok-patches.ensures.edits in
-    subst (λ n. AreApart n (map trimmed_edit_of c.deref-2.result.now)) (sym begin)
-    (subst (AreApart (shown_start c.args.fold source (first_start (in_order es)))) (sym edits) apart)
-
-pub patch_places-requires-clause-from : goal.patch_places-requires-clause-from
-patch_places-requires-clause-from c =
+border : (c : After-deref-2) → IsSpanBorder c.args.source.now c.shown_start-start.result
+border c =
     inl (subst (IsCharBoundary c.args.source.now) (sym c.shown_start-start.ensures.value)
     (shown_start-border c.args.fold c.args.source.now c.in-Some.first.now.original_span.start c.utf8.source))
 
-pub patch_places-requires-clause-apart : goal.patch_places-requires-clause-apart
-patch_places-requires-clause-apart c =
+-- the edits stand apart from there
+apart_from : (c : After-deref-2) (ts : List TrimmedPatch) → ts ≡ c.in_ok-patches.patches.items
+    → AreApart c.shown_start-start.result (map trimmed_edit_of ts)
+apart_from c ts is =
     let source : List ℕ = c.args.source.now in
     let es : List Edit = map edit_of c.args.patches.now in
-    let apart : AreApart (shown_start c.args.fold source (first_start (in_order es))) (trimmed_edits source es) = shown-apart c.args.fold source es
-    (apart-in_order es (ordered-spans source c.args.patches.now c.requires.spans) c.requires.disjoint) in
-    let first : c.in-Some.first.now.original_span.start ≡ first_start (in_order es) = first_start-trimmed c.in_ok-patches.patches.items
-    (in_order es) c.in-Some.first.now c.in_ok-patches.ensures.originals (sym (c.in-Some.ensures.value ∙ ap (λ l. slice_get l 0) c.deref.ensures.value)) in
-    let begin : c.shown_start-start.result ≡ shown_start c.args.fold source (first_start (in_order es)) = c.shown_start-start.ensures.value
-    ∙ ap (shown_start c.args.fold source) first in
-    let edits : map trimmed_edit_of c.deref-4.result.now ≡ trimmed_edits source es = ap (map trimmed_edit_of) c.deref-4.ensures.value
-    ∙ c.in_ok-patches.ensures.edits in
-    subst (λ n. AreApart n (map trimmed_edit_of c.deref-4.result.now)) (sym begin)
-    (subst (AreApart (shown_start c.args.fold source (first_start (in_order es)))) (sym edits) apart)
+    let apart = shown-apart c.args.fold source es (apart-in_order es (ordered-spans source c.args.patches.now c.requires.spans) c.requires.disjoint) in
+    let begin = c.shown_start-start.ensures.value ∙ ap (shown_start c.args.fold source) (first_is c) in
+    subst (λ n. AreApart n (map trimmed_edit_of ts)) (sym begin) (subst (AreApart (shown_start c.args.fold source (first_start (in_order es))))
+    (sym (ap (map trimmed_edit_of) is ∙ c.in_ok-patches.ensures.edits)) apart)
+
+pub write_patches-requires : goal.write_patches-requires
+write_patches-requires c = record { from = border c; spans = search rules; apart = apart_from c c.deref-2.result.now c.deref-2.ensures.value }
+
+pub patch_places-requires : goal.patch_places-requires
+patch_places-requires c =
+    let before = (goal.at.patch_places-requires c).After-deref-2 in
+    record { from = border before; spans = search rules; apart = apart_from before c.deref-4.result.now c.deref-4.ensures.value }
 
 pub returns-clause-splice : goal.returns-clause-splice
 returns-clause-splice c =
@@ -78,8 +66,8 @@ returns-clause-splice c =
     let es : List Edit = map edit_of c.args.patches.now in
     let edits : map trimmed_edit_of c.deref-2.result.now ≡ trimmed_edits source es = ap (map trimmed_edit_of) c.deref-2.ensures.value
     ∙ c.in_ok-patches.ensures.edits in
-    let first : c.in-Some.first.now.original_span.start ≡ first_start (in_order es) = first_start-trimmed c.in_ok-patches.patches.items
-    (in_order es) c.in-Some.first.now c.in_ok-patches.ensures.originals (sym (c.in-Some.ensures.value ∙ ap (λ l. slice_get l 0) c.deref.ensures.value)) in
+    let before = (goal.at.returns-clause-splice c).After-deref-2 in
+    let first = first_is before in
     let same : map trimmed_edit_of c.deref-3.result.now ≡ map trimmed_edit_of c.deref-2.result.now = ap (map trimmed_edit_of)
     (c.deref-3.ensures.value ∙ sym c.deref-2.ensures.value) in
     let closed : c.closes_line.result ≡ closes_line (map trimmed_edit_of c.deref-2.result.now) = c.closes_line.ensures.value ∙ ap closes_line same in
@@ -134,9 +122,7 @@ returns-clause-splice c =
           c.source_lines_shown-lines.result (map extent_of c.deref-7.result.now) trimmed begin
           (ap (map extent_of) c.deref-7.ensures.value ∙ c.in_ok-places.ensures.value)
           (ap (map original_bounds_of) c.deref-5.ensures.value ∙ c.in_ok-patches.ensures.originals)
-          (c.source_lines_shown-lines.ensures.value
-          (inl (subst (IsCharBoundary source) (sym c.shown_start-start.ensures.value)
-          (shown_start-border c.args.fold source c.in-Some.first.now.original_span.start c.utf8.source)))
+          (c.source_lines_shown-lines.ensures.value (border before)
           (subst (λ (l : List TrimmedPatch). All (λ t. IsSpanBorder source t.original_span.end) l) (sym c.deref-5.ensures.value) (λ k d within.
           (c.in_ok-patches.ensures.original_spans k d within).to)));
       text = λ plain. value ∙ (part plain).text ∙ sym (part plain).spliced;
