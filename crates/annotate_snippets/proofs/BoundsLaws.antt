@@ -23,7 +23,8 @@ use Rattle.snippet_model.specs.declared.snippet.Patch.{Patch}
 use Rattle.snippet_model.specs.declared.snippet.Snippet.{Snippet}
 use Rattle.snippet_model.specs.Fits.{GroupFits}
 use Rattle.snippet_lines.specs.OrderedBy.{put_in}
-use Rattle.snippet_splice.specs.Edits.{AreApart, Edit, edit_of, in_order, precedes}
+use Rattle.snippet_splice.specs.Edits.{Edit, edit_of, in_order, precedes}
+use Rattle.snippet_splice.specs.TrimmedEdits.{AreApart}
 use Rattle.snippet_splice.specs.Overlap.{first_overlap, first_overlap_from, overlap}
 use Rattle.annotate_snippets.specs.Fault.{IsGroupWithinBounds, IsWithinBounds, added_lines, element_faults, faults_from, first_fault, first_of, group_faults}
 use Rattle.annotate_snippets.specs.Fault.{number_after_lines, number_faults, overlap_faults, refusal_of, span_faults}

@@ -3,7 +3,8 @@ use Rattle.std.proofs.Common.{◌≡◌, ℕ, zero, suc, ◌+◌, ◌<◌, Bool,
 use Rattle.std.specs.List.{position_from}
 use Rattle.std.specs.Option.{option_map, option_or}
 use Rattle.snippet_splice.specs.Edits.{Edit}
-use Rattle.snippet_splice.specs.Overlap.{AreDisjoint, first_overlap, first_overlap_from, no_edit, overlap}
+use Rattle.snippet_splice.specs.Overlap.{first_overlap, first_overlap_from, overlap}
+use Rattle.snippet_splice.specs.FirstOverlap.{AreDisjoint, no_edit}
 
 -- neither of two that give nothing
 neither : {X : Type 0} (a b : Option X) → option_or a b ≡ None → (a ≡ None) × (b ≡ None)

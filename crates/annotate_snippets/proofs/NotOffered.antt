@@ -22,8 +22,9 @@ use Rattle.snippet_model.specs.declared.snippet.Snippet.{Snippet}
 use Rattle.snippet_lines.specs.Lines.{last_byte, lines_of, source_lines, start_of, text_at}
 use Rattle.snippet_lines.specs.Place.{line_of}
 use Rattle.snippet_splice.specs.Edits.{Edit, patched, trimmed_edit}
-use Rattle.snippet_splice.specs.ShownText.{shown_line, shown_text}
-use Rattle.snippet_splice.specs.Spliced.{HasNoCr, IsTouched, texts_of}
+use Rattle.snippet_splice.specs.ShownText.{shown_text}
+use Rattle.snippet_splice.specs.Spliced.{HasNoCr, IsTouched}
+use Rattle.snippet_splice.specs.Patched.{shown_line, texts_of}
 use Rattle.snippet_splice.specs.Trim.{kept_before, sandwich}
 use Rattle.snippet_suggest.specs.Given.{IsOfferable, edits_of, first_given, given_lines, last_reached}
 use Rattle.snippet_suggest.specs.Kind.{is_blank_text}

@@ -12,8 +12,8 @@ use Rattle.snippet_style.specs.Cell.{Cell}
 use Rattle.snippet_model.specs.FreeRows.{IsFree}
 use Rattle.snippet_parts.proofs.PartLemmas.{All-unmapped}
 use Rattle.snippet_lines.specs.Lines.{lines_of}
-use Rattle.snippet_splice.specs.Overlap.{AreDisjoint}
-use Rattle.snippet_splice.specs.Spliced.{spliced_text, texts_of}
+use Rattle.snippet_splice.specs.Patched.{spliced_text, texts_of}
+use Rattle.snippet_splice.specs.FirstOverlap.{AreDisjoint}
 use Rattle.snippet_suggest.specs.Given.{IsAsItWas, IsOfferable, edits_of, first_given, given_lines, last_reached, numbers_given, offered_lines, removed_lines}
 use Rattle.snippet_suggest.specs.RowOrder.{Ends, SuggestionRow, line_taken, lines_taken, number_offered, numbers_offered, rows_of_suggestion}
 use Rattle.snippet_suggest.specs.PreparedSuggestion.{IsSuggestible}

@@ -30,3 +30,4 @@ pub use Rattle.snippet_model.specs.Trusted
 pub use Rattle.snippet_lines.specs.Span
 pub use Rattle.snippet_text.specs.Normalized
 pub use Rattle.snippet_splice.specs.Edits
+pub use Rattle.snippet_splice.specs.TrimmedEdits

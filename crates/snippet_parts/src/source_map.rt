@@ -20,7 +20,7 @@ ghost use Rattle.snippet_parts.specs.OnLine.{numbers_of_lines, AreEntriesOn};
 ghost use Rattle.snippet_parts.specs.LineStretches.{is_seen};
 ghost use Rattle.snippet_model.specs.declared.snippet.Annotation.{Annotation};
 ghost use Rattle.snippet_splice.specs.Edits.{edit_of};
-ghost use Rattle.snippet_splice.specs.Overlap.{AreDisjoint};
+ghost use Rattle.snippet_splice.specs.FirstOverlap.{AreDisjoint};
 ghost use Rattle.snippet_splice.specs.Splice.{IsSplice};
 ghost use Rattle.snippet_text.specs.TextBounds.{IsInText, IsOffset, TextFits};
 ghost use Rattle.snippet_style.specs.Bounds.{HasNext, IsSourceColumn, IsSourceEnd};

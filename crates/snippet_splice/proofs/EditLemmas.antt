@@ -4,8 +4,10 @@ use Rattle.std.proofs.Common.{arith, append_assoc}
 use Rattle.std.proofs.lemmas.List.{append-nil, length-take-le, length-drop, take-append-drop, take-take, drop-drop, drop-take}
 use Rattle.std.proofs.lemmas.Bool.{cond_both, and_parts, leb-true}
 use Rattle.std.specs.List.{slice_range}
-use Rattle.snippet_splice.specs.Trim.{IsSandwiched, sandwich}
-use Rattle.snippet_splice.specs.Edits.{Edit, shrunk, trimmed_edit, edited_from, AreApart}
+use Rattle.snippet_splice.specs.Trim.{sandwich}
+use Rattle.snippet_splice.specs.Edits.{Edit, shrunk, trimmed_edit, edited_from}
+use Rattle.snippet_splice.specs.TrimmedEdits.{AreApart}
+use Rattle.snippet_splice.specs.Sandwich.{IsSandwiched}
 use Rattle.snippet_splice.proofs.TrimLemmas.{sandwich-sandwiched}
 
 -- ---- parts of a list

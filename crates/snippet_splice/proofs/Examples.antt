@@ -4,8 +4,10 @@ use Rattle.snippet_splice.specs.Trim.{kept_before, sandwich}
 use Rattle.snippet_splice.specs.Edits.{Edit, trimmed_edit, trimmed_edits, patched}
 use Rattle.snippet_splice.specs.Overlap.{overlap, first_overlap}
 use Rattle.snippet_splice.specs.ShownText.{shown_text}
-use Rattle.snippet_splice.specs.Spliced.{last_line_reached, spliced_text, line_ranges}
-use Rattle.snippet_splice.specs.EditStretches.{new_stretches, num_replaced_lines, num_shown_lines}
+use Rattle.snippet_splice.specs.Spliced.{last_line_reached}
+use Rattle.snippet_splice.specs.EditStretches.{new_stretches}
+use Rattle.snippet_splice.specs.StretchLines.{num_replaced_lines, num_shown_lines}
+use Rattle.snippet_splice.specs.Patched.{spliced_text, line_ranges}
 use Rattle.snippet_splice.specs.declared.stretches.SubstitutionHighlight.{SubstitutionHighlight}
 use Rattle.std.specs.Str.{chars}
 use Rattle.std.specs.declared.alloc.Global.{Global}

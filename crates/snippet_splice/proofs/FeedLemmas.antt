@@ -14,8 +14,10 @@ use Rattle.snippet_lines.proofs.LinesLemmas.{length-lines_of, length-source_line
 use Rattle.snippet_lines.proofs.PlaceLemmas.{line_of-within, start_of-inside}
 use Rattle.snippet_splice.specs.Copied.{copied, end_from, in_text, written_from}
 use Rattle.snippet_splice.proofs.LineEnds.{is_inside_line_end}
-use Rattle.snippet_splice.specs.Edits.{Edit, AreApart, in_order, precedes, trimmed_edit, trimmed_edits}
-use Rattle.snippet_splice.specs.ShownText.{closes_line, first_start, shown_line, shown_rest, shown_start, shown_text, without_final_line_feeds}
+use Rattle.snippet_splice.specs.Edits.{Edit, in_order, precedes, trimmed_edit, trimmed_edits}
+use Rattle.snippet_splice.specs.ShownText.{closes_line, first_start, shown_rest, shown_start, shown_text, without_final_line_feeds}
+use Rattle.snippet_splice.specs.Patched.{shown_line}
+use Rattle.snippet_splice.specs.TrimmedEdits.{AreApart}
 use Rattle.snippet_splice.proofs.EditLemmas.{IsShrunk, trimmed_edit-shrunk}
 use Rattle.snippet_splice.proofs.LineLemmas.{Shortens, Shortens-final}
 use Rattle.snippet_splice.proofs.RangeLemmas.{feeds, feeds-append, feeds-none, feeds-shown}

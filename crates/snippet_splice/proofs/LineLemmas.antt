@@ -12,8 +12,9 @@ use Rattle.snippet_lines.specs.Place.{line_of}
 use Rattle.snippet_lines.proofs.LinesLemmas.{AreLinesOf-source_lines, lines_of-append, lines_of-joined, last_byte-cons}
 use Rattle.snippet_lines.proofs.PlaceLemmas.{line_of-within}
 use Rattle.snippet_splice.specs.Edits.{Edit, precedes, in_order, edited_from, patched}
-use Rattle.snippet_splice.specs.ShownText.{first_start, shown_start, shown_line, unless_lone_line_feed, without_final_line_feeds}
-use Rattle.snippet_splice.specs.Spliced.{HasNoCr, texts_of, AreFrom}
+use Rattle.snippet_splice.specs.ShownText.{first_start, shown_start, unless_lone_line_feed, without_final_line_feeds}
+use Rattle.snippet_splice.specs.Spliced.{HasNoCr}
+use Rattle.snippet_splice.specs.Patched.{shown_line, texts_of, AreFrom}
 use Rattle.snippet_lines.proofs.OrderLemmas.{All-put_in}
 use Rattle.snippet_splice.proofs.RangeLemmas.{front-lines}
 use Rattle.snippet_splice.proofs.SpliceLemmas.{Stops, IsShownPart, line_with_byte-other, last_byte-append}

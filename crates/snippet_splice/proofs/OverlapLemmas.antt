@@ -9,9 +9,11 @@ use Rattle.std.proofs.lemmas.Bool.{cases_Bool, cond-true, cond-false, ltb-false,
 use Rattle.std.proofs.lemmas.Bool.Decides.{nat_tests}
 use Rattle.snippet_model.specs.declared.snippet.Patch.{Patch}
 use Rattle.snippet_lines.specs.Span.{IsSpan}
-use Rattle.snippet_splice.specs.Edits.{Edit, edit_of, precedes, in_order, AreApart}
+use Rattle.snippet_splice.specs.Edits.{Edit, edit_of, precedes, in_order}
 use Rattle.snippet_lines.specs.OrderedBy.{put_in}
-use Rattle.snippet_splice.specs.Overlap.{overlap, overlap_at, no_edit, AreDisjoint, AreOverlapping, IsFirstOverlap, first_overlap_from, first_overlap}
+use Rattle.snippet_splice.specs.Overlap.{overlap, first_overlap_from, first_overlap}
+use Rattle.snippet_splice.specs.FirstOverlap.{overlap_at, no_edit, AreDisjoint, AreOverlapping, IsFirstOverlap}
+use Rattle.snippet_splice.specs.TrimmedEdits.{AreApart}
 
 -- the edit at a place is that of the patch there
 pub get_or-edit_of : (ps : List Patch) (k : ℕ) (p : Patch) → k < length ps → p ≡ get_or ps k p → get_or (map edit_of ps) k no_edit ≡ edit_of p

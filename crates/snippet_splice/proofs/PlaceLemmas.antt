@@ -10,7 +10,8 @@ use Rattle.snippet_splice.specs.declared.stretches.PatchExtent.{PatchExtent}
 use Rattle.snippet_splice.specs.Copied.{in_text}
 use Rattle.snippet_splice.specs.Edits.{Edit, in_order, trimmed_edits}
 use Rattle.snippet_splice.specs.ShownText.{first_start, shown_start}
-use Rattle.snippet_splice.specs.EditStretches.{Extent, after_last_lf, characters_before, extent_of, extents_from, new_stretches, replaced_on}
+use Rattle.snippet_splice.specs.EditStretches.{Extent, after_last_lf, characters_before, extents_from, new_stretches, replaced_on}
+use Rattle.snippet_splice.specs.StretchLines.{extent_of}
 use Rattle.snippet_splice.specs.EditStretches.{replaced_stretches, start_character, stretches_on}
 use Rattle.snippet_splice.proofs.EditLemmas.{slice_split}
 use Rattle.snippet_splice.proofs.StretchLemmas.{after_few}

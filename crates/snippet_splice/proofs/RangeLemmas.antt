@@ -13,10 +13,12 @@ use Rattle.snippet_lines.specs.Lines.{Line, IsLine, AreLines, line_bytes, end_by
 use Rattle.snippet_lines.specs.Place.{line_of}
 use Rattle.snippet_lines.proofs.LinesLemmas.{AreLinesOf-source_lines, joined-source_lines}
 use Rattle.snippet_lines.proofs.PlaceLemmas.{line_of-within}
-use Rattle.snippet_splice.specs.Edits.{Edit, in_order, trimmed_edits, edited_from, patched, AreApart}
+use Rattle.snippet_splice.specs.Edits.{Edit, in_order, trimmed_edits, edited_from, patched}
 use Rattle.snippet_splice.specs.Copied.{copied, written_ranges}
-use Rattle.snippet_splice.specs.ShownText.{first_start, shown_start, shown_line}
-use Rattle.snippet_splice.specs.Spliced.{stands_from, stands, lines_of_stand, line_ranges, ranges_from, HasNoCr, IsBeforeFinalLf}
+use Rattle.snippet_splice.specs.ShownText.{first_start, shown_start}
+use Rattle.snippet_splice.specs.Spliced.{stands_from, stands, HasNoCr, IsBeforeFinalLf}
+use Rattle.snippet_splice.specs.Patched.{shown_line, lines_of_stand, line_ranges, ranges_from}
+use Rattle.snippet_splice.specs.TrimmedEdits.{AreApart}
 use Rattle.snippet_splice.proofs.EditLemmas.{edited_from-earlier, edited_from-trimmed}
 use Rattle.snippet_splice.proofs.ShownLemmas.{shown-apart}
 use Rattle.snippet_splice.proofs.SpliceLemmas.{AreBeforeFinalLf, copied-same, stands_from-earlier, front-size}

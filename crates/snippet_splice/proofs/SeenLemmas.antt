@@ -6,7 +6,8 @@ use Rattle.std.specs.List.Sorted.{IsSortedBy, IsStableBy}
 use Rattle.snippet_model.specs.declared.snippet.Patch.{Patch}
 use Rattle.snippet_lines.specs.Span.{IsSpan}
 use Rattle.snippet_splice.specs.declared.patches.TrimmedPatch.{TrimmedPatch}
-use Rattle.snippet_splice.specs.Edits.{Edit, edit_of, trimmed_edit_of, trimmed_edit, trimmed_edits, in_order, edit_bounds, original_bounds_of}
+use Rattle.snippet_splice.specs.Edits.{Edit, edit_of, trimmed_edit, trimmed_edits, in_order}
+use Rattle.snippet_splice.specs.TrimmedEdits.{trimmed_edit_of, edit_bounds, original_bounds_of}
 use Rattle.snippet_lines.specs.OrderedBy.{ordered_by}
 use Rattle.snippet_splice.proofs.OrderLemmas.{pair_lt, pair-order}
 use Rattle.snippet_lines.proofs.OrderLemmas.{sorted-only, map-ordered_by}

@@ -11,8 +11,8 @@ use Rattle.snippet_lines.specs.Place.{line_of}
 use Rattle.snippet_lines.proofs.PlaceLemmas.{HoldsByte-source}
 use Rattle.snippet_lines.proofs.BoundsLemmas.{IsCharBoundary-start_of}
 use Rattle.snippet_splice.specs.declared.patches.TrimmedPatch.{TrimmedPatch}
-use Rattle.snippet_splice.specs.Edits.{Edit, edit_of, trimmed_edit_of, trimmed_edit, trimmed_edits, in_order, precedes, edit_bounds, original_bounds_of}
-use Rattle.snippet_splice.specs.Edits.{AreApart}
+use Rattle.snippet_splice.specs.Edits.{Edit, edit_of, trimmed_edit, trimmed_edits, in_order, precedes}
+use Rattle.snippet_splice.specs.TrimmedEdits.{trimmed_edit_of, edit_bounds, original_bounds_of, AreApart}
 use Rattle.snippet_lines.specs.OrderedBy.{put_in}
 use Rattle.snippet_splice.specs.ShownText.{first_start, closes_line, shown_start, shown_rest, without_final_line_feeds, shown_text}
 use Rattle.snippet_splice.specs.Copied.{written_from, end_from}

@@ -3,9 +3,11 @@ use Rattle.std.proofs.Common.{◌≡◌, ℕ, ◌+◌, Bool, List, [], ◌∷◌
 use Rattle.std.proofs.lemmas.List.{drop_min}
 use Rattle.std.specs.List.{slice_range}
 use Rattle.snippet_splice.specs.Copied.{copied, end_from, in_text, written_from}
-use Rattle.snippet_splice.specs.Edits.{Edit, edit_bounds, in_order, trimmed_edits}
+use Rattle.snippet_splice.specs.Edits.{Edit, in_order, trimmed_edits}
 use Rattle.snippet_splice.specs.ShownText.{closes_line, first_start, shown_rest, shown_start}
-use Rattle.snippet_splice.specs.EditStretches.{Extent, capped, extents_from, feeds_made, lines_over, num_replaced_lines, num_shown_lines, source_lines_shown}
+use Rattle.snippet_splice.specs.EditStretches.{Extent, capped, extents_from}
+use Rattle.snippet_splice.specs.StretchLines.{feeds_made, lines_over, num_replaced_lines, num_shown_lines, source_lines_shown}
+use Rattle.snippet_splice.specs.TrimmedEdits.{edit_bounds}
 use Rattle.snippet_splice.proofs.RangeLemmas.{feeds, feeds-append}
 use Rattle.snippet_splice.proofs.WriteLemmas.{count-with_line_feeds}
 

@@ -12,11 +12,13 @@ use Rattle.snippet_lines.specs.declared.lines.EndLine.TheVariants.{Eof, Lf, Crlf
 use Rattle.snippet_lines.specs.Lines.{Line, lines_of, line_with_byte, with_first_byte, source_lines, start_of, text_at, last_byte, is_lf}
 use Rattle.snippet_lines.specs.Place.{line_of}
 use Rattle.snippet_lines.proofs.PlaceLemmas.{line_of-within, text_at-end}
-use Rattle.snippet_splice.specs.Edits.{Edit, in_order, trimmed_edits, edited_from, patched, AreApart}
+use Rattle.snippet_splice.specs.Edits.{Edit, in_order, trimmed_edits, edited_from, patched}
 use Rattle.snippet_splice.specs.Copied.{in_text, with_line_feeds, copied, written_from, end_from}
 use Rattle.snippet_splice.proofs.LineEnds.{is_inside_line_end}
 use Rattle.snippet_splice.specs.ShownText.{first_start, closes_line, shown_start, without_final_line_feeds, shown_text}
-use Rattle.snippet_splice.specs.Spliced.{stands_from, stands, last_end, spliced_end, spliced_text, HasNoCr, IsBeforeFinalLf}
+use Rattle.snippet_splice.specs.Spliced.{stands_from, stands, HasNoCr, IsBeforeFinalLf}
+use Rattle.snippet_splice.specs.Patched.{last_end, spliced_end, spliced_text}
+use Rattle.snippet_splice.specs.TrimmedEdits.{AreApart}
 use Rattle.snippet_splice.proofs.EditLemmas.{slice_split, edited_from-earlier, edited_from-trimmed}
 use Rattle.snippet_splice.proofs.WriteLemmas.{text_end, with_line_feeds-none, last_text, closes-last}
 use Rattle.snippet_splice.proofs.ShownLemmas.{shown-apart}

@@ -17,7 +17,8 @@ use Rattle.snippet_lines.specs.Lines.{is_lf, last_byte}
 use Rattle.snippet_lines.proofs.CursorLemmas.{last_byte-not}
 use Rattle.snippet_style.proofs.CellLemmas.{length-chars_le}
 use Rattle.snippet_splice.specs.declared.stretches.SubstitutionHighlight.{SubstitutionHighlight}
-use Rattle.snippet_splice.specs.EditStretches.{after_last_lf, capped, line_stretches, taken_on, without_cr}
+use Rattle.snippet_splice.specs.EditStretches.{after_last_lf, capped, taken_on, without_cr}
+use Rattle.snippet_splice.specs.StretchLines.{line_stretches}
 use Rattle.snippet_splice.proofs.RangeLemmas.{feeds-append}
 use Rattle.snippet_splice.proofs.WriteLemmas.{utf8-after}
 

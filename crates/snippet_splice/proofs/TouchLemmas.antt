@@ -14,11 +14,13 @@ use Rattle.snippet_lines.proofs.LinesLemmas.{text_at-stands, start_of-next, star
 use Rattle.snippet_lines.proofs.LinesLemmas.{length-source_lines, source_lines-some, last_byte-push}
 use Rattle.snippet_lines.proofs.PlaceLemmas.{text_at-end}
 use Rattle.snippet_lines.proofs.BoundsLemmas.{line_bytes-slice, IsLine-at, IsOneLine-line}
-use Rattle.snippet_splice.specs.Edits.{Edit, in_order, trimmed_edits, patched, AreApart}
+use Rattle.snippet_splice.specs.Edits.{Edit, in_order, trimmed_edits, patched}
 use Rattle.snippet_splice.specs.Copied.{written_from}
-use Rattle.snippet_splice.specs.ShownText.{first_start, shown_start, shown_line, without_final_line_feeds}
+use Rattle.snippet_splice.specs.ShownText.{first_start, shown_start, without_final_line_feeds}
 use Rattle.snippet_splice.specs.declared.splice.LineRange.{LineRange}
-use Rattle.snippet_splice.specs.Spliced.{Stand, stands_from, stands, last_end, IsInLine, IsTouchedBy, IsTouched, HasNoCr, lines_of_stand, line_ranges}
+use Rattle.snippet_splice.specs.Spliced.{Stand, stands_from, stands, IsInLine, IsTouchedBy, IsTouched, HasNoCr}
+use Rattle.snippet_splice.specs.Patched.{shown_line, last_end, lines_of_stand, line_ranges}
+use Rattle.snippet_splice.specs.TrimmedEdits.{AreApart}
 use Rattle.snippet_splice.proofs.ShownLemmas.{shown-apart}
 use Rattle.snippet_splice.proofs.RangeLemmas.{feeds, feeds-append, feeds-none, feeds-front, feeds-shown}
 use Rattle.snippet_splice.proofs.SpliceLemmas.{AreBeforeFinalLf, Stops, IsShownPart, last_end-stands, front-size, stands_from-earlier}

@@ -13,7 +13,8 @@ use Rattle.std.specs.List.{slice_range}
 use Rattle.std.specs.Option.{option_map}
 use Rattle.std.specs.Str.{IsUtf8, IsCharBoundary}
 use Rattle.snippet_lines.specs.Span.{is_character_border}
-use Rattle.snippet_splice.specs.Trim.{IsSandwiched, IsSandwich, is_sandwiched, greatest_passing, kept_before, sandwich}
+use Rattle.snippet_splice.specs.Trim.{is_sandwiched, greatest_passing, kept_before, sandwich}
+use Rattle.snippet_splice.specs.Sandwich.{IsSandwiched, IsSandwich}
 
 -- ---- what a sandwich says of the replacement
 

@@ -10,7 +10,8 @@ use Rattle.snippet_lines.specs.Lines.{is_lf, last_byte}
 use Rattle.snippet_lines.specs.Span.{IsSpanBorder}
 use Rattle.snippet_splice.specs.declared.splice.LineRange.{LineRange}
 use Rattle.snippet_splice.specs.declared.patches.TrimmedPatch.{TrimmedPatch}
-use Rattle.snippet_splice.specs.Edits.{Edit, trimmed_edit_of, AreApart}
+use Rattle.snippet_splice.specs.Edits.{Edit}
+use Rattle.snippet_splice.specs.TrimmedEdits.{trimmed_edit_of, AreApart}
 use Rattle.snippet_splice.specs.Copied.{in_text, with_line_feeds, copied, written_from, written_ranges, end_from}
 use Rattle.snippet_splice.proofs.LineEnds.{is_inside_line_end}
 use Rattle.snippet_splice.specs.ShownText.{unless_lone_line_feed, without_final_line_feeds, closes_line}

@@ -1,15 +1,13 @@
 -- Which stretches of the lines that are shown the texts of trimmed edits take.
-use Rattle.std.specs.Prelude.{ℕ, ◌+◌, ◌-◌, ◌*◌, nat_lt, min, max, ◌==◌, Bool, Vec, List, [], ◌∷◌, ◌++◌, length, map, take, drop, count_by, chars}
+use Rattle.std.specs.Prelude.{ℕ, ◌+◌, ◌-◌, ◌*◌, nat_lt, min, ◌==◌, Bool, List, [], ◌∷◌, ◌++◌, length, take, count_by, chars}
 use Rattle.std.specs.Prelude.{if◌then◌else◌}
 use Rattle.snippet_style.specs.Bounds.{max_usize}
-use Rattle.std.specs.List.{slice_index_or, slice_range, slice_split}
-use Rattle.std.specs.declared.alloc.Global.{Global}
-use Rattle.snippet_lines.specs.Lines.{is_lf, last_byte, source_lines}
-use Rattle.snippet_splice.specs.declared.stretches.PatchExtent.{PatchExtent}
+use Rattle.std.specs.List.{slice_range, slice_split}
+use Rattle.snippet_lines.specs.Lines.{is_lf, last_byte}
 use Rattle.snippet_splice.specs.declared.stretches.SubstitutionHighlight.{SubstitutionHighlight}
-use Rattle.snippet_splice.specs.Copied.{in_text, written_from, end_from}
-use Rattle.snippet_splice.specs.Edits.{Edit, edit_bounds, in_order, trimmed_edits}
-use Rattle.snippet_splice.specs.ShownText.{first_start, shown_start, shown_rest, closes_line}
+use Rattle.snippet_splice.specs.Copied.{in_text}
+use Rattle.snippet_splice.specs.Edits.{Edit, in_order, trimmed_edits}
+use Rattle.snippet_splice.specs.ShownText.{first_start, shown_start}
 
 -- a number, as far as there are numbers
 abbrev pub capped : ℕ → ℕ
@@ -18,10 +16,6 @@ capped n = min n max_usize
 -- how many characters a text takes in a stretch: a tab as many as four
 abbrev pub stretch_width : List ℕ → ℕ
 stretch_width text = capped (length (chars text) + capped (count_by (λ b. b == 9) text * 3))
-
--- the stretches of line k in a table of lines; none of a line that isn't there
-abbrev pub line_stretches : List (Vec SubstitutionHighlight Global) → ℕ → List SubstitutionHighlight
-line_stretches lines k = slice_index_or (map (λ v. v.items) lines) k []
 
 -- what stands in line k of pieces that stand one to a line from this one on, the first from this character on, and the others from
 -- the beginning of their lines
@@ -76,10 +70,6 @@ extents_from source from at (e ∷ es) =
       text = e.text;
     } ∷ extents_from source from e.end es
 
-abbrev pub extent_of : PatchExtent → Extent
-extent_of p =
-    record { feeds = p.feeds; before = p.text_start; start = p.start; end = p.end; under = p.inside.now; text = p.replacement.now }
-
 -- the character at which the text of an edit begins, if character `end` of the source stands as character `shown` in its line: as in
 -- the source where it is the first on its line, else as far after the edit before it as there
 abbrev pub text_start : ℕ → ℕ → Extent → ℕ
@@ -104,37 +94,7 @@ new_stretches fold source es k =
     let from = shown_start fold source (first_start (in_order es)) in
     stretches_on k 0 0 0 (extents_from source from from (trimmed_edits source es))
 
--- how many LF stand in the lines that some edits make: between one edit and the next, and in their texts
-abbrev pub feeds_made : List Extent → ℕ
-feeds_made [] = 0
-feeds_made (x ∷ xs) = x.feeds + count_by is_lf x.text + feeds_made xs
-
--- how many lines the text that is shown has, before the LF that end it are taken away
-unfoldable pub num_shown_lines : Bool → List ℕ → List Edit → ℕ
-num_shown_lines fold source es =
-    let ts = trimmed_edits source es in
-    let from = shown_start fold source (first_start (in_order es)) in
-    capped (count_by is_lf (written_from source from ts ++ shown_rest fold (closes_line ts) (drop (end_from from ts) source)) + 1)
-
 -- ---- the stretches of the source that edits stand over
-
--- how many lines there are from the first to the last on which some edits stand, if they are looked for from line `line` on
-abbrev pub lines_over : ℕ → List Extent → ℕ
-lines_over line [] = 0
-lines_over line (x ∷ xs) =
-    let last = capped (capped (line + x.feeds) + count_by is_lf x.under) in max (capped (last + 1)) (lines_over last xs)
-
--- the greatest of a byte and the ends of some bounds
-abbrev pub last_end_of : ℕ → List (ℕ × ℕ) → ℕ
-last_end_of at [] = at
-last_end_of at (bounds ∷ others) = last_end_of (max at bounds.1) others
-
--- how many lines of the source the text that is shown replaces, if edits had these bounds as they were given: folded, those
--- from the byte on at which its first line starts to the greatest end; unfolded all
-abbrev pub source_lines_shown : Bool → List ℕ → ℕ → List (ℕ × ℕ) → ℕ
-source_lines_shown fold source start bounds =
-    let end = last_end_of start bounds in
-    if fold then count_by is_lf (slice_range source (in_text source start) (in_text source end)) + 1 else length (source_lines source)
 
 -- the text of a line that an LF ends: without the CR before that
 abbrev pub without_cr : List ℕ → List ℕ
@@ -162,9 +122,3 @@ unfoldable pub replaced_stretches : Bool → List ℕ → List Edit → ℕ → 
 replaced_stretches fold source es k =
     let from = shown_start fold source (first_start (in_order es)) in
     replaced_on k 0 (extents_from source from from (trimmed_edits source es))
-
--- how many lines of the source have a list of these stretches: those that the text replaces
-unfoldable pub num_replaced_lines : Bool → List ℕ → List Edit → ℕ
-num_replaced_lines fold source es =
-    let from = shown_start fold source (first_start (in_order es)) in
-    max (lines_over 0 (extents_from source from from (trimmed_edits source es))) (source_lines_shown fold source from (map edit_bounds (in_order es)))

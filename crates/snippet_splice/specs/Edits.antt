@@ -1,11 +1,10 @@
 -- Edits of a source: their order, the source with them applied, and what is left of them once they are trimmed.
-use Rattle.std.specs.Prelude.{ℕ, ◌+◌, ◌-◌, ◌≤◌, nat_lt, nat_le, ◌==◌, ◌&&◌, ◌||◌, Bool, Option, Some, None, List, [], ◌∷◌, ◌++◌, length, map, drop}
+use Rattle.std.specs.Prelude.{ℕ, ◌+◌, ◌-◌, nat_lt, nat_le, ◌==◌, ◌&&◌, ◌||◌, Bool, Option, Some, None, List, [], ◌∷◌, ◌++◌, length, map, drop}
 use Rattle.std.specs.Prelude.{if◌then◌else◌}
 use Rattle.std.specs.List.{slice_range}
 use Rattle.std.specs.Cow.{cow_str_bytes}
 use Rattle.snippet_model.specs.declared.snippet.Patch.{Patch}
 use Rattle.snippet_lines.specs.OrderedBy.{ordered_by}
-use Rattle.snippet_splice.specs.declared.patches.TrimmedPatch.{TrimmedPatch}
 use Rattle.snippet_splice.specs.Trim.{sandwich}
 
 -- an edit: the bytes from `start` to `end` of a source are replaced by a text
@@ -17,17 +16,6 @@ pub record Edit : Type 0 where
 -- the edit that a patch stands for
 abbrev pub edit_of : Patch → Edit
 edit_of p = record { start = p.span.start; end = p.span.end; text = cow_str_bytes p.replacement }
-
--- the edit that a trimmed patch stands for
-abbrev pub trimmed_edit_of : TrimmedPatch → Edit
-trimmed_edit_of p = record { start = p.span.start; end = p.span.end; text = p.replacement.now }
-
--- where an edit starts and ends, and where the patch did that was trimmed
-abbrev pub edit_bounds : Edit → ℕ × ℕ
-edit_bounds e = (e.start, e.end)
-
-abbrev pub original_bounds_of : TrimmedPatch → ℕ × ℕ
-original_bounds_of p = (p.original_span.start, p.original_span.end)
 
 -- whether an edit comes before another whatever the order given: by start, then by end
 abbrev pub precedes : Edit → Edit → Bool
@@ -45,11 +33,6 @@ edited_from source at (e ∷ es) = slice_range source at e.start ++ (e.text ++ e
 -- the patched source: with the edits in order, the bytes of the source between them and their texts, joined
 abbrev pub patched : List ℕ → List Edit → List ℕ
 patched source es = edited_from source 0 (in_order es)
-
--- edits stand after a byte and one after the other
-abbrev pub AreApart : ℕ → List Edit → Type 0
-AreApart at [] = Unit {0}
-AreApart at (e ∷ es) = (at ≤ e.start) × (e.start ≤ e.end) × AreApart e.end es
 
 -- an edit shrunk by what its text keeps of the source: so many bytes before its middle, and so many after it
 abbrev pub shrunk : Edit → Option (ℕ × List ℕ × ℕ) → Edit

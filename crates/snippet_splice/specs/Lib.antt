@@ -6,3 +6,8 @@ pub mod Splice
 pub mod Spliced
 pub mod EditStretches
 pub mod Trim
+pub mod TrimmedEdits
+pub mod StretchLines
+pub mod FirstOverlap
+pub mod Patched
+pub mod Sandwich

@@ -16,11 +16,7 @@ first_start (e ∷ es) = e.start
 abbrev pub closes_line : List Edit → Bool
 closes_line es = option_map_or (λ e. last_byte e.text == 10) (last_or None es) false
 
--- the line of the source, from 0, from which on the patched source is shown: folded the one on which the first edit
--- starts; and the byte at which that line starts
-abbrev pub shown_line : Bool → List ℕ → List Edit → ℕ
-shown_line fold source es = if fold then line_of (source_lines source) (first_start (in_order es)) else 0
-
+-- the byte of the source from which on the patched source is shown, if the first edit starts at this one: folded the start of its line
 abbrev pub shown_start : Bool → List ℕ → ℕ → ℕ
 shown_start fold source first =
     if fold then start_of (source_lines source) (line_of (source_lines source) first) else 0

@@ -5,10 +5,13 @@ use Rattle.snippet_lines.specs.Lines.{lines_of, source_lines, text_at}
 use Rattle.snippet_lines.specs.Span.{IsSpan}
 use Rattle.snippet_splice.specs.declared.splice.SplicedLines.{SplicedLines}
 use Rattle.snippet_splice.specs.Copied.{written_ranges}
-use Rattle.snippet_splice.specs.Edits.{Edit, edit_bounds, edited_from, in_order, original_bounds_of, patched, trimmed_edit_of, trimmed_edits}
-use Rattle.snippet_splice.specs.ShownText.{first_start, shown_line, shown_start, shown_text, without_final_line_feeds}
-use Rattle.snippet_splice.specs.EditStretches.{line_stretches, new_stretches, num_replaced_lines, num_shown_lines, replaced_stretches}
-use Rattle.snippet_splice.specs.Spliced.{AreFrom, HasNoCr, IsBeforeFinalLf, IsTouched, line_ranges, ranges_from, spliced_text, texts_of}
+use Rattle.snippet_splice.specs.Edits.{Edit, edited_from, in_order, patched, trimmed_edits}
+use Rattle.snippet_splice.specs.ShownText.{first_start, shown_start, shown_text, without_final_line_feeds}
+use Rattle.snippet_splice.specs.EditStretches.{new_stretches, replaced_stretches}
+use Rattle.snippet_splice.specs.Spliced.{HasNoCr, IsBeforeFinalLf, IsTouched}
+use Rattle.snippet_splice.specs.StretchLines.{line_stretches, num_replaced_lines, num_shown_lines}
+use Rattle.snippet_splice.specs.Patched.{shown_line, AreFrom, line_ranges, ranges_from, spliced_text, texts_of}
+use Rattle.snippet_splice.specs.TrimmedEdits.{edit_bounds, original_bounds_of, trimmed_edit_of}
 
 -- the source holds no carriage return, and no edit, once it is trimmed, starts after a final line feed
 pub record IsPlainSplice (source : List ℕ) (es : List Edit) : Type 0 where

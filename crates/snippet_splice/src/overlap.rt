@@ -3,7 +3,8 @@ ghost use Rattle.std.specs.Prelude.{◌≡◌, ◌↔◌, ℕ, ◌<◌, ◌+◌,
 ghost use Rattle.std.specs.Prelude.{slice_index_or};
 ghost use Rattle.snippet_lines.specs.Span.{IsSpan};
 ghost use Rattle.snippet_splice.specs.Edits.{edit_of};
-ghost use Rattle.snippet_splice.specs.Overlap.{overlap, overlap_at, IsFirstOverlap, AreDisjoint, no_edit};
+ghost use Rattle.snippet_splice.specs.Overlap.{overlap};
+ghost use Rattle.snippet_splice.specs.FirstOverlap.{overlap_at, IsFirstOverlap, AreDisjoint, no_edit};
 ghost use Rattle.snippet_splice.specs.Overlap as spec;
 
 use snippet_model::Patch;

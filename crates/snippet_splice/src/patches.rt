@@ -2,8 +2,8 @@
 ghost use Rattle.std.specs.Prelude.{◌≡◌, map, All, IfOk};
 ghost use Rattle.std.specs.Ordering.{nat_cmp, ordering_then};
 ghost use Rattle.snippet_lines.specs.Span.{IsSpan};
-ghost use Rattle.snippet_splice.specs.Edits.{edit_of, trimmed_edit_of, trimmed_edit, trimmed_edits, in_order};
-ghost use Rattle.snippet_splice.specs.Edits.{edit_bounds, original_bounds_of, edited_from, patched, AreApart};
+ghost use Rattle.snippet_splice.specs.Edits.{edit_of, trimmed_edit, trimmed_edits, in_order, edited_from, patched};
+ghost use Rattle.snippet_splice.specs.TrimmedEdits.{trimmed_edit_of, edit_bounds, original_bounds_of, AreApart};
 
 use crate::trim::as_substr;
 use snippet_model::Patch;

@@ -4,11 +4,12 @@ ghost use Rattle.std.specs.Prelude.{◌≤◌, ◌*◌};
 ghost use Rattle.std.specs.String.{string_bytes};
 ghost use Rattle.snippet_lines.specs.Lines.{source_lines, text_at};
 ghost use Rattle.snippet_lines.specs.Span.{IsSpan, IsSpanBorder};
-ghost use Rattle.snippet_splice.specs.Edits.{edit_of, original_bounds_of, trimmed_edit_of, AreApart};
-ghost use Rattle.snippet_splice.specs.Overlap.{AreDisjoint};
+ghost use Rattle.snippet_splice.specs.Edits.{edit_of};
 ghost use Rattle.snippet_splice.specs.Copied.{written_from, written_ranges, end_from};
 ghost use Rattle.snippet_splice.specs.Splice.{IsSplice};
-ghost use Rattle.snippet_splice.specs.EditStretches.{source_lines_shown};
+ghost use Rattle.snippet_splice.specs.StretchLines.{source_lines_shown};
+ghost use Rattle.snippet_splice.specs.FirstOverlap.{AreDisjoint};
+ghost use Rattle.snippet_splice.specs.TrimmedEdits.{original_bounds_of, trimmed_edit_of, AreApart};
 ghost use Rattle.snippet_splice.specs.ShownText.{closes_line, shown_start, shown_rest, without_final_line_feeds};
 ghost use Rattle.snippet_splice.specs.ShownText.{shown_text};
 

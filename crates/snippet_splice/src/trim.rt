@@ -2,7 +2,8 @@
 ghost use Rattle.std.specs.Prelude.{◌≡◌, ℕ, ◌≤◌, List, IfSome, IfNone, length, take};
 ghost use Rattle.std.specs.Option.{option_map};
 ghost use Rattle.std.specs.Str.{IsCharBoundary};
-ghost use Rattle.snippet_splice.specs.Trim.{IsSandwiched, IsSandwich, sandwich};
+ghost use Rattle.snippet_splice.specs.Trim.{sandwich};
+ghost use Rattle.snippet_splice.specs.Sandwich.{IsSandwiched, IsSandwich};
 
 /// The part of a replacement that stands between what it keeps of the original: how many bytes it keeps of the
 /// original's beginning, that part, and how many bytes it keeps of the original's end. `None` where the replacement

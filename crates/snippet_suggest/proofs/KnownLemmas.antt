@@ -9,7 +9,8 @@ use Rattle.snippet_parts.specs.declared.source_map.LineInfo.{LineInfo}
 use Rattle.snippet_parts.specs.LineTable.{table_entry, touched_entries}
 use Rattle.snippet_splice.specs.Copied.{end_from}
 use Rattle.snippet_splice.specs.declared.patches.TrimmedPatch.{TrimmedPatch}
-use Rattle.snippet_splice.specs.Edits.{AreApart, Edit, edit_bounds, edit_of, in_order, original_bounds_of, trimmed_edit_of, trimmed_edits}
+use Rattle.snippet_splice.specs.Edits.{Edit, edit_of, in_order, trimmed_edits}
+use Rattle.snippet_splice.specs.TrimmedEdits.{AreApart, edit_bounds, original_bounds_of, trimmed_edit_of}
 use Rattle.snippet_splice.specs.ShownText.{first_start}
 use Rattle.snippet_splice.proofs.EditLemmas.{trimmed-apart}
 use Rattle.snippet_splice.proofs.OverlapLemmas.{apart-in_order, ordered-spans}

@@ -11,7 +11,8 @@ use Rattle.snippet_lines.specs.Place.{line_of}
 use Rattle.snippet_parts.specs.declared.source_map.LineInfo.{LineInfo}
 use Rattle.snippet_parts.specs.LineTable.{table_entry, touched_entries}
 use Rattle.snippet_splice.specs.Copied.{end_from}
-use Rattle.snippet_splice.specs.Edits.{in_order, trimmed_edit_of}
+use Rattle.snippet_splice.specs.Edits.{in_order}
+use Rattle.snippet_splice.specs.TrimmedEdits.{trimmed_edit_of}
 use Rattle.snippet_splice.specs.ShownText.{first_start}
 use Rattle.snippet_suggest.specs.declared.prepared.PreparedSuggestion.{PreparedSuggestion}
 use Rattle.snippet_suggest.specs.declared.kind.DisplaySuggestion.TheVariants.{Diff}

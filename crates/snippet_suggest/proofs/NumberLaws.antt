@@ -8,7 +8,7 @@ use Rattle.snippet_model.specs.declared.snippet.Snippet.{Snippet}
 use Rattle.snippet_model.specs.declared.snippet.Patch.{Patch}
 use Rattle.snippet_lines.specs.Lines.{lines_of, source_lines}
 use Rattle.snippet_splice.specs.Edits.{edit_of}
-use Rattle.snippet_splice.specs.Overlap.{AreDisjoint}
+use Rattle.snippet_splice.specs.FirstOverlap.{AreDisjoint}
 use Rattle.snippet_splice.proofs.FeedLemmas.{shown-bound, text_feeds}
 use Rattle.snippet_suggest.specs.Given.{added_lines, edits_of, first_given, given_lines, given_text}
 use Rattle.snippet_suggest.proofs.OfferLaws.{HaveSpans, edits-apart}

@@ -8,9 +8,10 @@ use Rattle.snippet_model.specs.declared.snippet.Patch.{Patch}
 use Rattle.snippet_lines.specs.declared.lines.EndLine.TheVariants.{Eof}
 use Rattle.snippet_lines.specs.Lines.{Line, lines_of, source_lines, text_at}
 use Rattle.snippet_lines.specs.Span.{IsSpan}
-use Rattle.snippet_splice.specs.Edits.{in_order, patched, AreApart}
-use Rattle.snippet_splice.specs.Overlap.{AreDisjoint}
-use Rattle.snippet_splice.specs.Spliced.{AreFrom, texts_of}
+use Rattle.snippet_splice.specs.Edits.{in_order, patched}
+use Rattle.snippet_splice.specs.Patched.{AreFrom, texts_of}
+use Rattle.snippet_splice.specs.FirstOverlap.{AreDisjoint}
+use Rattle.snippet_splice.specs.TrimmedEdits.{AreApart}
 use Rattle.snippet_splice.proofs.OverlapLemmas.{apart-in_order, ordered-spans}
 use Rattle.snippet_splice.proofs.ShownLemmas.{some-edits}
 use Rattle.snippet_splice.proofs.SpliceLemmas.{IsShownPart, IsShownPart-plain}

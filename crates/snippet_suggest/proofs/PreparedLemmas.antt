@@ -11,9 +11,10 @@ use Rattle.snippet_lines.proofs.PlaceLemmas.{line_of-within}
 use Rattle.snippet_model.specs.declared.snippet.Patch.{Patch}
 use Rattle.snippet_model.specs.declared.snippet.Snippet.{Snippet}
 use Rattle.snippet_splice.specs.declared.patches.TrimmedPatch.{TrimmedPatch}
-use Rattle.snippet_splice.specs.Edits.{Edit, edit_bounds, edit_of, in_order, original_bounds_of, trimmed_edit_of, trimmed_edits}
+use Rattle.snippet_splice.specs.Edits.{Edit, edit_of, in_order, trimmed_edits}
 use Rattle.snippet_splice.specs.ShownText.{first_start}
-use Rattle.snippet_splice.specs.Spliced.{texts_of}
+use Rattle.snippet_splice.specs.Patched.{texts_of}
+use Rattle.snippet_splice.specs.TrimmedEdits.{edit_bounds, original_bounds_of, trimmed_edit_of}
 use Rattle.snippet_splice.proofs.ShownLemmas.{none_given}
 use Rattle.snippet_suggest.specs.declared.kind.DisplaySuggestion.{DisplaySuggestion}
 use Rattle.snippet_suggest.specs.Given.{counted_line, edits_of, first_end, first_given, first_original, given_text, shown_kind, trimmed_of}

@@ -28,7 +28,7 @@ use Rattle.snippet_suggest.specs.Cells.{begin_cells, opened_cells, end_cells, ga
 use Rattle.snippet_suggest.specs.Cells.{sign_of, with_stretches}
 use Rattle.snippet_suggest.specs.declared.lines.SuggestedText.{SuggestedText}
 use Rattle.snippet_suggest.specs.declared.shown_lines.SuggestionLine.TheVariants.{Line}
-use Rattle.snippet_splice.specs.EditStretches.{line_stretches}
+use Rattle.snippet_splice.specs.StretchLines.{line_stretches}
 use Rattle.std.specs.List.{slice_index_or}
 use Rattle.snippet_suggest.specs.SuggestionRows.{end_glyph}
 use Rattle.std.proofs.lemmas.List.{get_or_past, length-map, places, same_lists}

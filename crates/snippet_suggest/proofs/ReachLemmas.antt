@@ -11,7 +11,8 @@ use Rattle.snippet_parts.specs.declared.source_map.LineInfo.{LineInfo}
 use Rattle.snippet_parts.specs.LineTable.{LineEntry, entry_at, table_entry, touched_entries}
 use Rattle.snippet_splice.specs.declared.patches.TrimmedPatch.{TrimmedPatch}
 use Rattle.snippet_splice.specs.Copied.{end_from}
-use Rattle.snippet_splice.specs.Edits.{AreApart, Edit, trimmed_edit_of, trimmed_edits}
+use Rattle.snippet_splice.specs.Edits.{Edit, trimmed_edits}
+use Rattle.snippet_splice.specs.TrimmedEdits.{AreApart, trimmed_edit_of}
 use Rattle.snippet_splice.specs.ShownText.{first_start}
 use Rattle.snippet_splice.specs.Spliced.{last_line_reached}
 use Rattle.snippet_suggest.specs.Given.{last_removed, lines_touched, texts_at}

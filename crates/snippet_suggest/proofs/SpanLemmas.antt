@@ -11,7 +11,8 @@ use Rattle.snippet_lines.specs.Span.{IsSpan, IsSpanBorder}
 use Rattle.snippet_lines.proofs.OrderLemmas.{All-put_in}
 use Rattle.snippet_parts.proofs.PartLemmas.{All-unmapped}
 use Rattle.snippet_splice.specs.declared.patches.TrimmedPatch.{TrimmedPatch}
-use Rattle.snippet_splice.specs.Edits.{Edit, edit_bounds, in_order, original_bounds_of, precedes, shrunk, trimmed_edit, trimmed_edit_of, trimmed_edits}
+use Rattle.snippet_splice.specs.Edits.{Edit, in_order, precedes, shrunk, trimmed_edit, trimmed_edits}
+use Rattle.snippet_splice.specs.TrimmedEdits.{edit_bounds, original_bounds_of, trimmed_edit_of}
 use Rattle.snippet_splice.specs.Trim.{sandwich}
 use Rattle.snippet_splice.proofs.TrimLemmas.{sandwich-sandwiched}
 

@@ -15,9 +15,10 @@ use Rattle.snippet_model.specs.declared.snippet.Patch.{Patch}
 use Rattle.snippet_lines.specs.Lines.{Line, lines_of, source_lines, text_at}
 use Rattle.snippet_splice.specs.declared.splice.LineRange.{LineRange}
 use Rattle.snippet_splice.specs.Edits.{Edit, edit_of, patched, trimmed_edits}
-use Rattle.snippet_splice.specs.Overlap.{AreDisjoint}
 use Rattle.snippet_splice.specs.ShownText.{without_final_line_feeds}
-use Rattle.snippet_splice.specs.Spliced.{IsTouched, line_ranges, ranges_from, spliced_text, stands, texts_of}
+use Rattle.snippet_splice.specs.Spliced.{IsTouched, stands}
+use Rattle.snippet_splice.specs.Patched.{line_ranges, ranges_from, spliced_text, texts_of}
+use Rattle.snippet_splice.specs.FirstOverlap.{AreDisjoint}
 use Rattle.snippet_splice.proofs.RangeLemmas.{ranges_from-written_ranges}
 use Rattle.snippet_splice.proofs.SpliceLemmas.{IsShownPart}
 use Rattle.snippet_splice.proofs.TouchLemmas.{IsHeld, shown-touched, touched-held}

@@ -8,7 +8,8 @@ use Rattle.snippet_text.specs.Width.{width_of}
 use Rattle.snippet_lines.specs.Lines.{Source}
 use Rattle.snippet_lines.specs.Place.{locations_of}
 use Rattle.snippet_splice.specs.declared.patches.TrimmedPatch.{TrimmedPatch}
-use Rattle.snippet_splice.specs.Edits.{Edit, trimmed_edit_of}
+use Rattle.snippet_splice.specs.Edits.{Edit}
+use Rattle.snippet_splice.specs.TrimmedEdits.{trimmed_edit_of}
 use Rattle.snippet_splice.specs.EditStretches.{capped}
 use Rattle.snippet_suggest.specs.declared.layout.SuggestionLayout.{SuggestionLayout}
 use Rattle.snippet_suggest.specs.declared.marks.PatchColumns.{PatchColumns}

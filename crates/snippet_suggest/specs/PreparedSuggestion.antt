@@ -7,9 +7,11 @@ use Rattle.snippet_model.specs.declared.snippet.Snippet.{Snippet}
 use Rattle.snippet_model.specs.declared.snippet.Patch.{Patch}
 use Rattle.snippet_lines.specs.Lines.{source_lines}
 use Rattle.snippet_lines.specs.Span.{IsSpan}
-use Rattle.snippet_splice.specs.Edits.{edit_bounds, in_order, original_bounds_of, trimmed_edit_of}
-use Rattle.snippet_splice.specs.Overlap.{AreDisjoint}
-use Rattle.snippet_splice.specs.EditStretches.{line_stretches, new_stretches, replaced_stretches}
+use Rattle.snippet_splice.specs.Edits.{in_order}
+use Rattle.snippet_splice.specs.EditStretches.{new_stretches, replaced_stretches}
+use Rattle.snippet_splice.specs.StretchLines.{line_stretches}
+use Rattle.snippet_splice.specs.FirstOverlap.{AreDisjoint}
+use Rattle.snippet_splice.specs.TrimmedEdits.{edit_bounds, original_bounds_of, trimmed_edit_of}
 use Rattle.snippet_suggest.specs.declared.prepared.PreparedSuggestion.{PreparedSuggestion}
 use Rattle.snippet_suggest.specs.Given.{counted_line, edits_of, first_given, given_lines, given_ranges, given_text, shown_kind, trimmed_of}
 use Rattle.snippet_parts.specs.Numbered.{numbered_source}

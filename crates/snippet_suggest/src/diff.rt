@@ -1,7 +1,7 @@
 //! A suggestion that is shown as the lines that are removed, and the one line that stands in their place.
 ghost use Rattle.std.specs.Prelude.{◌≡◌, ◌<◌, ◌-◌, ◌++◌, ◌∷◌, [], List, true, false, OnOk, chars, length};
 ghost use Rattle.snippet_style.specs.declared.role.ElementStyle.TheVariants.{Addition};
-ghost use Rattle.snippet_splice.specs.EditStretches.{line_stretches};
+ghost use Rattle.snippet_splice.specs.StretchLines.{line_stretches};
 ghost use Rattle.snippet_suggest.specs.Cells.{diff_cells, offered_cells, taken_cells, with_stretches};
 ghost use Rattle.std.specs.Str.{bytes_eq};
 ghost use Rattle.snippet_style.specs.Cell.{Cell};

@@ -3,7 +3,7 @@ ghost use Rattle.std.specs.Prelude.{◌≡◌, ◌<◌, ◌+◌, ◌++◌, ◌�
 ghost use Rattle.std.specs.Prelude.{map};
 ghost use Rattle.std.specs.List.{slice_index_or};
 ghost use Rattle.snippet_lines.specs.Lines.{lines_of};
-ghost use Rattle.snippet_splice.specs.Spliced.{texts_of};
+ghost use Rattle.snippet_splice.specs.Patched.{texts_of};
 ghost use Rattle.snippet_suggest.specs.Cells.{sign_alone, sign_among, sign_of, row_shown};
 ghost use Rattle.snippet_suggest.specs.declared.shown_lines.SuggestionLine.TheVariants.{Line};
 ghost use Rattle.snippet_suggest.specs.SuggestedLines.{is_touched, shown_from};

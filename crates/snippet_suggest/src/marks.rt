@@ -1,6 +1,6 @@
 //! The marks below what a suggestion puts in.
 ghost use Rattle.std.specs.Prelude.{◌≡◌, ◌+◌, ◌-◌, ◌++◌, ◌∷◌, [], List, All, OnOk, length};
-ghost use Rattle.snippet_splice.specs.Edits.{trimmed_edit_of};
+ghost use Rattle.snippet_splice.specs.TrimmedEdits.{trimmed_edit_of};
 ghost use Rattle.snippet_splice.specs.EditStretches.{capped};
 ghost use Rattle.snippet_suggest.specs.Marks.{edit_columns, edits_at, left_of, patch_mark_end, mark_glyph_of};
 ghost use Rattle.snippet_suggest.specs.Marks.{mark_start};

@@ -1,7 +1,8 @@
 //! The roles of what is new in a line, and of what is removed.
 ghost use Rattle.std.specs.Prelude.{◌≡◌, ◌==◌, ◌+◌, ◌*◌, ℕ, ◌++◌, ◌∷◌, [], All, List, OnOk, chars, count_by, length};
 ghost use Rattle.std.specs.Prelude.{take, true};
-ghost use Rattle.snippet_splice.specs.EditStretches.{capped, line_stretches};
+ghost use Rattle.snippet_splice.specs.EditStretches.{capped};
+ghost use Rattle.snippet_splice.specs.StretchLines.{line_stretches};
 ghost use Rattle.snippet_suggest.specs.Cells.{put, with_stretches};
 ghost use Rattle.snippet_suggest.specs.InOrder.{AreInOrder};
 ghost use Rattle.snippet_text.specs.Normalized.{norm};

@@ -8,7 +8,7 @@ ghost use Rattle.snippet_style.specs.Cell.{Cell};
 ghost use Rattle.snippet_lines.specs.Span.{IsSpan};
 ghost use Rattle.snippet_splice.specs.Copied.{end_from};
 ghost use Rattle.snippet_splice.specs.ShownText.{first_start};
-ghost use Rattle.snippet_splice.specs.Edits.{AreApart, trimmed_edit_of};
+ghost use Rattle.snippet_splice.specs.TrimmedEdits.{AreApart, trimmed_edit_of};
 ghost use Rattle.snippet_suggest.specs.PreparedSuggestion.{IsPrepared};
 ghost use Rattle.snippet_suggest.specs.SuggestionRows.{rows_shared};
 ghost use Rattle.snippet_suggest.specs.Given.{first_given, first_original, first_original_end, given_lines};

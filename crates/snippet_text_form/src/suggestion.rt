@@ -4,7 +4,7 @@ ghost use Rattle.std.specs.Cow.{cow_str_bytes};
 ghost use Rattle.std.specs.Option.{option_copied, option_map};
 ghost use Rattle.std.specs.Str.{IsCharBoundary};
 ghost use Rattle.snippet_lines.specs.Span.{IsSpan, is_character_border};
-ghost use Rattle.snippet_splice.specs.Edits.{trimmed_edit_of};
+ghost use Rattle.snippet_splice.specs.TrimmedEdits.{trimmed_edit_of};
 ghost use Rattle.snippet_splice.specs.ShownText.{without_final_line_feeds};
 ghost use Rattle.snippet_suggest.specs.PreparedSuggestion.{IsPrepared};
 ghost use Rattle.snippet_text_form.specs.Form.{bare};

@@ -2,7 +2,7 @@ use Rattle.std.proofs.Common.{◌≡◌, List, false, map, sym, subst, ◌∙◌
 use Rattle.std.proofs.lemmas.Bool.{cases_eq}
 use Rattle.snippet_model.specs.declared.snippet.Patch.{Patch}
 use Rattle.snippet_splice.specs.Edits.{edit_of}
-use Rattle.snippet_splice.specs.Overlap.{overlap_at}
+use Rattle.snippet_splice.specs.FirstOverlap.{overlap_at}
 use Rattle.snippet_splice.proofs.OverlapLemmas.{overlap-seen}
 use Rattle.snippet_splice.proofs.overlap.first_overlapping.Goals as goal
 

@@ -1,6 +1,6 @@
 use Rattle.std.proofs.Common.{◌≡◌, ◌<◌, ℕ, false, map}
 use Rattle.snippet_splice.specs.Edits.{edit_of}
-use Rattle.snippet_splice.specs.Overlap.{overlap_at}
+use Rattle.snippet_splice.specs.FirstOverlap.{overlap_at}
 use Rattle.snippet_splice.proofs.overlap.first_overlapping.Given as goal
 
 -- no later patch so far overlaps

@@ -2,7 +2,7 @@ use Rattle.std.proofs.Common.{◌≡◌, ◌+◌, ◌-◌, ◌<◌, ◌≤◌, �
 use Rattle.std.proofs.lemmas.Bool.{cases_eq}
 use Rattle.snippet_model.specs.declared.snippet.Patch.{Patch}
 use Rattle.snippet_splice.specs.Edits.{Edit, edit_of}
-use Rattle.snippet_splice.specs.Overlap.{no_edit}
+use Rattle.snippet_splice.specs.FirstOverlap.{no_edit}
 use Rattle.snippet_splice.proofs.OverlapLemmas.{get_or-edit_of}
 use Rattle.snippet_splice.proofs.overlap.stand_apart.Goals as goal
 

@@ -1,6 +1,6 @@
 use Rattle.std.proofs.Common.{◌≤◌, ◌+◌, ◌<◌, ℕ, get_or, map}
 use Rattle.snippet_splice.specs.Edits.{edit_of}
-use Rattle.snippet_splice.specs.Overlap.{no_edit}
+use Rattle.snippet_splice.specs.FirstOverlap.{no_edit}
 use Rattle.snippet_splice.proofs.overlap.stand_apart.Given as goal
 
 -- each patch so far ends by the start of the next

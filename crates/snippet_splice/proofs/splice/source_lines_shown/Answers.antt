@@ -7,8 +7,8 @@ use Rattle.snippet_lines.specs.Lines.{is_lf, source_lines}
 use Rattle.snippet_lines.specs.Span.{IsSpanBorder}
 use Rattle.snippet_splice.specs.declared.patches.TrimmedPatch.{TrimmedPatch}
 use Rattle.snippet_splice.specs.Copied.{in_text}
-use Rattle.snippet_splice.specs.Edits.{original_bounds_of}
-use Rattle.snippet_splice.specs.EditStretches.{last_end_of}
+use Rattle.snippet_splice.specs.StretchLines.{last_end_of}
+use Rattle.snippet_splice.specs.TrimmedEdits.{original_bounds_of}
 use Rattle.snippet_splice.proofs.splice.source_lines_shown.Goals as goal
 
 border_max : (source : List ℕ) (a b m : ℕ) → m ≡ max a b → IsSpanBorder source a → IsSpanBorder source b → IsSpanBorder source m

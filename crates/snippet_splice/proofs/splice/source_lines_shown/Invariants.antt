@@ -1,7 +1,7 @@
 use Rattle.std.proofs.Common.{◌≡◌, All, drop, map}
 use Rattle.snippet_lines.specs.Span.{IsSpanBorder}
-use Rattle.snippet_splice.specs.Edits.{original_bounds_of}
-use Rattle.snippet_splice.specs.EditStretches.{last_end_of}
+use Rattle.snippet_splice.specs.StretchLines.{last_end_of}
+use Rattle.snippet_splice.specs.TrimmedEdits.{original_bounds_of}
 use Rattle.snippet_splice.proofs.splice.source_lines_shown.Given as goal
 
 -- those that are left complete the greatest end, which is a border

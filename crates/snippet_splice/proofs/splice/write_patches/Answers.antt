@@ -2,7 +2,7 @@ use Rattle.std.proofs.Common.{◌≡◌, ◌<◌, ◌+◌, ℕ, List, [], ◌∷
 use Rattle.std.proofs.lemmas.List.{drop_more}
 use Rattle.std.specs.String.{string_bytes}
 use Rattle.snippet_splice.specs.declared.patches.TrimmedPatch.{TrimmedPatch}
-use Rattle.snippet_splice.specs.Edits.{trimmed_edit_of}
+use Rattle.snippet_splice.specs.TrimmedEdits.{trimmed_edit_of}
 use Rattle.snippet_lines.specs.Lines.{is_lf}
 use Rattle.snippet_splice.specs.Copied.{copied}
 use Rattle.snippet_splice.proofs.WriteLemmas.{Writes, Writes-more}

@@ -1,5 +1,6 @@
 use Rattle.std.proofs.Common.{◌≡◌, ◌≤◌, ◌+◌, ◌++◌, ℕ, drop, length, map}
-use Rattle.snippet_splice.specs.EditStretches.{capped, extent_of, feeds_made, line_stretches, stretches_on}
+use Rattle.snippet_splice.specs.EditStretches.{capped, stretches_on}
+use Rattle.snippet_splice.specs.StretchLines.{extent_of, feeds_made, line_stretches}
 use Rattle.snippet_splice.proofs.stretches.new_stretches.Given as goal
 
 -- those that are left complete what is to be added, and the lines

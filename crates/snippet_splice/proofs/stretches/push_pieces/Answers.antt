@@ -3,7 +3,8 @@ use Rattle.snippet_lines.specs.Lines.{is_lf}
 use Rattle.std.proofs.lemmas.List.{append-nil}
 use Rattle.std.proofs.lemmas.Str.Pattern.{split_parts}
 use Rattle.snippet_splice.specs.declared.stretches.SubstitutionHighlight.{SubstitutionHighlight}
-use Rattle.snippet_splice.specs.EditStretches.{capped, line_stretches, pieces_on, stretch_width}
+use Rattle.snippet_splice.specs.EditStretches.{capped, pieces_on, stretch_width}
+use Rattle.snippet_splice.specs.StretchLines.{line_stretches}
 use Rattle.snippet_splice.proofs.StretchLemmas.{feeds_cut, feeds_whole, pieces_cut, pieces_whole}
 use Rattle.snippet_splice.proofs.WriteLemmas.{utf8-after}
 use Rattle.snippet_splice.proofs.stretches.push_pieces.Goals as goal

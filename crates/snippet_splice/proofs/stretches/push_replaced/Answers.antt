@@ -2,7 +2,8 @@ use Rattle.std.proofs.Common.{◌≡◌, ◌∙◌, ◌+◌, ℕ, List, [], ◌�
 use Rattle.std.proofs.lemmas.Result.{on_ok_weaker}
 use Rattle.std.proofs.lemmas.Str.Pattern.{split_parts}
 use Rattle.snippet_splice.specs.declared.stretches.SubstitutionHighlight.{SubstitutionHighlight}
-use Rattle.snippet_splice.specs.EditStretches.{capped, line_stretches, taken_on, without_cr}
+use Rattle.snippet_splice.specs.EditStretches.{capped, taken_on, without_cr}
+use Rattle.snippet_splice.specs.StretchLines.{line_stretches}
 use Rattle.snippet_splice.proofs.StretchLemmas.{feeds_cut, feeds_whole, pieces_cut, pieces_whole, taken_cut}
 use Rattle.snippet_splice.proofs.WriteLemmas.{utf8-after}
 use Rattle.snippet_splice.proofs.stretches.push_replaced.Goals as goal

@@ -2,7 +2,8 @@ use Rattle.std.proofs.Common.{◌≡◌, ◌+◌, ◌++◌, ℕ, count_by, lengt
 use denote.Text.{Utf8}
 use denote.Shadow.{shadow}
 use Rattle.snippet_lines.specs.Lines.{is_lf}
-use Rattle.snippet_splice.specs.EditStretches.{capped, line_stretches, taken_on}
+use Rattle.snippet_splice.specs.EditStretches.{capped, taken_on}
+use Rattle.snippet_splice.specs.StretchLines.{line_stretches}
 use Rattle.snippet_splice.proofs.stretches.push_replaced.Given as goal
 use Rattle.std.specs.List.{slice_split}
 

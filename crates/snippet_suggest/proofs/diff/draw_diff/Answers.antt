@@ -8,7 +8,7 @@ use Rattle.snippet_style.specs.Cell.{Cell}
 use Rattle.snippet_suggest.specs.Given.{last_removed}
 use Rattle.snippet_suggest.specs.Cells.{unless_stays}
 use Rattle.snippet_style.specs.declared.role.ElementStyle.TheVariants.{Removal}
-use Rattle.snippet_splice.specs.EditStretches.{line_stretches}
+use Rattle.snippet_splice.specs.StretchLines.{line_stretches}
 use Rattle.snippet_suggest.specs.Cells.{diff_cells, gone_of, left_out_cells, offered_cells, taken_cells, with_stretches}
 use Rattle.snippet_suggest.specs.declared.kind.DisplaySuggestion.TheVariants.{Diff}
 use Rattle.snippet_suggest.specs.Given.{is_left_out}

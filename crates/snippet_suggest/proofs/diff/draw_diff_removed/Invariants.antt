@@ -1,5 +1,5 @@
 use Rattle.std.proofs.Common.{◌≡◌, ◌++◌, take}
-use Rattle.snippet_splice.specs.EditStretches.{line_stretches}
+use Rattle.snippet_splice.specs.StretchLines.{line_stretches}
 use Rattle.snippet_suggest.specs.Cells.{taken_cells}
 use Rattle.snippet_suggest.proofs.diff.draw_diff_removed.Given as goal
 

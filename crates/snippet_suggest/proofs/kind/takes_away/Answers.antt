@@ -2,7 +2,8 @@ use Rattle.std.proofs.Common.{◌<◌, ℕ, List, [], length, map, sym, ap, ◌�
 use Rattle.std.proofs.lemmas.List.{get_or-map, length-map}
 use Rattle.std.proofs.lemmas.List.Folds.{list_any_at}
 use Rattle.snippet_splice.specs.declared.patches.TrimmedPatch.{TrimmedPatch}
-use Rattle.snippet_splice.specs.Edits.{Edit, trimmed_edit_of}
+use Rattle.snippet_splice.specs.Edits.{Edit}
+use Rattle.snippet_splice.specs.TrimmedEdits.{trimmed_edit_of}
 use Rattle.snippet_suggest.specs.Kind.{takes_away}
 use Rattle.snippet_suggest.proofs.kind.takes_away.Goals as goal
 

@@ -1,6 +1,6 @@
 use Rattle.std.proofs.Common.{◌≡◌, ◌++◌, ◌∷◌, [], List, drop, length, map, take}
 use Rattle.snippet_style.specs.Cell.{Cell}
-use Rattle.snippet_splice.specs.Edits.{trimmed_edit_of}
+use Rattle.snippet_splice.specs.TrimmedEdits.{trimmed_edit_of}
 use Rattle.snippet_suggest.specs.Marks.{edit_columns, with_marks}
 use Rattle.snippet_suggest.specs.Moves.{AreMoves}
 use Rattle.snippet_suggest.proofs.MarksDrawn.{Marked}

@@ -8,7 +8,8 @@ use Rattle.snippet_lines.specs.Lines.{Source}
 use Rattle.snippet_lines.proofs.LinesLemmas.{length-source_lines}
 use Rattle.snippet_splice.specs.declared.patches.TrimmedPatch.{TrimmedPatch}
 use Rattle.snippet_splice.specs.Copied.{written_ranges}
-use Rattle.snippet_splice.specs.Edits.{Edit, edit_bounds, edit_of, in_order, original_bounds_of, trimmed_edit_of, trimmed_edits}
+use Rattle.snippet_splice.specs.Edits.{Edit, edit_of, in_order, trimmed_edits}
+use Rattle.snippet_splice.specs.TrimmedEdits.{edit_bounds, original_bounds_of, trimmed_edit_of}
 use Rattle.snippet_splice.specs.Splice.{IsSplice}
 use Rattle.snippet_splice.specs.ShownText.{first_start, shown_start, shown_text}
 use Rattle.snippet_splice.specs.EditStretches.{new_stretches, replaced_stretches}

@@ -4,11 +4,11 @@ use Rattle.snippet_lines.specs.Span.{IsSpan}
 use Rattle.snippet_parts.specs.declared.source_map.LineInfo.{LineInfo}
 use Rattle.snippet_splice.specs.declared.patches.TrimmedPatch.{TrimmedPatch}
 use Rattle.snippet_splice.specs.Copied.{end_from}
-use Rattle.snippet_splice.specs.Edits.{AreApart, trimmed_edit_of}
 use Rattle.snippet_suggest.specs.declared.kind.DisplaySuggestion.TheVariants.{Diff}
 use Rattle.snippet_style.specs.Cell.{Cell}
 use Rattle.std.proofs.lemmas.List.{append-nil}
-use Rattle.snippet_splice.specs.EditStretches.{line_stretches}
+use Rattle.snippet_splice.specs.StretchLines.{line_stretches}
+use Rattle.snippet_splice.specs.TrimmedEdits.{AreApart, trimmed_edit_of}
 use Rattle.snippet_suggest.specs.Cells.{begin_cells, diff_cells}
 use Rattle.snippet_suggest.specs.Suggested.{new_on, suggested_stretches}
 use Rattle.snippet_suggest.proofs.KnownDiff.{IsDiff, known_diff, known_diff_rows}

@@ -2,7 +2,7 @@ use denote.Enum.Bare.{same_true, true_same}
 use Rattle.std.proofs.Common.{◌≡◌, ◌≢◌, ◌∙◌, ℕ, ◌++◌, ◌∷◌, [], All, List, ap, map, replicate, rules, subst, sym}
 use Rattle.std.proofs.Common.{◌+◌, arith, length}
 use Rattle.std.proofs.lemmas.List.{length-append, length-replicate}
-use Rattle.snippet_splice.specs.Edits.{trimmed_edit_of}
+use Rattle.snippet_splice.specs.TrimmedEdits.{trimmed_edit_of}
 use Rattle.snippet_suggest.specs.contracts.kind.DisplaySuggestion.{the_type}
 use Rattle.snippet_suggest.specs.declared.kind.DisplaySuggestion.TheVariants.{Underline}
 use Rattle.snippet_suggest.specs.Given.{shown_kind, trimmed_of}

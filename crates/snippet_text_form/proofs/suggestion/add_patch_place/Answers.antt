@@ -2,7 +2,8 @@ use Rattle.std.proofs.Common.{◌≡◌, ℕ, ◌+◌, ◌++◌, ◌∙◌, List
 use Rattle.std.proofs.lemmas.Bool.{and_left, and_right}
 use Rattle.std.proofs.lemmas.Result.{on_ok_weaker}
 use Rattle.std.specs.Option.{option_copied}
-use Rattle.snippet_splice.specs.Edits.{Edit, trimmed_edit_of}
+use Rattle.snippet_splice.specs.Edits.{Edit}
+use Rattle.snippet_splice.specs.TrimmedEdits.{trimmed_edit_of}
 use Rattle.snippet_suggest.specs.Kind.{is_blank_text}
 use Rattle.snippet_text_form.specs.Cause.{column_unless}
 use Rattle.snippet_text_form.specs.Form.{FormPiece, bare}

@@ -3,7 +3,8 @@ use Rattle.std.proofs.lemmas.List.{append-nil, take_all}
 use Rattle.std.specs.List.{flat_map}
 use Rattle.std.specs.Option.{option_copied}
 use Rattle.snippet_lines.specs.Span.{IsSpan}
-use Rattle.snippet_splice.specs.Edits.{Edit, trimmed_edit_of}
+use Rattle.snippet_splice.specs.Edits.{Edit}
+use Rattle.snippet_splice.specs.TrimmedEdits.{trimmed_edit_of}
 use Rattle.snippet_splice.specs.declared.patches.TrimmedPatch.{TrimmedPatch}
 use Rattle.snippet_suggest.proofs.KnownLemmas.{known_spans}
 use Rattle.snippet_text_form.specs.Form.{FormPiece}
