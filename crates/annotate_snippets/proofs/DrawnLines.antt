@@ -4,7 +4,8 @@ use Rattle.snippet_model.specs.declared.snippet.Annotation.{Annotation}
 use Rattle.snippet_model.specs.declared.snippet.Snippet.{Snippet}
 use Rattle.snippet_style.specs.Cell.{Cell, unlinked_cell}
 use Rattle.snippet_text.specs.Normalized.{norm}
-use Rattle.snippet_parts.specs.Annotated.{KeptLine, kept_line, seen_kept}
+use Rattle.snippet_parts.specs.Annotated.{KeptLine, kept_line}
+use Rattle.snippet_parts.specs.OnLine.{seen_kept}
 use Rattle.snippet_parts.specs.declared.entries.AnnotatedLineInfo.{AnnotatedLineInfo}
 use Rattle.snippet_parts.specs.declared.entries.LineAnnotation.{LineAnnotation}
 use Rattle.snippet_window.specs.declared.margin.Margin.{Margin}

@@ -20,7 +20,8 @@ use Rattle.snippet_lines.specs.Lines.{Line, AreLines, joined, line_bytes, is_lf,
 use Rattle.snippet_lines.specs.Place.{line_of}
 use Rattle.snippet_parts.specs.Counted.{counted_number}
 use Rattle.snippet_parts.proofs.CountedWords.{greatest_end, reached_source}
-use Rattle.snippet_parts.specs.Annotated.{KeptLine, kept_line, seen_kept}
+use Rattle.snippet_parts.specs.Annotated.{KeptLine, kept_line}
+use Rattle.snippet_parts.specs.OnLine.{seen_kept}
 use Rattle.snippet_parts.specs.Kept.{keeps, kept_lines, shown_lines, with_between}
 use Rattle.snippet_parts.specs.Mark.{touches}
 use Rattle.snippet_parts.specs.Marked.{first_line, last_line}

@@ -10,8 +10,9 @@ use Rattle.snippet_lines.specs.Span.{IsSpan}
 use Rattle.snippet_model.specs.declared.snippet.Annotation.{Annotation}
 use Rattle.snippet_model.specs.declared.snippet.Element.TheVariants.{Cause}
 use Rattle.snippet_model.specs.declared.snippet.Snippet.{Snippet}
-use Rattle.snippet_parts.specs.Annotated.{annotated_lines, kept_line, seen_kept}
-use Rattle.snippet_parts.specs.Entries.{AllEntries, HasColumnRoom}
+use Rattle.snippet_parts.specs.Annotated.{annotated_lines, kept_line}
+use Rattle.snippet_parts.specs.EntryBounds.{AllEntries, HasColumnRoom}
+use Rattle.snippet_parts.specs.OnLine.{seen_kept}
 use Rattle.snippet_parts.specs.Kept.{kept_lines, shown_lines}
 use Rattle.snippet_parts.specs.Located as labels
 use Rattle.snippet_parts.specs.Mark.{is_marking, touches}

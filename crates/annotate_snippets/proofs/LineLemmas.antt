@@ -24,7 +24,8 @@ use Rattle.snippet_parts.specs.declared.entries.LineAnnotation.{LineAnnotation}
 use Rattle.snippet_parts.specs.declared.entries.LineAnnotationType.{LineAnnotationType}
 use Rattle.snippet_parts.specs.declared.entries.LineAnnotationType.TheVariants.{Singleline, MultilineStart, MultilineEnd, MultilineLine}
 use Rattle.snippet_window.specs.declared.margin.Margin.{Margin}
-use Rattle.snippet_parts.specs.Annotated.{KeptLine, kept_line, parts_on, seen_kept, single_part}
+use Rattle.snippet_parts.specs.Annotated.{KeptLine, kept_line, parts_on, single_part}
+use Rattle.snippet_parts.specs.OnLine.{seen_kept}
 use Rattle.snippet_lines.specs.Lines.{source_lines}
 use Rattle.snippet_parts.specs.Mark.{end_column, is_marked_on, is_marking, is_single_line, is_wide, qualifies_for_marks, touches}
 use Rattle.snippet_parts.specs.Entries.{is_bar, is_single_part, is_wide_entry}

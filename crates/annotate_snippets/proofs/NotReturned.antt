@@ -16,7 +16,8 @@ use Rattle.snippet_style.specs.declared.role.ElementStyle.TheVariants.{NoStyle}
 use Rattle.snippet_splice.specs.Edits.{Edit, trimmed_edit, trimmed_edits}
 use Rattle.snippet_splice.specs.Trim.{kept_before, sandwich}
 use Rattle.snippet_text.specs.Normalized.{norm}
-use Rattle.snippet_parts.specs.Depths.{IsChainOf, IsLongestChain, SharesWithFirst, depth_among, places_of, share_line}
+use Rattle.snippet_parts.specs.Depths.{depth_among, places_of, share_line}
+use Rattle.snippet_parts.specs.Chains.{IsChainOf, IsLongestChain, SharesWithFirst}
 use Rattle.snippet_parts.specs.declared.depths.LongExtent.{LongExtent}
 use Rattle.annotate_snippets.specs.Fault.{first_fault, first_refusal}
 use Rattle.annotate_snippets.specs.Settings.{plain_settings}

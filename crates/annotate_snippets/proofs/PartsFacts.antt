@@ -22,13 +22,13 @@ use Rattle.snippet_parts.specs.declared.entries.LineAnnotation.{LineAnnotation}
 use Rattle.snippet_parts.specs.declared.entries.LineAnnotationType.{LineAnnotationType}
 use Rattle.snippet_parts.specs.declared.entries.LineAnnotationType.TheVariants.{Singleline, MultilineStart, MultilineEnd, MultilineLine}
 use Rattle.snippet_window.specs.declared.margin.Margin.{Margin}
-use Rattle.snippet_parts.specs.Entries.{HasDepthWithin, HasColumnRoom}
 use Rattle.snippet_parts.proofs.EntryFacts.{depths-fit, each-line, labels-fit, places-fit, texts-fit, untouched-parts, wide-count}
 use Rattle.snippet_window.proofs.UncutLaws.{margin_whole}
 use Rattle.snippet_parts.proofs.ShownFacts.{shown_lines-first_line, last-shown, shown-ascends, shown-within}
 use Rattle.snippet_parts.specs.Depths.{places_of}
-use Rattle.snippet_parts.specs.Annotated.{KeptLine, annotated_lines, deepest, is_long, kept_line, long_entry, long_place}
-use Rattle.snippet_parts.specs.Annotated.{long_spans, parts_on, seen_kept, single_part}
+use Rattle.snippet_parts.specs.Annotated.{KeptLine, annotated_lines, deepest, is_long, kept_line, long_entry, long_place, long_spans, parts_on, single_part}
+use Rattle.snippet_parts.specs.OnLine.{seen_kept}
+use Rattle.snippet_parts.specs.EntryBounds.{HasDepthWithin, HasColumnRoom}
 use Rattle.snippet_parts.specs.Kept.{shown_lines}
 use Rattle.snippet_lines.specs.Lines.{Source, source_lines}
 use Rattle.snippet_parts.specs.Mark.{is_marked_on, is_marking, is_single_line, is_wide, touches}

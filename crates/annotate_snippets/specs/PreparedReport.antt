@@ -11,7 +11,8 @@ use Rattle.snippet_model.specs.declared.snippet.Element.TheVariants as element
 use Rattle.snippet_model.specs.Fits.{AnnotationFits, GroupFits, MessageFits}
 use Rattle.snippet_lines.specs.Lines.{source_lines}
 use Rattle.snippet_lines.specs.Span.{IsSpan}
-use Rattle.snippet_parts.specs.Annotated.{annotated_lines, deepest, seen_kept}
+use Rattle.snippet_parts.specs.Annotated.{annotated_lines, deepest}
+use Rattle.snippet_parts.specs.OnLine.{seen_kept}
 use Rattle.snippet_parts.specs.Located.{HasTextLabel}
 use Rattle.snippet_suggest.specs.PreparedSuggestion.{IsPrepared, IsSuggestible}
 use Rattle.annotate_snippets.specs.declared.renderer.preprocess.PreparedCause.{PreparedCause}

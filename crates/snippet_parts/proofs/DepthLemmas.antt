@@ -7,7 +7,7 @@ use Rattle.std.proofs.lemmas.List.{take_at, length-map, get_or-map}
 use Rattle.snippet_parts.specs.Least.{greatest}
 use Rattle.snippet_parts.specs.declared.depths.LongExtent.{LongExtent}
 use Rattle.snippet_parts.specs.Depths.{same_place, share_line, places_of, raw_depth, raw_depth_among, greatest_raw_depth, greatest_depth, depth_among}
-use Rattle.snippet_parts.specs.Depths.{SharesWithFirst, IsChainOf, IsLongestChain, raw_depths}
+use Rattle.snippet_parts.specs.Chains.{SharesWithFirst, IsChainOf, IsLongestChain, raw_depths}
 use Rattle.snippet_parts.proofs.RawDepthLemmas.{among_after, among-most, among-new, any-at, fold-max, greatest-bound, greatest-is, length-raw_depths}
 use Rattle.snippet_parts.proofs.RawDepthLemmas.{places-bound, raw_depths-are, same-true}
 use Rattle.snippet_parts.proofs.DepthSearchLemmas.{near_max-after, no_place, raw_depth-near, raw_depth-some}

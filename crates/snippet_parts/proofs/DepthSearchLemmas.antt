@@ -7,7 +7,8 @@ use Rattle.std.proofs.lemmas.Bool.{cases_Bool, le-leb, lt-leb, and_from, and_rig
 use Rattle.std.proofs.lemmas.Bool.{false_from_ne_true}
 use Rattle.std.proofs.lemmas.List.{drop_more, drop_all, get_or-take, get_or-drop, take_rest, drop-set, length-take-le, length-drop, get_or_default}
 use Rattle.snippet_parts.specs.declared.depths.LongExtent.{LongExtent}
-use Rattle.snippet_parts.specs.Depths.{same_place, share_line, places_of, raw_depth, raw_depth_among, raw_depths}
+use Rattle.snippet_parts.specs.Depths.{same_place, share_line, places_of, raw_depth, raw_depth_among}
+use Rattle.snippet_parts.specs.Chains.{raw_depths}
 use Rattle.snippet_parts.proofs.RawDepthLemmas.{among_after, among-new, length-raw_depths, places-again, places-new, same-true}
 
 -- ---- the search for a raw depth

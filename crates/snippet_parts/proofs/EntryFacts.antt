@@ -19,11 +19,12 @@ use Rattle.snippet_parts.specs.declared.entries.LineAnnotation.{LineAnnotation}
 use Rattle.snippet_parts.specs.declared.depths.LongExtent.{LongExtent}
 use Rattle.snippet_parts.specs.declared.entries.AnnotatedLineInfo.{AnnotatedLineInfo}
 use Rattle.snippet_lines.specs.declared.place.Loc.{Loc}
-use Rattle.snippet_parts.specs.Annotated.{KeptLine, seen_kept, kept_line, is_long, long_entry, long_place}
+use Rattle.snippet_parts.specs.Annotated.{KeptLine, kept_line, is_long, long_entry, long_place}
 use Rattle.snippet_parts.specs.Annotated.{long_spans, long_parts, depth_of, deepest, single_part, made_parts, parts_on}
 use Rattle.snippet_parts.specs.LongSpans.{bar_lines}
 use Rattle.snippet_parts.specs.Depths.{same_place, depth_among, greatest_depth}
-use Rattle.snippet_parts.specs.Entries.{AllEntries, HasCharacterRoom, HasColumnRoom, HasShortLabel, HasDepthWithin, is_untouched}
+use Rattle.snippet_parts.specs.EntryBounds.{AllEntries, HasCharacterRoom, HasColumnRoom, HasShortLabel, HasDepthWithin}
+use Rattle.snippet_parts.specs.OnLine.{seen_kept, is_untouched}
 use Rattle.snippet_lines.specs.Lines.{Source}
 use Rattle.snippet_parts.specs.Located.{HasTextLabel}
 use Rattle.snippet_parts.specs.Mark.{is_marking, is_single_line, touches, is_marked_on, is_wide, start_column, span_width}

@@ -16,7 +16,8 @@ use Rattle.snippet_parts.specs.declared.entries.LineAnnotation.{LineAnnotation}
 use Rattle.snippet_parts.specs.declared.location.Location.{Location}
 use Rattle.snippet_parts.specs.Annotated.{KeptLine, annotated_lines, is_long, kept_line, parts_on, single_part}
 use Rattle.snippet_model.specs.AnnotationKind.{is_primary}
-use Rattle.snippet_parts.specs.Entries.{Ascends, is_untouched}
+use Rattle.snippet_parts.specs.Entries.{Ascends}
+use Rattle.snippet_parts.specs.OnLine.{is_untouched}
 use Rattle.snippet_parts.specs.Kept.{kept_lines}
 use Rattle.snippet_parts.specs.Mark.{is_marking, is_marked_on, is_single_line, touches}
 use Rattle.snippet_parts.specs.Marked.{first_line}

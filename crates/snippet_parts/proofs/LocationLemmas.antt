@@ -9,7 +9,8 @@ use Rattle.std.proofs.lemmas.List.Elements.{filter-append}
 use Rattle.snippet_model.specs.declared.snippet.Annotation.{Annotation}
 use Rattle.snippet_parts.specs.declared.entries.AnnotatedLineInfo.{AnnotatedLineInfo}
 use Rattle.snippet_parts.specs.declared.location.Location.{Location}
-use Rattle.snippet_parts.specs.Annotated.{KeptLine, seen_kept}
+use Rattle.snippet_parts.specs.Annotated.{KeptLine}
+use Rattle.snippet_parts.specs.OnLine.{seen_kept}
 use Rattle.snippet_parts.specs.Least.{least}
 use Rattle.snippet_parts.proofs.LeastLemmas.{least-push}
 use Rattle.snippet_parts.proofs.LocationWords.{first_place}

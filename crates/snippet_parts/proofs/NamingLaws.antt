@@ -24,7 +24,8 @@ use Rattle.snippet_parts.specs.Annotated.{KeptLine, annotated_lines, is_long, ke
 use Rattle.snippet_parts.specs.Annotated.{long_spans, made_parts, parts_on, single_part}
 use Rattle.snippet_parts.specs.Kept.{kept_lines}
 use Rattle.snippet_parts.specs.Entries.{Ascends}
-use Rattle.snippet_parts.specs.Location.{marked_starts, naming_start, place_at, primary_place, primary_starts}
+use Rattle.snippet_parts.specs.Location.{primary_place}
+use Rattle.snippet_parts.specs.NamingStart.{marked_starts, naming_start, place_at, primary_starts}
 use Rattle.snippet_parts.specs.Mark.{is_marking, is_single_line}
 use Rattle.snippet_parts.specs.Marked.{first_line, last_line}
 use Rattle.snippet_parts.specs.Least.{least}

@@ -13,10 +13,8 @@ use Rattle.snippet_parts.specs.declared.depths.LongExtent.{LongExtent}
 use Rattle.snippet_parts.specs.declared.entries.AnnotatedLineInfo.{AnnotatedLineInfo}
 use Rattle.snippet_parts.specs.declared.entries.LineAnnotationType.TheVariants.{Singleline, MultilineStart, MultilineEnd}
 use Rattle.snippet_lines.specs.declared.place.Loc.{Loc}
-use Rattle.snippet_parts.specs.Annotated.{KeptLine, seen_kept, kept_line, annotated_lines, is_long, long_entry, long_place}
-use Rattle.snippet_parts.specs.Annotated.{long_spans}
-use Rattle.snippet_parts.specs.Annotated.{long_parts, depth_of, single_part, start_part, end_part, span_parts}
-use Rattle.snippet_parts.specs.Annotated.{parts_on, promoted}
+use Rattle.snippet_parts.specs.Annotated.{KeptLine, kept_line, annotated_lines, is_long, long_entry, long_place, long_spans, long_parts, depth_of, single_part}
+use Rattle.snippet_parts.specs.Annotated.{start_part, end_part, span_parts, parts_on, promoted}
 use Rattle.snippet_lines.specs.OrderedBy.{put_in, ordered_by}
 use Rattle.snippet_parts.specs.Depths.{depth_among, same_place}
 use Rattle.snippet_parts.specs.Entries.{Ascends}
@@ -24,7 +22,7 @@ use Rattle.snippet_parts.specs.Kept.{kept_lines}
 use Rattle.snippet_lines.specs.Lines.{Source}
 use Rattle.snippet_parts.specs.Mark.{is_marking, touches}
 use Rattle.snippet_parts.specs.Marked.{first_line, last_line}
-use Rattle.snippet_parts.specs.OnLine.{numbers_of_lines, AreEntriesOn}
+use Rattle.snippet_parts.specs.OnLine.{numbers_of_lines, AreEntriesOn, seen_kept}
 use Rattle.snippet_lines.specs.Place.{locations_of, start_location, end_location, location_of}
 use Rattle.snippet_lines.specs.Span.{IsSpan}
 use Rattle.snippet_parts.specs.LineStretches.{is_seen}

@@ -7,7 +7,6 @@ use Rattle.snippet_model.specs.AnnotationKind.{is_primary}
 use Rattle.snippet_model.specs.declared.snippet.Annotation.{Annotation}
 use Rattle.snippet_model.specs.declared.snippet.AnnotationKind.TheVariants.{Primary}
 use Rattle.snippet_parts.specs.declared.depths.LongExtent.{LongExtent}
-use Rattle.snippet_parts.specs.declared.entries.AnnotatedLineInfo.{AnnotatedLineInfo}
 use Rattle.snippet_parts.specs.declared.entries.LineAnnotation.{LineAnnotation}
 use Rattle.snippet_parts.specs.declared.entries.LineAnnotationType.{LineAnnotationType}
 use Rattle.snippet_parts.specs.declared.entries.LineAnnotationType.TheVariants.{Singleline, MultilineStart, MultilineEnd, MultilineLine}
@@ -113,10 +112,6 @@ pub record KeptLine : Type 0 where
   pub text : List ℕ
   pub parts : List LineAnnotation
   pub keep : Bool
-
--- a line with its entries, as the equations see it
-abbrev pub seen_kept : AnnotatedLineInfo → KeptLine
-seen_kept info = record { number = info.line_index; text = info.line.now; parts = info.annotations.items; keep = info.keep }
 
 -- line k of a source, with its number, its text, the entries on it, and whether a `Visible` annotation touches it
 abbrev pub kept_line : Source → List Annotation → ℕ → KeptLine

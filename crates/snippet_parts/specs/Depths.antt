@@ -1,5 +1,5 @@
 -- The depths of spans of several lines: how far right the bar of each stands.
-use Rattle.std.specs.Prelude.{◌≡◌, ℕ, ◌+◌, ◌-◌, ◌≤◌, ◌==◌, ◌&&◌, ◌⊎◌, nat_le, max, Bool, true, List, [], ◌∷◌, length, if◌then◌else◌}
+use Rattle.std.specs.Prelude.{ℕ, ◌+◌, ◌-◌, ◌==◌, ◌&&◌, nat_le, max, Bool, List, [], ◌∷◌, if◌then◌else◌}
 use Rattle.std.specs.List.{list_any}
 use Rattle.snippet_parts.specs.declared.depths.LongExtent.{LongExtent}
 
@@ -39,26 +39,3 @@ greatest_depth ps = greatest_raw_depth (places_of ps)
 -- the depth of a span of several lines at one of the places of these: the places that are deepest come first
 abbrev pub depth_among : List LongExtent → LongExtent → ℕ
 depth_among ps p = greatest_depth ps - raw_depth_among (places_of ps) p + 1
-
--- a place shares a line with the first of some others, if there is one
-abbrev pub SharesWithFirst : LongExtent → List LongExtent → Type 0
-SharesWithFirst p [] = Unit {0}
-SharesWithFirst p (q ∷ qs) = share_line p q ≡ true
-
--- `chain` is some of the places, in their order, and each shares a line with the next
-abbrev pub IsChainOf : List LongExtent → List LongExtent → Type 0
-IsChainOf [] chain = chain ≡ []
-IsChainOf (p ∷ ps) chain =
-    IsChainOf ps chain ⊎ ((rest : List LongExtent) × (chain ≡ p ∷ rest) × SharesWithFirst p rest × IsChainOf ps rest)
-
--- a number is the length of a longest chain of some places
-pub record IsLongestChain (ps : List LongExtent) (n : ℕ) : Type 0 where
-  pub chain : List LongExtent
-  pub is_chain : IsChainOf ps chain
-  pub long : length chain ≡ n
-  pub longest : (other : List LongExtent) → IsChainOf ps other → length other ≤ n
-
--- the raw depths of spans at these places, each among itself and those after it
-abbrev pub raw_depths : List LongExtent → List ℕ
-raw_depths [] = []
-raw_depths (p ∷ later) = raw_depth_among (places_of (p ∷ later)) p ∷ raw_depths later

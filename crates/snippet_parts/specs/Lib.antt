@@ -19,3 +19,6 @@ pub mod ShownLines
 pub mod MapStarts
 pub mod LineStretches
 pub mod Trivial
+pub mod Chains
+pub mod EntryBounds
+pub mod NamingStart

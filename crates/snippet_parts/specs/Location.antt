@@ -1,7 +1,7 @@
 -- The place that the head of a snippet names after its path: a line, and a column there.
 use Rattle.std.specs.Prelude.{◌≡◌, ℕ, ◌+◌, ◌≤◌, Bool, true, List, ◌++◌, Option, Some, None, Contains, map, filter, if◌then◌else◌}
 use Rattle.std.specs.List.{filter_map, list_any, slice_get}
-use Rattle.std.specs.Option.{option_map, option_or}
+use Rattle.std.specs.Option.{option_map}
 use Rattle.snippet_model.specs.declared.snippet.Annotation.{Annotation}
 use Rattle.snippet_model.specs.declared.snippet.AnnotationKind.{AnnotationKind}
 use Rattle.snippet_model.specs.declared.snippet.AnnotationKind.TheVariants.{Primary, Context}
@@ -10,7 +10,6 @@ use Rattle.snippet_lines.specs.Lines.{Source}
 use Rattle.snippet_lines.specs.Place.{start_location}
 use Rattle.snippet_parts.specs.Annotated.{KeptLine}
 use Rattle.snippet_model.specs.AnnotationKind.{is_primary}
-use Rattle.snippet_parts.specs.Mark.{is_marking}
 use Rattle.snippet_parts.specs.Marked.{first_line}
 use Rattle.snippet_parts.specs.Least.{least}
 
@@ -33,25 +32,6 @@ abbrev pub secondary_place : List KeptLine → Option Location
 secondary_place lines =
     let starts = λ (line : KeptLine). option_map (λ p. record { line = line.number; column = Some (p.start.char + 1) }) (slice_get line.parts 0) in
     slice_get (filter_map starts lines ++ map (λ line. record { line = line.number; column = None }) lines) 0
-
--- ---- by the bytes at which spans start
-
--- the bytes at which the primary spans start, and those at which the marked ones do
-abbrev pub primary_starts : List Annotation → List ℕ
-primary_starts marks = map (λ a. a.span.start) (filter (λ a. is_primary a.kind) marks)
-
-abbrev pub marked_starts : List Annotation → List ℕ
-marked_starts marks = map (λ a. a.span.start) (filter (λ a. is_marking a.kind) marks)
-
--- the byte at which the first primary span starts; where none is primary, the first that is marked
-abbrev pub naming_start : List Annotation → Option ℕ
-naming_start marks = option_or (least (primary_starts marks)) (least (marked_starts marks))
-
--- the place of a byte at which a span starts, as a head names it
-abbrev pub place_at : Source → ℕ → Location
-place_at s b =
-    let at = start_location s b in
-    record { line = at.line; column = Some (at.char + 1) }
 
 -- ---- by the spans of a snippet
 

@@ -1,21 +1,29 @@
 -- What stands on a line that is kept, in a reader's words: an entry for each span that stands, begins or ends there.
-use Rattle.std.specs.Prelude.{◌≡◌, ℕ, ◌⊎◌, true, List, [], ◌++◌, Contains, map, filter}
+use Rattle.std.specs.Prelude.{◌≡◌, ℕ, ◌⊎◌, true, List, [], ◌++◌, Contains, map, filter, ◌&&◌, Bool, not}
 use Rattle.std.specs.Option.{option_map}
 use Rattle.std.specs.Cow.{cow_str_bytes}
 use Rattle.snippet_model.specs.declared.snippet.Annotation.{Annotation}
 use Rattle.snippet_parts.specs.declared.entries.LineAnnotation.{LineAnnotation}
 use Rattle.snippet_parts.specs.declared.entries.AnnotatedLineInfo.{AnnotatedLineInfo}
 use Rattle.snippet_parts.specs.declared.entries.LineAnnotationType.TheVariants.{Singleline, MultilineStart, MultilineEnd}
-use Rattle.snippet_parts.specs.Annotated.{is_long, depth_of, single_part}
-use Rattle.snippet_parts.specs.Entries.{is_untouched}
+use Rattle.snippet_parts.specs.Annotated.{is_long, depth_of, single_part, KeptLine}
 use Rattle.snippet_lines.specs.Lines.{Source}
-use Rattle.snippet_parts.specs.Mark.{is_marked_on}
+use Rattle.snippet_parts.specs.Mark.{is_marked_on, is_marking, is_single_line, touches}
 use Rattle.snippet_parts.specs.Marked.{first_line, last_line}
 use Rattle.snippet_lines.specs.Place.{locations_of}
+use Rattle.std.specs.List.{list_all}
 
 -- the numbers of some lines
 abbrev pub numbers_of_lines : List AnnotatedLineInfo → List ℕ
 numbers_of_lines infos = map (λ info. info.line_index) infos
+
+-- whether no span of several lines of a kind that is marked touches line k
+abbrev pub is_untouched : List ℕ → List Annotation → ℕ → Bool
+is_untouched source marks k = list_all (λ a. not (is_marking a.kind && touches source a k && not (is_single_line source a))) marks
+
+-- a line with its entries, as the equations see it
+abbrev pub seen_kept : AnnotatedLineInfo → KeptLine
+seen_kept info = record { number = info.line_index; text = info.line.now; parts = info.annotations.items; keep = info.keep }
 
 -- an entry begins a span of several lines: it starts where the span starts, at the span's depth
 pub record Begins (s : Source) (marks : List Annotation) (a : Annotation) (p : LineAnnotation) : Type 0 where

@@ -4,7 +4,7 @@ ghost use Rattle.std.specs.List.{AllPairs, slice_index_or};
 ghost use Rattle.std.specs.List.Sorted.{IsNonDecreasingBy};
 ghost use Rattle.std.specs.Option.{IfNone};
 ghost use Rattle.snippet_parts.specs.Annotated as spec;
-ghost use Rattle.snippet_parts.specs.Annotated.{seen_kept};
+ghost use Rattle.snippet_parts.specs.OnLine.{seen_kept};
 ghost use Rattle.snippet_parts.specs.declared.entries.LineAnnotation.{LineAnnotation};
 ghost use Rattle.snippet_parts.specs.KeptEntries.{line_with};
 ghost use Rattle.snippet_lines.specs.Lines.{source_lines, text_at};

@@ -2,7 +2,8 @@
 ghost use Rattle.std.specs.Prelude.{◌≡◌, Bool, List, ◌++◌, ◌≤◌, All, length, map, IfOk, IfSome, OnOk};
 ghost use Rattle.std.specs.Option.{option_map};
 ghost use Rattle.snippet_model.specs.declared.snippet.Annotation.{Annotation};
-ghost use Rattle.snippet_parts.specs.Annotated.{annotated_lines, kept_line, seen_kept};
+ghost use Rattle.snippet_parts.specs.Annotated.{annotated_lines, kept_line};
+ghost use Rattle.snippet_parts.specs.OnLine.{seen_kept};
 ghost use Rattle.snippet_parts.specs.Between as spec;
 ghost use Rattle.snippet_parts.specs.Kept.{shown_lines};
 ghost use Rattle.snippet_parts.specs.ShownLines.{infos_of, kept_of};

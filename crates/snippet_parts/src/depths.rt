@@ -5,7 +5,9 @@ ghost use Rattle.std.specs.List.{AllWithin};
 ghost use Rattle.std.specs.List.Sorted.{IsNonDecreasingBy};
 ghost use Rattle.snippet_parts.specs.declared.depths.LongExtent.{LongExtent};
 ghost use Rattle.snippet_parts.specs.Depths as spec;
-ghost use Rattle.snippet_parts.specs.Depths.{share_line, IsLongestChain};
+ghost use Rattle.snippet_parts.specs.Chains as chains;
+ghost use Rattle.snippet_parts.specs.Depths.{share_line};
+ghost use Rattle.snippet_parts.specs.Chains.{IsLongestChain};
 ghost use Rattle.snippet_style.specs.Bounds.{HasNext};
 
 use std::alloc::{AllocError, Global};
@@ -62,7 +64,7 @@ fn turn(depths: &mut [usize], greatest: usize)
 fn raw_depths(alloc: Global, places: &[LongExtent]) -> Result<Vec<usize>, AllocError>
     requires ordered { IsNonDecreasingBy (λ p. p.first) places.now }
     requires lines { All (λ p. p.first ≤ p.last) places.now }
-    ensures value { IfOk result (λ raws. raws.items ≡ spec.raw_depths places.now) }
+    ensures value { IfOk result (λ raws. raws.items ≡ chains.raw_depths places.now) }
 {
     let mut raws = vec![in alloc; 0; places.len()]?;
     for i in (0..places.len()).rev() {
@@ -77,7 +79,7 @@ fn raw_depth(place: LongExtent, later: &[LongExtent], raws: &[usize]) -> usize
     requires after { All (λ p. place.first ≤ p.first) later.now }
     requires lines { All (λ p. p.first ≤ p.last) later.now }
     requires own_lines { place.first ≤ place.last }
-    requires raws { raws.now ≡ spec.raw_depths later.now }
+    requires raws { raws.now ≡ chains.raw_depths later.now }
     ensures value { result ≡ spec.raw_depth_among (spec.places_of (place ∷ later.now)) place }
 {
     let near = starting_by(later, place.last);

@@ -4,12 +4,14 @@ ghost use Rattle.std.specs.Option.{option_map};
 ghost use Rattle.std.specs.Str.{IsUtf8};
 ghost use Rattle.snippet_lines.specs.Lines.{Source};
 ghost use Rattle.snippet_lines.specs.Span.{IsSpan};
-ghost use Rattle.snippet_parts.specs.Annotated.{annotated_lines, seen_kept};
-ghost use Rattle.snippet_parts.specs.Entries.{AllEntries, HasCharacterRoom};
+ghost use Rattle.snippet_parts.specs.Annotated.{annotated_lines};
 ghost use Rattle.snippet_parts.specs.Mark.{is_marking};
 ghost use Rattle.snippet_parts.specs.Least.{least};
 ghost use Rattle.snippet_parts.specs.Location as spec;
-ghost use Rattle.snippet_parts.specs.Location.{marked_starts, place_at, primary_starts};
+ghost use Rattle.snippet_parts.specs.NamingStart as naming;
+ghost use Rattle.snippet_parts.specs.NamingStart.{marked_starts, place_at, primary_starts};
+ghost use Rattle.snippet_parts.specs.EntryBounds.{AllEntries, HasCharacterRoom};
+ghost use Rattle.snippet_parts.specs.OnLine.{seen_kept};
 
 use crate::entries::AnnotatedLineInfo;
 use crate::least::lesser;
@@ -54,7 +56,7 @@ pub fn secondary_place(lines: &[AnnotatedLineInfo<'_>]) -> Option<Location>
 /// at the least column of a primary one; where no entry is primary, on the first line with an entry, at the least
 /// column there.
 pub fn naming_start(annotations: &[Annotation<'_>]) -> Option<usize>
-    ensures value { result ≡ spec.naming_start annotations.now }
+    ensures value { result ≡ naming.naming_start annotations.now }
     // A span of no bytes may stand there.
     ensures border { (source : List ℕ) → All (λ a. IsSpan source a.span.start a.span.end) annotations.now
         → IfSome result (λ start. IsSpan source start start) }

@@ -3,7 +3,7 @@ ghost use Rattle.std.specs.Prelude.{◌≡◌, ◌+◌, ◌<◌, ◌∷◌, [], 
 ghost use Rattle.std.specs.List.{list_any};
 ghost use Rattle.snippet_lines.specs.Lines.{source_lines, text_at};
 ghost use Rattle.snippet_parts.specs.Annotated as spec;
-ghost use Rattle.snippet_parts.specs.Annotated.{seen_kept};
+ghost use Rattle.snippet_parts.specs.OnLine.{seen_kept};
 ghost use Rattle.snippet_parts.specs.Located.{IsLocated, annotations_of, is_alone_on};
 
 use crate::entries::{AnnotatedLineInfo, LineAnnotation};

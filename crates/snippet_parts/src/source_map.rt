@@ -11,12 +11,12 @@ ghost use Rattle.snippet_parts.specs.LineTable.{table_entry, entry_at, touched_e
 ghost use Rattle.snippet_lines.specs.Place.{line_of, location_of, steps_after_text, locations_of};
 ghost use Rattle.snippet_lines.specs.Span.{IsSpan, IsSpanBorder};
 ghost use Rattle.snippet_parts.specs.Annotated as spec;
-ghost use Rattle.snippet_parts.specs.Annotated.{seen_kept};
-ghost use Rattle.snippet_parts.specs.Depths.{places_of, share_line, IsLongestChain};
+ghost use Rattle.snippet_parts.specs.Depths.{places_of, share_line};
+ghost use Rattle.snippet_parts.specs.Chains.{IsLongestChain};
 ghost use Rattle.snippet_parts.specs.Entries.{Ascends};
 ghost use Rattle.snippet_parts.specs.Marked.{first_line, last_line};
 ghost use Rattle.snippet_parts.specs.Located.{HasTextLabel};
-ghost use Rattle.snippet_parts.specs.OnLine.{numbers_of_lines, AreEntriesOn};
+ghost use Rattle.snippet_parts.specs.OnLine.{numbers_of_lines, AreEntriesOn, seen_kept};
 ghost use Rattle.snippet_parts.specs.LineStretches.{is_seen};
 ghost use Rattle.snippet_model.specs.declared.snippet.Annotation.{Annotation};
 ghost use Rattle.snippet_splice.specs.Edits.{edit_of};
@@ -304,9 +304,8 @@ impl<'a> SourceMap<'a> {
     /// character and its column are the number and the width of the characters before it in the line's text: in `日本`
     /// byte 3 is at character 1, column 2.
     ///
-    /// The end of an empty span is its start. A start after the end of its line's text, at the line end, counts one
-    /// character more than the text has; such an end does too, and one column more, if the span started on an earlier
-    /// line.
+    /// The end of an empty span is its start. A start after its line's text, at the line end, counts one character more
+    /// than the text has; such an end does too, and one column more, if the span started on an earlier line.
     pub fn span_to_locations(&self, span: Range<usize>) -> (Loc, Loc)
         requires span { IsSpan self.now.text span.start span.end }
         ensures value { result ≡ locations_of self.now span.start span.end }

@@ -16,7 +16,8 @@ use Rattle.snippet_lines.specs.Place.{HoldsByte, line_of}
 use Rattle.snippet_lines.specs.Starts.{line_starts}
 use Rattle.snippet_model.specs.declared.snippet.Annotation.{Annotation}
 use Rattle.snippet_parts.proofs.TableLemmas.{length-starts_from, starts_from-at}
-use Rattle.snippet_parts.specs.Annotated.{KeptLine, annotated_lines, kept_line, seen_kept}
+use Rattle.snippet_parts.specs.Annotated.{KeptLine, annotated_lines, kept_line}
+use Rattle.snippet_parts.specs.OnLine.{seen_kept}
 use Rattle.snippet_parts.specs.Kept.{kept_lines}
 use Rattle.snippet_parts.specs.declared.entries.AnnotatedLineInfo.{AnnotatedLineInfo}
 use Rattle.snippet_shown.specs.Context.{close_of, reach_after, span_around, spans_around}

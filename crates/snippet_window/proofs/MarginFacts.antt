@@ -6,8 +6,10 @@ use Rattle.std.proofs.lemmas.Bool.{cases_lt}
 use Rattle.std.proofs.lemmas.List.Elements.{All-append, All-cons, All-head, All-nil, All-tail, All-weaker}
 use Rattle.snippet_parts.specs.declared.entries.AnnotatedLineInfo.{AnnotatedLineInfo}
 use Rattle.snippet_parts.specs.declared.entries.LineAnnotation.{LineAnnotation}
-use Rattle.snippet_parts.specs.Annotated.{seen_kept, KeptLine}
-use Rattle.snippet_parts.specs.Entries.{AllEntries, HasColumnRoom, is_bar}
+use Rattle.snippet_parts.specs.Annotated.{KeptLine}
+use Rattle.snippet_parts.specs.Entries.{is_bar}
+use Rattle.snippet_parts.specs.EntryBounds.{AllEntries, HasColumnRoom}
+use Rattle.snippet_parts.specs.OnLine.{seen_kept}
 use Rattle.snippet_parts.specs.Least.{greatest, least}
 use Rattle.snippet_parts.proofs.LeastLemmas.{least_below}
 use Rattle.snippet_style.specs.Bounds.{max_usize}

@@ -13,9 +13,9 @@ use Rattle.snippet_parts.specs.declared.entries.LineAnnotationType.TheVariants.{
 use Rattle.snippet_lines.specs.declared.place.Loc.{Loc}
 use Rattle.snippet_parts.specs.Annotated.{long_entry, long_place, is_long, long_spans}
 use Rattle.snippet_parts.specs.LongSpans.{bar_lines}
-use Rattle.snippet_parts.specs.Annotated.{bar_part, single_part}
-use Rattle.snippet_parts.specs.Annotated.{start_part, end_part, span_parts, promoted, long_parts, made_parts, parts_on, KeptLine}
-use Rattle.snippet_parts.specs.Annotated.{seen_kept, kept_line, annotated_lines}
+use Rattle.snippet_parts.specs.Annotated.{bar_part, single_part, start_part, end_part, span_parts, promoted, long_parts, made_parts, parts_on, KeptLine}
+use Rattle.snippet_parts.specs.Annotated.{kept_line, annotated_lines}
+use Rattle.snippet_parts.specs.OnLine.{seen_kept}
 use Rattle.snippet_parts.specs.Depths.{same_place, depth_among}
 use Rattle.snippet_parts.specs.Kept.{keeps, kept_lines}
 use Rattle.snippet_lines.specs.Lines.{Source, source_lines}

@@ -11,10 +11,9 @@ use Rattle.snippet_parts.specs.declared.entries.LineAnnotation.{LineAnnotation}
 use Rattle.snippet_parts.specs.declared.entries.LineAnnotationType.{LineAnnotationType}
 use Rattle.snippet_parts.specs.declared.entries.LineAnnotationType.TheVariants.{Singleline, MultilineEnd}
 use Rattle.snippet_lines.specs.declared.place.Loc.{Loc}
-use Rattle.snippet_parts.specs.Annotated.{long_entry, long_place, is_long, long_spans}
-use Rattle.snippet_parts.specs.Annotated.{bar_part, single_part}
-use Rattle.snippet_parts.specs.Annotated.{start_part, end_part, span_parts, promoted, long_parts, made_parts, parts_on, KeptLine}
-use Rattle.snippet_parts.specs.Annotated.{seen_kept, kept_line, annotated_lines}
+use Rattle.snippet_parts.specs.Annotated.{long_entry, long_place, is_long, long_spans, bar_part, single_part, start_part, end_part, span_parts, promoted}
+use Rattle.snippet_parts.specs.Annotated.{long_parts, made_parts, parts_on, KeptLine, kept_line, annotated_lines}
+use Rattle.snippet_parts.specs.OnLine.{seen_kept}
 use Rattle.snippet_parts.specs.Depths.{depth_among}
 use Rattle.snippet_parts.specs.LongSpans.{bar_lines}
 use Rattle.snippet_parts.specs.Kept.{kept_lines}

@@ -4,7 +4,8 @@ use Rattle.std.specs.List.Sorted.{IsNonDecreasingBy}
 use Rattle.std.proofs.lemmas.List.{length-map}
 use Rattle.snippet_lines.specs.Lines.{source_lines}
 use Rattle.snippet_parts.specs.declared.entries.LineAnnotation.{LineAnnotation}
-use Rattle.snippet_parts.specs.Annotated.{kept_line, seen_kept}
+use Rattle.snippet_parts.specs.Annotated.{kept_line}
+use Rattle.snippet_parts.specs.OnLine.{seen_kept}
 use Rattle.snippet_parts.specs.Kept.{keeps}
 use Rattle.snippet_parts.specs.KeptEntries.{line_with}
 use Rattle.snippet_parts.specs.LineStretches.{is_seen}

@@ -4,7 +4,8 @@ use Rattle.std.proofs.lemmas.List.{map_push, nil_from_length}
 use Rattle.std.proofs.lemmas.List.Elements.{All-tail}
 use Rattle.snippet_parts.specs.declared.entries.AnnotatedLineInfo.{AnnotatedLineInfo}
 use Rattle.snippet_parts.specs.declared.shown_line.ShownLine.{ShownLine}
-use Rattle.snippet_parts.specs.Annotated.{KeptLine, seen_kept}
+use Rattle.snippet_parts.specs.Annotated.{KeptLine}
+use Rattle.snippet_parts.specs.OnLine.{seen_kept}
 use Rattle.snippet_parts.specs.Between.{lines_between}
 use Rattle.snippet_parts.specs.ShownLines.{infos_of, kept_of}
 use Rattle.snippet_parts.proofs.BetweenLemmas.{filled, filled-shown}

@@ -1,6 +1,6 @@
 use Rattle.std.proofs.Common.{◌≡◌, ◌++◌, ◌<◌, ◌^◌, All, None, map, length}
 use Rattle.std.specs.Vec.Iter.{into_iter_items, into_iter_len}
-use Rattle.snippet_parts.specs.Annotated.{seen_kept}
+use Rattle.snippet_parts.specs.OnLine.{seen_kept}
 use Rattle.snippet_parts.specs.ShownLines.{infos_of, kept_of}
 use Rattle.snippet_parts.proofs.BetweenLemmas.{filled}
 use Rattle.snippet_parts.proofs.between.with_lines_between.Given as goal

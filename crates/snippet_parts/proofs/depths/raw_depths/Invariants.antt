@@ -1,5 +1,5 @@
 use Rattle.std.proofs.Common.{◌≡◌, drop, length}
-use Rattle.snippet_parts.specs.Depths.{raw_depths}
+use Rattle.snippet_parts.specs.Chains.{raw_depths}
 use Rattle.snippet_parts.proofs.depths.raw_depths.Given as goal
 
 -- the raw depths from here on

@@ -9,7 +9,8 @@ use Rattle.snippet_lines.specs.declared.number.LineNumbers.{LineNumbers}
 use Rattle.snippet_parts.specs.declared.entries.AnnotatedLineInfo.{AnnotatedLineInfo}
 use Rattle.snippet_parts.specs.ShownLines.{infos_of, kept_of}
 use Rattle.snippet_parts.proofs.ShownLineLemmas.{infos_all}
-use Rattle.snippet_parts.specs.Annotated.{annotated_lines, kept_line, seen_kept}
+use Rattle.snippet_parts.specs.Annotated.{annotated_lines, kept_line}
+use Rattle.snippet_parts.specs.OnLine.{seen_kept}
 use Rattle.snippet_parts.specs.Kept.{kept_lines, shown_lines}
 use Rattle.snippet_window.specs.Measures.{margin_of}
 use Rattle.snippet_parts.specs.declared.entries.LineAnnotation.{LineAnnotation}

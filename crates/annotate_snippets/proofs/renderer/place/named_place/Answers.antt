@@ -4,7 +4,7 @@ use Rattle.snippet_lines.specs.declared.place.Loc.{Loc}
 use Rattle.snippet_lines.specs.Place.{start_location}
 use Rattle.snippet_lines.proofs.PlaceLemmas.{locations_of-start}
 use Rattle.snippet_titles.specs.declared.origin.OriginLocation.{OriginLocation}
-use Rattle.snippet_parts.specs.Location.{place_at}
+use Rattle.snippet_parts.specs.NamingStart.{place_at}
 use Rattle.annotate_snippets.specs.RowsWithoutSource.{place_found}
 use Rattle.annotate_snippets.proofs.renderer.place.named_place.Goals as goal
 

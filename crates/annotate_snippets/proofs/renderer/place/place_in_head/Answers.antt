@@ -1,6 +1,7 @@
 use Rattle.std.proofs.Common.{◌≡◌, ◌∙◌, ap, map}
 use Rattle.std.specs.Cow.{cow_str_bytes}
-use Rattle.snippet_parts.specs.Annotated.{annotated_lines, seen_kept}
+use Rattle.snippet_parts.specs.Annotated.{annotated_lines}
+use Rattle.snippet_parts.specs.OnLine.{seen_kept}
 use Rattle.snippet_parts.specs.Kept.{kept_lines}
 use Rattle.snippet_parts.proofs.EntryFacts.{characters-fit}
 use Rattle.annotate_snippets.specs.Gutter.{numbered_source}

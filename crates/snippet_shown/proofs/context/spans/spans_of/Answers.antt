@@ -5,7 +5,8 @@ use Rattle.std.specs.List.{list_any}
 use Rattle.std.specs.declared.ops.Range.{Range}
 use Rattle.snippet_lines.specs.Lines.{source_lines}
 use Rattle.snippet_parts.proofs.KeptLemmas.{kept-within}
-use Rattle.snippet_parts.specs.Annotated.{kept_line, seen_kept}
+use Rattle.snippet_parts.specs.Annotated.{kept_line}
+use Rattle.snippet_parts.specs.OnLine.{seen_kept}
 use Rattle.snippet_parts.specs.Kept.{keeps, kept_lines}
 use Rattle.snippet_parts.specs.Numbered.{numbered_source}
 use Rattle.snippet_shown.specs.Context as spec
