@@ -7,7 +7,8 @@ use Rattle.std.proofs.lemmas.List.Sums.{sum_by-cons, fold_push}
 use Rattle.std.proofs.lemmas.Bool.{le-leb}
 use Rattle.std.proofs.lemmas.Bool.Decides.{nat_tests}
 use Rattle.snippet_text.specs.Width.{char_width, width_of}
-use Rattle.snippet_window.specs.Window.{reaching, fitting, reaching_last, uncovered_part}
+use Rattle.snippet_window.specs.Window.{reaching, fitting, uncovered_part}
+use Rattle.snippet_window.specs.NearPart.{reaching_last}
 use Rattle.snippet_style.proofs.CellLemmas.{length-chars_le}
 use Rattle.snippet_style.specs.Cell.{bytes_of}
 pub use Rattle.snippet_style.proofs.CutLemmas.{text_parts, cut_boundary, cut_front, cut_back, bytes-push, IsNext, take-next, drop-next, bytes_within}

@@ -10,10 +10,9 @@ use Rattle.snippet_text.specs.Normalized.{norm, shown}
 use Rattle.snippet_text.specs.Width.{char_width, width_of}
 use Rattle.snippet_text.proofs.NormLemmas.{width_of-norm}
 use Rattle.std.proofs.lemmas.Bool.Decides.{nat_tests}
-use Rattle.snippet_window.specs.Window.{reaching, fitting, reaching_last, window_left, window_right, dropped_part, inner_part, covered_columns, uncovered_part}
-use Rattle.snippet_window.specs.Window.{covered_end}
+use Rattle.snippet_window.specs.Window.{reaching, fitting, window_left, window_right, dropped_part, inner_part, covered_columns, uncovered_part, covered_end}
 use Rattle.snippet_window.specs.declared.margin.Margin.{Margin}
-use Rattle.snippet_window.specs.NearPart.{HoldsWindow, IsPartOf, falling_short, window_columns}
+use Rattle.snippet_window.specs.NearPart.{HoldsWindow, IsPartOf, falling_short, window_columns, reaching_last}
 use Rattle.snippet_window.proofs.LineWindowLemmas.{width-cons, reaching-cons, reaching-none, fitting-cons, fitting-stop, reaching_last-reverse}
 
 take-cons : (n c : ℕ) (cs : List ℕ) → take (n + 1) (c ∷ cs) ≡ c ∷ take n cs

@@ -13,7 +13,8 @@ use Rattle.snippet_style.specs.Cell.{bytes_of}
 use Rattle.snippet_text.specs.Plain.{IsPlain}
 use Rattle.snippet_text.specs.Width.{char_width, width_of}
 use Rattle.snippet_text.proofs.PlainLemmas.{char_width-plain, chars-plain, width_of-all_plain}
-use Rattle.snippet_window.specs.Window.{fitting, reaching, reaching_last}
+use Rattle.snippet_window.specs.Window.{fitting, reaching}
+use Rattle.snippet_window.specs.NearPart.{reaching_last}
 use Rattle.snippet_window.proofs.LineWindowLemmas.{fitting-cons, reaching-cons}
 
 plain_utf8 : (front : List ℕ) → All IsPlain front → IsUtf8 front

@@ -1,5 +1,5 @@
--- The part of a line that is sure to hold its window.
-use Rattle.std.specs.Prelude.{◌≡◌, ℕ, ◌+◌, ◌-◌, ◌<◌, ◌≤◌, ◌==◌, List, ◌++◌, length, if◌then◌else◌}
+-- The part of a line that is sure to hold its window, and how the characters at its end are counted.
+use Rattle.std.specs.Prelude.{◌≡◌, ℕ, ◌+◌, ◌-◌, ◌<◌, ◌≤◌, ◌==◌, List, ◌++◌, length, if◌then◌else◌, nat_le, [], ◌∷◌}
 use Rattle.snippet_text.specs.Width.{width_of}
 use Rattle.snippet_window.specs.declared.margin.Margin.{Margin}
 use Rattle.snippet_window.specs.Window.{fitting, window_left, window_right}
@@ -26,3 +26,8 @@ pub record HoldsWindow (room left right : ℕ) (text : List ℕ) (skipped : ℕ)
 abbrev pub IsPartOf : Margin → List ℕ → ℕ → ℕ → List ℕ → Type 0
 IsPartOf margin line width skipped part =
     (width ≡ width_of line) × HoldsWindow margin.term_width margin.computed_left margin.computed_right line skipped part
+
+-- how many characters, up to the last one, reach so many columns, the fewest, or all: as many as reach them in the reverse
+abbrev pub reaching_last : ℕ → List ℕ → ℕ
+reaching_last columns [] = 0
+reaching_last columns (c ∷ cs) = if nat_le columns (width_of cs) then reaching_last columns cs else length cs + 1

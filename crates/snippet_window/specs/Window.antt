@@ -119,10 +119,3 @@ stands_whole room placeholder_width fold source marks k =
     let kept = kept_lines fold source marks in
     nat_le (width_of (chars_at source k)) room && list_all (λ j. nat_le (width_of (chars_at source j)) room) kept && is_near_left source kept marks
     && list_all (λ a. not (is_marked_on source k a && is_wide room placeholder_width source a)) marks
-
--- ---- how the code finds the end
-
--- how many characters, up to the last one, reach so many columns, the fewest, or all: as many as reach them in the reverse
-abbrev pub reaching_last : ℕ → List ℕ → ℕ
-reaching_last columns [] = 0
-reaching_last columns (c ∷ cs) = if nat_le columns (width_of cs) then reaching_last columns cs else length cs + 1

@@ -95,8 +95,7 @@ impl Margin {
         Margin::between(left, left.saturating_add(term_width), term_width)
     }
 
-    /// Whether lines are cut on the left: their first columns are dropped, and a placeholder stands in place of the
-    /// next.
+    /// Whether lines are cut on the left: their first columns are dropped, and the next give way to a placeholder.
     pub fn was_cut_left(&self) -> bool
         ensures value { result ≡ nat_lt 0 self.now.computed_left }
     {
@@ -110,8 +109,7 @@ impl Margin {
         self.computed_left.min(line_len)
     }
 
-    /// The column after the last one that is shown of a line of this width: its end where the room holds the line from
-    /// the left bound on.
+    /// The column after the last one shown of a line of this width: its end where that fits from the left bound on.
     pub fn right(&self, line_len: usize) -> usize
         ensures value { result ≡ (if nat_le (line_len - self.now.computed_left) self.now.term_width
             then line_len else min line_len self.now.computed_right) }

@@ -2,8 +2,8 @@
 ghost use Rattle.std.specs.Prelude.{◌≡◌, ◌+◌, ◌-◌, ◌<◌, ◌≤◌, All, IfSome, List, ℕ, length, take, drop, chars, min};
 ghost use Rattle.snippet_text.specs.Plain.{IsPlain};
 ghost use Rattle.snippet_text.specs.Width.{width_of};
-ghost use Rattle.snippet_window.specs.NearPart.{IsPartOf};
-ghost use Rattle.snippet_window.specs.Window.{reaching, fitting, reaching_last, dropped_part, inner_part};
+ghost use Rattle.snippet_window.specs.NearPart.{IsPartOf, reaching_last};
+ghost use Rattle.snippet_window.specs.Window.{reaching, fitting, dropped_part, inner_part};
 ghost use Rattle.snippet_window.specs.Window.{covered_columns, uncovered_part, covered_end};
 ghost use Rattle.snippet_style.specs.Cell.{bytes_of};
 ghost use Rattle.snippet_text.specs.TextBounds.{TextFits};

@@ -1,7 +1,8 @@
 use Rattle.std.proofs.Common.{Option, IfSome, ℕ, sym, subst, ◌≡◌, ◌<◌, ◌≤◌, ◌+◌, ◌-◌, ◌^◌, ◌∙◌, min, ap, arith, length, unwrap_or, chars}
 use Rattle.snippet_text.proofs.WidthBounds.{width_of-chars}
 use Rattle.snippet_text.specs.Width.{width_of}
-use Rattle.snippet_window.specs.Window.{reaching_last, covered_columns, uncovered_part, window_left, window_right}
+use Rattle.snippet_window.specs.Window.{covered_columns, uncovered_part, window_left, window_right}
+use Rattle.snippet_window.specs.NearPart.{reaching_last}
 use Rattle.snippet_window.proofs.LineWindowLemmas.{cells_few, start_is_few, part_short}
 use Rattle.snippet_window.proofs.NearLemmas.{right_is, window_dropped, inner_found, end_some, end_none}
 use Rattle.snippet_window.proofs.window.window_of.Goals as goal
