@@ -14,7 +14,8 @@ use Rattle.snippet_suggest.specs.declared.SuggestionLayout.{SuggestionLayout}
 use Rattle.snippet_suggest.specs.declared.SuggestionStart.{SuggestionStart}
 use Rattle.snippet_suggest.specs.declared.SuggestionStart.TheVariants.{Opening}
 use Rattle.snippet_suggest.specs.RowOrder.{Ends}
-use Rattle.snippet_suggest.specs.Suggested.{body_cells, suggested_cells as row_cells, suggestion_cells}
+use Rattle.snippet_suggest.specs.Suggested.{body_cells, suggested_cells as row_cells}
+use Rattle.snippet_suggest.specs.ShownRows.{suggestion_cells}
 use Rattle.snippet_suggest.proofs.CellExamples.{ascii, put_in_cells, stroke, unfolded_cells}
 use Rattle.snippet_suggest.proofs.Examples.{text_put_in, third_unfolded}
 use Rattle.annotate_snippets.specs.ElementContext.{is_end}

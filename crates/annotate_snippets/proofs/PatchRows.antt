@@ -18,8 +18,8 @@ use Rattle.snippet_suggest.specs.declared.SuggestionLayout.{SuggestionLayout}
 use Rattle.snippet_suggest.specs.declared.SuggestionStart.{SuggestionStart}
 use Rattle.snippet_suggest.specs.declared.SuggestionStart.TheVariants.{Opening, Next, Path}
 use Rattle.snippet_suggest.specs.RowOrder.{Ends}
-use Rattle.snippet_suggest.specs.SuggestionRows.{rows_shared}
-use Rattle.snippet_suggest.specs.Suggested.{body_cells, suggested_cells as row_cells, suggestion_cells}
+use Rattle.snippet_suggest.specs.Suggested.{body_cells, suggested_cells as row_cells}
+use Rattle.snippet_suggest.specs.ShownRows.{rows_shared, suggestion_cells}
 use Rattle.annotate_snippets.specs.ElementContext.{HasPathFor, begins_in_row_above, is_end, is_next_start, path_bytes}
 use Rattle.annotate_snippets.specs.DrawnReport.{shared_row, suggestion_layout}
 use Rattle.annotate_snippets.proofs.PageWords.{suggestion_head_at, under_of}

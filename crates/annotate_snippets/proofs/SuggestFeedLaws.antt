@@ -28,7 +28,8 @@ use Rattle.snippet_suggest.specs.Cells.{line_cells, offered_cells, put, sign_of,
 use Rattle.snippet_suggest.specs.Given.{first_given, given_lines, given_text, shown_kind}
 use Rattle.snippet_style.specs.Glyphs.{suggestion_glyph_of, suggestion_role_of}
 use Rattle.snippet_suggest.specs.RowOrder.{Begins, Empty, Ends, Offers, Removes, Skips, SuggestionRow, rows_of_suggestion}
-use Rattle.snippet_suggest.specs.SuggestionRows.{IsBareRow, IsMarkOrSpace, IsRemovedRow, Shows, is_stroke}
+use Rattle.snippet_suggest.specs.SuggestionRows.{IsBareRow, IsMarkOrSpace, IsRemovedRow, is_stroke}
+use Rattle.snippet_suggest.specs.ShownRows.{Shows}
 use Rattle.snippet_suggest.proofs.LeftOver.{IsBeforeSign, IsLeftOver}
 use Rattle.snippet_suggest.specs.Suggested.{body_cells, suggested_cells as row_cells, new_on}
 use Rattle.snippet_suggest.specs.declared.SuggestionLayout.{SuggestionLayout}

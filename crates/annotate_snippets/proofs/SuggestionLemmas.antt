@@ -14,11 +14,11 @@ use Rattle.snippet_model.specs.FreeRows.{IsFree}
 use Rattle.snippet_suggest.specs.Cells.{sign_of}
 use Rattle.snippet_suggest.specs.Given.{first_given, given_lines, shown_kind}
 use Rattle.snippet_suggest.specs.PreparedSuggestion.{IsSuggestible}
-use Rattle.snippet_suggest.specs.RowOrder.{Begins, Empty, Ends, Offers, Removes, Skips, SuggestionRow, lines_taken, numbers_offered}
-use Rattle.snippet_suggest.specs.RowOrder.{removed_number}
-use Rattle.snippet_suggest.specs.Suggested.{HasSign, new_on}
-use Rattle.snippet_suggest.specs.SuggestionRows.{IsRemovedRow, Shows}
-use Rattle.snippet_suggest.specs.SuggestedLines.{AreRising}
+use Rattle.snippet_suggest.specs.RowOrder.{Begins, Empty, Ends, Offers, Removes, Skips, SuggestionRow, removed_number}
+use Rattle.snippet_suggest.specs.Suggested.{new_on}
+use Rattle.snippet_suggest.specs.SuggestionRows.{IsRemovedRow}
+use Rattle.snippet_suggest.specs.ShownRows.{HasSign, Shows}
+use Rattle.snippet_suggest.specs.Offered.{lines_taken, numbers_offered, AreRising}
 use Rattle.snippet_suggest.proofs.OfferLaws.{given-is-patched}
 use Rattle.snippet_suggest.proofs.OrderLaws.{IsRowOf}
 use Rattle.annotate_snippets.specs.DrawnReport.{suggestion_layout}

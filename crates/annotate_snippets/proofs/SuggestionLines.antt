@@ -25,7 +25,8 @@ use Rattle.snippet_suggest.specs.Given.{counted_line, first_given, given_lines}
 use Rattle.snippet_suggest.specs.PreparedSuggestion.{IsSuggestible}
 use Rattle.snippet_suggest.specs.RowOrder.{Ends, SuggestionRow, rows_of_suggestion}
 use Rattle.snippet_suggest.specs.Suggested.{body_cells, suggested_cells as row_cells}
-use Rattle.snippet_suggest.specs.SuggestionRows.{HasGutter, IsEdgeRow, IsUnder, Shows, begin_glyph, beside_gutter, end_glyph, is_stroke}
+use Rattle.snippet_suggest.specs.SuggestionRows.{begin_glyph, beside_gutter, end_glyph, is_stroke}
+use Rattle.snippet_suggest.specs.ShownRows.{HasGutter, IsEdgeRow, IsUnder, Shows}
 use Rattle.snippet_suggest.proofs.BareLemmas.{stroke_led}
 use Rattle.snippet_suggest.proofs.BodyLaws.{body_shows, last_shows, zip_append}
 use Rattle.annotate_snippets.specs.ElementContext.{begins_in_row_above, first_two_share, is_end, is_next_start, share_file, suggestion_rows}

@@ -14,13 +14,12 @@ use Rattle.snippet_parts.proofs.PartLemmas.{All-unmapped}
 use Rattle.snippet_lines.specs.Lines.{lines_of}
 use Rattle.snippet_splice.specs.Patched.{spliced_text, texts_of}
 use Rattle.snippet_splice.specs.FirstOverlap.{AreDisjoint}
-use Rattle.snippet_suggest.specs.Given.{IsAsItWas, IsOfferable, edits_of, first_given, given_lines, last_reached, numbers_given, offered_lines, removed_lines}
-use Rattle.snippet_suggest.specs.RowOrder.{Ends, SuggestionRow, line_taken, lines_taken, number_offered, numbers_offered, rows_of_suggestion}
+use Rattle.snippet_suggest.specs.Given.{IsOfferable, edits_of, first_given, given_lines, last_reached, removed_lines}
+use Rattle.snippet_suggest.specs.RowOrder.{Ends, SuggestionRow, rows_of_suggestion}
 use Rattle.snippet_suggest.specs.PreparedSuggestion.{IsSuggestible}
-use Rattle.snippet_suggest.specs.Suggested.{HasSign}
 use Rattle.snippet_suggest.proofs.SignLaws.{body_signs}
-use Rattle.snippet_suggest.specs.SuggestionRows.{Shows}
-use Rattle.snippet_suggest.specs.SuggestedLines.{AreRising}
+use Rattle.snippet_suggest.specs.ShownRows.{HasSign, Shows}
+use Rattle.snippet_suggest.specs.Offered.{IsAsItWas, numbers_given, offered_lines, line_taken, lines_taken, number_offered, numbers_offered, AreRising}
 use Rattle.snippet_suggest.specs.declared.SuggestionStart.{SuggestionStart}
 use Rattle.snippet_suggest.specs.declared.SuggestionStart.TheVariants as start
 use Rattle.snippet_suggest.proofs.OfferLaws.{HaveSpans, given-part, offered-ascends}

@@ -18,7 +18,8 @@ use Rattle.snippet_style.specs.Glyphs.{suggestion_glyph_of}
 use Rattle.snippet_style.proofs.CellLemmas.{All-text_cells, length-text_cells}
 use Rattle.snippet_text.specs.Normalized.{is_listed}
 use Rattle.snippet_suggest.specs.Cells.{put}
-use Rattle.snippet_suggest.specs.SuggestionRows.{HasLeft, IsBareRow, IsEdgeRow, IsMarkOrSpace, beside_gutter, is_stroke}
+use Rattle.snippet_suggest.specs.SuggestionRows.{HasLeft, IsBareRow, IsMarkOrSpace, beside_gutter, is_stroke}
+use Rattle.snippet_suggest.specs.ShownRows.{IsEdgeRow}
 use Rattle.snippet_suggest.proofs.GlyphLemmas.{glyph_short, glyph_strokes, glyph_unlisted, is_sign}
 use Rattle.snippet_suggest.proofs.PutRows.{ch_at, put_after, put_before, put_cell, put_free, put_inside}
 

@@ -30,11 +30,11 @@ use Rattle.snippet_suggest.specs.Given.{edits_of, emptied_lines, first_end, firs
 use Rattle.snippet_suggest.specs.Given.{removed_lines, replaced_lines, shown_kind, trimmed_of}
 use Rattle.snippet_suggest.proofs.ByKind.{removed_of, row_of_shown, rows_where}
 use Rattle.snippet_suggest.specs.PreparedSuggestion.{IsSuggestible}
-use Rattle.snippet_suggest.specs.RowOrder.{Begins, Empty, Ends, Offers, Removes, Skips, SuggestionRow}
-use Rattle.snippet_suggest.specs.RowOrder.{removed_number, rows_of_suggestion}
+use Rattle.snippet_suggest.specs.RowOrder.{Begins, Empty, Ends, Offers, Removes, Skips, SuggestionRow, removed_number, rows_of_suggestion}
 use Rattle.snippet_suggest.specs.Suggested.{body_cells, suggested_cells, cells_over, marked_edits, new_on, removed_in, suggested_stretches, with_left_out}
 use Rattle.snippet_suggest.specs.SuggestedLines.{is_touched, shown_from}
-use Rattle.snippet_suggest.specs.SuggestionRows.{HasGutter, IsBareRow, IsRowOfRemoved, IsUnder, NumberFits, Shows}
+use Rattle.snippet_suggest.specs.SuggestionRows.{IsBareRow}
+use Rattle.snippet_suggest.specs.ShownRows.{HasGutter, IsRowOfRemoved, IsUnder, NumberFits, Shows}
 use Rattle.snippet_suggest.proofs.BareLemmas.{bare_none, stroke_none}
 use Rattle.snippet_suggest.proofs.GutterFits.{numbers_fit}
 use Rattle.snippet_suggest.proofs.RepaintLemmas.{same_shows, without_role}

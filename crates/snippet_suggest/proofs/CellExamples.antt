@@ -23,7 +23,8 @@ use Rattle.snippet_suggest.specs.declared.layout.SuggestionLayout.{SuggestionLay
 use Rattle.snippet_suggest.specs.declared.layout.SuggestionStart.TheVariants.{Opening}
 use Rattle.snippet_suggest.specs.Cells.{begin_cells, end_cells, line_cells, offered_cells, on_last, put, removed_cells, sign_of, with_stretches}
 use Rattle.snippet_suggest.specs.Marks.{with_mark, with_marks}
-use Rattle.snippet_suggest.specs.Suggested.{body_cells, suggested_cells, suggestion_cells}
+use Rattle.snippet_suggest.specs.Suggested.{body_cells, suggested_cells}
+use Rattle.snippet_suggest.specs.ShownRows.{suggestion_cells}
 use Rattle.snippet_suggest.proofs.Examples.{deleted_line, first_line_deleted, one_word, text_put_in, third_unfolded, two_lines}
 
 -- suggestions in ASCII, with a gutter of one digit

@@ -17,7 +17,8 @@ use Rattle.snippet_suggest.specs.declared.kind.DisplaySuggestion.{DisplaySuggest
 use Rattle.snippet_suggest.specs.declared.kind.DisplaySuggestion.TheVariants.{Add, Diff, Plain, Underline}
 use Rattle.snippet_suggest.specs.declared.layout.SuggestionStart.TheVariants.{Opening}
 use Rattle.snippet_suggest.specs.RowOrder.{Begins, Empty, Offers, Removes, Skips, SuggestionRow, rows_of_suggestion}
-use Rattle.snippet_suggest.specs.Given.{counted_line, given_lines, offered_lines, removed_lines, shown_kind}
+use Rattle.snippet_suggest.specs.Given.{counted_line, given_lines, removed_lines, shown_kind}
+use Rattle.snippet_suggest.specs.Offered.{offered_lines}
 
 -- a patch that puts a text in place of the bytes from one to another, and a snippet of such patches, whose first line has number 1
 abbrev pub text_of : List ℕ → CowStr Global

@@ -28,7 +28,7 @@ use Rattle.snippet_suggest.specs.Given.{counted_line, edits_of, first_end, first
 use Rattle.snippet_suggest.proofs.ByKind.{counted_folded}
 use Rattle.snippet_suggest.specs.Kind.{kind_of, takes_away}
 use Rattle.snippet_suggest.specs.PreparedSuggestion.{IsSuggestible}
-use Rattle.snippet_suggest.specs.SuggestionRows.{HasGutter, NumberFits}
+use Rattle.snippet_suggest.specs.ShownRows.{HasGutter, NumberFits}
 use Rattle.snippet_suggest.proofs.SpanLemmas.{spans_in_order}
 use Rattle.snippet_window.specs.Margin.{capped_sum}
 use Rattle.std.specs.Str.{bytes_eq, trim}

@@ -16,9 +16,9 @@ use Rattle.snippet_splice.specs.ShownText.{first_start}
 use Rattle.snippet_suggest.specs.declared.kind.DisplaySuggestion.TheVariants.{Diff}
 use Rattle.snippet_suggest.specs.declared.layout.SuggestionStart.{SuggestionStart}
 use Rattle.snippet_suggest.specs.declared.prepared.PreparedSuggestion.{PreparedSuggestion}
-use Rattle.snippet_suggest.specs.Given.{edits_of, first_given, given_lines, given_ranges, is_left_out, last_reached, last_removed, trimmed_of, texts_at}
-use Rattle.snippet_suggest.specs.Cells.{unless_stays}
-use Rattle.snippet_suggest.specs.RowOrder.{Begins, SuggestionRow, counted_from, numbered_at, removed_from, rows_of_suggestion}
+use Rattle.snippet_suggest.specs.Given.{edits_of, first_given, given_lines, given_ranges, is_left_out, last_reached, trimmed_of}
+use Rattle.snippet_suggest.specs.RowOrder.{Begins, SuggestionRow, rows_of_suggestion}
+use Rattle.snippet_suggest.specs.RemovedRows.{last_removed, texts_at, unless_stays, counted_from, numbered_at, removed_from}
 use Rattle.snippet_suggest.specs.PreparedSuggestion.{IsPrepared}
 use Rattle.snippet_suggest.specs.SuggestedLines.{is_touched}
 use Rattle.snippet_suggest.proofs.KnownLemmas.{known_apart, known_reached}

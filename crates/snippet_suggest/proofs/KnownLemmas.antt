@@ -16,9 +16,10 @@ use Rattle.snippet_splice.proofs.EditLemmas.{trimmed-apart}
 use Rattle.snippet_splice.proofs.OverlapLemmas.{apart-in_order, ordered-spans}
 use Rattle.snippet_splice.proofs.ShownLemmas.{none_given}
 use Rattle.snippet_suggest.specs.declared.prepared.PreparedSuggestion.{PreparedSuggestion}
-use Rattle.snippet_suggest.specs.Given.{edits_of, first_end, first_given, first_original, first_original_end, last_reached, last_removed}
+use Rattle.snippet_suggest.specs.Given.{edits_of, first_end, first_given, last_reached}
+use Rattle.snippet_suggest.specs.RemovedRows.{last_removed}
 use Rattle.snippet_suggest.proofs.ReachLemmas.{reached, touched_last}
-use Rattle.snippet_suggest.specs.PreparedSuggestion.{IsPrepared}
+use Rattle.snippet_suggest.specs.PreparedSuggestion.{IsPrepared, first_original, first_original_end}
 use Rattle.snippet_suggest.proofs.SpanLemmas.{original_spans, trimmed_spans}
 use Rattle.snippet_suggest.proofs.PreparedLemmas.{first_original-start}
 

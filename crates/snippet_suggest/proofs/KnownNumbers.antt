@@ -9,9 +9,10 @@ use Rattle.snippet_suggest.specs.declared.prepared.PreparedSuggestion.{PreparedS
 use Rattle.snippet_suggest.specs.declared.kind.DisplaySuggestion.{DisplaySuggestion}
 use Rattle.snippet_suggest.specs.declared.kind.DisplaySuggestion.TheVariants.{Diff}
 use Rattle.snippet_suggest.specs.declared.shown_lines.SuggestionLine.TheVariants.{Line}
-use Rattle.snippet_suggest.specs.Given.{given_lines, given_text, is_left_out, numbers_of, shown_kind, trimmed_of}
+use Rattle.snippet_suggest.specs.Given.{given_lines, given_text, is_left_out, shown_kind, trimmed_of}
 use Rattle.snippet_suggest.proofs.ByKind.{counted_folded}
-use Rattle.snippet_suggest.specs.SuggestedLines.{is_touched, numbers_shown, shown_run}
+use Rattle.snippet_suggest.specs.SuggestedLines.{is_touched, shown_run}
+use Rattle.snippet_suggest.specs.Offered.{numbers_of, numbers_shown}
 use Rattle.snippet_suggest.proofs.GutterFits.{one_given}
 use Rattle.snippet_suggest.specs.PreparedSuggestion.{IsPrepared}
 

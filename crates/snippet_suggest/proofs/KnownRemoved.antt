@@ -16,13 +16,14 @@ use Rattle.snippet_splice.specs.TrimmedEdits.{trimmed_edit_of}
 use Rattle.snippet_splice.specs.ShownText.{first_start}
 use Rattle.snippet_suggest.specs.declared.prepared.PreparedSuggestion.{PreparedSuggestion}
 use Rattle.snippet_suggest.specs.declared.kind.DisplaySuggestion.TheVariants.{Diff}
-use Rattle.snippet_suggest.specs.Given.{edits_of, emptied_lines, first_end, first_original, first_original_end, first_given, given_lines, last_reached}
-use Rattle.snippet_suggest.specs.Given.{last_removed, lines_touched, removed_lines, replaced_lines, shown_kind, texts_at, texts_of_source}
+use Rattle.snippet_suggest.specs.Given.{edits_of, emptied_lines, first_end, first_given, given_lines, last_reached}
+use Rattle.snippet_suggest.specs.Given.{lines_touched, removed_lines, replaced_lines, shown_kind}
 use Rattle.snippet_suggest.proofs.ByKind.{removed_of}
 use Rattle.snippet_suggest.specs.Given.{trimmed_of}
-use Rattle.snippet_suggest.specs.Cells.{unless_stays}
-use Rattle.snippet_suggest.specs.RowOrder.{Removes, SuggestionRow, counted_from, numbered_at, removed_from}
-use Rattle.snippet_suggest.specs.PreparedSuggestion.{IsPrepared}
+use Rattle.snippet_suggest.specs.RowOrder.{Removes, SuggestionRow}
+use Rattle.snippet_suggest.specs.Offered.{texts_of_source}
+use Rattle.snippet_suggest.specs.RemovedRows.{last_removed, texts_at, unless_stays, counted_from, numbered_at, removed_from}
+use Rattle.snippet_suggest.specs.PreparedSuggestion.{IsPrepared, first_original, first_original_end}
 use Rattle.snippet_suggest.specs.SuggestedLines.{is_touched}
 use Rattle.snippet_suggest.proofs.KnownLemmas.{known_first_end, known_first_start}
 use Rattle.snippet_suggest.proofs.ReachLemmas.{touched_numbered, touched_texts}

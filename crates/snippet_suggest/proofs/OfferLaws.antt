@@ -16,9 +16,9 @@ use Rattle.snippet_splice.proofs.OverlapLemmas.{apart-in_order, ordered-spans}
 use Rattle.snippet_splice.proofs.ShownLemmas.{some-edits}
 use Rattle.snippet_splice.proofs.SpliceLemmas.{IsShownPart, IsShownPart-plain}
 use Rattle.snippet_splice.proofs.LineLemmas.{AreFrom-at, AreFrom-shown}
-use Rattle.snippet_suggest.specs.Given.{IsOfferable, edits_of, first_given, given_lines, given_ranges, is_left_out, last_reached, numbers_given, offered_lines}
-use Rattle.snippet_suggest.specs.Given.{shown_kind}
-use Rattle.snippet_suggest.specs.SuggestedLines.{AreRising, is_touched, numbers_shown, shown_from}
+use Rattle.snippet_suggest.specs.Given.{IsOfferable, edits_of, first_given, given_lines, given_ranges, is_left_out, last_reached, shown_kind}
+use Rattle.snippet_suggest.specs.SuggestedLines.{is_touched, shown_from}
+use Rattle.snippet_suggest.specs.Offered.{numbers_given, offered_lines, AreRising, numbers_shown}
 use Rattle.snippet_suggest.proofs.AscendLemmas.{rising-moved}
 use Rattle.snippet_suggest.proofs.RisingLemmas.{rising_shown}
 

@@ -12,12 +12,12 @@ use Rattle.snippet_suggest.specs.declared.kind.DisplaySuggestion.TheVariants.{Ad
 use Rattle.snippet_suggest.specs.declared.layout.SuggestionStart.{SuggestionStart}
 use Rattle.snippet_suggest.specs.declared.shown_lines.SuggestionLine.{SuggestionLine}
 use Rattle.snippet_suggest.specs.declared.shown_lines.SuggestionLine.TheVariants.{Gap, Line}
-use Rattle.snippet_suggest.specs.Given.{emptied_lines, given_lines, given_ranges, given_text, is_left_out, last_reached, numbers_given}
+use Rattle.snippet_suggest.specs.Given.{emptied_lines, given_lines, given_ranges, given_text, is_left_out, last_reached}
 use Rattle.snippet_suggest.proofs.ByKind.{counted_folded, removed_of, row_of_shown, rows_where}
-use Rattle.snippet_suggest.specs.Given.{numbers_of, removed_lines, replaced_lines, shown_kind, trimmed_of}
-use Rattle.snippet_suggest.specs.RowOrder.{Begins, Empty, Ends, Offers, Removes, Skips, SuggestionRow, line_taken, lines_taken}
-use Rattle.snippet_suggest.specs.RowOrder.{number_offered, numbers_offered, removed_number, rows_of_suggestion}
-use Rattle.snippet_suggest.specs.SuggestedLines.{is_touched, numbers_shown, shown_from}
+use Rattle.snippet_suggest.specs.Given.{removed_lines, replaced_lines, shown_kind, trimmed_of}
+use Rattle.snippet_suggest.specs.RowOrder.{Begins, Empty, Ends, Offers, Removes, Skips, SuggestionRow, removed_number, rows_of_suggestion}
+use Rattle.snippet_suggest.specs.SuggestedLines.{is_touched, shown_from}
+use Rattle.snippet_suggest.specs.Offered.{numbers_given, numbers_of, line_taken, lines_taken, number_offered, numbers_offered, numbers_shown}
 use Rattle.snippet_suggest.proofs.GutterFits.{one_given}
 use Rattle.snippet_suggest.proofs.KnownNumbers.{diff_numbers, none_numbers}
 

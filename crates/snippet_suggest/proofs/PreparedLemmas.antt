@@ -17,10 +17,10 @@ use Rattle.snippet_splice.specs.Patched.{texts_of}
 use Rattle.snippet_splice.specs.TrimmedEdits.{edit_bounds, original_bounds_of, trimmed_edit_of}
 use Rattle.snippet_splice.proofs.ShownLemmas.{none_given}
 use Rattle.snippet_suggest.specs.declared.kind.DisplaySuggestion.{DisplaySuggestion}
-use Rattle.snippet_suggest.specs.Given.{counted_line, edits_of, first_end, first_given, first_original, given_text, shown_kind, trimmed_of}
+use Rattle.snippet_suggest.specs.Given.{counted_line, edits_of, first_end, first_given, given_text, shown_kind, trimmed_of}
 use Rattle.snippet_suggest.proofs.ByKind.{counted_folded}
 use Rattle.snippet_parts.specs.Numbered.{numbered_source}
-use Rattle.snippet_suggest.specs.PreparedSuggestion.{IsSuggestible}
+use Rattle.snippet_suggest.specs.PreparedSuggestion.{IsSuggestible, first_original}
 
 -- the first of the trimmed patches started where the first edit does
 pub first_original-start : (ts : List TrimmedPatch) (os : List Edit) → map original_bounds_of ts ≡ map edit_bounds os → first_original ts ≡ first_start os

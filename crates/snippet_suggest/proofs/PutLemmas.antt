@@ -24,7 +24,8 @@ use Rattle.snippet_splice.specs.declared.stretches.SubstitutionHighlight.{Substi
 use Rattle.snippet_suggest.specs.declared.kind.DisplaySuggestion.{DisplaySuggestion}
 use Rattle.snippet_suggest.specs.declared.kind.DisplaySuggestion.TheVariants.{Diff}
 use Rattle.snippet_suggest.specs.declared.layout.SuggestionStart.TheVariants.{Next, Opening, Path}
-use Rattle.snippet_suggest.specs.Cells.{begin_cells, opened_cells, end_cells, gap_cells, line_cells, lines_shown, offered_cells, put, removed_cells, row_shown}
+use Rattle.snippet_suggest.specs.Cells.{begin_cells, end_cells, gap_cells, line_cells, offered_cells, put, removed_cells}
+use Rattle.snippet_suggest.specs.OfferedRows.{opened_cells, lines_shown, row_shown}
 use Rattle.snippet_suggest.specs.Cells.{sign_of, with_stretches}
 use Rattle.snippet_suggest.specs.declared.lines.SuggestedText.{SuggestedText}
 use Rattle.snippet_suggest.specs.declared.shown_lines.SuggestionLine.TheVariants.{Line}

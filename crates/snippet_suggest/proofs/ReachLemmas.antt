@@ -15,8 +15,8 @@ use Rattle.snippet_splice.specs.Edits.{Edit, trimmed_edits}
 use Rattle.snippet_splice.specs.TrimmedEdits.{AreApart, trimmed_edit_of}
 use Rattle.snippet_splice.specs.ShownText.{first_start}
 use Rattle.snippet_splice.specs.Spliced.{last_line_reached}
-use Rattle.snippet_suggest.specs.Given.{last_removed, lines_touched, texts_at}
-use Rattle.snippet_suggest.specs.RowOrder.{numbered_at}
+use Rattle.snippet_suggest.specs.Given.{lines_touched}
+use Rattle.snippet_suggest.specs.RemovedRows.{last_removed, texts_at, numbered_at}
 
 -- ---- the end of the last edit
 

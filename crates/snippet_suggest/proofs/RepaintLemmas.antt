@@ -15,9 +15,10 @@ use Rattle.snippet_lines.specs.Number.{shown_number}
 use Rattle.snippet_lines.specs.declared.number.LineNumbers.{LineNumbers}
 use Rattle.snippet_suggest.specs.declared.layout.SuggestionLayout.{SuggestionLayout}
 use Rattle.snippet_suggest.specs.RowOrder.{Begins, Empty, Ends, Offers, Removes, Skips, SuggestionRow}
-use Rattle.snippet_suggest.specs.SuggestionRows.{IsBareRow, IsLineRow, IsRemovedRow}
+use Rattle.snippet_suggest.specs.SuggestionRows.{IsBareRow, IsRemovedRow}
 use Rattle.snippet_style.specs.Glyphs.{char_of, removed_sign_of}
-use Rattle.snippet_suggest.specs.SuggestionRows.{IsMarkOrSpace, IsSign, IsEdgeRow, Shows, begin_glyph, beside_gutter, end_glyph, gap_left, is_stroke}
+use Rattle.snippet_suggest.specs.SuggestionRows.{IsMarkOrSpace, IsSign, begin_glyph, beside_gutter, end_glyph, gap_left, is_stroke}
+use Rattle.snippet_suggest.specs.ShownRows.{IsLineRow, IsEdgeRow, Shows}
 use Rattle.snippet_window.specs.Margin.{capped_sum}
 use Rattle.snippet_suggest.proofs.LeftOver.{IsBeforeSign, IsLeftOver}
 

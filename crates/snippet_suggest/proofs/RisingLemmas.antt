@@ -8,8 +8,9 @@ use Rattle.std.proofs.lemmas.List.{append-nil}
 use Rattle.snippet_suggest.specs.declared.layout.SuggestionLayout.{SuggestionLayout}
 use Rattle.snippet_suggest.specs.declared.shown_lines.SuggestionLine.{SuggestionLine}
 use Rattle.snippet_suggest.specs.declared.shown_lines.SuggestionLine.TheVariants.{Line, Gap}
-use Rattle.snippet_suggest.specs.SuggestionRows.{NumberFits}
-use Rattle.snippet_suggest.specs.SuggestedLines.{shown_run, shown_from, number_of, numbers_shown, AreRising}
+use Rattle.snippet_suggest.specs.SuggestedLines.{shown_run, shown_from}
+use Rattle.snippet_suggest.specs.Offered.{number_of, numbers_shown, AreRising}
+use Rattle.snippet_suggest.specs.ShownRows.{NumberFits}
 use Rattle.std.specs.List.{range_with_len}
 
 -- the bounds of ascending numbers, and two such lists joined

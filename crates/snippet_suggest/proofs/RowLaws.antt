@@ -36,8 +36,8 @@ use Rattle.snippet_suggest.specs.Cells.{stretch_cell, with_stretches}
 use Rattle.snippet_style.specs.Bounds.{max_column}
 use Rattle.snippet_suggest.specs.Kind.{adds_text}
 use Rattle.snippet_suggest.specs.Marks.{edit_columns, mark_glyph_of, mark_start, patch_mark_end, with_mark, with_marks}
-use Rattle.snippet_suggest.specs.SuggestionRows.{IsBareRow, IsEdgeRow, IsLineRow, IsMarkOrSpace, IsRowOfRemoved}
-use Rattle.snippet_suggest.specs.SuggestionRows.{IsSign, IsUnder, begin_glyph, beside_gutter, end_glyph, gap_left, is_stroke}
+use Rattle.snippet_suggest.specs.SuggestionRows.{IsBareRow, IsMarkOrSpace, IsSign, begin_glyph, beside_gutter, end_glyph, gap_left, is_stroke}
+use Rattle.snippet_suggest.specs.ShownRows.{IsEdgeRow, IsLineRow, IsRowOfRemoved, IsUnder}
 use Rattle.snippet_suggest.proofs.BareLemmas.{stroke_blank, stroke_led, stroke_none, stroke_put}
 use Rattle.snippet_suggest.proofs.GlyphLemmas.{glyph_plain, glyph_short, glyph_unlisted, is_sign, sign_first, sign_second}
 use Rattle.snippet_suggest.proofs.LeftOver.{IsBeforeSign, IsLeftOver, number_before, number_left}

@@ -11,13 +11,12 @@ use Rattle.snippet_style.specs.declared.role.ElementStyle.TheVariants.{NoStyle, 
 use Rattle.snippet_grid.specs.Grid.{row_at}
 use Rattle.snippet_parts.specs.declared.source_map.LineInfo.{LineInfo}
 use Rattle.snippet_suggest.specs.declared.layout.SuggestionLayout.{SuggestionLayout}
-use Rattle.snippet_suggest.specs.Cells.{diff_cells, emptied_cells, gone_of, left_out_cells, offered_cells, on_last, removed_cells, taken_cells, with_stretches}
+use Rattle.snippet_suggest.specs.Cells.{left_out_cells, offered_cells, on_last, removed_cells, with_stretches}
 use Rattle.snippet_splice.specs.declared.stretches.SubstitutionHighlight.{SubstitutionHighlight}
 use Rattle.snippet_suggest.specs.declared.kind.DisplaySuggestion.TheVariants.{Diff}
-use Rattle.snippet_suggest.specs.Given.{is_left_out, last_removed}
-use Rattle.snippet_suggest.specs.Cells.{unless_stays}
+use Rattle.snippet_suggest.specs.Given.{is_left_out}
 use Rattle.snippet_suggest.specs.Kind.{is_blank_text}
-use Rattle.snippet_suggest.specs.RowOrder.{numbered_at}
+use Rattle.snippet_suggest.specs.RemovedRows.{diff_cells, emptied_cells, gone_of, taken_cells, last_removed, unless_stays, numbered_at}
 use Rattle.std.proofs.lemmas.List.{append-nil, drop_all, drop_more, get_or-map as mapped, length-map, length-take, map-append, take_all, take_more}
 use Rattle.snippet_suggest.proofs.StretchRows.{with_none}
 use Rattle.snippet_window.specs.Margin.{capped_sum}

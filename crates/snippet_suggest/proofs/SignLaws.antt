@@ -16,7 +16,8 @@ use Rattle.snippet_suggest.specs.Cells.{line_cells, offered_cells, put, sign_of,
 use Rattle.snippet_suggest.specs.Given.{given_lines, shown_kind}
 use Rattle.snippet_style.specs.Glyphs.{suggestion_glyph_of, suggestion_role_of}
 use Rattle.snippet_suggest.specs.RowOrder.{Begins, Empty, Ends, Offers, Removes, Skips, SuggestionRow, rows_of_suggestion}
-use Rattle.snippet_suggest.specs.Suggested.{HasSign, body_cells, suggested_cells, new_on}
+use Rattle.snippet_suggest.specs.Suggested.{body_cells, suggested_cells, new_on}
+use Rattle.snippet_suggest.specs.ShownRows.{HasSign}
 use Rattle.snippet_suggest.proofs.BodyLaws.{body_all}
 use Rattle.snippet_suggest.proofs.RepaintLemmas.{same_ch, without_role}
 use Rattle.snippet_suggest.proofs.PutRows.{put_after, put_alone, put_before}

@@ -23,17 +23,17 @@ use Rattle.snippet_suggest.specs.declared.layout.SuggestionStart.{SuggestionStar
 use Rattle.snippet_suggest.specs.declared.layout.SuggestionStart.TheVariants.{Next, Opening, Path}
 use Rattle.snippet_suggest.specs.declared.shown_lines.SuggestionLine.{SuggestionLine}
 use Rattle.snippet_suggest.specs.declared.shown_lines.SuggestionLine.TheVariants.{Gap, Line}
-use Rattle.snippet_suggest.specs.Cells.{begin_cells, diff_cells, emptied_cells, end_cells, gone_of, left_out_cells, offered_cells, on_last, removed_cells}
-use Rattle.snippet_suggest.specs.Cells.{taken_cells, with_stretches, suggestion_row}
-use Rattle.snippet_suggest.specs.Given.{edits_of, first_given, given_lines, given_ranges, is_left_out, last_reached, last_removed, shown_kind, trimmed_of}
-use Rattle.snippet_suggest.specs.Cells.{unless_stays}
+use Rattle.snippet_suggest.specs.Cells.{begin_cells, end_cells, left_out_cells, offered_cells, on_last, removed_cells, with_stretches}
+use Rattle.snippet_suggest.specs.Given.{edits_of, first_given, given_lines, given_ranges, is_left_out, last_reached, shown_kind, trimmed_of}
 use Rattle.snippet_parts.specs.Numbered.{numbered_source}
-use Rattle.snippet_suggest.specs.RowOrder.{Begins, Empty, Ends, Offers, Removes, SuggestionRow, counted_from, numbered_at}
-use Rattle.snippet_suggest.specs.RowOrder.{removed_from, rows_of_suggestion}
+use Rattle.snippet_suggest.specs.RowOrder.{Begins, Empty, Ends, Offers, Removes, SuggestionRow, rows_of_suggestion}
 use Rattle.snippet_suggest.proofs.ByKind.{row_of_shown}
-use Rattle.snippet_suggest.specs.SuggestionRows.{rows_shared}
 use Rattle.snippet_suggest.specs.SuggestedLines.{is_touched}
-use Rattle.snippet_suggest.specs.Suggested.{body_cells, suggested_cells, cells_over, marked_edits, new_on, removed_in, suggested_stretches, suggestion_cells}
+use Rattle.snippet_suggest.specs.Suggested.{body_cells, suggested_cells, cells_over, marked_edits, new_on, removed_in, suggested_stretches}
+use Rattle.snippet_suggest.specs.ShownRows.{rows_shared, suggestion_cells}
+use Rattle.snippet_suggest.specs.OfferedRows.{suggestion_row}
+use Rattle.snippet_suggest.specs.RemovedRows.{diff_cells, emptied_cells, gone_of, taken_cells, last_removed, unless_stays, counted_from, numbered_at}
+use Rattle.snippet_suggest.specs.RemovedRows.{removed_from}
 use Rattle.snippet_suggest.specs.Suggested.{with_left_out}
 use Rattle.snippet_suggest.specs.Marks.{with_marks}
 use Rattle.snippet_suggest.proofs.KnownRemoved.{unless_range}

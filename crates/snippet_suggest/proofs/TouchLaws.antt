@@ -24,11 +24,12 @@ use Rattle.snippet_splice.proofs.SpliceLemmas.{IsShownPart}
 use Rattle.snippet_splice.proofs.TouchLemmas.{IsHeld, shown-touched, touched-held}
 use Rattle.snippet_suggest.specs.declared.kind.DisplaySuggestion.{DisplaySuggestion}
 use Rattle.snippet_suggest.specs.declared.kind.DisplaySuggestion.TheVariants.{Underline, Diff, Plain, Add}
-use Rattle.snippet_suggest.specs.Given.{IsAsItWas, IsOfferable, edits_of, first_given, given_lines, given_ranges, given_text, is_left_out, last_reached}
-use Rattle.snippet_suggest.specs.Given.{numbers_given, numbers_of, offered_lines, shown_kind, trimmed_of}
+use Rattle.snippet_suggest.specs.Given.{IsOfferable, edits_of, first_given, given_lines, given_ranges, given_text, is_left_out, last_reached}
+use Rattle.snippet_suggest.specs.Given.{shown_kind, trimmed_of}
 use Rattle.snippet_suggest.proofs.ByKind.{counted_folded}
 use Rattle.snippet_suggest.specs.Kind.{is_blank_text, kind_of}
-use Rattle.snippet_suggest.specs.SuggestedLines.{is_touched, numbers_shown, shown_from}
+use Rattle.snippet_suggest.specs.SuggestedLines.{is_touched, shown_from}
+use Rattle.snippet_suggest.specs.Offered.{IsAsItWas, numbers_given, numbers_of, offered_lines, numbers_shown}
 use Rattle.snippet_suggest.proofs.RisingLemmas.{touched_shown}
 use Rattle.snippet_suggest.proofs.OfferLaws.{HaveSpans, edits-apart, given-is-patched, given-part}
 use Rattle.snippet_suggest.proofs.GutterFits.{one_given}

@@ -1,7 +1,5 @@
 -- What the rows of a suggestion hold, cell by cell: a value for each kind of row.
-use Rattle.std.specs.Prelude.{ℕ, ◌+◌, ◌-◌, ◌*◌, nat_le, ◌==◌, ◌&&◌, true, Bool, List, [], ◌∷◌, ◌++◌, chars, count_by, length, map, take, if◌then◌else◌}
-use Rattle.std.specs.List.{slice_index_or}
-use Rattle.std.specs.Str.{bytes_eq}
+use Rattle.std.specs.Prelude.{ℕ, ◌+◌, ◌-◌, ◌*◌, nat_le, ◌==◌, ◌&&◌, true, Bool, List, [], ◌∷◌, chars, count_by, length, take, if◌then◌else◌}
 use Rattle.snippet_style.specs.declared.role.ElementStyle.{ElementStyle}
 use Rattle.snippet_style.specs.declared.role.ElementStyle.TheVariants.{Addition, LineNumber, NoStyle, Removal}
 use Rattle.snippet_style.specs.Cell.{Cell, SPACE, text_cells, written}
@@ -12,7 +10,6 @@ use Rattle.snippet_text.specs.Width.{width_of}
 use Rattle.snippet_lines.specs.Number.{shown_number}
 use Rattle.snippet_splice.specs.declared.stretches.SubstitutionHighlight.{SubstitutionHighlight}
 use Rattle.snippet_splice.specs.EditStretches.{capped}
-use Rattle.snippet_splice.specs.StretchLines.{line_stretches}
 use Rattle.snippet_style.specs.declared.glyphs.SuggestionGlyph.{SuggestionGlyph}
 use Rattle.snippet_style.specs.declared.glyphs.SuggestionGlyph.TheVariants as sign
 use Rattle.snippet_suggest.specs.declared.kind.DisplaySuggestion.{DisplaySuggestion}
@@ -20,15 +17,9 @@ use Rattle.snippet_suggest.specs.declared.kind.DisplaySuggestion.TheVariants.{Di
 use Rattle.snippet_suggest.specs.declared.layout.SuggestionLayout.{SuggestionLayout}
 use Rattle.snippet_suggest.specs.declared.layout.SuggestionStart.{SuggestionStart}
 use Rattle.snippet_suggest.specs.declared.layout.SuggestionStart.TheVariants.{Opening, Next, Path}
-use Rattle.snippet_parts.specs.declared.source_map.LineInfo.{LineInfo}
-use Rattle.snippet_suggest.specs.declared.lines.SuggestedText.{SuggestedText}
-use Rattle.snippet_suggest.specs.declared.shown_lines.SuggestionLine.{SuggestionLine}
-use Rattle.snippet_suggest.specs.declared.shown_lines.SuggestionLine.TheVariants.{Line, Gap}
-use Rattle.snippet_suggest.specs.Given.{is_left_out, last_removed}
 use Rattle.snippet_style.specs.Glyphs.{suggestion_glyph_of, suggestion_role_of}
 use Rattle.snippet_suggest.specs.SuggestionRows.{end_glyph}
 use Rattle.snippet_grid.specs.Layout.{inner_cell, separator_cell}
-use Rattle.snippet_window.specs.Margin.{capped_sum}
 
 -- a row after characters were put into it in a role, from a cell on; none leave it as it was
 unfoldable pub put : ElementStyle → List ℕ → ℕ → List Cell → List Cell
@@ -58,12 +49,6 @@ sign_among line (s ∷ t ∷ ss) = sign.Changed
 unfoldable pub sign_of : DisplaySuggestion → ℕ → List ℕ → List SubstitutionHighlight → SuggestionGlyph
 sign_of kind count line stretches =
     if nat_le count 1 then sign_alone kind else sign_among line stretches
-
--- what stands left of a line in its row: a glyph after the gutter, and the line's number from the first cell on
-unfoldable pub opened_cells : SuggestionLayout → SuggestionGlyph → ℕ → List Cell
-opened_cells layout glyph number =
-    put LineNumber (shown_number layout.numbers layout.base.gutter number) 0
-    (put (suggestion_role_of glyph) (suggestion_glyph_of layout.base.decor glyph) (separator_cell layout.base) [])
 
 -- the row of a line: a glyph after the gutter, the line's number from the first cell on, and the normalised line from three cells
 -- after the gutter on. A number that is too long for the gutter stands over the glyph
@@ -112,37 +97,7 @@ begin_cells layout Path under = under
 unfoldable pub end_cells : SuggestionLayout → Bool → List Cell
 end_cells layout follows = put LineNumber (end_glyph layout.base.decor follows) (separator_cell layout.base) []
 
--- the row of a line of some that is shown, of which the first has this number, and one in place of lines that are left out
-abbrev pub suggestion_row : SuggestionLayout → DisplaySuggestion → ℕ → List (List ℕ) → (ℕ → List SubstitutionHighlight) → SuggestionLine → List Cell
-suggestion_row layout kind first lines stretches (Line k) =
-    offered_cells layout kind (length lines) (capped_sum first k) (slice_index_or lines k []) (stretches k)
-suggestion_row layout kind first lines stretches Gap = gap_cells layout
-
--- the lines of a text of a suggestion
-abbrev pub lines_shown : SuggestedText → List (List ℕ)
-lines_shown text = map (λ l. l.now) text.lines.now
-
--- and the row of one of them, or one in place of some that are left out
-abbrev pub row_shown : SuggestionLayout → SuggestedText → SuggestionLine → List Cell
-row_shown layout text line = suggestion_row layout text.kind text.first (lines_shown text) (line_stretches text.stretches.now) line
-
 -- ---- rows of several lines
-
--- the rows of lines that are removed with nothing in their place, all of each in the role of removal; the first stands over a row
--- that is there or has no cells
-unfoldable pub emptied_cells : SuggestionLayout → List (ℕ × List ℕ) → List Cell → List (List Cell)
-emptied_cells layout [] under = []
-emptied_cells layout (line ∷ lines) under =
-    removed_cells layout Removal line.0 line.1 under ∷ emptied_cells layout lines []
-
--- the rows of lines that are removed above one in their place, so many after the first: in each the stretches that are replaced
--- have the role of removal. The line of number `first` has the first of these stretches
-unfoldable pub taken_cells : SuggestionLayout → ℕ → (ℕ → List SubstitutionHighlight) → ℕ → List LineInfo → List (List Cell)
-taken_cells layout first replaced k [] = []
-taken_cells layout first replaced k (info ∷ infos) =
-    with_stretches Removal layout.base.gutter (chars info.line.now) (replaced (info.line_index - first))
-    (removed_cells layout NoStyle (capped_sum first k) info.line.now [])
-    ∷ taken_cells layout first replaced (k + 1) infos
 
 -- some rows, the last of them changed
 unfoldable pub on_last : (List Cell → List Cell) → List (List Cell) → List (List Cell)
@@ -155,22 +110,3 @@ on_last f (row ∷ next ∷ rows) = row ∷ on_last f (next ∷ rows)
 abbrev pub left_out_cells : ℕ → List ℕ → List SubstitutionHighlight → List SubstitutionHighlight → List Cell → List Cell
 left_out_cells gutter line gone added row =
     with_stretches Addition gutter (chars line) added (with_stretches Removal gutter (chars line) gone row)
-
--- the stretches of the last of some lines that are replaced, where that stays
-abbrev pub gone_of : Bool → ℕ → (ℕ → List SubstitutionHighlight) → List LineInfo → List SubstitutionHighlight
-gone_of stays first replaced infos =
-    if stays then replaced (slice_index_or (map (λ info. info.line_index) infos) (length infos - 1) 0 - first) else []
-
--- some items, without the last if that stays
-abbrev pub unless_stays : {A : Type 0} → Bool → List A → List A
-unless_stays stays xs = if stays then take (length xs - 1) xs else xs
-
--- the rows of a diff from the one that the suggestion begins with on: the lines that are removed, but the last where it is the same
--- as the line in their place, and that line; where it isn't shown, the row above it gets its roles
-unfoldable pub diff_cells : SuggestionLayout → ℕ → List LineInfo → (ℕ → List SubstitutionHighlight) → List ℕ → List SubstitutionHighlight → List Cell
-    → List (List Cell)
-diff_cells layout first infos replaced line added last =
-    let stays = bytes_eq line (last_removed infos) in
-    let rows = last ∷ taken_cells layout first replaced 0 (unless_stays stays infos) in
-    if is_left_out Diff (line ∷ []) (last_removed infos) then on_last
-    (left_out_cells layout.base.gutter line (gone_of stays first replaced infos) added) rows else rows ++ offered_cells layout Diff 1 first line added ∷ []

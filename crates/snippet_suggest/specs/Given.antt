@@ -1,25 +1,22 @@
--- What a snippet of patches gives: the lines that are shown of the patched source, which of them a suggestion offers, and the
+-- What a snippet of patches gives: the lines that are shown of the patched source, the lines of the source that are removed, and the
 -- number that it counts for the gutter's width.
-use Rattle.std.specs.Prelude.{◌≡◌, ℕ, ◌+◌, ◌-◌, ◌==◌, ◌||◌, Bool, false, List, [], ◌∷◌, All, count_by, fold, length, map, sum_by, take, if◌then◌else◌}
+use Rattle.std.specs.Prelude.{ℕ, ◌+◌, ◌-◌, ◌==◌, ◌||◌, Bool, false, List, [], ◌∷◌, All, count_by, fold, length, map, sum_by, take, if◌then◌else◌}
 use Rattle.std.specs.Cow.{cow_str_bytes}
 use Rattle.std.specs.List.{range_with_len, slice_index_or}
 use Rattle.std.specs.Str.{bytes_eq}
 use Rattle.snippet_model.specs.declared.snippet.Snippet.{Snippet}
 use Rattle.snippet_model.specs.declared.snippet.Patch.{Patch}
-use Rattle.snippet_parts.specs.declared.source_map.LineInfo.{LineInfo}
 use Rattle.snippet_lines.specs.Lines.{lines_of, source_lines, start_of, text_at, newline_count}
 use Rattle.snippet_lines.specs.Place.{line_of}
-use Rattle.snippet_splice.specs.declared.patches.TrimmedPatch.{TrimmedPatch}
 use Rattle.snippet_splice.specs.declared.splice.LineRange.{LineRange}
 use Rattle.snippet_splice.specs.Copied.{written_ranges}
 use Rattle.snippet_splice.specs.Edits.{Edit, in_order, trimmed_edit}
 use Rattle.snippet_splice.specs.ShownText.{first_start, shown_text}
 use Rattle.snippet_splice.specs.Spliced.{HasNoCr, IsBeforeFinalLf, last_line_reached}
-use Rattle.snippet_splice.specs.Patched.{spliced_text, texts_of}
 use Rattle.snippet_suggest.specs.declared.kind.DisplaySuggestion.{DisplaySuggestion}
 use Rattle.snippet_suggest.specs.declared.kind.DisplaySuggestion.TheVariants.{Underline, Diff}
 use Rattle.snippet_suggest.specs.Kind.{is_blank_text, kind_of}
-use Rattle.snippet_suggest.specs.SuggestedLines.{is_touched, numbers_shown, shown_from}
+use Rattle.snippet_suggest.specs.SuggestedLines.{is_touched}
 
 -- how many lines some patches may add: the line feeds of their replacements
 abbrev pub added_lines : List Patch → ℕ
@@ -66,27 +63,6 @@ is_left_out Diff lines last =
     is_blank_text (slice_index_or lines 0 []) || bytes_eq (slice_index_or lines 0 []) last
 is_left_out kind lines last = false
 
--- the texts of some lines, and that of the last of them
-abbrev pub texts_at : List LineInfo → List (List ℕ)
-texts_at infos = map (λ info. info.line.now) infos
-
-abbrev pub last_removed : List LineInfo → List ℕ
-last_removed infos = slice_index_or (texts_at infos) (length infos - 1) []
-
--- which of some lines are shown, counted from the first of them
-abbrev pub numbers_of : DisplaySuggestion → Bool → List LineRange → List (List ℕ) → List ℕ → List ℕ
-numbers_of kind folds ranges lines last =
-    if is_left_out kind lines last then [] else numbers_shown (shown_from (is_touched folds ranges) 0 0 (length lines))
-
--- which of its lines a suggestion shows: unfolded all; folded those that patches touch, and of the lines between two of
--- these all, or of more than three the first and the last; but not one that is left out
-abbrev pub numbers_given : Snippet Patch → List ℕ
-numbers_given s = numbers_of (shown_kind s) s.fold (given_ranges s) (given_lines s) (last_reached s)
-
--- which lines of the patched source it offers
-abbrev pub offered_lines : Snippet Patch → List ℕ
-offered_lines s = map (λ k. first_given s + k) (numbers_given s)
-
 -- the lines of a source from the one that holds a byte to the one that holds another
 abbrev pub lines_touched : List ℕ → ℕ → ℕ → List ℕ
 lines_touched source start end =
@@ -118,30 +94,12 @@ abbrev pub removed_lines : Snippet Patch → List ℕ
 removed_lines s =
     elim (given_lines s) [ [] ↦ emptied_lines s | line ∷ lines ↦ elim (shown_kind s) [ Diff ↦ replaced_lines s | kind ↦ [] ] ]
 
--- the texts of some lines of the source
-abbrev pub texts_of_source : Snippet Patch → List ℕ → List (List ℕ)
-texts_of_source s ks = map (text_at (source_lines (cow_str_bytes s.source.text))) ks
-
 -- what the promise on offered lines asks of a snippet: no CR in its source and its replacements, and no trimmed patch that
 -- starts after an LF that ends the source
 pub record IsOfferable (s : Snippet Patch) : Type 0 where
   pub no_cr : HasNoCr (cow_str_bytes s.source.text)
   pub no_cr_in : All (λ e. HasNoCr e.text) (edits_of s)
   pub before : All (λ e. IsBeforeFinalLf (cow_str_bytes s.source.text) e.start) (trimmed_of s)
-
--- the spliced text has one line, and that is the last source line that is reached
-abbrev pub IsAsItWas : Snippet Patch → Type 0
-IsAsItWas s =
-    texts_of (lines_of (spliced_text s.fold (cow_str_bytes s.source.text) (edits_of s))) ≡ last_reached s ∷ []
-
--- where the first of some patches started before it was trimmed, and where it ended
-abbrev pub first_original : List TrimmedPatch → ℕ
-first_original [] = 0
-first_original (p ∷ ps) = p.original_span.start
-
-abbrev pub first_original_end : List TrimmedPatch → ℕ
-first_original_end [] = 0
-first_original_end (p ∷ ps) = p.original_span.end
 
 -- the line number that a suggestion counts for the gutter's width: that of the last line; but where lines are folded, of one line its own,
 -- and in a diff that of the last line that the first patch takes away

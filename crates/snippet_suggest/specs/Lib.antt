@@ -10,3 +10,7 @@ pub mod PreparedSuggestion
 pub mod SuggestionRows
 pub mod SuggestedLines
 pub mod Suggested
+pub mod RemovedRows
+pub mod OfferedRows
+pub mod Offered
+pub mod ShownRows

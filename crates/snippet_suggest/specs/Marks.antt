@@ -1,5 +1,5 @@
 -- The marks below the one line of a suggestion, as values.
-use Rattle.std.specs.Prelude.{ℕ, ◌+◌, ◌-◌, min, nat_le, List, [], ◌∷◌, ◌++◌, chars, filter, length, map, replicate, sum_by, if◌then◌else◌}
+use Rattle.std.specs.Prelude.{ℕ, ◌+◌, ◌-◌, min, nat_le, List, [], ◌∷◌, ◌++◌, chars, filter, length, replicate, sum_by, if◌then◌else◌}
 use Rattle.std.specs.Str.{trim, trim_start}
 use Rattle.snippet_style.specs.Cell.{Cell}
 use Rattle.snippet_style.specs.declared.glyphs.DecorStyle.{DecorStyle}
@@ -7,9 +7,7 @@ use Rattle.snippet_style.specs.declared.role.ElementStyle.TheVariants.{Addition}
 use Rattle.snippet_text.specs.Width.{width_of}
 use Rattle.snippet_lines.specs.Lines.{Source}
 use Rattle.snippet_lines.specs.Place.{locations_of}
-use Rattle.snippet_splice.specs.declared.patches.TrimmedPatch.{TrimmedPatch}
 use Rattle.snippet_splice.specs.Edits.{Edit}
-use Rattle.snippet_splice.specs.TrimmedEdits.{trimmed_edit_of}
 use Rattle.snippet_splice.specs.EditStretches.{capped}
 use Rattle.snippet_suggest.specs.declared.layout.SuggestionLayout.{SuggestionLayout}
 use Rattle.snippet_suggest.specs.declared.marks.PatchColumns.{PatchColumns}
@@ -72,7 +70,3 @@ with_marks layout s earlier (e ∷ es) row =
     let c = edit_columns s e in
     with_marks layout s (earlier ++ c ∷ []) es (with_mark layout (mark_glyph_of layout.base.decor s.text e) (mark_start earlier c e.text)
     (patch_mark_end earlier c e.text) row)
-
--- the edits that some trimmed patches are
-abbrev pub edits_at : List TrimmedPatch → List Edit
-edits_at patches = map trimmed_edit_of patches

@@ -1,5 +1,5 @@
 -- What is known of a suggestion before any row is drawn.
-use Rattle.std.specs.Prelude.{◌≡◌, ◌≢◌, ℕ, ◌+◌, ◌≤◌, [], All, length, map}
+use Rattle.std.specs.Prelude.{◌≡◌, ◌≢◌, ℕ, ◌+◌, ◌≤◌, [], All, length, map, List, ◌∷◌}
 use Rattle.std.specs.String.{string_bytes}
 use Rattle.std.specs.Cow.{cow_str_bytes}
 use Rattle.std.specs.Str.{IsUtf8}
@@ -17,6 +17,7 @@ use Rattle.snippet_suggest.specs.Given.{counted_line, edits_of, first_given, giv
 use Rattle.snippet_parts.specs.Numbered.{numbered_source}
 use Rattle.snippet_text.specs.TextBounds.{TextFits}
 use Rattle.snippet_style.specs.Bounds.{IsUsize, max_usize}
+use Rattle.snippet_splice.specs.declared.patches.TrimmedPatch.{TrimmedPatch}
 
 -- what preparing a snippet of patches asks of it: that its source fits, that each patch has a span, that no two of them
 -- overlap, and that there are numbers for the lines that it gives
@@ -44,3 +45,12 @@ pub record IsPrepared (p : PreparedSuggestion) : Type 0 where
       (edits_of p.snippet.now) k
   pub kind : p.kind ≡ shown_kind p.snippet.now
   pub counted : p.counted ≡ counted_line p.snippet.now
+
+-- where the first of some patches started before it was trimmed, and where it ended
+abbrev pub first_original : List TrimmedPatch → ℕ
+first_original [] = 0
+first_original (p ∷ ps) = p.original_span.start
+
+abbrev pub first_original_end : List TrimmedPatch → ℕ
+first_original_end [] = 0
+first_original_end (p ∷ ps) = p.original_span.end

@@ -1,11 +1,9 @@
 -- What the rows of a suggestion show, from top to bottom: a value, by short rules from its snippet.
-use Rattle.std.specs.Prelude.{ℕ, ◌+◌, ◌-◌, Bool, Option, Some, None, List, [], ◌∷◌, ◌++◌, length, map, if◌then◌else◌, ◌==◌}
+use Rattle.std.specs.Prelude.{ℕ, ◌+◌, ◌-◌, Bool, List, [], ◌∷◌, ◌++◌, length, map, if◌then◌else◌, ◌==◌}
 use Rattle.std.specs.Cow.{cow_str_bytes}
-use Rattle.std.specs.List.{filter_map}
 use Rattle.snippet_window.specs.Margin.{capped_sum}
 use Rattle.snippet_model.specs.declared.snippet.Snippet.{Snippet}
 use Rattle.snippet_model.specs.declared.snippet.Patch.{Patch}
-use Rattle.snippet_parts.specs.declared.source_map.LineInfo.{LineInfo}
 use Rattle.snippet_lines.specs.Lines.{source_lines, text_at}
 use Rattle.snippet_lines.specs.Place.{line_of}
 use Rattle.snippet_splice.specs.ShownText.{first_start}
@@ -25,23 +23,6 @@ pub data SuggestionRow : Type 0 where
   Removes : (i number : ℕ) (text : List ℕ) → SuggestionRow
   Empty : SuggestionRow
   Ends : (follows : Bool) → SuggestionRow
-
--- the line that such a row offers, and the line of the source that it shows as removed
-abbrev pub number_offered : SuggestionRow → Option ℕ
-number_offered (Offers k) = Some k
-number_offered row = None
-
-abbrev pub line_taken : SuggestionRow → Option ℕ
-line_taken (Removes i number text) = Some i
-line_taken row = None
-
--- those of some rows
-abbrev pub numbers_offered : List SuggestionRow → List ℕ
-numbers_offered shown = filter_map number_offered shown
-
--- the lines of the source that some rows show as removed
-abbrev pub lines_taken : List SuggestionRow → List ℕ
-lines_taken shown = filter_map line_taken shown
 
 -- the number beside line i of the source, if that is removed: its own where no line is given. Where one stands in the place of those that
 -- are removed, they are counted as it is: the first of them has its number
@@ -65,17 +46,3 @@ rows_of_suggestion start s =
       | [] ↦ elim (shown_kind s) [ Diff ↦ Begins start ∷ removed | kind ↦ removed ]
       | line ∷ lines ↦ elim (shown_kind s) [ Diff ↦ Begins start ∷ changed | kind ↦ Begins start ∷ shown ]
     ]
-
--- some lines that are removed, with the numbers beside them: their own
-abbrev pub numbered_at : List LineInfo → List (ℕ × List ℕ)
-numbered_at infos = map (λ info. (info.line_index, info.line.now)) infos
-
--- or counted, from so many after the first number on
-abbrev pub counted_from : ℕ → ℕ → List (List ℕ) → List (ℕ × List ℕ)
-counted_from first k [] = []
-counted_from first k (text ∷ texts) = (capped_sum first k, text) ∷ counted_from first (k + 1) texts
-
--- the rows of such lines, of which the first is line i of the source
-abbrev pub removed_from : ℕ → List (ℕ × List ℕ) → List SuggestionRow
-removed_from i [] = []
-removed_from i (line ∷ lines) = Removes i line.0 line.1 ∷ removed_from (i + 1) lines

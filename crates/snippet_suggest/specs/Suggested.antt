@@ -1,11 +1,11 @@
 -- The rows of a suggestion, cell by cell, as a value of its snippet.
-use Rattle.std.specs.Prelude.{◌≡◌, ℕ, ◌+◌, ◌-◌, ◌&&◌, Bool, List, [], ◌∷◌, ◌++◌, chars, length, map, if◌then◌else◌}
+use Rattle.std.specs.Prelude.{ℕ, ◌+◌, ◌-◌, ◌&&◌, List, [], ◌∷◌, chars, length, map, if◌then◌else◌}
 use Rattle.std.specs.List.{slice_index_or}
 use Rattle.std.specs.Cow.{cow_str_bytes}
 use Rattle.std.specs.Str.{bytes_eq}
 use Rattle.snippet_model.specs.declared.snippet.Snippet.{Snippet}
 use Rattle.snippet_model.specs.declared.snippet.Patch.{Patch}
-use Rattle.snippet_style.specs.Cell.{Cell, SPACE}
+use Rattle.snippet_style.specs.Cell.{Cell}
 use Rattle.snippet_style.specs.declared.role.ElementStyle.TheVariants.{NoStyle, Removal}
 use Rattle.snippet_splice.specs.declared.stretches.SubstitutionHighlight.{SubstitutionHighlight}
 use Rattle.snippet_splice.specs.Edits.{Edit}
@@ -15,16 +15,12 @@ use Rattle.snippet_suggest.specs.declared.kind.DisplaySuggestion.{DisplaySuggest
 use Rattle.snippet_suggest.specs.declared.kind.DisplaySuggestion.TheVariants.{Underline}
 use Rattle.snippet_suggest.specs.declared.layout.SuggestionLayout.{SuggestionLayout}
 use Rattle.snippet_suggest.specs.declared.layout.SuggestionStart.{SuggestionStart}
-use Rattle.snippet_suggest.specs.declared.shown_lines.SuggestionLine.TheVariants.{Line}
-use Rattle.snippet_suggest.specs.Cells.{begin_cells, end_cells, gap_cells, left_out_cells, on_last, removed_cells, sign_of, with_stretches}
-use Rattle.snippet_style.specs.Glyphs.{suggestion_glyph_of}
-use Rattle.snippet_suggest.specs.SuggestionRows.{NumberFits}
+use Rattle.snippet_suggest.specs.Cells.{begin_cells, end_cells, gap_cells, left_out_cells, on_last, removed_cells, with_stretches}
 use Rattle.snippet_suggest.specs.Given.{edits_of, first_given, given_lines, given_ranges, is_left_out, last_reached, shown_kind, trimmed_of}
 use Rattle.snippet_parts.specs.Numbered.{numbered_source}
 use Rattle.snippet_suggest.specs.Marks.{with_marks}
 use Rattle.snippet_suggest.specs.RowOrder.{Begins, Empty, Ends, Offers, Removes, Skips, SuggestionRow, rows_of_suggestion}
 use Rattle.snippet_suggest.specs.SuggestedLines.{is_touched}
-use Rattle.snippet_grid.specs.Layout.{separator_cell}
 use Rattle.snippet_window.specs.Margin.{capped_sum}
 use Rattle.snippet_suggest.specs.Cells.{offered_cells}
 
@@ -79,17 +75,3 @@ with_left_out layout s (line ∷ lines) rows =
 unfoldable pub body_cells : SuggestionLayout → SuggestionStart → Snippet Patch → List Cell → List (List Cell)
 body_cells layout start s under =
     with_left_out layout s (given_lines s) (cells_over (suggested_cells layout s) under (rows_of_suggestion start s))
-
--- all its rows
-unfoldable pub suggestion_cells : SuggestionLayout → SuggestionStart → Bool → Snippet Patch → List Cell → List (List Cell)
-suggestion_cells layout start follows s under =
-    body_cells layout start s under ++ suggested_cells layout s [] (Ends follows) ∷ []
-
--- the row of a line that is offered has its sign one cell after the gutter: the one that the kind, the number of lines and the line's
--- new stretches ask for; where its number ends before that
-abbrev pub HasSign : SuggestionLayout → Snippet Patch → SuggestionRow → List Cell → Type 0
-HasSign layout s (Offers k) row =
-    let glyph = sign_of (shown_kind s) (length (given_lines s)) (slice_index_or (given_lines s) k []) (new_on s k) in
-    NumberFits layout (s.line_start + first_given s) (Line k) → (slice_index_or row (separator_cell layout.base) SPACE).ch
-    ≡ slice_index_or (suggestion_glyph_of layout.base.decor glyph) 0 32
-HasSign layout s shown row = Unit {0}

@@ -1,6 +1,6 @@
 -- Which lines of the spliced text are shown.
-use Rattle.std.specs.Prelude.{ℕ, zero, suc, ◌+◌, ◌-◌, ◌≤◌, nat_le, Bool, ◌&&◌, ◌||◌, not, List, [], ◌∷◌, ◌++◌, Option, Some, None, map, if◌then◌else◌}
-use Rattle.std.specs.List.{list_any, filter_map, range_with_len}
+use Rattle.std.specs.Prelude.{ℕ, zero, suc, ◌+◌, ◌-◌, nat_le, Bool, ◌&&◌, ◌||◌, not, List, [], ◌∷◌, ◌++◌, map, if◌then◌else◌}
+use Rattle.std.specs.List.{list_any, range_with_len}
 use Rattle.snippet_splice.specs.declared.splice.LineRange.{LineRange}
 use Rattle.snippet_suggest.specs.declared.shown_lines.SuggestionLine.{SuggestionLine}
 use Rattle.snippet_suggest.specs.declared.shown_lines.SuggestionLine.TheVariants.{Line, Gap}
@@ -20,17 +20,3 @@ abbrev pub shown_from : (ℕ → Bool) → ℕ → ℕ → ℕ → List Suggesti
 shown_from touched from k zero = []
 shown_from touched from k (suc left) =
     if touched k then shown_run from k ++ (Line k ∷ shown_from touched (k + 1) (k + 1) left) else shown_from touched from (k + 1) left
-
--- the number of a line that is shown
-abbrev pub number_of : SuggestionLine → Option ℕ
-number_of (Line k) = Some k
-number_of Gap = None
-
--- the numbers of some lines that are shown
-abbrev pub numbers_shown : List SuggestionLine → List ℕ
-numbers_shown shown = filter_map number_of shown
-
--- numbers ascend, from one on and to before another
-abbrev pub AreRising : ℕ → ℕ → List ℕ → Type 0
-AreRising from to [] = from ≤ to
-AreRising from to (k ∷ ks) = (from ≤ k) × AreRising (k + 1) to ks

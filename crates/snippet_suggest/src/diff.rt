@@ -2,11 +2,12 @@
 ghost use Rattle.std.specs.Prelude.{◌≡◌, ◌<◌, ◌-◌, ◌++◌, ◌∷◌, [], List, true, false, OnOk, chars, length};
 ghost use Rattle.snippet_style.specs.declared.role.ElementStyle.TheVariants.{Addition};
 ghost use Rattle.snippet_splice.specs.StretchLines.{line_stretches};
-ghost use Rattle.snippet_suggest.specs.Cells.{diff_cells, offered_cells, taken_cells, with_stretches};
+ghost use Rattle.snippet_suggest.specs.Cells.{offered_cells, with_stretches};
 ghost use Rattle.std.specs.Str.{bytes_eq};
 ghost use Rattle.snippet_style.specs.Cell.{Cell};
 ghost use Rattle.snippet_suggest.specs.declared.kind.DisplaySuggestion.TheVariants.{Diff};
-ghost use Rattle.snippet_suggest.specs.Given.{is_left_out, last_removed};
+ghost use Rattle.snippet_suggest.specs.Given.{is_left_out};
+ghost use Rattle.snippet_suggest.specs.RemovedRows.{diff_cells, taken_cells, last_removed};
 
 use crate::kind::is_blank;
 use crate::layout::SuggestionLayout;

@@ -2,7 +2,8 @@
 ghost use Rattle.std.specs.Prelude.{◌≡◌, ℕ, ◌<◌, ◌≤◌, ◌+◌, ◌++◌, ◌∷◌, [], List, IfOk, OnOk};
 ghost use Rattle.std.specs.Prelude.{length, replicate};
 ghost use Rattle.snippet_style.specs.Glyphs.{suggestion_glyph_of};
-ghost use Rattle.snippet_suggest.specs.SuggestionRows.{end_glyph, rows_shared};
+ghost use Rattle.snippet_suggest.specs.SuggestionRows.{end_glyph};
+ghost use Rattle.snippet_suggest.specs.ShownRows.{rows_shared};
 ghost use Rattle.snippet_suggest.specs.Cells.{begin_cells, end_cells, put};
 ghost use Rattle.snippet_style.specs.declared.role.ElementStyle.TheVariants.{LineNumber};
 ghost use Rattle.snippet_grid.specs.Grid.{row_at};

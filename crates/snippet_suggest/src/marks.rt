@@ -2,10 +2,9 @@
 ghost use Rattle.std.specs.Prelude.{◌≡◌, ◌+◌, ◌-◌, ◌++◌, ◌∷◌, [], List, All, OnOk, length};
 ghost use Rattle.snippet_splice.specs.TrimmedEdits.{trimmed_edit_of};
 ghost use Rattle.snippet_splice.specs.EditStretches.{capped};
-ghost use Rattle.snippet_suggest.specs.Marks.{edit_columns, edits_at, left_of, patch_mark_end, mark_glyph_of};
-ghost use Rattle.snippet_suggest.specs.Marks.{mark_start};
+ghost use Rattle.snippet_suggest.specs.Marks.{edit_columns, left_of, patch_mark_end, mark_glyph_of, mark_start};
 ghost use Rattle.snippet_suggest.specs.Marks.{text_width, with_mark, with_marks};
-ghost use Rattle.snippet_suggest.specs.Moves.{AreMoves, shift_of};
+ghost use Rattle.snippet_suggest.specs.Moves.{AreMoves, shift_of, edits_at};
 ghost use Rattle.snippet_suggest.specs.declared.marks.PatchColumns.{PatchColumns};
 ghost use Rattle.snippet_style.specs.Cell.{Cell};
 ghost use Rattle.snippet_lines.specs.Span.{IsSpan};

@@ -5,9 +5,9 @@ ghost use Rattle.snippet_lines.specs.Lines.{newline_count, source_lines};
 ghost use Rattle.snippet_lines.specs.Place.{line_of};
 ghost use Rattle.snippet_lines.specs.Span.{IsSpan};
 ghost use Rattle.snippet_splice.specs.TrimmedEdits.{trimmed_edit_of};
-ghost use Rattle.snippet_suggest.specs.Given.{first_end, first_original};
+ghost use Rattle.snippet_suggest.specs.Given.{first_end};
 ghost use Rattle.snippet_suggest.specs.declared.kind.DisplaySuggestion.TheVariants.{Diff, Underline};
-ghost use Rattle.snippet_suggest.specs.PreparedSuggestion.{IsPrepared, IsSuggestible};
+ghost use Rattle.snippet_suggest.specs.PreparedSuggestion.{IsPrepared, IsSuggestible, first_original};
 ghost use Rattle.snippet_style.specs.Bounds.{IsUsize};
 
 use crate::kind::DisplaySuggestion;

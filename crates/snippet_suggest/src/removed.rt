@@ -1,9 +1,8 @@
 //! The rows of lines that are removed.
 ghost use Rattle.std.specs.Prelude.{◌≡◌, ◌<◌, ◌≤◌, ◌++◌, List, OnOk, length};
 ghost use Rattle.snippet_grid.specs.Grid.{row_at};
-ghost use Rattle.snippet_suggest.specs.Cells.{emptied_cells};
 ghost use Rattle.snippet_style.specs.Cell.{Cell};
-ghost use Rattle.snippet_suggest.specs.RowOrder.{numbered_at};
+ghost use Rattle.snippet_suggest.specs.RemovedRows.{emptied_cells, numbered_at};
 ghost use Rattle.snippet_style.specs.Bounds.{IsRowNumber};
 
 use crate::layout::SuggestionLayout;

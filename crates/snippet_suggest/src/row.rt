@@ -3,7 +3,8 @@ ghost use Rattle.std.specs.Prelude.{◌≡◌, ◌≤◌, ◌++◌, ◌∷◌, [
 ghost use Rattle.std.specs.Prelude.{length};
 ghost use Rattle.snippet_style.specs.Cell.{Cell};
 ghost use Rattle.snippet_grid.specs.Grid.{row_at};
-ghost use Rattle.snippet_suggest.specs.Cells.{opened_cells, gap_cells, line_cells, removed_cells};
+ghost use Rattle.snippet_suggest.specs.Cells.{gap_cells, line_cells, removed_cells};
+ghost use Rattle.snippet_suggest.specs.OfferedRows.{opened_cells};
 ghost use Rattle.snippet_grid.specs.Layout.{separator_cell};
 ghost use Rattle.snippet_style.specs.Bounds.{HasNext};
 

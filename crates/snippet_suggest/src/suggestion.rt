@@ -1,7 +1,7 @@
 //! The rows of a suggestion.
 ghost use Rattle.snippet_grid.specs.Grid.{row_at};
 ghost use Rattle.snippet_suggest.specs.Cells.{begin_cells};
-ghost use Rattle.snippet_suggest.specs.Suggested.{body_cells, suggestion_cells};
+ghost use Rattle.snippet_suggest.specs.Suggested.{body_cells};
 ghost use Rattle.std.specs.Prelude.{◌≡◌, ◌<◌, ◌+◌, ◌-◌, ◌++◌, ◌∷◌, [], List, IfOk, OnOk, All, length, map};
 ghost use Rattle.std.specs.Prelude.{replicate, if◌then◌else◌};
 ghost use Rattle.snippet_style.specs.Cell.{Cell};
@@ -9,9 +9,9 @@ ghost use Rattle.snippet_lines.specs.Span.{IsSpan};
 ghost use Rattle.snippet_splice.specs.Copied.{end_from};
 ghost use Rattle.snippet_splice.specs.ShownText.{first_start};
 ghost use Rattle.snippet_splice.specs.TrimmedEdits.{AreApart, trimmed_edit_of};
-ghost use Rattle.snippet_suggest.specs.PreparedSuggestion.{IsPrepared};
-ghost use Rattle.snippet_suggest.specs.SuggestionRows.{rows_shared};
-ghost use Rattle.snippet_suggest.specs.Given.{first_given, first_original, first_original_end, given_lines};
+ghost use Rattle.snippet_suggest.specs.PreparedSuggestion.{IsPrepared, first_original, first_original_end};
+ghost use Rattle.snippet_suggest.specs.Given.{first_given, given_lines};
+ghost use Rattle.snippet_suggest.specs.ShownRows.{suggestion_cells, rows_shared};
 ghost use Rattle.snippet_suggest.specs.declared.kind.DisplaySuggestion.TheVariants.{Diff};
 ghost use Rattle.snippet_suggest.specs.declared.layout.SuggestionStart.{SuggestionStart};
 ghost use Rattle.snippet_style.specs.Bounds.{IsRowNumber};

@@ -5,11 +5,10 @@ use Rattle.std.proofs.lemmas.Bool.{cases_Bool}
 use Rattle.std.proofs.lemmas.Result.{on_ok_weaker}
 use Rattle.std.specs.Str.{bytes_eq}
 use Rattle.snippet_style.specs.Cell.{Cell}
-use Rattle.snippet_suggest.specs.Given.{last_removed}
-use Rattle.snippet_suggest.specs.Cells.{unless_stays}
 use Rattle.snippet_style.specs.declared.role.ElementStyle.TheVariants.{Removal}
 use Rattle.snippet_splice.specs.StretchLines.{line_stretches}
-use Rattle.snippet_suggest.specs.Cells.{diff_cells, gone_of, left_out_cells, offered_cells, taken_cells, with_stretches}
+use Rattle.snippet_suggest.specs.Cells.{left_out_cells, offered_cells, with_stretches}
+use Rattle.snippet_suggest.specs.RemovedRows.{last_removed, unless_stays, diff_cells, gone_of, taken_cells}
 use Rattle.snippet_suggest.specs.declared.kind.DisplaySuggestion.TheVariants.{Diff}
 use Rattle.snippet_suggest.specs.Given.{is_left_out}
 use Rattle.snippet_suggest.proofs.RowsDrawn.{diff_left, diff_shown, last_of, left_infos, none_gone, some_gone, stays_left}

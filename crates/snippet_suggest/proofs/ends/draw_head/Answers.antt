@@ -5,7 +5,7 @@ use Rattle.snippet_grid.specs.Grid.{row_at}
 use Rattle.snippet_suggest.specs.Cells.{begin_cells}
 use Rattle.snippet_suggest.proofs.PutLemmas.{begin_next, begin_opening, begin_path}
 use Rattle.snippet_style.specs.Cell.{Cell}
-use Rattle.snippet_suggest.specs.SuggestionRows.{rows_shared}
+use Rattle.snippet_suggest.specs.ShownRows.{rows_shared}
 use Rattle.snippet_suggest.proofs.ends.draw_head.Goals as goal
 
 pub returns-in-Opening : goal.returns-in-Opening

@@ -7,7 +7,7 @@ use Rattle.snippet_style.specs.Cell.{Cell}
 use Rattle.snippet_splice.specs.declared.stretches.SubstitutionHighlight.{SubstitutionHighlight}
 use Rattle.snippet_splice.specs.StretchLines.{line_stretches}
 use Rattle.snippet_suggest.specs.declared.kind.DisplaySuggestion.{DisplaySuggestion}
-use Rattle.snippet_suggest.specs.Cells.{begin_cells, suggestion_row}
+use Rattle.snippet_suggest.specs.Cells.{begin_cells}
 use Rattle.snippet_suggest.specs.Suggested.{new_on}
 use Rattle.snippet_suggest.proofs.SuggestedRows.{body_shown, rows_of_same_stretches}
 use Rattle.snippet_lines.specs.Lines.{source_lines}
@@ -17,7 +17,9 @@ use Rattle.snippet_splice.specs.declared.patches.TrimmedPatch.{TrimmedPatch}
 use Rattle.snippet_suggest.specs.contracts.kind.DisplaySuggestion.{the_type}
 use Rattle.snippet_suggest.specs.declared.kind.DisplaySuggestion.TheVariants.{Diff}
 use Rattle.snippet_splice.specs.declared.splice.LineRange.{LineRange}
-use Rattle.snippet_suggest.specs.Given.{first_given, first_original, given_lines, given_ranges, shown_kind}
+use Rattle.snippet_suggest.specs.Given.{first_given, given_lines, given_ranges, shown_kind}
+use Rattle.snippet_suggest.specs.PreparedSuggestion.{first_original}
+use Rattle.snippet_suggest.specs.OfferedRows.{suggestion_row}
 use Rattle.snippet_suggest.specs.SuggestedLines.{is_touched, shown_from}
 use Rattle.snippet_suggest.proofs.KnownLemmas.{known_first, known_originals, known_some}
 use Rattle.snippet_suggest.proofs.KnownNumbers.{known_one, lines_none, lines_some}

@@ -9,7 +9,8 @@ use Rattle.snippet_style.specs.Cell.{Cell}
 use Rattle.std.proofs.lemmas.List.{append-nil}
 use Rattle.snippet_splice.specs.StretchLines.{line_stretches}
 use Rattle.snippet_splice.specs.TrimmedEdits.{AreApart, trimmed_edit_of}
-use Rattle.snippet_suggest.specs.Cells.{begin_cells, diff_cells}
+use Rattle.snippet_suggest.specs.Cells.{begin_cells}
+use Rattle.snippet_suggest.specs.RemovedRows.{diff_cells}
 use Rattle.snippet_suggest.specs.Suggested.{new_on, suggested_stretches}
 use Rattle.snippet_suggest.proofs.KnownDiff.{IsDiff, known_diff, known_diff_rows}
 use Rattle.snippet_suggest.proofs.SuggestedRows.{body_diff, body_untouched}
