@@ -20,7 +20,8 @@ use Rattle.snippet_model.specs.declared.snippet.Group.{Group}
 use Rattle.snippet_model.specs.declared.snippet.Patch.{Patch}
 use Rattle.snippet_model.specs.declared.snippet.Title.{Title}
 use Rattle.snippet_model.specs.FreeRows.{IsFree, IsFreeCell}
-use Rattle.snippet_titles.specs.Title.{id_links, title_rows}
+use Rattle.snippet_titles.specs.Title.{id_links}
+use Rattle.snippet_titles.specs.PrintedHeading.{title_rows}
 use Rattle.snippet_titles.proofs.HeadFacts.{message_rows-unlinked}
 use Rattle.snippet_titles.proofs.LinkLemmas.{title_rows-links}
 use Rattle.annotate_snippets.specs.ElementContext.{begins_in_row_above, drawn_elements, is_drawn, is_end, next_of, context_at}

@@ -22,7 +22,7 @@ use Rattle.snippet_titles.specs.HeadingRows.{is_set}
 use Rattle.snippet_titles.specs.HeadingRows.{label_cells, label_width, linked_to, lines_below, note_bar_of, opening_bracket_of, roles_of, shown_text}
 use Rattle.snippet_titles.specs.HeadingRows.{sign_cells}
 use Rattle.snippet_style.specs.Glyphs.{note_sign_of}
-use Rattle.snippet_titles.specs.Title.{title_rows}
+use Rattle.snippet_titles.specs.PrintedHeading.{title_rows}
 use Rattle.snippet_titles.specs.declared.style.HeadingRoles.{HeadingRoles}
 use Rattle.snippet_titles.specs.declared.style.TitleStyle.{TitleStyle}
 use Rattle.snippet_titles.specs.declared.style.TitleStyle.TheVariants.{Message, Short, Title}

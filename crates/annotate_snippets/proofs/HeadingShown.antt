@@ -18,8 +18,9 @@ use Rattle.snippet_parts.proofs.PartLemmas.{All-unmapped}
 use Rattle.snippet_titles.specs.HeadingRows.{heading_rows}
 use Rattle.snippet_titles.specs.Origin.{origin_row}
 use Rattle.snippet_titles.proofs.PaddingWords.{padding_row}
-use Rattle.snippet_titles.specs.ShownHeading.{IsFreeButText, LinksId, heading_texts}
-use Rattle.snippet_titles.specs.Title.{title_rows}
+use Rattle.snippet_titles.specs.ShownHeading.{IsFreeButText, heading_texts}
+use Rattle.snippet_titles.specs.PrintedHeading.{title_rows}
+use Rattle.snippet_titles.specs.LinkedId.{LinksId}
 use Rattle.snippet_titles.specs.declared.style.TitleStyle.{TitleStyle}
 use Rattle.snippet_titles.specs.declared.style.TitleStyle.TheVariants as style
 use Rattle.snippet_titles.proofs.FreeLemmas.{heading_rows-free}

@@ -21,8 +21,7 @@ use Rattle.snippet_style.specs.declared.role.LevelInner.{LevelInner}
 use Rattle.snippet_style.specs.declared.stylesheet.Stylesheet.{Stylesheet}
 use Rattle.snippet_titles.proofs.PrintedLemmas.{one_row}
 use Rattle.snippet_titles.specs.HeadingRows.{heading_rows}
-use Rattle.snippet_titles.specs.Title.{title_rows}
-use Rattle.snippet_titles.specs.PrintedHeading.{IsPlainHeading}
+use Rattle.snippet_titles.specs.PrintedHeading.{IsPlainHeading, title_rows}
 use Rattle.snippet_titles.specs.declared.style.TitleStyle.{TitleStyle}
 use Rattle.annotate_snippets.specs.ElementContext.{CanStandIn, begins_in_row_above, context_at, drawn_elements, is_end, next_of}
 use Rattle.annotate_snippets.specs.DrawnReport.{last_row, shared_row}

@@ -16,7 +16,7 @@ use Rattle.snippet_model.specs.declared.snippet.Title.{Title}
 use Rattle.snippet_model.specs.Heading.{Heading, heading_of_message, heading_of_title}
 use Rattle.snippet_model.specs.Trusted.{trusted_of_element, trusted_of_title}
 use Rattle.snippet_titles.specs.ShownHeading.{IsFreeButText}
-use Rattle.snippet_titles.specs.Title.{title_rows}
+use Rattle.snippet_titles.specs.PrintedHeading.{title_rows}
 use Rattle.snippet_titles.specs.declared.style.TitleStyle.TheVariants as style
 use Rattle.snippet_titles.proofs.FreeLemmas.{heading_rows-free}
 use Rattle.snippet_titles.proofs.OriginFree.{closing_row-free, separator_row-free}

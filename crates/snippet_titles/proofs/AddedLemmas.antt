@@ -7,7 +7,8 @@ use Rattle.snippet_grid.specs.Print.{row_text}
 use Rattle.snippet_model.specs.Heading.{Heading}
 use Rattle.snippet_titles.specs.declared.style.TitleStyle.{TitleStyle}
 use Rattle.snippet_titles.specs.HeadingRows.{heading_rows}
-use Rattle.snippet_titles.specs.ShownHeading.{IsFreeButText, LinksId, heading_texts}
+use Rattle.snippet_titles.specs.ShownHeading.{IsFreeButText, heading_texts}
+use Rattle.snippet_titles.specs.LinkedId.{LinksId}
 use Rattle.snippet_titles.proofs.FreeLemmas.{heading_rows-free}
 use Rattle.snippet_titles.proofs.PlaceLemmas.{heading_rows-places}
 use Rattle.snippet_titles.proofs.TextLemmas.{heading_rows-texts}

@@ -27,7 +27,8 @@ use Rattle.snippet_titles.specs.HeadingRows.{address_of, bracketed_cells, closin
 use Rattle.snippet_titles.specs.HeadingRows.{indent_cells, label_cells, label_width, lines_below, linked_to, note_bar_of, on_top, opening_bracket_of, roles_of}
 use Rattle.snippet_titles.specs.HeadingRows.{sign_cells, without_empty_end}
 use Rattle.snippet_style.specs.Glyphs.{note_sign_of}
-use Rattle.snippet_titles.specs.Title.{id_links, text_links, title_rows}
+use Rattle.snippet_titles.specs.Title.{id_links, text_links}
+use Rattle.snippet_titles.specs.PrintedHeading.{title_rows}
 
 -- a cell that links to nothing
 abbrev pub IsUnlinked : Cell → Type 0

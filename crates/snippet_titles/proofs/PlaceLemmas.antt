@@ -22,7 +22,7 @@ use Rattle.snippet_titles.specs.declared.style.HeadingRoles.{HeadingRoles}
 use Rattle.snippet_titles.specs.declared.style.TitleStyle.{TitleStyle}
 use Rattle.snippet_titles.specs.HeadingRows.{address_of, bracketed_cells, closing_bracket_of, colon_of, shown_text, heading_lines, heading_rows, id_cells}
 use Rattle.snippet_titles.specs.HeadingRows.{indent_cells, label_cells, label_width, lines_below, linked_to, opening_bracket_of, roles_of, sign_cells}
-use Rattle.snippet_titles.specs.ShownHeading.{LinksId, id_start, is_id_cell}
+use Rattle.snippet_titles.specs.LinkedId.{LinksId, id_start, is_id_cell}
 use Rattle.snippet_titles.specs.Title.{id_address, id_chars}
 use Rattle.snippet_titles.proofs.EndLemmas.{row_at-trimmed}
 use Rattle.snippet_titles.proofs.LinkLemmas.{IsUnlinked, drawn_unlinked, indent_unlinked, sign_unlinked}

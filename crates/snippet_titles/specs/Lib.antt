@@ -7,3 +7,4 @@ pub mod ShortRows
 pub mod ShownHeading
 pub mod StretchCells
 pub mod Title
+pub mod LinkedId

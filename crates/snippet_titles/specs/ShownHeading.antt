@@ -1,14 +1,11 @@
 -- What the rows of a title or message show.
-use Rattle.std.specs.Prelude.{◌≡◌, ℕ, ◌+◌, ◌==◌, ◌&&◌, nat_le, nat_lt, Bool, true, None, List, [], ◌∷◌, ◌++◌, All, Contains, chars, length, map, if◌then◌else◌}
-use Rattle.snippet_grid.specs.Grid.{cell_at}
+use Rattle.std.specs.Prelude.{◌≡◌, ℕ, ◌+◌, true, List, [], ◌∷◌, ◌++◌, All, Contains, chars, map}
 use Rattle.snippet_style.specs.Cell.{Cell}
 use Rattle.snippet_grid.specs.Print.{row_text}
-use Rattle.snippet_text.specs.Normalized.{norm, is_listed}
-use Rattle.snippet_model.specs.Heading.{Heading, is_hidden}
-use Rattle.snippet_model.specs.Level.{name_of}
+use Rattle.snippet_text.specs.Normalized.{is_listed}
+use Rattle.snippet_model.specs.Heading.{Heading}
 use Rattle.snippet_titles.specs.declared.style.TitleStyle.{TitleStyle}
-use Rattle.snippet_titles.specs.HeadingRows.{heading_lines, indent_cells, heading_label_text, label_width, opening_bracket_of, sign_cells}
-use Rattle.snippet_titles.specs.Title.{id_address, id_chars}
+use Rattle.snippet_titles.specs.HeadingRows.{heading_lines, indent_cells, heading_label_text, label_width, sign_cells}
 
 -- the texts of lines: the first stands after these characters, each further one after those
 abbrev pub texts_below : List ℕ → List ℕ → List (List ℕ) → List (List ℕ)
@@ -24,18 +21,3 @@ heading_texts style heading =
 abbrev pub IsFreeButText : Heading → List Cell → Type 0
 IsFreeButText heading row =
     All (λ c. is_listed c ≡ true → (heading.allows_styling ≡ true) × Contains (chars heading.text) c) (row_text row)
-
--- the cell of a heading's first row at which the text of its id begins
-abbrev pub id_start : TitleStyle → Heading → ℕ
-id_start style heading =
-    length (sign_cells style) + length (norm (chars (name_of heading.level))) + length (opening_bracket_of (is_hidden heading.level.name))
-
--- whether cell c of row i of a heading is one of the text of its id
-abbrev pub is_id_cell : TitleStyle → Heading → ℕ → ℕ → Bool
-is_id_cell style heading i c =
-    i == 0 && nat_le (id_start style heading) c && nat_lt c (id_start style heading + length (id_chars heading.id))
-
--- in the rows of a heading the text of its id links to the id's address, where links are on and it has one; nothing else links
-abbrev pub LinksId : Bool → TitleStyle → Heading → List (List Cell) → Type 0
-LinksId hyperlink style heading rows =
-    (i c : ℕ) → (cell_at rows i c).link ≡ (if is_id_cell style heading i c then id_address hyperlink heading.id else None)

@@ -1,19 +1,11 @@
--- The rows of a title, and what they link to.
+-- The text of an id, and what it links to.
 use Rattle.std.specs.Prelude.{ℕ, Bool, List, [], ◌∷◌, Option, None, Some, chars}
 use Rattle.std.specs.List.{flat_map}
 use Rattle.std.specs.Option.{option_to_list}
 use Rattle.std.specs.Cow.{cow_str_bytes}
-use Rattle.snippet_style.specs.Cell.{Cell}
 use Rattle.snippet_text.specs.Normalized.{norm}
 use Rattle.snippet_model.specs.declared.snippet.Id.{Id}
-use Rattle.snippet_model.specs.declared.snippet.Title.{Title}
-use Rattle.snippet_model.specs.Heading.{heading_of_title}
-use Rattle.snippet_titles.specs.declared.style.TitleStyle.TheVariants as style
-use Rattle.snippet_titles.specs.HeadingRows.{address_of, heading_rows}
-
--- the rows of a title, with links or without
-abbrev pub title_rows : Bool → Title → List (List Cell)
-title_rows hyperlink title = heading_rows hyperlink style.Title (heading_of_title title)
+use Rattle.snippet_titles.specs.HeadingRows.{address_of}
 
 -- the characters of an id's text, normalised; none where it has no text
 abbrev pub id_chars : Option Id → List ℕ

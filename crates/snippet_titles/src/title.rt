@@ -1,7 +1,7 @@
 //! The rows of a group's title.
 ghost use Rattle.std.specs.Prelude.{◌≡◌, ◌++◌, OnOk};
 ghost use Rattle.snippet_model.specs.Fits.{TitleFits};
-ghost use Rattle.snippet_titles.specs.Title.{title_rows};
+ghost use Rattle.snippet_titles.specs.PrintedHeading.{title_rows};
 
 use crate::heading::draw_heading;
 use crate::style::TitleStyle;

@@ -2,7 +2,7 @@ use Rattle.std.proofs.Common.{List, ◌++◌, ◌∙◌, ap}
 use Rattle.std.proofs.lemmas.List.{append_assoc}
 use Rattle.std.proofs.lemmas.Result.{on_ok_weaker}
 use Rattle.snippet_style.specs.Cell.{Cell}
-use Rattle.snippet_titles.specs.Title.{title_rows}
+use Rattle.snippet_titles.specs.PrintedHeading.{title_rows}
 use Rattle.annotate_snippets.specs.RowsWithoutSource.{rows_after_title}
 use Rattle.annotate_snippets.proofs.renderer.title.draw_title.Goals as goal
 
