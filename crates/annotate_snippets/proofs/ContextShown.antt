@@ -12,7 +12,8 @@ use Rattle.std.specs.declared.ops.Range.{Range}
 use Rattle.snippet_shown.proofs.KeptAround.{keeps-around}
 use Rattle.snippet_shown.specs.Context.{context_spans, lines_around, visible_mark}
 use Rattle.snippet_shown.specs.Remade.{Stays}
-use Rattle.snippet_shown.specs.WithContext.{HoldsSpan, IsAnyTitle, IsElementSound, IsElementWithContext, IsGroupSound, IsGroupWithContext, IsSnippetWithContext}
+use Rattle.snippet_shown.specs.WithContext.{HoldsSpan, IsElementWithContext, IsGroupWithContext, IsSnippetWithContext}
+use Rattle.snippet_shown.specs.Asked.{IsAnyTitle, IsElementSound, IsGroupSound}
 use Rattle.snippet_grid.specs.Layout.{Layout}
 use Rattle.snippet_lines.proofs.LinesLemmas.{length-source_lines}
 use Rattle.snippet_lines.specs.Lines.{source_lines}

@@ -33,7 +33,7 @@ use Rattle.snippet_shown.specs.AsMasked.{IsNameMasked, IsPatchMasked, IsSnippetM
 use Rattle.snippet_lines.specs.Controls.{is_masked}
 use Rattle.snippet_shown.specs.Masked.{IsTextMasked, mask_of, masked}
 use Rattle.snippet_shown.specs.Remade.{IsGroupTaken}
-use Rattle.snippet_shown.specs.WithContext.{IsAnyTitle}
+use Rattle.snippet_shown.specs.Asked.{IsAnyTitle}
 use Rattle.snippet_splice.specs.Edits.{Edit, edit_of}
 use Rattle.snippet_splice.specs.Overlap.{first_overlap, first_overlap_from, overlap}
 use Rattle.snippet_style.specs.declared.role.LevelInner.{LevelInner}

@@ -23,7 +23,8 @@ use Rattle.snippet_shown.proofs.DrawnLemmas.{message-within, title-within}
 use Rattle.snippet_shown.proofs.WrapLemmas.{wrapped-chars, wrapped-laws}
 use Rattle.snippet_shown.specs.AsMasked.{IsGroupMasked}
 use Rattle.snippet_shown.specs.AsSet.{IsElementAsSet, IsGroupAsSet, IsTitleAsSet}
-use Rattle.snippet_shown.specs.AsWrapped.{IsElementWrappable, IsElementWrapped, IsGroupWrapped, IsTextWrapped, IsTitleWrapped, room_of_message, room_of_title}
+use Rattle.snippet_shown.specs.AsWrapped.{IsElementWrapped, IsGroupWrapped, IsTextWrapped, IsTitleWrapped, room_of_message, room_of_title}
+use Rattle.snippet_shown.specs.Asked.{IsElementWrappable}
 use Rattle.snippet_shown.specs.Letters.{letters_of}
 use Rattle.snippet_shown.specs.Remade.{IsGroupTaken, Stays}
 use Rattle.snippet_shown.specs.WithContext.{IsElementWithContext, IsGroupWithContext}

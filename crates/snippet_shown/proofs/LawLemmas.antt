@@ -10,7 +10,8 @@ use Rattle.std.proofs.lemmas.List.Elements.{filter-append}
 use Rattle.snippet_text.specs.Width.{char_width}
 use Rattle.snippet_text.proofs.WidthBounds.{char_width-bound}
 use Rattle.snippet_shown.specs.Letters.{Letter, is_before_word, is_blank, is_feed, letter_width}
-use Rattle.snippet_shown.specs.Wrapped.{at_blank, columns_ahead, ended, ends_ahead, feed, in_word, inside_after, kept, lines_fit, next_width, row_start, rows}
+use Rattle.snippet_shown.specs.Wrapped.{at_blank, columns_ahead, ended, ends_ahead, feed, in_word, inside_after, kept, next_width, row_start, rows}
+use Rattle.snippet_shown.specs.Asked.{lines_fit}
 use Rattle.snippet_shown.specs.Wrapped.{shown_at, shown_by, step}
 use Rattle.snippet_shown.specs.WrapLaws.{IsAmong, is_gap, is_inside}
 use Rattle.snippet_shown.specs.declared.wrap.row.Row.{Row}

@@ -10,7 +10,8 @@ use Rattle.std.proofs.lemmas.List.Sums.{sum_by-cons}
 use Rattle.snippet_text.specs.Width.{char_width}
 use Rattle.snippet_text.proofs.WidthBounds.{char_width-bound}
 use Rattle.snippet_shown.specs.Letters.{Letter, is_before_word, is_feed, letter_width}
-use Rattle.snippet_shown.specs.Wrapped.{at_blank, columns_ahead, ended, in_word, kept, lines_fit, next_width, row_start, rows, shown_at}
+use Rattle.snippet_shown.specs.Wrapped.{at_blank, columns_ahead, ended, in_word, kept, next_width, row_start, rows, shown_at}
+use Rattle.snippet_shown.specs.Asked.{lines_fit}
 use Rattle.snippet_shown.specs.WrapLaws.{AreWithin, columns_of, empty_lines, is_empty, lines_in}
 use Rattle.snippet_shown.specs.declared.wrap.row.Stage.{Stage}
 use Rattle.snippet_shown.specs.declared.wrap.row.Stage.TheVariants.{Indentation, Gap, Word}

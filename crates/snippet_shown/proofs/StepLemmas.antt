@@ -10,7 +10,8 @@ use Rattle.std.proofs.lemmas.List.{append-nil, append_assoc, nil_from_length}
 use Rattle.std.proofs.lemmas.Str.{chars-nil, chars_from_encodes, encodes-append}
 use Rattle.snippet_text.specs.Width.{char_width}
 use Rattle.snippet_shown.specs.Letters.{Letter, is_before_word, is_feed, letter, letter_width, letters, place_after}
-use Rattle.snippet_shown.specs.Wrapped.{columns_ahead, ends_ahead, inside_after, lines_fit, next_width, rows, shown_at, step}
+use Rattle.snippet_shown.specs.Wrapped.{columns_ahead, ends_ahead, inside_after, next_width, rows, shown_at, step}
+use Rattle.snippet_shown.specs.Asked.{lines_fit}
 use Rattle.snippet_shown.specs.declared.wrap.code.Place.{Place}
 use Rattle.snippet_shown.specs.declared.wrap.row.Row.{Row}
 use Rattle.snippet_shown.specs.declared.wrap.row.Step.{Step}

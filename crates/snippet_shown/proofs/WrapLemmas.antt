@@ -6,7 +6,8 @@ use Rattle.std.specs.List.{Contains}
 use Rattle.std.proofs.lemmas.Bool.Decides.{nat_tests}
 use Rattle.std.proofs.lemmas.List.Elements.{All-cons, All-contains_itself, All-head, All-map, All-nil, All-tail, All-weaker}
 use Rattle.snippet_shown.specs.Letters.{Letter, first_place, letter, letters, letters_of, place_after}
-use Rattle.snippet_shown.specs.Wrapped.{lines_fit, row_start, rows, shown_letters, wrapped}
+use Rattle.snippet_shown.specs.Wrapped.{row_start, rows, shown_letters, wrapped}
+use Rattle.snippet_shown.specs.Asked.{lines_fit}
 use Rattle.snippet_shown.specs.WrapLaws.{IsAmong, IsRewrapped}
 use Rattle.snippet_shown.specs.declared.wrap.code.Place.{Place}
 use Rattle.snippet_shown.specs.declared.wrap.row.Row.{Row}

@@ -1,9 +1,8 @@
 -- When a report is another with the texts of its titles and messages wrapped: what of the two differs, part by part.
-use Rattle.std.specs.Prelude.{◌≡◌, ℕ, ◌+◌, ◌-◌, ◌≤◌, Bool, true, chars}
+use Rattle.std.specs.Prelude.{◌≡◌, ℕ, ◌+◌, ◌-◌, Bool, true, chars}
 use Rattle.std.specs.Cow.{cow_str_bytes}
 use Rattle.std.specs.declared.alloc.Global.{Global}
 use Rattle.std.specs.declared.borrow.CowStr.{CowStr}
-use Rattle.snippet_model.specs.Fits.{ElementFits}
 use Rattle.snippet_model.specs.Heading.{heading_of_message, heading_of_title}
 use Rattle.snippet_model.specs.declared.snippet.Title.{Title}
 use Rattle.snippet_model.specs.declared.snippet.Message.{Message}
@@ -44,7 +43,3 @@ IsElementWrapped term_width gutter = IsElementMade (IsMessageWrapped term_width 
 -- groups of one level, with as many elements, each of the second and its title wrapped
 abbrev pub IsGroupWrapped : ℕ → ℕ → Group → Group → Type 0
 IsGroupWrapped term_width gutter = IsGroupMade (IsTitleWrapped term_width) (IsElementWrapped term_width gutter)
-
--- an element that is wrapped beside a gutter of so many cells: its texts fit, and the gutter is no wider than one can be
-abbrev pub IsElementWrappable : ℕ → Element → Type 0
-IsElementWrappable gutter e = ElementFits e × (gutter ≤ 20)

@@ -9,3 +9,4 @@ pub mod AsWrapped
 pub mod WrapLaws
 pub mod Masked
 pub mod AsMasked
+pub mod Asked

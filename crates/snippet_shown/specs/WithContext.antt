@@ -3,45 +3,16 @@ use Rattle.std.specs.Prelude.{◌≡◌, ℕ, ◌+◌, ◌≤◌, ◌++◌, All,
 use Rattle.std.specs.Cow.{cow_str_bytes}
 use Rattle.std.specs.Str.{IsCharBoundary}
 use Rattle.std.specs.declared.ops.Range.{Range}
-use Rattle.snippet_lines.specs.Lines.{newline_count, source_lines}
-use Rattle.snippet_lines.specs.Span.{IsSpan}
+use Rattle.snippet_lines.specs.Lines.{source_lines}
 use Rattle.snippet_model.specs.declared.snippet.Annotation.{Annotation}
 use Rattle.snippet_model.specs.declared.snippet.Element.{Element}
-use Rattle.snippet_model.specs.declared.snippet.Element.TheVariants.{Message, Cause, Suggestion, Origin, Padding}
 use Rattle.snippet_model.specs.declared.snippet.Group.{Group}
 use Rattle.snippet_model.specs.declared.snippet.Snippet.{Snippet}
-use Rattle.snippet_model.specs.declared.snippet.Title.{Title}
 use Rattle.snippet_parts.specs.Kept.{kept_lines}
 use Rattle.snippet_parts.specs.Numbered.{numbered_source}
 use Rattle.snippet_parts.specs.Annotated.{made_parts}
-use Rattle.snippet_style.specs.Bounds.{HasNext}
-use Rattle.snippet_text.specs.TextBounds.{TextFits}
 use Rattle.snippet_shown.specs.Context.{context_marks, context_spans, lines_around}
-use Rattle.snippet_shown.specs.Remade.{IsElementMade, IsGroupMade, IsGroupTaken, Stays}
-
--- ---- which reports are given
-
--- a snippet without a fault: its source and the numbers of its lines fit, and each of its spans is one
-pub record IsSnippetSound (s : Snippet Annotation) : Type 0 where
-  pub fits : TextFits (cow_str_bytes s.source.text)
-  pub numbers : HasNext (s.line_start + newline_count (cow_str_bytes s.source.text))
-  pub spans : All (λ a. IsSpan (cow_str_bytes s.source.text) a.span.start a.span.end) s.markers.items
-
--- an element whose source is annotated without a fault, or one of another kind
-abbrev pub IsElementSound : Element → Type 0
-IsElementSound (Cause s) = IsSnippetSound s
-IsElementSound (Message message) = Unit {0}
-IsElementSound (Suggestion s) = Unit {0}
-IsElementSound (Origin origin) = Unit {0}
-IsElementSound (Padding padding) = Unit {0}
-
--- any title
-abbrev pub IsAnyTitle : Title → Type 0
-IsAnyTitle title = Unit {0}
-
--- a group of such elements, under any title
-abbrev pub IsGroupSound : Group → Type 0
-IsGroupSound = IsGroupTaken IsAnyTitle IsElementSound
+use Rattle.snippet_shown.specs.Remade.{IsElementMade, IsGroupMade, Stays}
 
 -- ---- which reports are shown
 

@@ -90,12 +90,6 @@ rows room row (l ∷ ls) = shown_at (step room row l ls) l ++ rows room (step ro
 abbrev pub shown_letters : ℕ → List Letter → List Letter
 shown_letters room ls = if nat_lt room least_room then ls else rows room (row_start room ls) ls
 
--- whether each line of a text is no wider than so many columns, the first than what is left of them
-abbrev pub lines_fit : ℕ → ℕ → List Letter → Bool
-lines_fit room left [] = true
-lines_fit room left (l ∷ ls) =
-    if is_feed l then lines_fit room room ls else nat_le (letter_width l) left && lines_fit room (left - letter_width l) ls
-
 -- the text that is shown in place of one that is trusted or not
 abbrev pub wrapped : ℕ → Bool → List ℕ → List ℕ
 wrapped room trusted cs = map (λ l. l.char) (shown_letters room (letters_of trusted cs))

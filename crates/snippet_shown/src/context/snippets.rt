@@ -1,7 +1,8 @@
 //! Annotated snippets with the lines around those that they keep.
 ghost use Rattle.std.specs.Prelude.{◌≡◌, ◌++◌, map, IfOk, OnOk};
 ghost use Rattle.snippet_shown.specs.Context.{visible_mark};
-ghost use Rattle.snippet_shown.specs.WithContext.{IsSnippetSound, IsSnippetWithContext};
+ghost use Rattle.snippet_shown.specs.WithContext.{IsSnippetWithContext};
+ghost use Rattle.snippet_shown.specs.Asked.{IsSnippetSound};
 
 use crate::context::spans::spans_around;
 use crate::remake::Remake;
@@ -21,7 +22,8 @@ pub struct LinesAround {
 
 impl Remake for LinesAround {
     ghost use Rattle.snippet_shown.specs.Remade.{Stays};
-    ghost use Rattle.snippet_shown.specs.WithContext.{IsAnyTitle, IsElementSound, IsElementWithContext};
+    ghost use Rattle.snippet_shown.specs.WithContext.{IsElementWithContext};
+    ghost use Rattle.snippet_shown.specs.Asked.{IsAnyTitle, IsElementSound};
 
     ghost takes_title = { λ around title. IsAnyTitle title };
 

@@ -2,7 +2,8 @@
 ghost use Rattle.std.specs.Prelude.{◌≡◌, ◌<◌, length, map, All, IfOk, true};
 ghost use Rattle.std.specs.Cow.{cow_str_bytes};
 ghost use Rattle.snippet_shown.specs.Context as spec;
-ghost use Rattle.snippet_shown.specs.WithContext.{HoldsSpan, IsSnippetSound};
+ghost use Rattle.snippet_shown.specs.WithContext.{HoldsSpan};
+ghost use Rattle.snippet_shown.specs.Asked.{IsSnippetSound};
 ghost use Rattle.snippet_lines.specs.Starts.{line_starts as spec_starts};
 ghost use Rattle.snippet_parts.specs.Annotated.{annotated_lines};
 ghost use Rattle.snippet_parts.specs.OnLine.{seen_kept};

@@ -18,7 +18,7 @@ pub struct Masking;
 
 impl Remake for Masking {
     ghost use Rattle.snippet_shown.specs.AsMasked.{IsElementMasked, IsTitleMasked};
-    ghost use Rattle.snippet_shown.specs.WithContext.{IsAnyTitle};
+    ghost use Rattle.snippet_shown.specs.Asked.{IsAnyTitle};
 
     ghost takes_title = { λ masking title. IsAnyTitle title };
 

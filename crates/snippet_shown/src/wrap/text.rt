@@ -5,6 +5,7 @@ ghost use Rattle.std.specs.Option.{option_map};
 ghost use Rattle.std.specs.Cow.{cow_str_bytes};
 ghost use Rattle.snippet_shown.specs.Letters.{Letter, letter, letters_of};
 ghost use Rattle.snippet_shown.specs.Wrapped as spec;
+ghost use Rattle.snippet_shown.specs.Asked as asked;
 
 use crate::wrap::code::{Place, first_place, letter_width, place_after};
 use crate::wrap::row::{Step, row_start, step_at};
@@ -54,7 +55,7 @@ fn stays(room: usize, trusted: bool, text: &str) -> bool
 
 /// Whether each line of a text is no wider than so many columns.
 fn fits(room: usize, trusted: bool, text: &str) -> bool
-    ensures value { result ≡ spec.lines_fit room room (letters_of trusted (chars text.now)) }
+    ensures value { result ≡ asked.lines_fit room room (letters_of trusted (chars text.now)) }
 {
     let mut left = room;
     let mut place = first_place(trusted);
@@ -70,8 +71,8 @@ fn fits(room: usize, trusted: bool, text: &str) -> bool
 
 /// The columns that are left after a character, of those that were left before it; none where it doesn't fit.
 fn left_after(room: usize, left: usize, place: Place, c: char) -> Option<usize>
-    ensures value { (ls : List Letter) → spec.lines_fit room left (letter place c ∷ ls)
-        ≡ unwrap_or (option_map (λ after. spec.lines_fit room after ls) result) false }
+    ensures value { (ls : List Letter) → asked.lines_fit room left (letter place c ∷ ls)
+        ≡ unwrap_or (option_map (λ after. asked.lines_fit room after ls) result) false }
 {
     if c == '\n' {
         Some(room)

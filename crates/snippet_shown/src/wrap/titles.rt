@@ -21,7 +21,8 @@ pub struct Wrapping {
 
 impl Remake for Wrapping {
     ghost use Rattle.snippet_model.specs.Fits.{TitleFits};
-    ghost use Rattle.snippet_shown.specs.AsWrapped.{IsElementWrappable, IsElementWrapped, IsTitleWrapped};
+    ghost use Rattle.snippet_shown.specs.AsWrapped.{IsElementWrapped, IsTitleWrapped};
+    ghost use Rattle.snippet_shown.specs.Asked.{IsElementWrappable};
 
     ghost takes_title = { λ wrapping title. TitleFits title };
 
