@@ -18,7 +18,8 @@ use Rattle.snippet_model.specs.declared.snippet.Title.{Title}
 use Rattle.snippet_titles.specs.HeadingRows.{shown_text}
 use Rattle.snippet_titles.specs.Title.{id_links}
 use Rattle.snippet_text_form.specs.Cause.{cause_form}
-use Rattle.snippet_text_form.specs.Form.{FormPiece, begun_after, form_bytes, form_links, form_text, piece_links, plain_from}
+use Rattle.snippet_text_form.specs.Form.{FormPiece, begun_after, form_bytes, form_text, plain_from}
+use Rattle.snippet_text_form.specs.FormLinks.{form_links, piece_links}
 use Rattle.snippet_text_form.specs.HeadingForm.{heading_form}
 use Rattle.snippet_text_form.specs.TextOrder.{StandInOrder}
 use Rattle.snippet_text_form.specs.Suggestion.{origin_form, suggestion_form}

@@ -28,7 +28,8 @@ use Rattle.snippet_text.proofs.WidthLemmas.{width_of-colon}
 use Rattle.snippet_titles.specs.HeadingRows.{heading_lines}
 use Rattle.snippet_titles.specs.declared.style.HeadingRoles.{HeadingRoles}
 use Rattle.snippet_text_form.specs.Cause.{cause_form}
-use Rattle.snippet_text_form.specs.Form.{form_bytes, form_links, form_text, plain_from}
+use Rattle.snippet_text_form.specs.Form.{form_bytes, form_text, plain_from}
+use Rattle.snippet_text_form.specs.FormLinks.{form_links}
 use Rattle.snippet_text_form.specs.HeadingForm.{heading_form, label_form, lines_form, text_roles_of}
 use Rattle.snippet_text_form.specs.Suggestion.{origin_form, suggestion_form}
 use Rattle.snippet_text_form.specs.declared.heading.HeadingKind.TheVariants.{Title, Message}

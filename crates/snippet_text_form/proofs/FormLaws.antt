@@ -10,7 +10,8 @@ use Rattle.snippet_style.specs.declared.role.ElementStyle.{ElementStyle}
 use Rattle.snippet_style.specs.declared.role.LevelInner.TheVariants.{Note}
 use Rattle.snippet_style.specs.declared.style.Style.{Style}
 use Rattle.snippet_style.specs.declared.stylesheet.Stylesheet.{Stylesheet}
-use Rattle.snippet_text_form.specs.Form.{FormPiece, Char, Break, Styled, begun_after, plain_from, form_text, form_links, link_codes_before, link_codes_after}
+use Rattle.snippet_text_form.specs.Form.{FormPiece, Char, Break, Styled, begun_after, plain_from, form_text}
+use Rattle.snippet_text_form.specs.FormLinks.{form_links, link_codes_before, link_codes_after}
 use Rattle.snippet_text_form.specs.Form.{in_style, role_style, woven_from, form_bytes}
 
 -- the woven characters of a text

@@ -17,8 +17,9 @@ use Rattle.snippet_grid.proofs.StretchLemmas.{stretch, length-stretch_of, IsUtf8
 use Rattle.snippet_style.specs.declared.style.Style.{Style}
 use Rattle.snippet_style.specs.declared.stylesheet.Stylesheet.{Stylesheet}
 use Rattle.snippet_titles.proofs.DigitLemmas.{IsDigit, decimal-all}
-use Rattle.snippet_text_form.specs.Form.{FormPiece, Char, Break, Styled, bare, begun_after, piece_of_kind, pieces_from, plain_from, form_bytes}
-use Rattle.snippet_text_form.specs.Form.{link_codes_before, link_codes_after, in_style, role_style, woven_from, IsPlace, IsMark, AreMarks}
+use Rattle.snippet_text_form.specs.Form.{FormPiece, Char, Break, Styled, bare, begun_after, plain_from, form_bytes, in_style, role_style, woven_from}
+use Rattle.snippet_text_form.specs.FormLinks.{link_codes_before, link_codes_after}
+use Rattle.snippet_text_form.specs.FormMarks.{piece_of_kind, pieces_from, IsPlace, IsMark, AreMarks}
 use Rattle.snippet_text_form.specs.declared.form.FormMark.{FormMark}
 use Rattle.snippet_text_form.specs.declared.form.MarkKind.{MarkKind}
 use Rattle.snippet_text_form.specs.declared.form.MarkKind.TheVariants as kinds

@@ -31,10 +31,10 @@ use Rattle.snippet_titles.specs.Title.{id_links, text_links}
 use Rattle.snippet_titles.specs.declared.style.HeadingRoles.{HeadingRoles}
 use Rattle.snippet_text_form.specs.Cause.{cause_form, is_labelled, named_spans, further_indent, span_form, span_text, spans_form}
 use Rattle.snippet_parts.specs.Numbered.{numbered_source}
-use Rattle.snippet_text_form.specs.Form.{FormPiece, bare, form_links, styled}
+use Rattle.snippet_text_form.specs.Form.{FormPiece, bare, styled}
+use Rattle.snippet_text_form.specs.FormLinks.{form_links}
 use Rattle.snippet_text_form.specs.HeadingForm.{before_id, before_name, colon_form, further_line, heading_form, id_form, id_text_form, label_form}
-use Rattle.snippet_text_form.specs.HeadingForm.{heading_label}
-use Rattle.snippet_text_form.specs.HeadingForm.{link_for, linking, lines_form, name_form, text_roles_of}
+use Rattle.snippet_text_form.specs.HeadingForm.{heading_label, link_for, linking, lines_form, name_form, text_roles_of}
 use Rattle.snippet_text_form.specs.Position.{place, place_in_file}
 use Rattle.snippet_text_form.specs.Suggestion.{added_form, added_text, before_added, edit_form, edit_indent, edit_place, named_path, option_form, origin_form}
 use Rattle.snippet_text_form.specs.Suggestion.{suggestion_form}

@@ -10,7 +10,8 @@ use Rattle.snippet_grid.specs.Runs.{BeginsWith}
 use Rattle.snippet_grid.proofs.StretchLemmas.{stretch, stretch_joined, stretch_grown, stretch_added, BeginsWith-added, BeginsWith-le, BeginsWith-same}
 use Rattle.snippet_grid.proofs.StretchLemmas.{boundary, front_grown}
 use Rattle.snippet_grid.proofs.StretchLemmas.{IsUtf8-stretch, is_utf8-end}
-use Rattle.snippet_text_form.specs.Form.{FormPiece, Char, bare, piece_of_kind, pieces_from, chars_between, IsPlace, AreMarks}
+use Rattle.snippet_text_form.specs.Form.{FormPiece, Char, bare}
+use Rattle.snippet_text_form.specs.FormMarks.{piece_of_kind, pieces_from, chars_between, IsPlace, AreMarks}
 use Rattle.snippet_text_form.specs.declared.form.FormMark.{FormMark}
 use Rattle.snippet_text_form.specs.declared.form.MarkKind.TheVariants as kinds
 

@@ -20,7 +20,8 @@ use Rattle.snippet_text.specs.Plain.{IsPlain}
 use Rattle.snippet_titles.proofs.LineLemmas.{line_of, lines_at-plain}
 use Rattle.snippet_titles.proofs.SplitLemmas.{lines_at, lines_at-after, lines_at-chars}
 use Rattle.snippet_text_form.specs.Form.{FormPiece, bare, styled}
-use Rattle.snippet_text_form.specs.HeadingForm.{before_line, further_line, lines_form}
+use Rattle.snippet_text_form.specs.HeadingForm.{further_line, lines_form}
+use Rattle.snippet_text_form.specs.FormMarks.{before_line}
 
 -- ---- normalising and cutting at line feeds commute
 

@@ -1,5 +1,5 @@
 -- What a title or a message is in the text form.
-use Rattle.std.specs.Prelude.{ℕ, zero, suc, nat_lt, Bool, ◌&&◌, List, [], ◌∷◌, ◌++◌, Option, None, Some, not, chars, codes, length, replicate, if◌then◌else◌}
+use Rattle.std.specs.Prelude.{ℕ, nat_lt, Bool, ◌&&◌, List, [], ◌∷◌, ◌++◌, Option, None, Some, not, chars, codes, length, replicate, if◌then◌else◌}
 use Rattle.std.specs.Cow.{cow_str_bytes}
 use Rattle.std.specs.List.{flat_map}
 use Rattle.std.specs.Option.{option_map}
@@ -88,11 +88,6 @@ heading_label kind heading =
 -- a further line of the text, below the first
 abbrev pub further_line : ElementStyle → ℕ → List ℕ → List FormPiece
 further_line role width line = bare (10 ∷ replicate width 32) ++ styled role line
-
--- what stands before a line: nothing before the first
-abbrev pub before_line : ℕ → ℕ → List ℕ
-before_line width zero = []
-before_line width (suc index) = 10 ∷ replicate width 32
 
 -- the lines of the text
 abbrev pub lines_form : ElementStyle → ℕ → List (List ℕ) → List FormPiece

@@ -5,3 +5,5 @@ pub mod Lines
 pub mod TextOrder
 pub mod Position
 pub mod Suggestion
+pub mod FormMarks
+pub mod FormLinks

@@ -14,9 +14,10 @@ ghost use Rattle.snippet_grid.specs.Runs.{BeginsWith};
 ghost use Rattle.snippet_grid.specs.Woven.{IsWoven, piece_text};
 ghost use Rattle.snippet_style.specs.Codes.{opening, reset};
 ghost use Rattle.snippet_style.specs.Style.{is_plain_style};
-ghost use Rattle.snippet_text_form.specs.Form.{AreMarks, Break, Styled, bare, form_bytes, form_links, form_text};
-ghost use Rattle.snippet_text_form.specs.Form.{in_style, link_codes_after, link_codes_before, piece_of_kind};
-ghost use Rattle.snippet_text_form.specs.Form.{pieces_from, role_style, woven_from};
+ghost use Rattle.snippet_text_form.specs.Form.{Break, Styled, bare, form_bytes, form_text, in_style, role_style};
+ghost use Rattle.snippet_text_form.specs.Form.{woven_from};
+ghost use Rattle.snippet_text_form.specs.FormLinks.{form_links, link_codes_after, link_codes_before};
+ghost use Rattle.snippet_text_form.specs.FormMarks.{AreMarks, piece_of_kind, pieces_from};
 ghost use Rattle.snippet_text_form.specs.declared.form.MarkKind.TheVariants as kinds;
 
 use itoa::Buffer;
@@ -73,7 +74,8 @@ pub struct TextForm<'a> {
 
 impl<'a> Model for TextForm<'a> {
     ghost use Rattle.std.specs.Prelude.{List, string_bytes};
-    ghost use Rattle.snippet_text_form.specs.Form.{AreMarks, FormPiece, pieces_from};
+    ghost use Rattle.snippet_text_form.specs.Form.{FormPiece};
+    ghost use Rattle.snippet_text_form.specs.FormMarks.{AreMarks, pieces_from};
 
     ghost Value = { List FormPiece };
 

@@ -1,7 +1,7 @@
 use Rattle.std.proofs.Common.{◌≡◌, ◌∙◌, ◌++◌, ◌∷◌, [], List, ℕ, ap, length, rules, subst, sym, string_bytes}
 use Rattle.std.proofs.lemmas.Str.{IsUtf8-string_bytes}
 use Rattle.snippet_grid.proofs.StretchLemmas.{BeginsWith-added}
-use Rattle.snippet_text_form.specs.Form.{AreMarks, pieces_from}
+use Rattle.snippet_text_form.specs.FormMarks.{AreMarks, pieces_from}
 use Rattle.snippet_text_form.specs.declared.form.FormMark.{FormMark}
 use Rattle.snippet_text_form.proofs.MarkLemmas.{AreMarks-grown, AreMarks-mark, pieces-mark}
 use Rattle.snippet_text_form.proofs.form.push_mark.Goals as goal

@@ -2,7 +2,9 @@ use Rattle.std.proofs.Common.{◌≡◌, ◌∙◌, ◌++◌, ◌∷◌, [], ◌
 use Rattle.std.specs.List.{flat_map}
 use Rattle.std.proofs.lemmas.List.{drop_all, drop_more}
 use Rattle.snippet_grid.specs.Woven.{IsWoven, piece_text}
-use Rattle.snippet_text_form.specs.Form.{form_bytes, form_links, form_text, piece_of_kind, woven_from}
+use Rattle.snippet_text_form.specs.Form.{form_bytes, form_text, woven_from}
+use Rattle.snippet_text_form.specs.FormMarks.{piece_of_kind}
+use Rattle.snippet_text_form.specs.FormLinks.{form_links}
 use Rattle.snippet_text_form.specs.declared.form.FormMark.{FormMark}
 use Rattle.snippet_text_form.proofs.FormLaws.{form-woven}
 use Rattle.snippet_text_form.proofs.FormSteps.{IsRenderedTo, IsRenderedTo-all, IsRenderedTo-mark}
