@@ -7,7 +7,8 @@ use Rattle.std.proofs.lemmas.Bool.Decides.{nat_tests}
 use Rattle.snippet_model.specs.declared.snippet.Element.{Element}
 use Rattle.snippet_model.specs.declared.snippet.Element.TheVariants.{Cause, Message, Origin, Padding, Suggestion}
 use Rattle.snippet_suggest.specs.declared.SuggestionStart.TheVariants.{Next, Opening, Path}
-use Rattle.annotate_snippets.specs.ElementContext.{CanStandIn, begins_in_row_above, first_two_share, is_end, is_next_start, next_of}
+use Rattle.annotate_snippets.specs.ElementContext.{first_two_share, is_end, next_of}
+use Rattle.annotate_snippets.specs.ElementRoom.{CanStandIn, begins_in_row_above, is_next_start}
 use Rattle.annotate_snippets.specs.TextForm.{is_other_file}
 use Rattle.annotate_snippets.specs.ElementContext.{path_bytes, share_file, context_at}
 use Rattle.annotate_snippets.specs.declared.renderer.element_context.GroupPosition.{GroupPosition}

@@ -19,7 +19,8 @@ use Rattle.snippet_style.specs.declared.stylesheet.Stylesheet.{Stylesheet}
 use Rattle.snippet_text.specs.Normalized.{is_listed}
 use Rattle.snippet_text_form.specs.Form.{form_text}
 use Rattle.snippet_text_form.specs.Lines.{lines_of_paragraphs}
-use Rattle.annotate_snippets.specs.AsSet.{IsAsSet, IsDrawableAsSet, IsMaskedFor, IsRemade, IsShownFor, IsStep, adds_context, shows_as_given, wraps}
+use Rattle.annotate_snippets.specs.AsSet.{IsAsSet, IsMaskedFor, IsRemade, IsShownFor, IsStep, adds_context, shows_as_given, wraps}
+use Rattle.annotate_snippets.specs.Drawable.{IsDrawableAsSet}
 use Rattle.annotate_snippets.specs.Fault.{first_fault, form_of, missing_title, refusal_in}
 use Rattle.annotate_snippets.specs.Forms.{AreFree, ShowsForm, ShowsReport, TextsShown, links_in, plain_in}
 use Rattle.annotate_snippets.specs.GraphicForm.{graphic_form}

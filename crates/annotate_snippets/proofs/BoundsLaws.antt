@@ -26,7 +26,8 @@ use Rattle.snippet_lines.specs.OrderedBy.{put_in}
 use Rattle.snippet_splice.specs.Edits.{Edit, edit_of, in_order, precedes}
 use Rattle.snippet_splice.specs.TrimmedEdits.{AreApart}
 use Rattle.snippet_splice.specs.Overlap.{first_overlap, first_overlap_from, overlap}
-use Rattle.annotate_snippets.specs.Fault.{IsGroupWithinBounds, IsWithinBounds, added_lines, element_faults, faults_from, first_fault, first_of, group_faults}
+use Rattle.annotate_snippets.specs.Fault.{IsWithinBounds, added_lines, element_faults, faults_from, first_fault, first_of, group_faults}
+use Rattle.annotate_snippets.specs.Drawable.{IsGroupWithinBounds}
 use Rattle.annotate_snippets.specs.Fault.{number_after_lines, number_faults, overlap_faults, refusal_of, span_faults}
 use Rattle.annotate_snippets.specs.Settings.{plain_settings}
 use Rattle.annotate_snippets.specs.declared.renderer.error.RenderError.{RenderError}

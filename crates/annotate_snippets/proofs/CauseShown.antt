@@ -32,8 +32,9 @@ use Rattle.snippet_titles.proofs.OriginFree.{closing_row-free, separator_row-fre
 use Rattle.annotate_snippets.specs.declared.renderer.Renderer.{Renderer}
 use Rattle.snippet_grid.specs.Layout.{Layout}
 use Rattle.annotate_snippets.specs.declared.renderer.element_context.ElementContext.{ElementContext}
-use Rattle.annotate_snippets.specs.ElementContext.{closes_after, closes_with, is_before_message, is_first_group, path_bytes}
-use Rattle.annotate_snippets.specs.DrawnReport.{HasRoomFor, code_after}
+use Rattle.annotate_snippets.specs.ElementContext.{closes_after, closes_with, is_before_message, path_bytes}
+use Rattle.annotate_snippets.specs.ElementRoom.{HasRoomFor, code_after}
+use Rattle.annotate_snippets.specs.Walk.{is_first_group}
 use Rattle.annotate_snippets.specs.GraphicForm.{margin_in, rows_of_lines}
 use Rattle.annotate_snippets.proofs.PageWords.{snippet_rows}
 use Rattle.annotate_snippets.specs.Gutter.{depth_of_element, line_numbers, numbered_source}

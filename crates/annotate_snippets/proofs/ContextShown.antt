@@ -35,7 +35,8 @@ use Rattle.snippet_shown.specs.AsWrapped.{IsElementWrapped, IsGroupWrapped, IsTi
 use Rattle.snippet_style.specs.Cell.{Cell}
 use Rattle.snippet_titles.specs.Title.{id_links}
 use Rattle.annotate_snippets.specs.AsSet.{IsRemade, IsStep, adds_context, wraps}
-use Rattle.annotate_snippets.specs.ElementContext.{context_at, drawn_elements, file_of_group, is_drawn, path_bytes, position_of_group}
+use Rattle.annotate_snippets.specs.ElementContext.{context_at, drawn_elements, file_of_group, path_bytes, position_of_group}
+use Rattle.annotate_snippets.specs.Walk.{is_drawn}
 use Rattle.annotate_snippets.specs.Fault.{element_faults, faults_from, first_fault, number_after_lines, number_faults, refusal_of, span_faults}
 use Rattle.annotate_snippets.specs.Gutter.{gutter_of_report, layout_of_group}
 use Rattle.annotate_snippets.specs.Laws.Context.{ShowsLinesAround, lines_with_context}

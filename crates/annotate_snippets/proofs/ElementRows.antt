@@ -9,10 +9,11 @@ use Rattle.std.proofs.lemmas.List.FromFn.{get_or-enumerate_from, length-enumerat
 use Rattle.std.proofs.lemmas.Option.{get_or_from_slice_get, slice_get-get_or, slice_get_within}
 use Rattle.snippet_style.specs.Cell.{Cell}
 use Rattle.snippet_model.specs.declared.snippet.Element.{Element}
-use Rattle.annotate_snippets.specs.ElementContext.{CanStandIn, begins_in_row_above, context_at, drawn_elements, first_two_share, is_end, next_of}
-use Rattle.annotate_snippets.specs.DrawnReport.{last_row, shared_row}
+use Rattle.annotate_snippets.specs.ElementContext.{context_at, drawn_elements, first_two_share, is_end, next_of}
+use Rattle.annotate_snippets.specs.DrawnReport.{last_row}
 use Rattle.annotate_snippets.proofs.PageWords.{found_at}
-use Rattle.annotate_snippets.specs.GraphicForm.{drawn_rows, element_rows, group_page}
+use Rattle.annotate_snippets.specs.GraphicForm.{element_rows, group_page}
+use Rattle.annotate_snippets.specs.ElementRoom.{CanStandIn, begins_in_row_above, shared_row, drawn_rows}
 use Rattle.annotate_snippets.specs.RowsWithoutSource.{title_part}
 use Rattle.snippet_model.specs.declared.snippet.Group.{Group}
 use Rattle.snippet_model.specs.declared.snippet.Title.{Title}

@@ -16,8 +16,9 @@ use Rattle.snippet_model.specs.declared.snippet.Title.{Title}
 use Rattle.snippet_text_form.specs.Form.{FormPiece}
 use Rattle.snippet_text_form.specs.HeadingForm.{heading_form}
 use Rattle.snippet_text_form.specs.declared.heading.HeadingKind.TheVariants as kind
-use Rattle.annotate_snippets.specs.ElementContext.{drawn_elements, file_of_group, first_two_share, is_drawn, is_same_file, path_bytes}
-use Rattle.annotate_snippets.specs.TextForm.{PreviousSuggestion, before_next, before_seen, element_form, elements_form, group_form, option_number}
+use Rattle.annotate_snippets.specs.ElementContext.{drawn_elements, file_of_group, first_two_share, is_same_file, path_bytes}
+use Rattle.annotate_snippets.specs.TextForm.{PreviousSuggestion, before_next, element_form, elements_form, group_form, option_number}
+use Rattle.annotate_snippets.specs.Walk.{is_drawn, before_seen}
 use Rattle.annotate_snippets.specs.declared.renderer.Renderer.{Renderer}
 use Rattle.annotate_snippets.specs.declared.renderer.text_form.PreviousSuggestion as code
 

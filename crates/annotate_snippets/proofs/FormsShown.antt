@@ -16,7 +16,8 @@ use Rattle.annotate_snippets.specs.declared.renderer.Renderer.{Renderer}
 use Rattle.annotate_snippets.specs.declared.renderer.form.Form.{Form}
 use Rattle.annotate_snippets.specs.declared.renderer.form.Form.TheVariants.{Graphic, Short, Text}
 use Rattle.annotate_snippets.specs.Fault.{missing_title}
-use Rattle.annotate_snippets.specs.Laws.Forms.{FormLaws, IsTextUnder, LawsIn}
+use Rattle.annotate_snippets.specs.Laws.Forms.{FormLaws, LawsIn}
+use Rattle.annotate_snippets.specs.WithLaws.{IsTextUnder}
 use Rattle.annotate_snippets.specs.Forms.{AreFree, ShortShown, ShowsForm, links_in, plain_in}
 use Rattle.annotate_snippets.specs.GraphicForm.{graphic_form}
 use Rattle.annotate_snippets.specs.Page.{PrintsPage, page_text}

@@ -12,8 +12,9 @@ use Rattle.snippet_grid.specs.Layout.{Layout}
 use Rattle.snippet_model.specs.declared.snippet.Group.{Group}
 use Rattle.snippet_parts.proofs.PartLemmas.{All-unmapped}
 use Rattle.snippet_style.specs.declared.glyphs.DecorStyle.{DecorStyle}
-use Rattle.annotate_snippets.specs.ElementContext.{drawn_elements, file_of_group, is_first_group, position_of_group}
-use Rattle.annotate_snippets.specs.DrawnReport.{HasRoomFor, code_after}
+use Rattle.annotate_snippets.specs.ElementContext.{drawn_elements, file_of_group, position_of_group}
+use Rattle.annotate_snippets.specs.ElementRoom.{HasRoomFor, code_after}
+use Rattle.annotate_snippets.specs.Walk.{is_first_group}
 use Rattle.annotate_snippets.specs.GraphicForm.{graphic_form, group_page}
 use Rattle.annotate_snippets.specs.Gutter.{layout_of_group, gutter_of_report}
 use Rattle.annotate_snippets.specs.Page.{GroupPage}

@@ -24,8 +24,9 @@ use Rattle.snippet_titles.specs.Title.{id_links}
 use Rattle.snippet_titles.specs.PrintedHeading.{title_rows}
 use Rattle.snippet_titles.proofs.HeadFacts.{message_rows-unlinked}
 use Rattle.snippet_titles.proofs.LinkLemmas.{title_rows-links}
-use Rattle.annotate_snippets.specs.ElementContext.{begins_in_row_above, drawn_elements, is_drawn, is_end, next_of, context_at}
-use Rattle.annotate_snippets.specs.DrawnReport.{HasRoomFor}
+use Rattle.annotate_snippets.specs.ElementContext.{drawn_elements, is_end, next_of, context_at}
+use Rattle.annotate_snippets.specs.Walk.{is_drawn}
+use Rattle.annotate_snippets.specs.ElementRoom.{begins_in_row_above, HasRoomFor}
 use Rattle.annotate_snippets.proofs.PageWords.{found_at}
 use Rattle.annotate_snippets.specs.GraphicForm.{element_rows}
 use Rattle.annotate_snippets.specs.Printing.{rows_of_elements}

@@ -32,7 +32,7 @@ use Rattle.snippet_lines.specs.Number.{number_width, shown_number}
 use Rattle.snippet_lines.specs.declared.number.LineNumbers.{LineNumbers}
 use Rattle.snippet_lines.specs.declared.number.LineNumbers.TheVariants.{Shown, Anonymized, Hidden}
 use Rattle.snippet_lines.proofs.NumberLemmas.{length-decimal_monotone, length-decimal_more, length-decimal_last}
-use Rattle.annotate_snippets.specs.DrawnReport.{HasRoomFor}
+use Rattle.annotate_snippets.specs.ElementRoom.{HasRoomFor}
 use Rattle.annotate_snippets.specs.PreparedReport.{IsDrawable}
 use Rattle.annotate_snippets.specs.Gutter.{line_numbers, numbered_source}
 use Rattle.annotate_snippets.proofs.PageWords.{gutter_of}

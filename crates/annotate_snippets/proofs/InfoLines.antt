@@ -27,7 +27,7 @@ use Rattle.snippet_strokes.proofs.PlacedOf.{HasTextLabel}
 use Rattle.snippet_window.specs.Measures.{StandsClear, margin_of}
 use Rattle.snippet_window.specs.declared.margin.Margin.{Margin}
 use Rattle.snippet_window.proofs.MarginFacts.{margin_of_lines, margin_seen, lines_clear, lines_sound}
-use Rattle.annotate_snippets.specs.DrawnReport.{HasRoomFor}
+use Rattle.annotate_snippets.specs.ElementRoom.{HasRoomFor}
 use Rattle.annotate_snippets.specs.GraphicForm.{margin_in}
 use Rattle.annotate_snippets.proofs.MarginWords.{room_of}
 use Rattle.annotate_snippets.proofs.LineWords.{entries_on}

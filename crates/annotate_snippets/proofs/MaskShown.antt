@@ -41,7 +41,7 @@ use Rattle.snippet_text.proofs.NormLemmas.{list_any-norm, shown-unlisted}
 use Rattle.snippet_text.specs.Normalized.{is_listed, norm, shown}
 use Rattle.snippet_titles.proofs.OriginFree.{each-fails}
 use Rattle.snippet_titles.specs.Title.{id_chars, id_links, text_links}
-use Rattle.annotate_snippets.specs.ElementContext.{is_drawn}
+use Rattle.annotate_snippets.specs.Walk.{is_drawn}
 use Rattle.annotate_snippets.specs.Fault.{added_lines, element_faults, number_after_lines, number_faults, overlap_faults, refusal_of, span_faults}
 use Rattle.annotate_snippets.specs.Laws.Feeds.{HasOneLineTexts}
 use Rattle.annotate_snippets.specs.declared.renderer.error.RenderError.{RenderError}

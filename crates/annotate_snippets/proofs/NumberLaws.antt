@@ -32,12 +32,12 @@ use Rattle.annotate_snippets.specs.declared.renderer.Renderer.{Renderer}
 use Rattle.annotate_snippets.specs.declared.renderer.element_context.ElementContext.{ElementContext}
 use Rattle.annotate_snippets.specs.declared.renderer.element_context.GroupPosition.{GroupPosition}
 use Rattle.snippet_grid.specs.Layout.{Layout}
-use Rattle.annotate_snippets.specs.ElementContext.{closes_after, closes_with, context_at, is_before_message, is_end, is_first_group, path_bytes}
+use Rattle.annotate_snippets.specs.ElementContext.{closes_after, closes_with, context_at, is_before_message, is_end, path_bytes}
+use Rattle.annotate_snippets.specs.Walk.{is_first_group}
 use Rattle.annotate_snippets.proofs.PageWords.{found_at, origin_start, patch_place, place_given, suggestion_head_at}
 use Rattle.annotate_snippets.specs.Laws.Numbers.{shows_a_line}
 use Rattle.annotate_snippets.specs.Page.{RowName, SourceRow, Elision, OfferedLine, RemovedLine, Other, NamedRow, GroupPage, cells_of, others}
-use Rattle.annotate_snippets.specs.RowsWithoutSource.{cause_head, origin_layout, origin_rows, path_row}
-use Rattle.annotate_snippets.specs.RowsWithoutSource.{rows_after_cause, suggestion_head}
+use Rattle.annotate_snippets.specs.RowsWithoutSource.{cause_head, origin_layout, origin_rows, path_row, rows_after_cause, suggestion_head}
 use Rattle.annotate_snippets.specs.Laws.Groups.{AreElementsShown, ShowsElement}
 use Rattle.annotate_snippets.specs.Laws.Snippets.{AreRowsOf, IsRowOf}
 use Rattle.annotate_snippets.specs.Laws.Suggestions.{IsSuggestionRow}

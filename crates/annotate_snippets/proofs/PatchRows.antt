@@ -20,12 +20,12 @@ use Rattle.snippet_suggest.specs.declared.SuggestionStart.TheVariants.{Opening, 
 use Rattle.snippet_suggest.specs.RowOrder.{Ends}
 use Rattle.snippet_suggest.specs.Suggested.{body_cells, suggested_cells as row_cells}
 use Rattle.snippet_suggest.specs.ShownRows.{rows_shared, suggestion_cells}
-use Rattle.annotate_snippets.specs.ElementContext.{HasPathFor, begins_in_row_above, is_end, is_next_start, path_bytes}
-use Rattle.annotate_snippets.specs.DrawnReport.{shared_row, suggestion_layout}
+use Rattle.annotate_snippets.specs.ElementContext.{is_end, path_bytes}
+use Rattle.annotate_snippets.specs.DrawnReport.{suggestion_layout}
 use Rattle.annotate_snippets.proofs.PageWords.{suggestion_head_at, under_of}
-use Rattle.annotate_snippets.specs.GraphicForm.{drawn_rows}
 use Rattle.annotate_snippets.specs.Gutter.{line_numbers}
-use Rattle.annotate_snippets.specs.RowsWithoutSource.{path_head, path_row, suggestion_head}
+use Rattle.annotate_snippets.specs.RowsWithoutSource.{path_row, suggestion_head}
+use Rattle.annotate_snippets.specs.ElementRoom.{HasPathFor, begins_in_row_above, is_next_start, shared_row, drawn_rows, path_head}
 use Rattle.annotate_snippets.specs.declared.renderer.Renderer.{Renderer}
 use Rattle.snippet_grid.specs.Layout.{Layout}
 use Rattle.annotate_snippets.specs.declared.renderer.element_context.ElementContext.{ElementContext}

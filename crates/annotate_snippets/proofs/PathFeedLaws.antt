@@ -27,7 +27,8 @@ use Rattle.snippet_titles.proofs.OriginText.{place-each}
 use Rattle.annotate_snippets.specs.declared.renderer.Renderer.{Renderer}
 use Rattle.annotate_snippets.specs.declared.renderer.element_context.ElementContext.{ElementContext}
 use Rattle.snippet_grid.specs.Layout.{Layout}
-use Rattle.annotate_snippets.specs.ElementContext.{closes_after, is_before_message, is_first_group, path_bytes}
+use Rattle.annotate_snippets.specs.ElementContext.{closes_after, is_before_message, path_bytes}
+use Rattle.annotate_snippets.specs.Walk.{is_first_group}
 use Rattle.annotate_snippets.specs.Gutter.{numbered_source}
 use Rattle.annotate_snippets.specs.RowsWithoutSource.{cause_head, origin_layout, origin_rows}
 use Rattle.annotate_snippets.proofs.PageWords.{origin_start, place_given}

@@ -3,9 +3,10 @@ use Rattle.std.proofs.Common.{◌≡◌, Some, not, false, List, ◌++◌, sym, 
 use Rattle.std.proofs.lemmas.List.{append-nil}
 use Rattle.snippet_style.specs.Cell.{Cell}
 use Rattle.snippet_model.specs.declared.snippet.Element.{Element}
-use Rattle.annotate_snippets.specs.ElementContext.{CanStandIn, begins_in_row_above, is_end}
-use Rattle.annotate_snippets.specs.DrawnReport.{last_row, shared_row}
-use Rattle.annotate_snippets.specs.GraphicForm.{drawn_rows, element_rows}
+use Rattle.annotate_snippets.specs.ElementContext.{is_end}
+use Rattle.annotate_snippets.specs.DrawnReport.{last_row}
+use Rattle.annotate_snippets.specs.GraphicForm.{element_rows}
+use Rattle.annotate_snippets.specs.ElementRoom.{CanStandIn, begins_in_row_above, shared_row, drawn_rows}
 use Rattle.annotate_snippets.specs.Page.{cells_of}
 use Rattle.annotate_snippets.specs.PreparedReport.{element_of}
 use Rattle.annotate_snippets.specs.declared.renderer.preprocess.PreparedElement.{PreparedElement}

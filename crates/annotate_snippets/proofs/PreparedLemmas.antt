@@ -6,7 +6,7 @@ use Rattle.std.proofs.lemmas.List.{map-append, take_more}
 use Rattle.std.proofs.lemmas.List.Elements.{All-push, All-same, filter_more}
 use Rattle.snippet_model.specs.declared.snippet.Element.{Element}
 use Rattle.snippet_model.specs.declared.snippet.Group.{Group}
-use Rattle.annotate_snippets.specs.ElementContext.{is_drawn}
+use Rattle.annotate_snippets.specs.Walk.{is_drawn}
 use Rattle.annotate_snippets.specs.PreparedReport.{IsElementPrepared, IsGroupPrepared, element_of}
 use Rattle.annotate_snippets.specs.declared.renderer.preprocess.PreparedElement.{PreparedElement}
 use Rattle.annotate_snippets.specs.declared.renderer.preprocess.PreparedGroup.{PreparedGroup}

@@ -23,10 +23,11 @@ use Rattle.snippet_titles.proofs.PrintedLemmas.{one_row}
 use Rattle.snippet_titles.specs.HeadingRows.{heading_rows}
 use Rattle.snippet_titles.specs.PrintedHeading.{IsPlainHeading, title_rows}
 use Rattle.snippet_titles.specs.declared.style.TitleStyle.{TitleStyle}
-use Rattle.annotate_snippets.specs.ElementContext.{CanStandIn, begins_in_row_above, context_at, drawn_elements, is_end, next_of}
-use Rattle.annotate_snippets.specs.DrawnReport.{last_row, shared_row}
+use Rattle.annotate_snippets.specs.ElementContext.{context_at, drawn_elements, is_end, next_of}
+use Rattle.annotate_snippets.specs.DrawnReport.{last_row}
 use Rattle.annotate_snippets.proofs.PageWords.{found_at, message_rows, message_style}
-use Rattle.annotate_snippets.specs.GraphicForm.{drawn_rows, element_rows, group_page}
+use Rattle.annotate_snippets.specs.GraphicForm.{element_rows, group_page}
+use Rattle.annotate_snippets.specs.ElementRoom.{CanStandIn, begins_in_row_above, shared_row, drawn_rows}
 use Rattle.annotate_snippets.specs.Printing.{rows_of_elements}
 use Rattle.annotate_snippets.specs.Page.{cells_of, group_rows}
 use Rattle.annotate_snippets.specs.PreparedReport.{AreAround, element_of}

@@ -15,7 +15,8 @@ use Rattle.snippet_model.specs.declared.snippet.Title.{Title}
 use Rattle.snippet_shown.specs.Remade.{IsGroupMade, IsGroupTaken}
 use Rattle.snippet_text.specs.Normalized.{is_listed}
 use Rattle.snippet_titles.specs.Title.{id_links}
-use Rattle.annotate_snippets.specs.ElementContext.{drawn_elements, is_drawn}
+use Rattle.annotate_snippets.specs.ElementContext.{drawn_elements}
+use Rattle.annotate_snippets.specs.Walk.{is_drawn}
 use Rattle.annotate_snippets.specs.Fault.{element_faults, first_fault, first_of, group_faults, missing_title, refusal_in}
 use Rattle.annotate_snippets.specs.Forms.{links_in}
 use Rattle.annotate_snippets.specs.Laws.Feeds.{HasOneLineTexts}

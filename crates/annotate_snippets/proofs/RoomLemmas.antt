@@ -22,8 +22,9 @@ use Rattle.snippet_suggest.specs.Given.{counted_line, first_end, first_given, gi
 use Rattle.snippet_suggest.proofs.ByKind.{counted_folded}
 use Rattle.snippet_suggest.specs.PreparedSuggestion.{IsSuggestible}
 use Rattle.snippet_suggest.proofs.PreparedLemmas.{last-fits}
-use Rattle.annotate_snippets.specs.ElementContext.{drawn_elements, is_drawn}
-use Rattle.annotate_snippets.specs.DrawnReport.{HasRoomFor, code_after}
+use Rattle.annotate_snippets.specs.ElementContext.{drawn_elements}
+use Rattle.annotate_snippets.specs.ElementRoom.{HasRoomFor, code_after}
+use Rattle.annotate_snippets.specs.Walk.{is_drawn}
 use Rattle.annotate_snippets.specs.Gutter.{depth_of_element, layout_of_group, gutter_of_report, width_wanted}
 use Rattle.annotate_snippets.proofs.PageWords.{depth_of_group}
 use Rattle.annotate_snippets.specs.PreparedReport.{IsElementDrawable, IsGroupDrawable}

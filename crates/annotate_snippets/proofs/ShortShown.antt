@@ -41,8 +41,9 @@ use Rattle.snippet_titles.specs.declared.origin.OriginLocation.{OriginLocation}
 use Rattle.snippet_titles.proofs.OriginText.{place-each}
 use Rattle.snippet_titles.proofs.OriginFree.{digit_unlisted}
 use Rattle.annotate_snippets.specs.ElementContext.{path_bytes}
-use Rattle.annotate_snippets.specs.DrawnReport.{IsShortForm}
-use Rattle.annotate_snippets.specs.Laws.Forms.{BeginsWithPlace, IsTextUnder, LawsIn, ShortLaws, ShowsShort}
+use Rattle.annotate_snippets.specs.Laws.Forms.{BeginsWithPlace, LawsIn, ShortLaws, ShowsShort}
+use Rattle.annotate_snippets.specs.WithLaws.{IsTextUnder}
+use Rattle.annotate_snippets.specs.Walk.{IsShortForm}
 use Rattle.annotate_snippets.specs.Forms.{ShortShown, short_links}
 use Rattle.annotate_snippets.specs.Gutter.{numbered_source}
 use Rattle.annotate_snippets.specs.PreparedReport.{IsDrawable, IsGroupDrawable}

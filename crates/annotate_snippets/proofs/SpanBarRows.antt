@@ -37,7 +37,7 @@ use Rattle.annotate_snippets.specs.declared.renderer.Renderer.{Renderer}
 use Rattle.snippet_grid.specs.Layout.{Layout}
 use Rattle.annotate_snippets.specs.Gutter.{number_text}
 use Rattle.annotate_snippets.proofs.LineWords.{bars_on, entries_on}
-use Rattle.annotate_snippets.specs.DrawnReport.{code_after}
+use Rattle.annotate_snippets.specs.ElementRoom.{code_after}
 use Rattle.annotate_snippets.proofs.DrawnRows.{AreRowsDrawn, IsRowDrawn, open_after}
 use Rattle.annotate_snippets.specs.Page.{Elision, NamedRow, OfferedLine, Other, RemovedLine, RowName, SourceRow, lines_named, rows_below}
 use Rattle.annotate_snippets.specs.Page.{shows_lines}

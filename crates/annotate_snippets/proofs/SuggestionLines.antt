@@ -29,8 +29,9 @@ use Rattle.snippet_suggest.specs.SuggestionRows.{begin_glyph, beside_gutter, end
 use Rattle.snippet_suggest.specs.ShownRows.{HasGutter, IsEdgeRow, IsUnder, Shows}
 use Rattle.snippet_suggest.proofs.BareLemmas.{stroke_led}
 use Rattle.snippet_suggest.proofs.BodyLaws.{body_shows, last_shows, zip_append}
-use Rattle.annotate_snippets.specs.ElementContext.{begins_in_row_above, first_two_share, is_end, is_next_start, share_file, suggestion_rows}
-use Rattle.annotate_snippets.specs.DrawnReport.{HasRoomFor, last_row, suggestion_layout, suggestion_lines}
+use Rattle.annotate_snippets.specs.ElementContext.{first_two_share, is_end, share_file, suggestion_rows}
+use Rattle.annotate_snippets.specs.DrawnReport.{last_row, suggestion_layout, suggestion_lines}
+use Rattle.annotate_snippets.specs.ElementRoom.{begins_in_row_above, is_next_start, HasRoomFor}
 use Rattle.annotate_snippets.proofs.PageWords.{found_at, under_of}
 use Rattle.annotate_snippets.specs.declared.renderer.Renderer.{Renderer}
 use Rattle.annotate_snippets.specs.declared.renderer.element_context.ElementContext.{ElementContext}

@@ -27,8 +27,9 @@ use Rattle.snippet_suggest.proofs.OrderLaws.{IsRowOf, rows-offer, rows-own, rows
 use Rattle.snippet_suggest.proofs.TouchLaws.{touched-offered}
 use Rattle.snippet_titles.specs.Origin.{primary_start}
 use Rattle.snippet_titles.proofs.OriginFree.{origin_row-free}
-use Rattle.annotate_snippets.specs.ElementContext.{begins_in_row_above, is_end, path_bytes, suggestion_rows}
-use Rattle.annotate_snippets.specs.DrawnReport.{HasRoomFor, suggestion_layout, suggestion_lines}
+use Rattle.annotate_snippets.specs.ElementContext.{is_end, path_bytes, suggestion_rows}
+use Rattle.annotate_snippets.specs.DrawnReport.{suggestion_layout, suggestion_lines}
+use Rattle.annotate_snippets.specs.ElementRoom.{begins_in_row_above, HasRoomFor}
 use Rattle.annotate_snippets.specs.GraphicForm.{element_rows, name_of_row}
 use Rattle.annotate_snippets.proofs.PageWords.{under_of}
 use Rattle.annotate_snippets.proofs.PageWords.{patch_place, suggestion_head_at}

@@ -45,7 +45,8 @@ use Rattle.snippet_text_form.proofs.PlaceParts.{PathIs, before_added-each, befor
 use Rattle.snippet_text_form.proofs.PlaceParts.{edit_place-each, further_indent-each, is_odd, known-each, place-each, place_in_file-each}
 use Rattle.snippet_text_form.proofs.PlaceParts.{span_text-each}
 use Rattle.snippet_titles.specs.HeadingRows.{colon_of, heading_lines, is_set, shown_text}
-use Rattle.annotate_snippets.specs.ElementContext.{drawn_elements, file_of_group, first_two_share, is_drawn, path_bytes}
+use Rattle.annotate_snippets.specs.ElementContext.{drawn_elements, file_of_group, first_two_share, path_bytes}
+use Rattle.annotate_snippets.specs.Walk.{is_drawn}
 use Rattle.annotate_snippets.specs.Laws.Feeds.{HasOneLineTexts, text_lines}
 use Rattle.annotate_snippets.specs.Laws.TextLines.{element_paragraphs, elements_paragraphs, group_paragraphs, report_paragraphs, title_paragraphs}
 use Rattle.annotate_snippets.specs.TextForm.{PreviousSuggestion, before_next, element_form, elements_form, group_form, suggestion_place}

@@ -28,8 +28,10 @@ use Rattle.snippet_text_form.specs.declared.heading.HeadingKind.TheVariants as k
 use Rattle.snippet_text_form.proofs.FreeLaws.{cause-free, heading-free, origin-free, suggestion-free}
 use Rattle.snippet_text_form.proofs.LinkLaws.{cause-links, heading-links, origin-links, suggestion-links}
 use Rattle.snippet_text_form.proofs.OrderLaws.{cause-holds, heading_stays, plain-append, stand-append}
-use Rattle.annotate_snippets.specs.ElementContext.{drawn_elements, file_of_group, first_two_share, is_drawn}
-use Rattle.annotate_snippets.specs.Laws.Forms.{IsTextUnder, LawsIn, TextLaws}
+use Rattle.annotate_snippets.specs.ElementContext.{drawn_elements, file_of_group, first_two_share}
+use Rattle.annotate_snippets.specs.Laws.Forms.{LawsIn, TextLaws}
+use Rattle.annotate_snippets.specs.WithLaws.{IsTextUnder}
+use Rattle.annotate_snippets.specs.Walk.{is_drawn}
 use Rattle.annotate_snippets.specs.Forms.{TextShown}
 use Rattle.annotate_snippets.specs.Laws.Free.{IsFreeBut}
 use Rattle.annotate_snippets.specs.ShownPage.{report_links}

@@ -36,7 +36,7 @@ use Rattle.snippet_titles.specs.Title.{id_links}
 use Rattle.snippet_titles.specs.declared.style.MessageContext.{MessageContext}
 use Rattle.snippet_titles.specs.declared.style.TitleStyle.TheVariants as style
 use Rattle.annotate_snippets.specs.AsSet.{IsRemade, IsStep, adds_context, wraps}
-use Rattle.annotate_snippets.specs.ElementContext.{is_drawn}
+use Rattle.annotate_snippets.specs.Walk.{is_drawn}
 use Rattle.annotate_snippets.specs.Fault.{element_faults}
 use Rattle.annotate_snippets.specs.Gutter.{gutter_of_report, width_wanted}
 use Rattle.annotate_snippets.specs.Laws.Feeds.{HasOneLineTexts}

@@ -20,7 +20,7 @@ use Rattle.snippet_style.specs.declared.role.LevelInner.{LevelInner}
 use Rattle.snippet_style.specs.declared.stylesheet.Stylesheet.{Stylesheet}
 use Rattle.snippet_suggest.proofs.BodyLaws.{zip_append}
 use Rattle.annotate_snippets.specs.GraphicForm.{graphic_form}
-use Rattle.annotate_snippets.specs.Laws.Forms.{IsTextUnder}
+use Rattle.annotate_snippets.specs.WithLaws.{IsTextUnder}
 use Rattle.annotate_snippets.specs.Laws.Page.{PageLaws}
 use Rattle.annotate_snippets.specs.Lent.{held}
 use Rattle.annotate_snippets.specs.Page.{GroupPage, PrintsPage, group_rows}

@@ -1,14 +1,12 @@
 -- The report that is shown in place of one, as a renderer is set.
-use Rattle.std.specs.Prelude.{◌≡◌, ◌==◌, ◌&&◌, All, Bool, true, false, not, List, None}
+use Rattle.std.specs.Prelude.{◌≡◌, ◌==◌, ◌&&◌, Bool, true, false, not, List}
 use Rattle.std.specs.List.{AllZip}
 use Rattle.snippet_shown.specs.WithContext.{IsGroupWithContext}
 use Rattle.snippet_model.specs.declared.snippet.Group.{Group}
 use Rattle.snippet_shown.specs.AsMasked.{IsGroupMasked}
 use Rattle.snippet_shown.specs.AsSet.{IsGroupAsSet}
 use Rattle.snippet_shown.specs.AsWrapped.{IsGroupWrapped}
-use Rattle.annotate_snippets.specs.Fault.{missing_title}
 use Rattle.annotate_snippets.specs.Gutter.{gutter_of_report}
-use Rattle.annotate_snippets.specs.PreparedReport.{IsGroupDrawable}
 use Rattle.annotate_snippets.specs.declared.renderer.Renderer.{Renderer}
 use Rattle.annotate_snippets.specs.declared.renderer.form.Form.{Form}
 use Rattle.annotate_snippets.specs.declared.renderer.form.Form.TheVariants.{Graphic, Short, Text}
@@ -65,9 +63,3 @@ IsShownFor false form r groups shown = IsRemade form r groups shown
 -- the second report is shown in a form in place of the first: where nothing is set that makes another of it, the same
 abbrev pub IsAsSet : Form → Renderer → List Group → List Group → Type 0
 IsAsSet form r groups shown = IsShownFor (shows_as_given form r) form r groups shown
-
--- so it is, and it can be drawn: it isn't refused, and each of its texts fits
-pub record IsDrawableAsSet (form : Form) (r : Renderer) (groups shown : List Group) : Type 0 where
-  pub set : IsAsSet form r groups shown
-  pub drawable : All IsGroupDrawable shown
-  pub titled : missing_title form shown ≡ None

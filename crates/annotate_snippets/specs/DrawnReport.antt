@@ -1,8 +1,6 @@
--- What the rows of elements are drawn in and over: where suggestions stand, what they find there, and what room there is.
-use Rattle.std.specs.Prelude.{◌≡◌, ℕ, ◌+◌, ◌==◌, ◌≤◌, Bool, true, false, not, if◌then◌else◌, List, [], ◌∷◌, ◌++◌, Option, Some}
-use Rattle.std.specs.List.{slice_get}
+-- What the rows of elements are drawn in and over: where suggestions stand, and what they find there.
+use Rattle.std.specs.Prelude.{◌+◌, Bool, not, if◌then◌else◌, List, [], ◌∷◌, ◌++◌, Option, Some}
 use Rattle.snippet_style.specs.Cell.{Cell}
-use Rattle.snippet_model.specs.declared.snippet.Group.{Group}
 use Rattle.snippet_model.specs.declared.snippet.Snippet.{Snippet}
 use Rattle.snippet_model.specs.declared.snippet.Patch.{Patch}
 use Rattle.snippet_model.specs.declared.snippet.Element.{Element}
@@ -16,10 +14,7 @@ use Rattle.annotate_snippets.specs.declared.renderer.Renderer.{Renderer}
 use Rattle.snippet_grid.specs.Layout.{Layout}
 use Rattle.annotate_snippets.specs.declared.renderer.element_context.ElementContext.{ElementContext}
 use Rattle.annotate_snippets.specs.ElementContext.{is_end}
-use Rattle.annotate_snippets.specs.Gutter.{depth_of_element, line_numbers, width_wanted}
-use Rattle.snippet_model.specs.declared.snippet.Title.{Title}
-use Rattle.annotate_snippets.specs.ShortForm.{short_form}
-use Rattle.annotate_snippets.specs.declared.renderer.short.ShortForm.{ShortForm}
+use Rattle.annotate_snippets.specs.Gutter.{line_numbers}
 
 -- where the parts of a suggestion's rows stand
 abbrev pub suggestion_layout : Renderer → Layout → Snippet Patch → SuggestionLayout
@@ -39,27 +34,3 @@ suggestion_lines r layout around found s =
     let under : List Cell = elim around.start [ start.Opening ↦ [] | start.Next ↦ found | start.Path ↦ separator_row layout.decor layout.gutter ] in
     body_cells suggested around.start s under
     ++ (if around.shared then [] else row_cells suggested s [] (Ends (not (is_end around.next))) ∷ [])
-
--- the row that an element shares with the next one, if it does
-abbrev pub shared_row : Bool → List Cell → List (List Cell)
-shared_row shares row = if shares then row ∷ [] else []
-
--- the cell at which code begins: three after the gutter, and where bars stand between, as many more, and one
-abbrev pub code_after : ℕ → ℕ → ℕ
-code_after gutter depth = if depth == 0 then gutter + 3 else gutter + 3 + depth + 1
-
--- the layout has room for an element: its gutter for the number that it counts, and the part after the gutter for its bars
-pub record HasRoomFor (r : Renderer) (layout : Layout) (e : Element) : Type 0 where
-  pub small : layout.gutter ≤ 20
-  pub anonymized : r.anonymized_snippet_line_numbers ≡ true → 2 ≤ layout.gutter
-  pub numbers : r.anonymized_snippet_line_numbers ≡ false → width_wanted e ≤ layout.gutter
-  pub bars : code_after layout.gutter (depth_of_element e) ≤ layout.code
-
--- the short form is that of the first group, which has a title
-pub record IsShortForm (r : Renderer) (groups : List Group) (form : ShortForm) : Type 0 where
-  pub group : Group
-  pub title : Title
-  pub first : slice_get groups 0 ≡ Some group
-  pub titled : group.title ≡ Some title
-  pub level : form.level ≡ group.level
-  pub rows : form.rows ≡ short_form r group title

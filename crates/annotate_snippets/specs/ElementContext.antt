@@ -1,5 +1,5 @@
 -- What stands around an element of a report, as far as its rows depend on it.
-use Rattle.std.specs.Prelude.{◌≡◌, ℕ, ◌+◌, ◌-◌, ◌==◌, ◌&&◌, Bool, true, false, not, List, [], ◌∷◌, ◌++◌, Option, None, Some, drop, filter, length, take}
+use Rattle.std.specs.Prelude.{ℕ, ◌+◌, ◌-◌, ◌==◌, ◌&&◌, Bool, true, false, not, List, [], ◌∷◌, ◌++◌, Option, None, Some, drop, filter, length, take}
 use Rattle.std.specs.Prelude.{if◌then◌else◌}
 use Rattle.std.specs.Cow.{cow_str_bytes}
 use Rattle.std.specs.List.{filter_map, list_any, slice_get}
@@ -113,35 +113,6 @@ abbrev pub suggestion_rows : ElementContext → Snippet Patch → List Suggestio
 suggestion_rows around s =
     rows_of_suggestion around.start s ++ (if around.shared then [] else Ends (not (is_end around.next)) ∷ [])
 
--- whether an element begins in the last row of the one before it
-abbrev pub is_next_start : SuggestionStart → Bool
-is_next_start start.Next = true
-is_next_start begin = false
-
--- the same, of what stands around it
-abbrev pub begins_in_row_above : ElementContext → Bool
-begins_in_row_above around = is_next_start around.start
-
--- whether an element is drawn
-abbrev pub is_drawn : Element → Bool
-is_drawn (Suggestion snippet) = not (length snippet.markers.items == 0)
-is_drawn other = true
-
--- whether a group is its report's first
-abbrev pub is_first_group : GroupPosition → Bool
-is_first_group place.Later = false
-is_first_group position = true
-
 -- the bytes of a path, if there is one
 abbrev pub path_bytes : Option (CowStr Global) → Option (List ℕ)
 path_bytes path = option_map cow_str_bytes path
-
--- a suggestion that begins below its path has one
-abbrev pub HasPathFor : SuggestionStart → Snippet Patch → Type 0
-HasPathFor at s = at ≡ start.Path → is_some (path_bytes s.path) ≡ true
-
--- what stands around an element is such that it can be drawn there: no element but a suggestion begins in the row above it, or has
--- the next one begin in its last row
-abbrev pub CanStandIn : ElementContext → Element → Type 0
-CanStandIn around (Suggestion s) = HasPathFor around.start s
-CanStandIn around other = (begins_in_row_above around ≡ false) × (around.shared ≡ false)

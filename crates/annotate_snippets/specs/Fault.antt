@@ -1,5 +1,5 @@
 -- The faults of a report, in the order in which they are looked for.
-use Rattle.std.specs.Prelude.{◌≡◌, ℕ, ◌+◌, List, [], ◌∷◌, ◌++◌, Option, Some, None, is_none, is_some, length, map, nat_le, if◌then◌else◌}
+use Rattle.std.specs.Prelude.{◌≡◌, ℕ, ◌+◌, List, [], ◌∷◌, ◌++◌, Option, Some, None, is_none, length, map, nat_le, if◌then◌else◌}
 use Rattle.std.specs.Option.{option_map, option_or, option_to_list}
 use Rattle.std.specs.Cow.{cow_str_bytes}
 use Rattle.std.specs.declared.ops.Range.{Range}
@@ -9,7 +9,7 @@ use Rattle.snippet_model.specs.declared.snippet.Group.{Group}
 use Rattle.snippet_model.specs.declared.snippet.Patch.{Patch}
 use Rattle.snippet_model.specs.declared.snippet.Element.{Element}
 use Rattle.snippet_model.specs.declared.snippet.Element.TheVariants.{Message, Cause, Suggestion, Origin, Padding}
-use Rattle.snippet_model.specs.Fits.{GroupFits, ReportFits}
+use Rattle.snippet_model.specs.Fits.{ReportFits}
 use Rattle.snippet_lines.specs.Lines.{source_lines}
 use Rattle.snippet_lines.specs.Span.{span_fault}
 use Rattle.snippet_lines.specs.declared.span.SpanFault.{SpanFault}
@@ -43,10 +43,6 @@ faults_from f n (x ∷ xs) = f n x ++ faults_from f (n + 1) xs
 abbrev pub number_faults : ℕ → ℕ → ℕ → List RenderError
 number_faults group element number =
     if nat_le number max_usize then [] else LineNumberTooLarge group element ∷ []
-
--- the same where the number is missing if it doesn't fit
-abbrev pub end_faults : ℕ → ℕ → Option ℕ → List RenderError
-end_faults group element end = if is_some end then [] else LineNumberTooLarge group element ∷ []
 
 -- the number after that of a source's last line
 abbrev pub number_after_lines : ℕ → List ℕ → ℕ
@@ -107,8 +103,3 @@ first_refusal r groups = refusal_in (form_of r) groups
 pub record IsWithinBounds (r : Renderer) (groups : List Group) : Type 0 where
   pub faultless : first_refusal r groups ≡ None
   pub fits : ReportFits groups
-
--- a group that is within bounds wherever it stands: none of its elements has a fault, and each of its texts fits
-pub record IsGroupWithinBounds (g : Group) : Type 0 where
-  pub faultless : (n : ℕ) → group_faults n g ≡ []
-  pub fits : GroupFits g

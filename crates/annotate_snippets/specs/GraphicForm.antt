@@ -1,5 +1,5 @@
 -- The graphic form of a report, as a value: a page, each row of which is made from the report by the rule of its part.
-use Rattle.std.specs.Prelude.{ℕ, ◌+◌, ◌-◌, ◌==◌, ◌&&◌, nat_lt, not, List, [], ◌∷◌, ◌++◌, Bool, Option, Some, length, map, if◌then◌else◌}
+use Rattle.std.specs.Prelude.{ℕ, ◌+◌, ◌-◌, ◌==◌, ◌&&◌, nat_lt, not, List, [], ◌∷◌, ◌++◌, Bool, Option, length, map, if◌then◌else◌}
 use Rattle.std.specs.Cow.{cow_str_bytes}
 use Rattle.std.specs.List.{enumerate_from, zip}
 use Rattle.std.specs.Prelude.{true}
@@ -30,9 +30,9 @@ use Rattle.snippet_grid.specs.Layout.{Layout}
 use Rattle.annotate_snippets.specs.declared.renderer.element_context.GroupPosition.{GroupPosition}
 use Rattle.annotate_snippets.specs.declared.renderer.element_context.ElementContext.{ElementContext}
 use Rattle.annotate_snippets.specs.ElementContext.{closes_with, context_at, drawn_elements, file_of_group, is_end, next_of, position_of_group, suggestion_rows}
-use Rattle.annotate_snippets.specs.DrawnReport.{last_row, shared_row, suggestion_lines}
+use Rattle.annotate_snippets.specs.DrawnReport.{last_row, suggestion_lines}
 use Rattle.annotate_snippets.specs.Gutter.{layout_of_group, number_text, numbered_source}
-use Rattle.annotate_snippets.specs.Page.{Elision, GroupPage, NamedRow, OfferedLine, Other, RemovedLine, RowName, SourceRow, cells_of, others}
+use Rattle.annotate_snippets.specs.Page.{Elision, GroupPage, NamedRow, OfferedLine, Other, RemovedLine, RowName, SourceRow, others}
 use Rattle.annotate_snippets.specs.RowsWithoutSource.{cause_head, origin_rows, rows_after_cause, suggestion_head, title_part}
 
 -- ---- lines
@@ -91,11 +91,6 @@ element_rows r layout around found (element.Suggestion s) =
 element_rows r layout around found (element.Origin origin) = others (origin_rows r layout around origin)
 element_rows r layout around found (element.Padding padding) =
     others (bare_row layout.decor layout.gutter (is_end around.next) ∷ [])
-
--- the rows that drawing an element leaves: its own, and the row in which the next one begins, where it shares that
-abbrev pub drawn_rows : Renderer → Layout → ElementContext → List Cell → Element → List (List Cell)
-drawn_rows r layout around found e =
-    cells_of (element_rows r layout around found e) ++ shared_row around.shared (last_row r layout (not (is_end around.next)) (Some e))
 
 -- ---- groups
 

@@ -23,6 +23,10 @@ pub mod ShortForm
 pub mod ShownPage
 pub mod TextForm
 pub mod Written
+pub mod WithLaws
+pub mod ElementRoom
+pub mod Walk
+pub mod Drawable
 pub use Rattle.snippet_model.specs.Fits
 pub use Rattle.snippet_model.specs.KeptSettings
 pub use Rattle.snippet_model.specs.Level

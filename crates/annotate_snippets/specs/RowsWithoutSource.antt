@@ -1,8 +1,7 @@
 -- The rows of a report that hold nothing of a source: which they are, cell by cell.
 use Rattle.std.specs.Prelude.{ℕ, ◌+◌, ◌&&◌, Bool, true, false, not, List, [], ◌∷◌, ◌++◌, Option, None, Some, if◌then◌else◌}
 use Rattle.std.specs.Cow.{cow_str_bytes}
-use Rattle.std.specs.Option.{option_map, option_to_list}
-use Rattle.std.specs.List.{flat_map}
+use Rattle.std.specs.Option.{option_map}
 use Rattle.snippet_model.specs.declared.snippet.Annotation.{Annotation}
 use Rattle.snippet_model.specs.declared.snippet.Origin.{Origin}
 use Rattle.snippet_model.specs.declared.snippet.Patch.{Patch}
@@ -85,12 +84,6 @@ path_row r layout first s (Some path) =
 abbrev pub suggestion_head : Renderer → Layout → ElementContext → Snippet Patch → List (List Cell)
 suggestion_head r layout around s =
     elim around.start [ start.Path ↦ path_row r layout around.first s (option_map cow_str_bytes s.path) | begin ↦ [] ]
-
--- the row of its path, and the separator row below it
-abbrev pub path_head : Renderer → Layout → Bool → Snippet Patch → List (List Cell)
-path_head r layout first s =
-    flat_map (λ path. path_row r layout first s (Some path) ++ separator_row layout.decor layout.gutter ∷ [])
-    (option_to_list (option_map cow_str_bytes s.path))
 
 -- the rows of a group's title, and what stands below them, given what follows; none where there is no title
 abbrev pub title_part : Renderer → Layout → GroupPosition → Next → Option Title → List (List Cell)

@@ -1,7 +1,7 @@
 -- The text form of a report: what it is made of, and which texts stand in it.
 use Rattle.std.specs.Prelude.{ℕ, ◌+◌, ◌==◌, ◌&&◌, ◌||◌, not, Bool, false, List, [], ◌∷◌, ◌++◌, Option, None, Some, map, if◌then◌else◌}
 use Rattle.std.specs.List.{flat_map, list_any}
-use Rattle.std.specs.Option.{is_some, option_copied, option_map, option_to_list}
+use Rattle.std.specs.Option.{is_some, option_to_list}
 use Rattle.snippet_model.specs.Heading.{Heading, heading_of_message, heading_of_title}
 use Rattle.snippet_model.specs.declared.snippet.Element.{Element}
 use Rattle.snippet_model.specs.declared.snippet.Element.TheVariants as element
@@ -18,16 +18,11 @@ use Rattle.snippet_text_form.specs.declared.suggestion.SuggestionSettings.{Sugge
 use Rattle.snippet_titles.specs.HeadingRows.{shown_text}
 use Rattle.annotate_snippets.specs.ElementContext.{drawn_elements, file_of_group, first_two_share, is_same_file, path_bytes}
 use Rattle.annotate_snippets.specs.declared.renderer.Renderer.{Renderer}
-use Rattle.annotate_snippets.specs.declared.renderer.text_form.PreviousSuggestion as code
 
 -- the suggestion right before an element: the path of its file, and its number in a row of suggestions for that, from 1
 pub record PreviousSuggestion : Type 0 where
   pub path : Option (List ℕ)
   pub number : ℕ
-
--- what the code knows of it
-abbrev pub before_seen : Option code.PreviousSuggestion → Option PreviousSuggestion
-before_seen before = option_map (λ (b : code.PreviousSuggestion). record { path = option_copied b.path; number = b.number }) before
 
 -- whether a suggestion for this path goes on a row of suggestions, and its number there
 abbrev pub continues : Option PreviousSuggestion → Option (List ℕ) → Bool

@@ -7,7 +7,7 @@ use Rattle.snippet_style.specs.Cell.{Cell}
 use Rattle.snippet_style.specs.declared.role.LevelInner.{LevelInner}
 use Rattle.snippet_style.specs.declared.stylesheet.Stylesheet.{Stylesheet}
 use Rattle.output_stream.specs.Part.{AppendsPart}
-use Rattle.annotate_snippets.specs.Laws.Forms.{IsTextUnder}
+use Rattle.annotate_snippets.specs.WithLaws.{IsTextUnder}
 use Rattle.annotate_snippets.specs.Forms.{ShowsForm}
 use Rattle.annotate_snippets.specs.Lent.{held}
 use Rattle.annotate_snippets.specs.Page.{GroupPage, group_rows}

@@ -4,7 +4,7 @@ use Rattle.serde_json.specs.Data.{Data}
 use Rattle.serde_json.specs.Read.{read}
 use Rattle.annotate_snippets.specs.Article.{IsReportArticle}
 use Rattle.annotate_snippets.specs.Fault.{first_refusal, refusal_in}
-use Rattle.annotate_snippets.specs.Laws.Forms.{TextsWithLaws}
+use Rattle.annotate_snippets.specs.WithLaws.{TextsWithLaws}
 use Rattle.annotate_snippets.specs.Refusal.{refusal_text}
 use Rattle.annotate_snippets.specs.Html.{HasHtmlLaws, IsReportHtml}
 use Rattle.annotate_snippets.specs.Markdown.{HasMarkdownLaws, IsReportMarkdown}

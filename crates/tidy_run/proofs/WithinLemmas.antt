@@ -17,7 +17,8 @@ use Rattle.annotate_snippets.specs.declared.snippet.Patch.{Patch}
 use Rattle.annotate_snippets.specs.declared.snippet.Snippet.{Snippet}
 use Rattle.annotate_snippets.specs.Edits.{edit_of}
 use Rattle.annotate_snippets.specs.TrimmedEdits.{AreApart}
-use Rattle.annotate_snippets.specs.Fault.{IsGroupWithinBounds, element_faults, faults_from}
+use Rattle.annotate_snippets.specs.Fault.{element_faults, faults_from}
+use Rattle.annotate_snippets.specs.Drawable.{IsGroupWithinBounds}
 use Rattle.annotate_snippets.specs.Fits.{AnnotationFits, ElementFits, IdFits, LevelFits, PatchFits, TextFits, TitleFits}
 use Rattle.annotate_snippets.specs.Levels.{help_level, warning_level}
 use Rattle.annotate_snippets.specs.Span.{span_fault}

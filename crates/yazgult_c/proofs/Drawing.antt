@@ -5,7 +5,8 @@ use Rattle.std.specs.Prelude.{IfSome, IfOk, IsOkUnless, alloc_error}
 use Rattle.annotate_snippets.specs.declared.snippet.Group.{Group}
 use Rattle.snippet_style.specs.declared.stylesheet.Stylesheet.{Stylesheet}
 use Rattle.annotate_snippets.specs.Fault.{IsWithinBounds, first_refusal}
-use Rattle.annotate_snippets.specs.Laws.Forms.{HasLaws, TextsWithLaws}
+use Rattle.annotate_snippets.specs.Laws.Forms.{HasLaws}
+use Rattle.annotate_snippets.specs.WithLaws.{TextsWithLaws}
 use Rattle.annotate_snippets.specs.Forms.{TextsShown}
 use Rattle.annotate_snippets.specs.Fits.{ReportFits}
 use Rattle.annotate_snippets.specs.declared.renderer.Renderer.{Renderer}

@@ -6,7 +6,7 @@ use Rattle.std.specs.declared.alloc.Global.{Global}
 use Rattle.std.specs.List.{flat_map}
 use Rattle.snippet_style.specs.Stylesheet.{plain_sheet}
 use Rattle.annotate_snippets.specs.Fault.{first_refusal}
-use Rattle.annotate_snippets.specs.Laws.Forms.{TextsWithLaws}
+use Rattle.annotate_snippets.specs.WithLaws.{TextsWithLaws}
 use Rattle.annotate_snippets.specs.Refusal.{refusal_text}
 use Rattle.annotate_snippets.specs.declared.renderer.Renderer.{Renderer}
 use Rattle.annotate_snippets.specs.declared.renderer.error.RenderError.{RenderError}

@@ -1,6 +1,6 @@
 -- The laws of a report's text, in each form: what follows of it for who reads it.
-use Rattle.std.specs.Prelude.{◌≡◌, ℕ, true, false, List, [], ◌++◌, All, Some, codes, encode_utf8_all, ◌∷◌}
-use Rattle.std.specs.List.{AllZip, list_any, slice_get, slice_index_or}
+use Rattle.std.specs.Prelude.{◌≡◌, ℕ, true, false, List, [], ◌++◌, All, Some, codes, encode_utf8_all}
+use Rattle.std.specs.List.{list_any, slice_get, slice_index_or}
 use Rattle.std.specs.Cow.{cow_str_bytes}
 use Rattle.snippet_model.specs.Heading.{heading_of_title}
 use Rattle.snippet_model.specs.Trusted.{trusted_texts}
@@ -30,7 +30,7 @@ use Rattle.annotate_snippets.specs.AsSet.{IsAsSet, IsMaskedFor, adds_context, wr
 use Rattle.annotate_snippets.specs.Laws.Context.{ShowsLinesAround}
 use Rattle.annotate_snippets.specs.Fault.{form_of}
 use Rattle.annotate_snippets.specs.Laws.Feeds.{HasOneLineTexts, page_lines, text_lines}
-use Rattle.annotate_snippets.specs.Forms.{links_in, plain_in, short_links, ShowsForm, TextsShown}
+use Rattle.annotate_snippets.specs.Forms.{links_in, plain_in, short_links}
 use Rattle.annotate_snippets.specs.GraphicForm.{graphic_form}
 use Rattle.annotate_snippets.specs.Gutter.{numbered_source}
 use Rattle.annotate_snippets.specs.Page.{page_text}
@@ -103,11 +103,6 @@ pub record LawsIn (form : Form) (r : Renderer) (groups : List Group) (sheet : St
   pub woven : IsWoven sheet text (plain_in form r groups) (links_in form r groups)
   pub plain : links_in form r groups ≡ [] → is_plain_sheet sheet ≡ true → text ≡ encode_utf8_all (plain_in form r groups)
 
--- a text shows a report in a form under a sheet, and has the laws of that form
-pub record IsTextUnder (form : Form) (r : Renderer) (groups : List Group) (sheet : Stylesheet) (text : List ℕ) : Type 0 where
-  pub shows : ShowsForm form r groups (sheet ∷ []) (text ∷ [])
-  pub laws : LawsIn form r groups sheet text
-
 -- a text has the laws of the form that the renderer is set to, for the report that is shown in place of one. Where the renderer is set to
 -- show line feeds, no label, path, id and name of a level of that holds one; so in the graphic form the lines of its plain text are the rows
 -- of its page, and in the text form those of its paragraphs, whatever the report holds. Where it is set to mask controls, no text of that
@@ -129,8 +124,3 @@ pub record HasLaws (r : Renderer) (groups : List Group) (sheet : Stylesheet) (te
   pub masks : IsMaskedFor r.mask_controls r groups masked
   pub around : adds_context (form_of r) r ≡ true → ShowsLinesAround r.context_before r.context_after masked (graphic_form r shown)
   pub wrapped : wraps (form_of r) r ≡ true → AreRewrapped r masked shown
-
--- texts show a report, one under each of these sheets, and each has its laws: what `render_sheets` says of them
-pub record TextsWithLaws (r : Renderer) (groups : List Group) (sheets : List Stylesheet) (texts : List (List ℕ)) : Type 0 where
-  pub shows : TextsShown r groups sheets texts
-  pub laws : AllZip (HasLaws r groups) sheets texts

@@ -43,8 +43,7 @@ impl Renderer {
     /// [`HTML_PAGE_STYLESHEET`](crate::renderer::HTML_PAGE_STYLESHEET) hides from sight. `short_message`, `no_graphics`
     /// and the sheet aren't looked at.
     ///
-    /// Where `hyperlink` is set, the id in the heading links to its address, if that is one that `render_html` would
-    /// link to.
+    /// Where `hyperlink` is set, the id in the heading links to its address, if `render_html` would link to that.
     ///
     /// # Errors
     ///

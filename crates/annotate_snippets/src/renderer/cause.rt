@@ -11,7 +11,7 @@ ghost use Rattle.std.specs.Prelude.{◌≡◌, ◌+◌, ◌≤◌, ◌<◌, ◌^
 ghost use Rattle.std.specs.Cow.{cow_str_bytes};
 ghost use Rattle.snippet_model.specs.declared.snippet.Element.TheVariants.{Cause};
 ghost use Rattle.snippet_parts.specs.Kept.{shown_lines};
-ghost use Rattle.annotate_snippets.specs.DrawnReport.{HasRoomFor};
+ghost use Rattle.annotate_snippets.specs.ElementRoom.{HasRoomFor};
 ghost use Rattle.annotate_snippets.specs.GraphicForm.{element_rows, rows_of_lines};
 ghost use Rattle.annotate_snippets.specs.Page.{cells_of};
 ghost use Rattle.annotate_snippets.specs.PreparedReport.{IsCausePrepared};

@@ -1,9 +1,10 @@
 //! The texts of a report in the forms that are drawn whole before they are printed: the short form and the text form.
 ghost use Rattle.std.specs.Prelude.{◌≡◌, All, None, IfOk, map, string_bytes};
 ghost use Rattle.std.specs.List.{AllZip};
-ghost use Rattle.annotate_snippets.specs.DrawnReport.{IsShortForm};
 ghost use Rattle.annotate_snippets.specs.Fault as fault;
-ghost use Rattle.annotate_snippets.specs.Laws.Forms.{IsTextUnder, LawsIn};
+ghost use Rattle.annotate_snippets.specs.Laws.Forms.{LawsIn};
+ghost use Rattle.annotate_snippets.specs.WithLaws.{IsTextUnder};
+ghost use Rattle.annotate_snippets.specs.Walk.{IsShortForm};
 ghost use Rattle.annotate_snippets.specs.Forms.{ShowsForm};
 ghost use Rattle.annotate_snippets.specs.PreparedReport.{IsGroupDrawable};
 ghost use Rattle.annotate_snippets.specs.declared.renderer.form.Form.TheVariants as form;

@@ -2,7 +2,8 @@
 ghost use Rattle.std.specs.Prelude.{◌≡◌, IfOk, map};
 ghost use Rattle.std.specs.Option.{option_copied};
 ghost use Rattle.annotate_snippets.specs.ElementContext as spec;
-ghost use Rattle.annotate_snippets.specs.ElementContext.{is_end, is_before_message, is_first_group, position_of_group};
+ghost use Rattle.annotate_snippets.specs.ElementContext.{is_end, is_before_message, position_of_group};
+ghost use Rattle.annotate_snippets.specs.Walk.{is_first_group};
 ghost use Rattle.annotate_snippets.specs.PreparedReport.{AreAround, element_of};
 
 use crate::renderer::paths::{is_same_file, path_of};

@@ -3,9 +3,9 @@ ghost use Rattle.std.specs.Prelude.{◌≡◌, ◌+◌, ◌<◌, ◌++◌, ◌&&
 ghost use Rattle.std.specs.List.{flat_map};
 ghost use Rattle.std.specs.Option.{option_copied};
 ghost use Rattle.snippet_style.specs.Cell.{Cell};
-ghost use Rattle.annotate_snippets.specs.ElementContext.{CanStandIn, begins_in_row_above, is_end};
-ghost use Rattle.annotate_snippets.specs.DrawnReport.{HasRoomFor, shared_row};
-ghost use Rattle.annotate_snippets.specs.GraphicForm.{drawn_rows};
+ghost use Rattle.annotate_snippets.specs.ElementContext.{is_end};
+ghost use Rattle.annotate_snippets.specs.ElementRoom.{CanStandIn, begins_in_row_above, HasRoomFor, shared_row};
+ghost use Rattle.annotate_snippets.specs.ElementRoom.{drawn_rows};
 ghost use Rattle.annotate_snippets.specs.Page.{cells_of};
 ghost use Rattle.annotate_snippets.specs.PreparedReport.{IsElementPrepared, element_of};
 ghost use Rattle.annotate_snippets.specs.Printing.{rows_of_elements};

@@ -60,8 +60,7 @@ pub enum RenderError {
 }
 
 impl RenderError {
-    /// What it prints, as a value that has a promise: these words, character for character. `Display` of the refusal
-    /// itself prints the same, and has none.
+    /// What it prints, as a value that has a promise, character for character. `Display` prints the same, and has none.
     pub fn words(&self) -> RefusalWords<'_>
         ensures words { result.refusal.now ≡ self.now }
     {

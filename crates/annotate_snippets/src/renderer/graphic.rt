@@ -11,7 +11,7 @@ ghost use Rattle.std.specs.List.{filter_map};
 ghost use Rattle.std.specs.Option.{option_copied};
 ghost use Rattle.annotate_snippets.specs.ElementContext as spec;
 ghost use Rattle.annotate_snippets.specs.ElementContext.{file_of_group, position_of_group};
-ghost use Rattle.annotate_snippets.specs.DrawnReport.{HasRoomFor};
+ghost use Rattle.annotate_snippets.specs.ElementRoom.{HasRoomFor};
 ghost use Rattle.annotate_snippets.specs.GraphicForm.{graphic_form, group_page};
 ghost use Rattle.annotate_snippets.specs.Gutter.{gutter_of_report, layout_of_group};
 ghost use Rattle.annotate_snippets.specs.Laws.Page.{PageLaws};

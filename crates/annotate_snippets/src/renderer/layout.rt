@@ -1,6 +1,6 @@
 //! Where the parts of a group's rows stand.
 ghost use Rattle.std.specs.Prelude.{◌≡◌, ◌≤◌};
-ghost use Rattle.annotate_snippets.specs.DrawnReport.{code_after};
+ghost use Rattle.annotate_snippets.specs.ElementRoom.{code_after};
 ghost use Rattle.snippet_style.specs.Bounds.{IsDepth};
 
 use snippet_grid::Layout;

@@ -1,7 +1,7 @@
 //! The text of a report under one sheet. In the graphic form each group is printed while it is drawn.
 ghost use Rattle.std.specs.Prelude.{◌≡◌, ◌++◌, [], ◌∷◌, All, IfOk, None, string_bytes, if◌then◌else◌};
 ghost use Rattle.annotate_snippets.specs.Fault as spec;
-ghost use Rattle.annotate_snippets.specs.Laws.Forms.{IsTextUnder};
+ghost use Rattle.annotate_snippets.specs.WithLaws.{IsTextUnder};
 ghost use Rattle.annotate_snippets.specs.PreparedReport.{IsGroupDrawable};
 ghost use Rattle.annotate_snippets.specs.declared.renderer.form.Form.TheVariants as form;
 

@@ -1,8 +1,8 @@
 //! What takes up the groups of a report while they are drawn: a text, several, a writer.
 ghost use Rattle.std.specs.Prelude.{◌≡◌, [], All, IfErr, IfOk, OnOk};
 ghost use Rattle.std.specs.Option.{option_copied};
-ghost use Rattle.annotate_snippets.specs.DrawnReport.{HasRoomFor};
-ghost use Rattle.annotate_snippets.specs.ElementContext.{is_first_group};
+ghost use Rattle.annotate_snippets.specs.Walk.{is_first_group};
+ghost use Rattle.annotate_snippets.specs.ElementRoom.{HasRoomFor};
 ghost use Rattle.annotate_snippets.specs.GraphicForm.{group_page};
 ghost use Rattle.annotate_snippets.specs.PreparedReport.{IsGroupPrepared, element_of};
 

@@ -3,7 +3,8 @@
 ghost use Rattle.std.specs.Prelude.{◌≡◌, [], ◌∷◌, All, IfOk, None, OnOk, map, string_bytes};
 ghost use Rattle.std.specs.List.{AllZip};
 ghost use Rattle.annotate_snippets.specs.Fault as spec;
-ghost use Rattle.annotate_snippets.specs.Laws.Forms.{IsTextUnder, LawsIn};
+ghost use Rattle.annotate_snippets.specs.Laws.Forms.{LawsIn};
+ghost use Rattle.annotate_snippets.specs.WithLaws.{IsTextUnder};
 ghost use Rattle.annotate_snippets.specs.Forms.{ShowsForm};
 ghost use Rattle.annotate_snippets.specs.PreparedReport.{IsGroupDrawable};
 ghost use Rattle.annotate_snippets.specs.Written.{AddsToPage, IsEmptyPage};

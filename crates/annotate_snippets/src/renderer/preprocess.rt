@@ -3,7 +3,8 @@
 ghost use Rattle.std.specs.Prelude.{◌≡◌, ◌∷◌, ◌++◌, [], All, IfOk, OnOk, filter, fold, map, max};
 ghost use Rattle.std.specs.Option.{is_some};
 ghost use Rattle.annotate_snippets.specs.ElementContext as spec;
-ghost use Rattle.annotate_snippets.specs.ElementContext.{is_drawn, share_file};
+ghost use Rattle.annotate_snippets.specs.ElementContext.{share_file};
+ghost use Rattle.annotate_snippets.specs.Walk.{is_drawn};
 ghost use Rattle.annotate_snippets.specs.Gutter.{depth_of_element};
 ghost use Rattle.annotate_snippets.specs.Gutter as gutter;
 ghost use Rattle.annotate_snippets.specs.PreparedReport.{IsCausePrepared, IsDrawable, IsElementDrawable};

@@ -21,7 +21,7 @@ ghost use Rattle.snippet_titles.specs.HeadingRows.{heading_rows};
 ghost use Rattle.snippet_titles.specs.PrintedHeading.{IsPlainHeading, title_rows};
 ghost use Rattle.annotate_snippets.specs.ElementContext as spec;
 ghost use Rattle.annotate_snippets.specs.ElementContext.{drawn_elements};
-ghost use Rattle.annotate_snippets.specs.DrawnReport.{HasRoomFor};
+ghost use Rattle.annotate_snippets.specs.ElementRoom.{HasRoomFor};
 ghost use Rattle.annotate_snippets.specs.GraphicForm.{group_page};
 ghost use Rattle.annotate_snippets.specs.Page.{cells_of, group_rows};
 ghost use Rattle.annotate_snippets.specs.PreparedReport.{IsElementPrepared, IsGroupPrepared, element_of};

@@ -180,8 +180,7 @@ impl Renderer {
     }
 
     /// Whether a report is drawn on one line, for editors and logs: the title of its first group, after the place of
-    /// its first annotated snippet and before the labels of that. Such a report needs a group, and its first group a
-    /// title.
+    /// its first annotated snippet and before the labels of that. Such a report needs a first group, with a title.
     pub fn short_message(mut self, short_message: bool) -> Renderer
         ensures changed { result ≡ record self { short_message = short_message } }
     {
@@ -189,8 +188,7 @@ impl Renderer {
         self
     }
 
-    /// Whether a report is written without graphics, for speech and Braille; where this is set, `short_message` isn't
-    /// looked at.
+    /// Whether a report is written without graphics, for speech and Braille; `short_message` isn't looked at then.
     pub fn no_graphics(mut self, no_graphics: bool) -> Renderer
         ensures changed { result ≡ record self { no_graphics = no_graphics } }
     {
@@ -208,8 +206,7 @@ impl Renderer {
     ///
     /// They are drawn as they are unless this says otherwise. Nothing changes in sources, in patches, and in the texts
     /// of titles and messages, each line of which has a row. In the text form, where what a patch puts in has none, its
-    /// line feeds are shown too: there each line begins a title, a message, a place or an edit, or is a further line of
-    /// a title or message.
+    /// line feeds are too: there each line begins a title, message, place or edit, or goes on with a title or message.
     pub fn show_line_feeds(mut self, show_line_feeds: bool) -> Renderer
         ensures changed { result ≡ record self { show_line_feeds = show_line_feeds } }
     {
@@ -232,8 +229,7 @@ impl Renderer {
     ///                                    |
     /// ```
     ///
-    /// None are shown unless this says otherwise, nor in the short form and the text form, nor of suggestions. Of a
-    /// source that ends before, there are fewer.
+    /// None are shown unless this says so, nor in the short or text form, of suggestions, or past a source's ends.
     pub fn context_lines(mut self, before: usize, after: usize) -> Renderer
         ensures changed { result ≡ record self { context_before = before; context_after = after } }
     {

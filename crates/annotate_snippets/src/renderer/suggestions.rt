@@ -14,10 +14,9 @@ ghost use Rattle.snippet_splice.specs.ShownText.{first_start};
 ghost use Rattle.snippet_suggest.specs.Given.{trimmed_of};
 ghost use Rattle.snippet_suggest.specs.PreparedSuggestion.{IsPrepared};
 ghost use Rattle.annotate_snippets.specs.Gutter.{numbered_source};
-ghost use Rattle.annotate_snippets.specs.DrawnReport.{shared_row};
-ghost use Rattle.annotate_snippets.specs.GraphicForm.{drawn_rows};
-ghost use Rattle.annotate_snippets.specs.ElementContext.{HasPathFor, begins_in_row_above};
+ghost use Rattle.annotate_snippets.specs.ElementRoom.{shared_row, drawn_rows, HasPathFor, begins_in_row_above};
 ghost use Rattle.annotate_snippets.specs.RowsWithoutSource as spec;
+ghost use Rattle.annotate_snippets.specs.ElementRoom as room;
 
 use crate::renderer::Renderer;
 use crate::renderer::element_context::ElementContext;
@@ -69,7 +68,7 @@ fn draw_path(
 ) -> Result<(), AllocError>
     requires prepared { IsPrepared suggestion.now }
     ensures rows { OnOk result (buffer.new ≡ buffer.old
-        ++ spec.path_head renderer.now layout first suggestion.now.snippet.now) }
+        ++ room.path_head renderer.now layout first suggestion.now.snippet.now) }
 {
     let Some(path) = &suggestion.snippet.path else {
         return Ok(());

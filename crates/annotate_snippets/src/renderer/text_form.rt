@@ -8,9 +8,11 @@ ghost use Rattle.std.specs.Prelude.{◌≡◌, ◌≢◌, ◌++◌, ◌∷◌, [
 ghost use Rattle.std.specs.Prelude.{true};
 ghost use Rattle.std.specs.Option.{option_copied};
 ghost use Rattle.annotate_snippets.specs.ElementContext as around;
+ghost use Rattle.annotate_snippets.specs.Walk as walk;
 ghost use Rattle.annotate_snippets.specs.PreparedReport.{IsDrawable, IsElementDrawable, IsGroupDrawable};
 ghost use Rattle.annotate_snippets.specs.TextForm as spec;
-ghost use Rattle.annotate_snippets.specs.TextForm.{before_seen, element_form, elements_form, group_form};
+ghost use Rattle.annotate_snippets.specs.TextForm.{element_form, elements_form, group_form};
+ghost use Rattle.annotate_snippets.specs.Walk.{before_seen};
 ghost use Rattle.snippet_model.specs.declared.snippet.Element.TheVariants.{Suggestion};
 ghost use Rattle.snippet_model.specs.declared.snippet.Group.{Group};
 ghost use Rattle.annotate_snippets.specs.ElementContext.{file_of_group};
@@ -97,7 +99,7 @@ fn add_group<'a>(
 
 /// Whether an element is drawn: a snippet of patches without patches is left out.
 fn is_drawn(element: &Element<'_>) -> bool
-    ensures value { result ≡ around.is_drawn element.now }
+    ensures value { result ≡ walk.is_drawn element.now }
 {
     match element {
         Element::Suggestion(snippet) => !snippet.markers.is_empty(),
@@ -130,7 +132,7 @@ fn add_elements<'a>(
     requires drawable { All IsElementDrawable elements.now }
     ensures added { OnOk result (form.new
         ≡ form.old ++ elements_form renderer.now (option_copied file.entry) None
-        (filter around.is_drawn elements.now)) }
+        (filter walk.is_drawn elements.now)) }
 {
     let mut before = None;
     for (i, element) in elements.iter().enumerate() {
@@ -150,7 +152,7 @@ fn add_elements<'a>(
 
 /// Whether the next of the later elements that is drawn is a suggestion for the file of this one.
 fn is_followed(element: &Element<'_>, later: &[Element<'_>]) -> bool
-    ensures value { result ≡ around.first_two_share (element.now ∷ filter around.is_drawn later.now) }
+    ensures value { result ≡ around.first_two_share (element.now ∷ filter walk.is_drawn later.now) }
 {
     let Element::Suggestion(first) = element else {
         return false;
@@ -182,7 +184,7 @@ fn add_element<'a>(
     element: &'a Element<'a>,
 ) -> Result<(), AllocError>
     requires drawable { IsElementDrawable element.now }
-    requires drawn { around.is_drawn element.now ≡ true }
+    requires drawn { walk.is_drawn element.now ≡ true }
     requires small { IfSome context.before (λ b. HasNext b.number) }
     ensures added { OnOk result (form.new ≡ form.old ++ element_form renderer.now (option_copied context.entry.file)
         (before_seen context.entry.before) context.entry.followed element.now) }

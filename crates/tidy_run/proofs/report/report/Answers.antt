@@ -5,7 +5,7 @@ use Rattle.tidy_run.specs.declared.rule.Edit.{Edit}
 use Rattle.tidy_run.proofs.Mapped.{mapped-at, mapped-length}
 use Rattle.tidy_run.proofs.ToldLemmas.{told-next}
 use Rattle.tidy_run.proofs.WithinLemmas.{few-findings, told-within}
-use Rattle.annotate_snippets.specs.Fault.{IsGroupWithinBounds}
+use Rattle.annotate_snippets.specs.Drawable.{IsGroupWithinBounds}
 use Rattle.annotate_snippets.proofs.BoundsLaws.{within-bounds}
 use Rattle.std.proofs.lemmas.List.Elements.{All-append, All-nil}
 use Rattle.tidy_run.proofs.report.report.Goals as goal

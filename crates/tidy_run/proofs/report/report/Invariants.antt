@@ -1,6 +1,6 @@
 use Rattle.std.proofs.Common.{All, take}
 use Rattle.std.specs.List.{flat_map}
-use Rattle.annotate_snippets.specs.Fault.{IsGroupWithinBounds}
+use Rattle.annotate_snippets.specs.Drawable.{IsGroupWithinBounds}
 use Rattle.tidy_run.specs.Findings.{findings_of}
 use Rattle.tidy_run.specs.Report.{IsReportOf, told_of}
 use Rattle.tidy_run.proofs.report.report.Given as goal

@@ -5,7 +5,7 @@ use Rattle.snippet_model.specs.declared.snippet.Group.{Group}
 use Rattle.snippet_style.specs.declared.stylesheet.Stylesheet.{Stylesheet}
 use Rattle.snippet_text_form.specs.Form.{form_bytes, form_text}
 use Rattle.snippet_text_form.specs.FormLinks.{form_links}
-use Rattle.annotate_snippets.specs.Laws.Forms.{IsTextUnder}
+use Rattle.annotate_snippets.specs.WithLaws.{IsTextUnder}
 use Rattle.annotate_snippets.specs.declared.renderer.form.Form.TheVariants.{Text}
 use Rattle.annotate_snippets.proofs.ReportLemmas.{IfOk-both}
 use Rattle.annotate_snippets.proofs.TextShown.{form-text, text-under}

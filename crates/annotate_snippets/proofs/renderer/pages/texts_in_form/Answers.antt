@@ -4,7 +4,8 @@ use Rattle.std.specs.List.{AllZip}
 use Rattle.snippet_model.specs.declared.snippet.Group.{Group}
 use Rattle.snippet_model.proofs.ZipLemmas.{AllZip-weaker}
 use Rattle.snippet_style.specs.declared.stylesheet.Stylesheet.{Stylesheet}
-use Rattle.annotate_snippets.specs.Laws.Forms.{IsTextUnder, LawsIn}
+use Rattle.annotate_snippets.specs.Laws.Forms.{LawsIn}
+use Rattle.annotate_snippets.specs.WithLaws.{IsTextUnder}
 use Rattle.annotate_snippets.specs.Forms.{ShowsForm}
 use Rattle.annotate_snippets.specs.declared.renderer.form.Form.{Form}
 use Rattle.annotate_snippets.specs.declared.renderer.form.Form.TheVariants.{Graphic}

@@ -2,7 +2,7 @@ use Rattle.std.proofs.Common.{◌∙◌, [], ap, map, subst, sym}
 use Rattle.std.specs.List.{filter}
 use Rattle.std.proofs.lemmas.List.{take_all}
 use Rattle.std.proofs.lemmas.List.Elements.{All-nil, All-same}
-use Rattle.annotate_snippets.specs.ElementContext.{is_drawn}
+use Rattle.annotate_snippets.specs.Walk.{is_drawn}
 use Rattle.annotate_snippets.specs.PreparedReport.{IsElementDrawable, IsElementPrepared, element_of}
 use Rattle.annotate_snippets.proofs.PreparedLemmas.{AreDrawnPrepared-more}
 use Rattle.annotate_snippets.proofs.renderer.preprocess.prepare_elements.Goals as goal
