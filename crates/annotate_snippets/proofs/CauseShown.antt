@@ -20,7 +20,7 @@ use Rattle.snippet_parts.specs.Location.{IsLocation, primary_place}
 use Rattle.snippet_model.specs.FreeRows.{IsFree}
 use Rattle.snippet_parts.specs.declared.location.Location.{Location}
 use Rattle.snippet_parts.proofs.LocationLaws.{primary_place-location}
-use Rattle.snippet_strokes.specs.Bars.{HasBarRoom}
+use Rattle.snippet_strokes.specs.DrawnBars.{HasBarRoom}
 use Rattle.snippet_strokes.specs.declared.snippet.LineView.{LineView}
 use Rattle.snippet_strokes.proofs.LineFacts.{CanBeShown}
 use Rattle.snippet_strokes.proofs.SeenLines.{infos_free}

@@ -13,7 +13,8 @@ use Rattle.snippet_lines.specs.Number.{shown_number}
 use Rattle.snippet_lines.specs.declared.number.LineNumbers.{LineNumbers}
 use Rattle.snippet_grid.specs.Grid.{cell_at}
 use Rattle.snippet_style.specs.Glyphs.{strokes_of, underline_role}
-use Rattle.snippet_strokes.specs.Bars.{Bar, HasOwnDepth, bars_apart, ends_of_bars}
+use Rattle.snippet_strokes.specs.Bars.{Bar, bars_apart, ends_of_bars}
+use Rattle.snippet_strokes.specs.DrawnBars.{HasOwnDepth}
 use Rattle.snippet_strokes.specs.SourceRows.{window_cells}
 use Rattle.snippet_strokes.proofs.LineFacts.{IsSourceRow, ShowsLine}
 use Rattle.snippet_strokes.proofs.BarLaws.{bar_past}

@@ -12,7 +12,8 @@ use Rattle.snippet_parts.specs.declared.entries.LineAnnotation.{LineAnnotation}
 use Rattle.snippet_labels.specs.PlacedEntries.{shifted}
 use Rattle.snippet_labels.specs.Positions.{line_positions, look_counts, placed_of, positions}
 use Rattle.snippet_labels.specs.declared.positions.PlacedEntry.{PlacedEntry}
-use Rattle.snippet_strokes.specs.Bars.{Bar, ends_of_bars, is_whole_line}
+use Rattle.snippet_strokes.specs.Bars.{Bar, ends_of_bars}
+use Rattle.snippet_strokes.specs.DrawnBars.{is_whole_line}
 use Rattle.annotate_snippets.specs.Laws.Bars.{bar_beside}
 use Rattle.annotate_snippets.specs.Page.{Other}
 use Rattle.snippet_strokes.specs.Drawing.{row_count}

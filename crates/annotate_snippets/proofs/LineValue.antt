@@ -13,8 +13,10 @@ use Rattle.snippet_parts.specs.OnLine.{seen_kept}
 use Rattle.snippet_parts.specs.declared.entries.AnnotatedLineInfo.{AnnotatedLineInfo}
 use Rattle.snippet_parts.specs.declared.entries.LineAnnotation.{LineAnnotation}
 use Rattle.snippet_window.specs.declared.margin.Margin.{Margin}
-use Rattle.snippet_strokes.specs.Bars.{Bar, open_below, open_past}
-use Rattle.snippet_strokes.specs.Snippet.{gap_row, gap_rows, info_rows, infos_rows, shown_rows}
+use Rattle.snippet_strokes.specs.Bars.{Bar, open_past}
+use Rattle.snippet_strokes.specs.Snippet.{gap_row, shown_rows}
+use Rattle.snippet_strokes.specs.InfoRows.{gap_rows, info_rows, infos_rows}
+use Rattle.snippet_strokes.specs.DrawnBars.{open_below}
 use Rattle.snippet_strokes.specs.declared.snippet.LineView.{LineView}
 use Rattle.annotate_snippets.specs.declared.renderer.Renderer.{Renderer}
 use Rattle.snippet_grid.specs.Layout.{Layout}

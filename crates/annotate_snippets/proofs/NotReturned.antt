@@ -10,7 +10,7 @@ use Rattle.snippet_model.specs.declared.snippet.Element.{Element}
 use Rattle.snippet_model.specs.declared.snippet.Element.TheVariants as element
 use Rattle.snippet_model.specs.declared.snippet.Group.{Group}
 use Rattle.snippet_model.specs.declared.snippet.Patch.{Patch}
-use Rattle.snippet_grid.specs.Grid.{WritesCells}
+use Rattle.snippet_grid.specs.Calls.{WritesCells}
 use Rattle.snippet_style.specs.Cell.{Cell, text_cells}
 use Rattle.snippet_style.specs.declared.role.ElementStyle.TheVariants.{NoStyle}
 use Rattle.snippet_splice.specs.Edits.{Edit, trimmed_edit, trimmed_edits}

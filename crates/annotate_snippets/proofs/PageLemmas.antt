@@ -19,7 +19,8 @@ use Rattle.snippet_lines.specs.Lines.{source_lines}
 use Rattle.snippet_lines.specs.Number.{shown_number}
 use Rattle.snippet_lines.specs.Span.{IsSpan}
 use Rattle.snippet_labels.specs.PlacedEntries.{shifted}
-use Rattle.snippet_strokes.specs.Bars.{Bar, HasBarRoom, open_below, open_past}
+use Rattle.snippet_strokes.specs.Bars.{Bar, open_past}
+use Rattle.snippet_strokes.specs.DrawnBars.{HasBarRoom, open_below}
 use Rattle.snippet_strokes.specs.Snippet.{gap_row}
 use Rattle.snippet_strokes.specs.StrokeRows.{IsElisionRow}
 use Rattle.snippet_strokes.specs.declared.snippet.LineView.{LineView}

@@ -35,9 +35,8 @@ use Rattle.snippet_parts.specs.Mark.{is_marked_on, is_marking, is_single_line, i
 use Rattle.snippet_parts.specs.Marked.{first_line, last_line}
 use Rattle.snippet_window.specs.Measures.{StandsClear, margin_of}
 use Rattle.snippet_parts.specs.Entries.{is_wide_entry}
-use Rattle.snippet_labels.specs.PlacedEntries.{HasPlace}
-use Rattle.snippet_strokes.specs.Drawable.{AreDrawable}
-use Rattle.snippet_strokes.specs.EntryMarks.{HasBarCell, HasBarCellAt}
+use Rattle.snippet_strokes.specs.Drawable.{AreDrawable, HasBarCell, HasBarCellAt}
+use Rattle.snippet_labels.specs.Placing.{HasPlace}
 use Rattle.snippet_grid.specs.Layout.{Layout}
 use Rattle.annotate_snippets.specs.ElementRoom.{code_after}
 use Rattle.annotate_snippets.proofs.Ascending.{IsAscending, ascending}

@@ -11,7 +11,8 @@ use Rattle.snippet_style.specs.Stylesheet.{style_of}
 use Rattle.snippet_style.specs.declared.role.LevelInner.{LevelInner}
 use Rattle.snippet_style.specs.declared.style.Style.{Style}
 use Rattle.snippet_style.specs.declared.stylesheet.Stylesheet.{Stylesheet}
-use Rattle.snippet_grid.specs.Woven.{Char, LinkEnd, LinkTo, Opening, Piece, Prints, PrintsCells, PrintsFurther, PrintsRows, Reset, next_link, piece_text}
+use Rattle.snippet_grid.specs.Woven.{Char, LinkEnd, LinkTo, Opening, Piece, Prints, PrintsCells, Reset, next_link, piece_text}
+use Rattle.snippet_grid.specs.Weaving.{PrintsFurther, PrintsRows}
 use Rattle.snippet_grid.proofs.PrintsPieces.{Prints-from_pieces}
 use Rattle.snippet_grid.proofs.WeaveLemmas.{Url, none≢some, some_same}
 use Rattle.annotate_snippets.specs.Page.{group_rows}

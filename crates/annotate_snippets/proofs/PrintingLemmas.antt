@@ -9,7 +9,8 @@ use Rattle.std.proofs.lemmas.Str.Ascii.{IsAscii-from_all}
 use Rattle.std.proofs.lemmas.List.{append_assoc, append-nil, length-append}
 use Rattle.snippet_grid.proofs.WeaveLemmas.{further-append}
 use Rattle.snippet_grid.specs.Layout.{Layout}
-use Rattle.snippet_grid.specs.Woven.{Char, Piece, PrintsFurther, WeavesRows, piece_text}
+use Rattle.snippet_grid.specs.Woven.{Char, Piece, piece_text}
+use Rattle.snippet_grid.specs.Weaving.{PrintsFurther, WeavesRows}
 use Rattle.snippet_model.specs.Heading.{Heading, heading_of_message}
 use Rattle.snippet_model.specs.declared.snippet.Element.{Element}
 use Rattle.snippet_model.specs.declared.snippet.Element.TheVariants.{Message}

@@ -23,7 +23,8 @@ use Rattle.snippet_parts.specs.Mark.{touches}
 use Rattle.snippet_parts.specs.Marked.{first_line, last_line}
 use Rattle.snippet_parts.proofs.AmongLemmas.{Among}
 use Rattle.snippet_parts.proofs.EntryFacts.{depth-within}
-use Rattle.snippet_strokes.specs.Bars.{Bar, HasOwnDepth, bars_apart, ends_of_bars, has_depth}
+use Rattle.snippet_strokes.specs.Bars.{Bar, bars_apart, ends_of_bars}
+use Rattle.snippet_strokes.specs.DrawnBars.{HasOwnDepth, has_depth}
 use Rattle.snippet_strokes.specs.StrokeRows.{bare_elision_row}
 use Rattle.snippet_strokes.specs.EndBars.{BarEnds, IsNoBar}
 use Rattle.snippet_strokes.proofs.BarFacts.{BarBegins}

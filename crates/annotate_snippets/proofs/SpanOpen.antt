@@ -21,7 +21,8 @@ use Rattle.snippet_parts.proofs.AmongLemmas.{append_cases, filter_cases, in_orde
 use Rattle.snippet_parts.proofs.KeptPartLemmas.{lines_ordered}
 use Rattle.snippet_parts.proofs.MarkLemmas.{end-line, start-line}
 use Rattle.snippet_parts.proofs.ShownLemmas.{annotations-distinct}
-use Rattle.snippet_strokes.specs.Bars.{Bar, HasOwnDepth, bar_at, bars_apart, has_depth, open_past}
+use Rattle.snippet_strokes.specs.Bars.{Bar, bar_at, bars_apart, open_past}
+use Rattle.snippet_strokes.specs.DrawnBars.{HasOwnDepth, has_depth}
 use Rattle.snippet_strokes.proofs.AmongLaws.{all_from_among, among_contains, contains_among, filter_map_cases}
 use Rattle.annotate_snippets.proofs.SpanParts.{HasEnds, IsEndOf, end_of, ends_of, is_primary_at}
 use Rattle.snippet_parts.proofs.PartWords.{is_short, long_places, stands_before}

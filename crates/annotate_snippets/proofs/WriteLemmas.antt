@@ -11,7 +11,8 @@ use Rattle.std.proofs.Math.Seq.{take-append-add, take-append_seam}
 use Rattle.std.proofs.lemmas.List.{append_assoc, append-nil, length-append, take-append-le}
 use Rattle.std.proofs.lemmas.Bool.Decides.{nat_tests}
 use Rattle.std.proofs.lemmas.Slice.Zip.{AllZip-long}
-use Rattle.snippet_grid.specs.Woven.{WeavesRows, piece_text}
+use Rattle.snippet_grid.specs.Woven.{piece_text}
+use Rattle.snippet_grid.specs.Weaving.{WeavesRows}
 use Rattle.snippet_grid.proofs.PrintsPieces.{Prints-from_pieces}
 use Rattle.snippet_model.specs.declared.snippet.Group.{Group}
 use Rattle.snippet_model.proofs.ZipLemmas.{AllZip-last}

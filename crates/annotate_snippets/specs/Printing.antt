@@ -2,7 +2,7 @@
 use Rattle.std.specs.Prelude.{◌≡◌, ◌<◌, ◌-◌, ℕ, true, false, List, [], ◌++◌, Option, length, map, string_bytes}
 use Rattle.std.specs.List.{enumerate_from, slice_get}
 use Rattle.snippet_grid.specs.Layout.{Layout}
-use Rattle.snippet_grid.specs.Woven.{WeavesRows}
+use Rattle.snippet_grid.specs.Weaving.{WeavesRows}
 use Rattle.snippet_model.specs.declared.snippet.Element.{Element}
 use Rattle.snippet_style.specs.Cell.{Cell}
 use Rattle.snippet_style.specs.declared.role.LevelInner.{LevelInner}

@@ -3,8 +3,8 @@ use Rattle.std.proofs.Common.{◌≡◌, ℕ, ◌+◌, ◌-◌, ◌<◌, ◌≤�
 use Rattle.std.proofs.Common.{All}
 use Rattle.std.specs.List.{range_with_len}
 use Rattle.std.proofs.lemmas.Bool.{cases_eq, cases_lt}
-use Rattle.std.proofs.lemmas.List.{append-nil, append_assoc, drop_all, ext_get_or, get_or-drop, get_or-map, get_or-take, get_or_append_left, get_or_default, get_or_past}
-use Rattle.std.proofs.lemmas.List.{get_or_push, length-drop, length-map, length-take, length_push, same_lists, take_all}
+use Rattle.std.proofs.lemmas.List.{append-nil, append_assoc, drop_all, ext_get_or, get_or-drop, get_or-map, get_or-take, get_or_append_left, get_or_default}
+use Rattle.std.proofs.lemmas.List.{get_or_past, get_or_push, length-drop, length-map, length-take, length_push, same_lists, take_all}
 use Rattle.std.proofs.lemmas.List.Elements.{All-append, All-nil, All-push}
 use Rattle.std.proofs.lemmas.List.FromFn.{get_or-map-range_with_len, length-map-range_with_len}
 use Rattle.snippet_grid.proofs.CopyLemmas.{shown_past}

@@ -4,7 +4,8 @@ use Rattle.std.proofs.Common.{subst}
 use Rattle.std.proofs.lemmas.List.{places, same_lists, get_or-map, get_or_past, get_or-set_same, get_or-set_other, set-get_or, length-map, length-set}
 use Rattle.std.proofs.lemmas.Bool.{cases_lt, cases_eq}
 use Rattle.std.specs.List.{slice_index_or}
-use Rattle.snippet_grid.specs.Grid.{row_at, changed_within, cells_changed, ChangesCells}
+use Rattle.snippet_grid.specs.Grid.{row_at, changed_within}
+use Rattle.snippet_grid.specs.Calls.{cells_changed, ChangesCells}
 use Rattle.snippet_style.specs.Cell.{Cell, SPACE}
 
 -- a list keeps its length

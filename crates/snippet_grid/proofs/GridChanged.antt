@@ -13,7 +13,8 @@ use Rattle.snippet_grid.proofs.ShownLemmas.{pick, painted-grown}
 use Rattle.snippet_grid.proofs.SpanLemmas.{within_yes, within_before, within_after}
 use Rattle.snippet_grid.proofs.StretchLemmas.{stretch}
 use Rattle.snippet_grid.specs.Changes.{RowAt, ShowsSpan, is_within}
-use Rattle.snippet_grid.specs.Grid.{row_at, cell_at, cells_changed, ChangesCells}
+use Rattle.snippet_grid.specs.Grid.{row_at, cell_at}
+use Rattle.snippet_grid.specs.Calls.{cells_changed, ChangesCells}
 use Rattle.snippet_style.specs.Cell.{Cell, SPACE}
 use Rattle.snippet_grid.specs.Runs.{IsRun, IsRow, IsGrid, BeginsWith, EndsBy, FitIn, shown_cell, grid_shown}
 use Rattle.snippet_grid.specs.declared.runs.Run.{Run}

@@ -6,7 +6,8 @@ use Rattle.std.specs.List.{slice_index_or}
 use Rattle.snippet_style.proofs.CellLemmas.{length-written, slice_index_or-written_before, slice_index_or-written_inside, slice_index_or-written_after}
 use Rattle.snippet_style.proofs.CellLemmas.{written_end, written_last}
 use Rattle.snippet_style.specs.Cell.{Cell, SPACE, written}
-use Rattle.snippet_grid.specs.Grid.{row_at, cells_written, WritesCells}
+use Rattle.snippet_grid.specs.Grid.{row_at, cells_written}
+use Rattle.snippet_grid.specs.Calls.{WritesCells}
 
 -- writing below all rows appends one
 pub cells_written_below : (rows : List (List Cell)) (at : ℕ) (cells : List Cell)

@@ -12,7 +12,8 @@ use Rattle.snippet_grid.proofs.GridLemmas.{WritesCells-cells_written}
 use Rattle.snippet_style.proofs.CellLemmas.{length-text_cells, slice_index_or-text_cells}
 use Rattle.snippet_grid.proofs.StretchLemmas.{stretch, stretch_added, BeginsWith-append, BeginsWith-le, IsUtf8-stretch, front_grown, is_utf8-end}
 use Rattle.snippet_grid.proofs.ShownLemmas.{All-tail, pick, cell_same, painted-grown, All-IsRun-grown, holds_inside, holds_elsewhere, holds_before, holds-after}
-use Rattle.snippet_grid.specs.Grid.{row_at, cell_at, cells_written, WritesCells}
+use Rattle.snippet_grid.specs.Grid.{row_at, cell_at, cells_written}
+use Rattle.snippet_grid.specs.Calls.{WritesCells}
 use Rattle.snippet_style.specs.Cell.{Cell, SPACE, text_cells}
 use Rattle.snippet_grid.specs.Runs.{IsRun, BeginsWith, ShowsMore, FitIn, IsGrid, IsWord, IsWidened, run_bytes, run_chars, run_cell, holds, painted_over}
 use Rattle.snippet_grid.specs.Runs.{shown_cell}

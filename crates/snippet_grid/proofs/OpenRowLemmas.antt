@@ -6,7 +6,7 @@ use Rattle.snippet_grid.proofs.StretchPrinted.{alike, stretch_printed}
 use Rattle.snippet_grid.proofs.WeaveLemmas.{row_closed}
 use Rattle.snippet_grid.specs.OpenRow.{AddsCells, Goes, IsPrinted}
 use Rattle.snippet_grid.specs.Stretch.{PrintsStretch}
-use Rattle.snippet_grid.specs.Woven.{WeavesRow}
+use Rattle.snippet_grid.specs.Weaving.{WeavesRow}
 use Rattle.snippet_grid.specs.declared.printed_row.PrintedRow.{PrintedRow}
 use Rattle.snippet_style.specs.Cell.{Cell, SPACE}
 use Rattle.snippet_style.specs.Codes.{reset}

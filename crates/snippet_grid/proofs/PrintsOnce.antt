@@ -5,8 +5,9 @@ use Rattle.snippet_grid.proofs.PrintsPieces.{PrintsPieces-from_prints}
 use Rattle.snippet_grid.proofs.WeaveLemmas.{Url, none≢some, some_same}
 use Rattle.snippet_grid.proofs.WovenLemmas.{nil≢cons}
 use Rattle.snippet_style.specs.Cell.{Cell}
-use Rattle.snippet_grid.specs.Woven.{Piece, Char, Opening, Reset, LinkTo, LinkEnd, piece_text, next_style, next_link, PrintsCells, PrintsRow, PrintsFurther}
-use Rattle.snippet_grid.specs.Woven.{PrintsRows, Prints}
+use Rattle.snippet_grid.specs.Woven.{Piece, Char, Opening, Reset, LinkTo, LinkEnd, piece_text, next_style, next_link, PrintsCells, PrintsRow}
+use Rattle.snippet_grid.specs.Woven.{Prints}
+use Rattle.snippet_grid.specs.Weaving.{PrintsFurther, PrintsRows}
 use Rattle.snippet_style.specs.declared.role.LevelInner.{LevelInner}
 use Rattle.snippet_style.specs.declared.style.Style.{Style}
 use Rattle.snippet_style.specs.declared.stylesheet.Stylesheet.{Stylesheet}

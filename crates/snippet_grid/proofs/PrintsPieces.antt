@@ -4,7 +4,8 @@ use Rattle.std.proofs.lemmas.Grind.{flat_map-append}
 use Rattle.std.proofs.lemmas.List.{append-nil}
 use Rattle.std.specs.List.{AllZip, flat_map, join_with_byte}
 use Rattle.snippet_style.specs.Cell.{Cell}
-use Rattle.snippet_grid.specs.Woven.{Piece, Char, piece_text, Prints, PrintsFurther, PrintsRow, PrintsRows}
+use Rattle.snippet_grid.specs.Woven.{Piece, Char, piece_text, Prints, PrintsRow}
+use Rattle.snippet_grid.specs.Weaving.{PrintsFurther, PrintsRows}
 use Rattle.snippet_style.specs.declared.role.LevelInner.{LevelInner}
 use Rattle.snippet_style.specs.declared.stylesheet.Stylesheet.{Stylesheet}
 

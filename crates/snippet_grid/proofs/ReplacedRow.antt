@@ -15,7 +15,8 @@ use Rattle.snippet_grid.proofs.ShownLemmas.{pick, cell_same, painted-grown, hold
 use Rattle.snippet_grid.proofs.SpanLemmas.{within_yes, within_before, within_after}
 use Rattle.snippet_grid.proofs.StretchLemmas.{stretch, below_take, BeginsWith-trans}
 use Rattle.snippet_grid.specs.Changes.{ShowsSpan, ShowsReplaced}
-use Rattle.snippet_grid.specs.Grid.{row_at, cell_at, cells_replaced, ReplacesCells}
+use Rattle.snippet_grid.specs.Grid.{row_at, cell_at}
+use Rattle.snippet_grid.specs.Calls.{cells_replaced, ReplacesCells}
 use Rattle.snippet_style.specs.Cell.{Cell, SPACE, text_cells}
 use Rattle.snippet_grid.specs.Runs.{IsRun, IsRow, IsWord, BeginsWith, EndsBy, FitIn, ShowsCopy, ShowsMore, run_cell, run_chars, shown_cell, grid_shown}
 use Rattle.snippet_style.specs.declared.role.ElementStyle.{ElementStyle}

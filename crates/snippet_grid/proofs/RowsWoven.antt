@@ -14,7 +14,8 @@ use Rattle.snippet_grid.proofs.WeaveLemmas.{further-append}
 use Rattle.snippet_grid.specs.Grid.{row_at}
 use Rattle.snippet_style.specs.Cell.{Cell}
 use Rattle.snippet_grid.specs.Runs.{shown_cell, cells_to, grid_shown}
-use Rattle.snippet_grid.specs.Woven.{Piece, Char, piece_text, PrintsFurther, WeavesRow, WeavesRows}
+use Rattle.snippet_grid.specs.Woven.{Piece, Char, piece_text}
+use Rattle.snippet_grid.specs.Weaving.{PrintsFurther, WeavesRow, WeavesRows}
 use Rattle.snippet_style.specs.declared.role.LevelInner.{LevelInner}
 use Rattle.snippet_grid.specs.declared.runs.Run.{Run}
 use Rattle.snippet_style.specs.declared.stylesheet.Stylesheet.{Stylesheet}

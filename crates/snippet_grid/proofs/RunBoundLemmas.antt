@@ -14,7 +14,7 @@ use Rattle.snippet_style.specs.declared.role.ElementStyle.TheVariants.{Underline
 use Rattle.snippet_style.specs.declared.role.ElementStyle.TheVariants.{Removal}
 use Rattle.snippet_style.specs.declared.role.LevelInner.{LevelInner}
 use Rattle.snippet_style.specs.declared.role.LevelInner.TheVariants.{Error, Warning, Info, Note, Help}
-use Rattle.snippet_grid.specs.Grid.{num_cells}
+use Rattle.snippet_grid.specs.Calls.{num_cells}
 use Rattle.snippet_grid.specs.RunBounds.{Look, look_of, same_level, same_role, same_look, goes_on, is_bare, fewest_after, most_after, most_runs}
 
 -- ---- what it says that two looks are the same

@@ -1,6 +1,6 @@
 -- How many runs can show small rows, computed, and two counts that none of them has.
 use Rattle.std.proofs.Common.{◌≡◌, ◌≤◌, List, [], ◌∷◌, ◌++◌, codes, refl, arith}
-use Rattle.snippet_grid.specs.Grid.{num_cells}
+use Rattle.snippet_grid.specs.Calls.{num_cells}
 use Rattle.snippet_grid.specs.RunBounds.{fewest_runs, most_runs}
 use Rattle.snippet_style.specs.Cell.{Cell, text_cells}
 use Rattle.snippet_style.specs.declared.role.ElementStyle.TheVariants.{LineNumber, NoStyle, Quotation}

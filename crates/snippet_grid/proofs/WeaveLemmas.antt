@@ -13,7 +13,8 @@ use Rattle.snippet_style.specs.Codes.{reset}
 use Rattle.snippet_style.specs.Cell.{Cell}
 use Rattle.snippet_style.specs.Stylesheet.{style_of}
 pub use Rattle.snippet_grid.specs.OpenRow.{Completes, Goes}
-use Rattle.snippet_grid.specs.Woven.{Piece, Char, Opening, Reset, LinkTo, LinkEnd, piece_text, PrintsCells, PrintsRow, PrintsFurther, WeavesRow}
+use Rattle.snippet_grid.specs.Woven.{Piece, Char, Opening, Reset, LinkTo, LinkEnd, piece_text, PrintsCells, PrintsRow}
+use Rattle.snippet_grid.specs.Weaving.{PrintsFurther, WeavesRow}
 use Rattle.snippet_style.specs.declared.role.LevelInner.{LevelInner}
 use Rattle.snippet_style.specs.declared.style.Style.{Style}
 use Rattle.snippet_style.specs.declared.stylesheet.Stylesheet.{Stylesheet}

@@ -13,13 +13,14 @@ use Rattle.snippet_style.proofs.StyleLemmas.{plain_is_plain}
 use Rattle.snippet_grid.proofs.PrintsPieces.{Prints-from_pieces, PrintsPieces-from_prints}
 use Rattle.snippet_grid.proofs.WeaveLemmas.{Url, none≢some, some_same, is_there}
 use Rattle.snippet_style.specs.Codes.{opening, reset}
-use Rattle.snippet_grid.specs.Grid.{EachCell}
 use Rattle.snippet_style.specs.Cell.{Cell, SPACE}
 use Rattle.snippet_grid.specs.Print.{row_text, further_text, plain_text}
 use Rattle.snippet_style.specs.Style.{is_plain_style}
 use Rattle.snippet_style.specs.Stylesheet.{style_of, level_style, is_plain_sheet}
 use Rattle.snippet_grid.specs.Woven.{Piece, Char, Opening, Reset, LinkTo, LinkEnd, piece_text, plain_piece, piece_link, next_style, next_link, PrintsCells}
-use Rattle.snippet_grid.specs.Woven.{PrintsRow, PrintsFurther, PrintsRows, WeavesRows, Prints, IsStyleOf, IsOfSheet, AreLinksEnded, IsWoven, link_begun}
+use Rattle.snippet_grid.specs.Woven.{PrintsRow, Prints, IsStyleOf, IsOfSheet, AreLinksEnded, IsWoven, link_begun}
+use Rattle.snippet_grid.specs.Weaving.{PrintsFurther, PrintsRows, WeavesRows}
+use Rattle.snippet_grid.specs.Calls.{EachCell}
 use Rattle.snippet_grid.specs.Woven.{links_after, links_of}
 use Rattle.snippet_style.specs.declared.role.ElementStyle.{ElementStyle}
 use Rattle.snippet_style.specs.declared.role.ElementStyle.TheVariants.{MainHeaderMsg, HeaderMsg, LineAndColumn, Quotation, NoStyle, LineNumber}

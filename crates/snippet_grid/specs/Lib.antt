@@ -1,4 +1,5 @@
 pub mod AddedRow
+pub mod Calls
 pub mod Changes
 pub mod Grid
 pub mod Html
@@ -16,3 +17,4 @@ pub mod Stretch
 pub mod StyledChars
 pub mod UsualCodes
 pub mod Woven
+pub mod Weaving

@@ -1,6 +1,6 @@
 //! Rows that are kept cell by cell, and added to a grid once all is painted in them.
-ghost use Rattle.std.specs.Prelude.{◌≡◌, ◌≢◌, ◌<◌, ◌≤◌, ◌-◌, ◌++◌, ◌∷◌, [], ℕ, IfOk, OnOk, OnErr, drop, encode_utf8_all};
-ghost use Rattle.std.specs.Prelude.{length, map, string_bytes, take};
+ghost use Rattle.std.specs.Prelude.{◌≡◌, ◌≢◌, ◌<◌, ◌≤◌, ◌-◌, ◌++◌, ◌∷◌, [], ℕ, IfOk, OnOk, OnErr, drop};
+ghost use Rattle.std.specs.Prelude.{encode_utf8_all, length, map, string_bytes, take};
 ghost use Rattle.std.specs.List.{slice_index_or};
 ghost use Rattle.snippet_grid.specs.AddedRow.{AddsRow, AddsStretch};
 ghost use Rattle.snippet_grid.specs.Runs.{BeginsWith};

@@ -1,6 +1,7 @@
 //! The cells of a grid's rows, kept as runs.
 ghost use Rattle.std.specs.Prelude.{◌≡◌, ◌≤◌, [], length};
-ghost use Rattle.snippet_grid.specs.Grid.{row_at, num_cells};
+ghost use Rattle.snippet_grid.specs.Grid.{row_at};
+ghost use Rattle.snippet_grid.specs.Calls.{num_cells};
 ghost use Rattle.snippet_grid.specs.RunBounds.{fewest_runs, most_runs};
 ghost use Rattle.snippet_style.specs.Bounds.{IsRowNumber};
 

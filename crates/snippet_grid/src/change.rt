@@ -1,7 +1,7 @@
 //! Cells of a row that change their role, or the link that they belong to, and nothing else.
 ghost use Rattle.std.specs.Prelude.{◌≡◌, ◌+◌, ◌-◌, ◌*◌, ◌<◌, ◌≤◌, ℕ, min, length, IfOk, OnOk, OnErr, string_bytes};
 ghost use Rattle.std.specs.List.{slice_index_or};
-ghost use Rattle.snippet_grid.specs.Grid.{cells_changed};
+ghost use Rattle.snippet_grid.specs.Calls.{cells_changed};
 ghost use Rattle.snippet_grid.specs.Runs.{IsRow, EndsBy, BeginsWith, shown_cell};
 ghost use Rattle.snippet_grid.specs.declared.runs.Run.{Run};
 ghost use Rattle.snippet_grid.specs.Changes.{changed_by, IsChanged, IsBlankRun, IsPartOfRow, ShowsSpan};

@@ -3,10 +3,9 @@
 //! A grid has rows, and a row has cells, both counted from 0. What is written beyond a row's end,
 //! or below the last row, makes the row longer and adds rows, as far as needed and no farther.
 
-ghost use Rattle.std.specs.Prelude.{◌≡◌, ◌+◌, ◌<◌, ◌≤◌, ◌++◌, List, [], ◌∷◌, length, map, ℕ, true, IfOk, OnOk, OnErr, IsOk};
-ghost use Rattle.std.specs.Prelude.{string_bytes, encode_utf8_all};
-ghost use Rattle.snippet_grid.specs.Grid.{row_at, num_cells, cells_written, WritesCells, cells_restyled, RestylesCells};
-ghost use Rattle.snippet_grid.specs.Grid.{cells_linked, LinksCells, cells_replaced, ReplacesCells};
+ghost use Rattle.std.specs.Prelude.{◌≡◌, ◌+◌, ◌<◌, ◌≤◌, ◌++◌, List, [], ◌∷◌, length, map, ℕ, true, IfOk, OnOk, OnErr};
+ghost use Rattle.std.specs.Prelude.{IsOk, string_bytes, encode_utf8_all};
+ghost use Rattle.snippet_grid.specs.Grid.{row_at, cells_written};
 ghost use Rattle.snippet_grid.specs.RunBounds.{fewest_runs, most_runs};
 ghost use Rattle.snippet_grid.specs.StyledChars.{cell_of};
 ghost use Rattle.snippet_style.specs.Cell.{text_cells};
@@ -15,7 +14,10 @@ ghost use Rattle.std.specs.Str.{chars};
 ghost use Rattle.snippet_grid.specs.Print as spec;
 ghost use Rattle.snippet_style.specs.Stylesheet.{is_plain_sheet};
 ghost use Rattle.snippet_grid.specs.Html.{AddsHtml, rows_html};
-ghost use Rattle.snippet_grid.specs.Woven.{WeavesRows, Prints, IsWoven, links_of};
+ghost use Rattle.snippet_grid.specs.Woven.{Prints, IsWoven, links_of};
+ghost use Rattle.snippet_grid.specs.Weaving.{WeavesRows};
+ghost use Rattle.snippet_grid.specs.Calls.{num_cells, WritesCells, cells_restyled, RestylesCells, cells_linked};
+ghost use Rattle.snippet_grid.specs.Calls.{LinksCells, cells_replaced, ReplacesCells};
 ghost use Rattle.snippet_style.specs.Bounds.{HasNext, IsRowNumber, IsUsize};
 
 use crate::added_row::add_row;

@@ -8,7 +8,7 @@
 ghost use Rattle.std.specs.Prelude.{◌≡◌, ◌<◌, ℕ, List, None, [], replicate, IfOk, OnOk, string_bytes, chars};
 ghost use Rattle.snippet_grid.specs.OpenRow.{AddsCells, IsPrinted};
 ghost use Rattle.snippet_grid.specs.SheetCodes.{style_at};
-ghost use Rattle.snippet_grid.specs.Woven.{WeavesRow};
+ghost use Rattle.snippet_grid.specs.Weaving.{WeavesRow};
 ghost use Rattle.snippet_style.specs.Stylesheet.{style_of};
 ghost use Rattle.snippet_style.specs.Cell.{Cell, SPACE, text_cells};
 ghost use Rattle.snippet_style.specs.declared.stylesheet.Stylesheet.{Stylesheet};

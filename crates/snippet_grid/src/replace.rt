@@ -3,7 +3,8 @@ ghost use Rattle.std.specs.Prelude.{◌≡◌, ◌+◌, ◌-◌, ◌<◌, ◌≤
 ghost use Rattle.std.specs.Prelude.{string_bytes};
 ghost use Rattle.std.specs.List.{slice_index_or};
 ghost use Rattle.std.specs.Str.{chars};
-ghost use Rattle.snippet_grid.specs.Grid.{cells_replaced, row_at};
+ghost use Rattle.snippet_grid.specs.Grid.{row_at};
+ghost use Rattle.snippet_grid.specs.Calls.{cells_replaced};
 ghost use Rattle.snippet_style.specs.Cell.{SPACE, text_cells};
 ghost use Rattle.snippet_grid.specs.Runs.{IsRow, EndsBy, FitsMoved, BeginsWith};
 ghost use Rattle.snippet_grid.specs.Changes.{ShowsSpan, ShowsReplaced};

@@ -15,7 +15,8 @@ ghost use Rattle.snippet_grid.specs.SheetCodes.{style_at};
 ghost use Rattle.snippet_grid.specs.Runs.{IsGrid, IsRow, EndsBy, Precedes, cells_to, grid_shown};
 ghost use Rattle.snippet_grid.specs.declared.runs.Run.{Run};
 ghost use Rattle.snippet_grid.specs.Stretch.{PrintsStretch};
-ghost use Rattle.snippet_grid.specs.Woven.{Opening, Reset, LinkTo, LinkEnd, piece_text, WeavesRow, WeavesRows};
+ghost use Rattle.snippet_grid.specs.Woven.{Opening, Reset, LinkTo, LinkEnd, piece_text};
+ghost use Rattle.snippet_grid.specs.Weaving.{WeavesRow, WeavesRows};
 
 use crate::codes::{NONE, SheetCodes, place_of};
 use crate::runs::Run;

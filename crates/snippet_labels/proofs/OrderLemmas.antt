@@ -13,7 +13,8 @@ use Rattle.snippet_lines.specs.OrderedBy.{ordered_by}
 use Rattle.snippet_lines.proofs.OrderLemmas.{map-ordered_by, sorted-only}
 use Rattle.snippet_parts.specs.declared.entries.LineAnnotation.{LineAnnotation}
 use Rattle.snippet_labels.specs.declared.positions.PlacedEntry.{PlacedEntry}
-use Rattle.snippet_labels.specs.Positions.{StandsLeft, IsFromRight, is_placed_before}
+use Rattle.snippet_labels.specs.Positions.{is_placed_before}
+use Rattle.snippet_labels.specs.Placing.{StandsLeft, IsFromRight}
 
 -- neighbours that are in an order put the whole list in it
 from_neighbours : (R : LineAnnotation → LineAnnotation → Type 0) → ((a : LineAnnotation) → R a a) → ((a b c : LineAnnotation) → R a b → R b c → R a c)

@@ -13,8 +13,9 @@ use Rattle.std.proofs.lemmas.List.Sorted.{All-permutation, IsPermutation-map}
 use Rattle.snippet_lines.specs.OrderedBy.{ordered_by}
 use Rattle.snippet_parts.specs.declared.entries.LineAnnotation.{LineAnnotation}
 use Rattle.snippet_labels.specs.declared.positions.PlacedEntry.{PlacedEntry}
-use Rattle.snippet_labels.specs.Positions.{ArePlaced, IsFromRight, HasItsBytes, HasItsLabel, asks, do_overlap, ends_no_later, has_label, takes_space}
-use Rattle.snippet_labels.specs.Positions.{are_starts, crosses, position_at, position_after, positions, line_positions, unplaced}
+use Rattle.snippet_labels.specs.Positions.{do_overlap, ends_no_later, has_label, takes_space}
+use Rattle.snippet_labels.specs.Positions.{are_starts, crosses, position_at, position_after, positions, line_positions}
+use Rattle.snippet_labels.specs.Placing.{ArePlaced, IsFromRight, HasItsBytes, HasItsLabel, asks, unplaced}
 use Rattle.snippet_labels.specs.Positions.{is_placed_before, look_counts, looked_after, placed_of}
 use Rattle.snippet_parts.specs.Least.{greatest}
 use Rattle.snippet_parts.proofs.PartLemmas.{list_any-map}

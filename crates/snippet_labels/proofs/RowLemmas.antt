@@ -17,10 +17,10 @@ use Rattle.snippet_parts.specs.declared.entries.LineAnnotationType.{LineAnnotati
 use Rattle.snippet_parts.specs.declared.entries.LineAnnotationType.TheVariants.{Singleline, MultilineStart, MultilineEnd, MultilineLine}
 use Rattle.snippet_labels.specs.declared.positions.PlacedEntry.{PlacedEntry}
 use Rattle.snippet_labels.specs.PlacedEntries.{is_end_part}
-use Rattle.snippet_labels.specs.Positions.{ArePlaced, FitsLeftOf, HasItsBytes, HasItsLabel, IsFromRight, StandInRow, StandsLeft}
 use Rattle.snippet_labels.specs.Positions.{are_starts, blocks, crosses}
 use Rattle.snippet_labels.specs.Positions.{do_overlap, ends_no_later, has_label}
-use Rattle.snippet_labels.specs.Positions.{is_placed_before, is_same_place, is_start_part, label_reach, line_positions}
+use Rattle.snippet_labels.specs.Positions.{is_placed_before, is_same_place, is_start_part, line_positions}
+use Rattle.snippet_labels.specs.Placing.{ArePlaced, FitsLeftOf, HasItsBytes, HasItsLabel, IsFromRight, StandInRow, StandsLeft, label_reach}
 use Rattle.snippet_labels.specs.Positions.{look_counts, looked_after, position_after, position_at, positions, reaches, takes_space}
 use Rattle.snippet_labels.proofs.PlacedLemmas.{no_position}
 use Rattle.snippet_labels.proofs.LabelWords.{crowds, flipped, up_to}

@@ -1,2 +1,3 @@
 pub mod PlacedEntries
 pub mod Positions
+pub mod Placing

@@ -1,5 +1,5 @@
 -- The entries of a line: where they stand, and the roles of their labels.
-use Rattle.std.specs.Prelude.{ℕ, ◌-◌, ◌≤◌, Bool, true, false}
+use Rattle.std.specs.Prelude.{ℕ, ◌-◌, Bool, true, false}
 use Rattle.snippet_model.specs.declared.snippet.AnnotationKind.{AnnotationKind}
 use Rattle.snippet_model.specs.declared.snippet.AnnotationKind.TheVariants.{Primary}
 use Rattle.snippet_parts.specs.declared.entries.LineAnnotation.{LineAnnotation}
@@ -7,16 +7,10 @@ use Rattle.snippet_parts.specs.declared.entries.LineAnnotationType.{LineAnnotati
 use Rattle.snippet_parts.specs.declared.entries.LineAnnotationType.TheVariants.{MultilineStart, MultilineEnd}
 use Rattle.snippet_style.specs.declared.role.ElementStyle.{ElementStyle}
 use Rattle.snippet_style.specs.declared.role.ElementStyle.TheVariants.{LabelPrimary, LabelSecondary}
-use Rattle.snippet_style.specs.Bounds.{IsColumn}
 
 -- an entry on a line of which so many columns are dropped on the left
 abbrev pub shifted : ℕ → LineAnnotation → LineAnnotation
 shifted dropped e = record e { start = record e.start { display = e.start.display - dropped }; end = record e.end { display = e.end.display - dropped } }
-
--- an entry has its place: it ends no farther left than it starts, where sums of columns have room
-pub record HasPlace (e : LineAnnotation) : Type 0 where
-  pub ordered : e.start.display ≤ e.end.display
-  pub near : IsColumn e.end.display
 
 -- whether an entry stands for the start or the end of a span of several lines
 abbrev pub is_end_part : LineAnnotationType → Bool

@@ -1,6 +1,6 @@
 -- Where the labels of a line stand, and the lines that lead to bars.
-use Rattle.std.specs.Prelude.{◌≡◌, ℕ, ◌+◌, ◌-◌, ◌<◌, ◌≤◌, ◌==◌, ◌&&◌, ◌||◌, nat_le, nat_lt, not, Bool, true, false, List, [], ◌∷◌, All, IsPermutation, length}
-use Rattle.std.specs.Prelude.{map, chars, encode_utf8_all, slice_index_or, if◌then◌else◌}
+use Rattle.std.specs.Prelude.{ℕ, ◌+◌, ◌-◌, ◌==◌, ◌&&◌, ◌||◌, nat_le, nat_lt, not, Bool, true, false, List, [], ◌∷◌, length}
+use Rattle.std.specs.Prelude.{map, chars, encode_utf8_all, if◌then◌else◌}
 use Rattle.std.specs.List.{list_all, list_any, position, zip}
 use Rattle.std.specs.Option.{option_map_or}
 use Rattle.snippet_parts.specs.declared.entries.LineAnnotation.{LineAnnotation}
@@ -11,14 +11,6 @@ use Rattle.snippet_parts.specs.Least.{greatest}
 use Rattle.snippet_labels.specs.declared.positions.PlacedEntry.{PlacedEntry}
 use Rattle.snippet_labels.specs.PlacedEntries.{is_end_part}
 use Rattle.snippet_text.specs.Normalized.{normalized_chars}
-
--- the label holds the characters that its entry shows
-abbrev pub HasItsLabel : PlacedEntry → Type 0
-HasItsLabel e = chars e.label ≡ normalized_chars e.entry.label
-
--- the label's bytes are those of these characters
-abbrev pub HasItsBytes : PlacedEntry → Type 0
-HasItsBytes e = e.label ≡ encode_utf8_all (normalized_chars e.entry.label)
 
 -- whether an entry has a label that shows anything
 abbrev pub has_label : PlacedEntry → Bool
@@ -65,14 +57,6 @@ abbrev pub reaches : ℕ → PlacedEntry → PlacedEntry → Bool
 reaches p e other =
     has_label other && do_overlap other (length other.label + 2) e && (has_label e || (p == 0 && ends_no_later other e))
 
--- whether an entry may need a row of its own at all: it has a label, or a line to a bar
-abbrev pub asks : PlacedEntry → Bool
-asks e = has_label e || takes_space e
-
--- no entry from this place on does
-abbrev pub AsksBefore : ℕ → List PlacedEntry → Type 0
-AsksBefore end es = (k : ℕ) (d : PlacedEntry) → end ≤ k → k < length es → asks (slice_index_or es k d) ≡ false
-
 -- the position of an entry in front of others, where p is the one reached: position 0 isn't taken where a mark stands in
 -- the way
 abbrev pub position_at : ℕ → PlacedEntry → List PlacedEntry → ℕ
@@ -112,62 +96,15 @@ line_positions es =
     let ps = positions 0 es in
     if are_starts es then map (λ p. greatest ps - p) ps else ps
 
--- ---- entries that need one row
-
--- the column before which an entry ends: its mark, or its label after it and the two columns after that
-abbrev pub label_reach : PlacedEntry → ℕ
-label_reach e =
-    if has_label e then e.entry.end.display + (length e.label + 2) else e.entry.end.display
-
--- an entry begins before a column, and ends before it with its label; no line leads from it to a bar
-pub record FitsLeftOf (column : ℕ) (e : PlacedEntry) : Type 0 where
-  pub single : takes_space e ≡ false
-  pub begins : e.entry.start.display < column
-  pub ends : label_reach e ≤ column
-
--- entries, from right to left, each of which does so before the one right of it begins, and the first before this column
-abbrev pub StandInRow : ℕ → List PlacedEntry → Type 0
-StandInRow column [] = Unit {0}
-StandInRow column (e ∷ left) = FitsLeftOf column e × StandInRow e.entry.start.display left
-
--- ----
-
 -- where the label of an entry begins: how many rows below the row of the marks, and at which column; a mark that ends at
 -- column 0 still takes that column
 abbrev pub label_place : PlacedEntry → ℕ × ℕ
 label_place e =
     if e.position == 0 then (0, if e.entry.end.display == 0 then 2 else e.entry.end.display + 1) else (e.position + 1, e.entry.start.display)
 
--- an entry without its position
-abbrev pub unplaced : PlacedEntry → PlacedEntry
-unplaced e = record e { position = 0; looked = 0 }
-
--- the later entry may stand after the earlier one: it starts farther left, or at the same column and no greater
--- character
-pub record StandsLeft (earlier later : LineAnnotation) : Type 0 where
-  pub column : later.start.display ≤ earlier.start.display
-  pub character : later.start.display ≡ earlier.start.display → later.start.char ≤ earlier.start.char
-
--- the entries stand from right to left
-abbrev pub IsFromRight : List LineAnnotation → Type 0
-IsFromRight es = (i j : ℕ) (d : LineAnnotation) → i ≤ j → j < length es → StandsLeft (slice_index_or es i d) (slice_index_or es j d)
-
 -- whether an entry is placed before another: it starts farther right, or at the same column and a greater character
 abbrev pub is_placed_before : LineAnnotation → LineAnnotation → Bool
 is_placed_before e f = nat_lt f.start.display e.start.display || (e.start.display == f.start.display && nat_lt f.start.char e.start.char)
-
--- the entries of a line from right to left, and as they are given where they start at one character, each with its label, at the
--- positions of that order, and with how many were looked at for it (`same` and `from_right` follow from `order`)
-pub record ArePlaced (es : List LineAnnotation) (placed : List PlacedEntry) : Type 0 where
-  pub order : map (λ e. e.entry) placed ≡ ordered_by is_placed_before es
-  pub same : IsPermutation es (map (λ e. e.entry) placed)
-  pub from_right : IsFromRight (map (λ e. e.entry) placed)
-  pub labels : All HasItsLabel placed
-  pub bytes : All HasItsBytes placed
-  pub positions_are : map (λ e. e.position) placed ≡ line_positions placed
-  pub looked_are : map (λ e. e.looked) placed ≡ look_counts 0 placed
-
--- ---- the same as a value
 
 -- the entries of a line from right to left, each with its label, at the positions of that order
 abbrev pub placed_of : List LineAnnotation → List PlacedEntry

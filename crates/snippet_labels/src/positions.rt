@@ -3,8 +3,8 @@ ghost use Rattle.std.specs.Prelude.{◌≡◌, ◌+◌, ◌-◌, ◌^◌, ◌<�
 ghost use Rattle.std.specs.Prelude.{map, not, reverse};
 ghost use Rattle.std.specs.List.{list_any, position, range_with_len};
 ghost use Rattle.snippet_labels.specs.Positions as spec;
-ghost use Rattle.snippet_labels.specs.Positions.{ArePlaced, AsksBefore, FitsLeftOf, HasItsBytes, HasItsLabel};
-ghost use Rattle.snippet_labels.specs.Positions.{StandInRow};
+ghost use Rattle.snippet_labels.specs.Placing as placing;
+ghost use Rattle.snippet_labels.specs.Placing.{ArePlaced, AsksBefore, FitsLeftOf, HasItsBytes, HasItsLabel, StandInRow};
 ghost use Rattle.snippet_labels.specs.PlacedEntries.{shifted};
 ghost use Rattle.snippet_text.specs.Normalized.{normalized_chars};
 ghost use Rattle.snippet_parts.specs.Least.{greatest};
@@ -168,7 +168,7 @@ fn fits_left_of(column: usize, placed: &PlacedEntry) -> bool
 /// The column before which an entry ends: its mark, or its label after this and the columns that stand free after it.
 fn label_reach(placed: &PlacedEntry) -> usize
     requires columns { IsColumn placed.now.entry.end.display }
-    ensures value { result ≡ spec.label_reach placed.now }
+    ensures value { result ≡ placing.label_reach placed.now }
 {
     let end = placed.entry.end.display;
     if placed.has_label() {
@@ -310,7 +310,7 @@ fn askers_end(entries: &[PlacedEntry]) -> usize
 
 /// Whether an entry may ask for a row of its own: it has a label, or a line to a bar.
 fn asks(placed: &PlacedEntry) -> bool
-    ensures value { result ≡ spec.asks placed.now }
+    ensures value { result ≡ placing.asks placed.now }
 {
     placed.has_label() || placed.takes_space()
 }
@@ -367,7 +367,7 @@ fn set_positions(entries: &mut [PlacedEntry], found: &[FoundPosition])
     requires count { length found.now ≡ length entries.old }
     ensures placed { map (λ e. e.position) entries.new ≡ map (λ f. f.position) found.now }
     ensures looked { map (λ e. e.looked) entries.new ≡ map (λ f. f.looked) found.now }
-    ensures kept { map spec.unplaced entries.new ≡ map spec.unplaced entries.old }
+    ensures kept { map placing.unplaced entries.new ≡ map placing.unplaced entries.old }
 {
     for i in 0..entries.len() {
         let entry = &mut entries[i];

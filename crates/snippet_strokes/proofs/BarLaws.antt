@@ -11,7 +11,8 @@ use Rattle.snippet_strokes.specs.declared.bars.BarStroke.{BarStroke}
 use Rattle.snippet_strokes.specs.declared.bars.BarStroke.TheVariants.{Solid}
 use Rattle.snippet_strokes.specs.declared.bars.OpenBar.{OpenBar}
 use Rattle.snippet_grid.specs.Layout.{Layout}
-use Rattle.snippet_strokes.specs.Bars.{HasOwnDepth, bar_cell_part, bars_apart, ends_of_bars}
+use Rattle.snippet_strokes.specs.Bars.{bars_apart, ends_of_bars}
+use Rattle.snippet_strokes.specs.DrawnBars.{HasOwnDepth, bar_cell_part}
 use Rattle.snippet_strokes.proofs.BarParts.{with_parts}
 use Rattle.snippet_strokes.proofs.OneStep.{with_bar}
 use Rattle.snippet_strokes.proofs.LineFacts.{AreLineRows}

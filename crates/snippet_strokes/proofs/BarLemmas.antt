@@ -11,7 +11,7 @@ use Rattle.snippet_window.specs.Window.{AreReplaced}
 use Rattle.snippet_style.specs.declared.glyphs.DecorStyle.{DecorStyle}
 use Rattle.snippet_style.specs.declared.glyphs.DecorStyle.TheVariants.{Ascii, Unicode}
 use Rattle.snippet_style.specs.Glyphs.{bar_glyphs, placeholder_of}
-use Rattle.snippet_grid.specs.Grid.{WritesCells, row_at, cell_at, cells_written}
+use Rattle.snippet_grid.specs.Grid.{row_at, cell_at, cells_written}
 use Rattle.snippet_grid.proofs.GridLemmas.{WritesCells-cells_written, row_at-cells_written_same}
 use Rattle.snippet_style.specs.Cell.{Cell, SPACE}
 use Rattle.snippet_grid.specs.Print.{row_text}
@@ -24,7 +24,8 @@ use Rattle.snippet_strokes.proofs.PlainEntries.{are_plain, wide_entries}
 use Rattle.snippet_model.specs.FreeRows.{IsFreeCell}
 use Rattle.snippet_style.proofs.StrokeLemmas.{bars_among}
 use Rattle.snippet_strokes.proofs.StrokeGlyphs.{free_bars}
-use Rattle.snippet_strokes.specs.Bars.{HasBarRoom, StandsBeside, bar_glyph, bar_cell_part}
+use Rattle.snippet_strokes.specs.DrawnBars.{HasBarRoom, StandsBeside, bar_glyph, bar_cell_part}
+use Rattle.snippet_grid.specs.Calls.{WritesCells}
 use Rattle.snippet_strokes.proofs.BarParts.{with_parts}
 use Rattle.snippet_strokes.proofs.OneStep.{with_bar}
 use Rattle.snippet_strokes.proofs.DrawnCells.{BarsDrawn}

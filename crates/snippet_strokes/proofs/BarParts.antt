@@ -2,7 +2,8 @@
 use Rattle.std.proofs.Common.{List}
 use Rattle.snippet_grid.specs.Layout.{Layout}
 use Rattle.snippet_style.specs.Cell.{Cell}
-use Rattle.snippet_strokes.specs.Bars.{part_glyph, with_bars}
+use Rattle.snippet_strokes.specs.Bars.{with_bars}
+use Rattle.snippet_strokes.specs.DrawnBars.{part_glyph}
 use Rattle.snippet_strokes.specs.declared.bars.BarStroke.{BarStroke}
 use Rattle.snippet_strokes.specs.declared.bars.OpenBar.{OpenBar}
 

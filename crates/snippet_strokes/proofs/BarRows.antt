@@ -13,7 +13,7 @@ use Rattle.snippet_style.proofs.CellLemmas.{length-written, slice_index_or-writt
 use Rattle.snippet_grid.specs.Layout.{Layout}
 use Rattle.snippet_strokes.specs.declared.bars.BarStroke.{BarStroke}
 use Rattle.snippet_strokes.specs.declared.bars.OpenBar.{OpenBar}
-use Rattle.snippet_strokes.specs.Bars.{StandsBeside, bar_glyph, bar_cell_part, barred, changed_from}
+use Rattle.snippet_strokes.specs.DrawnBars.{StandsBeside, bar_glyph, bar_cell_part, barred, changed_from}
 use Rattle.snippet_strokes.proofs.BarParts.{with_parts}
 use Rattle.snippet_strokes.proofs.OneStep.{with_bar}
 

@@ -31,7 +31,7 @@ use Rattle.snippet_style.specs.Separators.{separator_row}
 use Rattle.snippet_strokes.proofs.PlainMarks.{IsPlainEntry}
 use Rattle.snippet_strokes.proofs.PositionLemmas.{HasRows-row_count, row_count_some}
 use Rattle.snippet_strokes.specs.Painting.{painting_order}
-use Rattle.snippet_labels.specs.Positions.{ArePlaced}
+use Rattle.snippet_labels.specs.Placing.{ArePlaced}
 use Rattle.snippet_strokes.proofs.PaintOrder.{IsPermutation-painting_order}
 
 -- a row that was begun

@@ -18,7 +18,8 @@ use Rattle.snippet_grid.proofs.RowLemmas.{separator_row-begun}
 use Rattle.snippet_strokes.specs.declared.bars.BarStroke.{BarStroke}
 use Rattle.snippet_strokes.specs.declared.bars.BarStroke.TheVariants.{Top, Solid}
 use Rattle.snippet_strokes.specs.declared.bars.OpenBar.{OpenBar}
-use Rattle.snippet_strokes.specs.Bars.{HasBarRoom, bar_cell_part, barred, bars_apart, has_depth}
+use Rattle.snippet_strokes.specs.Bars.{bars_apart}
+use Rattle.snippet_strokes.specs.DrawnBars.{HasBarRoom, bar_cell_part, barred, has_depth}
 use Rattle.snippet_strokes.proofs.OneStep.{with_bar}
 use Rattle.snippet_strokes.proofs.BarParts.{with_parts}
 use Rattle.snippet_strokes.specs.SourceRows.{with_cells}

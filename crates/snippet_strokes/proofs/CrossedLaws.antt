@@ -19,14 +19,16 @@ use Rattle.snippet_strokes.specs.SourceRows.{bare_row}
 use Rattle.snippet_strokes.specs.Writes.{Write, painted}
 use Rattle.snippet_labels.proofs.PlacedLemmas.{entries_all}
 use Rattle.snippet_strokes.specs.declared.bars.BarStroke.TheVariants.{Solid, Top}
-use Rattle.snippet_strokes.specs.Bars.{Bar, bars_apart, ends_of_bars, has_depth, is_whole_line}
+use Rattle.snippet_strokes.specs.Bars.{Bar, bars_apart, ends_of_bars}
 use Rattle.snippet_strokes.proofs.BarParts.{with_parts}
 use Rattle.snippet_strokes.specs.Drawing.{row_count}
 use Rattle.snippet_strokes.specs.EndBars.{IsNoBar}
 use Rattle.snippet_strokes.proofs.LineFacts.{AreLineRows, AreOwnRows, StrokesPainted}
 use Rattle.snippet_strokes.proofs.LineRowLemmas.{rows_cut}
 use Rattle.snippet_strokes.proofs.Reach.{Reaches, cell_of_write}
-use Rattle.snippet_strokes.specs.Strokes.{connector_of, connectors_of, corner_of, corners_of, labels_of}
+use Rattle.snippet_strokes.specs.Strokes.{connector_of, corner_of}
+use Rattle.snippet_strokes.specs.PaintedStrokes.{connectors_of, corners_of, labels_of}
+use Rattle.snippet_strokes.specs.DrawnBars.{has_depth, is_whole_line}
 use Rattle.snippet_strokes.proofs.Drawn.{drawn_strokes, marks_of}
 use Rattle.snippet_strokes.specs.DrawnStems.{stems_of}
 use Rattle.snippet_strokes.proofs.StrokeWords.{begun_rows}

@@ -14,7 +14,8 @@ use Rattle.snippet_window.specs.Window.{AreReplaced}
 use Rattle.snippet_style.specs.declared.glyphs.DecorStyle.{DecorStyle}
 use Rattle.snippet_style.specs.declared.role.ElementStyle.TheVariants.{LineNumber}
 use Rattle.snippet_style.specs.Glyphs.{placeholder_of}
-use Rattle.snippet_grid.specs.Grid.{replaced_within, cells_replaced}
+use Rattle.snippet_grid.specs.Grid.{replaced_within}
+use Rattle.snippet_grid.specs.Calls.{cells_replaced}
 use Rattle.snippet_style.specs.Cell.{Cell, text_cells}
 use Rattle.snippet_grid.specs.Print.{row_text}
 use Rattle.snippet_grid.proofs.ChangeLemmas.{changed_within_one}

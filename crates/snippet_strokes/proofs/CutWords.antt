@@ -2,7 +2,7 @@
 use Rattle.std.proofs.Common.{ℕ, ◌+◌, ◌-◌, Bool, List, [], ◌∷◌, length}
 use Rattle.std.specs.Prelude.{◌&&◌, ◌/◌, max, not, if◌then◌else◌}
 use Rattle.std.specs.List.{flat_map, zip}
-use Rattle.snippet_grid.specs.Grid.{cells_replaced}
+use Rattle.snippet_grid.specs.Calls.{cells_replaced}
 use Rattle.snippet_grid.specs.Layout.{Layout, code_cell}
 use Rattle.snippet_labels.specs.declared.positions.PlacedEntry.{PlacedEntry}
 use Rattle.snippet_parts.specs.Entries.{is_wide_entry}

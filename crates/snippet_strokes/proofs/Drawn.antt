@@ -6,9 +6,10 @@ use Rattle.snippet_grid.specs.Layout.{Layout, code_cell}
 use Rattle.snippet_labels.specs.declared.positions.PlacedEntry.{PlacedEntry}
 use Rattle.snippet_model.specs.AnnotationKind.{is_primary}
 use Rattle.snippet_style.specs.Glyphs.{strokes_of}
-use Rattle.snippet_strokes.specs.Painting.{first_glyph, mark_end, stroke_role}
+use Rattle.snippet_strokes.specs.Painting.{stroke_role}
 use Rattle.snippet_strokes.specs.DrawnStems.{stems_of}
-use Rattle.snippet_strokes.specs.Strokes.{connector_of, connectors_of, corner_of, corners_of, label_of, labels_of}
+use Rattle.snippet_strokes.specs.Strokes.{connector_of, corner_of, label_of}
+use Rattle.snippet_strokes.specs.PaintedStrokes.{first_glyph, mark_end, connectors_of, corners_of, labels_of}
 use Rattle.snippet_strokes.specs.Writes.{Write, glyph_at, stretch_of}
 
 -- the mark of an entry, if it takes any cell: its first glyph, and the underline after it

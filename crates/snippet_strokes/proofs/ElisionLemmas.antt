@@ -12,7 +12,7 @@ use Rattle.snippet_text.specs.Normalized.{is_listed}
 use Rattle.snippet_grid.specs.Layout.{Layout}
 use Rattle.snippet_strokes.specs.declared.bars.OpenBar.{OpenBar}
 use Rattle.snippet_strokes.specs.declared.bars.BarStroke.TheVariants.{Dotted}
-use Rattle.snippet_strokes.specs.Bars.{HasBarRoom, barred}
+use Rattle.snippet_strokes.specs.DrawnBars.{HasBarRoom, barred}
 use Rattle.snippet_strokes.specs.Snippet.{gap_row}
 use Rattle.snippet_strokes.proofs.BarRows.{barred-below}
 use Rattle.snippet_model.specs.FreeRows.{IsFree}

@@ -26,9 +26,9 @@ use Rattle.snippet_strokes.specs.Writes.{painted}
 use Rattle.snippet_labels.proofs.PlacedLemmas.{entries_all}
 use Rattle.snippet_strokes.specs.declared.bars.BarStroke.{BarStroke}
 use Rattle.snippet_strokes.specs.declared.bars.BarStroke.TheVariants.{Dotted, Solid, Top}
-use Rattle.snippet_strokes.specs.Bars.{Bar, HasOwnDepth, bar_at, bar_of, bars_apart, ends_of_bars, has_depth, is_beside, is_whole_line}
+use Rattle.snippet_strokes.specs.Bars.{Bar, bar_at, bars_apart, ends_of_bars, is_beside}
 use Rattle.snippet_strokes.proofs.OneStep.{with_bar}
-use Rattle.snippet_strokes.specs.Bars.{bar_cell_part}
+use Rattle.snippet_strokes.specs.DrawnBars.{HasOwnDepth, bar_of, has_depth, is_whole_line, bar_cell_part}
 use Rattle.snippet_strokes.proofs.BarParts.{with_parts}
 use Rattle.snippet_strokes.specs.Drawing.{HasRows, row_count}
 use Rattle.snippet_strokes.specs.EndBars.{BarEnds}

@@ -16,15 +16,17 @@ use Rattle.snippet_parts.specs.declared.entries.LineAnnotationType.TheVariants.{
 use Rattle.snippet_parts.proofs.ShownFacts.{contains-here, contains-there}
 use Rattle.snippet_grid.specs.Layout.{Layout}
 use Rattle.snippet_labels.specs.declared.positions.PlacedEntry.{PlacedEntry}
-use Rattle.snippet_strokes.specs.Painting.{first_glyph, mark_end, stroke_role}
+use Rattle.snippet_strokes.specs.Painting.{stroke_role}
 use Rattle.snippet_strokes.specs.Writes.{Write, glyph_at, painted, stretch_of}
 use Rattle.snippet_strokes.proofs.OneStep.{written_by}
 use Rattle.snippet_strokes.proofs.WriteLemmas.{painted-append}
 use Rattle.snippet_strokes.specs.declared.bars.BarStroke.TheVariants.{Solid}
-use Rattle.snippet_strokes.specs.Bars.{Bar, bar_cell_part}
+use Rattle.snippet_strokes.specs.Bars.{Bar}
 use Rattle.snippet_strokes.proofs.BarFacts.{end_corner, start_corner}
 use Rattle.snippet_strokes.proofs.Reach.{Reaches}
-use Rattle.snippet_strokes.specs.Strokes.{column_of, connectors_of, corner_of, corners_of, label_of, labels_of}
+use Rattle.snippet_strokes.specs.Strokes.{column_of, corner_of, label_of}
+use Rattle.snippet_strokes.specs.DrawnBars.{bar_cell_part}
+use Rattle.snippet_strokes.specs.PaintedStrokes.{first_glyph, mark_end, connectors_of, corners_of, labels_of}
 use Rattle.snippet_strokes.proofs.StrokeWords.{corner_by, bar_writes}
 use Rattle.snippet_strokes.proofs.Drawn.{drawn_mark, drawn_strokes, marks_of}
 use Rattle.snippet_strokes.specs.DrawnStems.{stems_of}

@@ -15,7 +15,8 @@ use Rattle.snippet_style.specs.Cell.{Cell, SPACE, text_cells, written}
 use Rattle.snippet_style.specs.Glyphs.{strokes_of}
 use Rattle.snippet_style.specs.declared.glyphs.Strokes.{Strokes}
 use Rattle.snippet_style.specs.declared.role.ElementStyle.{ElementStyle}
-use Rattle.snippet_strokes.specs.Painting.{first_glyph, mark_end, mark_of, stroke_role}
+use Rattle.snippet_strokes.specs.Painting.{mark_of, stroke_role}
+use Rattle.snippet_strokes.specs.PaintedStrokes.{first_glyph, mark_end}
 use Rattle.snippet_strokes.proofs.Drawn.{drawn_mark}
 use Rattle.snippet_strokes.specs.Writes.{Write, glyph_at, painted, stretch_of}
 use Rattle.snippet_strokes.proofs.EveryStem.{rewritten}

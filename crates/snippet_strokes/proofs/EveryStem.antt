@@ -16,7 +16,7 @@ use Rattle.snippet_style.specs.Glyphs.{strokes_of}
 use Rattle.snippet_style.specs.declared.role.ElementStyle.{ElementStyle}
 use Rattle.snippet_strokes.specs.DrawnStems.{is_stem_covered, stems_of}
 use Rattle.snippet_strokes.specs.Strokes.{stem_of}
-use Rattle.snippet_strokes.specs.Drawing.{foot_glyph}
+use Rattle.snippet_strokes.specs.PaintedStrokes.{foot_glyph}
 use Rattle.snippet_strokes.specs.Painting.{stroke_role}
 use Rattle.snippet_strokes.specs.Writes.{Write, glyph_at, painted}
 use Rattle.snippet_strokes.proofs.OneStep.{written_by}

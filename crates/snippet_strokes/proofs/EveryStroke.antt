@@ -5,7 +5,8 @@ use Rattle.snippet_grid.specs.Layout.{Layout}
 use Rattle.snippet_labels.specs.declared.positions.PlacedEntry.{PlacedEntry}
 use Rattle.snippet_style.specs.Cell.{Cell}
 use Rattle.snippet_strokes.specs.Painting.{mark_of}
-use Rattle.snippet_strokes.specs.Strokes.{connector_of, connectors_of, corner_of, corners_of, label_of, labels_of, line_strokes, stem_of, strokes_under_marks}
+use Rattle.snippet_strokes.specs.Strokes.{connector_of, corner_of, label_of, line_strokes, stem_of}
+use Rattle.snippet_strokes.specs.PaintedStrokes.{connectors_of, corners_of, labels_of, strokes_under_marks}
 use Rattle.snippet_strokes.proofs.Drawn.{drawn_mark, drawn_strokes, drawn_under_marks}
 use Rattle.snippet_strokes.specs.DrawnStems.{stems_of}
 use Rattle.snippet_strokes.specs.Writes.{Write, painted}

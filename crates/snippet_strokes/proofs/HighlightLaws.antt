@@ -7,7 +7,8 @@ use Rattle.std.proofs.lemmas.Bool.Decides.{nat_tests}
 use Rattle.std.proofs.lemmas.List.{append-nil, ext_get_or, get_or_append_left, get_or_past, get_or_push, length_push, take_more}
 use Rattle.std.proofs.lemmas.List.Elements.{filter-append}
 use Rattle.std.proofs.lemmas.List.Folds.{list_any-append}
-use Rattle.snippet_grid.specs.Grid.{cells_changed, cells_restyled, changed_within, restyled, row_at}
+use Rattle.snippet_grid.specs.Grid.{changed_within, restyled, row_at}
+use Rattle.snippet_grid.specs.Calls.{cells_changed, cells_restyled}
 use Rattle.snippet_grid.proofs.ChangeLemmas.{length-changed_within, slice_index_or-changed_within_after, slice_index_or-changed_within_before}
 use Rattle.snippet_grid.proofs.ChangeLemmas.{slice_index_or-changed_within_inside}
 use Rattle.snippet_labels.specs.PlacedEntries.{is_end_part}

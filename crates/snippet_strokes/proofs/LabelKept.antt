@@ -9,15 +9,15 @@ use Rattle.snippet_style.proofs.CellLemmas.{length-chars_le}
 use Rattle.snippet_parts.specs.declared.entries.LineAnnotation.{LineAnnotation}
 use Rattle.snippet_grid.specs.Layout.{Layout}
 use Rattle.snippet_labels.specs.declared.positions.PlacedEntry.{PlacedEntry}
-use Rattle.snippet_labels.specs.PlacedEntries.{HasPlace}
-use Rattle.snippet_labels.specs.Positions.{HasItsLabel, has_label, do_overlap, ends_no_later, blocks, crosses, position_at, position_after, positions}
-use Rattle.snippet_labels.specs.Positions.{label_place, ArePlaced, has_stem, is_same_place, is_start_part, takes_space}
+use Rattle.snippet_labels.specs.Positions.{has_label, do_overlap, ends_no_later, blocks, crosses, position_at, position_after, positions}
+use Rattle.snippet_labels.specs.Positions.{label_place, has_stem, is_same_place, is_start_part, takes_space}
 use Rattle.std.proofs.lemmas.List.{get_or-map, length-map}
 use Rattle.std.proofs.lemmas.List.Folds.{list_all_at}
 use Rattle.std.proofs.lemmas.List.Sorted.{All-permutation}
 use Rattle.snippet_style.specs.Cell.{Cell, SPACE}
 use Rattle.snippet_grid.specs.Grid.{cell_at}
-use Rattle.snippet_strokes.specs.Painting.{mark_end}
+use Rattle.snippet_strokes.specs.PaintedStrokes.{mark_end}
+use Rattle.snippet_labels.specs.Placing.{HasPlace, HasItsLabel, ArePlaced}
 use Rattle.snippet_strokes.proofs.PaintedMarks.{AreMarked, IsPaintedAt, StandsWhole}
 use Rattle.snippet_labels.proofs.PlacedLemmas.{length-positions}
 use Rattle.snippet_labels.proofs.LabelWords.{crowds, flipped, is_start, label_text}

@@ -5,10 +5,12 @@ use Rattle.std.specs.List.{flat_map}
 use Rattle.snippet_parts.specs.declared.entries.LineAnnotation.{LineAnnotation}
 use Rattle.snippet_grid.specs.Layout.{Layout}
 use Rattle.snippet_labels.specs.declared.positions.PlacedEntry.{PlacedEntry}
-use Rattle.snippet_labels.specs.PlacedEntries.{HasPlace, label_role}
-use Rattle.snippet_labels.specs.Positions.{HasItsLabel, has_label, do_overlap, ends_no_later, blocks, reaches, label_place, ArePlaced}
+use Rattle.snippet_labels.specs.PlacedEntries.{label_role}
+use Rattle.snippet_labels.specs.Positions.{has_label, do_overlap, ends_no_later, blocks, reaches, label_place}
 use Rattle.snippet_strokes.proofs.Reach.{Reaches}
-use Rattle.snippet_strokes.specs.Strokes.{label_of, labels_of}
+use Rattle.snippet_strokes.specs.Strokes.{label_of}
+use Rattle.snippet_strokes.specs.PaintedStrokes.{labels_of}
+use Rattle.snippet_labels.specs.Placing.{HasPlace, HasItsLabel, ArePlaced}
 use Rattle.snippet_strokes.proofs.StrokeWords.{label_write}
 use Rattle.std.proofs.lemmas.List.{drop_more, take-append-drop, length-drop, get_or-drop}
 use Rattle.std.proofs.lemmas.List.Concat.{flat_map-append}

@@ -15,12 +15,12 @@ use Rattle.snippet_style.specs.Cell.{Cell, SPACE}
 use Rattle.snippet_parts.specs.declared.entries.LineAnnotation.{LineAnnotation}
 use Rattle.snippet_grid.specs.Layout.{Layout}
 use Rattle.snippet_labels.specs.declared.positions.PlacedEntry.{PlacedEntry}
-use Rattle.snippet_labels.specs.PlacedEntries.{HasPlace}
 use Rattle.snippet_labels.proofs.LabelWords.{label_text}
 use Rattle.snippet_strokes.specs.Labels.{IsStemCell, IsStrokeCell}
 use Rattle.snippet_strokes.proofs.SeenLabels.{IsLedTo, LabelsStand, PlacedLabel, StandsIn, is_cell_of}
 use Rattle.snippet_strokes.proofs.PaintedMarks.{StandsWhole}
-use Rattle.snippet_labels.specs.Positions.{ArePlaced, HasItsLabel, has_label, label_place}
+use Rattle.snippet_labels.specs.Positions.{has_label, label_place}
+use Rattle.snippet_labels.specs.Placing.{HasPlace, ArePlaced, HasItsLabel}
 use Rattle.snippet_strokes.proofs.StrokeWords.{label_write}
 use Rattle.snippet_strokes.proofs.Reach.{Reaches}
 use Rattle.snippet_strokes.proofs.StrokeCells.{BesideLabels}

@@ -15,10 +15,11 @@ use Rattle.snippet_grid.specs.Layout.{Layout}
 use Rattle.snippet_strokes.specs.declared.bars.BarStroke.TheVariants.{Solid, Top}
 use Rattle.snippet_strokes.specs.declared.bars.OpenBar.{OpenBar}
 use Rattle.snippet_strokes.specs.declared.snippet.LineView.{LineView}
-use Rattle.snippet_strokes.specs.Bars.{HasBarRoom, barred, bars_apart, ends_of_bars, is_whole_line, open_below}
+use Rattle.snippet_strokes.specs.Bars.{bars_apart, ends_of_bars}
 use Rattle.snippet_strokes.proofs.BarParts.{with_parts}
 use Rattle.snippet_strokes.specs.LineRows.{own_rows}
-use Rattle.snippet_strokes.specs.Snippet.{gap_rows, info_rows, infos_rows}
+use Rattle.snippet_strokes.specs.InfoRows.{gap_rows, info_rows, infos_rows}
+use Rattle.snippet_strokes.specs.DrawnBars.{HasBarRoom, barred, is_whole_line, open_below}
 use Rattle.snippet_strokes.specs.SourceRows.{source_row, window_cells}
 use Rattle.snippet_strokes.specs.StrokeRows.{highlighted_row}
 use Rattle.snippet_strokes.proofs.BarRows.{barred-below}

@@ -19,11 +19,12 @@ use Rattle.snippet_window.specs.Window.{dropped_part}
 use Rattle.snippet_window.specs.declared.margin.Margin.{Margin}
 use Rattle.snippet_grid.specs.Layout.{Layout, separator_cell}
 use Rattle.snippet_labels.specs.PlacedEntries.{is_end_part, shifted}
-use Rattle.snippet_labels.specs.Positions.{ArePlaced}
 use Rattle.snippet_labels.specs.declared.positions.PlacedEntry.{PlacedEntry}
 use Rattle.snippet_strokes.specs.declared.bars.BarStroke.TheVariants.{Solid, Top}
 use Rattle.snippet_strokes.specs.declared.bars.OpenBar.{OpenBar}
-use Rattle.snippet_strokes.specs.Bars.{bars_apart, ends_of_bars, is_whole_line}
+use Rattle.snippet_strokes.specs.Bars.{bars_apart, ends_of_bars}
+use Rattle.snippet_strokes.specs.DrawnBars.{is_whole_line}
+use Rattle.snippet_labels.specs.Placing.{ArePlaced}
 use Rattle.snippet_strokes.proofs.BarParts.{with_parts}
 use Rattle.snippet_strokes.specs.Cuts.{overlapped}
 use Rattle.snippet_strokes.proofs.StrokeWords.{cut_row}

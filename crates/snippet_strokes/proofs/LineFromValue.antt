@@ -29,7 +29,7 @@ use Rattle.snippet_labels.specs.declared.positions.PlacedEntry.{PlacedEntry}
 use Rattle.snippet_strokes.specs.declared.bars.BarStroke.TheVariants.{Top}
 use Rattle.snippet_strokes.specs.declared.bars.OpenBar.{OpenBar}
 use Rattle.snippet_strokes.specs.declared.snippet.LineView.{LineView}
-use Rattle.snippet_strokes.specs.Bars.{ends_of_bars, is_whole_line}
+use Rattle.snippet_strokes.specs.Bars.{ends_of_bars}
 use Rattle.snippet_strokes.proofs.BarParts.{with_parts}
 use Rattle.snippet_strokes.specs.Cuts.{overlapped}
 use Rattle.snippet_strokes.proofs.StrokeWords.{cut_row}
@@ -37,7 +37,8 @@ use Rattle.snippet_strokes.proofs.CutWords.{cuts_of}
 use Rattle.snippet_strokes.specs.Drawing.{row_count}
 use Rattle.snippet_strokes.specs.LineRows.{line_rows, own_rows}
 use Rattle.snippet_strokes.specs.Painting.{painting_order}
-use Rattle.snippet_strokes.specs.Snippet.{info_rows}
+use Rattle.snippet_strokes.specs.InfoRows.{info_rows}
+use Rattle.snippet_strokes.specs.DrawnBars.{is_whole_line}
 use Rattle.snippet_strokes.specs.SourceRows.{source_row, window_cells}
 use Rattle.snippet_strokes.specs.StrokeRows.{highlighted_row}
 use Rattle.snippet_strokes.proofs.StrokeWords.{role_in_source}

@@ -12,14 +12,15 @@ use Rattle.snippet_parts.specs.declared.entries.LineAnnotation.{LineAnnotation}
 use Rattle.snippet_strokes.specs.declared.bars.BarStroke.TheVariants.{Top}
 use Rattle.snippet_grid.specs.Layout.{Layout}
 use Rattle.snippet_labels.specs.declared.positions.PlacedEntry.{PlacedEntry}
-use Rattle.snippet_strokes.specs.Bars.{ends_of_bars, is_whole_line}
+use Rattle.snippet_strokes.specs.Bars.{ends_of_bars}
 use Rattle.snippet_strokes.proofs.BarParts.{with_parts}
 use Rattle.snippet_labels.specs.PlacedEntries.{shifted}
 use Rattle.snippet_strokes.proofs.PlainEntries.{wide_entries}
 use Rattle.snippet_strokes.proofs.LineFacts.{StrokesPainted}
 use Rattle.snippet_strokes.specs.LineRows.{own_rows}
 use Rattle.snippet_strokes.specs.Painting.{painting_order}
-use Rattle.snippet_labels.specs.Positions.{ArePlaced}
+use Rattle.snippet_labels.specs.Placing.{ArePlaced}
+use Rattle.snippet_strokes.specs.DrawnBars.{is_whole_line}
 use Rattle.snippet_strokes.specs.Drawing.{row_count}
 use Rattle.snippet_strokes.proofs.CutWords.{Stretch, cut_rows, cuts_of}
 use Rattle.snippet_strokes.proofs.StrokeWords.{cut_row}

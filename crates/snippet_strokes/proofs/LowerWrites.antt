@@ -13,12 +13,12 @@ use Rattle.snippet_parts.specs.declared.entries.LineAnnotationType.{LineAnnotati
 use Rattle.snippet_parts.specs.declared.entries.LineAnnotationType.TheVariants.{Singleline, MultilineStart, MultilineEnd, MultilineLine}
 use Rattle.snippet_grid.specs.Layout.{Layout}
 use Rattle.snippet_labels.specs.declared.positions.PlacedEntry.{PlacedEntry}
-use Rattle.snippet_strokes.specs.Painting.{first_glyph, mark_end, stroke_role}
-use Rattle.snippet_strokes.specs.Drawing.{foot_glyph}
+use Rattle.snippet_strokes.specs.Painting.{stroke_role}
 use Rattle.snippet_labels.specs.Positions.{has_label, has_stem, label_place}
-use Rattle.snippet_strokes.specs.Strokes.{connector_of, connectors_of, corner_of, corners_of}
+use Rattle.snippet_strokes.specs.Strokes.{connector_of, corner_of}
 use Rattle.snippet_strokes.proofs.StrokeWords.{bar_writes, connector_by, corner_by}
-use Rattle.snippet_strokes.specs.Strokes.{label_of, labels_of, stem_of, column_of}
+use Rattle.snippet_strokes.specs.Strokes.{label_of, stem_of, column_of}
+use Rattle.snippet_strokes.specs.PaintedStrokes.{first_glyph, mark_end, foot_glyph, connectors_of, corners_of, labels_of}
 use Rattle.snippet_strokes.proofs.Drawn.{drawn_mark, drawn_strokes, marks_of}
 use Rattle.snippet_strokes.specs.DrawnStems.{is_stem_covered, stems_of}
 use Rattle.snippet_strokes.proofs.StrokeWords.{label_write, line_to, stem_write}

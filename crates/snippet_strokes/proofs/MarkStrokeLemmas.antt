@@ -5,7 +5,7 @@ use Rattle.snippet_style.specs.declared.glyphs.DecorStyle.{DecorStyle}
 use Rattle.snippet_style.specs.declared.glyphs.DecorStyle.TheVariants.{Ascii, Unicode}
 use Rattle.snippet_model.specs.AnnotationKind.{is_primary}
 use Rattle.snippet_labels.specs.declared.positions.PlacedEntry.{PlacedEntry}
-use Rattle.snippet_strokes.specs.Painting.{first_glyph}
+use Rattle.snippet_strokes.specs.PaintedStrokes.{first_glyph}
 use Rattle.snippet_labels.specs.Positions.{has_stem, takes_space}
 use Rattle.snippet_text.specs.Normalized.{is_listed}
 use Rattle.snippet_style.proofs.StrokeLemmas.{EachCode, each_code}

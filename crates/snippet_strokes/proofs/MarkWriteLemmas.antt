@@ -3,7 +3,7 @@ use Rattle.std.proofs.Common.{◌≡◌, ℕ, zero, suc, ◌+◌, ◌-◌, ◌<�
 use Rattle.std.proofs.Common.{inl, inr}
 use Rattle.std.proofs.lemmas.Bool.{cases_lt}
 use Rattle.std.proofs.lemmas.List.{take_all}
-use Rattle.snippet_grid.specs.Grid.{WritesCells, cells_written}
+use Rattle.snippet_grid.specs.Grid.{cells_written}
 use Rattle.snippet_grid.proofs.GridLemmas.{WritesCells-cells_written}
 use Rattle.snippet_model.specs.AnnotationKind.{is_primary}
 use Rattle.snippet_style.specs.Cell.{Cell, text_cells, unlinked_cell}
@@ -11,7 +11,9 @@ use Rattle.snippet_style.specs.Glyphs.{strokes_of}
 use Rattle.snippet_style.specs.declared.role.ElementStyle.{ElementStyle}
 use Rattle.snippet_grid.specs.Layout.{Layout}
 use Rattle.snippet_labels.specs.declared.positions.PlacedEntry.{PlacedEntry}
-use Rattle.snippet_strokes.specs.Painting.{first_glyph, mark_end, painting_order, stroke_role}
+use Rattle.snippet_strokes.specs.Painting.{painting_order, stroke_role}
+use Rattle.snippet_strokes.specs.PaintedStrokes.{first_glyph, mark_end}
+use Rattle.snippet_grid.specs.Calls.{WritesCells}
 use Rattle.snippet_strokes.proofs.Drawn.{drawn_mark, marks_of}
 use Rattle.snippet_strokes.proofs.PaintedMarks.{AreMarked, Painted, Paints, mark_cell}
 use Rattle.snippet_strokes.specs.Writes.{Write, glyph_at, painted, stretch_of}

@@ -5,7 +5,7 @@ use Rattle.snippet_grid.specs.Grid.{cells_written}
 use Rattle.snippet_grid.specs.Layout.{Layout, bar_cell}
 use Rattle.snippet_strokes.specs.declared.bars.BarStroke.{BarStroke}
 use Rattle.snippet_strokes.specs.declared.bars.OpenBar.{OpenBar}
-use Rattle.snippet_strokes.specs.Bars.{bar_cell_part}
+use Rattle.snippet_strokes.specs.DrawnBars.{bar_cell_part}
 use Rattle.snippet_strokes.specs.Writes.{Write}
 
 -- a row with a part of a bar in the cell of its depth

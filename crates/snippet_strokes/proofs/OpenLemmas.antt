@@ -10,9 +10,10 @@ use Rattle.snippet_parts.specs.declared.entries.LineAnnotationType.{LineAnnotati
 use Rattle.snippet_parts.specs.declared.entries.LineAnnotationType.TheVariants.{Singleline, MultilineStart, MultilineEnd, MultilineLine}
 use Rattle.snippet_grid.specs.Layout.{Layout}
 use Rattle.snippet_strokes.specs.declared.bars.OpenBar.{OpenBar}
-use Rattle.snippet_strokes.specs.EntryMarks.{HasBarCell, HasBarCellAt}
 use Rattle.snippet_model.specs.AnnotationKind.{is_primary}
-use Rattle.snippet_strokes.specs.Bars.{HasBarRoom, bar_at, bar_of, bars_apart, ends_of_bars, has_depth, open_below}
+use Rattle.snippet_strokes.specs.Bars.{bar_at, bars_apart, ends_of_bars}
+use Rattle.snippet_strokes.specs.DrawnBars.{HasBarRoom, bar_of, has_depth, open_below}
+use Rattle.snippet_strokes.specs.Drawable.{HasBarCell, HasBarCellAt}
 
 -- the bars of one entry
 one_end : (e : LineAnnotation) → ends_of_bars (e ∷ []) ≡ option_to_list (bar_of e)

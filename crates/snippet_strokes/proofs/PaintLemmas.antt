@@ -8,13 +8,14 @@ use Rattle.snippet_labels.specs.declared.positions.PlacedEntry.{PlacedEntry}
 use Rattle.snippet_style.specs.declared.role.ElementStyle.{ElementStyle}
 use Rattle.snippet_strokes.proofs.MarkStrokeLemmas.{free_strokes, of_first}
 use Rattle.snippet_style.specs.Glyphs.{strokes_of, underline_role}
-use Rattle.snippet_grid.specs.Grid.{cell_at, row_at, WritesCells}
+use Rattle.snippet_grid.specs.Grid.{cell_at, row_at}
 use Rattle.snippet_style.specs.Cell.{Cell, SPACE, unlinked_cell}
 use Rattle.snippet_text.specs.Normalized.{is_listed}
 use Rattle.snippet_grid.specs.Layout.{Layout}
 use Rattle.snippet_model.specs.AnnotationKind.{is_primary}
 use Rattle.snippet_model.specs.FreeRows.{IsFreeCell}
-use Rattle.snippet_strokes.specs.Painting.{first_glyph, mark_end}
+use Rattle.snippet_strokes.specs.PaintedStrokes.{first_glyph, mark_end}
+use Rattle.snippet_grid.specs.Calls.{WritesCells}
 use Rattle.snippet_strokes.proofs.PaintedMarks.{IsPaintedAt, Paints, Painted, ShowsFrom, mark_cell}
 
 -- no cell is painted yet

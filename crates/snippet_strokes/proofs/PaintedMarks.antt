@@ -12,7 +12,7 @@ use Rattle.snippet_labels.specs.PlacedEntries.{entry_width, label_role}
 use Rattle.snippet_labels.proofs.LabelWords.{label_text}
 use Rattle.snippet_model.specs.AnnotationKind.{is_primary}
 use Rattle.snippet_labels.specs.Positions.{has_label, label_place}
-use Rattle.snippet_strokes.specs.Painting.{first_glyph, mark_end}
+use Rattle.snippet_strokes.specs.PaintedStrokes.{first_glyph, mark_end}
 
 -- the later entry may be painted over the earlier one: it is narrower, or as wide, and then primary if the earlier one is
 pub record CoversOver (earlier later : LineAnnotation) : Type 0 where

@@ -5,8 +5,8 @@ use Rattle.std.proofs.lemmas.List.Elements.{All-head, All-tail}
 use Rattle.snippet_lines.specs.OrderedBy.{ordered_by}
 use Rattle.snippet_parts.specs.declared.entries.LineAnnotation.{LineAnnotation}
 use Rattle.snippet_labels.specs.declared.positions.PlacedEntry.{PlacedEntry}
-use Rattle.snippet_labels.specs.Positions.{ArePlaced, HasItsBytes, is_placed_before, line_positions, look_counts, placed_of}
-use Rattle.snippet_labels.specs.Positions.{unplaced}
+use Rattle.snippet_labels.specs.Positions.{is_placed_before, line_positions, look_counts, placed_of}
+use Rattle.snippet_labels.specs.Placing.{ArePlaced, HasItsBytes, unplaced}
 use Rattle.snippet_labels.proofs.PlacedLemmas.{line_positions-changed, look_counts-changed, placed_of-at}
 use Rattle.snippet_labels.proofs.LabelWords.{labelled, placed_at}
 

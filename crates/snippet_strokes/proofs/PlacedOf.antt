@@ -14,8 +14,9 @@ use Rattle.snippet_lines.proofs.OrderLemmas.{All-put_in}
 use Rattle.snippet_parts.specs.declared.entries.LineAnnotation.{LineAnnotation}
 use Rattle.snippet_text.specs.Normalized.{norm, shown}
 use Rattle.snippet_labels.specs.PlacedEntries.{shifted}
-use Rattle.snippet_labels.specs.Positions.{ArePlaced, HasItsBytes, HasItsLabel, IsFromRight, StandsLeft, is_placed_before, line_positions}
-use Rattle.snippet_labels.specs.Positions.{look_counts, placed_of, position_after, position_at, unplaced}
+use Rattle.snippet_labels.specs.Positions.{is_placed_before, line_positions}
+use Rattle.snippet_labels.specs.Positions.{look_counts, placed_of, position_after, position_at}
+use Rattle.snippet_labels.specs.Placing.{ArePlaced, HasItsBytes, HasItsLabel, IsFromRight, StandsLeft, unplaced}
 use Rattle.snippet_labels.specs.declared.positions.PlacedEntry.{PlacedEntry}
 use Rattle.snippet_labels.proofs.LabelWords.{label_chars, labelled, label_text, placed_at}
 use Rattle.snippet_labels.proofs.PlacedLemmas.{ArePlaced-from, length-line_positions, placed_of-at}

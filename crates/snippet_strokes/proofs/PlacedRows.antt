@@ -8,7 +8,8 @@ use Rattle.std.proofs.lemmas.List.Sorted.{length_permutation}
 use Rattle.snippet_parts.specs.declared.entries.LineAnnotation.{LineAnnotation}
 use Rattle.snippet_labels.specs.declared.positions.PlacedEntry.{PlacedEntry}
 use Rattle.snippet_labels.proofs.LabelWords.{label_text}
-use Rattle.snippet_labels.specs.Positions.{has_label, positions, line_positions, ArePlaced}
+use Rattle.snippet_labels.specs.Positions.{has_label, positions, line_positions}
+use Rattle.snippet_labels.specs.Placing.{ArePlaced}
 use Rattle.snippet_labels.proofs.PlacedLemmas.{entries_all}
 use Rattle.snippet_strokes.proofs.PositionLemmas.{line_positions_low, of_positions, positions_sole}
 use Rattle.snippet_strokes.proofs.BegunLemmas.{sole, sole_same}

@@ -16,7 +16,7 @@ use Rattle.snippet_strokes.specs.EntryMarks.{IsMarkCell}
 use Rattle.snippet_strokes.proofs.PlainEntries.{EntryCovers, is_single}
 use Rattle.snippet_labels.specs.PlacedEntries.{is_end_part}
 use Rattle.snippet_model.specs.AnnotationKind.{is_primary}
-use Rattle.snippet_strokes.specs.Painting.{mark_end}
+use Rattle.snippet_strokes.specs.PaintedStrokes.{mark_end}
 use Rattle.snippet_strokes.proofs.PaintedMarks.{IsPaintedAt, mark_cell}
 
 -- a mark cell of an entry that stands for a whole span is one of its kind

@@ -4,12 +4,11 @@ use Rattle.snippet_grid.specs.Layout.{Layout}
 use Rattle.snippet_parts.specs.declared.entries.LineAnnotation.{LineAnnotation}
 use Rattle.snippet_style.specs.Bounds.{FitsRow}
 use Rattle.snippet_labels.specs.declared.positions.PlacedEntry.{PlacedEntry}
-use Rattle.snippet_labels.specs.PlacedEntries.{HasPlace, shifted}
+use Rattle.snippet_labels.specs.PlacedEntries.{shifted}
 use Rattle.snippet_labels.proofs.LabelWords.{label_text}
-use Rattle.snippet_labels.specs.Positions.{ArePlaced, HasItsLabel}
 use Rattle.snippet_labels.proofs.PlacedLemmas.{entries_all}
-use Rattle.snippet_strokes.specs.Drawable.{AreDrawable, IsReady}
-use Rattle.snippet_strokes.specs.EntryMarks.{HasBarCell}
+use Rattle.snippet_strokes.specs.Drawable.{AreDrawable, IsReady, HasBarCell}
+use Rattle.snippet_labels.specs.Placing.{HasPlace, ArePlaced, HasItsLabel}
 use Rattle.snippet_strokes.proofs.ShiftLemmas.{shifted_bars, shifted_places}
 use Rattle.snippet_strokes.proofs.TextLemmas.{labels_short}
 

@@ -20,12 +20,14 @@ use Rattle.snippet_window.specs.declared.margin.Margin.{Margin}
 use Rattle.snippet_labels.specs.PlacedEntries.{shifted}
 use Rattle.snippet_strokes.specs.declared.bars.OpenBar.{OpenBar}
 use Rattle.snippet_strokes.specs.declared.bars.BarStroke.TheVariants.{Solid, Top}
-use Rattle.snippet_strokes.specs.Bars.{HasBarRoom, bars_apart, ends_of_bars, is_whole_line, open_below}
+use Rattle.snippet_strokes.specs.Bars.{bars_apart, ends_of_bars}
 use Rattle.snippet_strokes.proofs.BarParts.{with_parts}
 use Rattle.snippet_strokes.specs.Drawable.{AreDrawable}
 use Rattle.snippet_strokes.proofs.LineFacts.{AreLineRows, AreOwnRows, CanBeShown, IsHighlighted, IsSourceRow, ShowsLine}
 use Rattle.snippet_strokes.specs.declared.snippet.LineView.{LineView}
-use Rattle.snippet_strokes.specs.Snippet.{gap_row, gap_rows, info_rows, infos_rows}
+use Rattle.snippet_strokes.specs.Snippet.{gap_row}
+use Rattle.snippet_strokes.specs.InfoRows.{gap_rows, info_rows, infos_rows}
+use Rattle.snippet_strokes.specs.DrawnBars.{HasBarRoom, is_whole_line, open_below}
 use Rattle.snippet_strokes.specs.SourceRows.{window_cells}
 use Rattle.snippet_strokes.proofs.BarLemmas.{AreSeen-drawn, BarsDrawn-with_parts, bar_space}
 use Rattle.snippet_strokes.proofs.ElisionLemmas.{gap_drawn}

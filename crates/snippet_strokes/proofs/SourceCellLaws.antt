@@ -19,7 +19,7 @@ use Rattle.snippet_strokes.specs.Painting.{painting_order, stroke_role}
 use Rattle.snippet_strokes.specs.Writes.{Write, glyph_at, painted}
 use Rattle.snippet_labels.proofs.PlacedLemmas.{entries_all}
 use Rattle.snippet_strokes.specs.declared.bars.BarStroke.TheVariants.{Dotted, Solid, Top}
-use Rattle.snippet_strokes.specs.Bars.{Bar, HasOwnDepth, bar_at, bar_of, bars_apart, ends_of_bars, has_depth, is_whole_line}
+use Rattle.snippet_strokes.specs.Bars.{Bar, bar_at, bars_apart, ends_of_bars}
 use Rattle.snippet_strokes.proofs.BarParts.{with_parts}
 use Rattle.snippet_strokes.specs.Drawing.{row_count}
 use Rattle.snippet_strokes.proofs.BarFacts.{BarBegins}
@@ -28,7 +28,9 @@ use Rattle.snippet_strokes.proofs.LineRowLemmas.{rows_cut}
 use Rattle.snippet_strokes.proofs.Reach.{Reaches}
 use Rattle.snippet_strokes.specs.StrokeRows.{bare_elision_row}
 use Rattle.snippet_strokes.specs.Snippet.{gap_row}
-use Rattle.snippet_strokes.specs.Strokes.{column_of, connector_of, connectors_of, corner_of, corners_of, labels_of}
+use Rattle.snippet_strokes.specs.Strokes.{column_of, connector_of, corner_of}
+use Rattle.snippet_strokes.specs.PaintedStrokes.{connectors_of, corners_of, labels_of}
+use Rattle.snippet_strokes.specs.DrawnBars.{HasOwnDepth, bar_of, has_depth, is_whole_line}
 use Rattle.snippet_strokes.proofs.StrokeWords.{begun_rows, corner_by}
 use Rattle.snippet_strokes.proofs.Drawn.{drawn_strokes, marks_of}
 use Rattle.snippet_strokes.specs.DrawnStems.{stems_of}

@@ -19,9 +19,10 @@ use Rattle.snippet_style.specs.Cell.{Cell, SPACE, text_cells, written}
 use Rattle.snippet_style.specs.Glyphs.{strokes_of}
 use Rattle.snippet_style.specs.Separators.{separator_row}
 use Rattle.snippet_strokes.specs.SourceRows.{bare_row}
-use Rattle.snippet_strokes.specs.Painting.{first_glyph, mark_end, stroke_role}
+use Rattle.snippet_strokes.specs.Painting.{stroke_role}
 use Rattle.snippet_strokes.specs.DrawnStems.{stems_of}
-use Rattle.snippet_strokes.specs.Strokes.{connectors_of, connector_of, corner_of, corners_of, labels_of, label_of, top_of, tops_of}
+use Rattle.snippet_strokes.specs.Strokes.{connector_of, corner_of, label_of}
+use Rattle.snippet_strokes.specs.PaintedStrokes.{first_glyph, mark_end, connectors_of, corners_of, labels_of, top_of, tops_of}
 use Rattle.snippet_strokes.specs.Writes.{Write, glyph_at, painted, stretch_of}
 use Rattle.snippet_strokes.proofs.BarWrites.{All-column_of, All-connector_of, All-stretch_of}
 use Rattle.snippet_strokes.proofs.BegunLemmas.{begun_row, sole}

@@ -13,14 +13,14 @@ use Rattle.snippet_parts.specs.declared.entries.LineAnnotationType.{LineAnnotati
 use Rattle.snippet_parts.specs.declared.entries.LineAnnotationType.TheVariants.{Singleline, MultilineStart, MultilineEnd, MultilineLine}
 use Rattle.snippet_grid.specs.Layout.{Layout}
 use Rattle.snippet_labels.specs.declared.positions.PlacedEntry.{PlacedEntry}
-use Rattle.snippet_strokes.specs.EntryMarks.{HasBarCell, HasBarCellAt}
 use Rattle.snippet_strokes.specs.Labels.{IsStrokeCell, stroke_glyphs}
-use Rattle.snippet_strokes.specs.Painting.{first_glyph, mark_end, stroke_role}
-use Rattle.snippet_strokes.specs.Drawing.{foot_glyph}
+use Rattle.snippet_strokes.specs.Painting.{stroke_role}
 use Rattle.snippet_labels.specs.Positions.{has_label}
 use Rattle.snippet_strokes.proofs.Reach.{Reaches, cell_of_write}
 use Rattle.snippet_strokes.specs.Writes.{Write, glyph_at, painted, stretch_of}
-use Rattle.snippet_strokes.specs.Strokes.{connector_of, connectors_of, corner_of, corners_of, label_of, labels_of}
+use Rattle.snippet_strokes.specs.Strokes.{connector_of, corner_of, label_of}
+use Rattle.snippet_strokes.specs.PaintedStrokes.{first_glyph, mark_end, foot_glyph, connectors_of, corners_of, labels_of}
+use Rattle.snippet_strokes.specs.Drawable.{HasBarCell, HasBarCellAt}
 use Rattle.snippet_strokes.proofs.StrokeWords.{bar_writes, corner_by, label_write}
 use Rattle.snippet_strokes.specs.Strokes.{stem_of}
 use Rattle.snippet_strokes.proofs.Drawn.{drawn_mark, drawn_strokes, marks_of}

@@ -16,23 +16,26 @@ use Rattle.snippet_grid.proofs.GridLemmas.{row_at-cells_written_same}
 use Rattle.snippet_style.proofs.CellLemmas.{length-written}
 use Rattle.snippet_grid.specs.Layout.{Layout}
 use Rattle.snippet_labels.specs.declared.positions.PlacedEntry.{PlacedEntry}
-use Rattle.snippet_strokes.specs.EntryMarks.{HasBarCell, IsBarCell, is_mark_role}
+use Rattle.snippet_strokes.specs.EntryMarks.{IsBarCell, is_mark_role}
 use Rattle.snippet_strokes.proofs.PlainEntries.{EntryCovers, are_plain, is_single, wide_entries}
-use Rattle.snippet_labels.specs.PlacedEntries.{HasPlace, label_role}
+use Rattle.snippet_labels.specs.PlacedEntries.{label_role}
 use Rattle.snippet_labels.proofs.LabelWords.{label_text}
 use Rattle.snippet_model.specs.FreeRows.{IsFreeCell}
-use Rattle.snippet_strokes.specs.Painting.{mark_end, painting_order}
+use Rattle.snippet_strokes.specs.Painting.{painting_order}
 use Rattle.snippet_strokes.proofs.PaintedMarks.{IsPaintedAt, AreMarked, StandsWhole}
 use Rattle.snippet_strokes.specs.Writes.{painted}
 use Rattle.snippet_strokes.specs.Drawing.{HasRows, row_count}
 use Rattle.snippet_strokes.proofs.DrawnCells.{DrawsFrom, DrawsBarCells, KeepsBarCells, MarksStarts, StandsFrom}
-use Rattle.snippet_labels.specs.Positions.{HasItsLabel, has_label, has_stem, takes_space, ArePlaced}
+use Rattle.snippet_labels.specs.Positions.{has_label, has_stem, takes_space}
 use Rattle.snippet_strokes.specs.SourceRows.{bare_row}
 use Rattle.snippet_strokes.proofs.SeenRows.{AreSeen, CutsRows, HasNoBars, IsCut, IsStrokeRow, ShowsMarks}
 use Rattle.snippet_style.specs.Separators.{separator_row}
 use Rattle.snippet_strokes.proofs.DrawLemmas.{DrawsFrom-more, bar_space}
 use Rattle.snippet_strokes.specs.Labels.{IsStrokeCell}
-use Rattle.snippet_strokes.specs.Strokes.{connectors_of, corners_of, is_uncut, labels_of}
+use Rattle.snippet_strokes.specs.Strokes.{is_uncut}
+use Rattle.snippet_strokes.specs.PaintedStrokes.{mark_end, connectors_of, corners_of, labels_of}
+use Rattle.snippet_labels.specs.Placing.{HasPlace, HasItsLabel, ArePlaced}
+use Rattle.snippet_strokes.specs.Drawable.{HasBarCell}
 use Rattle.snippet_strokes.proofs.Drawn.{drawn_strokes, marks_of}
 use Rattle.snippet_strokes.specs.DrawnStems.{stems_of}
 use Rattle.snippet_strokes.proofs.LabelPlaces.{HasStrokesBeside, LabelsStand-placed}

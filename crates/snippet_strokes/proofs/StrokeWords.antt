@@ -13,7 +13,7 @@ use Rattle.snippet_style.specs.Cell.{Cell, gives_way, text_cells}
 use Rattle.snippet_style.specs.Glyphs.{strokes_of, placeholder_of}
 use Rattle.snippet_style.specs.Separators.{separator_row}
 use Rattle.snippet_strokes.specs.Bars.{bar_at}
-use Rattle.snippet_strokes.specs.Drawing.{foot_glyph}
+use Rattle.snippet_strokes.specs.PaintedStrokes.{foot_glyph}
 use Rattle.snippet_strokes.specs.Painting.{stroke_role}
 use Rattle.snippet_strokes.specs.SourceRows.{bare_row}
 use Rattle.snippet_strokes.specs.Strokes.{column_of}

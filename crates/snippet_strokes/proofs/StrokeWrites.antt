@@ -12,11 +12,11 @@ use Rattle.snippet_style.specs.Glyphs.{strokes_of, underline_role}
 use Rattle.snippet_model.specs.AnnotationKind.{is_primary}
 use Rattle.snippet_labels.specs.PlacedEntries.{label_role}
 use Rattle.snippet_labels.proofs.LabelWords.{label_text}
-use Rattle.snippet_strokes.specs.Drawing.{foot_glyph}
 use Rattle.snippet_labels.specs.Positions.{has_label, label_place}
 use Rattle.snippet_strokes.specs.Writes.{Write, glyph_at, painted}
 use Rattle.snippet_strokes.proofs.OneStep.{written_by}
-use Rattle.snippet_strokes.specs.Strokes.{column_of, connectors_of, corners_of, label_of, labels_of}
+use Rattle.snippet_strokes.specs.Strokes.{column_of, label_of}
+use Rattle.snippet_strokes.specs.PaintedStrokes.{foot_glyph, connectors_of, corners_of, labels_of}
 use Rattle.snippet_strokes.proofs.StrokeWords.{label_write, stem_write}
 use Rattle.snippet_strokes.proofs.Drawn.{drawn_strokes, drawn_under_marks, marks_of}
 use Rattle.snippet_strokes.specs.DrawnStems.{stems_of}

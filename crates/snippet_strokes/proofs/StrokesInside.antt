@@ -21,11 +21,12 @@ use Rattle.snippet_strokes.specs.Cuts.{overlapped}
 use Rattle.snippet_strokes.proofs.StrokeWords.{cut_row}
 use Rattle.snippet_strokes.proofs.CutWords.{cuts_of}
 use Rattle.snippet_strokes.specs.Drawing.{HasRows, row_count}
-use Rattle.snippet_strokes.specs.Painting.{first_glyph, mark_end, painting_order, stroke_role}
+use Rattle.snippet_strokes.specs.Painting.{painting_order, stroke_role}
 use Rattle.snippet_strokes.specs.SourceRows.{bare_row}
-use Rattle.snippet_strokes.specs.Strokes.{column_of, connector_of, connectors_of, corner_of, corners_of, label_of}
+use Rattle.snippet_strokes.specs.Strokes.{column_of, connector_of, corner_of, label_of}
 use Rattle.snippet_strokes.proofs.StrokeWords.{bar_writes, begun_rows, corner_by}
-use Rattle.snippet_strokes.specs.Strokes.{labels_of, stroke_rows}
+use Rattle.snippet_strokes.specs.Strokes.{stroke_rows}
+use Rattle.snippet_strokes.specs.PaintedStrokes.{first_glyph, mark_end, connectors_of, corners_of, labels_of}
 use Rattle.snippet_strokes.proofs.Drawn.{drawn_mark, drawn_strokes, marks_of}
 use Rattle.snippet_strokes.specs.DrawnStems.{stems_of}
 use Rattle.snippet_strokes.specs.Writes.{Write, glyph_at, painted, stretch_of}

@@ -18,7 +18,8 @@ use Rattle.snippet_labels.proofs.LabelWords.{label_text}
 use Rattle.snippet_strokes.proofs.SeenLabels.{IsLabelledAtEnd}
 use Rattle.snippet_strokes.proofs.LabelPlaces.{LabelsStand-none}
 use Rattle.std.proofs.lemmas.List.Elements.{All-cons, All-head, All-nil, All-tail}
-use Rattle.snippet_strokes.specs.Bars.{is_beside, is_whole_line}
+use Rattle.snippet_strokes.specs.Bars.{is_beside}
+use Rattle.snippet_strokes.specs.DrawnBars.{is_whole_line}
 use Rattle.snippet_labels.specs.Positions.{is_start_part}
 use Rattle.snippet_strokes.proofs.SeenRows.{AreSeen, AreStrokes, HasNoBars, IsBeside}
 

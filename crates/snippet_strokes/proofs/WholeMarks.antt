@@ -12,7 +12,8 @@ use Rattle.snippet_style.proofs.CellLemmas.{slice_index_or-written_inside}
 use Rattle.snippet_style.specs.Cell.{Cell, SPACE, text_cells, unlinked_cell, written}
 use Rattle.snippet_style.specs.Glyphs.{strokes_of}
 use Rattle.snippet_style.specs.declared.role.ElementStyle.{ElementStyle}
-use Rattle.snippet_strokes.specs.Painting.{first_glyph, mark_end, stroke_role}
+use Rattle.snippet_strokes.specs.Painting.{stroke_role}
+use Rattle.snippet_strokes.specs.PaintedStrokes.{first_glyph, mark_end}
 use Rattle.snippet_strokes.proofs.Drawn.{drawn_mark}
 use Rattle.snippet_strokes.specs.Writes.{Write, glyph_at, painted, stretch_of}
 use Rattle.snippet_strokes.proofs.WriteLemmas.{less, stretch_of-none}

@@ -1,5 +1,5 @@
 -- What a line has to have, and its entries, so that they can be drawn.
-use Rattle.std.specs.Prelude.{◌≤◌, List, All, IfSome, length}
+use Rattle.std.specs.Prelude.{◌≤◌, List, All, IfSome, length, ◌+◌, ◌<◌}
 use Rattle.snippet_lines.specs.Number.{shown_number}
 use Rattle.snippet_lines.specs.declared.number.LineNumbers.{LineNumbers}
 use Rattle.snippet_parts.specs.declared.entries.AnnotatedLineInfo.{AnnotatedLineInfo}
@@ -8,12 +8,24 @@ use Rattle.snippet_text.specs.TextBounds.{TextFits}
 use Rattle.snippet_style.specs.Bounds.{FitsRow}
 use Rattle.snippet_window.specs.Measures.{StandsClear}
 use Rattle.snippet_window.specs.declared.margin.Margin.{Margin}
-use Rattle.snippet_grid.specs.Layout.{Layout, separator_cell}
+use Rattle.snippet_grid.specs.Layout.{Layout, separator_cell, inner_cell}
 use Rattle.snippet_labels.specs.declared.positions.PlacedEntry.{PlacedEntry}
-use Rattle.snippet_labels.specs.PlacedEntries.{HasPlace}
+use Rattle.snippet_labels.specs.Placing.{HasPlace, HasItsLabel}
 use Rattle.snippet_text.specs.Normalized.{normalized_chars}
-use Rattle.snippet_labels.specs.Positions.{HasItsLabel}
-use Rattle.snippet_strokes.specs.EntryMarks.{HasBarCell}
+use Rattle.snippet_parts.specs.declared.entries.LineAnnotationType.{LineAnnotationType}
+use Rattle.snippet_parts.specs.declared.entries.LineAnnotationType.TheVariants.{Singleline, MultilineStart, MultilineEnd, MultilineLine}
+
+-- there is a cell for the bar of an entry, and one after it, between the separator and the code: bars stand from the inner
+-- cell on, that of depth 1 first
+abbrev pub HasBarCellAt : Layout → LineAnnotationType → Type 0
+HasBarCellAt layout Singleline = Unit {0}
+HasBarCellAt layout (MultilineStart depth) = (0 < depth) × (inner_cell layout + depth < layout.code)
+HasBarCellAt layout (MultilineEnd depth) = (0 < depth) × (inner_cell layout + depth < layout.code)
+HasBarCellAt layout (MultilineLine depth) = (0 < depth) × (inner_cell layout + depth < layout.code)
+
+-- there is a cell for the bar of this entry, if it has one
+abbrev pub HasBarCell : Layout → LineAnnotation → Type 0
+HasBarCell layout e = HasBarCellAt layout e.annotation_type
 
 -- the entries of a line can be drawn: each has its place, its bar, if it has one, has a cell, and the text of its label fits
 pub record AreDrawable (layout : Layout) (es : List LineAnnotation) : Type 0 where

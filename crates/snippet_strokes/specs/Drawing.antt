@@ -1,14 +1,11 @@
 -- What the entries of a line need so that their strokes can be drawn, and how many rows these take.
-use Rattle.std.specs.Prelude.{◌≡◌, ℕ, ◌+◌, ◌<◌, ◌==◌, ◌&&◌, true, List, All, if◌then◌else◌, fold, max}
-use Rattle.snippet_style.specs.declared.glyphs.DecorStyle.{DecorStyle}
-use Rattle.snippet_style.specs.Glyphs.{strokes_of}
+use Rattle.std.specs.Prelude.{◌≡◌, ℕ, ◌+◌, ◌<◌, ◌==◌, true, List, All, if◌then◌else◌, fold, max}
 use Rattle.snippet_grid.specs.Layout.{Layout}
 use Rattle.snippet_labels.specs.declared.positions.PlacedEntry.{PlacedEntry}
-use Rattle.snippet_labels.specs.PlacedEntries.{HasPlace}
+use Rattle.snippet_labels.specs.Placing.{HasPlace}
 use Rattle.snippet_strokes.specs.Drawable.{IsReady}
 use Rattle.snippet_style.specs.Bounds.{AreRows}
-use Rattle.snippet_model.specs.AnnotationKind.{is_primary}
-use Rattle.snippet_labels.specs.Positions.{are_starts, has_label, is_start_part, takes_space}
+use Rattle.snippet_labels.specs.Positions.{are_starts, has_label}
 
 -- the rows that an entry needs are there: down to that of its stem, or where it has none that of the marks, and where its
 -- label hangs down to that of the label
@@ -30,17 +27,6 @@ pub record AreEnough (layout : Layout) (row count : ℕ) (placed : List PlacedEn
   pub small : AreRows count
   pub rows : All (HasRows (row + 1) count) placed
   pub ready : All (IsReady layout) placed
-
--- the glyph at the foot of an entry's stem: of a start the corner at which the line to its bar begins, of an end with a label the branch
--- there, else the stem's own
-abbrev pub foot_glyph : DecorStyle → PlacedEntry → ℕ
-foot_glyph decor e =
-    let strokes = strokes_of decor (is_primary e.entry.kind) in
-    if is_start_part e.entry.annotation_type then strokes.corner else (if takes_space e && has_label e then strokes.corner_with_label else strokes.stem)
-
--- the greatest position of some entries
-abbrev pub lowest_position : List PlacedEntry → ℕ
-lowest_position placed = fold (λ lowest e. max lowest e.position) 0 placed
 
 -- how many rows the strokes of some entries take: that of the marks, and below it, where an entry needs a row of its own,
 -- as many as the lowest position, and one more for labels, which starts don't have

@@ -1,29 +1,13 @@
 -- The cells in which the bars of entries stand, and cells that hold a mark.
-use Rattle.std.specs.Prelude.{◌≡◌, ◌+◌, ◌<◌, ◌==◌, Bool, true, false, None}
+use Rattle.std.specs.Prelude.{◌≡◌, ◌==◌, Bool, true, false, None}
 use Rattle.std.specs.List.{list_any}
 use Rattle.snippet_model.specs.AnnotationKind.{is_primary}
 use Rattle.snippet_model.specs.declared.snippet.AnnotationKind.{AnnotationKind}
-use Rattle.snippet_parts.specs.declared.entries.LineAnnotation.{LineAnnotation}
-use Rattle.snippet_parts.specs.declared.entries.LineAnnotationType.{LineAnnotationType}
-use Rattle.snippet_parts.specs.declared.entries.LineAnnotationType.TheVariants.{Singleline, MultilineStart, MultilineEnd, MultilineLine}
-use Rattle.snippet_grid.specs.Layout.{Layout, inner_cell}
 use Rattle.snippet_style.specs.Glyphs.{IsMarkGlyph, underline_role, bar_glyphs}
 use Rattle.snippet_style.specs.Cell.{Cell}
 use Rattle.snippet_style.specs.declared.glyphs.DecorStyle.{DecorStyle}
 use Rattle.snippet_style.specs.declared.role.ElementStyle.{ElementStyle}
 use Rattle.snippet_style.specs.declared.role.ElementStyle.TheVariants.{UnderlinePrimary, UnderlineSecondary}
-
--- there is a cell for the bar of an entry, and one after it, between the separator and the code: bars stand from the inner
--- cell on, that of depth 1 first
-abbrev pub HasBarCellAt : Layout → LineAnnotationType → Type 0
-HasBarCellAt layout Singleline = Unit {0}
-HasBarCellAt layout (MultilineStart depth) = (0 < depth) × (inner_cell layout + depth < layout.code)
-HasBarCellAt layout (MultilineEnd depth) = (0 < depth) × (inner_cell layout + depth < layout.code)
-HasBarCellAt layout (MultilineLine depth) = (0 < depth) × (inner_cell layout + depth < layout.code)
-
--- there is one for the bar of this entry
-abbrev pub HasBarCell : Layout → LineAnnotation → Type 0
-HasBarCell layout e = HasBarCellAt layout e.annotation_type
 
 -- a cell left of the code holds nothing but a part of a bar: one of its glyphs, or a space
 pub record IsBarCell (decor : DecorStyle) (cell : Cell) : Type 0 where

@@ -15,3 +15,6 @@ pub mod Snippet
 pub mod SourceRows
 pub mod Strokes
 pub mod Writes
+pub mod DrawnBars
+pub mod PaintedStrokes
+pub mod InfoRows

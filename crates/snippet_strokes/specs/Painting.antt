@@ -3,7 +3,6 @@ use Rattle.std.specs.Prelude.{ℕ, ◌+◌, ◌==◌, ◌&&◌, ◌||◌, nat_lt
 use Rattle.std.specs.Prelude.{if◌then◌else◌}
 use Rattle.snippet_lines.specs.OrderedBy.{ordered_by}
 use Rattle.snippet_parts.specs.declared.entries.LineAnnotation.{LineAnnotation}
-use Rattle.snippet_style.specs.declared.glyphs.DecorStyle.{DecorStyle}
 use Rattle.snippet_style.specs.Glyphs.{strokes_of, underline_role}
 use Rattle.snippet_grid.specs.Layout.{Layout, code_cell}
 use Rattle.snippet_labels.specs.declared.positions.PlacedEntry.{PlacedEntry}
@@ -39,20 +38,3 @@ mark_of layout row e =
     let own = if takes_space e then (if has_stem e then strokes.end_down else strokes.end_flat) else strokes.label_start in
     stretch_of row from (code_cell layout e.entry.end.display) strokes.underline (stroke_role e)
     ++ (if nat_le e.entry.start.display e.entry.end.display && (takes_space e || has_stem e) then glyph_at row from own (stroke_role e) ∷ [] else [])
-
--- ---- what the code finds for a mark
-
--- the glyph at the first column of an entry's mark: of a start or an end the corner where the line to its bar meets the mark,
--- or where a stem leads down to that line the stem's top; of another entry the top of the stem that its label hangs from,
--- or where it has none the underline
-abbrev pub first_glyph : DecorStyle → PlacedEntry → ℕ
-first_glyph decor e =
-    let strokes = strokes_of decor (is_primary e.entry.kind) in
-    if takes_space e then (if has_stem e then strokes.end_down else strokes.end_flat)
-    else (if has_stem e then strokes.label_start else strokes.underline)
-
--- the column after the last one at which an entry's mark is painted: after its first column even where it covers none, if
--- a glyph of its own stands there
-abbrev pub mark_end : PlacedEntry → ℕ
-mark_end e =
-    if e.entry.start.display == e.entry.end.display && (takes_space e || has_stem e) then e.entry.end.display + 1 else e.entry.end.display

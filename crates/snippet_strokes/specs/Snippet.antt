@@ -1,19 +1,15 @@
 -- The rows of a snippet.
-use Rattle.std.specs.Prelude.{ℕ, ◌+◌, ◌==◌, ◌&&◌, Bool, not, List, [], ◌∷◌, ◌++◌, chars, filter, if◌then◌else◌, length, nat_lt}
-use Rattle.snippet_parts.specs.declared.entries.AnnotatedLineInfo.{AnnotatedLineInfo}
+use Rattle.std.specs.Prelude.{ℕ, Bool, not, List, filter}
 use Rattle.snippet_parts.specs.declared.entries.LineAnnotation.{LineAnnotation}
 use Rattle.snippet_window.specs.declared.margin.Margin.{Margin}
 use Rattle.snippet_window.specs.Window.{dropped_part}
 use Rattle.snippet_grid.specs.Layout.{Layout}
 use Rattle.snippet_style.specs.Cell.{Cell}
-use Rattle.snippet_text.specs.Normalized.{norm}
 use Rattle.snippet_text.specs.Width.{width_of}
 use Rattle.snippet_labels.specs.PlacedEntries.{is_end_part}
 use Rattle.snippet_strokes.specs.declared.bars.OpenBar.{OpenBar}
-use Rattle.snippet_strokes.specs.declared.snippet.LineView.{LineView}
-use Rattle.snippet_strokes.specs.Bars.{open_below, with_bars}
+use Rattle.snippet_strokes.specs.Bars.{with_bars}
 use Rattle.snippet_strokes.specs.LineRows.{line_rows}
-use Rattle.snippet_lines.specs.Number.{shown_number}
 use Rattle.snippet_strokes.specs.SourceRows.{source_row, window_cells}
 use Rattle.snippet_strokes.specs.StrokeRows.{bare_elision_row, highlighted_row}
 
@@ -27,27 +23,6 @@ shown_rows layout margin closes open_bars number text es =
     line_rows layout margin.term_width closes text dropped open_bars es
     (highlighted_row layout.code dropped (filter (λ e. not (is_end_part e.annotation_type)) es) plain)
 
--- the rows of a line that is shown
-abbrev pub info_rows : Layout → LineView → List OpenBar → AnnotatedLineInfo → List (List Cell)
-info_rows layout view open_bars info =
-    shown_rows layout view.margin view.closes open_bars (shown_number view.numbers layout.gutter info.line_index) (norm (chars info.line.now))
-    info.annotations.items
-
 -- the row that stands for lines that are left out, where these bars run past them
 abbrev pub gap_row : Layout → List OpenBar → List Cell
 gap_row layout open_bars = with_bars layout (λ strokes. strokes.elided_bar) open_bars (bare_elision_row layout.decor layout.gutter)
-
--- what stands between the rows of a line of this number and those of the next of these lines: the row for the lines that are left
--- out, if there are any, with the bars that are open there
-abbrev pub gap_rows : Layout → List OpenBar → ℕ → List AnnotatedLineInfo → List (List Cell)
-gap_rows layout open_bars number [] = []
-gap_rows layout open_bars number (next ∷ infos) =
-    if nat_lt (number + 1) next.line_index then gap_row layout open_bars ∷ [] else []
-
--- the rows of these lines, where these bars are open above the first; the window may close with the last
-abbrev pub infos_rows : Layout → LineView → List OpenBar → List AnnotatedLineInfo → List (List Cell)
-infos_rows layout view open_bars [] = []
-infos_rows layout view open_bars (info ∷ infos) =
-    let below = open_below open_bars info.annotations.items in
-    info_rows layout (record view { closes = view.closes && length infos == 0 }) open_bars info
-    ++ (gap_rows layout below info.line_index infos ++ infos_rows layout view below infos)

@@ -70,16 +70,6 @@ corner_of layout row count e =
     else column_of row corner cell strokes.bar (stroke_role e) ++ glyph_at corner cell strokes.bar_bottom (stroke_role e) ∷ [] in
     option_map_or (λ bar. drawn (bar_cell layout bar.depth)) (bar_at e.entry.annotation_type (is_primary e.entry.kind)) []
 
--- what of it stands in the source row: the uppermost part of the bar of an end
-abbrev pub top_of : Layout → ℕ → PlacedEntry → List Write
-top_of layout row e =
-    let strokes = strokes_of layout.decor (is_primary e.entry.kind) in
-    let drawn : ℕ → List Write = λ cell. if is_start_part e.entry.annotation_type then [] else glyph_at row cell strokes.bar (stroke_role e) ∷ [] in
-    option_map_or (λ bar. drawn (bar_cell layout bar.depth)) (bar_at e.entry.annotation_type (is_primary e.entry.kind)) []
-
-abbrev pub tops_of : Layout → ℕ → List PlacedEntry → List Write
-tops_of layout row placed = flat_map (top_of layout row) placed
-
 -- ---- all of them
 
 -- all strokes of a line. Its source row is `row`, and below it come as many rows that there are `count` in all: the lines to bars, the
@@ -109,23 +99,3 @@ stroke_rows layout room closes es source =
     let bare = replicate (count - 1) (separator_row layout.decor layout.gutter) ++ bare_row layout.decor layout.gutter closes ∷ [] in
     let whole = painted (line_strokes layout 0 (count + 1) placed order) (source ∷ bare) in
     map (λ row. fold (cut_middle layout room) row (cut_pairs placed)) (take 2 whole) ++ drop 2 whole
-
--- ---- a part of them, as its painter promises it
-
--- the lines to the bars of some entries, the first row of which is `row`, that of the marks
-abbrev pub connectors_of : Layout → ℕ → List PlacedEntry → List Write
-connectors_of layout row placed = flat_map (connector_of layout row) placed
-
--- their bars with corners, where the source row is `row`
-abbrev pub corners_of : Layout → ℕ → ℕ → List PlacedEntry → List Write
-corners_of layout row count placed = flat_map (corner_of layout row count) placed
-
--- their labels
-abbrev pub labels_of : Layout → ℕ → List PlacedEntry → List Write
-labels_of layout row placed = flat_map (label_of layout row) placed
-
--- the strokes of a line but its marks
-abbrev pub strokes_under_marks : Layout → ℕ → ℕ → List PlacedEntry → List Write
-strokes_under_marks layout row count placed =
-    connectors_of layout (row + 1) placed ++ corners_of layout row count placed ++ flat_map (stem_of layout (row + 1)) placed
-    ++ labels_of layout (row + 1) placed

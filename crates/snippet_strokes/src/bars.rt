@@ -3,8 +3,9 @@ ghost use Rattle.std.specs.Prelude.{◌≡◌, ◌+◌, ◌-◌, ◌<◌, ◌≤
 ghost use Rattle.std.specs.Prelude.{chars, slice_index_or};
 ghost use Rattle.snippet_strokes.specs.declared.bars.OpenBar.{OpenBar};
 ghost use Rattle.snippet_strokes.specs.Bars as spec;
-ghost use Rattle.snippet_strokes.specs.Bars.{HasBarRoom, HasSideRoom, StandsBeside, bar_cell_part, barred};
-ghost use Rattle.snippet_strokes.specs.Bars.{changed_from};
+ghost use Rattle.snippet_strokes.specs.DrawnBars as drawn;
+ghost use Rattle.snippet_strokes.specs.DrawnBars.{HasBarRoom, HasSideRoom, StandsBeside, bar_cell_part, barred};
+ghost use Rattle.snippet_strokes.specs.DrawnBars.{changed_from};
 ghost use Rattle.snippet_strokes.specs.Bars.{ends_of_bars};
 ghost use Rattle.snippet_style.specs.Cell.{SPACE, written};
 ghost use Rattle.snippet_grid.specs.Layout.{bar_cell};
@@ -50,7 +51,7 @@ struct BarSide {
 impl BarStroke {
     /// The glyph of the part.
     fn glyph(self, decor: DecorStyle, primary: bool) -> char
-        ensures value { result ≡ spec.bar_glyph self decor primary }
+        ensures value { result ≡ drawn.bar_glyph self decor primary }
     {
         match self {
             BarStroke::Top => decor.underline(primary).whole_line,
@@ -83,7 +84,7 @@ pub(crate) fn ends_on(
 
 /// The bar that the start or the end of a span of several lines opens or closes.
 fn bar_of(entry: &LineAnnotation) -> Option<OpenBar>
-    ensures value { result ≡ spec.bar_of entry.now }
+    ensures value { result ≡ drawn.bar_of entry.now }
 {
     match entry.annotation_type {
         LineAnnotationType::MultilineStart(depth) | LineAnnotationType::MultilineEnd(depth) => {
@@ -137,7 +138,7 @@ pub(crate) fn add_bars_apart(
 
 /// Whether one of some bars has this depth.
 fn has_depth(bars: &[OpenBar], depth: usize) -> bool
-    ensures value { result ≡ spec.has_depth bars.now depth }
+    ensures value { result ≡ drawn.has_depth bars.now depth }
 {
     bars.iter().any(|bar| bar.depth == depth)
 }
@@ -250,7 +251,7 @@ fn draw_parts(
 ) -> Result<(), AllocError>
     requires side { HasSideRoom layout side.first side.count }
     requires part { chars part.now ≡ replicate side.count
-        (spec.bar_glyph side.stroke layout.decor side.first.primary) }
+        (drawn.bar_glyph side.stroke layout.decor side.first.primary) }
     ensures value { OnOk result (buffer.new ≡ changed_from
         (λ cells. written SPACE cells (bar_cell layout side.first.depth)
         (replicate side.count (bar_cell_part layout side.stroke side.first)))

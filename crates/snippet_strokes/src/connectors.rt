@@ -1,8 +1,9 @@
 //! The lines that lead from the ends of spans of several lines to their bars.
 ghost use Rattle.std.specs.Prelude.{◌≡◌, ◌+◌, ◌<◌, All, OnOk, length};
-ghost use Rattle.snippet_strokes.specs.EntryMarks.{HasBarCell};
 ghost use Rattle.snippet_strokes.specs.Drawing.{HasPlaceAmong};
-ghost use Rattle.snippet_strokes.specs.Strokes.{connector_of, connectors_of};
+ghost use Rattle.snippet_strokes.specs.Strokes.{connector_of};
+ghost use Rattle.snippet_strokes.specs.PaintedStrokes.{connectors_of};
+ghost use Rattle.snippet_strokes.specs.Drawable.{HasBarCell};
 ghost use Rattle.snippet_strokes.specs.Painting.{stroke_role};
 ghost use Rattle.snippet_strokes.specs.Writes.{painted, stretch_of};
 ghost use Rattle.snippet_grid.specs.Layout.{code_cell, inner_cell};

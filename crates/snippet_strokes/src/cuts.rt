@@ -3,13 +3,14 @@ ghost use Rattle.std.specs.Prelude.{◌≡◌, ◌+◌, ◌/◌, ◌<◌, ◌≤
 ghost use Rattle.std.specs.List.{list_any, zip};
 ghost use Rattle.snippet_parts.specs.Entries.{is_wide_entry};
 ghost use Rattle.snippet_style.specs.Glyphs.{placeholder_of};
-ghost use Rattle.snippet_grid.specs.Grid.{cells_replaced, changed_within};
+ghost use Rattle.snippet_grid.specs.Grid.{changed_within};
 ghost use Rattle.snippet_style.specs.Cell.{text_cells};
 ghost use Rattle.snippet_style.specs.declared.role.ElementStyle.TheVariants.{LineNumber};
 ghost use Rattle.snippet_strokes.specs.Cuts as rule;
 ghost use Rattle.snippet_strokes.specs.LookedCuts as spec;
 ghost use Rattle.snippet_strokes.specs.LookedCuts.{is_wide_at};
-ghost use Rattle.snippet_labels.specs.PlacedEntries.{HasPlace};
+ghost use Rattle.snippet_labels.specs.Placing.{HasPlace};
+ghost use Rattle.snippet_grid.specs.Calls.{cells_replaced};
 ghost use Rattle.snippet_labels.specs.Positions.{do_overlap};
 ghost use Rattle.snippet_style.specs.Bounds.{AreRows, HasNext, IsCount};
 

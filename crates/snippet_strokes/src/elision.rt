@@ -1,8 +1,9 @@
 //! The rows that stand for lines that aren't shown.
 ghost use Rattle.std.specs.Prelude.{◌≡◌, ◌++◌, ◌∷◌, [], All, OnOk};
-ghost use Rattle.snippet_strokes.specs.Bars.{HasBarRoom};
 ghost use Rattle.snippet_strokes.specs.StrokeRows.{bare_elision_row};
-ghost use Rattle.snippet_strokes.specs.Snippet.{gap_row, gap_rows};
+ghost use Rattle.snippet_strokes.specs.Snippet.{gap_row};
+ghost use Rattle.snippet_strokes.specs.InfoRows.{gap_rows};
+ghost use Rattle.snippet_strokes.specs.DrawnBars.{HasBarRoom};
 ghost use Rattle.snippet_parts.specs.ShownLines.{infos_of};
 
 use crate::bars::{BarStroke, OpenBar, draw_bars};

@@ -1,7 +1,8 @@
 //! The parts of the source that are coloured as their marks are.
 ghost use Rattle.std.specs.Prelude.{◌+◌, ◌-◌, ◌≡◌, OnOk, filter, length, max, not};
 ghost use Rattle.snippet_labels.specs.PlacedEntries as spec;
-ghost use Rattle.snippet_grid.specs.Grid.{cells_restyled, changed_within, row_at};
+ghost use Rattle.snippet_grid.specs.Grid.{changed_within, row_at};
+ghost use Rattle.snippet_grid.specs.Calls.{cells_restyled};
 ghost use Rattle.snippet_strokes.specs.StrokeRows.{highlighted_row};
 ghost use Rattle.snippet_model.specs.AnnotationKind as kinds;
 ghost use Rattle.snippet_style.specs.Bounds.{IsRowEnd, IsWindowColumn};

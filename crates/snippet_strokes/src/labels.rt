@@ -1,11 +1,11 @@
 //! The labels of marks.
 ghost use Rattle.std.specs.Prelude.{◌≡◌, All, OnOk, length};
-ghost use Rattle.snippet_labels.specs.PlacedEntries.{HasPlace};
 ghost use Rattle.snippet_text.specs.Normalized.{normalized_chars};
 ghost use Rattle.snippet_strokes.specs.Drawing.{HasPlaceAmong};
 ghost use Rattle.snippet_labels.specs.Positions as spec;
-ghost use Rattle.snippet_labels.specs.Positions.{HasItsLabel};
-ghost use Rattle.snippet_strokes.specs.Strokes.{label_of, labels_of};
+ghost use Rattle.snippet_strokes.specs.Strokes.{label_of};
+ghost use Rattle.snippet_strokes.specs.PaintedStrokes.{labels_of};
+ghost use Rattle.snippet_labels.specs.Placing.{HasPlace, HasItsLabel};
 ghost use Rattle.snippet_strokes.specs.Writes.{painted};
 ghost use Rattle.snippet_style.specs.Bounds.{FitsRow, HasNext};
 

@@ -2,7 +2,8 @@
 ghost use Rattle.std.specs.Prelude.{◌≡◌, ◌==◌, ◌&&◌, All, OnOk};
 ghost use Rattle.std.specs.List.{flat_map};
 ghost use Rattle.snippet_labels.specs.PlacedEntries as spec;
-ghost use Rattle.snippet_strokes.specs.Painting.{first_glyph, mark_end, mark_of, painting_order};
+ghost use Rattle.snippet_strokes.specs.Painting.{mark_of, painting_order};
+ghost use Rattle.snippet_strokes.specs.PaintedStrokes.{first_glyph, mark_end};
 ghost use Rattle.snippet_strokes.specs.Writes.{painted};
 ghost use Rattle.snippet_style.specs.Bounds.{HasNext, IsColumn};
 

@@ -3,9 +3,11 @@ ghost use Rattle.std.specs.Prelude.{◌≡◌, ◌++◌, [], false, true, List, 
 ghost use Rattle.snippet_parts.specs.ShownLines.{infos_of};
 ghost use Rattle.snippet_strokes.specs.Drawable.{IsDrawableLine};
 ghost use Rattle.snippet_strokes.specs.Bars as spec;
-ghost use Rattle.snippet_strokes.specs.Bars.{Bar, FitBeside, HasBarRoom, bars_apart, ends_of_bars, open_below};
+ghost use Rattle.snippet_strokes.specs.DrawnBars as drawn;
+ghost use Rattle.snippet_strokes.specs.Bars.{Bar, bars_apart, ends_of_bars};
 ghost use Rattle.snippet_text.specs.Normalized.{norm};
-ghost use Rattle.snippet_strokes.specs.Snippet.{info_rows, infos_rows};
+ghost use Rattle.snippet_strokes.specs.InfoRows.{info_rows, infos_rows};
+ghost use Rattle.snippet_strokes.specs.DrawnBars.{FitBeside, HasBarRoom, open_below};
 
 use crate::bars::{BarStroke, OpenBar, add_bars_apart, bars_apart, draw_bars, ends_on};
 use crate::elision::draw_gap;
@@ -166,7 +168,7 @@ fn draw_whole_line(
     beside: Beside<'_>,
 ) -> Result<(), AllocError>
     requires drawable { IsDrawableLine layout view.margin view.numbers line.now.info }
-    requires whole { spec.is_whole_line (norm (chars line.now.info.line.now)) line.now.info.annotations.items ≡ true }
+    requires whole { drawn.is_whole_line (norm (chars line.now.info.line.now)) line.now.info.annotations.items ≡ true }
     requires ends { beside.tops.now ≡ ends_of_bars line.now.info.annotations.items }
     requires beside { FitBeside layout beside.tops.now beside.past.now }
     ensures added { OnOk result ((above : List Bar)
@@ -186,7 +188,7 @@ fn draw_marked_line(
     past: &[OpenBar],
 ) -> Result<(), AllocError>
     requires drawable { IsDrawableLine layout view.margin view.numbers line.now.info }
-    requires other { spec.is_whole_line (norm (chars line.now.info.line.now)) line.now.info.annotations.items ≡ false }
+    requires other { drawn.is_whole_line (norm (chars line.now.info.line.now)) line.now.info.annotations.items ≡ false }
     requires past { All (HasBarRoom layout) past.now }
     ensures added { OnOk result ((above : List Bar)
         → past.now ≡ bars_apart above (ends_of_bars line.now.info.annotations.items)

@@ -1,14 +1,16 @@
 //! All that stands below the source row of a line, and the bars beside it of spans that begin or end there.
 ghost use Rattle.std.specs.Prelude.{◌≡◌, ◌+◌, ◌<◌, ◌++◌, ◌∷◌, [], ℕ, if◌then◌else◌, All, List, OnOk};
 ghost use Rattle.std.specs.Prelude.{◌-◌, false, length, replicate};
-ghost use Rattle.snippet_strokes.specs.Bars.{is_whole_line};
 ghost use Rattle.snippet_strokes.specs.Drawable.{AreDrawable, IsReady};
 ghost use Rattle.snippet_strokes.specs.LineRows.{own_rows};
 ghost use Rattle.snippet_style.specs.Cell.{Cell};
 ghost use Rattle.snippet_strokes.specs.Drawing as spec;
+ghost use Rattle.snippet_strokes.specs.PaintedStrokes as painter;
 ghost use Rattle.snippet_strokes.specs.Drawing.{AreEnough, HasRows};
 ghost use Rattle.snippet_strokes.specs.SourceRows.{bare_row};
-ghost use Rattle.snippet_strokes.specs.Strokes.{line_strokes, strokes_under_marks};
+ghost use Rattle.snippet_strokes.specs.Strokes.{line_strokes};
+ghost use Rattle.snippet_strokes.specs.PaintedStrokes.{strokes_under_marks};
+ghost use Rattle.snippet_strokes.specs.DrawnBars.{is_whole_line};
 ghost use Rattle.snippet_strokes.specs.Painting.{painting_order};
 ghost use Rattle.snippet_strokes.specs.Writes.{painted};
 ghost use Rattle.snippet_style.specs.Separators.{closing_row, separator_row};
@@ -229,7 +231,7 @@ fn row_count(placed: &[PlacedEntry]) -> usize
 
 /// The greatest position of some entries.
 fn lowest_position(placed: &[PlacedEntry]) -> usize
-    ensures value { result ≡ spec.lowest_position placed.now }
+    ensures value { result ≡ painter.lowest_position placed.now }
 {
     let mut lowest = 0;
     for entry in placed {

@@ -3,6 +3,7 @@ ghost use Rattle.std.specs.Prelude.{◌≡◌, chars, length, take};
 ghost use Rattle.std.specs.Char.{is_whitespace};
 ghost use Rattle.std.specs.List.{list_all};
 ghost use Rattle.snippet_strokes.specs.Bars as spec;
+ghost use Rattle.snippet_strokes.specs.DrawnBars as drawn;
 ghost use Rattle.snippet_text.specs.Normalized.{norm, shown};
 
 use snippet_parts::{LineAnnotation, LineAnnotationType};
@@ -15,7 +16,7 @@ use snippet_parts::{LineAnnotation, LineAnnotationType};
 ///     2 | |     x             a bar beside a line
 /// ```
 pub(crate) fn is_whole_line(line: &str, entries: &[LineAnnotation]) -> bool
-    ensures value { result ≡ spec.is_whole_line (norm (chars line.now)) entries.now }
+    ensures value { result ≡ drawn.is_whole_line (norm (chars line.now)) entries.now }
 {
     let mut last_start = 0;
     for entry in entries {

@@ -10,7 +10,8 @@ use Rattle.std.specs.Char.{encode_utf8}
 use mir.Val.{bool_byte}
 use Rattle.snippet_style.specs.declared.role.ElementStyle.{ElementStyle}
 use Rattle.snippet_style.specs.Cell.{Cell}
-use Rattle.snippet_grid.specs.Grid.{cells_restyled, changed_within, restyled}
+use Rattle.snippet_grid.specs.Grid.{changed_within, restyled}
+use Rattle.snippet_grid.specs.Calls.{cells_restyled}
 use Rattle.snippet_splice.specs.declared.stretches.SubstitutionHighlight.{SubstitutionHighlight}
 use Rattle.snippet_splice.specs.EditStretches.{capped}
 use Rattle.snippet_suggest.specs.declared.roles.TabCursor.{TabCursor}

@@ -9,7 +9,8 @@ use Rattle.std.proofs.lemmas.List.{append-nil, append_assoc, get_or-set_same, ge
 use Rattle.std.proofs.lemmas.List.{same_lists, take_all}
 use Rattle.std.proofs.Math.Seq.{take-append_seam, drop-append_seam}
 use Rattle.std.proofs.Math.ListN.{drop_of_length-le}
-use Rattle.snippet_grid.specs.Grid.{linked, row_at, cells_written, changed_within, cells_linked}
+use Rattle.snippet_grid.specs.Grid.{linked, row_at, cells_written, changed_within}
+use Rattle.snippet_grid.specs.Calls.{cells_linked}
 use Rattle.snippet_style.specs.Cell.{Cell, SPACE, text_cells, written}
 use Rattle.snippet_style.specs.declared.role.ElementStyle.{ElementStyle}
 use Rattle.snippet_style.proofs.CellLemmas.{slice_index_or-written_inside, length-written, written_end}

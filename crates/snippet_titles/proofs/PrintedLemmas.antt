@@ -9,7 +9,7 @@ use Rattle.snippet_grid.proofs.OpenRowLemmas.{adds_more}
 use Rattle.snippet_grid.proofs.RowsWoven.{rows_one}
 use Rattle.snippet_grid.specs.Layout.{separator_cell}
 use Rattle.snippet_grid.specs.OpenRow.{AddsCells, IsPrinted}
-use Rattle.snippet_grid.specs.Woven.{WeavesRow, WeavesRows}
+use Rattle.snippet_grid.specs.Weaving.{WeavesRow, WeavesRows}
 use Rattle.snippet_grid.specs.declared.printed_row.PrintedRow.{PrintedRow}
 use Rattle.snippet_model.specs.Heading.{Heading, is_hidden}
 use Rattle.snippet_model.specs.Level.{name_of}

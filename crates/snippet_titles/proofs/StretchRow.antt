@@ -10,7 +10,8 @@ use Rattle.std.specs.Str.{chars}
 use Rattle.snippet_grid.proofs.StretchPrinted.{stretch_printed}
 use Rattle.snippet_grid.proofs.WeaveLemmas.{Url, Goes}
 use Rattle.snippet_grid.specs.Stretch.{PrintsStretch}
-use Rattle.snippet_grid.specs.Woven.{Prints, WeavesRow, piece_text}
+use Rattle.snippet_grid.specs.Woven.{Prints, piece_text}
+use Rattle.snippet_grid.specs.Weaving.{WeavesRow}
 use Rattle.snippet_titles.specs.StretchCells.{cells_alike, stretch_cells}
 use Rattle.snippet_titles.specs.declared.stretch.RowStretch.{RowStretch}
 use Rattle.snippet_style.specs.Cell.{Cell}

@@ -1,7 +1,8 @@
 -- What the parts of a heading do to a grid.
 use Rattle.std.specs.Prelude.{◌≡◌, ◌≤◌, ℕ, List, [], ◌∷◌, ◌++◌, Option, None, Some, take, length}
 use Rattle.snippet_style.specs.Bounds.{max_usize}
-use Rattle.snippet_grid.specs.Grid.{row_at, cells_written, cells_linked}
+use Rattle.snippet_grid.specs.Grid.{row_at, cells_written}
+use Rattle.snippet_grid.specs.Calls.{cells_linked}
 use Rattle.snippet_style.specs.Cell.{Cell}
 use Rattle.snippet_titles.specs.HeadingRows.{without_empty_end}
 

@@ -2,7 +2,7 @@
 ghost use Rattle.std.specs.Prelude.{◌≡◌, false, true, Bool, IfOk, None, OnOk, string_bytes};
 ghost use Rattle.std.specs.Option.{option_copied};
 ghost use Rattle.snippet_grid.specs.OpenRow.{AddsCells};
-ghost use Rattle.snippet_grid.specs.Woven.{WeavesRows};
+ghost use Rattle.snippet_grid.specs.Weaving.{WeavesRows};
 ghost use Rattle.snippet_titles.specs.HeadingRows.{heading_rows, id_cells, label_cells, sign_cells};
 ghost use Rattle.snippet_titles.specs.PrintedHeading.{IsPlainHeading};
 ghost use Rattle.snippet_titles.specs.Title.{id_address};

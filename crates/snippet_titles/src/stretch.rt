@@ -8,7 +8,8 @@ ghost use Rattle.snippet_grid.specs.Stretch.{PrintsStretch};
 ghost use Rattle.snippet_titles.specs.StretchCells.{cells_alike, stretch_cells, stretch_room};
 ghost use Rattle.snippet_style.specs.Cell.{text_cells};
 ghost use Rattle.snippet_style.specs.Stylesheet.{style_of};
-ghost use Rattle.snippet_grid.specs.Woven.{Opening, Reset, LinkTo, LinkEnd, Prints, WeavesRow, piece_text};
+ghost use Rattle.snippet_grid.specs.Woven.{Opening, Reset, LinkTo, LinkEnd, Prints, piece_text};
+ghost use Rattle.snippet_grid.specs.Weaving.{WeavesRow};
 
 use snippet_style::{ElementStyle, LevelInner, Stylesheet, reset_code, write_opening};
 use std::alloc::{AllocError, Global};

@@ -13,7 +13,7 @@ ghost use Rattle.std.specs.Prelude.{◌≡◌, ◌++◌, [], All, Bool, IfOk, Li
 ghost use Rattle.std.specs.Prelude.{true, ℕ};
 ghost use Rattle.std.specs.List.{flat_map};
 ghost use Rattle.std.specs.Option.{option_copied};
-ghost use Rattle.snippet_grid.specs.Woven.{WeavesRows};
+ghost use Rattle.snippet_grid.specs.Weaving.{WeavesRows};
 ghost use Rattle.snippet_model.specs.Fits.{MessageFits};
 ghost use Rattle.snippet_model.specs.Heading.{heading_of_message, heading_of_title};
 ghost use Rattle.snippet_style.specs.Cell.{Cell};

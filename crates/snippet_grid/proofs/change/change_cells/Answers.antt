@@ -10,7 +10,7 @@ use Rattle.snippet_grid.proofs.RowPut.{RowAt-read, row_shows, begins_fit}
 use Rattle.snippet_grid.proofs.ShownLemmas.{All-IsRun-grown}
 use Rattle.snippet_grid.proofs.StretchLemmas.{stretch, BeginsWith-trans}
 use Rattle.snippet_grid.specs.Changes.{changed_by, ShowsSpan}
-use Rattle.snippet_grid.specs.Grid.{cells_changed}
+use Rattle.snippet_grid.specs.Calls.{cells_changed}
 use Rattle.snippet_style.specs.Cell.{Cell}
 use Rattle.snippet_grid.specs.Runs.{IsRun, IsPut, FitIn, shown_cell}
 use Rattle.snippet_grid.specs.declared.runs.Run.{Run}

@@ -16,7 +16,8 @@ use Rattle.snippet_style.specs.Cell.{text_cells}
 use Rattle.snippet_grid.specs.Runs.{IsRun, EndsBy, FitIn}
 use Rattle.snippet_grid.specs.declared.runs.Run.{Run}
 use Rattle.snippet_grid.proofs.StoredLemmas.{stored_grown}
-use Rattle.snippet_grid.specs.Grid.{cells_replaced, row_at}
+use Rattle.snippet_grid.specs.Grid.{row_at}
+use Rattle.snippet_grid.specs.Calls.{cells_replaced}
 use Rattle.snippet_grid.specs.Stored.{Stored}
 use Rattle.snippet_grid.proofs.replace.replace_cells.Goals as goal
 

@@ -44,7 +44,8 @@ returns-clause-ok c =
     let front : c.range.result.now ≡ run_bytes text first = c.range.ensures.value ∙ ap (λ (t : List ℕ). run_bytes t first) c.deref.ensures in
     let back : c.range-2.result.now ≡ run_bytes text second = c.range-2.ensures.value ∙ ap (λ (t : List ℕ). run_bytes t second) c.deref-2.ensures in
     let both : string_bytes c.push_str-2.new.self ≡ run_bytes text first ++ run_bytes text second = c.in_ok-push_str-2.ensures.bytes
-    ∙ ap (λ (t : List ℕ). t ++ c.range-2.result.now) (c.in_ok-push_str.ensures.bytes ∙ ap (λ (t : List ℕ). t ++ c.range.result.now) c.clear.ensures.bytes ∙ front)
+    ∙ ap (λ (t : List ℕ). t ++ c.range-2.result.now)
+    (c.in_ok-push_str.ensures.bytes ∙ ap (λ (t : List ℕ). t ++ c.range.result.now) c.clear.ensures.bytes ∙ front)
     ∙ ap (λ (t : List ℕ). run_bytes text first ++ t) back in
     IsJoined-copied text new first second _ (IsUtf8-string_bytes c.args.text.now) (IsUtf8-string_bytes c.push_str-3.new.self) c.requires.first
     c.requires.second c.requires.continues (c.in_ok-push_str-3.ensures.bytes ∙ ap (λ (t : List ℕ). text ++ t) (c.as_str-2.ensures.value ∙ both)) refl refl

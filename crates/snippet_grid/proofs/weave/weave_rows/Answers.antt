@@ -4,7 +4,7 @@ use Rattle.snippet_grid.proofs.RowPut.{row_ends}
 use Rattle.snippet_grid.proofs.RowsWoven.{rows_next, rows_all}
 use Rattle.snippet_grid.specs.Changes.{RowAt}
 use Rattle.snippet_grid.specs.Runs.{cells_to}
-use Rattle.snippet_grid.specs.Woven.{WeavesRow}
+use Rattle.snippet_grid.specs.Weaving.{WeavesRow}
 use Rattle.snippet_grid.proofs.StretchLemmas.{stretch}
 use Rattle.snippet_style.specs.declared.stylesheet.Stylesheet.{Stylesheet}
 use Rattle.snippet_grid.proofs.weave.weave_rows.Goals as goal

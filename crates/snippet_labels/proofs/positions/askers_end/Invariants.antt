@@ -1,5 +1,5 @@
 use Rattle.std.proofs.Common.{◌≡◌, ℕ, ◌<◌, ◌≤◌, false, get_or}
-use Rattle.snippet_labels.specs.Positions.{asks}
+use Rattle.snippet_labels.specs.Placing.{asks}
 use Rattle.snippet_labels.specs.declared.positions.PlacedEntry.{PlacedEntry}
 use Rattle.snippet_labels.proofs.positions.askers_end.Given as goal
 

@@ -1,6 +1,7 @@
 use Rattle.std.proofs.Common.{◌≡◌, ◌∙◌, ◌+◌, ◌-◌, ◌≤◌, ◌++◌, ◌∷◌, [], rules, ℕ, map, sym, ap, subst, take, drop, length, arith}
 use Rattle.std.proofs.lemmas.List.{take_all, get_or-drop, length-drop, map_push}
-use Rattle.snippet_labels.specs.Positions.{asks, look_counts, looked_after, position_at, position_after, positions}
+use Rattle.snippet_labels.specs.Positions.{look_counts, looked_after, position_at, position_after, positions}
+use Rattle.snippet_labels.specs.Placing.{asks}
 use Rattle.snippet_labels.specs.declared.positions.FoundPosition.{FoundPosition}
 use Rattle.snippet_labels.proofs.PlacedLemmas.{look_counts_more, position_after-front, positions_more, reached_low}
 use Rattle.snippet_labels.proofs.positions.label_positions.Goals as goal

@@ -5,7 +5,7 @@ use Rattle.snippet_parts.specs.declared.entries.LineAnnotation.{LineAnnotation}
 use Rattle.snippet_labels.specs.declared.positions.PlacedEntry.{PlacedEntry}
 use Rattle.snippet_labels.specs.PlacedEntries.{shifted}
 use Rattle.snippet_labels.proofs.LabelWords.{label_text}
-use Rattle.snippet_labels.specs.Positions.{HasItsBytes, HasItsLabel}
+use Rattle.snippet_labels.specs.Placing.{HasItsBytes, HasItsLabel}
 use Rattle.snippet_labels.proofs.CharLemmas.{bytes_of_chars}
 use Rattle.snippet_labels.proofs.RowLemmas.{counts_more, labelled_more}
 use Rattle.snippet_labels.proofs.positions.labelled_entries.Goals as goal

@@ -6,7 +6,8 @@ use Rattle.snippet_parts.specs.declared.entries.LineAnnotation.{LineAnnotation}
 use Rattle.snippet_labels.specs.declared.positions.PlacedEntry.{PlacedEntry}
 use Rattle.snippet_labels.proofs.PlacedLemmas.{length-line_positions, entries_all, written_back, ArePlaced-from, shifted_narrow}
 use Rattle.snippet_labels.specs.PlacedEntries.{shifted}
-use Rattle.snippet_labels.specs.Positions.{ArePlaced, HasItsBytes, HasItsLabel, StandInRow, line_positions, look_counts, unplaced}
+use Rattle.snippet_labels.specs.Positions.{line_positions, look_counts}
+use Rattle.snippet_labels.specs.Placing.{ArePlaced, HasItsBytes, HasItsLabel, StandInRow, unplaced}
 use Rattle.snippet_labels.proofs.RowLemmas.{ArePlaced-row, map-reverse}
 use Rattle.snippet_labels.specs.declared.positions.FoundPosition.{FoundPosition}
 use Rattle.std.proofs.lemmas.List.{length-map, reverse-reverse}

@@ -1,7 +1,7 @@
 use Rattle.std.proofs.Common.{ℕ, ◌<◌, ◌∙◌, refl, sym, arith, length, map}
 use Rattle.std.proofs.lemmas.List.{get_or-map, length-map, length-set}
 use Rattle.std.proofs.Math.Seq.{map-set_same}
-use Rattle.snippet_labels.specs.Positions.{unplaced}
+use Rattle.snippet_labels.specs.Placing.{unplaced}
 use Rattle.snippet_labels.specs.declared.positions.FoundPosition.{FoundPosition}
 use Rattle.snippet_labels.specs.declared.positions.PlacedEntry.{PlacedEntry}
 use Rattle.snippet_labels.proofs.PlacedLemmas.{placed_more}

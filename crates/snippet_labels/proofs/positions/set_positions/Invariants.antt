@@ -1,5 +1,5 @@
 use Rattle.std.proofs.Common.{◌≡◌, length, map, take}
-use Rattle.snippet_labels.specs.Positions.{unplaced}
+use Rattle.snippet_labels.specs.Placing.{unplaced}
 use Rattle.snippet_labels.proofs.positions.set_positions.Given as goal
 
 -- the entries so far have their positions, and their counts

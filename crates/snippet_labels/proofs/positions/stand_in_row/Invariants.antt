@@ -1,5 +1,5 @@
 use Rattle.std.proofs.Common.{◌-◌, ◌^◌, drop}
-use Rattle.snippet_labels.specs.Positions.{StandInRow}
+use Rattle.snippet_labels.specs.Placing.{StandInRow}
 use Rattle.snippet_labels.proofs.positions.stand_in_row.Given as goal
 
 -- the entries need one row if those from here on do, left of what is still free

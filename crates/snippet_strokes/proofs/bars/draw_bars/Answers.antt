@@ -1,7 +1,7 @@
 use Rattle.std.proofs.Common.{◌≡◌, ◌==◌, ◌∙◌, [], ap, arith, length, refl, sym, true, ℕ}
 use Rattle.std.proofs.lemmas.Bool.Decides.{nat_tests}
 use Rattle.std.proofs.lemmas.List.{nil_from_length}
-use Rattle.snippet_strokes.specs.Bars.{barred}
+use Rattle.snippet_strokes.specs.DrawnBars.{barred}
 use Rattle.snippet_strokes.proofs.BarParts.{with_parts}
 use Rattle.snippet_strokes.proofs.BarRows.{changed_same}
 use Rattle.snippet_strokes.proofs.bars.draw_bars.Goals as goal

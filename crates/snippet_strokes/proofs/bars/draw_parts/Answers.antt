@@ -3,7 +3,7 @@ use Rattle.std.proofs.lemmas.List.{length-replicate}
 use Rattle.std.specs.Str.{chars}
 use Rattle.snippet_grid.specs.Layout.{Layout}
 use Rattle.snippet_grid.specs.Grid.{cells_written}
-use Rattle.snippet_strokes.specs.Bars.{bar_glyph, bar_cell_part}
+use Rattle.snippet_strokes.specs.DrawnBars.{bar_glyph, bar_cell_part}
 use Rattle.snippet_strokes.proofs.BarRows.{ChangesRows-next, ChangesRows-none, changed-is}
 use Rattle.snippet_style.specs.Cell.{text_cells, unlinked_cell}
 use Rattle.snippet_strokes.proofs.LineLemmas.{text_cells-replicate, some_bytes}

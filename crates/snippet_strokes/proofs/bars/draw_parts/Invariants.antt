@@ -1,6 +1,6 @@
 use Rattle.std.proofs.Common.{◌+◌, replicate}
 use Rattle.snippet_style.specs.Cell.{SPACE, written}
-use Rattle.snippet_strokes.specs.Bars.{bar_cell_part}
+use Rattle.snippet_strokes.specs.DrawnBars.{bar_cell_part}
 use Rattle.snippet_strokes.proofs.BarRows.{ChangesRows}
 use Rattle.snippet_strokes.proofs.bars.draw_parts.Given as goal
 

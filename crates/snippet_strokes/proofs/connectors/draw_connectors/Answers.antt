@@ -5,7 +5,8 @@ use Rattle.snippet_style.specs.Cell.{Cell}
 use Rattle.snippet_grid.specs.Layout.{Layout}
 use Rattle.snippet_labels.specs.declared.positions.PlacedEntry.{PlacedEntry}
 use Rattle.snippet_strokes.specs.Drawing.{HasPlaceAmong, HasRows}
-use Rattle.snippet_strokes.specs.Strokes.{connector_of, connectors_of}
+use Rattle.snippet_strokes.specs.Strokes.{connector_of}
+use Rattle.snippet_strokes.specs.PaintedStrokes.{connectors_of}
 use Rattle.snippet_strokes.specs.Writes.{painted}
 use Rattle.snippet_strokes.proofs.BarWrites.{DrawsFrom-connectors}
 use Rattle.snippet_strokes.proofs.WriteLemmas.{painted_more}

@@ -1,5 +1,5 @@
 use Rattle.std.proofs.Common.{◌≡◌, take}
-use Rattle.snippet_strokes.specs.Strokes.{connectors_of}
+use Rattle.snippet_strokes.specs.PaintedStrokes.{connectors_of}
 use Rattle.snippet_strokes.specs.Writes.{painted}
 use Rattle.snippet_strokes.proofs.connectors.draw_connectors.Given as goal
 

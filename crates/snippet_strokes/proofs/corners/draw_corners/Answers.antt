@@ -4,9 +4,10 @@ use Rattle.std.proofs.lemmas.List.Elements.{All-take}
 use Rattle.snippet_style.specs.Cell.{Cell}
 use Rattle.snippet_grid.specs.Layout.{Layout}
 use Rattle.snippet_labels.specs.declared.positions.PlacedEntry.{PlacedEntry}
-use Rattle.snippet_strokes.specs.EntryMarks.{HasBarCell}
 use Rattle.snippet_strokes.specs.Drawing.{HasRows}
-use Rattle.snippet_strokes.specs.Strokes.{corner_of, corners_of}
+use Rattle.snippet_strokes.specs.Strokes.{corner_of}
+use Rattle.snippet_strokes.specs.PaintedStrokes.{corners_of}
+use Rattle.snippet_strokes.specs.Drawable.{HasBarCell}
 use Rattle.snippet_strokes.specs.Writes.{painted}
 use Rattle.snippet_strokes.proofs.BarWrites.{DrawsBarCells-corners}
 use Rattle.snippet_strokes.proofs.WriteLemmas.{painted_more}

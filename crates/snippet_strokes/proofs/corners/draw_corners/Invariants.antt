@@ -1,5 +1,5 @@
 use Rattle.std.proofs.Common.{◌≡◌, length, take}
-use Rattle.snippet_strokes.specs.Strokes.{corners_of}
+use Rattle.snippet_strokes.specs.PaintedStrokes.{corners_of}
 use Rattle.snippet_strokes.specs.Writes.{painted}
 use Rattle.snippet_strokes.proofs.corners.draw_corners.Given as goal
 

@@ -1,6 +1,6 @@
 -- The bars of the entries so far are drawn.
 use Rattle.std.proofs.Common.{◌≡◌, take}
-use Rattle.snippet_strokes.specs.Strokes.{tops_of}
+use Rattle.snippet_strokes.specs.PaintedStrokes.{tops_of}
 use Rattle.snippet_strokes.specs.Writes.{painted}
 use Rattle.snippet_strokes.proofs.corners.draw_tops.Given as goal
 

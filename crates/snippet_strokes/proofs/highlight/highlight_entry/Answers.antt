@@ -1,5 +1,6 @@
 use Rattle.std.proofs.Common.{◌≡◌, ℕ, ◌+◌, ◌-◌, ◌<◌, ◌≤◌, max, length, ap, ◌∙◌, arith}
-use Rattle.snippet_grid.specs.Grid.{cells_restyled, restyled, row_at}
+use Rattle.snippet_grid.specs.Grid.{restyled, row_at}
+use Rattle.snippet_grid.specs.Calls.{cells_restyled}
 use Rattle.snippet_model.specs.AnnotationKind.{is_primary}
 use Rattle.snippet_style.specs.declared.glyphs.Strokes.{Strokes}
 use Rattle.snippet_style.specs.Glyphs.{underline_role}

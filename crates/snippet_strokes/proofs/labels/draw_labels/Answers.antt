@@ -4,10 +4,11 @@ use Rattle.std.proofs.lemmas.List.Elements.{All-take}
 use Rattle.snippet_style.specs.Cell.{Cell}
 use Rattle.snippet_grid.specs.Layout.{Layout}
 use Rattle.snippet_labels.specs.declared.positions.PlacedEntry.{PlacedEntry}
-use Rattle.snippet_labels.specs.PlacedEntries.{HasPlace}
 use Rattle.snippet_strokes.specs.Drawing.{HasPlaceAmong, HasRows}
 use Rattle.snippet_strokes.specs.Writes.{painted}
-use Rattle.snippet_strokes.specs.Strokes.{label_of, labels_of}
+use Rattle.snippet_strokes.specs.Strokes.{label_of}
+use Rattle.snippet_strokes.specs.PaintedStrokes.{labels_of}
+use Rattle.snippet_labels.specs.Placing.{HasPlace}
 use Rattle.snippet_strokes.proofs.LabelWrites.{DrawsFrom-labels}
 use Rattle.snippet_strokes.proofs.WriteLemmas.{painted_more}
 use Rattle.snippet_strokes.proofs.labels.draw_labels.Goals as goal

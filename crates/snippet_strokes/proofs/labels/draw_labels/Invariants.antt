@@ -1,5 +1,5 @@
 use Rattle.std.proofs.Common.{◌≡◌, take}
-use Rattle.snippet_strokes.specs.Strokes.{labels_of}
+use Rattle.snippet_strokes.specs.PaintedStrokes.{labels_of}
 use Rattle.snippet_strokes.specs.Writes.{painted}
 use Rattle.snippet_strokes.proofs.labels.draw_labels.Given as goal
 

@@ -3,7 +3,7 @@ use Rattle.std.proofs.lemmas.Result.{on_ok_weaker}
 use Rattle.snippet_style.specs.Glyphs.{strokes_of, underline_role}
 use Rattle.snippet_grid.specs.Layout.{Layout, code_cell}
 use Rattle.snippet_grid.specs.LayoutOf.{layout_of}
-use Rattle.snippet_strokes.specs.Painting.{mark_end}
+use Rattle.snippet_strokes.specs.PaintedStrokes.{mark_end}
 use Rattle.snippet_strokes.specs.Writes.{painted}
 use Rattle.snippet_style.specs.declared.glyphs.Strokes.{Strokes}
 use Rattle.snippet_strokes.proofs.EveryMark.{mark_same}

@@ -3,7 +3,8 @@ use Rattle.std.proofs.lemmas.Bool.Decides.{nat_tests}
 use Rattle.std.proofs.lemmas.List.{same_lists}
 use Rattle.std.proofs.lemmas.List.Elements.{All-same}
 use Rattle.snippet_strokes.specs.declared.bars.OpenBar.{OpenBar}
-use Rattle.snippet_strokes.specs.Bars.{HasBarRoom, bars_apart, ends_of_bars, has_depth}
+use Rattle.snippet_strokes.specs.Bars.{bars_apart, ends_of_bars}
+use Rattle.snippet_strokes.specs.DrawnBars.{HasBarRoom, has_depth}
 use Rattle.snippet_strokes.proofs.BesideLemmas.{apart_depths}
 use Rattle.snippet_strokes.proofs.OpenLemmas.{room_apart, room_ends}
 use Rattle.snippet_strokes.proofs.snippet.draw_line.Goals as goal

@@ -6,7 +6,7 @@ use Rattle.snippet_grid.proofs.ChangeLemmas.{length-changed_within}
 use Rattle.snippet_parts.specs.declared.entries.LineAnnotation.{LineAnnotation}
 use Rattle.snippet_style.specs.Cell.{Cell}
 use Rattle.snippet_text.specs.Normalized.{norm}
-use Rattle.snippet_strokes.specs.Bars.{is_whole_line}
+use Rattle.snippet_strokes.specs.DrawnBars.{is_whole_line}
 use Rattle.snippet_strokes.specs.LineRows.{own_rows}
 use Rattle.snippet_lines.specs.Number.{shown_number}
 use Rattle.snippet_strokes.specs.SourceRows.{source_row, window_cells}

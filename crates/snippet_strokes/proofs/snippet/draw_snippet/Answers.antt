@@ -4,9 +4,9 @@ use Rattle.std.proofs.lemmas.List.Elements.{All-nil, All-same}
 use Rattle.snippet_parts.specs.declared.shown_line.ShownLine.{ShownLine}
 use Rattle.snippet_parts.specs.ShownLines.{infos_of}
 use Rattle.snippet_parts.proofs.ShownLineLemmas.{infos_of-at, infos_of-drop, infos_of-length}
-use Rattle.snippet_strokes.specs.EntryMarks.{HasBarCell}
-use Rattle.snippet_strokes.specs.Bars.{HasBarRoom}
-use Rattle.snippet_strokes.specs.Snippet.{gap_rows, infos_rows}
+use Rattle.snippet_strokes.specs.InfoRows.{gap_rows, infos_rows}
+use Rattle.snippet_strokes.specs.DrawnBars.{HasBarRoom}
+use Rattle.snippet_strokes.specs.Drawable.{HasBarCell}
 use Rattle.snippet_strokes.proofs.LineAdded.{next_added}
 use Rattle.snippet_strokes.proofs.OpenLemmas.{room_below}
 use Rattle.snippet_strokes.proofs.snippet.draw_snippet.Goals as goal

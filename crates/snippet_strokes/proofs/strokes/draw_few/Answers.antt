@@ -6,7 +6,8 @@ use Rattle.snippet_style.specs.Separators.{separator_row}
 use Rattle.snippet_strokes.specs.Drawing.{AreEnough}
 use Rattle.snippet_strokes.specs.Painting.{mark_of, painting_order}
 use Rattle.snippet_strokes.specs.SourceRows.{bare_row}
-use Rattle.snippet_strokes.specs.Strokes.{line_strokes, strokes_under_marks}
+use Rattle.snippet_strokes.specs.Strokes.{line_strokes}
+use Rattle.snippet_strokes.specs.PaintedStrokes.{strokes_under_marks}
 use Rattle.snippet_strokes.specs.Writes.{painted}
 use Rattle.snippet_strokes.proofs.Drawn.{marks_of}
 use Rattle.snippet_strokes.proofs.EveryMark.{every_mark}

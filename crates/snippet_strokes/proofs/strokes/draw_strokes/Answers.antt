@@ -8,9 +8,9 @@ use Rattle.snippet_labels.specs.declared.positions.PlacedEntry.{PlacedEntry}
 use Rattle.snippet_strokes.specs.Painting.{painting_order}
 use Rattle.snippet_strokes.specs.Drawing.{AreEnough, HasRows, row_count}
 use Rattle.snippet_strokes.specs.Drawable.{AreDrawable}
-use Rattle.snippet_labels.specs.Positions.{ArePlaced}
 use Rattle.snippet_style.specs.Cell.{Cell}
-use Rattle.snippet_labels.specs.PlacedEntries.{HasPlace, shifted}
+use Rattle.snippet_labels.specs.PlacedEntries.{shifted}
+use Rattle.snippet_labels.specs.Placing.{ArePlaced, HasPlace}
 use Rattle.std.specs.Prelude.{if◌then◌else◌}
 use Rattle.std.specs.List.{list_any}
 use Rattle.snippet_strokes.specs.Cuts.{overlapped}

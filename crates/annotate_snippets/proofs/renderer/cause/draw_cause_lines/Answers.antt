@@ -19,7 +19,7 @@ use Rattle.snippet_strokes.specs.Drawable.{IsDrawableLine}
 use Rattle.snippet_strokes.specs.declared.snippet.LineView.{LineView}
 use Rattle.annotate_snippets.specs.GraphicForm.{margin_in, rows_of_lines}
 use Rattle.annotate_snippets.specs.Page.{cells_of}
-use Rattle.snippet_strokes.specs.Snippet.{infos_rows}
+use Rattle.snippet_strokes.specs.InfoRows.{infos_rows}
 use Rattle.snippet_style.specs.Cell.{Cell}
 use Rattle.annotate_snippets.specs.Gutter.{numbered_source}
 use Rattle.annotate_snippets.specs.PreparedReport.{IsCausePrepared}

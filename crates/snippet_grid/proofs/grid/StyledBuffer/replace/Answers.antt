@@ -1,7 +1,8 @@
 use Rattle.std.proofs.Common.{◌∙◌, ap, arith, length}
 use Rattle.std.proofs.lemmas.Result.{on_ok_weaker}
 use Rattle.std.specs.Str.{chars}
-use Rattle.snippet_grid.specs.Grid.{row_at, cells_replaced}
+use Rattle.snippet_grid.specs.Grid.{row_at}
+use Rattle.snippet_grid.specs.Calls.{cells_replaced}
 use Rattle.snippet_style.specs.Cell.{text_cells}
 use Rattle.snippet_style.specs.declared.role.ElementStyle.TheVariants.{LineNumber}
 use Rattle.snippet_grid.proofs.ReplaceLemmas.{ReplacesCells-from_equal}
