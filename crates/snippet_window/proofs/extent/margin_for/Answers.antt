@@ -1,4 +1,4 @@
-use Rattle.std.proofs.Common.{◌++◌, ◌∷◌, [], sym, ◌≡◌, ◌∙◌, ◌≤◌, ℕ, Option, take, ap, subst, arith, unwrap_or}
+use Rattle.std.proofs.Common.{◌++◌, ◌∷◌, [], sym, ◌≡◌, ◌∙◌, ◌≤◌, ℕ, Option, take, ap, subst, arith, unwrap_or, rules}
 use Rattle.std.proofs.lemmas.List.{take_all}
 use Rattle.snippet_window.specs.Extent.{ReachesLines, columns_of, entries_of}
 use Rattle.snippet_parts.specs.declared.shown_line.ShownLine.{ShownLine}
@@ -13,25 +13,24 @@ use Rattle.snippet_window.proofs.extent.margin_for.Goals as goal
 use Rattle.snippet_window.proofs.MeasureWords.{margin_by}
 use Rattle.snippet_window.proofs.extent.margin_for.Goals.{else-not-line, then-not-line}
 
-pub returns-clause-clear : goal.returns-clause-clear
-returns-clause-clear c =
+pub returns : goal.returns
+returns c =
     let lines = c.args.lines.now in
-    let all : take c.loop-line.line-index lines ≡ lines = take_all c.loop-line.line-index lines (omega arith) in
-    let reaches = subst (λ ls. ReachesLines (kept_of ls) c.loop-line.extent) all c.loop-line.invariant in
-    let columns = columns_of (entries_of (kept_of lines)) in
-    let first : c.unwrap_or-2.result ≡ unwrap_or (least columns) 0 = c.unwrap_or-2.ensures ∙ ap (λ (o : Option ℕ). unwrap_or o 0) reaches.entries.first in
-    let starts = starts_all (λ n. unwrap_or (least columns) 0 ≤ n) (entries_of (kept_of lines)) (least_below columns) in
-    lines_all (StandsClear c.new.result) (kept_of lines) (λ k d within not_bar cut. omega (arith, starts k d within not_bar, c.new.ensures.padded cut, first))
-
-pub returns-clause-bounds : goal.returns-clause-bounds
-returns-clause-bounds c =
-    let lines = c.args.lines.now in
+    let kept = kept_of lines in
     let all : take c.loop-line.line-index lines ≡ lines = take_all c.loop-line.line-index lines (omega arith) in
     let x = c.loop-line.extent in
     let reaches = subst (λ ls. ReachesLines (kept_of ls) x) all c.loop-line.invariant in
-    c.new.ensures.bounds ∙ ap (λ n. margin_by n c.unwrap_or-2.result x.last x.label_end c.args.room x.widest) c.unwrap_or.ensures
-    ∙ ap (λ n. margin_by (unwrap_or x.whitespace 0) n x.last x.label_end c.args.room x.widest) c.unwrap_or-2.ensures
-    ∙ bounds_reached c.args.room (kept_of lines) x reaches
+    let columns = columns_of (entries_of kept) in
+    let first : c.unwrap_or-2.result ≡ unwrap_or (least columns) 0 = c.unwrap_or-2.ensures ∙ ap (λ (o : Option ℕ). unwrap_or o 0) reaches.entries.first in
+    let starts = starts_all (λ n. unwrap_or (least columns) 0 ≤ n) (entries_of kept) (least_below columns) in
+    record {
+      bounds = c.new.ensures.bounds ∙ ap (λ n. margin_by n c.unwrap_or-2.result x.last x.label_end c.args.room x.widest) c.unwrap_or.ensures
+          ∙ ap (λ n. margin_by (unwrap_or x.whitespace 0) n x.last x.label_end c.args.room x.widest) c.unwrap_or-2.ensures
+          ∙ bounds_reached c.args.room kept x reaches;
+      clear = lines_all (StandsClear c.new.result) kept (λ k d within not_bar cut. omega (arith, starts k d within not_bar, c.new.ensures.padded cut, first));
+      room = search rules;
+      ordered = search rules;
+    }
 
 pub loop-line-preserved : goal.loop-line-preserved
 loop-line-preserved c =

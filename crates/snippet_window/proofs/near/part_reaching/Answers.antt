@@ -20,9 +20,4 @@ returns-clause-value c =
     ∙ cut_front c.args.text.now (reaching c.args.columns (chars c.args.text.now)) n c.utf8.text c.reaching_end-at.ensures.bytes
 
 pub returns-clause-near : goal.returns-clause-near
-returns-clause-near c =
-    let n = c.reaching_end-at.result.0 in
-    let same : n - 0 ≡ n = omega arith in
-    let is = ap chars (c.range.ensures.value ∙ ap (λ k. take k c.args.text.now) same)
-    ∙ cut_front c.args.text.now (reaching c.args.columns (chars c.args.text.now)) n c.utf8.text c.reaching_end-at.ensures.bytes in
-    omega (arith, ap width_of is, c.reaching_end-at.ensures.width, c.reaching_end-at.ensures.near)
+returns-clause-near c = omega (arith, ap width_of (returns-clause-value c), c.reaching_end-at.ensures.width, c.reaching_end-at.ensures.near)

@@ -7,17 +7,12 @@ use Rattle.snippet_window.proofs.LineWindowLemmas.{bytes_within, cut_boundary, n
 use Rattle.snippet_window.proofs.PlainFront.{bytes_front, plain_cut, reached_front, width_front}
 use Rattle.snippet_window.proofs.window.reaching_end.Goals as goal
 
-pub returns-then-columns-eq0-clause-bytes : goal.returns-then-columns-eq0-clause-bytes
-returns-then-columns-eq0-clause-bytes c =
+pub returns-then-columns-eq0 : goal.returns-then-columns-eq0
+returns-then-columns-eq0 c =
     let cs = chars c.args.text.now in
     let none : c.args.columns ≡ 0 = omega arith in
-    sym (ap (λ n. bytes_of (take (reaching n cs) cs)) none ∙ ap bytes_of (none_reaching cs))
-
-pub returns-then-columns-eq0-clause-width : goal.returns-then-columns-eq0-clause-width
-returns-then-columns-eq0-clause-width c =
-    let cs = chars c.args.text.now in
-    let none : c.args.columns ≡ 0 = omega arith in
-    sym (ap (λ n. width_of (take (reaching n cs) cs)) none ∙ ap width_of (none_reaching cs))
+    let taken = ap (λ n. take (reaching n cs) cs) none ∙ none_reaching cs in
+    record { bytes = sym (ap bytes_of taken); width = sym (ap width_of taken); near = omega arith }
 
 pub range_from-requires : goal.range_from-requires
 range_from-requires c _ =
@@ -25,30 +20,24 @@ range_from-requires c _ =
     let text = c.args.text.now in
     cut_boundary text k k c.utf8.text (plain_cut text k c.plain_start-plain.ensures.inside c.plain_start-plain.ensures.plain)
 
-pub returns-clause-bytes : goal.returns-clause-bytes
-returns-clause-bytes c =
+pub returns : goal.returns
+returns c =
     let k = c.plain_start-plain.result in
+    let left = c.args.columns - k in
     let text = c.args.text.now in
+    let back = chars (drop k text) in
+    let taken = take (reaching left back) back in
     let plain = c.plain_start-plain.ensures in
-    let rest = subst (λ (t : List ℕ). c.walked_reaching-at.result.0 ≡ bytes_of (take (reaching (c.args.columns - k) (chars t)) (chars t)))
-    c.range_from.ensures.value c.walked_reaching-at.ensures.bytes in
-    let both = ap bytes_of (reached_front c.args.columns text k plain.inside plain.within plain.plain)
-    ∙ bytes_front text (take (reaching (c.args.columns - k) (chars (drop k text))) (chars (drop k text))) k plain.inside plain.plain in
-    omega (arith, rest, both)
-
-pub returns-clause-width : goal.returns-clause-width
-returns-clause-width c =
-    let k = c.plain_start-plain.result in
-    let text = c.args.text.now in
-    let plain = c.plain_start-plain.ensures in
-    let rest = subst (λ (t : List ℕ). c.walked_reaching-at.result.1 ≡ width_of (take (reaching (c.args.columns - k) (chars t)) (chars t)))
-    c.range_from.ensures.value c.walked_reaching-at.ensures.width in
-    let both = ap width_of (reached_front c.args.columns text k plain.inside plain.within plain.plain)
-    ∙ width_front text (take (reaching (c.args.columns - k) (chars (drop k text))) (chars (drop k text))) k plain.inside plain.plain in
-    omega (arith, rest, both)
-
-pub returns-clause-near : goal.returns-clause-near
-returns-clause-near c = omega (arith, c.walked_reaching-at.ensures.near, c.plain_start-plain.ensures.within)
+    let walked = c.walked_reaching-at in
+    let is = c.range_from.ensures.value in
+    let front = reached_front c.args.columns text k plain.inside plain.within plain.plain in
+    let bytes = subst (λ (t : List ℕ). walked.result.0 ≡ bytes_of (take (reaching left (chars t)) (chars t))) is walked.ensures.bytes in
+    let width = subst (λ (t : List ℕ). walked.result.1 ≡ width_of (take (reaching left (chars t)) (chars t))) is walked.ensures.width in
+    record {
+      bytes = omega (arith, bytes, ap bytes_of front ∙ bytes_front text taken k plain.inside plain.plain);
+      width = omega (arith, width, ap width_of front ∙ width_front text taken k plain.inside plain.plain);
+      near = omega (arith, walked.ensures.near, plain.within);
+    }
 
 pub overflow_add-result : goal.overflow_add-result
 overflow_add-result c =

@@ -1,4 +1,4 @@
-use Rattle.std.proofs.Common.{◌≡◌, ◌∙◌, ◌-◌, length, take, ap, sym, arith, chars}
+use Rattle.std.proofs.Common.{◌≡◌, ◌∙◌, ◌-◌, length, take, ap, sym, arith, chars, rules}
 use Rattle.std.proofs.lemmas.Iterator.{YieldsList-from_chars}
 use Rattle.std.proofs.lemmas.List.{length_push, take_all}
 use Rattle.std.proofs.lemmas.Iterator.Consumers.{YieldsList-turn, YieldsList-end}
@@ -10,24 +10,20 @@ use Rattle.snippet_style.specs.Cell.{bytes_of}
 pub loop-c-init : goal.loop-c-init
 loop-c-init c = fits_start c.args.columns (chars c.args.text.now)
 
-pub returns-then-width-left-clause-bytes : goal.returns-then-width-left-clause-bytes
-returns-then-width-left-clause-bytes c =
+pub returns-then-width-left : goal.returns-then-width-left
+returns-then-width-left c =
     let cs = chars c.args.text.now in
     let at = YieldsList-turn (YieldsList-from_chars c.args.text.now c.utf8.text cc) c.loop-c.yielded _ c.loop-c.yielded_by _ _ c.in-Some.c c.in-Some.is
     c.next.ensures.steps in
-    c.loop-c.invariant.bytes ∙ ap (λ n. bytes_of (take n cs)) (sym (fits_enough c.args.columns cs
-    (length c.loop-c.yielded) c.loop-c.at c.loop-c.left c.in-Some.c c.char_width-width.result at c.char_width-width.ensures.value c.if-width-left.true
-    c.loop-c.invariant))
-
-pub returns-then-width-left-clause-width : goal.returns-then-width-left-clause-width
-returns-then-width-left-clause-width c =
-    let cs = chars c.args.text.now in
-    let at = YieldsList-turn (YieldsList-from_chars c.args.text.now c.utf8.text cc) c.loop-c.yielded _ c.loop-c.yielded_by _ _ c.in-Some.c c.in-Some.is
-    c.next.ensures.steps in
-    let n_is = fits_enough c.args.columns cs (length c.loop-c.yielded) c.loop-c.at c.loop-c.left c.in-Some.c c.char_width-width.result at
-    c.char_width-width.ensures.value c.if-width-left.true c.loop-c.invariant in
+    let n_is = sym (fits_enough c.args.columns cs (length c.loop-c.yielded) c.loop-c.at c.loop-c.left c.in-Some.c c.char_width-width.result at
+    c.char_width-width.ensures.value c.if-width-left.true c.loop-c.invariant) in
     let width : c.args.columns - c.loop-c.left ≡ width_of (take (length c.loop-c.yielded) cs) = omega (arith, c.loop-c.invariant.width_is) in
-    width ∙ ap (λ n. width_of (take n cs)) (sym n_is)
+    record {
+      bytes = c.loop-c.invariant.bytes ∙ ap (λ n. bytes_of (take n cs)) n_is;
+      width = width ∙ ap (λ n. width_of (take n cs)) n_is;
+      near = search rules;
+      within = omega arith;
+    }
 
 pub overflow_add-at : goal.overflow_add-at
 overflow_add-at c =
@@ -47,26 +43,18 @@ loop-c-preserved c =
     _ c.loop-c.at c.loop-c.left c.in-Some.c c.len_utf8-at.result c.char_width-width.result at (length_push c.loop-c.yielded c.in-Some.c)
     c.if-width-left.false c.len_utf8-at.ensures.len c.char_width-width.ensures.value c.loop-c.invariant
 
-pub returns-clause-bytes : goal.returns-clause-bytes
-returns-clause-bytes c =
+pub returns : goal.returns
+returns c =
     let cs = chars c.args.text.now in
+    let n = length c.loop-c.yielded in
     let end = YieldsList-end (YieldsList-from_chars c.args.text.now c.utf8.text cc) c.loop-c.yielded _ c.loop-c.yielded_by _ _ c.in-None.is
     c.next.ensures.steps in
-    c.loop-c.invariant.bytes ∙ ap (λ n. bytes_of (take n cs)) (sym (fits_all c.args.columns cs
-    (length c.loop-c.yielded) c.loop-c.at c.loop-c.left end.1 c.loop-c.invariant))
-
-pub returns-clause-width : goal.returns-clause-width
-returns-clause-width c =
-    let cs = chars c.args.text.now in
-    let end = YieldsList-end (YieldsList-from_chars c.args.text.now c.utf8.text cc) c.loop-c.yielded _ c.loop-c.yielded_by _ _ c.in-None.is
-    c.next.ensures.steps in
-    let width : c.args.columns - c.loop-c.left ≡ width_of (take (length c.loop-c.yielded) cs) = omega (arith, c.loop-c.invariant.width_is) in
-    width ∙ ap (λ n. width_of (take n cs)) (sym (fits_all c.args.columns cs (length c.loop-c.yielded) c.loop-c.at c.loop-c.left end.1 c.loop-c.invariant))
-
-pub returns-clause-near : goal.returns-clause-near
-returns-clause-near c less =
-    let cs = chars c.args.text.now in
-    let end = YieldsList-end (YieldsList-from_chars c.args.text.now c.utf8.text cc) c.loop-c.yielded _ c.loop-c.yielded_by _ _ c.in-None.is
-    c.next.ensures.steps in
-    let all : take (length c.loop-c.yielded) cs ≡ cs = take_all (length c.loop-c.yielded) cs (omega (arith, end.1)) in
-    absurd (omega (arith, less, c.loop-c.invariant.width_is, ap width_of all))
+    let n_is = sym (fits_all c.args.columns cs n c.loop-c.at c.loop-c.left end.1 c.loop-c.invariant) in
+    let width : c.args.columns - c.loop-c.left ≡ width_of (take n cs) = omega (arith, c.loop-c.invariant.width_is) in
+    let all : take n cs ≡ cs = take_all n cs (omega (arith, end.1)) in
+    record {
+      bytes = c.loop-c.invariant.bytes ∙ ap (λ n. bytes_of (take n cs)) n_is;
+      width = width ∙ ap (λ n. width_of (take n cs)) n_is;
+      near = λ less. absurd (omega (arith, less, c.loop-c.invariant.width_is, ap width_of all));
+      within = omega arith;
+    }

@@ -10,17 +10,16 @@ use Rattle.snippet_style.specs.Cell.{bytes_of}
 pub loop-c-init : goal.loop-c-init
 loop-c-init c = (reaches_start c.args.columns (chars c.args.text.now), omega arith)
 
-pub returns-then-width-columns-clause-bytes : goal.returns-then-width-columns-clause-bytes
-returns-then-width-columns-clause-bytes c =
+pub returns-then-width-columns : goal.returns-then-width-columns
+returns-then-width-columns c =
     let cs = chars c.args.text.now in
-    c.loop-c.invariant.0.bytes ∙ ap (λ n. bytes_of (take n cs)) (sym
-    (reaches_enough c.args.columns cs (length c.loop-c.yielded) c.loop-c.at c.loop-c.width c.if-width-columns.true c.loop-c.invariant.0))
-
-pub returns-then-width-columns-clause-width : goal.returns-then-width-columns-clause-width
-returns-then-width-columns-clause-width c =
-    let cs = chars c.args.text.now in
-    c.loop-c.invariant.0.width_is ∙ ap (λ n. width_of (take n cs)) (sym
-    (reaches_enough c.args.columns cs (length c.loop-c.yielded) c.loop-c.at c.loop-c.width c.if-width-columns.true c.loop-c.invariant.0))
+    let is = c.loop-c.invariant.0 in
+    let n_is = sym (reaches_enough c.args.columns cs (length c.loop-c.yielded) c.loop-c.at c.loop-c.width c.if-width-columns.true is) in
+    record {
+      bytes = is.bytes ∙ ap (λ n. bytes_of (take n cs)) n_is;
+      width = is.width_is ∙ ap (λ n. width_of (take n cs)) n_is;
+      near = c.loop-c.invariant.1;
+    }
 
 pub overflow_add-at : goal.overflow_add-at
 overflow_add-at c =
@@ -42,18 +41,15 @@ loop-c-preserved c =
       omega (arith, c.if-width-columns.false, c.char_width-width.ensures.bound),
     )
 
-pub returns-clause-bytes : goal.returns-clause-bytes
-returns-clause-bytes c =
+pub returns : goal.returns
+returns c =
     let cs = chars c.args.text.now in
+    let is = c.loop-c.invariant.0 in
     let end = YieldsList-end (YieldsList-from_chars c.args.text.now c.utf8.text cc) c.loop-c.yielded _ c.loop-c.yielded_by _ _ c.in-None.is
     c.next.ensures.steps in
-    c.loop-c.invariant.0.bytes ∙ ap (λ n. bytes_of (take n cs)) (sym
-    (reaches_all c.args.columns cs (length c.loop-c.yielded) c.loop-c.at c.loop-c.width end.1 c.loop-c.invariant.0))
-
-pub returns-clause-width : goal.returns-clause-width
-returns-clause-width c =
-    let cs = chars c.args.text.now in
-    let end = YieldsList-end (YieldsList-from_chars c.args.text.now c.utf8.text cc) c.loop-c.yielded _ c.loop-c.yielded_by _ _ c.in-None.is
-    c.next.ensures.steps in
-    c.loop-c.invariant.0.width_is ∙ ap (λ n. width_of (take n cs)) (sym
-    (reaches_all c.args.columns cs (length c.loop-c.yielded) c.loop-c.at c.loop-c.width end.1 c.loop-c.invariant.0))
+    let n_is = sym (reaches_all c.args.columns cs (length c.loop-c.yielded) c.loop-c.at c.loop-c.width end.1 is) in
+    record {
+      bytes = is.bytes ∙ ap (λ n. bytes_of (take n cs)) n_is;
+      width = is.width_is ∙ ap (λ n. width_of (take n cs)) n_is;
+      near = c.loop-c.invariant.1;
+    }

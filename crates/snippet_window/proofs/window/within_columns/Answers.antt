@@ -8,16 +8,10 @@ pub range-requires-clause-end_boundary : goal.range-requires-clause-end_boundary
 range-requires-clause-end_boundary c =
     cut_boundary c.args.text.now (fitting c.args.columns (chars c.args.text.now)) c.fitting_end-at.result.0 c.utf8.text c.fitting_end-at.ensures.bytes
 
-pub returns-clause-value : goal.returns-clause-value
-returns-clause-value c =
+pub returns : goal.returns
+returns c =
     let n = c.fitting_end-at.result.0 in
     let same : n - 0 ≡ n = omega arith in
-    ap chars (c.range.ensures.value ∙ ap (λ k. take k c.args.text.now) same)
-    ∙ cut_front c.args.text.now (fitting c.args.columns (chars c.args.text.now)) c.fitting_end-at.result.0 c.utf8.text c.fitting_end-at.ensures.bytes
-
-pub returns-clause-width : goal.returns-clause-width
-returns-clause-width c =
-    let n = c.fitting_end-at.result.0 in
-    let same : n - 0 ≡ n = omega arith in
-    c.fitting_end-at.ensures.width ∙ ap width_of (sym (ap chars (c.range.ensures.value ∙ ap (λ k. take k c.args.text.now) same)
-    ∙ cut_front c.args.text.now (fitting c.args.columns (chars c.args.text.now)) c.fitting_end-at.result.0 c.utf8.text c.fitting_end-at.ensures.bytes))
+    let is = ap chars (c.range.ensures.value ∙ ap (λ k. take k c.args.text.now) same)
+    ∙ cut_front c.args.text.now (fitting c.args.columns (chars c.args.text.now)) n c.utf8.text c.fitting_end-at.ensures.bytes in
+    record { value = is; width = c.fitting_end-at.ensures.width ∙ ap width_of (sym is) }
