@@ -19,8 +19,8 @@ use Rattle.redraw_command.specs.declared.stop.Stop.{Stop}
 use Rattle.redraw_report.specs.declared.diagnostic.Diagnostic.{Diagnostic}
 use Rattle.redraw_run.specs.Deeds.{Does, Happens, State, Stops, Deed, Drawn, Commanded, Compared, HandedOn, Told, Refused, LeftOut, Repeated}
 use Rattle.redraw_run.specs.Deeds.{BuildFailed, IsPartOfDeeds}
-use Rattle.redraw_run.specs.Fates.{AllStand, AreMessages, AreNone, AreStanding, Each, IsChosen, IsCutLog, IsCutRun, IsDiagnosed, IsFound, IsKnown, IsRepeated}
-use Rattle.redraw_run.specs.Fates.{IsReportedAs, IsResult, IsLogRun, IsShown, IsWrong, StandsIn, Then}
+use Rattle.redraw_run.specs.Fates.{AreMessages, AreNone, Each, IsChosen, IsDiagnosed, IsFound, IsKnown, IsRepeated}
+use Rattle.redraw_run.specs.Fates.{IsReportedAs, IsResult, IsLogRun, IsShown, IsWrong, Then}
 use Rattle.redraw_run.specs.Logged.{AreFiles, HasMessages, IsFindingOf, results_of}
 use Rattle.redraw_run.specs.declared.kind.Kind.{Kind}
 use Rattle.redraw_report.specs.declared.diagnostic.Unit.{Unit}
@@ -143,7 +143,7 @@ each_some Are c some (x ∷ xs) =
     let (after, next) = each_some Are c some xs in
     (before ++ after, record { before = before; after = after; split = refl; first = first; next = next })
 
-each_both : {X : Type 0} (Are : X → Choice → List Deed → Type 0) (c : Choice) (xs ys : List X) (ds es : List Deed) → Each Are xs c ds → Each Are ys c es
+pub each_both : {X : Type 0} (Are : X → Choice → List Deed → Type 0) (c : Choice) (xs ys : List X) (ds es : List Deed) → Each Are xs c ds → Each Are ys c es
     → Each Are (xs ++ ys) c (ds ++ es)
 each_both Are c [] ys ds es h k = subst (Each Are ys c) (sym (ap (λ (l : List Deed). l ++ es) h)) k
 each_both Are c (x ∷ xs) ys ds es h k =
@@ -288,85 +288,7 @@ pub messages_part : (Old Next New : Choice → List Deed → Type 0) (c : Choice
 messages_part Old Next New c ds some next h =
     part_then {P = AreMessages} {Q = New} c ds some (messages_more Old Next (IsPartOfDeeds New) c ds next h)
 
--- ---- logs whose results stand in a text
-
-pub standing_none : (text : List ℕ) (run : Data) (c : Choice) → AreStanding text run c []
-standing_none text run c = ([], tt, refl)
-
-both_stand : (text : List ℕ) (ds es : List Data) → AllStand text ds → AllStand text es → AllStand text (ds ++ es)
-both_stand text [] es h k = k
-both_stand text (d ∷ ds) es (stands, h) k = (stands, both_stand text ds es h k)
-
-pub standing_more : (text : List ℕ) (run d : Data) (c : Choice) (ds : List Deed) → StandsIn text d
-    → Then (AreStanding text run) (IsResult forms.Sarif run d) c ds → AreStanding text run c ds
-standing_more text run d c ds stands h = (
-  h.first.0 ++ d ∷ [],
-  both_stand text h.first.0 (d ∷ []) h.first.1 (stands, tt),
-  each_more (IsResult forms.Sarif run) d c h.first.0 ds
-      record { before = h.before; after = h.after; split = h.split; first = h.first.2; next = h.next },
-)
-
-pub standing_part : (text : List ℕ) (run d : Data) (c : Choice) (ds : List Deed) → StandsIn text d
-    → Then (AreStanding text run) (IsPartOfDeeds (IsResult forms.Sarif run d)) c ds → IsPartOfDeeds (AreStanding text run) c ds
-standing_part text run d c ds stands h =
-    part_as {P = Then (AreStanding text run) (IsResult forms.Sarif run d)} c ds (λ es k. standing_more text run d c es stands k)
-    (part_then {P = AreStanding text run} {Q = IsResult forms.Sarif run d} c ds (result_some forms.Sarif run c d) h)
-
-pub cut_some : (text : List ℕ) (run : Data) (c : Choice) → (es : List Deed) × IsCutRun text run c es
-cut_some text run c = ([], record { before = []; after = []; split = refl; first = tt; next = standing_none text run c })
-
-pub cut_more : (text : List ℕ) (run : Data) (c : Choice) (ds : List Deed) → Then (IsCutLog text) (IsCutRun text run) c ds → IsCutLog text c ds
-cut_more text run c ds h = (
-  h.first.0 ++ run ∷ [],
-  each_more (IsCutRun text) run c h.first.0 ds
-      record { before = h.before; after = h.after; split = h.split; first = h.first.1; next = h.next },
-)
-
-pub cut_part : (text : List ℕ) (run : Data) (c : Choice) (ds : List Deed) → Then (IsCutLog text) (IsPartOfDeeds (IsCutRun text run)) c ds
-    → IsPartOfDeeds (IsCutLog text) c ds
-cut_part text run c ds h =
-    part_as {P = Then (IsCutLog text) (IsCutRun text run)} c ds (λ es k. cut_more text run c es k)
-    (part_then {P = IsCutLog text} {Q = IsCutRun text run} c ds (cut_some text run c) h)
-
--- what stands in the rest of a text stands in the text
-stands_after : (front text : List ℕ) (d : Data) → StandsIn text d → StandsIn (front ++ text) d
-stands_after front text d (inl none) = inl none
-stands_after front text d (inr (before, part, after, split, reads)) =
-    let rest : List ℕ = part ++ after in
-    let all : front ++ text ≡ (front ++ before) ++ part ++ after =
-    ap (λ (l : List ℕ). front ++ l) (split ∙ append_assoc before part after) ∙ sym (append_assoc front before rest)
-    ∙ sym (append_assoc (front ++ before) part after) in
-    inr (front ++ before, part, after, all, reads)
-
-all_after : (front text : List ℕ) (ds : List Data) → AllStand text ds → AllStand (front ++ text) ds
-all_after front text [] h = tt
-all_after front text (d ∷ ds) (stands, h) = (stands_after front text d stands, all_after front text ds h)
-
-cut_run_after : (front text : List ℕ) (run : Data) (c : Choice) (ds : List Deed) → IsCutRun text run c ds → IsCutRun (front ++ text) run c ds
-cut_run_after front text run c ds h =
-    record {
-      before = h.before;
-      after = h.after;
-      split = h.split;
-      first = h.first;
-      next = (h.next.0, all_after front text h.next.0 h.next.1, h.next.2);
-    }
-
-cut_each_after : (front text : List ℕ) (c : Choice) (runs : List Data) (ds : List Deed) → Each (IsCutRun text) runs c ds
-    → Each (IsCutRun (front ++ text)) runs c ds
-cut_each_after front text c [] ds h = h
-cut_each_after front text c (run ∷ runs) ds h =
-    record {
-      before = h.before;
-      after = h.after;
-      split = h.split;
-      first = cut_run_after front text run c h.before h.first;
-      next = cut_each_after front text c runs h.after h.next;
-    }
-
-pub cut_after : (n : ℕ) (piece : List ℕ) (c : Choice) (ds : List Deed) → IsCutLog (drop n piece) c ds → IsCutLog piece c ds
-cut_after n piece c ds (runs, h) =
-    (runs, subst (λ (text : List ℕ). Each (IsCutRun text) runs c ds) (take-append-drop n piece) (cut_each_after (take n piece) (drop n piece) c runs ds h))
+-- ---- values of logs
 
 -- the runs of a log that are listed
 pub runs_listed : (d : Data) (values : List Value) → given_or as_array no_items (codes "runs") d ≡ Some (items_view values)

@@ -6,9 +6,11 @@ pub mod Ending
 pub mod Fated
 pub mod Gone
 pub mod Lined
+pub mod LongLogs
 pub mod Named
 pub mod NotDocument
 pub mod NotDrawn
+pub mod NotLong
 pub mod NotPage
 pub mod NotRead
 pub mod NotRefused

@@ -1,6 +1,6 @@
 -- What no run does: what wrong bodies do about small inputs contradicts what becomes of pieces and of runs.
 use Rattle.std.proofs.Common.{◌≡◌, ◌≢◌, ◌⊎◌, ◌++◌, ◌∙◌, ◌||◌, ℕ, Bool, List, [], ◌∷◌, Option, None, Some, ap, false, if◌then◌else◌, inl, inr, refl, subst, sym}
-use Rattle.std.proofs.Common.{codes, true}
+use Rattle.std.proofs.Common.{codes, length, true}
 use Rattle.serde_json.specs.Data.{Data}
 use Rattle.output_stream.specs.Standing.{Standing}
 use Rattle.redraw_command.specs.Arguments.{argument_at}
@@ -20,11 +20,12 @@ use Rattle.redraw_run.specs.declared.look.ReportRenderer.{ReportRenderer}
 use Rattle.redraw_run.specs.declared.kind.Kind.{Kind}
 use Rattle.redraw_run.specs.declared.kind.Kind.TheVariants as kind
 use Rattle.redraw_run.specs.Deeds.{State, Deed, Drawn, Commanded, Compared, HandedOn, Told, Refused, LeftOut, Repeated, BuildFailed, tally_by, with_files}
-use Rattle.redraw_run.specs.Fates.{AreMessages, AreRuns, Each, IsCutLog, IsCutRun, IsDiagnosed, IsEslintLog, IsFound, IsKnown}
+use Rattle.redraw_run.specs.Fates.{AreMessages, AreRuns, Each, IsCutLog, IsCutRun, IsDiagnosed, IsEslintLog, IsFound, IsKnown, IsLongRun}
 use Rattle.redraw_run.specs.Fates.{IsFateOfPiece, IsLog, IsReportedAs, IsResult, IsLogRun, IsShown, IsTaking, IsTakingRead, IsTold, IsWrong}
 use Rattle.redraw_run.specs.Logged.{IsFindingOf, document_in, items_in, results_of}
 use Rattle.redraw_tools.specs.declared.log.LogForm.{LogForm}
 use Rattle.redraw_tools.specs.declared.log.LogForm.TheVariants as form
+use Rattle.json_lines.specs.Cut.{without_results}
 use Rattle.json_lines.specs.Lenient.{list_at}
 use Rattle.redraw_run.specs.FindingLines.{names_line}
 use Rattle.redraw_run.specs.ReadLines.{IsPieceOf}
@@ -136,10 +137,13 @@ run_unhanded f run c ds h =
 runs_unhanded : (f : LogForm) (c : Choice) (runs : List Data) (ds : List Deed) → AreRuns f runs c ds → Unhanded ds
 runs_unhanded f c runs ds h = each_unhanded (IsLogRun f) c (λ x es m. run_unhanded f x c es m) runs ds h
 
-cut_unhanded : (piece : List ℕ) (run : Data) (c : Choice) (ds : List Deed) → IsCutRun piece run c ds → Unhanded ds
-cut_unhanded piece run c ds h =
+cut_unhanded : (piece : List ℕ) (count : ℕ) (run : Data) (c : Choice) (ds : List Deed) → IsCutRun piece count run c ds → Unhanded ds
+cut_unhanded piece count run c ds h =
     subst Unhanded (sym h.split)
-    (unhanded_both h.before h.after (messages_unhanded c h.before h.first) (results_unhanded form.Sarif run c h.next.0 h.after h.next.2))
+    (unhanded_both h.before h.after (messages_unhanded c h.before h.first) (results_unhanded form.Sarif run c h.next.0 h.after h.next.3))
+
+long_unhanded : (piece : List ℕ) (run : Data) (c : Choice) (ds : List Deed) → IsLongRun piece run c ds → Unhanded ds
+long_unhanded piece run c ds h = cut_unhanded piece (length (list_at (codes "results") run)) (without_results run) c ds h
 
 log_unhanded : (v : Data) (c : Choice) (ds : List Deed) → IsLog v c ds → Unhanded ds
 log_unhanded v c ds (inl h) = wrong_unhanded c ds h
@@ -167,10 +171,10 @@ eslint_handed : (v : Data) (c : Choice) (d : Diagnostic) (text line : List ℕ) 
 unfolding Unhanded
 eslint_handed v c d text line h = runs_unhanded form.Eslint c (items_in v) (Drawn d text ∷ HandedOn line ∷ []) h.1
 
-cut_handed : (piece : List ℕ) (c : Choice) (d : Diagnostic) (text line : List ℕ) → IsCutLog piece c (Drawn d text ∷ HandedOn line ∷ []) → ⊥
+cut_handed : (piece : List ℕ) (v : Data) (c : Choice) (d : Diagnostic) (text line : List ℕ) → IsCutLog piece v c (Drawn d text ∷ HandedOn line ∷ []) → ⊥
 unfolding Unhanded
-cut_handed piece c d text line (runs, h) =
-    each_unhanded (IsCutRun piece) c (λ x es m. cut_unhanded piece x c es m) runs (Drawn d text ∷ HandedOn line ∷ []) h
+cut_handed piece v c d text line (runs, listed, h) =
+    each_unhanded (IsLongRun piece) c (λ x es m. long_unhanded piece x c es m) runs (Drawn d text ∷ HandedOn line ∷ []) h
 
 -- a finding is drawn, and the line that reports it is handed on too
 pub drawn_and_handed_on : (line : List ℕ) (c : Choice) (d : Diagnostic) (text : List ℕ) → IsFateOfPiece line c (Drawn d text ∷ HandedOn line ∷ []) → ⊥
@@ -180,7 +184,7 @@ drawn_and_handed_on line c d text (t, is, inr (inl (begins, inr (inl (none, h)))
 drawn_and_handed_on line c d text (t, is, inr (inl (begins, inr (inr (inl (v, reads, (Some k, of, h))))))) = both_handed k v c d text line h
 drawn_and_handed_on line c d text (t, is, inr (inl (begins, inr (inr (inl (v, reads, (None, of, inl h))))))) = cc h.1
 drawn_and_handed_on line c d text (t, is, inr (inl (begins, inr (inr (inl (v, reads, (None, of, inr h))))))) = cc h
-drawn_and_handed_on line c d text (t, is, inr (inl (begins, inr (inr (inr (v, reads, h)))))) = cut_handed line c d text line h
+drawn_and_handed_on line c d text (t, is, inr (inl (begins, inr (inr (inr (v, reads, h)))))) = cut_handed line v c d text line h
 drawn_and_handed_on line c d text (t, is, inr (inr (inl (finding, h)))) = report_handed line c d text line h
 drawn_and_handed_on line c d text (t, is, inr (inr (inr (begins, (v, reads, h))))) = eslint_handed v c d text line h
 

@@ -6,6 +6,8 @@ use Rattle.std.specs.Prelude.{IfErr, IfSome, IsErrAnd, Result, Ok, Err}
 use Rattle.std.specs.Io.BufRead.{take_through}
 use Rattle.std.specs.Io.KnownBytes.{IsAtEnd, Keeps}
 use Rattle.std.specs.Option.{option_map_or}
+use Rattle.json_lines.specs.Cut.{IsCutOf}
+use Rattle.serde_json.specs.Data.{Data}
 use Rattle.serde_json.specs.View.{view}
 use Rattle.serde_json.specs.declared.value.Value.{Value}
 use Rattle.redraw_command.specs.Halt.{IsHalt}
@@ -66,7 +68,7 @@ list_is : (piece : List ℕ) (v : Value) → IsOfForm piece (forms.List v) → I
 list_is piece v (text, is, (object, begins, reads)) = record { text = text; is = is; begins = begins; value = view v; reads = reads }
 
 log_is : (piece : List ℕ) (l : CutLog) → IsOfForm piece (forms.Log l) → IsDocument piece
-log_is piece l (text, is, (begins, (d, reads))) =
+log_is piece l (text, is, (begins, (d, reads, cut))) =
     record { text = text; is = is; begins = object_document text begins; value = d; reads = reads }
 
 -- a piece that is an object or a list is a document
@@ -85,13 +87,13 @@ log_found piece f l same of =
     let log : IsOfForm piece (forms.Log l) = subst (IsOfForm piece) same of in
     (log, log_is piece l log)
 
-log_read : (piece : List ℕ) (l : CutLog) → IsOfForm piece (forms.Log l) → (c : Choice) (ds : List Deed) → IsCutLog piece c ds
-    → IsFateOfPiece piece c ds
-log_read piece l (text, is, (begins, (d, reads))) c ds h = (text, is, inr (inl (begins, inr (inr (inr (d, reads, h))))))
+log_read : (piece : List ℕ) (l : CutLog) → IsOfForm piece (forms.Log l)
+    → (d : Data) × IsCutOf d l × ((c : Choice) (ds : List Deed) → IsCutLog piece d c ds → IsFateOfPiece piece c ds)
+log_read piece l (text, is, (begins, (d, reads, cut))) = (d, cut, λ c ds h. (text, is, inr (inl (begins, inr (inr (inr (d, reads, h)))))))
 
--- a log that is read without its results becomes what a long log does
-pub log_becomes : (piece : List ℕ) (f : Form) (l : CutLog) → f ≡ forms.Log l → IsOfForm piece f → (c : Choice) (ds : List Deed) → IsCutLog piece c ds
-    → IsFateOfPiece piece c ds
+-- a log that is read without its results becomes what a long log of its value does
+pub log_becomes : (piece : List ℕ) (f : Form) (l : CutLog) → f ≡ forms.Log l → IsOfForm piece f
+    → (d : Data) × IsCutOf d l × ((c : Choice) (ds : List Deed) → IsCutLog piece d c ds → IsFateOfPiece piece c ds)
 log_becomes piece f l same of = log_read piece l (subst (IsOfForm piece) same of)
 
 taken_some : (count : ℕ) (ahead : List ℕ) → 0 < length (take count ahead) → 0 < count

@@ -1,12 +1,14 @@
 -- What becomes of a finding, of a value of JSON, of a piece and of an input: which things are done about it, in their order. Each of these
 -- kinds of things is told by what is asked for.
-use Rattle.std.specs.Prelude.{◌≡◌, ◌≢◌, ◌⊎◌, ℕ, Bool, true, false, List, [], ◌∷◌, ◌++◌, Option, Some, None, is_some, codes, unwrap_or}
+use Rattle.std.specs.Prelude.{◌≡◌, ◌≢◌, ◌⊎◌, ℕ, Bool, true, false, List, [], ◌∷◌, ◌++◌, Option, Some, None, is_some, codes, length, unwrap_or}
 use Rattle.std.specs.Str.{IsUtf8}
+use Rattle.json_lines.specs.Cut.{without_results}
 use Rattle.json_lines.specs.Field.{flag_field, text_field}
 use Rattle.json_lines.specs.Lenient.{list_at}
-use Rattle.serde_json.specs.Data.{Data, null}
+use Rattle.serde_json.specs.Data.{Data, array, null}
 use Rattle.serde_json.specs.Find.{get}
 use Rattle.serde_json.specs.Read.{read}
+use Rattle.serde_json.specs.View.{items_of}
 use Rattle.redraw_command.specs.Arguments.{argument_at}
 use Rattle.redraw_command.specs.Choice.{IsTaken}
 use Rattle.redraw_command.specs.Shortened.{IsShownOf}
@@ -267,16 +269,24 @@ abbrev pub AllStand : List ℕ → List Data → Type 0
 AllStand text [] = Unit {0}
 AllStand text (d ∷ ds) = StandsIn text d × AllStand text ds
 
--- what becomes of a long log of SARIF, this piece, whose results are read from its text one by one
-abbrev pub AreStanding : List ℕ → Data → Choice → List Deed → Type 0
-AreStanding piece run c deeds = (results : List Data) × AllStand piece results × Each (IsResult form.Sarif run) results c deeds
+-- what becomes of a run of a long log, this piece, of which the results were let go: so many values stand in the piece, and this becomes of
+-- each, in their order, as of a result of the run
+abbrev pub AreStanding : List ℕ → ℕ → Data → Choice → List Deed → Type 0
+AreStanding piece count run c deeds =
+    (results : List Data) × (length results ≡ count) × AllStand piece results × Each (IsResult form.Sarif run) results c deeds
 
-abbrev pub IsCutRun : List ℕ → Data → Choice → List Deed → Type 0
-IsCutRun piece run = Then AreMessages (AreStanding piece run)
+-- the same, after messages on what is wrong with the run
+abbrev pub IsCutRun : List ℕ → ℕ → Data → Choice → List Deed → Type 0
+IsCutRun piece count run = Then AreMessages (AreStanding piece count run)
 
--- what becomes of such a log: this of some runs, in their order
-abbrev pub IsCutLog : List ℕ → Choice → List Deed → Type 0
-IsCutLog piece c deeds = (runs : List Data) × Each (IsCutRun piece) runs c deeds
+-- what becomes of a run of such a log: this of it without its results, of as many values as it has results
+abbrev pub IsLongRun : List ℕ → Data → Choice → List Deed → Type 0
+IsLongRun piece run = IsCutRun piece (length (list_at (codes "results") run)) (without_results run)
+
+-- what becomes of such a log, which is this value: it has a list of runs, and this becomes of each, in their order
+abbrev pub IsCutLog : List ℕ → Data → Choice → List Deed → Type 0
+IsCutLog piece d c deeds =
+    (runs : List Data) × (get (codes "runs") d ≡ Some (array (items_of runs))) × Each (IsLongRun piece) runs c deeds
 
 -- what becomes of a piece that begins as an object does: one that isn't UTF-8 is left out as wrong, one that isn't JSON is handed on, and of
 -- a value becomes what becomes of that, or of a long log
@@ -285,7 +295,7 @@ IsObject piece text c deeds =
     ((IsUtf8 text → ⊥) × IsWrong c deeds)
     ⊎ (Reads text None × IsHandedOn piece c deeds)
     ⊎ ((d : Data) × Reads text (Some d) × IsValue piece d c deeds)
-    ⊎ ((d : Data) × Reads text (Some d) × IsCutLog piece c deeds)
+    ⊎ ((d : Data) × Reads text (Some d) × IsCutLog piece d c deeds)
 
 -- what becomes of a finding that some lines tell of, where lines of compilers are read too
 abbrev pub IsTold : List ℕ → Choice → List Deed → Type 0

@@ -2,6 +2,7 @@
 use Rattle.std.specs.Prelude.{◌≡◌, ◌⊎◌, ◌<◌, ◌≤◌, ◌++◌, ℕ, true, false, List, Option, None, Some, IfSome, length, take}
 use Rattle.std.specs.Io.KnownBytes.{IsAtEnd}
 use Rattle.std.specs.Str.{IsUtf8}
+use Rattle.json_lines.specs.Cut.{IsCutOf}
 use Rattle.serde_json.specs.Data.{Data}
 use Rattle.serde_json.specs.View.{view}
 use Rattle.redraw_command.specs.Line.{begins_document, begins_object}
@@ -19,7 +20,7 @@ IsOther text = (begins_object text ≡ false) ⊎ ((begins_object text ≡ true)
 -- a text is of this form
 abbrev pub IsReadAs : List ℕ → Form → Type 0
 IsReadAs text (forms.Object value) = (begins_object text ≡ true) × Reads text (Some (view value))
-IsReadAs text (forms.Log log) = (begins_object text ≡ true) × ((d : Data) × Reads text (Some d))
+IsReadAs text (forms.Log log) = (begins_object text ≡ true) × ((d : Data) × Reads text (Some d) × IsCutOf d log)
 IsReadAs text (forms.List value) = (begins_object text ≡ false) × (begins_document text ≡ true) × Reads text (Some (view value))
 IsReadAs text forms.Undecoded = (begins_object text ≡ true) × (IsUtf8 text → ⊥)
 IsReadAs text forms.Blank = begins_object text ≡ false

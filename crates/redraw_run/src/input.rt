@@ -1,5 +1,7 @@
 //! An input, read piece by piece. Nothing of a piece is kept when the next is read.
 ghost use Rattle.std.specs.Prelude.{◌≡◌, ◌||◌, not, ℕ, List, false, true, IfErr, OnErr, OnOk};
+ghost use Rattle.json_lines.specs.Cut.{IsCutOf};
+ghost use Rattle.serde_json.specs.Data.{Data};
 ghost use Rattle.serde_json.specs.View.{view};
 ghost use Rattle.redraw_command.specs.Line.{begins_utf16};
 ghost use Rattle.redraw_command.specs.LookAhead.{left_of};
@@ -151,7 +153,7 @@ impl Reading {
         out: &mut Stream<W>,
         err: &mut Stream<V>,
     ) -> Result<(), Stop>
-        ensures does { Happens result (IsCutLog piece.now)
+        ensures does { (d : Data) → IsCutOf d log.now → Happens result (IsCutLog piece.now d)
             (standing drawing.old (known W.contents out.old) (known V.contents err.old))
             (standing drawing.new (known W.contents out.new) (known V.contents err.new)) }
     {

@@ -3,6 +3,7 @@ ghost use Rattle.std.specs.Prelude.{◌≡◌, ◌++◌, ◌⊎◌, ◌∷◌, [
 ghost use Rattle.serde_json.specs.Data.{Data};
 ghost use Rattle.serde_json.specs.Read.{read};
 ghost use Rattle.serde_json.specs.View.{view};
+ghost use Rattle.json_lines.specs.Cut.{IsCutOf};
 ghost use Rattle.redraw_run.specs.Fates.{IsWithoutEnd, Reads};
 
 use json::Scratch;
@@ -20,7 +21,7 @@ const LONGEST_WHOLE: usize = 1 << 13;
 
 /// The log that a line or a document is, without its results, if it is so long that they are better read again.
 pub fn cut_of(alloc: Global, text: &str) -> Result<Option<CutLog>, AllocError>
-    ensures reads { IfOk result (λ found. IfSome found (λ log. (d : Data) × Reads text.now (Some d))) }
+    ensures reads { IfOk result (λ found. IfSome found (λ log. (d : Data) × Reads text.now (Some d) × IsCutOf d log)) }
 {
     let json = without_end(text);
     if json.len() <= LONGEST_WHOLE {

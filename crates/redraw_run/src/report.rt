@@ -1,9 +1,11 @@
 //! Values that hold what they report: a diagnostic of rustc, a message of cargo, and a SARIF log.
+ghost use Rattle.json_lines.specs.Cut.{IsCutOf};
 ghost use Rattle.redraw_run.specs.Deeds.{Happens, standing};
 ghost use Rattle.redraw_run.specs.Fates.{AreRuns, IsCutLog, IsDiagnosed, IsErrorLost, IsLog, IsLogRun};
 ghost use Rattle.redraw_run.specs.Logged.{document_in};
 ghost use Rattle.output_stream.specs.Standing.{Standing, known};
 ghost use Rattle.redraw_read.specs.Rustc.{IsPackagedAs, IsReadAs};
+ghost use Rattle.serde_json.specs.Data.{Data};
 ghost use Rattle.serde_json.specs.View.{view};
 ghost use Rattle.std.specs.Prelude.{◌≡◌, Ok, map};
 ghost use Rattle.redraw_tools.specs.declared.log.LogForm.TheVariants as form;
@@ -139,7 +141,7 @@ pub fn cut_sarif_log<S: SourceFiles + Drop, W: Write, V: Write>(
     out: &mut Stream<W>,
     err: &mut Stream<V>,
 ) -> Result<(), Stop>
-    ensures does { Happens result (IsCutLog text.now)
+    ensures does { (d : Data) → IsCutOf d log.now → Happens result (IsCutLog text.now d)
         (standing drawing.old (known W.contents out.old) (known V.contents err.old))
         (standing drawing.new (known W.contents out.new) (known V.contents err.new)) }
 {

@@ -1,7 +1,10 @@
 //! A log, whose results are drawn one after another.
-ghost use Rattle.std.specs.Prelude.{◌≡◌, IfErr, map};
+ghost use Rattle.std.specs.Prelude.{◌≡◌, ◌<◌, IfErr, length, map, slice_index_or};
+ghost use Rattle.std.specs.Global.{Vec};
 ghost use Rattle.serde_json.specs.Data.{Data};
 ghost use Rattle.serde_json.specs.View.{view};
+ghost use Rattle.json_lines.specs.Cut.{IsCutOf};
+ghost use Rattle.json_lines.specs.declared.cut.Stretch.{Stretch};
 ghost use Rattle.redraw_run.specs.Deeds.{Happens, TellsAll, standing};
 ghost use Rattle.redraw_run.specs.Fates.{AreRuns, IsCutLog, IsCutRun, IsLogRun, IsResult};
 ghost use Rattle.redraw_tools.specs.Log.{IsRunOf};
@@ -72,7 +75,7 @@ pub fn draw_cut_runs<S: SourceFiles + Drop, W: Write, V: Write>(
     out: &mut Stream<W>,
     err: &mut Stream<V>,
 ) -> Result<(), Stop>
-    ensures does { Happens result (IsCutLog text.now)
+    ensures does { (d : Data) → IsCutOf d log.now → Happens result (IsCutLog text.now d)
         (standing drawing.old (known W.contents out.old) (known V.contents err.old))
         (standing drawing.new (known W.contents out.new) (known V.contents err.new)) }
 {
@@ -96,7 +99,10 @@ pub fn draw_cut_runs<S: SourceFiles + Drop, W: Write, V: Write>(
 }
 
 /// Where the results of the run with this index stand.
-fn places_of(log: &CutLog, index: usize) -> &[Stretch] {
+fn places_of(log: &CutLog, index: usize) -> &[Stretch]
+    ensures own { (own : Vec Stretch) → index < length log.now.results.items
+        → result.now ≡ (slice_index_or log.now.results.items index own).items }
+{
     if index < log.results.len() {
         log.results[index].as_slice()
     } else {
@@ -113,7 +119,7 @@ fn draw_cut_run<'x, S: SourceFiles + Drop, W: Write, V: Write>(
     out: &mut Stream<W>,
     err: &mut Stream<V>,
 ) -> Result<(), Stop>
-    ensures does { Happens result (IsCutRun results.old.text.now (view node.entry.value.now))
+    ensures does { Happens result (IsCutRun results.old.text.now (length places.now) (view node.entry.value.now))
         (standing drawing.old (known W.contents out.old) (known V.contents err.old))
         (standing drawing.new (known W.contents out.new) (known V.contents err.new)) }
     ensures kept { results.new.text ≡ results.old.text }

@@ -17,8 +17,9 @@ pub returns-in-Log : goal.returns-in-Log
 returns-in-Log g c =
     let bytes = c.args.bytes.now in
     record {
-      does = λ of. goes_as (IsCutLog bytes) (IsFateOfPiece bytes) _ _ c.log.result (log_becomes bytes c.args.form c.in-Log.log c.in-Log.is of _)
-          c.log.ensures.does;
+      does = λ of.
+          let (d, cut, becomes) = log_becomes bytes c.args.form c.in-Log.log c.in-Log.is of in
+          goes_as (IsCutLog bytes d) (IsFateOfPiece bytes) _ _ c.log.result (becomes _) (c.log.ensures.does d cut);
     }
 
 pub returns-in-Undecoded : goal.returns-in-Undecoded
